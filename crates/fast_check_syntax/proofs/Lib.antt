@@ -1,0 +1,4 @@
+pub mod Partners
+pub mod Moved
+pub mod Induction
+pub mod Same

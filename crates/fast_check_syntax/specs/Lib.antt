@@ -1,0 +1,6 @@
+pub mod Shape
+pub mod Part
+pub mod Recursion
+pub mod Height
+pub mod Moves
+pub mod Same
