@@ -4,12 +4,7 @@ use Rattle.std.proofs.Common.{ap, ◌∙◌, sym, subst}
 use Rattle.fast_check_syntax.specs.declared.tree.Tree.{Tree, roll-Tree, Absent, out-roll-Tree}
 use Rattle.fast_check_syntax.specs.declared.tree.Tree.TheOpen.{Tree-F}
 use Rattle.fast_check_syntax.specs.declared.tree.Tree.TheFolds.{ind-Tree, map-Tree}
-use Rattle.fast_check_syntax.specs.Shape.{parts_at, parts, is_absent, is_absent_at}
-
--- of each of a list
-abbrev pub OfAll : (Tree → Type 0) → List Tree → Type 0
-OfAll P [] = Unit {0}
-OfAll P (t ∷ ts) = P t × OfAll P ts
+use Rattle.fast_check_syntax.specs.Shape.{parts_at, parts, is_absent, is_absent_at, OfAll}
 
 module _ (P : Tree → Type 0) (absent : P Absent) (step : (t : Tree) → is_absent t ≡ false → OfAll P (parts t) → P t) where
   abbrev Held : Type 0

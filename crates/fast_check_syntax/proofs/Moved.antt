@@ -4,11 +4,12 @@ use Rattle.std.proofs.Common.{ap, ◌∙◌, sym}
 use Rattle.fast_check_syntax.specs.declared.kind.Kind.{Kind}
 use Rattle.fast_check_syntax.specs.declared.kind.Word.{Word}
 use Rattle.fast_check_syntax.specs.declared.source.SourceRange.{SourceRange}
+use Rattle.fast_check_syntax.specs.declared.source.SyntaxContext.{SyntaxContext}
 use Rattle.fast_check_syntax.specs.declared.tree.Tree as tree
 use Rattle.fast_check_syntax.specs.declared.tree.Tree.{Tree, out-Tree, roll-Tree, Absent, out-roll-Tree, roll-out-Tree}
 use Rattle.fast_check_syntax.specs.declared.tree.Tree.TheOpen.{Tree-F}
 use Rattle.fast_check_syntax.specs.declared.tree.Tree.TheFolds.{fold-roll-Tree, fold_out-Tree, map-Tree}
-use Rattle.fast_check_syntax.specs.Shape.{kind_at, parts_at, kind_of, parts, part, node, none_range, range_at, range_of, has_word, word_is_at, is_absent, is_absent_at, text_at, text_of}
+use Rattle.fast_check_syntax.specs.Shape.{kind_at, parts_at, kind_of, parts, part, node, none_range, range_at, range_of, has_word, word_is_at, is_absent, is_absent_at, text_at, text_of, flag_at, flag_of}
 use Rattle.fast_check_syntax.specs.Moves.{Moves, Keeps, moved, moved_level, moved_range}
 
 pub moved_roll : (m : Moves) (l : Tree-F Tree) → moved m (roll-Tree l) ≡ roll-Tree (moved_level m (map-Tree Tree Tree (moved m) l))
@@ -38,6 +39,14 @@ flag_moved m b = moved_roll m (Tree-F.Flag b)
 pub word_moved : (m : Moves) (w : Word) → moved m (tree.Word w) ≡ tree.Word w
 unfolding roll-Tree denote.Hole.Carrier.roll
 word_moved m w = moved_roll m (Tree-F.Word w)
+
+pub text_moved : (m : Moves) (x : List ℕ) → moved m (tree.Text x) ≡ tree.Text x
+unfolding roll-Tree denote.Hole.Carrier.roll
+text_moved m x = moved_roll m (Tree-F.Text x)
+
+pub context_moved : (m : Moves) (c : SyntaxContext) → moved m (tree.Context c) ≡ tree.Context (record { 0 = m.scopes c.0 })
+unfolding roll-Tree denote.Hole.Carrier.roll
+context_moved m c = moved_roll m (Tree-F.Context c)
 
 pub range_moved : (m : Moves) (r : SourceRange) → moved m (tree.Range r) ≡ tree.Range (moved_range m r)
 unfolding roll-Tree denote.Hole.Carrier.roll
@@ -99,6 +108,18 @@ word_level m w (Tree-F.Word x) = refl
 
 pub has_word_moved : (m : Moves) (w : Word) (t : Tree) → has_word w (moved m t) ≡ has_word w t
 has_word_moved m w t = ap (word_is_at w) (out_moved m t) ∙ word_level m w (out-Tree t)
+
+flag_level : (m : Moves) (l : Tree-F Tree) → flag_at (moved_level m (map-Tree Tree Tree (moved m) l)) ≡ flag_at l
+flag_level m (Tree-F.Node k ts) = refl
+flag_level m Tree-F.Absent = refl
+flag_level m (Tree-F.Flag x) = refl
+flag_level m (Tree-F.Context x) = refl
+flag_level m (Tree-F.Text x) = refl
+flag_level m (Tree-F.Range x) = refl
+flag_level m (Tree-F.Word x) = refl
+
+pub flag_of_moved : (m : Moves) (t : Tree) → flag_of (moved m t) ≡ flag_of t
+flag_of_moved m t = ap flag_at (out_moved m t) ∙ flag_level m (out-Tree t)
 
 text_level : (m : Moves) (l : Tree-F Tree) → text_at (moved_level m (map-Tree Tree Tree (moved m) l)) ≡ text_at l
 text_level m (Tree-F.Node k ts) = refl

@@ -5,11 +5,11 @@ use Rattle.fast_check_syntax.specs.declared.source.SourceRange.{SourceRange}
 use Rattle.fast_check_syntax.specs.declared.tree.Tree.{Tree, out-Tree, roll-Tree, Absent}
 use Rattle.fast_check_syntax.specs.declared.tree.Tree.TheOpen.{Tree-F}
 use Rattle.fast_check_syntax.specs.declared.tree.Tree.TheFolds.{map-Tree}
-use Rattle.fast_check_syntax.specs.Shape.{parts_at, parts}
+use Rattle.fast_check_syntax.specs.Shape.{parts_at, parts, OfAll}
 use Rattle.fast_check_syntax.specs.Moves.{Renaming, IsRenaming, partners, twice, moved, moved_level, moved_range}
 use Rattle.fast_check_syntax.specs.Same.{SameRange, SameTree, SameLevel, SameTrees}
 use Rattle.fast_check_syntax.specs.Same as s
-use Rattle.fast_check_syntax.proofs.Induction.{OfAll, tree_ind}
+use Rattle.fast_check_syntax.proofs.Induction.{tree_ind}
 use Rattle.fast_check_syntax.proofs.Partners.{to_partner, from_partner}
 use Rattle.fast_check_syntax.proofs.Moved.{moved_out, out_moved}
 

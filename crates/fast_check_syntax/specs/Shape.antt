@@ -1,5 +1,5 @@
 -- One level of a tree: its kind and parts, or what a leaf holds.
-use Rattle.std.specs.Prelude.{◌≡◌, ℕ, Bool, true, false, List, [], slice_get, unwrap_or, refl}
+use Rattle.std.specs.Prelude.{◌≡◌, ℕ, Bool, true, false, List, [], ◌∷◌, slice_get, unwrap_or, refl}
 use Rattle.std.proofs.Common.{sym}
 use denote.Enum.Bare.{sameb, false_same}
 use Rattle.fast_check_syntax.specs.declared.kind.Kind.{Kind}
@@ -111,3 +111,8 @@ not_absent_at (Tree-F.Word x) kind e not_leaf = refl
 
 pub not_absent : (t : Tree) (kind : Kind) → kind_of t ≡ kind → (kind ≡ Leaf → ⊥) → is_absent t ≡ false
 not_absent t kind e not_leaf = not_absent_at (out-Tree t) kind e not_leaf
+
+-- a fact of each tree of a list
+abbrev pub OfAll : (Tree → Type 0) → List Tree → Type 0
+OfAll P [] = Unit {0}
+OfAll P (t ∷ ts) = P t × OfAll P ts

@@ -1,0 +1,5 @@
+pub mod Moving
+pub mod InferredMoved
+
+
+

@@ -1,0 +1,9 @@
+pub mod Surroundings
+pub mod Seen
+pub mod Inferred
+pub mod Visible
+pub mod Skeleton
+pub mod Grammar
+pub mod Carried
+pub mod Hidden
+pub mod Worlds

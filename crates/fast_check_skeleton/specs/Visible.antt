@@ -1,0 +1,87 @@
+-- Stage 1 of the meaning of a transform: what is seen of a module.
+-- All that is asked outside the tree is asked here. What follows sees nothing that is hidden.
+use Rattle.std.specs.Prelude.{Bool, true, false, ◌||◌, if◌then◌else◌, Option, Some, None, List, [], ◌∷◌}
+use Rattle.std.specs.List.{flat_map}
+use Rattle.fast_check_syntax.specs.declared.kind.Kind.TheVariants.{VarDeclarator, VarDecl, ExportDecl, List as List'}
+use Rattle.fast_check_syntax.specs.declared.tree.Tree.{Tree}
+use Rattle.fast_check_syntax.specs.Shape.{◌is◌, kind_of, parts, is_absent}
+use Rattle.fast_check_tree.specs.declared.helpers.literal_type.DeclMutabilityKind.{DeclMutabilityKind}
+use Rattle.fast_check_program_forms.specs.Names.{BindingIdent-id, BindingIdent-type_ann}
+use Rattle.fast_check_program_forms.specs.Programs.{Module-body}
+use Rattle.fast_check_program_forms.specs.ModuleDecls.{ExportDecl-span, ExportDecl-decl}
+use Rattle.fast_check_statement_forms.specs.Declarations.{VarDecl-span, VarDecl-ctxt, VarDecl-kind, VarDecl-declare, VarDecl-decls, VarDeclarator-span, VarDeclarator-name, VarDeclarator-init, VarDeclarator-definite}
+use Rattle.fast_check_skeleton.specs.Surroundings.{Surroundings}
+use Rattle.fast_check_skeleton.specs.Inferred.{inferred_type, mutability_of}
+use Rattle.fast_check_skeleton.specs.Seen.{Seen, written, range, scope, flag, form, inferred, hidden, seens}
+
+-- the identifier that a declarator declares, and its written type
+abbrev pub declared_ident : Tree → Tree
+declared_ident d = BindingIdent-id (VarDeclarator-name d)
+
+abbrev pub declared_type : Tree → Tree
+declared_type d = BindingIdent-type_ann (VarDeclarator-name d)
+
+-- a part that is written, if it is there
+abbrev pub standing : Tree → Seen
+standing t = if is_absent t then hidden else written t
+
+abbrev pub by_inferred : Option Tree → Seen
+by_inferred (Some type) = inferred type
+by_inferred None = hidden
+
+-- a value: hidden behind a written type, else seen by its inferred type
+abbrev pub value_seen : DeclMutabilityKind → Tree → Tree → Seen
+value_seen mutability type value = if is_absent type then by_inferred (inferred_type mutability value) else hidden
+
+-- a declarator that is not ambient: its range, its identifier, whether it is definite, its written type and its value
+abbrev pub declarator_seen : DeclMutabilityKind → Tree → Seen
+declarator_seen mutability d =
+    form VarDeclarator (seens (range (VarDeclarator-span d) ∷ written (declared_ident d) ∷ flag (VarDeclarator-definite d) ∷ standing (declared_type d) ∷
+        value_seen mutability (declared_type d) (VarDeclarator-init d) ∷ []))
+
+-- ambient declarations stand as they are written: those of a declaration file, and those that are declared
+abbrev pub is_ambient : Surroundings → Tree → Bool
+is_ambient around statement = around.is_declaration_file || VarDecl-declare statement
+
+-- a declarator is public by its own range
+abbrev pub is_public_declarator : Surroundings → Tree → Bool
+is_public_declarator around d = around.is_public (VarDeclarator-span d)
+
+-- a public declarator; nothing of another
+abbrev pub public_declarator : Surroundings → Tree → Tree → List Seen
+public_declarator around statement d =
+    if is_public_declarator around d
+    then (if is_ambient around statement then written d else declarator_seen (mutability_of (VarDecl-kind statement)) d) ∷ []
+    else []
+
+abbrev pub public_declarators : Surroundings → Tree → List Seen
+public_declarators around statement = flat_map (public_declarator around statement) (parts (VarDecl-decls statement))
+
+-- a variable statement with the declarators that are seen; nothing where none is
+abbrev pub statement_seen : Tree → List Seen → List Seen
+statement_seen statement [] = []
+statement_seen statement (d ∷ ds) =
+    form VarDecl (seens (range (VarDecl-span statement) ∷ scope (VarDecl-ctxt statement) ∷ written (VarDecl-kind statement) ∷
+        flag (VarDecl-declare statement) ∷ form List' (seens (d ∷ ds)) ∷ [])) ∷ []
+
+-- a declaration
+abbrev pub decl_seen : Surroundings → Tree → List Seen
+decl_seen around decl = if kind_of decl is VarDecl then statement_seen decl (public_declarators around decl) else []
+
+-- an exported declaration; nothing where none of it is seen
+abbrev pub exported_seen : Tree → List Seen → List Seen
+exported_seen export [] = []
+exported_seen export (d ∷ ds) = form ExportDecl (seens (range (ExportDecl-span export) ∷ d ∷ ds)) ∷ []
+
+-- an item of a module
+abbrev pub item_seen : Surroundings → Tree → List Seen
+item_seen around item =
+    if kind_of item is ExportDecl then exported_seen item (decl_seen around (ExportDecl-decl item)) else decl_seen around item
+
+-- the items of a module. A script is taken as a module: its fields stand in the same places.
+abbrev pub items_of : Tree → List Tree
+items_of program = parts (Module-body program)
+
+-- what is seen of a module, item by item
+abbrev pub visible : Surroundings → Tree → List Seen
+visible around program = flat_map (item_seen around) (items_of program)

@@ -1,0 +1,28 @@
+-- The law of two worlds: a hidden edit changes no skeleton and no fault.
+use Rattle.std.specs.Prelude.{◌≡◌, List}
+use Rattle.fast_check_syntax.specs.declared.tree.Tree.{Tree}
+use Rattle.fast_check_syntax.specs.Moves.{Renaming, IsRenaming}
+use Rattle.fast_check_syntax.specs.Same.{SameTree, SameRange, Each}
+use Rattle.fast_check_program_forms.specs.Programs.{Module-body, Module-shebang}
+use Rattle.fast_check_skeleton.specs.declared.fault.Fault.{Fault}
+use Rattle.fast_check_skeleton.specs.Surroundings.{Surroundings}
+use Rattle.fast_check_skeleton.specs.Skeleton.{skeleton_of, faults_of}
+use Rattle.fast_check_skeleton.specs.Hidden.{AgreeHidden}
+
+-- one fault, at places that the renaming pairs
+pub record SameFault (r : Renaming) (f g : Fault) : Type 0 where
+  pub kind : f.kind ≡ g.kind
+  pub range : SameRange r f.range g.range
+
+-- the same items and shebang. A module's own span, which its skeleton keeps, is not compared.
+pub record SameSkeleton (r : Renaming) (t u : Tree) : Type 0 where
+  pub body : SameTree r (Module-body t) (Module-body u)
+  pub shebang : SameTree r (Module-shebang t) (Module-shebang u)
+
+pub record SameAnswers (r : Renaming) (a : Surroundings) (t : Tree) (b : Surroundings) (u : Tree) : Type 0 where
+  pub skeletons : SameSkeleton r (skeleton_of a t) (skeleton_of b u)
+  pub faults : Each (SameFault r) (faults_of a t) (faults_of b u)
+
+-- under each renaming under which two modules agree but for what is hidden, their answers are the same
+abbrev pub TwoWorlds : Surroundings → Tree → Surroundings → Tree → Type 0
+TwoWorlds a t b u = (r : Renaming) → IsRenaming r → AgreeHidden r a b t u → SameAnswers r a t b u

@@ -1,0 +1,40 @@
+-- New nodes, which no text stands for: their range is that of no text, their scope number 0, their options empty and their flags false.
+use Rattle.std.specs.Prelude.{ℕ, false, List, [], codes}
+use Rattle.fast_check_syntax.specs.declared.kind.Word.{Word}
+use Rattle.fast_check_syntax.specs.declared.kind.Word.TheVariants.{TsNeverKeyword}
+use Rattle.fast_check_syntax.specs.declared.tree.Tree as tree
+use Rattle.fast_check_syntax.specs.declared.tree.Tree.{Tree, Absent}
+use Rattle.fast_check_syntax.specs.Shape.{none_range, list}
+use Rattle.fast_check_expression_forms.specs.Expressions.{object_lit}
+use Rattle.fast_check_expression_forms.specs.Assertions.{ts_as_expr}
+use Rattle.fast_check_program_forms.specs.Names.{ident}
+use Rattle.fast_check_type_forms.specs.Types as types
+use Rattle.fast_check_type_forms.specs.TypeParams.{ts_type_ann}
+
+-- a keyword type, as `string`
+abbrev pub ts_keyword_type : Word → Tree
+ts_keyword_type word = types.ts_keyword_type none_range (tree.Word word)
+
+-- the type of a literal, as `"a"`
+abbrev pub ts_lit_type : Tree → Tree
+ts_lit_type literal = types.ts_lit_type none_range literal
+
+-- the identifier of a text
+abbrev pub new_ident : List ℕ → Tree
+new_ident text = ident none_range (record { 0 = 0 }) text false
+
+-- a reference to a type by its name
+abbrev pub type_ref : List ℕ → Tree
+type_ref name = types.ts_type_ref none_range (new_ident name) Absent
+
+-- the type of regular expressions
+abbrev pub regex_type : Tree
+regex_type = type_ref (codes "RegExp")
+
+-- `: type`
+abbrev pub type_ann : Tree → Tree
+type_ann type = ts_type_ann none_range type
+
+-- `{} as never`
+abbrev pub never_value : Tree
+never_value = ts_as_expr none_range (object_lit none_range (list [])) (ts_keyword_type TsNeverKeyword)
