@@ -1,0 +1,4 @@
+pub mod Names
+pub mod Literals
+pub mod Programs
+pub mod ModuleDecls

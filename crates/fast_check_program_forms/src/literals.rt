@@ -1,0 +1,165 @@
+ghost use Rattle.std.specs.Prelude.{◌≡◌, IfOk};
+ghost use Rattle.fast_check_syntax.specs.Part.{seen};
+ghost use Rattle.fast_check_program_forms.specs.Literals.{ReadsStr, str, ReadsBool, bool, ReadsNumber, number, ReadsBigInt, big_int, ReadsRegex, regex};
+
+use fast_check_syntax::{Atom, Kind, Part, SourceRange, Tree};
+use std::alloc::{AllocError, Global};
+
+/// A string: `"value"`.
+#[derive(Drop)]
+pub struct Str<N, T> {
+    pub span: SourceRange,
+    /// The text that the string means.
+    pub value: T,
+    /// The text as it is written, quotes included, or absent.
+    pub raw: N,
+}
+
+impl<'a> Str<Part<'a>, &'a str> {
+    /// The fields of a node.
+    pub fn of(node: Part<'a>) -> Self
+        ensures { ReadsStr result (seen node.entry) }
+    {
+        Str {
+            span: node.part(0).range(),
+            value: node.part(1).text(),
+            raw: node.part(2),
+        }
+    }
+}
+
+impl Str<Tree, Atom> {
+    /// The node of these fields.
+    pub fn into_tree(self, alloc: Global) -> Result<Tree, AllocError>
+        ensures { IfOk result (λ tree. tree ≡ str self.span self.value self.raw) }
+    {
+        let Str { span, value, raw } = self;
+        Tree::node(
+            alloc,
+            Kind::Str,
+            [Tree::Range(span), Tree::Text(value), raw],
+        )
+    }
+}
+
+/// `true` or `false`.
+#[derive(Drop)]
+pub struct Bool {
+    pub span: SourceRange,
+    pub value: bool,
+}
+
+impl Bool {
+    /// The fields of a node.
+    pub fn of(node: Part<'_>) -> Self
+        ensures { ReadsBool result (seen node.entry) }
+    {
+        Bool {
+            span: node.part(0).range(),
+            value: node.part(1).flag(),
+        }
+    }
+
+    /// The node of these fields.
+    pub fn into_tree(self, alloc: Global) -> Result<Tree, AllocError>
+        ensures { IfOk result (λ tree. tree ≡ bool self.span self.value) }
+    {
+        let Bool { span, value } = self;
+        Tree::node(alloc, Kind::Bool, [Tree::Range(span), Tree::Flag(value)])
+    }
+}
+
+/// A number, as `1` or `0x10`.
+#[derive(Drop)]
+pub struct Number<T> {
+    pub span: SourceRange,
+    /// The number as it is written.
+    pub raw: T,
+}
+
+impl<'a> Number<&'a str> {
+    /// The fields of a node.
+    pub fn of(node: Part<'a>) -> Self
+        ensures { ReadsNumber result (seen node.entry) }
+    {
+        Number {
+            span: node.part(0).range(),
+            raw: node.part(1).text(),
+        }
+    }
+}
+
+impl Number<Atom> {
+    /// The node of these fields.
+    pub fn into_tree(self, alloc: Global) -> Result<Tree, AllocError>
+        ensures { IfOk result (λ tree. tree ≡ number self.span self.raw) }
+    {
+        let Number { span, raw } = self;
+        Tree::node(alloc, Kind::Number, [Tree::Range(span), Tree::Text(raw)])
+    }
+}
+
+/// A big integer, as `1n`.
+#[derive(Drop)]
+pub struct BigInt<T> {
+    pub span: SourceRange,
+    /// The number as it is written, with its `n`.
+    pub raw: T,
+}
+
+impl<'a> BigInt<&'a str> {
+    /// The fields of a node.
+    pub fn of(node: Part<'a>) -> Self
+        ensures { ReadsBigInt result (seen node.entry) }
+    {
+        BigInt {
+            span: node.part(0).range(),
+            raw: node.part(1).text(),
+        }
+    }
+}
+
+impl BigInt<Atom> {
+    /// The node of these fields.
+    pub fn into_tree(self, alloc: Global) -> Result<Tree, AllocError>
+        ensures { IfOk result (λ tree. tree ≡ big_int self.span self.raw) }
+    {
+        let BigInt { span, raw } = self;
+        Tree::node(alloc, Kind::BigInt, [Tree::Range(span), Tree::Text(raw)])
+    }
+}
+
+/// A regular expression: `/exp/flags`.
+#[derive(Drop)]
+pub struct Regex<T> {
+    pub span: SourceRange,
+    pub exp: T,
+    pub flags: T,
+}
+
+impl<'a> Regex<&'a str> {
+    /// The fields of a node.
+    pub fn of(node: Part<'a>) -> Self
+        ensures { ReadsRegex result (seen node.entry) }
+    {
+        Regex {
+            span: node.part(0).range(),
+            exp: node.part(1).text(),
+            flags: node.part(2).text(),
+        }
+    }
+}
+
+impl Regex<Atom> {
+    /// The node of these fields.
+    pub fn into_tree(self, alloc: Global) -> Result<Tree, AllocError>
+        ensures { IfOk result (λ tree. tree ≡ regex self.span self.exp self.flags) }
+    {
+        let Regex { span, exp, flags } = self;
+        Tree::node(
+            alloc,
+            Kind::Regex,
+            [Tree::Range(span), Tree::Text(exp), Tree::Text(flags)],
+        )
+    }
+}

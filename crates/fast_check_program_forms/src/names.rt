@@ -1,0 +1,85 @@
+ghost use Rattle.std.specs.Prelude.{◌≡◌, IfOk};
+ghost use Rattle.fast_check_syntax.specs.Part.{seen};
+ghost use Rattle.fast_check_program_forms.specs.Names.{ReadsIdent, ident, ReadsBindingIdent, binding_ident};
+
+use fast_check_syntax::{Atom, Kind, Part, SourceRange, SyntaxContext, Tree};
+use std::alloc::{AllocError, Global};
+
+/// An identifier: `sym`, with a `?` behind it where it is an optional parameter.
+#[derive(Drop)]
+pub struct Ident<T> {
+    pub span: SourceRange,
+    /// The scope that the name is resolved in.
+    pub ctxt: SyntaxContext,
+    pub sym: T,
+    pub optional: bool,
+}
+
+impl<'a> Ident<&'a str> {
+    /// The fields of a node.
+    pub fn of(node: Part<'a>) -> Self
+        ensures { ReadsIdent result (seen node.entry) }
+    {
+        Ident {
+            span: node.part(0).range(),
+            ctxt: node.part(1).context(),
+            sym: node.part(2).text(),
+            optional: node.part(3).flag(),
+        }
+    }
+}
+
+impl Ident<Atom> {
+    /// The node of these fields.
+    pub fn into_tree(self, alloc: Global) -> Result<Tree, AllocError>
+        ensures { IfOk result (λ tree. tree ≡ ident self.span self.ctxt self.sym self.optional) }
+    {
+        let Ident {
+            span,
+            ctxt,
+            sym,
+            optional,
+        } = self;
+        Tree::node(
+            alloc,
+            Kind::Ident,
+            [
+                Tree::Range(span),
+                Tree::Context(ctxt),
+                Tree::Text(sym),
+                Tree::Flag(optional),
+            ],
+        )
+    }
+}
+
+/// An identifier as a pattern: `id: type_ann`.
+#[derive(Drop)]
+pub struct BindingIdent<N> {
+    /// An `Ident`.
+    pub id: N,
+    /// A `TsTypeAnn`, or absent.
+    pub type_ann: N,
+}
+
+impl<'a> BindingIdent<Part<'a>> {
+    /// The fields of a node.
+    pub fn of(node: Part<'a>) -> Self
+        ensures { ReadsBindingIdent result (seen node.entry) }
+    {
+        BindingIdent {
+            id: node.part(0),
+            type_ann: node.part(1),
+        }
+    }
+}
+
+impl BindingIdent<Tree> {
+    /// The node of these fields.
+    pub fn into_tree(self, alloc: Global) -> Result<Tree, AllocError>
+        ensures { IfOk result (λ tree. tree ≡ binding_ident self.id self.type_ann) }
+    {
+        let BindingIdent { id, type_ann } = self;
+        Tree::node(alloc, Kind::BindingIdent, [id, type_ann])
+    }
+}

@@ -1,0 +1,59 @@
+-- Declarations. The fields of each form by their names; what a form has that reads a node, and the node that it makes of its fields.
+use Rattle.std.specs.Prelude.{◌≡◌, Bool, [], ◌∷◌}
+use Rattle.fast_check_syntax.specs.declared.kind.Kind.TheVariants as kinds
+use Rattle.fast_check_syntax.specs.declared.part.Part.{Part}
+use Rattle.fast_check_syntax.specs.declared.source.SourceRange.{SourceRange}
+use Rattle.fast_check_syntax.specs.declared.source.SyntaxContext.{SyntaxContext}
+use Rattle.fast_check_syntax.specs.declared.tree.Tree.{Tree, Range, Flag, Context}
+use Rattle.fast_check_syntax.specs.Part.{seen}
+use Rattle.fast_check_syntax.specs.Shape.{node, part, range_of, flag_of, context_of}
+use Rattle.fast_check_statement_forms.specs.declared.declarations.VarDecl.{VarDecl}
+use Rattle.fast_check_statement_forms.specs.declared.declarations.VarDeclarator.{VarDeclarator}
+
+-- `kind decls`, with `declare` before it where the flag is set.
+abbrev pub VarDecl-span : Tree → SourceRange
+VarDecl-span t = range_of (part 0 t)
+
+abbrev pub VarDecl-ctxt : Tree → SyntaxContext
+VarDecl-ctxt t = context_of (part 1 t)
+
+abbrev pub VarDecl-kind : Tree → Tree
+VarDecl-kind t = part 2 t
+
+abbrev pub VarDecl-declare : Tree → Bool
+VarDecl-declare t = flag_of (part 3 t)
+
+abbrev pub VarDecl-decls : Tree → Tree
+VarDecl-decls t = part 4 t
+
+pub record ReadsVarDecl (form : VarDecl Part) (t : Tree) : Type 0 where
+  pub span : form.span ≡ VarDecl-span t
+  pub ctxt : form.ctxt ≡ VarDecl-ctxt t
+  pub kind : seen form.kind ≡ VarDecl-kind t
+  pub declare : form.declare ≡ VarDecl-declare t
+  pub decls : seen form.decls ≡ VarDecl-decls t
+
+abbrev pub var_decl : SourceRange → SyntaxContext → Tree → Bool → Tree → Tree
+var_decl span ctxt kind declare decls = node kinds.VarDecl (Range span ∷ Context ctxt ∷ kind ∷ Flag declare ∷ decls ∷ [])
+
+-- `name = init`, with a `!` behind the name where it is definite.
+abbrev pub VarDeclarator-span : Tree → SourceRange
+VarDeclarator-span t = range_of (part 0 t)
+
+abbrev pub VarDeclarator-name : Tree → Tree
+VarDeclarator-name t = part 1 t
+
+abbrev pub VarDeclarator-init : Tree → Tree
+VarDeclarator-init t = part 2 t
+
+abbrev pub VarDeclarator-definite : Tree → Bool
+VarDeclarator-definite t = flag_of (part 3 t)
+
+pub record ReadsVarDeclarator (form : VarDeclarator Part) (t : Tree) : Type 0 where
+  pub span : form.span ≡ VarDeclarator-span t
+  pub name : seen form.name ≡ VarDeclarator-name t
+  pub init : seen form.init ≡ VarDeclarator-init t
+  pub definite : form.definite ≡ VarDeclarator-definite t
+
+abbrev pub var_declarator : SourceRange → Tree → Tree → Bool → Tree
+var_declarator span name init definite = node kinds.VarDeclarator (Range span ∷ name ∷ init ∷ Flag definite ∷ [])

@@ -1,0 +1,6 @@
+//! The forms of statements and declarations.
+#![tactic(auto)]
+
+mod declarations;
+
+pub use declarations::{VarDecl, VarDeclarator};
