@@ -3,3 +3,4 @@ pub mod InferredMoved
 
 
 
+pub mod Agreeing

@@ -3,5 +3,7 @@
 #![tactic(auto)]
 
 mod fault;
+mod worlds;
 
 pub use fault::{Fault, FaultKind};
+pub use worlds::two_worlds;

@@ -2,3 +2,4 @@ pub mod Partners
 pub mod Moved
 pub mod Induction
 pub mod Same
+pub mod Made

@@ -1,0 +1,268 @@
+-- Modules that agree but for what is hidden are seen alike, so that their answers are the same.
+use Rattle.std.specs.Prelude.{◌≡◌, Bool, true, false, not, ◌&&◌, ◌||◌, Option, Some, None, option_map, List, [], ◌∷◌, ◌++◌, map, flat_map, refl, if◌then◌else◌}
+use Rattle.std.specs.List.{list_all}
+use Rattle.std.proofs.Common.{ap, ap₂, ◌∙◌, sym, subst, subst₂}
+use Rattle.fast_check_syntax.specs.declared.kind.Kind.{Kind}
+use Rattle.fast_check_syntax.specs.declared.kind.Kind.TheVariants.{Module, VarDeclarator, VarDecl, ExportDecl, FnDecl, List as List'}
+use Rattle.fast_check_syntax.specs.declared.kind.Word.TheVariants.{Const as ConstWord}
+use Rattle.fast_check_syntax.specs.declared.source.SourceRange.{SourceRange}
+use Rattle.fast_check_syntax.specs.declared.source.SyntaxContext.{SyntaxContext}
+use Rattle.fast_check_syntax.specs.declared.tree.Tree as tree
+use Rattle.fast_check_syntax.specs.declared.tree.Tree.{Tree}
+use Rattle.fast_check_syntax.specs.Shape.{◌is◌, differs, kind_of, parts, is_absent, has_word, list}
+use Rattle.fast_check_syntax.specs.Moves.{Moves, Renaming, IsRenaming, IsPair, partners, twice, moved}
+use Rattle.fast_check_syntax.specs.Same.{SameTree, SameRange, Each}
+use Rattle.fast_check_syntax.proofs.Moved.{is_absent_moved, has_word_moved, node_moved}
+use Rattle.fast_check_syntax.proofs.Made.{part_node}
+use Rattle.fast_check_syntax.proofs.Partners.{partners-keep as partners_keep, twice-keeps as twice_keeps, to_partner}
+use Rattle.fast_check_syntax.proofs.Same.{tree_to, tree_from, range_to, range_from}
+use Rattle.fast_check_program_forms.specs.Programs.{Module-span, Module-shebang}
+use Rattle.fast_check_program_forms.specs.ModuleDecls.{ExportDecl-span, ExportDecl-decl}
+use Rattle.fast_check_statement_forms.specs.Declarations.{VarDecl-span, VarDecl-ctxt, VarDecl-kind, VarDecl-declare, VarDecl-decls, VarDeclarator-span, VarDeclarator-name, VarDeclarator-init, VarDeclarator-definite}
+use Rattle.fast_check_tree.specs.declared.helpers.literal_type.DeclMutabilityKind.{DeclMutabilityKind}
+use Rattle.fast_check_tree.specs.declared.helpers.literal_type.DeclMutabilityKind.TheVariants.{Const, Mutable}
+use Rattle.fast_check_skeleton.specs.declared.fault.Fault.{Fault}
+use Rattle.fast_check_skeleton.specs.Surroundings.{Surroundings}
+use Rattle.fast_check_skeleton.specs.Inferred.{inferred_type, mutability_of}
+use Rattle.fast_check_skeleton.specs.Seen.{Seen, written, range, scope, flag, form, inferred, hidden, end, also, seens, moved_seen, moved_seens}
+use Rattle.fast_check_skeleton.specs.Visible.{declared_ident, declared_type, standing, by_inferred, value_seen, declarator_seen, is_ambient, is_public_declarator, public_declarator, public_declarators, statement_seen, decl_seen, exported_seen, item_seen, items_of, visible}
+use Rattle.fast_check_skeleton.specs.Skeleton.{Answer, answer_of, transformed, skeleton_of, faults_of}
+use Rattle.fast_check_skeleton.specs.Hidden.{Both, IsSilentDecl, IsSilent, SameHead, SameDeclarator, SameAmbient, SameDeclarators, SameStatement, SameDecl, SameItem, SameItems, AgreeHidden}
+use Rattle.fast_check_skeleton.specs.Hidden as h
+use Rattle.fast_check_skeleton.specs.Worlds.{SameFault, SameSkeleton, SameAnswers, TwoWorlds}
+use Rattle.fast_check_skeleton.proofs.InferredMoved.{inferred_type_moved}
+use Rattle.fast_check_skeleton.proofs.Moving.{moved_fault, moved_answer, map_append, answer_of_moved}
+
+seens_moved : (m : Moves) (ss : List Seen) → moved_seens m (seens ss) ≡ seens (map (moved_seen m) ss)
+seens_moved m [] = refl
+seens_moved m (s ∷ ss) = ap (also (moved_seen m s)) (seens_moved m ss)
+
+-- ---- what is silent is not seen
+
+both_true : (a b : Bool) → (a && b) ≡ true → (a ≡ true) × (b ≡ true)
+both_true true b e = (refl, e)
+both_true false b e = cc
+
+module _ (around : Surroundings) where
+  not_public : (statement d : Tree) → is_public_declarator around d ≡ false → public_declarator around statement d ≡ []
+  not_public statement d e = rw e refl
+
+  no_declarators : (statement : Tree) (ds : List Tree) → list_all (λ d. not (is_public_declarator around d)) ds ≡ true → flat_map (public_declarator around statement) ds ≡ []
+  no_declarators statement [] e = refl
+  no_declarators statement (d ∷ ds) e =
+      let b = both_true (not (is_public_declarator around d)) (list_all (λ d. not (is_public_declarator around d)) ds) e in
+      ap₂ (λ xs ys. xs ++ ys) (not_public statement d (go (is_public_declarator around d) b.0)) (no_declarators statement ds b.1)
+    where
+      go : (p : Bool) → not p ≡ true → p ≡ false
+      go false e = refl
+      go true e = cc
+
+  decl_of : (t : Tree) → kind_of t ≡ VarDecl → decl_seen around t ≡ statement_seen t (public_declarators around t)
+  decl_of t e = ap (λ k. if k is VarDecl then statement_seen t (public_declarators around t) else []) e
+
+  no_decl : (t : Tree) → kind_of t ≡ FnDecl → decl_seen around t ≡ []
+  no_decl t e = ap (λ k. if k is VarDecl then statement_seen t (public_declarators around t) else []) e
+
+  export_of : (t : Tree) → kind_of t ≡ ExportDecl → item_seen around t ≡ exported_seen t (decl_seen around (ExportDecl-decl t))
+  export_of t e = ap (λ k. if k is ExportDecl then exported_seen t (decl_seen around (ExportDecl-decl t)) else decl_seen around t) e
+
+  item_of : (t : Tree) (k : Kind) → kind_of t ≡ k → k is ExportDecl ≡ false → item_seen around t ≡ decl_seen around t
+  item_of t k e n = ap (λ k. if k is ExportDecl then exported_seen t (decl_seen around (ExportDecl-decl t)) else decl_seen around t) e ∙
+      ap (λ b. if b then exported_seen t (decl_seen around (ExportDecl-decl t)) else decl_seen around t) n
+
+  silent_decl : (t : Tree) → IsSilentDecl around t → decl_seen around t ≡ []
+  silent_decl t (h.IsSilentDecl.variable k e) = decl_of t k ∙ ap (statement_seen t) (no_declarators t (parts (VarDecl-decls t)) e)
+
+  silent_item : (t : Tree) → IsSilent around t → item_seen around t ≡ []
+  silent_item t (h.IsSilent.decl (h.IsSilentDecl.variable k e)) = item_of t VarDecl k refl ∙ silent_decl t (h.IsSilentDecl.variable k e)
+  silent_item t (h.IsSilent.function k e) = item_of t FnDecl k refl ∙ no_decl t k
+  silent_item t (h.IsSilent.exported k s) = export_of t k ∙ ap (exported_seen t) (silent_decl (ExportDecl-decl t) s)
+  silent_item t (h.IsSilent.exported_function k j e) = export_of t k ∙ ap (exported_seen t) (no_decl (ExportDecl-decl t) j)
+
+-- ---- what agrees is seen alike
+
+module _ (r : Renaming) (ok : IsRenaming r) where
+  abbrev Alike : Seen → Seen → Type 0
+  Alike s t = moved_seen (partners r) s ≡ moved_seen twice t
+
+  abbrev AllAlike : List Seen → List Seen → Type 0
+  AllAlike ss ts = map (moved_seen (partners r)) ss ≡ map (moved_seen twice) ts
+
+  written_alike : {t u : Tree} → SameTree r t u → Alike (written t) (written u)
+  written_alike s = ap written (tree_to r ok s)
+
+  range_alike : (a b : SourceRange) → SameRange r a b → Alike (range a) (range b)
+  range_alike a b s = ap range (range_to r ok a b s)
+
+  scope_alike : (a b : SyntaxContext) → IsPair r.scopes a.0 b.0 → Alike (scope a) (scope b)
+  scope_alike a b p = ap (λ n. scope (record { 0 = n })) (to_partner r.scopes ok.scopes a.0 b.0 p)
+
+  absent_alike : (t u : Tree) → SameTree r t u → is_absent t ≡ is_absent u
+  absent_alike t u s = sym (is_absent_moved (partners r) t) ∙ (ap is_absent (tree_to r ok s) ∙ is_absent_moved twice u)
+
+  alike_if : (a b : Bool) (s s' t t' : Seen) → a ≡ b → (a ≡ true → Alike s t) → (a ≡ false → Alike s' t') → Alike (if a then s else s') (if b then t else t')
+  alike_if true true s s' t t' e p q = p refl
+  alike_if false false s s' t t' e p q = q refl
+  alike_if true false s s' t t' e p q = cc
+  alike_if false true s s' t t' e p q = cc
+
+  all_alike_if : (a b : Bool) (s t : Seen) → a ≡ b → Alike s t → AllAlike (if a then s ∷ [] else []) (if b then t ∷ [] else [])
+  all_alike_if true true s t e p = ap (λ x. x ∷ []) p
+  all_alike_if false false s t e p = refl
+  all_alike_if true false s t e p = cc
+  all_alike_if false true s t e p = cc
+
+  standing_alike : {t u : Tree} → SameTree r t u → Alike (standing t) (standing u)
+  standing_alike {t} {u} s = alike_if (is_absent t) (is_absent u) hidden (written t) hidden (written u) (absent_alike t u s) (λ e. refl) (λ e. written_alike s)
+
+  form_alike : (k : Kind) (ss ts : List Seen) → AllAlike ss ts → Alike (form k (seens ss)) (form k (seens ts))
+  form_alike k ss ts p = ap (form k) (seens_moved (partners r) ss ∙ (ap seens p ∙ sym (seens_moved twice ts)))
+
+  append_alike : (a b c d : List Seen) → AllAlike a c → AllAlike b d → AllAlike (a ++ b) (c ++ d)
+  append_alike a b c d p q = map_append (moved_seen (partners r)) a b ∙ (ap₂ (λ x y. x ++ y) p q ∙ sym (map_append (moved_seen twice) c d))
+
+  -- ---- values
+
+  by_inferred_moved : (m : Moves) (o : Option Tree) → by_inferred (option_map (moved m) o) ≡ moved_seen m (by_inferred o)
+  by_inferred_moved m (Some t) = refl
+  by_inferred_moved m None = refl
+
+  same_value : (mutability : DeclMutabilityKind) (v w : Tree) → SameTree r v w → Alike (by_inferred (inferred_type mutability v)) (by_inferred (inferred_type mutability w))
+  same_value mutability v w s =
+      sym (ap by_inferred (inferred_type_moved (partners r) (partners_keep r ok) mutability v) ∙ by_inferred_moved (partners r) (inferred_type mutability v)) ∙
+      (ap (λ t. by_inferred (inferred_type mutability t)) (tree_to r ok s) ∙
+      (ap by_inferred (inferred_type_moved twice twice_keeps mutability w) ∙ by_inferred_moved twice (inferred_type mutability w)))
+
+  module _ (a b : Surroundings) where
+    -- ---- declarators
+
+    abbrev value_of : DeclMutabilityKind → Tree → Seen
+    value_of mutability d = by_inferred (inferred_type mutability (VarDeclarator-init d))
+
+    declared : (mutability : DeclMutabilityKind) (t u : Tree) → SameHead r a b t u → (is_absent (declared_type t) ≡ true → Alike (value_of mutability t) (value_of mutability u)) →
+        Alike (declarator_seen mutability t) (declarator_seen mutability u)
+    declared mutability t u d v =
+        let w = alike_if (is_absent (declared_type t)) (is_absent (declared_type u)) (value_of mutability t) hidden (value_of mutability u) hidden (absent_alike (declared_type t) (declared_type u) d.type) v (λ e. refl) in
+        λ i. form VarDeclarator (also (range_alike (VarDeclarator-span t) (VarDeclarator-span u) d.span i) (also (written_alike d.ident i) (also (flag (d.definite i)) (also (standing_alike d.type i) (also (w i) end)))))
+
+    declarator_alike : (mutability : DeclMutabilityKind) {t u : Tree} → SameDeclarator r a b mutability t u →
+        (is_public_declarator a t ≡ is_public_declarator b u) × Alike (declarator_seen mutability t) (declarator_seen mutability u)
+    declarator_alike mutability (h.SameDeclarator.typed {t = t} {u = u} d w) = (d.is_public, declared mutability t u d (λ e. cc))
+    declarator_alike mutability (h.SameDeclarator.inferred {t = t} {u = u} x y d f g s) =
+        (d.is_public, declared mutability t u d (λ e. subst₂ (λ i j. Alike (by_inferred i) (by_inferred j)) (sym f) (sym g) (ap inferred (tree_to r ok s))))
+    declarator_alike mutability (h.SameDeclarator.same {t = t} {u = u} d s) =
+        (d.is_public, declared mutability t u d (λ e. same_value mutability (VarDeclarator-init t) (VarDeclarator-init u) s))
+
+    -- a declarator of a statement that is ambient or not
+    abbrev seen_in : Surroundings → Tree → Tree → Seen
+    seen_in around statement d = if is_ambient around statement then written d else declarator_seen (mutability_of (VarDecl-kind statement)) d
+
+    declarators_alike : (Same : Tree → Tree → Type 0) (s s' : Tree) →
+        ((t u : Tree) → Same t u → (is_public_declarator a t ≡ is_public_declarator b u) × Alike (seen_in a s t) (seen_in b s' u)) →
+        (ts us : List Tree) → SameDeclarators r a b Same ts us → AllAlike (flat_map (public_declarator a s) ts) (flat_map (public_declarator b s') us)
+    declarators_alike Same s s' f [] [] h.SameDeclarators.end = refl
+    declarators_alike Same s s' f (t ∷ ts) us (h.SameDeclarators.left q rest) =
+        subst (λ xs. AllAlike (xs ++ flat_map (public_declarator a s) ts) (flat_map (public_declarator b s') us)) (sym (not_public a s t q)) (declarators_alike Same s s' f ts us rest)
+    declarators_alike Same s s' f ts (u ∷ us) (h.SameDeclarators.right q rest) =
+        subst (λ xs. AllAlike (flat_map (public_declarator a s) ts) (xs ++ flat_map (public_declarator b s') us)) (sym (not_public b s' u q)) (declarators_alike Same s s' f ts us rest)
+    declarators_alike Same s s' f (t ∷ ts) (u ∷ us) (h.SameDeclarators.next x rest) =
+        append_alike (public_declarator a s t) (flat_map (public_declarator a s) ts) (public_declarator b s' u) (flat_map (public_declarator b s') us)
+            (all_alike_if (is_public_declarator a t) (is_public_declarator b u) (seen_in a s t) (seen_in b s' u) (f t u x).0 (f t u x).1)
+            (declarators_alike Same s s' f ts us rest)
+
+    -- ---- statements
+
+    statement_alike : (t u : Tree) (xs ys : List Seen) → SameStatement r a b t u → AllAlike xs ys → AllAlike (statement_seen t xs) (statement_seen u ys)
+    statement_alike t u [] [] d p = refl
+    statement_alike t u (x ∷ xs) (y ∷ ys) d p =
+        λ i. form VarDecl (also (range_alike (VarDecl-span t) (VarDecl-span u) d.span i) (also (scope_alike (VarDecl-ctxt t) (VarDecl-ctxt u) d.ctxt i)
+            (also (written_alike d.kind i) (also (flag (d.declare i)) (also (form_alike List' (x ∷ xs) (y ∷ ys) p i) end))))) ∷ []
+    statement_alike t u [] (y ∷ ys) d p = cc
+    statement_alike t u (x ∷ xs) [] d p = cc
+
+    const_alike : (t u : Tree) → SameTree r t u → has_word ConstWord t ≡ has_word ConstWord u
+    const_alike t u s = sym (has_word_moved (partners r) ConstWord t) ∙ (ap (has_word ConstWord) (tree_to r ok s) ∙ has_word_moved twice ConstWord u)
+
+    mutability_alike : (t u : Tree) → SameTree r t u → mutability_of t ≡ mutability_of u
+    mutability_alike t u s = ap (λ c. if c then Const else Mutable) (const_alike t u s)
+
+    ambient_alike : (t u : Tree) → a.is_declaration_file ≡ b.is_declaration_file → VarDecl-declare t ≡ VarDecl-declare u → is_ambient a t ≡ is_ambient b u
+    ambient_alike t u e f = ap₂ (λ x y. x || y) e f
+
+    decl_alike : (t u : Tree) → a.is_declaration_file ≡ b.is_declaration_file → SameDecl r a b t u → (kind_of t ≡ VarDecl) × (kind_of u ≡ VarDecl) × AllAlike (decl_seen a t) (decl_seen b u)
+    decl_alike t u m (h.SameDecl.variable d n rest) = (d.kinds.left, d.kinds.right,
+        subst₂ AllAlike (sym (decl_of a t d.kinds.left)) (sym (decl_of b u d.kinds.right))
+            (statement_alike t u (public_declarators a t) (public_declarators b u) d
+                (declarators_alike (SameDeclarator r a b (mutability_of (VarDecl-kind t))) t u go (parts (VarDecl-decls t)) (parts (VarDecl-decls u)) rest)))
+      where
+        go : (x y : Tree) → SameDeclarator r a b (mutability_of (VarDecl-kind t)) x y → (is_public_declarator a x ≡ is_public_declarator b y) × Alike (seen_in a t x) (seen_in b u y)
+        go x y s =
+            let e = declarator_alike (mutability_of (VarDecl-kind t)) s in
+            (e.0, alike_if (is_ambient a t) (is_ambient b u) (written x) (declarator_seen (mutability_of (VarDecl-kind t)) x) (written y) (declarator_seen (mutability_of (VarDecl-kind u)) y)
+                (ambient_alike t u m d.declare) (λ e. cc) (λ f. subst (λ k. Alike (declarator_seen (mutability_of (VarDecl-kind t)) x) (declarator_seen k y)) (mutability_alike (VarDecl-kind t) (VarDecl-kind u) d.kind) e.1))
+    decl_alike t u m (h.SameDecl.ambient d n rest) = (d.kinds.left, d.kinds.right,
+        subst₂ AllAlike (sym (decl_of a t d.kinds.left)) (sym (decl_of b u d.kinds.right))
+            (statement_alike t u (public_declarators a t) (public_declarators b u) d
+                (declarators_alike (SameAmbient r a b) t u go (parts (VarDecl-decls t)) (parts (VarDecl-decls u)) rest)))
+      where
+        go : (x y : Tree) → SameAmbient r a b x y → (is_public_declarator a x ≡ is_public_declarator b y) × Alike (seen_in a t x) (seen_in b u y)
+        go x y s = (s.is_public, alike_if (is_ambient a t) (is_ambient b u) (written x) (declarator_seen (mutability_of (VarDecl-kind t)) x) (written y) (declarator_seen (mutability_of (VarDecl-kind u)) y)
+            (ambient_alike t u m d.declare) (λ e. written_alike s.tree) (λ e. cc))
+
+    -- ---- items
+
+    exported_alike : (t u : Tree) (xs ys : List Seen) → SameRange r (ExportDecl-span t) (ExportDecl-span u) → AllAlike xs ys → AllAlike (exported_seen t xs) (exported_seen u ys)
+    exported_alike t u [] [] s p = refl
+    exported_alike t u (x ∷ xs) (y ∷ ys) s p =
+        ap (λ f. f ∷ []) (form_alike ExportDecl (range (ExportDecl-span t) ∷ x ∷ xs) (range (ExportDecl-span u) ∷ y ∷ ys) (λ i. range_alike (ExportDecl-span t) (ExportDecl-span u) s i ∷ p i))
+    exported_alike t u [] (y ∷ ys) s p = cc
+    exported_alike t u (x ∷ xs) [] s p = cc
+
+    item_alike : (t u : Tree) → a.is_declaration_file ≡ b.is_declaration_file → SameItem r a b t u → AllAlike (item_seen a t) (item_seen b u)
+    item_alike t u m (h.SameItem.decl d) =
+        let e = decl_alike t u m d in subst₂ AllAlike (sym (item_of a t VarDecl e.0 refl)) (sym (item_of b u VarDecl e.1 refl)) e.2
+    item_alike t u m (h.SameItem.exported k s d) =
+        subst₂ AllAlike (sym (export_of a t k.left)) (sym (export_of b u k.right))
+            (exported_alike t u (decl_seen a (ExportDecl-decl t)) (decl_seen b (ExportDecl-decl u)) s (decl_alike (ExportDecl-decl t) (ExportDecl-decl u) m d).2)
+
+    items_alike : a.is_declaration_file ≡ b.is_declaration_file → (ts us : List Tree) → SameItems r a b ts us → AllAlike (flat_map (item_seen a) ts) (flat_map (item_seen b) us)
+    items_alike m [] [] h.SameItems.end = refl
+    items_alike m (t ∷ ts) us (h.SameItems.left q rest) = subst (λ xs. AllAlike (xs ++ flat_map (item_seen a) ts) (flat_map (item_seen b) us)) (sym (silent_item a t q)) (items_alike m ts us rest)
+    items_alike m ts (u ∷ us) (h.SameItems.right q rest) = subst (λ xs. AllAlike (flat_map (item_seen a) ts) (xs ++ flat_map (item_seen b) us)) (sym (silent_item b u q)) (items_alike m ts us rest)
+    items_alike m (t ∷ ts) (u ∷ us) (h.SameItems.next s rest) =
+        append_alike (item_seen a t) (flat_map (item_seen a) ts) (item_seen b u) (flat_map (item_seen b) us) (item_alike t u m s) (items_alike m ts us rest)
+
+    visible_alike : (t u : Tree) → AgreeHidden r a b t u → AllAlike (visible a t) (visible b u)
+    visible_alike t u g = items_alike g.is_declaration_file (items_of t) (items_of u) g.items
+
+    -- ---- answers
+
+    fault_from : (f g : Fault) → moved_fault (partners r) f ≡ moved_fault twice g → SameFault r f g
+    fault_from f g e = record { kind = ap (λ x. x.kind) e; range = range_from r ok f.range g.range (ap (λ x. x.range) e) }
+
+    faults_from : (xs ys : List Fault) → map (moved_fault (partners r)) xs ≡ map (moved_fault twice) ys → Each (SameFault r) xs ys
+    faults_from [] [] e = tt
+    faults_from (x ∷ xs) (y ∷ ys) e = (fault_from x y cc, faults_from xs ys cc)
+    faults_from [] (y ∷ ys) e = cc
+    faults_from (x ∷ xs) [] e = cc
+
+    abbrev module_parts : Surroundings → Tree → List Tree
+    module_parts around t = tree.Range (Module-span t) ∷ list (transformed around t).trees ∷ Module-shebang t ∷ []
+
+    same_answers : (t u : Tree) → AgreeHidden r a b t u → SameAnswers r a t b u
+    same_answers t u g =
+        let e : moved_answer (partners r) (transformed a t) ≡ moved_answer twice (transformed b u) =
+            sym (answer_of_moved (partners r) (partners_keep r ok) (visible a t)) ∙ (ap answer_of (visible_alike t u g) ∙ answer_of_moved twice twice_keeps (visible b u)) in
+        record {
+          skeletons = record {
+            body = subst₂ (SameTree r) (sym (part_node 1 Module (module_parts a t))) (sym (part_node 1 Module (module_parts b u)))
+                (tree_from r ok (list (transformed a t).trees) (list (transformed b u).trees)
+                    (node_moved (partners r) List' (transformed a t).trees ∙ (ap (λ x. list x.trees) e ∙ sym (node_moved twice List' (transformed b u).trees))));
+            shebang = subst₂ (SameTree r) (sym (part_node 2 Module (module_parts a t))) (sym (part_node 2 Module (module_parts b u))) g.shebang;
+          };
+          faults = faults_from (transformed a t).faults (transformed b u).faults (ap (λ x. x.faults) e);
+        }
+
+-- under each renaming
+pub two_worlds : (a : Surroundings) (t : Tree) (b : Surroundings) (u : Tree) → TwoWorlds a t b u
+two_worlds a t b u r ok g = same_answers r ok a b t u g
