@@ -6,7 +6,27 @@ use Rattle.fast_check_syntax.specs.declared.source.SourceRange.{SourceRange}
 use Rattle.fast_check_syntax.specs.declared.tree.Tree.{Tree, Range}
 use Rattle.fast_check_syntax.specs.Part.{seen}
 use Rattle.fast_check_syntax.specs.Shape.{node, part, range_of}
+use Rattle.fast_check_expression_forms.specs.declared.assertions.TsTypeAssertion.{TsTypeAssertion}
 use Rattle.fast_check_expression_forms.specs.declared.assertions.TsAsExpr.{TsAsExpr}
+use Rattle.fast_check_expression_forms.specs.declared.assertions.TsSatisfiesExpr.{TsSatisfiesExpr}
+use Rattle.fast_check_expression_forms.specs.declared.assertions.TsConstAssertion.{TsConstAssertion}
+use Rattle.fast_check_expression_forms.specs.declared.assertions.TsNonNullExpr.{TsNonNullExpr}
+use Rattle.fast_check_expression_forms.specs.declared.assertions.TsInstantiation.{TsInstantiation}
+
+-- `<type_ann>expr`.
+abbrev pub TsTypeAssertion-span : Tree → SourceRange
+TsTypeAssertion-span t = range_of (part 0 t)
+
+abbrev pub TsTypeAssertion-expr : Tree → Tree
+TsTypeAssertion-expr t = part 1 t
+
+abbrev pub TsTypeAssertion-type_ann : Tree → Tree
+TsTypeAssertion-type_ann t = part 2 t
+
+pub record ReadsTsTypeAssertion (form : TsTypeAssertion Part) (t : Tree) : Type 0 where
+  pub span : form.span ≡ TsTypeAssertion-span t
+  pub expr : seen form.expr ≡ TsTypeAssertion-expr t
+  pub type_ann : seen form.type_ann ≡ TsTypeAssertion-type_ann t
 
 -- `expr as type_ann`.
 abbrev pub TsAsExpr-span : Tree → SourceRange
@@ -25,3 +45,55 @@ pub record ReadsTsAsExpr (form : TsAsExpr Part) (t : Tree) : Type 0 where
 
 abbrev pub ts_as_expr : SourceRange → Tree → Tree → Tree
 ts_as_expr span expr type_ann = node kinds.TsAsExpr (Range span ∷ expr ∷ type_ann ∷ [])
+
+-- `expr satisfies type_ann`.
+abbrev pub TsSatisfiesExpr-span : Tree → SourceRange
+TsSatisfiesExpr-span t = range_of (part 0 t)
+
+abbrev pub TsSatisfiesExpr-expr : Tree → Tree
+TsSatisfiesExpr-expr t = part 1 t
+
+abbrev pub TsSatisfiesExpr-type_ann : Tree → Tree
+TsSatisfiesExpr-type_ann t = part 2 t
+
+pub record ReadsTsSatisfiesExpr (form : TsSatisfiesExpr Part) (t : Tree) : Type 0 where
+  pub span : form.span ≡ TsSatisfiesExpr-span t
+  pub expr : seen form.expr ≡ TsSatisfiesExpr-expr t
+  pub type_ann : seen form.type_ann ≡ TsSatisfiesExpr-type_ann t
+
+-- `expr as const`.
+abbrev pub TsConstAssertion-span : Tree → SourceRange
+TsConstAssertion-span t = range_of (part 0 t)
+
+abbrev pub TsConstAssertion-expr : Tree → Tree
+TsConstAssertion-expr t = part 1 t
+
+pub record ReadsTsConstAssertion (form : TsConstAssertion Part) (t : Tree) : Type 0 where
+  pub span : form.span ≡ TsConstAssertion-span t
+  pub expr : seen form.expr ≡ TsConstAssertion-expr t
+
+-- `expr!`.
+abbrev pub TsNonNullExpr-span : Tree → SourceRange
+TsNonNullExpr-span t = range_of (part 0 t)
+
+abbrev pub TsNonNullExpr-expr : Tree → Tree
+TsNonNullExpr-expr t = part 1 t
+
+pub record ReadsTsNonNullExpr (form : TsNonNullExpr Part) (t : Tree) : Type 0 where
+  pub span : form.span ≡ TsNonNullExpr-span t
+  pub expr : seen form.expr ≡ TsNonNullExpr-expr t
+
+-- `expr<type_args>`, with no call behind it.
+abbrev pub TsInstantiation-span : Tree → SourceRange
+TsInstantiation-span t = range_of (part 0 t)
+
+abbrev pub TsInstantiation-expr : Tree → Tree
+TsInstantiation-expr t = part 1 t
+
+abbrev pub TsInstantiation-type_args : Tree → Tree
+TsInstantiation-type_args t = part 2 t
+
+pub record ReadsTsInstantiation (form : TsInstantiation Part) (t : Tree) : Type 0 where
+  pub span : form.span ≡ TsInstantiation-span t
+  pub expr : seen form.expr ≡ TsInstantiation-expr t
+  pub type_args : seen form.type_args ≡ TsInstantiation-type_args t

@@ -1,9 +1,32 @@
 ghost use Rattle.std.specs.Prelude.{◌≡◌, IfOk};
 ghost use Rattle.fast_check_syntax.specs.Part.{seen};
-ghost use Rattle.fast_check_expression_forms.specs.Assertions.{ReadsTsAsExpr, ts_as_expr};
+ghost use Rattle.fast_check_expression_forms.specs.Assertions.{ReadsTsTypeAssertion, ReadsTsAsExpr, ts_as_expr, ReadsTsSatisfiesExpr, ReadsTsConstAssertion, ReadsTsNonNullExpr, ReadsTsInstantiation};
 
 use fast_check_syntax::{Kind, Part, SourceRange, Tree};
 use std::alloc::{AllocError, Global};
+
+/// `<type_ann>expr`.
+#[derive(Drop)]
+pub struct TsTypeAssertion<N> {
+    pub span: SourceRange,
+    /// An `Expr`.
+    pub expr: N,
+    /// A `TsType`.
+    pub type_ann: N,
+}
+
+impl<'a> TsTypeAssertion<Part<'a>> {
+    /// The fields of a node.
+    pub fn of(node: Part<'a>) -> Self
+        ensures { ReadsTsTypeAssertion result (seen node.entry) }
+    {
+        TsTypeAssertion {
+            span: node.part(0).range(),
+            expr: node.part(1),
+            type_ann: node.part(2),
+        }
+    }
+}
 
 /// `expr as type_ann`.
 #[derive(Drop)]
@@ -39,5 +62,91 @@ impl TsAsExpr<Tree> {
             type_ann,
         } = self;
         Tree::node(alloc, Kind::TsAsExpr, [Tree::Range(span), expr, type_ann])
+    }
+}
+
+/// `expr satisfies type_ann`.
+#[derive(Drop)]
+pub struct TsSatisfiesExpr<N> {
+    pub span: SourceRange,
+    /// An `Expr`.
+    pub expr: N,
+    /// A `TsType`.
+    pub type_ann: N,
+}
+
+impl<'a> TsSatisfiesExpr<Part<'a>> {
+    /// The fields of a node.
+    pub fn of(node: Part<'a>) -> Self
+        ensures { ReadsTsSatisfiesExpr result (seen node.entry) }
+    {
+        TsSatisfiesExpr {
+            span: node.part(0).range(),
+            expr: node.part(1),
+            type_ann: node.part(2),
+        }
+    }
+}
+
+/// `expr as const`.
+#[derive(Drop)]
+pub struct TsConstAssertion<N> {
+    pub span: SourceRange,
+    /// An `Expr`.
+    pub expr: N,
+}
+
+impl<'a> TsConstAssertion<Part<'a>> {
+    /// The fields of a node.
+    pub fn of(node: Part<'a>) -> Self
+        ensures { ReadsTsConstAssertion result (seen node.entry) }
+    {
+        TsConstAssertion {
+            span: node.part(0).range(),
+            expr: node.part(1),
+        }
+    }
+}
+
+/// `expr!`.
+#[derive(Drop)]
+pub struct TsNonNullExpr<N> {
+    pub span: SourceRange,
+    /// An `Expr`.
+    pub expr: N,
+}
+
+impl<'a> TsNonNullExpr<Part<'a>> {
+    /// The fields of a node.
+    pub fn of(node: Part<'a>) -> Self
+        ensures { ReadsTsNonNullExpr result (seen node.entry) }
+    {
+        TsNonNullExpr {
+            span: node.part(0).range(),
+            expr: node.part(1),
+        }
+    }
+}
+
+/// `expr<type_args>`, with no call behind it.
+#[derive(Drop)]
+pub struct TsInstantiation<N> {
+    pub span: SourceRange,
+    /// An `Expr`.
+    pub expr: N,
+    /// A `TsTypeParamInstantiation`.
+    pub type_args: N,
+}
+
+impl<'a> TsInstantiation<Part<'a>> {
+    /// The fields of a node.
+    pub fn of(node: Part<'a>) -> Self
+        ensures { ReadsTsInstantiation result (seen node.entry) }
+    {
+        TsInstantiation {
+            span: node.part(0).range(),
+            expr: node.part(1),
+            type_args: node.part(2),
+        }
     }
 }

@@ -9,9 +9,11 @@ use Rattle.fast_check_syntax.specs.Part.{seen}
 use Rattle.fast_check_syntax.specs.Shape.{node, part, range_of, text_of, flag_of}
 use Rattle.fast_check_program_forms.specs.declared.literals.Str.{Str}
 use Rattle.fast_check_program_forms.specs.declared.literals.Bool.{Bool as Bool'}
+use Rattle.fast_check_program_forms.specs.declared.literals.Null.{Null}
 use Rattle.fast_check_program_forms.specs.declared.literals.Number.{Number}
 use Rattle.fast_check_program_forms.specs.declared.literals.BigInt.{BigInt}
 use Rattle.fast_check_program_forms.specs.declared.literals.Regex.{Regex}
+use Rattle.fast_check_program_forms.specs.declared.literals.JSXText.{JSXText}
 
 -- A string: `"value"`.
 abbrev pub Str-span : Tree → SourceRange
@@ -44,6 +46,13 @@ pub record ReadsBool (form : Bool') (t : Tree) : Type 0 where
 
 abbrev pub bool : SourceRange → Bool → Tree
 bool span value = node kinds.Bool (Range span ∷ Flag value ∷ [])
+
+-- `null`.
+abbrev pub Null-span : Tree → SourceRange
+Null-span t = range_of (part 0 t)
+
+pub record ReadsNull (form : Null) (t : Tree) : Type 0 where
+  pub span : form.span ≡ Null-span t
 
 -- A number, as `1` or `0x10`.
 abbrev pub Number-span : Tree → SourceRange
@@ -90,3 +99,14 @@ pub record ReadsRegex (form : Regex (Bor (List ℕ))) (t : Tree) : Type 0 where
 
 abbrev pub regex : SourceRange → List ℕ → List ℕ → Tree
 regex span exp flags = node kinds.Regex (Range span ∷ Text exp ∷ Text flags ∷ [])
+
+-- The text between JSX tags.
+abbrev pub JSXText-span : Tree → SourceRange
+JSXText-span t = range_of (part 0 t)
+
+abbrev pub JSXText-raw : Tree → List ℕ
+JSXText-raw t = text_of (part 1 t)
+
+pub record ReadsJSXText (form : JSXText (Bor (List ℕ))) (t : Tree) : Type 0 where
+  pub span : form.span ≡ JSXText-span t
+  pub raw : form.raw.now ≡ JSXText-raw t

@@ -9,9 +9,11 @@ use Rattle.fast_check_syntax.specs.declared.tree.Tree.{Tree, Range, Flag, Contex
 use Rattle.fast_check_syntax.specs.Part.{seen}
 use Rattle.fast_check_syntax.specs.Shape.{node, part, range_of, text_of, flag_of, context_of}
 use Rattle.fast_check_program_forms.specs.declared.names.Ident.{Ident}
+use Rattle.fast_check_program_forms.specs.declared.names.IdentName.{IdentName}
 use Rattle.fast_check_program_forms.specs.declared.names.BindingIdent.{BindingIdent}
+use Rattle.fast_check_program_forms.specs.declared.names.PrivateName.{PrivateName}
 
--- An identifier: `sym`, with a `?` behind it where it is an optional parameter.
+-- An identifier: `sym`. As a parameter that may be left out, `sym?`.
 abbrev pub Ident-span : Tree → SourceRange
 Ident-span t = range_of (part 0 t)
 
@@ -33,6 +35,17 @@ pub record ReadsIdent (form : Ident (Bor (List ℕ))) (t : Tree) : Type 0 where
 abbrev pub ident : SourceRange → SyntaxContext → List ℕ → Bool → Tree
 ident span ctxt sym optional = node kinds.Ident (Range span ∷ Context ctxt ∷ Text sym ∷ Flag optional ∷ [])
 
+-- A name that is not resolved, as `b` in `a.b`: `sym`.
+abbrev pub IdentName-span : Tree → SourceRange
+IdentName-span t = range_of (part 0 t)
+
+abbrev pub IdentName-sym : Tree → List ℕ
+IdentName-sym t = text_of (part 1 t)
+
+pub record ReadsIdentName (form : IdentName (Bor (List ℕ))) (t : Tree) : Type 0 where
+  pub span : form.span ≡ IdentName-span t
+  pub sym : form.sym.now ≡ IdentName-sym t
+
 -- An identifier as a pattern: `id: type_ann`.
 abbrev pub BindingIdent-id : Tree → Tree
 BindingIdent-id t = part 0 t
@@ -46,3 +59,17 @@ pub record ReadsBindingIdent (form : BindingIdent Part) (t : Tree) : Type 0 wher
 
 abbrev pub binding_ident : Tree → Tree → Tree
 binding_ident id type_ann = node kinds.BindingIdent (id ∷ type_ann ∷ [])
+
+-- A hash name: `#name`.
+abbrev pub PrivateName-span : Tree → SourceRange
+PrivateName-span t = range_of (part 0 t)
+
+abbrev pub PrivateName-name : Tree → List ℕ
+PrivateName-name t = text_of (part 1 t)
+
+pub record ReadsPrivateName (form : PrivateName (Bor (List ℕ))) (t : Tree) : Type 0 where
+  pub span : form.span ≡ PrivateName-span t
+  pub name : form.name.now ≡ PrivateName-name t
+
+abbrev pub private_name : SourceRange → List ℕ → Tree
+private_name span name = node kinds.PrivateName (Range span ∷ Text name ∷ [])

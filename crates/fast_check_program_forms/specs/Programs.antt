@@ -9,7 +9,7 @@ use Rattle.fast_check_syntax.specs.Shape.{node, part, range_of}
 use Rattle.fast_check_program_forms.specs.declared.programs.Module.{Module}
 use Rattle.fast_check_program_forms.specs.declared.programs.Script.{Script}
 
--- A file with imports or exports: its items, behind a line `#!shebang`.
+-- A file with imports or exports: its items, after a line `#!shebang`.
 abbrev pub Module-span : Tree → SourceRange
 Module-span t = range_of (part 0 t)
 
@@ -27,7 +27,7 @@ pub record ReadsModule (form : Module Part) (t : Tree) : Type 0 where
 abbrev pub module' : SourceRange → Tree → Tree → Tree
 module' span body shebang = node kinds.Module (Range span ∷ body ∷ shebang ∷ [])
 
--- A file without imports and exports: its statements, behind a line `#!shebang`.
+-- A file without imports and exports: its statements, after a line `#!shebang`.
 abbrev pub Script-span : Tree → SourceRange
 Script-span t = range_of (part 0 t)
 

@@ -1,6 +1,6 @@
 ghost use Rattle.std.specs.Prelude.{◌≡◌, IfOk};
 ghost use Rattle.fast_check_syntax.specs.Part.{seen};
-ghost use Rattle.fast_check_program_forms.specs.Literals.{ReadsStr, str, ReadsBool, bool, ReadsNumber, number, ReadsBigInt, big_int, ReadsRegex, regex};
+ghost use Rattle.fast_check_program_forms.specs.Literals.{ReadsStr, str, ReadsBool, bool, ReadsNull, ReadsNumber, number, ReadsBigInt, big_int, ReadsRegex, regex, ReadsJSXText};
 
 use fast_check_syntax::{Atom, Kind, Part, SourceRange, Tree};
 use std::alloc::{AllocError, Global};
@@ -11,7 +11,7 @@ pub struct Str<N, T> {
     pub span: SourceRange,
     /// The text that the string means.
     pub value: T,
-    /// The text as it is written, quotes included, or absent.
+    /// The text as it is written, with its quotes, or absent.
     pub raw: N,
 }
 
@@ -69,6 +69,23 @@ impl Bool {
     }
 }
 
+/// `null`.
+#[derive(Drop)]
+pub struct Null {
+    pub span: SourceRange,
+}
+
+impl Null {
+    /// The fields of a node.
+    pub fn of(node: Part<'_>) -> Self
+        ensures { ReadsNull result (seen node.entry) }
+    {
+        Null {
+            span: node.part(0).range(),
+        }
+    }
+}
+
 /// A number, as `1` or `0x10`.
 #[derive(Drop)]
 pub struct Number<T> {
@@ -103,7 +120,7 @@ impl Number<Atom> {
 #[derive(Drop)]
 pub struct BigInt<T> {
     pub span: SourceRange,
-    /// The number as it is written, with its `n`.
+    /// The number as it is written.
     pub raw: T,
 }
 
@@ -161,5 +178,25 @@ impl Regex<Atom> {
             Kind::Regex,
             [Tree::Range(span), Tree::Text(exp), Tree::Text(flags)],
         )
+    }
+}
+
+/// The text between JSX tags.
+#[derive(Drop)]
+pub struct JSXText<T> {
+    pub span: SourceRange,
+    /// The text as it is written.
+    pub raw: T,
+}
+
+impl<'a> JSXText<&'a str> {
+    /// The fields of a node.
+    pub fn of(node: Part<'a>) -> Self
+        ensures { ReadsJSXText result (seen node.entry) }
+    {
+        JSXText {
+            span: node.part(0).range(),
+            raw: node.part(1).text(),
+        }
     }
 }

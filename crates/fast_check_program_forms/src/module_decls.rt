@@ -1,9 +1,184 @@
 ghost use Rattle.std.specs.Prelude.{◌≡◌, IfOk};
 ghost use Rattle.fast_check_syntax.specs.Part.{seen};
-ghost use Rattle.fast_check_program_forms.specs.ModuleDecls.{ReadsExportDecl, export_decl};
+ghost use Rattle.fast_check_program_forms.specs.ModuleDecls.{ReadsImportDecl, import_decl, ReadsImportNamedSpecifier, ReadsImportDefaultSpecifier, ReadsImportStarAsSpecifier, ReadsTsImportEqualsDecl, ReadsTsExternalModuleRef, ReadsExportDecl, export_decl, ReadsNamedExport, named_export, ReadsExportNamespaceSpecifier, ReadsExportDefaultSpecifier, ReadsExportNamedSpecifier, ReadsExportDefaultDecl, export_default_decl, ReadsExportDefaultExpr, export_default_expr, ReadsExportAll, export_all, ReadsTsExportAssignment, ReadsTsNamespaceExportDecl};
 
-use fast_check_syntax::{Kind, Part, SourceRange, Tree};
+use fast_check_syntax::{Atom, Kind, Part, SourceRange, Tree};
 use std::alloc::{AllocError, Global};
+
+/// `import specifiers from src with with`.
+#[derive(Drop)]
+pub struct ImportDecl<N, T> {
+    pub span: SourceRange,
+    /// A list of `ImportSpecifier`.
+    pub specifiers: N,
+    /// A `Str`.
+    pub src: N,
+    /// Whether it is `import type`.
+    pub type_only: bool,
+    /// An `ObjectLit`, or absent.
+    pub with: N,
+    /// `evaluation`, or as it is written: `source`, `defer`.
+    pub phase: T,
+}
+
+impl<'a> ImportDecl<Part<'a>, &'a str> {
+    /// The fields of a node.
+    pub fn of(node: Part<'a>) -> Self
+        ensures { ReadsImportDecl result (seen node.entry) }
+    {
+        ImportDecl {
+            span: node.part(0).range(),
+            specifiers: node.part(1),
+            src: node.part(2),
+            type_only: node.part(3).flag(),
+            with: node.part(4),
+            phase: node.part(5).text(),
+        }
+    }
+}
+
+impl ImportDecl<Tree, Atom> {
+    /// The node of these fields.
+    pub fn into_tree(self, alloc: Global) -> Result<Tree, AllocError>
+        ensures { IfOk result (λ tree. tree ≡ import_decl self.span self.specifiers self.src self.type_only self.with self.phase) }
+    {
+        let ImportDecl {
+            span,
+            specifiers,
+            src,
+            type_only,
+            with,
+            phase,
+        } = self;
+        Tree::node(
+            alloc,
+            Kind::ImportDecl,
+            [
+                Tree::Range(span),
+                specifiers,
+                src,
+                Tree::Flag(type_only),
+                with,
+                Tree::Text(phase),
+            ],
+        )
+    }
+}
+
+/// In the braces of an import: `imported as local`.
+#[derive(Drop)]
+pub struct ImportNamedSpecifier<N> {
+    pub span: SourceRange,
+    /// An `Ident`.
+    pub local: N,
+    /// A `ModuleExportName`, or absent where it is `local`.
+    pub imported: N,
+    /// Whether `type` stands before it.
+    pub is_type_only: bool,
+}
+
+impl<'a> ImportNamedSpecifier<Part<'a>> {
+    /// The fields of a node.
+    pub fn of(node: Part<'a>) -> Self
+        ensures { ReadsImportNamedSpecifier result (seen node.entry) }
+    {
+        ImportNamedSpecifier {
+            span: node.part(0).range(),
+            local: node.part(1),
+            imported: node.part(2),
+            is_type_only: node.part(3).flag(),
+        }
+    }
+}
+
+/// `import local from ..`.
+#[derive(Drop)]
+pub struct ImportDefaultSpecifier<N> {
+    pub span: SourceRange,
+    /// An `Ident`.
+    pub local: N,
+}
+
+impl<'a> ImportDefaultSpecifier<Part<'a>> {
+    /// The fields of a node.
+    pub fn of(node: Part<'a>) -> Self
+        ensures { ReadsImportDefaultSpecifier result (seen node.entry) }
+    {
+        ImportDefaultSpecifier {
+            span: node.part(0).range(),
+            local: node.part(1),
+        }
+    }
+}
+
+/// `import * as local from ..`.
+#[derive(Drop)]
+pub struct ImportStarAsSpecifier<N> {
+    pub span: SourceRange,
+    /// An `Ident`.
+    pub local: N,
+}
+
+impl<'a> ImportStarAsSpecifier<Part<'a>> {
+    /// The fields of a node.
+    pub fn of(node: Part<'a>) -> Self
+        ensures { ReadsImportStarAsSpecifier result (seen node.entry) }
+    {
+        ImportStarAsSpecifier {
+            span: node.part(0).range(),
+            local: node.part(1),
+        }
+    }
+}
+
+/// `import id = module_ref`.
+#[derive(Drop)]
+pub struct TsImportEqualsDecl<N> {
+    pub span: SourceRange,
+    /// Whether `export` stands before it.
+    pub is_export: bool,
+    /// Whether it is `import type`.
+    pub is_type_only: bool,
+    /// An `Ident`.
+    pub id: N,
+    /// A `TsModuleRef`.
+    pub module_ref: N,
+}
+
+impl<'a> TsImportEqualsDecl<Part<'a>> {
+    /// The fields of a node.
+    pub fn of(node: Part<'a>) -> Self
+        ensures { ReadsTsImportEqualsDecl result (seen node.entry) }
+    {
+        TsImportEqualsDecl {
+            span: node.part(0).range(),
+            is_export: node.part(1).flag(),
+            is_type_only: node.part(2).flag(),
+            id: node.part(3),
+            module_ref: node.part(4),
+        }
+    }
+}
+
+/// `require(expr)`, behind `import id =`.
+#[derive(Drop)]
+pub struct TsExternalModuleRef<N> {
+    pub span: SourceRange,
+    /// A `Str`.
+    pub expr: N,
+}
+
+impl<'a> TsExternalModuleRef<Part<'a>> {
+    /// The fields of a node.
+    pub fn of(node: Part<'a>) -> Self
+        ensures { ReadsTsExternalModuleRef result (seen node.entry) }
+    {
+        TsExternalModuleRef {
+            span: node.part(0).range(),
+            expr: node.part(1),
+        }
+    }
+}
 
 /// `export decl`.
 #[derive(Drop)]
@@ -32,5 +207,269 @@ impl ExportDecl<Tree> {
     {
         let ExportDecl { span, decl } = self;
         Tree::node(alloc, Kind::ExportDecl, [Tree::Range(span), decl])
+    }
+}
+
+/// `export { specifiers } from src with with`.
+#[derive(Drop)]
+pub struct NamedExport<N> {
+    pub span: SourceRange,
+    /// A list of `ExportSpecifier`.
+    pub specifiers: N,
+    /// A `Str`, or absent.
+    pub src: N,
+    /// Whether it is `export type`.
+    pub type_only: bool,
+    /// An `ObjectLit`, or absent.
+    pub with: N,
+}
+
+impl<'a> NamedExport<Part<'a>> {
+    /// The fields of a node.
+    pub fn of(node: Part<'a>) -> Self
+        ensures { ReadsNamedExport result (seen node.entry) }
+    {
+        NamedExport {
+            span: node.part(0).range(),
+            specifiers: node.part(1),
+            src: node.part(2),
+            type_only: node.part(3).flag(),
+            with: node.part(4),
+        }
+    }
+}
+
+impl NamedExport<Tree> {
+    /// The node of these fields.
+    pub fn into_tree(self, alloc: Global) -> Result<Tree, AllocError>
+        ensures { IfOk result (λ tree. tree ≡ named_export self.span self.specifiers self.src self.type_only self.with) }
+    {
+        let NamedExport {
+            span,
+            specifiers,
+            src,
+            type_only,
+            with,
+        } = self;
+        Tree::node(
+            alloc,
+            Kind::NamedExport,
+            [
+                Tree::Range(span),
+                specifiers,
+                src,
+                Tree::Flag(type_only),
+                with,
+            ],
+        )
+    }
+}
+
+/// `export * as name from ..`.
+#[derive(Drop)]
+pub struct ExportNamespaceSpecifier<N> {
+    pub span: SourceRange,
+    /// A `ModuleExportName`.
+    pub name: N,
+}
+
+impl<'a> ExportNamespaceSpecifier<Part<'a>> {
+    /// The fields of a node.
+    pub fn of(node: Part<'a>) -> Self
+        ensures { ReadsExportNamespaceSpecifier result (seen node.entry) }
+    {
+        ExportNamespaceSpecifier {
+            span: node.part(0).range(),
+            name: node.part(1),
+        }
+    }
+}
+
+/// `export exported from ..`.
+#[derive(Drop)]
+pub struct ExportDefaultSpecifier<N> {
+    /// An `Ident`.
+    pub exported: N,
+}
+
+impl<'a> ExportDefaultSpecifier<Part<'a>> {
+    /// The fields of a node.
+    pub fn of(node: Part<'a>) -> Self
+        ensures { ReadsExportDefaultSpecifier result (seen node.entry) }
+    {
+        ExportDefaultSpecifier {
+            exported: node.part(0),
+        }
+    }
+}
+
+/// In the braces of an export: `orig as exported`.
+#[derive(Drop)]
+pub struct ExportNamedSpecifier<N> {
+    pub span: SourceRange,
+    /// A `ModuleExportName`.
+    pub orig: N,
+    /// A `ModuleExportName`, or absent where it is `orig`.
+    pub exported: N,
+    /// Whether `type` stands before it.
+    pub is_type_only: bool,
+}
+
+impl<'a> ExportNamedSpecifier<Part<'a>> {
+    /// The fields of a node.
+    pub fn of(node: Part<'a>) -> Self
+        ensures { ReadsExportNamedSpecifier result (seen node.entry) }
+    {
+        ExportNamedSpecifier {
+            span: node.part(0).range(),
+            orig: node.part(1),
+            exported: node.part(2),
+            is_type_only: node.part(3).flag(),
+        }
+    }
+}
+
+/// `export default decl`, of a class, a function or an interface.
+#[derive(Drop)]
+pub struct ExportDefaultDecl<N> {
+    pub span: SourceRange,
+    /// A `DefaultDecl`.
+    pub decl: N,
+}
+
+impl<'a> ExportDefaultDecl<Part<'a>> {
+    /// The fields of a node.
+    pub fn of(node: Part<'a>) -> Self
+        ensures { ReadsExportDefaultDecl result (seen node.entry) }
+    {
+        ExportDefaultDecl {
+            span: node.part(0).range(),
+            decl: node.part(1),
+        }
+    }
+}
+
+impl ExportDefaultDecl<Tree> {
+    /// The node of these fields.
+    pub fn into_tree(self, alloc: Global) -> Result<Tree, AllocError>
+        ensures { IfOk result (λ tree. tree ≡ export_default_decl self.span self.decl) }
+    {
+        let ExportDefaultDecl { span, decl } = self;
+        Tree::node(alloc, Kind::ExportDefaultDecl, [Tree::Range(span), decl])
+    }
+}
+
+/// `export default expr`.
+#[derive(Drop)]
+pub struct ExportDefaultExpr<N> {
+    pub span: SourceRange,
+    /// An `Expr`.
+    pub expr: N,
+}
+
+impl<'a> ExportDefaultExpr<Part<'a>> {
+    /// The fields of a node.
+    pub fn of(node: Part<'a>) -> Self
+        ensures { ReadsExportDefaultExpr result (seen node.entry) }
+    {
+        ExportDefaultExpr {
+            span: node.part(0).range(),
+            expr: node.part(1),
+        }
+    }
+}
+
+impl ExportDefaultExpr<Tree> {
+    /// The node of these fields.
+    pub fn into_tree(self, alloc: Global) -> Result<Tree, AllocError>
+        ensures { IfOk result (λ tree. tree ≡ export_default_expr self.span self.expr) }
+    {
+        let ExportDefaultExpr { span, expr } = self;
+        Tree::node(alloc, Kind::ExportDefaultExpr, [Tree::Range(span), expr])
+    }
+}
+
+/// `export * from src with with`.
+#[derive(Drop)]
+pub struct ExportAll<N> {
+    pub span: SourceRange,
+    /// A `Str`.
+    pub src: N,
+    /// Whether it is `export type`.
+    pub type_only: bool,
+    /// An `ObjectLit`, or absent.
+    pub with: N,
+}
+
+impl<'a> ExportAll<Part<'a>> {
+    /// The fields of a node.
+    pub fn of(node: Part<'a>) -> Self
+        ensures { ReadsExportAll result (seen node.entry) }
+    {
+        ExportAll {
+            span: node.part(0).range(),
+            src: node.part(1),
+            type_only: node.part(2).flag(),
+            with: node.part(3),
+        }
+    }
+}
+
+impl ExportAll<Tree> {
+    /// The node of these fields.
+    pub fn into_tree(self, alloc: Global) -> Result<Tree, AllocError>
+        ensures { IfOk result (λ tree. tree ≡ export_all self.span self.src self.type_only self.with) }
+    {
+        let ExportAll {
+            span,
+            src,
+            type_only,
+            with,
+        } = self;
+        Tree::node(
+            alloc,
+            Kind::ExportAll,
+            [Tree::Range(span), src, Tree::Flag(type_only), with],
+        )
+    }
+}
+
+/// `export = expr`.
+#[derive(Drop)]
+pub struct TsExportAssignment<N> {
+    pub span: SourceRange,
+    /// An `Expr`.
+    pub expr: N,
+}
+
+impl<'a> TsExportAssignment<Part<'a>> {
+    /// The fields of a node.
+    pub fn of(node: Part<'a>) -> Self
+        ensures { ReadsTsExportAssignment result (seen node.entry) }
+    {
+        TsExportAssignment {
+            span: node.part(0).range(),
+            expr: node.part(1),
+        }
+    }
+}
+
+/// `export as namespace id`.
+#[derive(Drop)]
+pub struct TsNamespaceExportDecl<N> {
+    pub span: SourceRange,
+    /// An `Ident`.
+    pub id: N,
+}
+
+impl<'a> TsNamespaceExportDecl<Part<'a>> {
+    /// The fields of a node.
+    pub fn of(node: Part<'a>) -> Self
+        ensures { ReadsTsNamespaceExportDecl result (seen node.entry) }
+    {
+        TsNamespaceExportDecl {
+            span: node.part(0).range(),
+            id: node.part(1),
+        }
     }
 }

@@ -1,17 +1,18 @@
 ghost use Rattle.std.specs.Prelude.{◌≡◌, IfOk};
 ghost use Rattle.fast_check_syntax.specs.Part.{seen};
-ghost use Rattle.fast_check_program_forms.specs.Names.{ReadsIdent, ident, ReadsBindingIdent, binding_ident};
+ghost use Rattle.fast_check_program_forms.specs.Names.{ReadsIdent, ident, ReadsIdentName, ReadsBindingIdent, binding_ident, ReadsPrivateName, private_name};
 
 use fast_check_syntax::{Atom, Kind, Part, SourceRange, SyntaxContext, Tree};
 use std::alloc::{AllocError, Global};
 
-/// An identifier: `sym`, with a `?` behind it where it is an optional parameter.
+/// An identifier: `sym`. As a parameter that may be left out, `sym?`.
 #[derive(Drop)]
 pub struct Ident<T> {
     pub span: SourceRange,
     /// The scope that the name is resolved in.
     pub ctxt: SyntaxContext,
     pub sym: T,
+    /// Whether a `?` stands behind it.
     pub optional: bool,
 }
 
@@ -53,6 +54,25 @@ impl Ident<Atom> {
     }
 }
 
+/// A name that is not resolved, as `b` in `a.b`: `sym`.
+#[derive(Drop)]
+pub struct IdentName<T> {
+    pub span: SourceRange,
+    pub sym: T,
+}
+
+impl<'a> IdentName<&'a str> {
+    /// The fields of a node.
+    pub fn of(node: Part<'a>) -> Self
+        ensures { ReadsIdentName result (seen node.entry) }
+    {
+        IdentName {
+            span: node.part(0).range(),
+            sym: node.part(1).text(),
+        }
+    }
+}
+
 /// An identifier as a pattern: `id: type_ann`.
 #[derive(Drop)]
 pub struct BindingIdent<N> {
@@ -81,5 +101,39 @@ impl BindingIdent<Tree> {
     {
         let BindingIdent { id, type_ann } = self;
         Tree::node(alloc, Kind::BindingIdent, [id, type_ann])
+    }
+}
+
+/// A hash name: `#name`.
+#[derive(Drop)]
+pub struct PrivateName<T> {
+    pub span: SourceRange,
+    /// The text behind the `#`.
+    pub name: T,
+}
+
+impl<'a> PrivateName<&'a str> {
+    /// The fields of a node.
+    pub fn of(node: Part<'a>) -> Self
+        ensures { ReadsPrivateName result (seen node.entry) }
+    {
+        PrivateName {
+            span: node.part(0).range(),
+            name: node.part(1).text(),
+        }
+    }
+}
+
+impl PrivateName<Atom> {
+    /// The node of these fields.
+    pub fn into_tree(self, alloc: Global) -> Result<Tree, AllocError>
+        ensures { IfOk result (λ tree. tree ≡ private_name self.span self.name) }
+    {
+        let PrivateName { span, name } = self;
+        Tree::node(
+            alloc,
+            Kind::PrivateName,
+            [Tree::Range(span), Tree::Text(name)],
+        )
     }
 }

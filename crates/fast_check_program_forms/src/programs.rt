@@ -5,13 +5,13 @@ ghost use Rattle.fast_check_program_forms.specs.Programs.{ReadsModule, module', 
 use fast_check_syntax::{Kind, Part, SourceRange, Tree};
 use std::alloc::{AllocError, Global};
 
-/// A file with imports or exports: its items, behind a line `#!shebang`.
+/// A file with imports or exports: its items, after a line `#!shebang`.
 #[derive(Drop)]
 pub struct Module<N> {
     pub span: SourceRange,
     /// A list of `ModuleItem`.
     pub body: N,
-    /// A text without its `#!`, or absent.
+    /// A text, or absent.
     pub shebang: N,
 }
 
@@ -42,13 +42,13 @@ impl Module<Tree> {
     }
 }
 
-/// A file without imports and exports: its statements, behind a line `#!shebang`.
+/// A file without imports and exports: its statements, after a line `#!shebang`.
 #[derive(Drop)]
 pub struct Script<N> {
     pub span: SourceRange,
     /// A list of `Stmt`.
     pub body: N,
-    /// A text without its `#!`, or absent.
+    /// A text, or absent.
     pub shebang: N,
 }
 

@@ -25,7 +25,7 @@ use Rattle.fast_check_skeleton.specs.declared.fault.Fault.{Fault}
 use Rattle.fast_check_skeleton.specs.Surroundings.{Surroundings}
 use Rattle.fast_check_skeleton.specs.Inferred.{inferred_type, mutability_of}
 use Rattle.fast_check_skeleton.specs.Seen.{Seen, written, range, scope, flag, form, inferred, hidden, end, also, seens, moved_seen, moved_seens}
-use Rattle.fast_check_skeleton.specs.Visible.{declared_ident, declared_type, standing, by_inferred, value_seen, declarator_seen, is_ambient, is_public_declarator, public_declarator, public_declarators, statement_seen, decl_seen, exported_seen, item_seen, items_of, visible}
+use Rattle.fast_check_skeleton.specs.Visible.{declared_ident, declared_type, standing, by_inferred, value_seen, declarator_seen, is_ambient, is_public_declarator, declarator_in, public_declarator, public_declarators, statement_seen, decl_seen, exported_seen, item_seen, items_of, visible}
 use Rattle.fast_check_skeleton.specs.Skeleton.{Answer, answer_of, transformed, skeleton_of, faults_of}
 use Rattle.fast_check_skeleton.specs.Hidden.{Both, IsSilentDecl, IsSilent, SameHead, SameDeclarator, SameAmbient, SameDeclarators, SameStatement, SameDecl, SameItem, SameItems, AgreeHidden}
 use Rattle.fast_check_skeleton.specs.Hidden as h
@@ -153,12 +153,8 @@ module _ (r : Renaming) (ok : IsRenaming r) where
     declarator_alike mutability (h.SameDeclarator.same {t = t} {u = u} d s) =
         (d.is_public, declared mutability t u d (λ e. same_value mutability (VarDeclarator-init t) (VarDeclarator-init u) s))
 
-    -- a declarator of a statement that is ambient or not
-    abbrev seen_in : Surroundings → Tree → Tree → Seen
-    seen_in around statement d = if is_ambient around statement then written d else declarator_seen (mutability_of (VarDecl-kind statement)) d
-
     declarators_alike : (Same : Tree → Tree → Type 0) (s s' : Tree) →
-        ((t u : Tree) → Same t u → (is_public_declarator a t ≡ is_public_declarator b u) × Alike (seen_in a s t) (seen_in b s' u)) →
+        ((t u : Tree) → Same t u → (is_public_declarator a t ≡ is_public_declarator b u) × Alike (declarator_in a s t) (declarator_in b s' u)) →
         (ts us : List Tree) → SameDeclarators r a b Same ts us → AllAlike (flat_map (public_declarator a s) ts) (flat_map (public_declarator b s') us)
     declarators_alike Same s s' f [] [] h.SameDeclarators.end = refl
     declarators_alike Same s s' f (t ∷ ts) us (h.SameDeclarators.left q rest) =
@@ -167,7 +163,7 @@ module _ (r : Renaming) (ok : IsRenaming r) where
         subst (λ xs. AllAlike (flat_map (public_declarator a s) ts) (xs ++ flat_map (public_declarator b s') us)) (sym (not_public b s' u q)) (declarators_alike Same s s' f ts us rest)
     declarators_alike Same s s' f (t ∷ ts) (u ∷ us) (h.SameDeclarators.next x rest) =
         append_alike (public_declarator a s t) (flat_map (public_declarator a s) ts) (public_declarator b s' u) (flat_map (public_declarator b s') us)
-            (all_alike_if (is_public_declarator a t) (is_public_declarator b u) (seen_in a s t) (seen_in b s' u) (f t u x).0 (f t u x).1)
+            (all_alike_if (is_public_declarator a t) (is_public_declarator b u) (declarator_in a s t) (declarator_in b s' u) (f t u x).0 (f t u x).1)
             (declarators_alike Same s s' f ts us rest)
 
     -- ---- statements
@@ -195,7 +191,7 @@ module _ (r : Renaming) (ok : IsRenaming r) where
             (statement_alike t u (public_declarators a t) (public_declarators b u) d
                 (declarators_alike (SameDeclarator r a b (mutability_of (VarDecl-kind t))) t u go (parts (VarDecl-decls t)) (parts (VarDecl-decls u)) rest)))
       where
-        go : (x y : Tree) → SameDeclarator r a b (mutability_of (VarDecl-kind t)) x y → (is_public_declarator a x ≡ is_public_declarator b y) × Alike (seen_in a t x) (seen_in b u y)
+        go : (x y : Tree) → SameDeclarator r a b (mutability_of (VarDecl-kind t)) x y → (is_public_declarator a x ≡ is_public_declarator b y) × Alike (declarator_in a t x) (declarator_in b u y)
         go x y s =
             let e = declarator_alike (mutability_of (VarDecl-kind t)) s in
             (e.0, alike_if (is_ambient a t) (is_ambient b u) (written x) (declarator_seen (mutability_of (VarDecl-kind t)) x) (written y) (declarator_seen (mutability_of (VarDecl-kind u)) y)
@@ -205,7 +201,7 @@ module _ (r : Renaming) (ok : IsRenaming r) where
             (statement_alike t u (public_declarators a t) (public_declarators b u) d
                 (declarators_alike (SameAmbient r a b) t u go (parts (VarDecl-decls t)) (parts (VarDecl-decls u)) rest)))
       where
-        go : (x y : Tree) → SameAmbient r a b x y → (is_public_declarator a x ≡ is_public_declarator b y) × Alike (seen_in a t x) (seen_in b u y)
+        go : (x y : Tree) → SameAmbient r a b x y → (is_public_declarator a x ≡ is_public_declarator b y) × Alike (declarator_in a t x) (declarator_in b u y)
         go x y s = (s.is_public, alike_if (is_ambient a t) (is_ambient b u) (written x) (declarator_seen (mutability_of (VarDecl-kind t)) x) (written y) (declarator_seen (mutability_of (VarDecl-kind u)) y)
             (ambient_alike t u m d.declare) (λ e. written_alike s.tree) (λ e. cc))
 

@@ -47,12 +47,13 @@ is_ambient around statement = around.is_declaration_file || VarDecl-declare stat
 abbrev pub is_public_declarator : Surroundings → Tree → Bool
 is_public_declarator around d = around.is_public (VarDeclarator-span d)
 
+-- a declarator of a statement
+abbrev pub declarator_in : Surroundings → Tree → Tree → Seen
+declarator_in around statement d = if is_ambient around statement then written d else declarator_seen (mutability_of (VarDecl-kind statement)) d
+
 -- a public declarator; nothing of another
 abbrev pub public_declarator : Surroundings → Tree → Tree → List Seen
-public_declarator around statement d =
-    if is_public_declarator around d
-    then (if is_ambient around statement then written d else declarator_seen (mutability_of (VarDecl-kind statement)) d) ∷ []
-    else []
+public_declarator around statement d = if is_public_declarator around d then declarator_in around statement d ∷ [] else []
 
 abbrev pub public_declarators : Surroundings → Tree → List Seen
 public_declarators around statement = flat_map (public_declarator around statement) (parts (VarDecl-decls statement))

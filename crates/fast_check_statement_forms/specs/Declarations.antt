@@ -7,10 +7,49 @@ use Rattle.fast_check_syntax.specs.declared.source.SyntaxContext.{SyntaxContext}
 use Rattle.fast_check_syntax.specs.declared.tree.Tree.{Tree, Range, Flag, Context}
 use Rattle.fast_check_syntax.specs.Part.{seen}
 use Rattle.fast_check_syntax.specs.Shape.{node, part, range_of, flag_of, context_of}
+use Rattle.fast_check_statement_forms.specs.declared.declarations.ClassDecl.{ClassDecl}
+use Rattle.fast_check_statement_forms.specs.declared.declarations.FnDecl.{FnDecl}
 use Rattle.fast_check_statement_forms.specs.declared.declarations.VarDecl.{VarDecl}
 use Rattle.fast_check_statement_forms.specs.declared.declarations.VarDeclarator.{VarDeclarator}
+use Rattle.fast_check_statement_forms.specs.declared.declarations.UsingDecl.{UsingDecl}
 
--- `kind decls`, with `declare` before it where the flag is set.
+-- `class ident ..`, with the rest in `class`.
+abbrev pub ClassDecl-ident : Tree → Tree
+ClassDecl-ident t = part 0 t
+
+abbrev pub ClassDecl-declare : Tree → Bool
+ClassDecl-declare t = flag_of (part 1 t)
+
+abbrev pub ClassDecl-class : Tree → Tree
+ClassDecl-class t = part 2 t
+
+pub record ReadsClassDecl (form : ClassDecl Part) (t : Tree) : Type 0 where
+  pub ident : seen form.ident ≡ ClassDecl-ident t
+  pub declare : form.declare ≡ ClassDecl-declare t
+  pub class : seen form.class ≡ ClassDecl-class t
+
+abbrev pub class_decl : Tree → Bool → Tree → Tree
+class_decl ident declare class = node kinds.ClassDecl (ident ∷ Flag declare ∷ class ∷ [])
+
+-- `function ident ..`, with the rest in `function`.
+abbrev pub FnDecl-ident : Tree → Tree
+FnDecl-ident t = part 0 t
+
+abbrev pub FnDecl-declare : Tree → Bool
+FnDecl-declare t = flag_of (part 1 t)
+
+abbrev pub FnDecl-function : Tree → Tree
+FnDecl-function t = part 2 t
+
+pub record ReadsFnDecl (form : FnDecl Part) (t : Tree) : Type 0 where
+  pub ident : seen form.ident ≡ FnDecl-ident t
+  pub declare : form.declare ≡ FnDecl-declare t
+  pub function : seen form.function ≡ FnDecl-function t
+
+abbrev pub fn_decl : Tree → Bool → Tree → Tree
+fn_decl ident declare function = node kinds.FnDecl (ident ∷ Flag declare ∷ function ∷ [])
+
+-- `kind decls;`, as `const a = 1;`.
 abbrev pub VarDecl-span : Tree → SourceRange
 VarDecl-span t = range_of (part 0 t)
 
@@ -36,7 +75,7 @@ pub record ReadsVarDecl (form : VarDecl Part) (t : Tree) : Type 0 where
 abbrev pub var_decl : SourceRange → SyntaxContext → Tree → Bool → Tree → Tree
 var_decl span ctxt kind declare decls = node kinds.VarDecl (Range span ∷ Context ctxt ∷ kind ∷ Flag declare ∷ decls ∷ [])
 
--- `name = init`, with a `!` behind the name where it is definite.
+-- `name = init`.
 abbrev pub VarDeclarator-span : Tree → SourceRange
 VarDeclarator-span t = range_of (part 0 t)
 
@@ -57,3 +96,18 @@ pub record ReadsVarDeclarator (form : VarDeclarator Part) (t : Tree) : Type 0 wh
 
 abbrev pub var_declarator : SourceRange → Tree → Tree → Bool → Tree
 var_declarator span name init definite = node kinds.VarDeclarator (Range span ∷ name ∷ init ∷ Flag definite ∷ [])
+
+-- `using decls;`.
+abbrev pub UsingDecl-span : Tree → SourceRange
+UsingDecl-span t = range_of (part 0 t)
+
+abbrev pub UsingDecl-is_await : Tree → Bool
+UsingDecl-is_await t = flag_of (part 1 t)
+
+abbrev pub UsingDecl-decls : Tree → Tree
+UsingDecl-decls t = part 2 t
+
+pub record ReadsUsingDecl (form : UsingDecl Part) (t : Tree) : Type 0 where
+  pub span : form.span ≡ UsingDecl-span t
+  pub is_await : form.is_await ≡ UsingDecl-is_await t
+  pub decls : seen form.decls ≡ UsingDecl-decls t

@@ -1,1 +1,4 @@
+pub mod Statements
+pub mod Loops
 pub mod Declarations
+pub mod TsDeclarations

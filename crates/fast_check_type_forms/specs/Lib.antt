@@ -1,2 +1,4 @@
 pub mod Types
+pub mod TypeOperators
+pub mod Signatures
 pub mod TypeParams

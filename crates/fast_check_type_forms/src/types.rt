@@ -1,6 +1,6 @@
 ghost use Rattle.std.specs.Prelude.{◌≡◌, IfOk};
 ghost use Rattle.fast_check_syntax.specs.Part.{seen};
-ghost use Rattle.fast_check_type_forms.specs.Types.{ReadsTsKeywordType, ts_keyword_type, ReadsTsTypeRef, ts_type_ref, ReadsTsLitType, ts_lit_type};
+ghost use Rattle.fast_check_type_forms.specs.Types.{ReadsTsKeywordType, ts_keyword_type, ReadsTsThisType, ReadsTsTypeRef, ts_type_ref, ReadsTsQualifiedName, ReadsTsTypeQuery, ReadsTsImportType, ReadsTsTypeLit, ReadsTsArrayType, ReadsTsTupleType, ReadsTsTupleElement, ts_tuple_element, ReadsTsOptionalType, ReadsTsRestType, ReadsTsParenthesizedType, ReadsTsUnionType, ts_union_type, ReadsTsIntersectionType, ReadsTsLitType, ts_lit_type, ReadsTsTplLitType};
 
 use fast_check_syntax::{Kind, Part, SourceRange, Tree};
 use std::alloc::{AllocError, Global};
@@ -32,6 +32,23 @@ impl TsKeywordType<Tree> {
     {
         let TsKeywordType { span, kind } = self;
         Tree::node(alloc, Kind::TsKeywordType, [Tree::Range(span), kind])
+    }
+}
+
+/// `this` as a type.
+#[derive(Drop)]
+pub struct TsThisType {
+    pub span: SourceRange,
+}
+
+impl TsThisType {
+    /// The fields of a node.
+    pub fn of(node: Part<'_>) -> Self
+        ensures { ReadsTsThisType result (seen node.entry) }
+    {
+        TsThisType {
+            span: node.part(0).range(),
+        }
     }
 }
 
@@ -76,6 +93,281 @@ impl TsTypeRef<Tree> {
     }
 }
 
+/// `left.right` as the name of a type.
+#[derive(Drop)]
+pub struct TsQualifiedName<N> {
+    pub span: SourceRange,
+    /// A `TsEntityName`.
+    pub left: N,
+    /// An `IdentName`.
+    pub right: N,
+}
+
+impl<'a> TsQualifiedName<Part<'a>> {
+    /// The fields of a node.
+    pub fn of(node: Part<'a>) -> Self
+        ensures { ReadsTsQualifiedName result (seen node.entry) }
+    {
+        TsQualifiedName {
+            span: node.part(0).range(),
+            left: node.part(1),
+            right: node.part(2),
+        }
+    }
+}
+
+/// `typeof expr_name<type_args>`.
+#[derive(Drop)]
+pub struct TsTypeQuery<N> {
+    pub span: SourceRange,
+    /// A `TsTypeQueryExpr`.
+    pub expr_name: N,
+    /// A `TsTypeParamInstantiation`, or absent.
+    pub type_args: N,
+}
+
+impl<'a> TsTypeQuery<Part<'a>> {
+    /// The fields of a node.
+    pub fn of(node: Part<'a>) -> Self
+        ensures { ReadsTsTypeQuery result (seen node.entry) }
+    {
+        TsTypeQuery {
+            span: node.part(0).range(),
+            expr_name: node.part(1),
+            type_args: node.part(2),
+        }
+    }
+}
+
+/// `import(arg).qualifier<type_args>`.
+#[derive(Drop)]
+pub struct TsImportType<N> {
+    pub span: SourceRange,
+    /// A `Str`.
+    pub arg: N,
+    /// A `TsEntityName`, or absent.
+    pub qualifier: N,
+    /// A `TsTypeParamInstantiation`, or absent.
+    pub type_args: N,
+}
+
+impl<'a> TsImportType<Part<'a>> {
+    /// The fields of a node.
+    pub fn of(node: Part<'a>) -> Self
+        ensures { ReadsTsImportType result (seen node.entry) }
+    {
+        TsImportType {
+            span: node.part(0).range(),
+            arg: node.part(1),
+            qualifier: node.part(2),
+            type_args: node.part(3),
+        }
+    }
+}
+
+/// `{ members }`.
+#[derive(Drop)]
+pub struct TsTypeLit<N> {
+    pub span: SourceRange,
+    /// A list of `TsTypeElement`.
+    pub members: N,
+}
+
+impl<'a> TsTypeLit<Part<'a>> {
+    /// The fields of a node.
+    pub fn of(node: Part<'a>) -> Self
+        ensures { ReadsTsTypeLit result (seen node.entry) }
+    {
+        TsTypeLit {
+            span: node.part(0).range(),
+            members: node.part(1),
+        }
+    }
+}
+
+/// `elem_type[]`.
+#[derive(Drop)]
+pub struct TsArrayType<N> {
+    pub span: SourceRange,
+    /// A `TsType`.
+    pub elem_type: N,
+}
+
+impl<'a> TsArrayType<Part<'a>> {
+    /// The fields of a node.
+    pub fn of(node: Part<'a>) -> Self
+        ensures { ReadsTsArrayType result (seen node.entry) }
+    {
+        TsArrayType {
+            span: node.part(0).range(),
+            elem_type: node.part(1),
+        }
+    }
+}
+
+/// `[elem_types]`.
+#[derive(Drop)]
+pub struct TsTupleType<N> {
+    pub span: SourceRange,
+    /// A list of `TsTupleElement`.
+    pub elem_types: N,
+}
+
+impl<'a> TsTupleType<Part<'a>> {
+    /// The fields of a node.
+    pub fn of(node: Part<'a>) -> Self
+        ensures { ReadsTsTupleType result (seen node.entry) }
+    {
+        TsTupleType {
+            span: node.part(0).range(),
+            elem_types: node.part(1),
+        }
+    }
+}
+
+/// In a tuple: `label: ty`, or `ty` alone.
+#[derive(Drop)]
+pub struct TsTupleElement<N> {
+    pub span: SourceRange,
+    /// A `Pat`, or absent.
+    pub label: N,
+    /// A `TsType`.
+    pub ty: N,
+}
+
+impl<'a> TsTupleElement<Part<'a>> {
+    /// The fields of a node.
+    pub fn of(node: Part<'a>) -> Self
+        ensures { ReadsTsTupleElement result (seen node.entry) }
+    {
+        TsTupleElement {
+            span: node.part(0).range(),
+            label: node.part(1),
+            ty: node.part(2),
+        }
+    }
+}
+
+impl TsTupleElement<Tree> {
+    /// The node of these fields.
+    pub fn into_tree(self, alloc: Global) -> Result<Tree, AllocError>
+        ensures { IfOk result (λ tree. tree ≡ ts_tuple_element self.span self.label self.ty) }
+    {
+        let TsTupleElement { span, label, ty } = self;
+        Tree::node(alloc, Kind::TsTupleElement, [Tree::Range(span), label, ty])
+    }
+}
+
+/// In a tuple: `type_ann?`.
+#[derive(Drop)]
+pub struct TsOptionalType<N> {
+    pub span: SourceRange,
+    /// A `TsType`.
+    pub type_ann: N,
+}
+
+impl<'a> TsOptionalType<Part<'a>> {
+    /// The fields of a node.
+    pub fn of(node: Part<'a>) -> Self
+        ensures { ReadsTsOptionalType result (seen node.entry) }
+    {
+        TsOptionalType {
+            span: node.part(0).range(),
+            type_ann: node.part(1),
+        }
+    }
+}
+
+/// In a tuple: `...type_ann`.
+#[derive(Drop)]
+pub struct TsRestType<N> {
+    pub span: SourceRange,
+    /// A `TsType`.
+    pub type_ann: N,
+}
+
+impl<'a> TsRestType<Part<'a>> {
+    /// The fields of a node.
+    pub fn of(node: Part<'a>) -> Self
+        ensures { ReadsTsRestType result (seen node.entry) }
+    {
+        TsRestType {
+            span: node.part(0).range(),
+            type_ann: node.part(1),
+        }
+    }
+}
+
+/// `(type_ann)`.
+#[derive(Drop)]
+pub struct TsParenthesizedType<N> {
+    pub span: SourceRange,
+    /// A `TsType`.
+    pub type_ann: N,
+}
+
+impl<'a> TsParenthesizedType<Part<'a>> {
+    /// The fields of a node.
+    pub fn of(node: Part<'a>) -> Self
+        ensures { ReadsTsParenthesizedType result (seen node.entry) }
+    {
+        TsParenthesizedType {
+            span: node.part(0).range(),
+            type_ann: node.part(1),
+        }
+    }
+}
+
+/// Types with `|` between them: `types`.
+#[derive(Drop)]
+pub struct TsUnionType<N> {
+    pub span: SourceRange,
+    /// A list of `TsType`.
+    pub types: N,
+}
+
+impl<'a> TsUnionType<Part<'a>> {
+    /// The fields of a node.
+    pub fn of(node: Part<'a>) -> Self
+        ensures { ReadsTsUnionType result (seen node.entry) }
+    {
+        TsUnionType {
+            span: node.part(0).range(),
+            types: node.part(1),
+        }
+    }
+}
+
+impl TsUnionType<Tree> {
+    /// The node of these fields.
+    pub fn into_tree(self, alloc: Global) -> Result<Tree, AllocError>
+        ensures { IfOk result (λ tree. tree ≡ ts_union_type self.span self.types) }
+    {
+        let TsUnionType { span, types } = self;
+        Tree::node(alloc, Kind::TsUnionType, [Tree::Range(span), types])
+    }
+}
+
+/// Types with `&` between them: `types`.
+#[derive(Drop)]
+pub struct TsIntersectionType<N> {
+    pub span: SourceRange,
+    /// A list of `TsType`.
+    pub types: N,
+}
+
+impl<'a> TsIntersectionType<Part<'a>> {
+    /// The fields of a node.
+    pub fn of(node: Part<'a>) -> Self
+        ensures { ReadsTsIntersectionType result (seen node.entry) }
+    {
+        TsIntersectionType {
+            span: node.part(0).range(),
+            types: node.part(1),
+        }
+    }
+}
+
 /// A literal as a type.
 #[derive(Drop)]
 pub struct TsLitType<N> {
@@ -103,5 +395,28 @@ impl TsLitType<Tree> {
     {
         let TsLitType { span, lit } = self;
         Tree::node(alloc, Kind::TsLitType, [Tree::Range(span), lit])
+    }
+}
+
+/// A template as a type, its substitutions `types` between its texts `quasis`.
+#[derive(Drop)]
+pub struct TsTplLitType<N> {
+    pub span: SourceRange,
+    /// A list of `TsType`.
+    pub types: N,
+    /// A list of `TplElement`, one more than `types`.
+    pub quasis: N,
+}
+
+impl<'a> TsTplLitType<Part<'a>> {
+    /// The fields of a node.
+    pub fn of(node: Part<'a>) -> Self
+        ensures { ReadsTsTplLitType result (seen node.entry) }
+    {
+        TsTplLitType {
+            span: node.part(0).range(),
+            types: node.part(1),
+            quasis: node.part(2),
+        }
     }
 }

@@ -1,0 +1,4 @@
+pub mod Functions
+pub mod Classes
+pub mod Methods
+pub mod Fields

@@ -1,0 +1,191 @@
+ghost use Rattle.fast_check_syntax.specs.Part.{seen};
+ghost use Rattle.fast_check_expression_forms.specs.Calls.{ReadsMemberExpr, ReadsSuperPropExpr, ReadsCallExpr, ReadsSuper, ReadsImport, ReadsNewExpr, ReadsOptChainExpr, ReadsOptCall};
+
+use fast_check_syntax::{Part, SourceRange, SyntaxContext};
+
+/// `obj.prop`, `obj.#prop` or `obj[prop]`.
+#[derive(Drop)]
+pub struct MemberExpr<N> {
+    pub span: SourceRange,
+    /// An `Expr`.
+    pub obj: N,
+    /// A `MemberProp`.
+    pub prop: N,
+}
+
+impl<'a> MemberExpr<Part<'a>> {
+    /// The fields of a node.
+    pub fn of(node: Part<'a>) -> Self
+        ensures { ReadsMemberExpr result (seen node.entry) }
+    {
+        MemberExpr {
+            span: node.part(0).range(),
+            obj: node.part(1),
+            prop: node.part(2),
+        }
+    }
+}
+
+/// `super.prop` or `super[prop]`.
+#[derive(Drop)]
+pub struct SuperPropExpr<N> {
+    pub span: SourceRange,
+    /// A `MemberProp`.
+    pub prop: N,
+}
+
+impl<'a> SuperPropExpr<Part<'a>> {
+    /// The fields of a node.
+    pub fn of(node: Part<'a>) -> Self
+        ensures { ReadsSuperPropExpr result (seen node.entry) }
+    {
+        SuperPropExpr {
+            span: node.part(0).range(),
+            prop: node.part(1),
+        }
+    }
+}
+
+/// `callee<type_args>(args)`.
+#[derive(Drop)]
+pub struct CallExpr<N> {
+    pub span: SourceRange,
+    pub ctxt: SyntaxContext,
+    /// A `Callee`.
+    pub callee: N,
+    /// A list of `ExprOrSpread`.
+    pub args: N,
+    /// A `TsTypeParamInstantiation`, or absent.
+    pub type_args: N,
+}
+
+impl<'a> CallExpr<Part<'a>> {
+    /// The fields of a node.
+    pub fn of(node: Part<'a>) -> Self
+        ensures { ReadsCallExpr result (seen node.entry) }
+    {
+        CallExpr {
+            span: node.part(0).range(),
+            ctxt: node.part(1).context(),
+            callee: node.part(2),
+            args: node.part(3),
+            type_args: node.part(4),
+        }
+    }
+}
+
+/// `super`, as what is called.
+#[derive(Drop)]
+pub struct Super {
+    pub span: SourceRange,
+}
+
+impl Super {
+    /// The fields of a node.
+    pub fn of(node: Part<'_>) -> Self
+        ensures { ReadsSuper result (seen node.entry) }
+    {
+        Super {
+            span: node.part(0).range(),
+        }
+    }
+}
+
+/// `import`, as what is called.
+#[derive(Drop)]
+pub struct Import<T> {
+    pub span: SourceRange,
+    /// `evaluation`, or as it is written: `source`, `defer`.
+    pub phase: T,
+}
+
+impl<'a> Import<&'a str> {
+    /// The fields of a node.
+    pub fn of(node: Part<'a>) -> Self
+        ensures { ReadsImport result (seen node.entry) }
+    {
+        Import {
+            span: node.part(0).range(),
+            phase: node.part(1).text(),
+        }
+    }
+}
+
+/// `new callee<type_args>(args)`.
+#[derive(Drop)]
+pub struct NewExpr<N> {
+    pub span: SourceRange,
+    pub ctxt: SyntaxContext,
+    /// An `Expr`.
+    pub callee: N,
+    /// A list of `ExprOrSpread`, or absent where no parentheses stand.
+    pub args: N,
+    /// A `TsTypeParamInstantiation`, or absent.
+    pub type_args: N,
+}
+
+impl<'a> NewExpr<Part<'a>> {
+    /// The fields of a node.
+    pub fn of(node: Part<'a>) -> Self
+        ensures { ReadsNewExpr result (seen node.entry) }
+    {
+        NewExpr {
+            span: node.part(0).range(),
+            ctxt: node.part(1).context(),
+            callee: node.part(2),
+            args: node.part(3),
+            type_args: node.part(4),
+        }
+    }
+}
+
+/// `base` with a `?.` in it, as `a?.b` or `a?.b()`.
+#[derive(Drop)]
+pub struct OptChainExpr<N> {
+    pub span: SourceRange,
+    /// Whether the `?.` stands at this very member or call.
+    pub optional: bool,
+    /// An `OptChainBase`.
+    pub base: N,
+}
+
+impl<'a> OptChainExpr<Part<'a>> {
+    /// The fields of a node.
+    pub fn of(node: Part<'a>) -> Self
+        ensures { ReadsOptChainExpr result (seen node.entry) }
+    {
+        OptChainExpr {
+            span: node.part(0).range(),
+            optional: node.part(1).flag(),
+            base: node.part(2),
+        }
+    }
+}
+
+/// A call in an optional chain: `callee?.<type_args>(args)`.
+#[derive(Drop)]
+pub struct OptCall<N> {
+    pub span: SourceRange,
+    pub ctxt: SyntaxContext,
+    /// An `Expr`.
+    pub callee: N,
+    /// A list of `ExprOrSpread`.
+    pub args: N,
+    /// A `TsTypeParamInstantiation`, or absent.
+    pub type_args: N,
+}
+
+impl<'a> OptCall<Part<'a>> {
+    /// The fields of a node.
+    pub fn of(node: Part<'a>) -> Self
+        ensures { ReadsOptCall result (seen node.entry) }
+    {
+        OptCall {
+            span: node.part(0).range(),
+            ctxt: node.part(1).context(),
+            callee: node.part(2),
+            args: node.part(3),
+            type_args: node.part(4),
+        }
+    }
+}

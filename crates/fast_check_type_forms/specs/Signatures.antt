@@ -1,0 +1,195 @@
+-- Function types, and the members of interfaces and type literals. The fields of each form by their names; what a form has that reads a node.
+use Rattle.std.specs.Prelude.{◌≡◌, Bool}
+use Rattle.fast_check_syntax.specs.declared.part.Part.{Part}
+use Rattle.fast_check_syntax.specs.declared.source.SourceRange.{SourceRange}
+use Rattle.fast_check_syntax.specs.declared.tree.Tree.{Tree}
+use Rattle.fast_check_syntax.specs.Part.{seen}
+use Rattle.fast_check_syntax.specs.Shape.{part, range_of, flag_of}
+use Rattle.fast_check_type_forms.specs.declared.signatures.TsFnType.{TsFnType}
+use Rattle.fast_check_type_forms.specs.declared.signatures.TsConstructorType.{TsConstructorType}
+use Rattle.fast_check_type_forms.specs.declared.signatures.TsCallSignatureDecl.{TsCallSignatureDecl}
+use Rattle.fast_check_type_forms.specs.declared.signatures.TsConstructSignatureDecl.{TsConstructSignatureDecl}
+use Rattle.fast_check_type_forms.specs.declared.signatures.TsPropertySignature.{TsPropertySignature}
+use Rattle.fast_check_type_forms.specs.declared.signatures.TsGetterSignature.{TsGetterSignature}
+use Rattle.fast_check_type_forms.specs.declared.signatures.TsSetterSignature.{TsSetterSignature}
+use Rattle.fast_check_type_forms.specs.declared.signatures.TsMethodSignature.{TsMethodSignature}
+
+-- `<type_params>(params) => type_ann`.
+abbrev pub TsFnType-span : Tree → SourceRange
+TsFnType-span t = range_of (part 0 t)
+
+abbrev pub TsFnType-params : Tree → Tree
+TsFnType-params t = part 1 t
+
+abbrev pub TsFnType-type_params : Tree → Tree
+TsFnType-type_params t = part 2 t
+
+abbrev pub TsFnType-type_ann : Tree → Tree
+TsFnType-type_ann t = part 3 t
+
+abbrev pub TsFnType-is_abstract : Tree → Bool
+TsFnType-is_abstract t = flag_of (part 4 t)
+
+pub record ReadsTsFnType (form : TsFnType Part) (t : Tree) : Type 0 where
+  pub span : form.span ≡ TsFnType-span t
+  pub params : seen form.params ≡ TsFnType-params t
+  pub type_params : seen form.type_params ≡ TsFnType-type_params t
+  pub type_ann : seen form.type_ann ≡ TsFnType-type_ann t
+  pub is_abstract : form.is_abstract ≡ TsFnType-is_abstract t
+
+-- `new <type_params>(params) => type_ann`.
+abbrev pub TsConstructorType-span : Tree → SourceRange
+TsConstructorType-span t = range_of (part 0 t)
+
+abbrev pub TsConstructorType-params : Tree → Tree
+TsConstructorType-params t = part 1 t
+
+abbrev pub TsConstructorType-type_params : Tree → Tree
+TsConstructorType-type_params t = part 2 t
+
+abbrev pub TsConstructorType-type_ann : Tree → Tree
+TsConstructorType-type_ann t = part 3 t
+
+abbrev pub TsConstructorType-is_abstract : Tree → Bool
+TsConstructorType-is_abstract t = flag_of (part 4 t)
+
+pub record ReadsTsConstructorType (form : TsConstructorType Part) (t : Tree) : Type 0 where
+  pub span : form.span ≡ TsConstructorType-span t
+  pub params : seen form.params ≡ TsConstructorType-params t
+  pub type_params : seen form.type_params ≡ TsConstructorType-type_params t
+  pub type_ann : seen form.type_ann ≡ TsConstructorType-type_ann t
+  pub is_abstract : form.is_abstract ≡ TsConstructorType-is_abstract t
+
+-- `<type_params>(params): type_ann`.
+abbrev pub TsCallSignatureDecl-span : Tree → SourceRange
+TsCallSignatureDecl-span t = range_of (part 0 t)
+
+abbrev pub TsCallSignatureDecl-params : Tree → Tree
+TsCallSignatureDecl-params t = part 1 t
+
+abbrev pub TsCallSignatureDecl-type_ann : Tree → Tree
+TsCallSignatureDecl-type_ann t = part 2 t
+
+abbrev pub TsCallSignatureDecl-type_params : Tree → Tree
+TsCallSignatureDecl-type_params t = part 3 t
+
+pub record ReadsTsCallSignatureDecl (form : TsCallSignatureDecl Part) (t : Tree) : Type 0 where
+  pub span : form.span ≡ TsCallSignatureDecl-span t
+  pub params : seen form.params ≡ TsCallSignatureDecl-params t
+  pub type_ann : seen form.type_ann ≡ TsCallSignatureDecl-type_ann t
+  pub type_params : seen form.type_params ≡ TsCallSignatureDecl-type_params t
+
+-- `new <type_params>(params): type_ann`.
+abbrev pub TsConstructSignatureDecl-span : Tree → SourceRange
+TsConstructSignatureDecl-span t = range_of (part 0 t)
+
+abbrev pub TsConstructSignatureDecl-params : Tree → Tree
+TsConstructSignatureDecl-params t = part 1 t
+
+abbrev pub TsConstructSignatureDecl-type_ann : Tree → Tree
+TsConstructSignatureDecl-type_ann t = part 2 t
+
+abbrev pub TsConstructSignatureDecl-type_params : Tree → Tree
+TsConstructSignatureDecl-type_params t = part 3 t
+
+pub record ReadsTsConstructSignatureDecl (form : TsConstructSignatureDecl Part) (t : Tree) : Type 0 where
+  pub span : form.span ≡ TsConstructSignatureDecl-span t
+  pub params : seen form.params ≡ TsConstructSignatureDecl-params t
+  pub type_ann : seen form.type_ann ≡ TsConstructSignatureDecl-type_ann t
+  pub type_params : seen form.type_params ≡ TsConstructSignatureDecl-type_params t
+
+-- `key: type_ann`.
+abbrev pub TsPropertySignature-span : Tree → SourceRange
+TsPropertySignature-span t = range_of (part 0 t)
+
+abbrev pub TsPropertySignature-key : Tree → Tree
+TsPropertySignature-key t = part 1 t
+
+abbrev pub TsPropertySignature-computed : Tree → Bool
+TsPropertySignature-computed t = flag_of (part 2 t)
+
+abbrev pub TsPropertySignature-readonly : Tree → Bool
+TsPropertySignature-readonly t = flag_of (part 3 t)
+
+abbrev pub TsPropertySignature-optional : Tree → Bool
+TsPropertySignature-optional t = flag_of (part 4 t)
+
+abbrev pub TsPropertySignature-type_ann : Tree → Tree
+TsPropertySignature-type_ann t = part 5 t
+
+pub record ReadsTsPropertySignature (form : TsPropertySignature Part) (t : Tree) : Type 0 where
+  pub span : form.span ≡ TsPropertySignature-span t
+  pub key : seen form.key ≡ TsPropertySignature-key t
+  pub computed : form.computed ≡ TsPropertySignature-computed t
+  pub readonly : form.readonly ≡ TsPropertySignature-readonly t
+  pub optional : form.optional ≡ TsPropertySignature-optional t
+  pub type_ann : seen form.type_ann ≡ TsPropertySignature-type_ann t
+
+-- `get key(): type_ann`.
+abbrev pub TsGetterSignature-span : Tree → SourceRange
+TsGetterSignature-span t = range_of (part 0 t)
+
+abbrev pub TsGetterSignature-key : Tree → Tree
+TsGetterSignature-key t = part 1 t
+
+abbrev pub TsGetterSignature-computed : Tree → Bool
+TsGetterSignature-computed t = flag_of (part 2 t)
+
+abbrev pub TsGetterSignature-type_ann : Tree → Tree
+TsGetterSignature-type_ann t = part 3 t
+
+pub record ReadsTsGetterSignature (form : TsGetterSignature Part) (t : Tree) : Type 0 where
+  pub span : form.span ≡ TsGetterSignature-span t
+  pub key : seen form.key ≡ TsGetterSignature-key t
+  pub computed : form.computed ≡ TsGetterSignature-computed t
+  pub type_ann : seen form.type_ann ≡ TsGetterSignature-type_ann t
+
+-- `set key(params)`.
+abbrev pub TsSetterSignature-span : Tree → SourceRange
+TsSetterSignature-span t = range_of (part 0 t)
+
+abbrev pub TsSetterSignature-key : Tree → Tree
+TsSetterSignature-key t = part 1 t
+
+abbrev pub TsSetterSignature-computed : Tree → Bool
+TsSetterSignature-computed t = flag_of (part 2 t)
+
+abbrev pub TsSetterSignature-params : Tree → Tree
+TsSetterSignature-params t = part 3 t
+
+pub record ReadsTsSetterSignature (form : TsSetterSignature Part) (t : Tree) : Type 0 where
+  pub span : form.span ≡ TsSetterSignature-span t
+  pub key : seen form.key ≡ TsSetterSignature-key t
+  pub computed : form.computed ≡ TsSetterSignature-computed t
+  pub params : seen form.params ≡ TsSetterSignature-params t
+
+-- `key<type_params>(params): type_ann`.
+abbrev pub TsMethodSignature-span : Tree → SourceRange
+TsMethodSignature-span t = range_of (part 0 t)
+
+abbrev pub TsMethodSignature-key : Tree → Tree
+TsMethodSignature-key t = part 1 t
+
+abbrev pub TsMethodSignature-computed : Tree → Bool
+TsMethodSignature-computed t = flag_of (part 2 t)
+
+abbrev pub TsMethodSignature-optional : Tree → Bool
+TsMethodSignature-optional t = flag_of (part 3 t)
+
+abbrev pub TsMethodSignature-params : Tree → Tree
+TsMethodSignature-params t = part 4 t
+
+abbrev pub TsMethodSignature-type_ann : Tree → Tree
+TsMethodSignature-type_ann t = part 5 t
+
+abbrev pub TsMethodSignature-type_params : Tree → Tree
+TsMethodSignature-type_params t = part 6 t
+
+pub record ReadsTsMethodSignature (form : TsMethodSignature Part) (t : Tree) : Type 0 where
+  pub span : form.span ≡ TsMethodSignature-span t
+  pub key : seen form.key ≡ TsMethodSignature-key t
+  pub computed : form.computed ≡ TsMethodSignature-computed t
+  pub optional : form.optional ≡ TsMethodSignature-optional t
+  pub params : seen form.params ≡ TsMethodSignature-params t
+  pub type_ann : seen form.type_ann ≡ TsMethodSignature-type_ann t
+  pub type_params : seen form.type_params ≡ TsMethodSignature-type_params t
