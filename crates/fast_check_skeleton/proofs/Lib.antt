@@ -4,3 +4,4 @@ pub mod InferredMoved
 
 
 pub mod Agreeing
+pub mod Standing

@@ -3,21 +3,18 @@ use Rattle.std.specs.Prelude.{◌≡◌, Bool, true, false, not, Option, Some, N
 use Rattle.std.specs.List.{list_all}
 use Rattle.fast_check_syntax.specs.declared.kind.Kind.{Kind}
 use Rattle.fast_check_syntax.specs.declared.kind.Kind.TheVariants.{VarDecl, ExportDecl, FnDecl}
-use Rattle.fast_check_syntax.specs.declared.source.SourceRange.{SourceRange}
 use Rattle.fast_check_syntax.specs.declared.tree.Tree.{Tree}
-use Rattle.fast_check_syntax.specs.Shape.{kind_of, parts, is_absent, range_of, part}
+use Rattle.fast_check_syntax.specs.Shape.{kind_of, parts, is_absent}
 use Rattle.fast_check_syntax.specs.Moves.{Renaming, IsPair}
 use Rattle.fast_check_syntax.specs.Same.{SameTree, SameRange}
 use Rattle.fast_check_tree.specs.declared.helpers.literal_type.DeclMutabilityKind.{DeclMutabilityKind}
+use Rattle.fast_check_class_forms.specs.Functions.{Function-span}
 use Rattle.fast_check_program_forms.specs.Programs.{Module-shebang}
 use Rattle.fast_check_program_forms.specs.ModuleDecls.{ExportDecl-span, ExportDecl-decl}
-use Rattle.fast_check_statement_forms.specs.Declarations.{VarDecl-span, VarDecl-ctxt, VarDecl-kind, VarDecl-declare, VarDecl-decls, VarDeclarator-span, VarDeclarator-init, VarDeclarator-definite}
+use Rattle.fast_check_statement_forms.specs.Declarations.{FnDecl-function, VarDecl-span, VarDecl-ctxt, VarDecl-kind, VarDecl-declare, VarDecl-decls, VarDeclarator-span, VarDeclarator-init, VarDeclarator-definite}
 use Rattle.fast_check_skeleton.specs.Surroundings.{Surroundings}
 use Rattle.fast_check_skeleton.specs.Inferred.{inferred_type, mutability_of}
 use Rattle.fast_check_skeleton.specs.Visible.{declared_ident, declared_type, is_ambient, is_public_declarator, items_of}
-
-abbrev function_span : Tree → SourceRange
-function_span t = range_of (part 0 (part 2 t))
 
 -- a declaration that goes without a word, behind the range that an export of it would have
 pub data IsSilentDecl (around : Surroundings) : Tree → Type 0 where
@@ -28,7 +25,7 @@ pub data IsSilentDecl (around : Surroundings) : Tree → Type 0 where
 pub data IsSilent (around : Surroundings) : Tree → Type 0 where
   decl : {t : Tree} → IsSilentDecl around t → IsSilent around t
   -- a function that is not public
-  function : {t : Tree} → kind_of t ≡ FnDecl → around.is_public (function_span t) ≡ false → IsSilent around t
+  function : {t : Tree} → kind_of t ≡ FnDecl → around.is_public (Function-span (FnDecl-function t)) ≡ false → IsSilent around t
   exported : {t : Tree} → kind_of t ≡ ExportDecl → IsSilentDecl around (ExportDecl-decl t) → IsSilent around t
   -- an exported function is public by the range of the export
   exported_function : {t : Tree} → kind_of t ≡ ExportDecl → kind_of (ExportDecl-decl t) ≡ FnDecl → around.is_public (ExportDecl-span t) ≡ false → IsSilent around t
