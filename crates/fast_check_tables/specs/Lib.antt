@@ -1,1 +1,4 @@
 pub mod PublicRanges
+pub mod DiagnosticRange
+pub mod Report
+pub mod Diagnostic

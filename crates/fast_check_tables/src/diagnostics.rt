@@ -1,20 +1,70 @@
-use fast_check_syntax::SourceRange;
-use std::rc::RcStr;
+//! Why a module has no skeleton, and what a reader is told of it.
+ghost use Rattle.std.specs.Prelude.{◌≡◌, Some};
+ghost use Rattle.std.specs.Option.{option_copied};
+
+mod range;
+mod report;
+mod told;
+
+pub use range::FastCheckDiagnosticRange;
+pub use report::{Diagnostic, DiagnosticLevel, DiagnosticLocation, DiagnosticSnippet};
+use std::alloc::AllocError;
+use std::error::Error;
+use std::fmt;
 use url::Url;
 
-/// A part of a module's source text, with that text.
-#[derive(Drop)]
-pub struct FastCheckDiagnosticRange {
-    /// The module.
-    pub specifier: Url,
-    pub range: SourceRange,
-    /// The module's source text.
-    pub text_info: RcStr,
-}
-
-/// Why a module has no skeleton.
-#[derive(Drop)]
+/// Why a module has no skeleton. It prints as its message.
+#[derive(Debug, Clone, Drop)]
 pub enum FastCheckDiagnostic {
-    /// A public declaration without written type, from whose value none can be inferred.
+    /// A public declaration without written type, from whose value none is inferred.
     MissingExplicitType { range: FastCheckDiagnosticRange },
 }
+
+impl FastCheckDiagnostic {
+    ghost use Rattle.fast_check_tables.specs.Diagnostic.{specifier_of, range_of, range_description_of};
+
+    /// The module that it speaks of.
+    pub fn specifier(&self) -> &Url
+        ensures { result.now ≡ specifier_of self.now }
+    {
+        match self {
+            FastCheckDiagnostic::MissingExplicitType { range } => &range.specifier,
+        }
+    }
+
+    /// The part of the source text that it speaks of, if it speaks of one.
+    pub fn range(&self) -> Option<&FastCheckDiagnosticRange>
+        ensures { option_copied result ≡ range_of self.now }
+    {
+        match self {
+            FastCheckDiagnostic::MissingExplicitType { range } => Some(range),
+        }
+    }
+
+    /// What that part of the source text is to the reader. None where nothing is to be said, or where there is no such part.
+    pub fn range_description(&self) -> Option<&'static str>
+        ensures { option_copied result ≡ range_description_of self.now }
+    {
+        match self {
+            FastCheckDiagnostic::MissingExplicitType { .. } => {
+                Some("this symbol is missing an explicit type")
+            }
+        }
+    }
+}
+
+impl fmt::Display for FastCheckDiagnostic {
+    ghost use Rattle.fast_check_tables.specs.Diagnostic.{message_of};
+
+    ghost output = { λ diagnostic. Some (message_of diagnostic) };
+
+    fn fmt<W: fmt::Write>(&self, f: &mut fmt::Formatter<W>) -> fmt::Result {
+        match self {
+            FastCheckDiagnostic::MissingExplicitType { .. } => {
+                write!(f, "missing explicit type in the public API")
+            }
+        }
+    }
+}
+
+impl Error for FastCheckDiagnostic {}

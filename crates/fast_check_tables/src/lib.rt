@@ -3,6 +3,11 @@
 
 mod diagnostics;
 mod public_ranges;
+#[cfg(test)]
+mod tests;
 
-pub use diagnostics::{FastCheckDiagnostic, FastCheckDiagnosticRange};
+pub use diagnostics::{
+    Diagnostic, DiagnosticLevel, DiagnosticLocation, DiagnosticSnippet, FastCheckDiagnostic,
+    FastCheckDiagnosticRange,
+};
 pub use public_ranges::ModulePublicRanges;

@@ -9,7 +9,7 @@ use std::collections::BTreeSet;
 use std::marker::Model;
 
 /// What is public in a module, by ranges of its source text, with the diagnostics that were found with it.
-#[derive(Drop)]
+#[derive(Debug, Drop)]
 pub struct ModulePublicRanges {
     ranges: BTreeSet<SourceRange>,
     impl_with_overload_ranges: BTreeSet<SourceRange>,

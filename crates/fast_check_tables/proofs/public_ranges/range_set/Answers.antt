@@ -1,4 +1,4 @@
-use Rattle.std.proofs.Common.{rules, ◌≡◌, ◌∙◌, sym, List, Bool}
+use Rattle.std.proofs.Common.{rules, ◌≡◌, ◌∙◌, sym, List}
 use Rattle.std.proofs.lemmas.Result.{IfOk-weaker}
 use Rattle.std.specs.List.{list_any}
 use Rattle.std.specs.BTreeSet as sorted
