@@ -44,7 +44,7 @@ all_append P (x ∷ xs) ys p q = (p.0, all_append P xs ys p.1 q)
 abbrev Stands : (Tree → Type 0) → List Seen → Type 0
 Stands P ss = (answer_of ss).faults ≡ [] → OfAll P (answer_of ss).trees
 
-answer_append : (xs ys : List Seen) → answer_of (xs ++ ys) ≡ (record { trees = (answer_of xs).trees ++ (answer_of ys).trees; faults = (answer_of xs).faults ++ (answer_of ys).faults })
+pub answer_append : (xs ys : List Seen) → answer_of (xs ++ ys) ≡ (record { trees = (answer_of xs).trees ++ (answer_of ys).trees; faults = (answer_of xs).faults ++ (answer_of ys).faults })
 answer_append [] ys = refl
 answer_append (x ∷ xs) ys = λ i. record {
   trees = (ap (λ a. (answer_to x).trees ++ a.trees) (answer_append xs ys) ∙ sym (append_assoc (answer_to x).trees (answer_of xs).trees (answer_of ys).trees)) i;
@@ -97,10 +97,10 @@ module _ (around : Surroundings) where
   abbrev made_parts : Tree → List Tree → List Tree
   made_parts statement ds = tree.Range (VarDecl-span statement) ∷ tree.Context (VarDecl-ctxt statement) ∷ VarDecl-kind statement ∷ tree.Flag (VarDecl-declare statement) ∷ list ds ∷ []
 
-  abbrev stood : List Seen → Answer
+  abbrev pub stood : List Seen → Answer
   stood ds = joined (map (λ (p : Part). p.answer) (answered (seens ds)))
 
-  stood_is : (ds : List Seen) → stood ds ≡ answer_of ds
+  pub stood_is : (ds : List Seen) → stood ds ≡ answer_of ds
   stood_is ds = ap joined (answered_seens ds)
 
   ambient_or_typed : (statement : Tree) (ds : List Tree) (a : Bool) → is_ambient around statement ≡ a → (a ≡ false → OfAll IsTypedDeclarator ds) →

@@ -1,0 +1,71 @@
+-- What the parts of a transform keep: the answer to what is seen of each part of a module.
+use Rattle.std.specs.Prelude.{Option, Some, None, List, [], ◌∷◌}
+use Rattle.fast_check_syntax.specs.declared.source.SourceRange.{SourceRange}
+use Rattle.fast_check_syntax.specs.declared.tree.Tree.{Tree}
+use Rattle.fast_check_syntax.specs.Shape.{list}
+use Rattle.fast_check_program_forms.specs.ModuleDecls.{ExportDecl-span, export_decl}
+use Rattle.fast_check_statement_forms.specs.Declarations.{VarDecl-span, VarDecl-ctxt, VarDecl-kind, VarDecl-declare, var_decl, VarDeclarator-span, VarDeclarator-definite}
+use Rattle.fast_check_tables.specs.PublicRanges.{is_public}
+use Rattle.fast_check_skeleton.specs.declared.fault.Fault.{Fault}
+use Rattle.fast_check_skeleton.specs.Surroundings.{Surroundings}
+use Rattle.fast_check_skeleton.specs.Visible.{declared_ident, public_declarator, public_declarators, decl_seen, item_seen, statement_seen}
+use Rattle.fast_check_skeleton.specs.Skeleton.{answer_of, typed_declarator}
+use Rattle.fast_check_transform.specs.declared.declarations.Asked.{Asked}
+
+-- what is asked beside the tree
+abbrev pub Asked-around : Asked → Surroundings
+Asked-around asked = record { is_public = is_public asked.public_ranges.now; is_declaration_file = asked.is_declaration_file }
+
+abbrev pub as_list : Option Tree → List Tree
+as_list (Some t) = t ∷ []
+as_list None = []
+
+-- a declarator of another type, with `{} as never` for its value
+abbrev pub retyped : Tree → Tree → Tree
+retyped d type = typed_declarator (VarDeclarator-span d) (declared_ident d) (VarDeclarator-definite d) type
+
+-- of the declarators of a statement
+unfoldable pub kept_declarators : Surroundings → Tree → List Tree
+kept_declarators around statement = (answer_of (public_declarators around statement)).trees
+
+unfoldable pub declarator_faults : Surroundings → Tree → List Fault
+declarator_faults around statement = (answer_of (public_declarators around statement)).faults
+
+-- of one of them
+abbrev pub kept_declarator : Surroundings → Tree → Tree → List Tree
+kept_declarator around statement d = (answer_of (public_declarator around statement d)).trees
+
+abbrev pub declarator_fault : Surroundings → Tree → Tree → List Fault
+declarator_fault around statement d = (answer_of (public_declarator around statement d)).faults
+
+-- a variable statement with these declarators; nothing where there are none
+abbrev pub with_declarators : Tree → List Tree → List Tree
+with_declarators statement [] = []
+with_declarators statement (d ∷ ds) =
+    var_decl (VarDecl-span statement) (VarDecl-ctxt statement) (VarDecl-kind statement) (VarDecl-declare statement) (list (d ∷ ds)) ∷ []
+
+-- of a variable statement
+unfoldable pub kept_statement : Surroundings → Tree → List Tree
+kept_statement around statement = (answer_of (statement_seen statement (public_declarators around statement))).trees
+
+unfoldable pub statement_faults : Surroundings → Tree → List Fault
+statement_faults around statement = (answer_of (statement_seen statement (public_declarators around statement))).faults
+
+-- of a declaration
+unfoldable pub kept_decl : Surroundings → Tree → List Tree
+kept_decl around decl = (answer_of (decl_seen around decl)).trees
+
+unfoldable pub decl_faults : Surroundings → Tree → List Fault
+decl_faults around decl = (answer_of (decl_seen around decl)).faults
+
+-- an export of a declaration; nothing where there is none
+abbrev pub exported : Tree → List Tree → List Tree
+exported item [] = []
+exported item (decl ∷ ds) = export_decl (ExportDecl-span item) decl ∷ []
+
+-- of an item
+unfoldable pub kept_item : Surroundings → Tree → List Tree
+kept_item around item = (answer_of (item_seen around item)).trees
+
+unfoldable pub item_faults : Surroundings → Tree → List Fault
+item_faults around item = (answer_of (item_seen around item)).faults

@@ -1,0 +1,144 @@
+ghost use Rattle.std.specs.Prelude.{◌≡◌, IfOk, ◌++◌, ◌∷◌, []};
+ghost use Rattle.fast_check_syntax.specs.Part.{seen};
+ghost use Rattle.fast_check_skeleton.specs.Inferred.{mutability_of, inferred_type};
+ghost use Rattle.fast_check_skeleton.specs.Skeleton.{answer_to};
+ghost use Rattle.fast_check_skeleton.specs.Visible.{declarator_seen, is_ambient};
+ghost use Rattle.fast_check_transform.specs.Kept.{Asked-around, as_list, retyped, kept_declarators, declarator_faults, kept_statement, statement_faults};
+
+use fast_check_program_forms::{BindingIdent, Ident};
+use fast_check_skeleton::{Fault, FaultKind};
+use fast_check_statement_forms::{VarDecl, VarDeclarator};
+use fast_check_syntax::{Items, Part, SourceRange, Tree, Word};
+use fast_check_tables::ModulePublicRanges;
+use fast_check_tree::helpers::{DeclMutabilityKind, maybe_lit_to_ts_type, never_value, type_ann};
+use std::alloc::{AllocError, Global};
+
+/// What the transform asks beside the tree.
+#[derive(Clone, Copy)]
+pub struct Asked<'a> {
+    pub public_ranges: &'a ModulePublicRanges,
+    pub is_declaration_file: bool,
+}
+
+/// Whether what a statement of this kind declares keeps its value.
+fn mutability_of(kind: Part<'_>) -> DeclMutabilityKind
+    ensures { result ≡ mutability_of (seen kind.entry) }
+{
+    if kind.has_word(Word::Const) {
+        DeclMutabilityKind::Const
+    } else {
+        DeclMutabilityKind::Mutable
+    }
+}
+
+/// Whether a variable statement stands as it is written, since it is ambient.
+fn is_ambient(asked: Asked<'_>, statement: Part<'_>) -> bool
+    ensures { result ≡ is_ambient (Asked-around asked.entry) (seen statement.entry) }
+{
+    asked.is_declaration_file || VarDecl::of(statement).declare
+}
+
+/// A declarator with this type, and `{} as never` for its value.
+fn retyped(alloc: Global, declarator: Part<'_>, ty: Tree) -> Result<Tree, AllocError>
+    ensures { IfOk result (λ tree. tree ≡ retyped (seen declarator.entry) ty) }
+{
+    let declarator = VarDeclarator::of(declarator);
+    let name = BindingIdent {
+        id: BindingIdent::of(declarator.name).id.to_tree(alloc)?,
+        type_ann: ty,
+    };
+    VarDeclarator {
+        span: declarator.span,
+        name: name.into_tree(alloc)?,
+        init: never_value(alloc)?,
+        definite: declarator.definite,
+    }
+    .into_tree(alloc)
+}
+
+/// A declarator with the type that is written or that its value shows. Where there is neither, that is a fault.
+fn typed_declarator(
+    alloc: Global,
+    mutability: DeclMutabilityKind,
+    declarator: Part<'_>,
+    faults: &mut Vec<Fault>,
+) -> Result<Tree, AllocError>
+    ensures kept { IfOk result (λ tree. tree ∷ [] ≡ (answer_to (declarator_seen mutability (seen declarator.entry))).trees) }
+    ensures faults { IfOk result (λ _. faults.new.items ≡ faults.old.items ++ (answer_to (declarator_seen mutability (seen declarator.entry))).faults) }
+{
+    let VarDeclarator { name, init, .. } = VarDeclarator::of(declarator);
+    let name = BindingIdent::of(name);
+    if !name.type_ann.is_absent() {
+        return retyped(alloc, declarator, name.type_ann.to_tree(alloc)?);
+    }
+    match maybe_lit_to_ts_type(alloc, init, mutability)? {
+        Some(ty) => retyped(alloc, declarator, type_ann(alloc, ty)?),
+        None => {
+            faults.push(Fault {
+                kind: FaultKind::MissingExplicitType,
+                range: Ident::of(name.id).span,
+            })?;
+            retyped(alloc, declarator, Tree::Absent)
+        }
+    }
+}
+
+/// The public declarators of a statement, those of an ambient one as they are written.
+#[tactic(auto, using(crate::proofs::Fused::kept_declarators_is, crate::proofs::Fused::declarator_faults_is))]
+fn public_declarators(
+    alloc: Global,
+    asked: Asked<'_>,
+    statement: Part<'_>,
+    faults: &mut Vec<Fault>,
+) -> Result<Items<Tree>, AllocError>
+    ensures kept { IfOk result (λ items. items ≡ kept_declarators (Asked-around asked.entry) (seen statement.entry)) }
+    ensures faults { IfOk result (λ _. faults.new.items ≡ faults.old.items ++ declarator_faults (Asked-around asked.entry) (seen statement.entry)) }
+{
+    let VarDecl { kind, decls, .. } = VarDecl::of(statement);
+    let is_ambient = is_ambient(asked, statement);
+    let mutability = mutability_of(kind);
+    let mut items = Items::new(alloc);
+    for declarator in decls.parts() {
+        let declarator = declarator.read();
+        if asked.public_ranges.contains(&VarDeclarator::of(declarator).span) {
+            if is_ambient {
+                items.push(declarator.to_tree(alloc)?)?;
+            } else {
+                items.push(typed_declarator(alloc, mutability, declarator, faults)?)?;
+            }
+        }
+    }
+    Ok(items)
+}
+
+#[tactic(auto, using(crate::proofs::Fused::kept_statement_is, crate::proofs::Fused::statement_faults_is, crate::proofs::Fused::with_declarators_none, crate::proofs::Fused::with_declarators_some))]
+/// A variable statement with its public declarators; none where it has none.
+pub fn keep_statement(
+    alloc: Global,
+    asked: Asked<'_>,
+    statement: Part<'_>,
+    faults: &mut Vec<Fault>,
+) -> Result<Option<Tree>, AllocError>
+    ensures kept { IfOk result (λ tree. as_list tree ≡ kept_statement (Asked-around asked.entry) (seen statement.entry)) }
+    ensures faults { IfOk result (λ _. faults.new.items ≡ faults.old.items ++ statement_faults (Asked-around asked.entry) (seen statement.entry)) }
+{
+    let decls = public_declarators(alloc, asked, statement, faults)?;
+    if decls.is_empty() {
+        return Ok(None);
+    }
+    let VarDecl {
+        span,
+        ctxt,
+        kind,
+        declare,
+        ..
+    } = VarDecl::of(statement);
+    let statement = VarDecl {
+        span,
+        ctxt,
+        kind: kind.to_tree(alloc)?,
+        declare,
+        decls: Tree::list(decls),
+    };
+    Ok(Some(statement.into_tree(alloc)?))
+}
