@@ -3,6 +3,7 @@
 
 mod diagnostics;
 mod public_ranges;
+mod tables;
 #[cfg(test)]
 mod tests;
 
@@ -11,3 +12,4 @@ pub use diagnostics::{
     FastCheckDiagnosticRange,
 };
 pub use public_ranges::ModulePublicRanges;
+pub use tables::{EsModuleInfo, MediaType, ModuleGraph, ModuleSpecifier, ParsedSource};

@@ -1,8 +1,9 @@
 use crate::{
-    Diagnostic, DiagnosticLevel, DiagnosticLocation, FastCheckDiagnostic, FastCheckDiagnosticRange,
-    ModulePublicRanges,
+    Diagnostic, DiagnosticLevel, DiagnosticLocation, EsModuleInfo, FastCheckDiagnostic,
+    FastCheckDiagnosticRange, MediaType, ModuleGraph, ModulePublicRanges, ParsedSource,
 };
-use fast_check_syntax::{SourcePos, SourceRange};
+use fast_check_comments::Comments;
+use fast_check_syntax::{SourcePos, SourceRange, SyntaxContext, Tree};
 use std::alloc::Global;
 use std::hash::{DefaultHasher, Hash, Hasher};
 use std::rc::RcStr;
@@ -137,4 +138,28 @@ fn public_ranges_are_found_by_start_and_end(rt: HostRuntime) -> Result<(), Fail>
     assert!(rt; public.is_impl_with_overloads(&range(34, 39)));
     assert!(rt; !public.is_impl_with_overloads(&range(14, 21)));
     Ok(())
+}
+
+#[test]
+fn a_module_has_its_name_and_source(rt: HostRuntime) -> Result<(), Fail> {
+    let _graph = ModuleGraph::from_parts(rt.alloc())?;
+    let source = ParsedSource {
+        media_type: MediaType::TypeScript,
+        text: RcStr::from_str(rt.alloc(), "export let z;")?,
+        program: Tree::Absent,
+        comments: Comments::new(rt.alloc()),
+        unresolved_context: SyntaxContext(1),
+    };
+    let module = EsModuleInfo::new(Url::parse(rt.alloc(), "file:///p/mod.ts")?, source);
+    assert_eq!(rt; module.specifier().as_str(), "file:///p/mod.ts");
+    assert_eq!(rt; module.source().text.as_str(), "export let z;");
+    assert_eq!(rt; module.source().unresolved_context, SyntaxContext(1));
+    Ok(())
+}
+
+#[test]
+fn declaration_files_are_typed(rt: HostRuntime) {
+    assert!(rt; MediaType::Dts.is_declaration() && MediaType::Dts.is_typed());
+    assert!(rt; !MediaType::Tsx.is_declaration() && MediaType::Tsx.is_typed());
+    assert!(rt; !MediaType::Jsx.is_declaration() && !MediaType::Jsx.is_typed());
 }

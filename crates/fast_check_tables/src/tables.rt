@@ -1,0 +1,12 @@
+//! What is known of the modules: the graph of them, and each module by its source.
+
+mod es_module;
+mod graph;
+mod media_type;
+
+pub use es_module::{EsModuleInfo, ParsedSource};
+pub use graph::ModuleGraph;
+pub use media_type::MediaType;
+
+/// A module's name: its URL.
+pub type ModuleSpecifier = url::Url;
