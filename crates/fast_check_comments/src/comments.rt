@@ -1,0 +1,44 @@
+ghost use Rattle.std.specs.Prelude.{◌≡◌, ◌↔◌, [], IsTrue};
+
+use crate::map::CommentMap;
+use std::alloc::{AllocError, Global};
+
+/// The comments of a module, each at the token that it stands before or after.
+#[derive(Debug, Drop)]
+pub struct Comments {
+    /// The comments before a token, by the position of its first byte.
+    pub leading: CommentMap,
+    /// The comments after a token, by the position past its last byte.
+    pub trailing: CommentMap,
+}
+
+impl Comments {
+    /// No comments. It takes no memory.
+    pub fn new(alloc: Global) -> Comments
+        ensures leading { result.leading ≡ [] }
+        ensures trailing { result.trailing ≡ [] }
+    {
+        Comments {
+            leading: CommentMap::new(alloc),
+            trailing: CommentMap::new(alloc),
+        }
+    }
+
+    /// Whether there is no comment at all.
+    pub fn is_empty(&self) -> bool
+        ensures { IsTrue result ↔ ((self.now.leading ≡ []) × (self.now.trailing ≡ [])) }
+    {
+        self.leading.is_empty() && self.trailing.is_empty()
+    }
+}
+
+impl Clone for Comments {
+    ghost is_clone = { λ comments copy. copy ≡ comments };
+
+    fn clone(&self) -> Result<Comments, AllocError> {
+        Ok(Comments {
+            leading: self.leading.clone()?,
+            trailing: self.trailing.clone()?,
+        })
+    }
+}

@@ -1,0 +1,10 @@
+//! The comments of a module, by the positions that they stand at.
+#![tactic(auto)]
+
+mod comment;
+mod comments;
+mod map;
+
+pub use comment::{Comment, CommentKind};
+pub use comments::Comments;
+pub use map::{CommentList, CommentMap};

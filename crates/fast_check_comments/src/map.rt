@@ -1,0 +1,119 @@
+ghost use Rattle.std.specs.Prelude.{◌≡◌, ◌↔◌, [], IsTrue, OnOk, OnErr};
+
+use crate::comment::Comment;
+use fast_check_syntax::SourcePos;
+use std::alloc::{AllocError, Global};
+use std::collections::BTreeMap;
+use std::marker::Model;
+
+/// Comments in the order of the text. Contracts see them as their list.
+#[derive(Debug, Drop)]
+pub struct CommentList {
+    comments: Vec<Comment>,
+}
+
+impl Model for CommentList {
+    ghost use Rattle.std.specs.Prelude.{List};
+    ghost use Rattle.fast_check_comments.specs.declared.comment.Comment.{Comment};
+
+    ghost Value = { List Comment };
+
+    ghost view = { λ list. list.comments.items };
+}
+
+impl CommentList {
+    /// The list of these comments.
+    pub fn from_vec(comments: Vec<Comment>) -> CommentList
+        ensures { result ≡ comments.items }
+    {
+        CommentList { comments }
+    }
+
+    /// The comments, in order.
+    pub fn as_slice(&self) -> &[Comment]
+        ensures { result.now ≡ self.now }
+    {
+        self.comments.as_slice()
+    }
+}
+
+impl Clone for CommentList {
+    ghost is_clone = { λ list copy. copy ≡ list };
+
+    fn clone(&self) -> Result<CommentList, AllocError> {
+        Ok(CommentList {
+            comments: self.comments.clone()?,
+        })
+    }
+}
+
+/// Comments by the position that they stand at. Contracts see the entries, in the order of their positions.
+#[derive(Debug, Drop)]
+pub struct CommentMap {
+    entries: BTreeMap<SourcePos, CommentList>,
+}
+
+impl Model for CommentMap {
+    ghost use Rattle.std.specs.Prelude.{List};
+    ghost use Rattle.fast_check_syntax.specs.declared.source.SourcePos.{SourcePos};
+    ghost use Rattle.fast_check_comments.specs.declared.comment.Comment.{Comment};
+
+    ghost Value = { List (SourcePos × List Comment) };
+
+    ghost view = { λ map. map.entries.entries };
+}
+
+impl CommentMap {
+    ghost use Rattle.std.specs.BTreeMap.{insert_entry, is_at};
+    ghost use Rattle.std.specs.Map.{lookup, remove_entry};
+    ghost use Rattle.std.specs.Option.{option_map};
+
+    /// The map without comments. It takes no memory.
+    pub fn new(alloc: Global) -> CommentMap
+        ensures { result ≡ [] }
+    {
+        CommentMap {
+            entries: BTreeMap::new(alloc),
+        }
+    }
+
+    /// Whether no comment stands anywhere.
+    pub fn is_empty(&self) -> bool
+        ensures { IsTrue result ↔ (self.now ≡ []) }
+    {
+        self.entries.is_empty()
+    }
+
+    /// The comments at a position; `None` where none stands.
+    pub fn get(&self, position: SourcePos) -> Option<&CommentList>
+        ensures { option_map (λ list. list.now) result ≡ lookup (is_at (⟦<SourcePos as Ord>⟧.cmp position)) self.now }
+    {
+        self.entries.get(&position)
+    }
+
+    /// Lays the comments at a position, in place of those that stand there. For want of memory it changes nothing.
+    pub fn insert(&mut self, position: SourcePos, comments: CommentList) -> Result<(), AllocError>
+        ensures ok { OnOk result (self.new ≡ insert_entry ⟦<SourcePos as Ord>⟧.cmp self.old position comments) }
+        ensures err { OnErr result (self.new ≡ self.old) }
+    {
+        drop(self.entries.insert(position, comments)?);
+        Ok(())
+    }
+
+    /// Takes away the comments at a position. It takes no memory.
+    pub fn remove(&mut self, position: SourcePos)
+        ensures { self.new ≡ remove_entry (is_at (⟦<SourcePos as Ord>⟧.cmp position)) self.old }
+    {
+        drop(self.entries.remove(&position));
+    }
+}
+
+impl Clone for CommentMap {
+    ghost is_clone = { λ map copy. copy ≡ map };
+
+    fn clone(&self) -> Result<CommentMap, AllocError> {
+        Ok(CommentMap {
+            entries: self.entries.clone()?,
+        })
+    }
+}
