@@ -8,3 +8,6 @@ mod map;
 pub use comment::{Comment, CommentKind};
 pub use comments::Comments;
 pub use map::{CommentList, CommentMap};
+
+#[cfg(test)]
+mod tests;

@@ -4,6 +4,7 @@ use crate::comment::Comment;
 use fast_check_syntax::SourcePos;
 use std::alloc::{AllocError, Global};
 use std::collections::BTreeMap;
+use std::collections::btree_map::Iter;
 use std::marker::Model;
 
 /// Comments in the order of the text. Contracts see them as their list.
@@ -64,9 +65,12 @@ impl Model for CommentMap {
 }
 
 impl CommentMap {
-    ghost use Rattle.std.specs.BTreeMap.{insert_entry, is_at};
-    ghost use Rattle.std.specs.Map.{lookup, remove_entry};
+    ghost use Rattle.std.specs.Prelude.{List};
+    ghost use Rattle.std.specs.Map.Iter.{ShowsInOrder, deref_pair};
+    ghost use Rattle.fast_check_syntax.specs.declared.source.SourcePos.{SourcePos};
+    ghost use Rattle.fast_check_comments.specs.declared.comment.Comment.{Comment};
     ghost use Rattle.std.specs.Option.{option_map};
+    ghost use Rattle.fast_check_comments.specs.Places.{comments_at, with_comments, without_comments};
 
     /// The map without comments. It takes no memory.
     pub fn new(alloc: Global) -> CommentMap
@@ -86,14 +90,22 @@ impl CommentMap {
 
     /// The comments at a position; `None` where none stands.
     pub fn get(&self, position: SourcePos) -> Option<&CommentList>
-        ensures { option_map (λ list. list.now) result ≡ lookup (is_at (⟦<SourcePos as Ord>⟧.cmp position)) self.now }
+        ensures { option_map (λ list. list.now) result ≡ comments_at position self.now }
     {
         self.entries.get(&position)
     }
 
+    /// The positions with their comments, in the order of the text.
+    pub fn iter(&self) -> Iter<'_, SourcePos, CommentList>
+        ensures rest { result ≡ self.now }
+        ensures runs { ShowsInOrder (deref_pair {K = SourcePos} {X = List Comment}) }
+    {
+        self.entries.iter()
+    }
+
     /// Lays the comments at a position, in place of those that stand there. For want of memory it changes nothing.
     pub fn insert(&mut self, position: SourcePos, comments: CommentList) -> Result<(), AllocError>
-        ensures ok { OnOk result (self.new ≡ insert_entry ⟦<SourcePos as Ord>⟧.cmp self.old position comments) }
+        ensures ok { OnOk result (self.new ≡ with_comments position comments self.old) }
         ensures err { OnErr result (self.new ≡ self.old) }
     {
         drop(self.entries.insert(position, comments)?);
@@ -102,7 +114,7 @@ impl CommentMap {
 
     /// Takes away the comments at a position. It takes no memory.
     pub fn remove(&mut self, position: SourcePos)
-        ensures { self.new ≡ remove_entry (is_at (⟦<SourcePos as Ord>⟧.cmp position)) self.old }
+        ensures { self.new ≡ without_comments position self.old }
     {
         drop(self.entries.remove(&position));
     }
