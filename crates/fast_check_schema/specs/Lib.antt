@@ -1,2 +1,3 @@
+pub mod Lookup
 pub mod Rows
 pub mod Schema

@@ -357,5 +357,5 @@ pub static CALLEE_VARIANTS: [Variant; 3] = [
 
 pub static ASSIGN_TARGET_VARIANTS: [Variant; 2] = [
     ("Simple", Form::Choice(Choice::Expr)),
-    ("Pat", Form::Marked(Kind::TargetPat, Choice::Pat)),
+    ("Pat", Form::Marked(Kind::TargetPat)),
 ];

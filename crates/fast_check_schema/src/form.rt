@@ -66,8 +66,8 @@ pub enum Form {
     Word(Words),
     Struct(Kind),
     Choice(Choice),
-    /// A choice that the tree keeps under a node of the kind, since without it two variants would hold equal trees.
-    Marked(Kind, Choice),
+    /// A choice that the tree keeps under a node of this kind, a mark (`marked`), since without it two variants would hold equal trees.
+    Marked(Kind),
 }
 
 /// How often a field's form stands.

@@ -4,6 +4,7 @@
 mod expressions;
 mod form;
 mod functions;
+mod lookup;
 mod names;
 mod patterns;
 mod program;
@@ -12,4 +13,5 @@ mod tables;
 mod types;
 
 pub use form::{Choice, Count, Field, Form, Named, Variant, Words};
+pub use lookup::{marked, variant_named, variant_of, word_named, word_text};
 pub use tables::{fields, variants, words};

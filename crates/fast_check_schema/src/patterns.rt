@@ -48,7 +48,7 @@ pub static PAT_VARIANTS: [Variant; 7] = [
     ("Object", Form::Struct(Kind::ObjectPat)),
     ("Assign", Form::Struct(Kind::AssignPat)),
     ("Invalid", Form::Struct(Kind::Invalid)),
-    ("Expr", Form::Marked(Kind::PatExpr, Choice::Expr)),
+    ("Expr", Form::Marked(Kind::PatExpr)),
 ];
 
 pub static OBJECT_PAT_PROP_VARIANTS: [Variant; 3] = [
