@@ -1,0 +1,9 @@
+use Rattle.std.proofs.Common.{◌≡◌, drop, map}
+use Rattle.fast_check_schema.specs.Lookup.{variant_by_name}
+use Rattle.fast_check_schema.specs.Rows.{variant_row}
+use Rattle.fast_check_schema.proofs.lookup.variant_named.Given as goal
+
+-- no variant so far has the name
+abbrev pub invariant-loop-variant : goal.invariant-loop-variant
+invariant-loop-variant l =
+    variant_by_name l.name (map variant_row l.variant-items) ≡ variant_by_name l.name (map variant_row (drop l.variant-index l.variant-items))

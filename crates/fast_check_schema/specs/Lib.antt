@@ -1,0 +1,3 @@
+pub mod Lookup
+pub mod Rows
+pub mod Schema

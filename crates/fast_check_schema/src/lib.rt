@@ -1,0 +1,17 @@
+//! The schema of the syntax tree: the fields of each form, the forms that each choice is between, and the words of each list.
+#![tactic(auto)]
+
+mod expressions;
+mod form;
+mod functions;
+mod lookup;
+mod names;
+mod patterns;
+mod program;
+mod statements;
+mod tables;
+mod types;
+
+pub use form::{Choice, Count, Field, Form, Named, Variant, Words};
+pub use lookup::{marked, variant_named, variant_of, word_named, word_text};
+pub use tables::{fields, variants, words};
