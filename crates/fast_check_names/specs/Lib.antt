@@ -1,1 +1,2 @@
 pub mod Package
+pub mod Names

@@ -1,0 +1,5 @@
+pub mod Paths
+pub mod Build
+pub mod Sets
+pub mod Join
+pub mod Difference
