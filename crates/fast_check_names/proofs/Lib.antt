@@ -3,3 +3,4 @@ pub mod Build
 pub mod Sets
 pub mod Join
 pub mod Difference
+pub mod Writes

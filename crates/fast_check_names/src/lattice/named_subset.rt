@@ -196,34 +196,41 @@ fn put_absent(
     Ok(())
 }
 
+/// The set of one name, and what is demanded below it.
+fn single(alloc: Global, name: &String, exports: Exports) -> Result<NamedSubset, AllocError>
+    ensures { IfOk result (λ subset. IsSame (paths subset) (named (string_bytes name.now) (paths_below exports))) }
+{
+    let mut names = BTreeMap::new(alloc);
+    put(&mut names, name, exports)?;
+    Ok(NamedSubset { names })
+}
+
 /// What a path demands below a name: all of it where the path is empty.
-#[cycle(path)]
 fn path_below(alloc: Global, parts: &[String]) -> Result<Exports, AllocError>
     ensures { IfOk result (λ exports. IsSame (paths_below exports) (whole_below (path_of parts.now))) }
 {
-    if parts.is_empty() {
+    let Some((first, rest)) = parts.split_first() else {
         return Ok(Exports::All);
-    }
-    Ok(Exports::Subset(NamedSubset::from_parts(alloc, parts)?))
+    };
+    let below = path_below(alloc, rest)?;
+    Ok(Exports::Subset(single(alloc, first, below)?))
 }
 
 impl NamedSubset {
     /// The set of one path, demanded whole; of no parts the empty set.
-    #[cycle(path)]
     pub fn from_parts(alloc: Global, parts: &[String]) -> Result<Self, AllocError>
         ensures { IfOk result (λ subset. IsSame (paths subset) (whole_path (path_of parts.now))) }
     {
-        let mut names = BTreeMap::new(alloc);
-        if let Some((first, rest)) = parts.split_first() {
-            put(&mut names, first, path_below(alloc, rest)?)?;
-        }
-        Ok(NamedSubset { names })
+        let Some((first, rest)) = parts.split_first() else {
+            return Ok(NamedSubset::default(alloc));
+        };
+        single(alloc, first, path_below(alloc, rest)?)
     }
 
     /// Demands a name whole.
     pub fn add(&mut self, alloc: Global, export: String) -> Result<(), AllocError>
         ensures joined { OnOk result (IsJoined (paths self.old) (whole (string_bytes export) []) (paths self.new)) }
-        ensures err { OnErr result (self.new ≡ self.old) }
+        ensures err { OnErr result (IsSame (paths self.new) (paths self.old)) }
     {
         self.names.insert(export, Exports::All)?;
         Ok(())
