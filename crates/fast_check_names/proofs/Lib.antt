@@ -4,3 +4,4 @@ pub mod Sets
 pub mod Join
 pub mod Difference
 pub mod Writes
+pub mod Listed

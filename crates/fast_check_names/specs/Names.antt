@@ -2,7 +2,8 @@
 --
 -- A path is a list of names. A set of demanded names is two sets of nonempty paths. The touched ones are
 -- closed under nonempty beginnings. The covered ones are closed under longer paths, and all of them are touched.
-use Rattle.std.specs.Prelude.{ℕ, ◌≡◌, ◌↔◌, Bool, true, false, ◌&&◌, ◌||◌, not, List, [], ◌∷◌, ◌++◌, map, Option, Some, None, IsTrue, String, string_bytes, cond}
+use Rattle.std.specs.Prelude.{ℕ, ◌≡◌, ◌≢◌, AllPairs, ◌↔◌, Bool, true, false, ◌&&◌, ◌||◌, not, List, [], ◌∷◌, ◌++◌, map, Option, Some, None, IsTrue, String, string_bytes, cond}
+use Rattle.std.specs.Map.{lookup}
 use Rattle.std.specs.Str.{bytes_eq}
 use Rattle.std.specs.declared.alloc.Global.{Global}
 use Rattle.std.specs.BTreeMap.{BTreeMap, get_by_text}
@@ -178,6 +179,15 @@ pub record IsJoinBelow (old new joined : Option Exports) : Type 0 where
 abbrev pub IsJoinWhereHeld : Option Exports → Option Exports → Option Exports → Type 0
 IsJoinWhereHeld None new joined = joined ≡ None
 IsJoinWhereHeld (Some x) new joined = IsJoinBelow (Some x) new joined
+
+-- what a list of names has for a name
+abbrev pub listed_at : List (String Global × Exports) → Name → Option Exports
+listed_at names n = lookup (λ k. bytes_eq n (string_bytes k)) names
+
+-- the list has each first name of the set once, with what stands below it
+pub record IsListed (set : NameSet) (names : List (String Global × Exports)) : Type 0 where
+  pub each : (n : Name) → IsSame (λ part q. set part (n ∷ q)) (paths_at (listed_at names n))
+  pub once : AllPairs (λ n m. n ≢ m) (map (λ e. string_bytes e.0) names)
 
 -- a map from names to what is demanded below them
 abbrev pub Names : Type 0

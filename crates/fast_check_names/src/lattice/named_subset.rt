@@ -1,8 +1,9 @@
 //! Sets of demanded names.
 
 ghost use Rattle.std.specs.Prelude.{◌≡◌, ◌∷◌, [], ◌↔◌, true, false, Some, None, IfOk, OnOk, OnErr, IsTrue, string_bytes, option_copied};
-ghost use Rattle.fast_check_names.specs.Names.{Name, Path, Part, Touched, Puts, paths, paths_below, paths_at, nothing, named, subset_of, whole, whole_path, whole_below, path_of, IsJoin, IsJoined, IsJoinBelow, IsJoinWhereHeld, IsSame, IsDifference, IsDifferenceBelow};
-ghost use Rattle.std.specs.BTreeMap.{get_by_text};
+ghost use Rattle.fast_check_names.specs.Names.{Name, Path, Part, Touched, Puts, paths, paths_below, paths_at, nothing, named, subset_of, whole, whole_path, whole_below, path_of, IsJoin, IsJoined, IsListed, IsJoinBelow, IsJoinWhereHeld, IsSame, IsDifference, IsDifferenceBelow};
+ghost use Rattle.std.specs.BTreeMap.{get_by_text, IsOrdered};
+ghost use Rattle.std.specs.String.{string_cmp};
 
 use std::alloc::{AllocError, Global};
 use std::collections::BTreeMap;
@@ -33,6 +34,17 @@ fn put(
 {
     names.insert(name.clone()?, exports)?;
     Ok(())
+}
+
+/// The entries of a map, in its order.
+fn entries_of(
+    alloc: Global,
+    names: BTreeMap<String, Exports>,
+) -> Result<Vec<(String, Exports)>, AllocError>
+    ensures entries { IfOk result (λ entries. entries.items ≡ names.entries) }
+    ensures ordered { IsOrdered string_cmp names }
+{
+    names.into_iter().collect(alloc)
 }
 
 impl Clone for Exports {
@@ -217,6 +229,13 @@ fn path_below(alloc: Global, parts: &[String]) -> Result<Exports, AllocError>
 }
 
 impl NamedSubset {
+    /// The first names, each once, with what is demanded below it, in no promised order. Where memory is wanting the set is dropped.
+    pub fn into_names(self, alloc: Global) -> Result<Vec<(String, Exports)>, AllocError>
+        ensures { IfOk result (λ names. IsListed (paths self) names.items) }
+    {
+        entries_of(alloc, self.names)
+    }
+
     /// The set of one path, demanded whole; of no parts the empty set.
     pub fn from_parts(alloc: Global, parts: &[String]) -> Result<Self, AllocError>
         ensures { IfOk result (λ subset. IsSame (paths subset) (whole_path (path_of parts.now))) }
