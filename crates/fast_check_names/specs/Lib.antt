@@ -1,2 +1,3 @@
 pub mod Package
 pub mod Names
+pub mod Imports

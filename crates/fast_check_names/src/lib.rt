@@ -6,5 +6,5 @@
 pub mod lattice;
 pub mod package;
 
-pub use crate::lattice::{Exports, NamedSubset};
+pub use crate::lattice::{Exports, ImportedExports, NamedSubset};
 pub use crate::package::{FileDepName, PackageNv, WorkspaceMember};
