@@ -53,7 +53,9 @@ pub record ReadsClass (form : Class Part) (t : Tree) : Type 0 where
   pub implements : seen form.implements ≡ Class-implements t
 
 abbrev pub class : SourceRange → SyntaxContext → Tree → Tree → Tree → Bool → Tree → Tree → Tree → Tree
-class span ctxt decorators body super_class is_abstract type_params super_type_params implements = node kinds.Class (Range span ∷ Context ctxt ∷ decorators ∷ body ∷ super_class ∷ Flag is_abstract ∷ type_params ∷ super_type_params ∷ implements ∷ [])
+class span ctxt decorators body super_class is_abstract type_params super_type_params implements =
+    node kinds.Class (Range span ∷ Context ctxt ∷ decorators ∷ body ∷ super_class ∷ Flag is_abstract ∷
+    type_params ∷ super_type_params ∷ implements ∷ [])
 
 -- `accessibility constructor(params) body`.
 abbrev pub Constructor-span : Tree → SourceRange
@@ -87,7 +89,9 @@ pub record ReadsConstructor (form : Constructor Part) (t : Tree) : Type 0 where
   pub is_optional : form.is_optional ≡ Constructor-is_optional t
 
 abbrev pub constructor : SourceRange → SyntaxContext → Tree → Tree → Tree → Tree → Bool → Tree
-constructor span ctxt key params body accessibility is_optional = node kinds.Constructor (Range span ∷ Context ctxt ∷ key ∷ params ∷ body ∷ accessibility ∷ Flag is_optional ∷ [])
+constructor span ctxt key params body accessibility is_optional =
+    node kinds.Constructor (Range span ∷ Context ctxt ∷ key ∷ params ∷ body ∷ accessibility ∷
+    Flag is_optional ∷ [])
 
 -- A parameter of a constructor that is a property too: `accessibility param`.
 abbrev pub TsParamProp-span : Tree → SourceRange

@@ -67,7 +67,10 @@ pub record ReadsClassProp (form : ClassProp Part) (t : Tree) : Type 0 where
   pub definite : form.definite ≡ ClassProp-definite t
 
 abbrev pub class_prop : SourceRange → Tree → Tree → Tree → Bool → Tree → Tree → Bool → Bool → Bool → Bool → Bool → Bool → Tree
-class_prop span key value type_ann is_static decorators accessibility is_abstract is_optional is_override readonly declare definite = node kinds.ClassProp (Range span ∷ key ∷ value ∷ type_ann ∷ Flag is_static ∷ decorators ∷ accessibility ∷ Flag is_abstract ∷ Flag is_optional ∷ Flag is_override ∷ Flag readonly ∷ Flag declare ∷ Flag definite ∷ [])
+class_prop span key value type_ann is_static decorators accessibility is_abstract is_optional is_override readonly declare definite =
+    node kinds.ClassProp (Range span ∷ key ∷ value ∷ type_ann ∷ Flag is_static ∷ decorators ∷ accessibility ∷
+    Flag is_abstract ∷ Flag is_optional ∷ Flag is_override ∷ Flag readonly ∷ Flag declare ∷
+    Flag definite ∷ [])
 
 -- `#key: type_ann = value;`, behind its modifiers.
 abbrev pub PrivateProp-span : Tree → SourceRange
@@ -121,7 +124,9 @@ pub record ReadsPrivateProp (form : PrivateProp Part) (t : Tree) : Type 0 where
   pub definite : form.definite ≡ PrivateProp-definite t
 
 abbrev pub private_prop : SourceRange → SyntaxContext → Tree → Tree → Tree → Bool → Tree → Tree → Bool → Bool → Bool → Bool → Tree
-private_prop span ctxt key value type_ann is_static decorators accessibility is_optional is_override readonly definite = node kinds.PrivateProp (Range span ∷ Context ctxt ∷ key ∷ value ∷ type_ann ∷ Flag is_static ∷ decorators ∷ accessibility ∷ Flag is_optional ∷ Flag is_override ∷ Flag readonly ∷ Flag definite ∷ [])
+private_prop span ctxt key value type_ann is_static decorators accessibility is_optional is_override readonly definite =
+    node kinds.PrivateProp (Range span ∷ Context ctxt ∷ key ∷ value ∷ type_ann ∷ Flag is_static ∷
+    decorators ∷ accessibility ∷ Flag is_optional ∷ Flag is_override ∷ Flag readonly ∷ Flag definite ∷ [])
 
 -- `accessor key: type_ann = value;`, behind its modifiers.
 abbrev pub AutoAccessor-span : Tree → SourceRange

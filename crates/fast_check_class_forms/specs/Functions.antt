@@ -51,7 +51,9 @@ pub record ReadsFunction (form : Function Part) (t : Tree) : Type 0 where
   pub return_type : seen form.return_type ≡ Function-return_type t
 
 abbrev pub function : SourceRange → Tree → Tree → SyntaxContext → Tree → Bool → Bool → Tree → Tree → Tree
-function span params decorators ctxt body is_generator is_async type_params return_type = node kinds.Function (Range span ∷ params ∷ decorators ∷ Context ctxt ∷ body ∷ Flag is_generator ∷ Flag is_async ∷ type_params ∷ return_type ∷ [])
+function span params decorators ctxt body is_generator is_async type_params return_type =
+    node kinds.Function (Range span ∷ params ∷ decorators ∷ Context ctxt ∷ body ∷ Flag is_generator ∷
+    Flag is_async ∷ type_params ∷ return_type ∷ [])
 
 -- `decorators pat`.
 abbrev pub Param-span : Tree → SourceRange

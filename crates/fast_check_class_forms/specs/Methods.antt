@@ -49,7 +49,9 @@ pub record ReadsClassMethod (form : ClassMethod Part) (t : Tree) : Type 0 where
   pub is_override : form.is_override ≡ ClassMethod-is_override t
 
 abbrev pub class_method : SourceRange → Tree → Tree → Tree → Bool → Tree → Bool → Bool → Bool → Tree
-class_method span key function kind is_static accessibility is_abstract is_optional is_override = node kinds.ClassMethod (Range span ∷ key ∷ function ∷ kind ∷ Flag is_static ∷ accessibility ∷ Flag is_abstract ∷ Flag is_optional ∷ Flag is_override ∷ [])
+class_method span key function kind is_static accessibility is_abstract is_optional is_override =
+    node kinds.ClassMethod (Range span ∷ key ∷ function ∷ kind ∷ Flag is_static ∷ accessibility ∷
+    Flag is_abstract ∷ Flag is_optional ∷ Flag is_override ∷ [])
 
 -- `#key(..) ..`, with the rest in `function`.
 abbrev pub PrivateMethod-span : Tree → SourceRange

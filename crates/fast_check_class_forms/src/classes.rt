@@ -49,7 +49,9 @@ impl<'a> Class<Part<'a>> {
 impl Class<Tree> {
     /// The node of these fields.
     pub fn into_tree(self, alloc: Global) -> Result<Tree, AllocError>
-        ensures { IfOk result (λ tree. tree ≡ class self.span self.ctxt self.decorators self.body self.super_class self.is_abstract self.type_params self.super_type_params self.implements) }
+        ensures { IfOk result (λ tree. tree ≡
+            class self.span self.ctxt self.decorators self.body self.super_class
+            self.is_abstract self.type_params self.super_type_params self.implements) }
     {
         let Class {
             span,
@@ -117,7 +119,9 @@ impl<'a> Constructor<Part<'a>> {
 impl Constructor<Tree> {
     /// The node of these fields.
     pub fn into_tree(self, alloc: Global) -> Result<Tree, AllocError>
-        ensures { IfOk result (λ tree. tree ≡ constructor self.span self.ctxt self.key self.params self.body self.accessibility self.is_optional) }
+        ensures { IfOk result (λ tree. tree ≡
+            constructor self.span self.ctxt self.key self.params self.body self.accessibility
+            self.is_optional) }
     {
         let Constructor {
             span,

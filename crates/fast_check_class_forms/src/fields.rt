@@ -56,7 +56,10 @@ impl<'a> ClassProp<Part<'a>> {
 impl ClassProp<Tree> {
     /// The node of these fields.
     pub fn into_tree(self, alloc: Global) -> Result<Tree, AllocError>
-        ensures { IfOk result (λ tree. tree ≡ class_prop self.span self.key self.value self.type_ann self.is_static self.decorators self.accessibility self.is_abstract self.is_optional self.is_override self.readonly self.declare self.definite) }
+        ensures { IfOk result (λ tree. tree ≡
+            class_prop self.span self.key self.value self.type_ann self.is_static
+            self.decorators self.accessibility self.is_abstract self.is_optional
+            self.is_override self.readonly self.declare self.definite) }
     {
         let ClassProp {
             span,
@@ -145,7 +148,10 @@ impl<'a> PrivateProp<Part<'a>> {
 impl PrivateProp<Tree> {
     /// The node of these fields.
     pub fn into_tree(self, alloc: Global) -> Result<Tree, AllocError>
-        ensures { IfOk result (λ tree. tree ≡ private_prop self.span self.ctxt self.key self.value self.type_ann self.is_static self.decorators self.accessibility self.is_optional self.is_override self.readonly self.definite) }
+        ensures { IfOk result (λ tree. tree ≡
+            private_prop self.span self.ctxt self.key self.value self.type_ann self.is_static
+            self.decorators self.accessibility self.is_optional self.is_override
+            self.readonly self.definite) }
     {
         let PrivateProp {
             span,

@@ -49,7 +49,9 @@ impl<'a> Function<Part<'a>> {
 impl Function<Tree> {
     /// The node of these fields.
     pub fn into_tree(self, alloc: Global) -> Result<Tree, AllocError>
-        ensures { IfOk result (λ tree. tree ≡ function self.span self.params self.decorators self.ctxt self.body self.is_generator self.is_async self.type_params self.return_type) }
+        ensures { IfOk result (λ tree. tree ≡
+            function self.span self.params self.decorators self.ctxt self.body self.is_generator
+            self.is_async self.type_params self.return_type) }
     {
         let Function {
             span,

@@ -46,7 +46,9 @@ impl<'a> ClassMethod<Part<'a>> {
 impl ClassMethod<Tree> {
     /// The node of these fields.
     pub fn into_tree(self, alloc: Global) -> Result<Tree, AllocError>
-        ensures { IfOk result (λ tree. tree ≡ class_method self.span self.key self.function self.kind self.is_static self.accessibility self.is_abstract self.is_optional self.is_override) }
+        ensures { IfOk result (λ tree. tree ≡
+            class_method self.span self.key self.function self.kind self.is_static
+            self.accessibility self.is_abstract self.is_optional self.is_override) }
     {
         let ClassMethod {
             span,

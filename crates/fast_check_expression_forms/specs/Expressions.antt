@@ -132,7 +132,9 @@ pub record ReadsArrowExpr (form : ArrowExpr Part) (t : Tree) : Type 0 where
   pub return_type : seen form.return_type ≡ ArrowExpr-return_type t
 
 abbrev pub arrow_expr : SourceRange → SyntaxContext → Tree → Tree → Bool → Bool → Tree → Tree → Tree
-arrow_expr span ctxt params body is_async is_generator type_params return_type = node kinds.ArrowExpr (Range span ∷ Context ctxt ∷ params ∷ body ∷ Flag is_async ∷ Flag is_generator ∷ type_params ∷ return_type ∷ [])
+arrow_expr span ctxt params body is_async is_generator type_params return_type =
+    node kinds.ArrowExpr (Range span ∷ Context ctxt ∷ params ∷ body ∷ Flag is_async ∷ Flag is_generator ∷
+    type_params ∷ return_type ∷ [])
 
 -- Expressions with commas between them: `exprs`.
 abbrev pub SeqExpr-span : Tree → SourceRange

@@ -12,6 +12,8 @@ use Rattle.fast_check_expression_forms.specs.declared.patterns.ObjectPat.{Object
 use Rattle.fast_check_expression_forms.specs.declared.patterns.AssignPat.{AssignPat}
 use Rattle.fast_check_expression_forms.specs.declared.patterns.KeyValuePatProp.{KeyValuePatProp}
 use Rattle.fast_check_expression_forms.specs.declared.patterns.AssignPatProp.{AssignPatProp}
+use Rattle.fast_check_expression_forms.specs.declared.patterns.PatExpr.{PatExpr}
+use Rattle.fast_check_expression_forms.specs.declared.patterns.TargetPat.{TargetPat}
 
 -- `[elems]: type_ann`.
 abbrev pub ArrayPat-span : Tree → SourceRange
@@ -122,3 +124,17 @@ pub record ReadsAssignPatProp (form : AssignPatProp Part) (t : Tree) : Type 0 wh
   pub span : form.span ≡ AssignPatProp-span t
   pub key : seen form.key ≡ AssignPatProp-key t
   pub value : seen form.value ≡ AssignPatProp-value t
+
+-- An expression where a pattern stands, as `a.b` in `[a.b] = c`.
+abbrev pub PatExpr-expr : Tree → Tree
+PatExpr-expr t = part 0 t
+
+pub record ReadsPatExpr (form : PatExpr Part) (t : Tree) : Type 0 where
+  pub expr : seen form.expr ≡ PatExpr-expr t
+
+-- A pattern that is assigned to, as `[a]` in `[a] = b`.
+abbrev pub TargetPat-pat : Tree → Tree
+TargetPat-pat t = part 0 t
+
+pub record ReadsTargetPat (form : TargetPat Part) (t : Tree) : Type 0 where
+  pub pat : seen form.pat ≡ TargetPat-pat t

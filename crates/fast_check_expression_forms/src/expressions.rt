@@ -204,7 +204,9 @@ impl<'a> ArrowExpr<Part<'a>> {
 impl ArrowExpr<Tree> {
     /// The node of these fields.
     pub fn into_tree(self, alloc: Global) -> Result<Tree, AllocError>
-        ensures { IfOk result (λ tree. tree ≡ arrow_expr self.span self.ctxt self.params self.body self.is_async self.is_generator self.type_params self.return_type) }
+        ensures { IfOk result (λ tree. tree ≡
+            arrow_expr self.span self.ctxt self.params self.body self.is_async self.is_generator
+            self.type_params self.return_type) }
     {
         let ArrowExpr {
             span,

@@ -22,7 +22,9 @@ pub use expressions::{
 };
 pub use jsx::{JSXElement, JSXEmpty, JSXFragment, JSXMember, JSXNamespacedName};
 pub use operators::{AssignExpr, BinExpr, CondExpr, UnaryExpr, UpdateExpr};
-pub use patterns::{ArrayPat, AssignPat, AssignPatProp, KeyValuePatProp, ObjectPat, RestPat};
+pub use patterns::{
+    ArrayPat, AssignPat, AssignPatProp, KeyValuePatProp, ObjectPat, PatExpr, RestPat, TargetPat,
+};
 pub use properties::{
     AssignProp, ComputedPropName, GetterProp, KeyValueProp, MethodProp, SetterProp, SpreadElement,
 };

@@ -1,6 +1,6 @@
 ghost use Rattle.std.specs.Prelude.{◌≡◌, IfOk};
 ghost use Rattle.fast_check_syntax.specs.Part.{seen};
-ghost use Rattle.fast_check_expression_forms.specs.Patterns.{ReadsArrayPat, array_pat, ReadsRestPat, rest_pat, ReadsObjectPat, object_pat, ReadsAssignPat, assign_pat, ReadsKeyValuePatProp, ReadsAssignPatProp};
+ghost use Rattle.fast_check_expression_forms.specs.Patterns.{ReadsArrayPat, array_pat, ReadsRestPat, rest_pat, ReadsObjectPat, object_pat, ReadsAssignPat, assign_pat, ReadsKeyValuePatProp, ReadsAssignPatProp, ReadsPatExpr, ReadsTargetPat};
 
 use fast_check_syntax::{Kind, Part, SourceRange, Tree};
 use std::alloc::{AllocError, Global};
@@ -34,7 +34,8 @@ impl<'a> ArrayPat<Part<'a>> {
 impl ArrayPat<Tree> {
     /// The node of these fields.
     pub fn into_tree(self, alloc: Global) -> Result<Tree, AllocError>
-        ensures { IfOk result (λ tree. tree ≡ array_pat self.span self.elems self.optional self.type_ann) }
+        ensures { IfOk result (λ tree. tree ≡
+            array_pat self.span self.elems self.optional self.type_ann) }
     {
         let ArrayPat {
             span,
@@ -79,7 +80,8 @@ impl<'a> RestPat<Part<'a>> {
 impl RestPat<Tree> {
     /// The node of these fields.
     pub fn into_tree(self, alloc: Global) -> Result<Tree, AllocError>
-        ensures { IfOk result (λ tree. tree ≡ rest_pat self.span self.dot3_token self.arg self.type_ann) }
+        ensures { IfOk result (λ tree. tree ≡
+            rest_pat self.span self.dot3_token self.arg self.type_ann) }
     {
         let RestPat {
             span,
@@ -124,7 +126,8 @@ impl<'a> ObjectPat<Part<'a>> {
 impl ObjectPat<Tree> {
     /// The node of these fields.
     pub fn into_tree(self, alloc: Global) -> Result<Tree, AllocError>
-        ensures { IfOk result (λ tree. tree ≡ object_pat self.span self.props self.optional self.type_ann) }
+        ensures { IfOk result (λ tree. tree ≡
+            object_pat self.span self.props self.optional self.type_ann) }
     {
         let ObjectPat {
             span,
@@ -214,5 +217,37 @@ impl<'a> AssignPatProp<Part<'a>> {
             key: node.part(1),
             value: node.part(2),
         }
+    }
+}
+
+/// An expression where a pattern stands, as `a.b` in `[a.b] = c`.
+#[derive(Drop)]
+pub struct PatExpr<N> {
+    /// An `Expr`.
+    pub expr: N,
+}
+
+impl<'a> PatExpr<Part<'a>> {
+    /// The fields of a node.
+    pub fn of(node: Part<'a>) -> Self
+        ensures { ReadsPatExpr result (seen node.entry) }
+    {
+        PatExpr { expr: node.part(0) }
+    }
+}
+
+/// A pattern that is assigned to, as `[a]` in `[a] = b`.
+#[derive(Drop)]
+pub struct TargetPat<N> {
+    /// A `Pat`.
+    pub pat: N,
+}
+
+impl<'a> TargetPat<Part<'a>> {
+    /// The fields of a node.
+    pub fn of(node: Part<'a>) -> Self
+        ensures { ReadsTargetPat result (seen node.entry) }
+    {
+        TargetPat { pat: node.part(0) }
     }
 }

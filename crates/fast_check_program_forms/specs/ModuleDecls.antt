@@ -52,7 +52,8 @@ pub record ReadsImportDecl (form : ImportDecl Part (Bor (List ℕ))) (t : Tree) 
   pub phase : form.phase.now ≡ ImportDecl-phase t
 
 abbrev pub import_decl : SourceRange → Tree → Tree → Bool → Tree → List ℕ → Tree
-import_decl span specifiers src type_only with phase = node kinds.ImportDecl (Range span ∷ specifiers ∷ src ∷ Flag type_only ∷ with ∷ Text phase ∷ [])
+import_decl span specifiers src type_only with phase =
+    node kinds.ImportDecl (Range span ∷ specifiers ∷ src ∷ Flag type_only ∷ with ∷ Text phase ∷ [])
 
 -- In the braces of an import: `imported as local`.
 abbrev pub ImportNamedSpecifier-span : Tree → SourceRange
@@ -167,7 +168,8 @@ pub record ReadsNamedExport (form : NamedExport Part) (t : Tree) : Type 0 where
   pub with : seen form.with ≡ NamedExport-with t
 
 abbrev pub named_export : SourceRange → Tree → Tree → Bool → Tree → Tree
-named_export span specifiers src type_only with = node kinds.NamedExport (Range span ∷ specifiers ∷ src ∷ Flag type_only ∷ with ∷ [])
+named_export span specifiers src type_only with =
+    node kinds.NamedExport (Range span ∷ specifiers ∷ src ∷ Flag type_only ∷ with ∷ [])
 
 -- `export * as name from ..`.
 abbrev pub ExportNamespaceSpecifier-span : Tree → SourceRange

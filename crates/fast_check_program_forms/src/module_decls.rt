@@ -40,7 +40,8 @@ impl<'a> ImportDecl<Part<'a>, &'a str> {
 impl ImportDecl<Tree, Atom> {
     /// The node of these fields.
     pub fn into_tree(self, alloc: Global) -> Result<Tree, AllocError>
-        ensures { IfOk result (λ tree. tree ≡ import_decl self.span self.specifiers self.src self.type_only self.with self.phase) }
+        ensures { IfOk result (λ tree. tree ≡
+            import_decl self.span self.specifiers self.src self.type_only self.with self.phase) }
     {
         let ImportDecl {
             span,
@@ -242,7 +243,8 @@ impl<'a> NamedExport<Part<'a>> {
 impl NamedExport<Tree> {
     /// The node of these fields.
     pub fn into_tree(self, alloc: Global) -> Result<Tree, AllocError>
-        ensures { IfOk result (λ tree. tree ≡ named_export self.span self.specifiers self.src self.type_only self.with) }
+        ensures { IfOk result (λ tree. tree ≡
+            named_export self.span self.specifiers self.src self.type_only self.with) }
     {
         let NamedExport {
             span,
@@ -418,7 +420,8 @@ impl<'a> ExportAll<Part<'a>> {
 impl ExportAll<Tree> {
     /// The node of these fields.
     pub fn into_tree(self, alloc: Global) -> Result<Tree, AllocError>
-        ensures { IfOk result (λ tree. tree ≡ export_all self.span self.src self.type_only self.with) }
+        ensures { IfOk result (λ tree. tree ≡
+            export_all self.span self.src self.type_only self.with) }
     {
         let ExportAll {
             span,

@@ -73,7 +73,8 @@ pub record ReadsVarDecl (form : VarDecl Part) (t : Tree) : Type 0 where
   pub decls : seen form.decls ≡ VarDecl-decls t
 
 abbrev pub var_decl : SourceRange → SyntaxContext → Tree → Bool → Tree → Tree
-var_decl span ctxt kind declare decls = node kinds.VarDecl (Range span ∷ Context ctxt ∷ kind ∷ Flag declare ∷ decls ∷ [])
+var_decl span ctxt kind declare decls =
+    node kinds.VarDecl (Range span ∷ Context ctxt ∷ kind ∷ Flag declare ∷ decls ∷ [])
 
 -- `name = init`.
 abbrev pub VarDeclarator-span : Tree → SourceRange

@@ -44,7 +44,8 @@ pub record ReadsTsInterfaceDecl (form : TsInterfaceDecl Part) (t : Tree) : Type 
   pub body : seen form.body ≡ TsInterfaceDecl-body t
 
 abbrev pub ts_interface_decl : SourceRange → Tree → Bool → Tree → Tree → Tree → Tree
-ts_interface_decl span id declare type_params extends body = node kinds.TsInterfaceDecl (Range span ∷ id ∷ Flag declare ∷ type_params ∷ extends ∷ body ∷ [])
+ts_interface_decl span id declare type_params extends body =
+    node kinds.TsInterfaceDecl (Range span ∷ id ∷ Flag declare ∷ type_params ∷ extends ∷ body ∷ [])
 
 -- `expr<type_args>`, behind `extends` of an interface or `implements`.
 abbrev pub TsExprWithTypeArgs-span : Tree → SourceRange
@@ -161,7 +162,8 @@ pub record ReadsTsModuleDecl (form : TsModuleDecl Part) (t : Tree) : Type 0 wher
   pub body : seen form.body ≡ TsModuleDecl-body t
 
 abbrev pub ts_module_decl : SourceRange → Bool → Bool → Bool → Tree → Tree → Tree
-ts_module_decl span declare global namespace id body = node kinds.TsModuleDecl (Range span ∷ Flag declare ∷ Flag global ∷ Flag namespace ∷ id ∷ body ∷ [])
+ts_module_decl span declare global namespace id body =
+    node kinds.TsModuleDecl (Range span ∷ Flag declare ∷ Flag global ∷ Flag namespace ∷ id ∷ body ∷ [])
 
 -- `{ body }` of a module or namespace.
 abbrev pub TsModuleBlock-span : Tree → SourceRange

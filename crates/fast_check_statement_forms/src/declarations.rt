@@ -112,7 +112,8 @@ impl<'a> VarDecl<Part<'a>> {
 impl VarDecl<Tree> {
     /// The node of these fields.
     pub fn into_tree(self, alloc: Global) -> Result<Tree, AllocError>
-        ensures { IfOk result (λ tree. tree ≡ var_decl self.span self.ctxt self.kind self.declare self.decls) }
+        ensures { IfOk result (λ tree. tree ≡
+            var_decl self.span self.ctxt self.kind self.declare self.decls) }
     {
         let VarDecl {
             span,
@@ -164,7 +165,8 @@ impl<'a> VarDeclarator<Part<'a>> {
 impl VarDeclarator<Tree> {
     /// The node of these fields.
     pub fn into_tree(self, alloc: Global) -> Result<Tree, AllocError>
-        ensures { IfOk result (λ tree. tree ≡ var_declarator self.span self.name self.init self.definite) }
+        ensures { IfOk result (λ tree. tree ≡
+            var_declarator self.span self.name self.init self.definite) }
     {
         let VarDeclarator {
             span,

@@ -40,7 +40,9 @@ impl<'a> TsInterfaceDecl<Part<'a>> {
 impl TsInterfaceDecl<Tree> {
     /// The node of these fields.
     pub fn into_tree(self, alloc: Global) -> Result<Tree, AllocError>
-        ensures { IfOk result (λ tree. tree ≡ ts_interface_decl self.span self.id self.declare self.type_params self.extends self.body) }
+        ensures { IfOk result (λ tree. tree ≡
+            ts_interface_decl self.span self.id self.declare self.type_params self.extends
+            self.body) }
     {
         let TsInterfaceDecl {
             span,
@@ -224,7 +226,8 @@ impl<'a> TsModuleDecl<Part<'a>> {
 impl TsModuleDecl<Tree> {
     /// The node of these fields.
     pub fn into_tree(self, alloc: Global) -> Result<Tree, AllocError>
-        ensures { IfOk result (λ tree. tree ≡ ts_module_decl self.span self.declare self.global self.namespace self.id self.body) }
+        ensures { IfOk result (λ tree. tree ≡
+            ts_module_decl self.span self.declare self.global self.namespace self.id self.body) }
     {
         let TsModuleDecl {
             span,

@@ -78,7 +78,8 @@ impl<'a> TsTypeRef<Part<'a>> {
 impl TsTypeRef<Tree> {
     /// The node of these fields.
     pub fn into_tree(self, alloc: Global) -> Result<Tree, AllocError>
-        ensures { IfOk result (λ tree. tree ≡ ts_type_ref self.span self.type_name self.type_params) }
+        ensures { IfOk result (λ tree. tree ≡
+            ts_type_ref self.span self.type_name self.type_params) }
     {
         let TsTypeRef {
             span,

@@ -1,0 +1,9 @@
+pub mod Kinds
+pub mod NameChoices
+pub mod ExpressionChoices
+pub mod PatternChoices
+pub mod ClassChoices
+pub mod TypeChoices
+pub mod StatementChoices
+pub mod ProgramChoices
+pub mod Ranges
