@@ -28,5 +28,8 @@ is_carried_decl decl = (kind_of decl is VarDecl) && list_all is_carried_declarat
 abbrev pub is_carried_item : Tree → Bool
 is_carried_item item = if kind_of item is ExportDecl then is_carried_decl (ExportDecl-decl item) else is_carried_decl item
 
+abbrev pub is_program : Kind → Bool
+is_program kind = (kind is Module) || (kind is Script)
+
 abbrev pub is_carried_program : Tree → Bool
-is_carried_program program = ((kind_of program is Module) || (kind_of program is Script)) && list_all is_carried_item (items_of program)
+is_carried_program program = is_program (kind_of program) && list_all is_carried_item (items_of program)

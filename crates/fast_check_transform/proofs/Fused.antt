@@ -9,10 +9,11 @@ use Rattle.fast_check_skeleton.specs.declared.fault.Fault.{Fault}
 use Rattle.fast_check_skeleton.specs.Surroundings.{Surroundings}
 use Rattle.fast_check_skeleton.specs.Inferred.{inferred_type, mutability_of}
 use Rattle.fast_check_skeleton.specs.Seen.{Seen, written, form, hidden, seens}
-use Rattle.fast_check_skeleton.specs.Visible.{declared_ident, declared_type, by_inferred, declarator_seen, is_ambient, is_public_declarator, declarator_in, public_declarator, public_declarators, statement_seen}
-use Rattle.fast_check_skeleton.specs.Skeleton.{answer_to, answer_of}
+use Rattle.fast_check_skeleton.specs.Visible.{declared_ident, declared_type, by_inferred, declarator_seen, is_ambient, is_public_declarator, declarator_in, public_declarator, public_declarators, statement_seen, item_seen}
+use Rattle.fast_check_skeleton.specs.Skeleton.{answer_to, answer_of, skeleton_of, faults_of}
+use Rattle.fast_check_program_forms.specs.Programs.{Module-span, Module-body, Module-shebang, module'}
 use Rattle.fast_check_skeleton.proofs.Standing.{answer_append, stood, stood_is}
-use Rattle.fast_check_transform.specs.Kept.{kept_declarators, kept_declarator, declarator_faults, declarator_fault, with_declarators, kept_statement, statement_faults}
+use Rattle.fast_check_transform.specs.Kept.{kept_declarators, kept_declarator, declarator_faults, declarator_fault, with_declarators, kept_statement, statement_faults, kept_item, item_faults, kept_items, faults_of_items}
 
 pub trees_all : (f : Tree → List Seen) (ts : List Tree) → (answer_of (flat_map f ts)).trees ≡ flat_map (λ t. (answer_of (f t)).trees) ts
 trees_all f [] = refl
@@ -91,3 +92,22 @@ pub with_declarators_some : (statement : Tree) (ds : List Tree) → (ds ≡ [] �
     with_declarators statement ds ≡ var_decl (VarDecl-span statement) (VarDecl-ctxt statement) (VarDecl-kind statement) (VarDecl-declare statement) (list ds) ∷ []
 with_declarators_some statement [] n = absurd (n refl)
 with_declarators_some statement (d ∷ ds) n = refl
+
+-- ---- items
+
+pub kept_items_is : (around : Surroundings) (body : Tree) → kept_items around body ≡ flat_map (kept_item around) (parts body)
+unfolding kept_items kept_item
+kept_items_is around body = trees_all (item_seen around) (parts body)
+
+pub faults_of_items_is : (around : Surroundings) (body : Tree) → faults_of_items around body ≡ flat_map (item_faults around) (parts body)
+unfolding faults_of_items item_faults
+faults_of_items_is around body = faults_all (item_seen around) (parts body)
+
+pub skeleton_of_is : (around : Surroundings) (program : Tree) →
+    skeleton_of around program ≡ module' (Module-span program) (list (kept_items around (Module-body program))) (Module-shebang program)
+unfolding kept_items
+skeleton_of_is around program = refl
+
+pub faults_of_is : (around : Surroundings) (program : Tree) → faults_of around program ≡ faults_of_items around (Module-body program)
+unfolding faults_of_items
+faults_of_is around program = refl

@@ -1,2 +1,4 @@
 pub mod Fused
 pub mod ByKind
+pub mod Diagnosed
+pub mod Grammatical

@@ -1,8 +1,9 @@
 -- What the parts of a transform keep: the answer to what is seen of each part of a module.
 use Rattle.std.specs.Prelude.{Option, Some, None, List, [], ◌∷◌}
+use Rattle.std.specs.List.{flat_map}
 use Rattle.fast_check_syntax.specs.declared.source.SourceRange.{SourceRange}
 use Rattle.fast_check_syntax.specs.declared.tree.Tree.{Tree}
-use Rattle.fast_check_syntax.specs.Shape.{list}
+use Rattle.fast_check_syntax.specs.Shape.{list, parts}
 use Rattle.fast_check_program_forms.specs.ModuleDecls.{ExportDecl-span, export_decl}
 use Rattle.fast_check_statement_forms.specs.Declarations.{VarDecl-span, VarDecl-ctxt, VarDecl-kind, VarDecl-declare, var_decl, VarDeclarator-span, VarDeclarator-definite}
 use Rattle.fast_check_tables.specs.PublicRanges.{is_public}
@@ -10,7 +11,7 @@ use Rattle.fast_check_skeleton.specs.declared.fault.Fault.{Fault}
 use Rattle.fast_check_skeleton.specs.Surroundings.{Surroundings}
 use Rattle.fast_check_skeleton.specs.Visible.{declared_ident, public_declarator, public_declarators, decl_seen, item_seen, statement_seen}
 use Rattle.fast_check_skeleton.specs.Skeleton.{answer_of, typed_declarator}
-use Rattle.fast_check_transform.specs.declared.declarations.Asked.{Asked}
+use Rattle.fast_check_transform.specs.declared.asked.Asked.{Asked}
 
 -- what is asked beside the tree
 abbrev pub Asked-around : Asked → Surroundings
@@ -69,3 +70,10 @@ kept_item around item = (answer_of (item_seen around item)).trees
 
 unfoldable pub item_faults : Surroundings → Tree → List Fault
 item_faults around item = (answer_of (item_seen around item)).faults
+
+-- of the items of a module
+unfoldable pub kept_items : Surroundings → Tree → List Tree
+kept_items around body = (answer_of (flat_map (item_seen around) (parts body))).trees
+
+unfoldable pub faults_of_items : Surroundings → Tree → List Fault
+faults_of_items around body = (answer_of (flat_map (item_seen around) (parts body))).faults

@@ -5,20 +5,13 @@ ghost use Rattle.fast_check_skeleton.specs.Skeleton.{answer_to};
 ghost use Rattle.fast_check_skeleton.specs.Visible.{declarator_seen, is_ambient};
 ghost use Rattle.fast_check_transform.specs.Kept.{Asked-around, as_list, retyped, kept_declarators, declarator_faults, kept_statement, statement_faults};
 
+use crate::asked::Asked;
 use fast_check_program_forms::{BindingIdent, Ident};
 use fast_check_skeleton::{Fault, FaultKind};
 use fast_check_statement_forms::{VarDecl, VarDeclarator};
-use fast_check_syntax::{Items, Part, SourceRange, Tree, Word};
-use fast_check_tables::ModulePublicRanges;
+use fast_check_syntax::{Items, Part, Tree, Word};
 use fast_check_tree::helpers::{DeclMutabilityKind, maybe_lit_to_ts_type, never_value, type_ann};
 use std::alloc::{AllocError, Global};
-
-/// What the transform asks beside the tree.
-#[derive(Clone, Copy)]
-pub struct Asked<'a> {
-    pub public_ranges: &'a ModulePublicRanges,
-    pub is_declaration_file: bool,
-}
 
 /// Whether what a statement of this kind declares keeps its value.
 fn mutability_of(kind: Part<'_>) -> DeclMutabilityKind

@@ -2,7 +2,8 @@ ghost use Rattle.std.specs.Prelude.{◌≡◌, IfOk, ◌++◌};
 ghost use Rattle.fast_check_syntax.specs.Part.{seen};
 ghost use Rattle.fast_check_transform.specs.Kept.{Asked-around, as_list, kept_decl, decl_faults, kept_item, item_faults};
 
-use crate::declarations::{Asked, keep_statement};
+use crate::asked::Asked;
+use crate::declarations::keep_statement;
 use fast_check_program_forms::ExportDecl;
 use fast_check_skeleton::Fault;
 use fast_check_syntax::{Kind, Part, Tree};

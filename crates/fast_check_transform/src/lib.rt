@@ -1,5 +1,11 @@
 //! The transform of a module to its skeleton.
 #![tactic(auto)]
 
+mod asked;
+mod carried;
 mod declarations;
 mod items;
+mod transformer;
+
+pub use carried::is_carried;
+pub use transformer::{FastCheckModule, ModuleInfo, StaticSource, TransformOptions, transform};

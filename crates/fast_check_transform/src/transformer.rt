@@ -1,0 +1,188 @@
+ghost use Rattle.std.specs.Prelude.{◌≡◌, ◌↔◌, ◌++◌, [], IfOk, IsOk, IfErr};
+ghost use Rattle.fast_check_syntax.specs.Part.{seen};
+ghost use Rattle.fast_check_skeleton.specs.Grammar.{IsSkeleton};
+ghost use Rattle.fast_check_skeleton.specs.Skeleton.{skeleton_of, faults_of};
+ghost use Rattle.fast_check_tables.specs.MediaType.{is_declaration};
+ghost use Rattle.fast_check_transform.specs.Kept.{Asked-around, kept_items, faults_of_items};
+ghost use Rattle.fast_check_transform.specs.Transform.{IsCarried, skeleton, faults, told, IsDiagnosticOf, AreDiagnosticsOf};
+
+use crate::asked::Asked;
+use crate::items::keep_item;
+use fast_check_comments::Comments;
+use fast_check_names::WorkspaceMember;
+use fast_check_program_forms::Module;
+use fast_check_skeleton::{Fault, FaultKind};
+use fast_check_syntax::{Atom, Items, Part, SourceRange, Tree};
+use fast_check_tables::{
+    EsModuleInfo, FastCheckDiagnostic, FastCheckDiagnosticRange, ModuleGraph, ModulePublicRanges,
+};
+use std::alloc::{AllocError, Global};
+
+/// How modules are transformed.
+#[derive(Drop)]
+pub struct TransformOptions {
+    /// The packages of the workspace.
+    pub workspace_members: Vec<WorkspaceMember>,
+    /// Whether the first fault of a module is answered alone.
+    pub should_error_on_first_diagnostic: bool,
+}
+
+/// An import or export of a skeleton that names another module.
+#[derive(Debug, Drop)]
+pub struct StaticSource {
+    /// The text that names the other module.
+    pub specifier: Atom,
+    /// The range of that text.
+    pub range: SourceRange,
+    pub is_export: bool,
+    /// Whether only types are taken from it.
+    pub type_only: bool,
+}
+
+/// What a skeleton depends on.
+#[derive(Debug, Drop)]
+pub struct ModuleInfo {
+    /// Its imports, and its exports from other modules, in order.
+    pub sources: Vec<StaticSource>,
+}
+
+/// The skeleton of a module.
+#[derive(Drop)]
+pub struct FastCheckModule {
+    pub module_info: ModuleInfo,
+    /// A node of the kind `Module`.
+    pub program: Tree,
+    /// The comments that stay.
+    pub comments: Comments,
+}
+
+/// The skeleton of a module: what is public of it, with a type in place of each value. Where a public declaration shows
+/// no type, the answer is the list of its faults in reading order, or the first of them alone under the option.
+///
+/// This is `transform` of deno_graph's fast check. An `Err` outside is want of memory. The module has to be one that
+/// `is_carried` takes.
+pub fn transform(
+    alloc: Global,
+    graph: &ModuleGraph,
+    es_module_info: &EsModuleInfo,
+    public_ranges: &ModulePublicRanges,
+    options: &TransformOptions,
+) -> Result<Result<FastCheckModule, Vec<FastCheckDiagnostic>>, AllocError>
+    requires { IsCarried es_module_info.now }
+    ensures ok { IfOk result (λ answer. IsOk answer ↔ (faults es_module_info.now public_ranges.now ≡ [])) }
+    ensures skeleton { IfOk result (λ answer. IfOk answer (λ made. made.program ≡ skeleton es_module_info.now public_ranges.now)) }
+    ensures grammar { IfOk result (λ answer. IfOk answer (λ made. IsSkeleton (is_declaration es_module_info.now.source.media_type) made.program)) }
+    ensures comments { IfOk result (λ answer. IfOk answer (λ made. made.comments ≡ es_module_info.now.source.comments)) }
+    ensures sources { IfOk result (λ answer. IfOk answer (λ made. made.module_info.sources.items ≡ [])) }
+    ensures faults { IfOk result (λ answer. IfErr answer (λ diagnostics.
+        AreDiagnosticsOf es_module_info.now (told options.now.should_error_on_first_diagnostic (faults es_module_info.now public_ranges.now)) diagnostics.items)) }
+{
+    let _ = graph;
+    let asked = Asked::of(es_module_info, public_ranges);
+    let source = es_module_info.source();
+    let mut faults = Vec::new(alloc);
+    let program = keep_program(alloc, asked, source.program.read(), &mut faults)?;
+    if !faults.is_empty() {
+        let first_alone = options.should_error_on_first_diagnostic;
+        return Ok(Err(tell(alloc, es_module_info, faults, first_alone)?));
+    }
+    Ok(Ok(FastCheckModule {
+        module_info: ModuleInfo {
+            sources: Vec::new(alloc),
+        },
+        program,
+        comments: source.comments.clone()?,
+    }))
+}
+
+/// A module with what is public of its items.
+#[tactic(auto, using(crate::proofs::Fused::skeleton_of_is, crate::proofs::Fused::faults_of_is))]
+fn keep_program(
+    alloc: Global,
+    asked: Asked<'_>,
+    program: Part<'_>,
+    faults: &mut Vec<Fault>,
+) -> Result<Tree, AllocError>
+    ensures kept { IfOk result (λ tree. tree ≡ skeleton_of (Asked-around asked.entry) (seen program.entry)) }
+    ensures faults { IfOk result (λ _. faults.new.items ≡ faults.old.items ++ faults_of (Asked-around asked.entry) (seen program.entry)) }
+{
+    let Module {
+        span,
+        body,
+        shebang,
+    } = Module::of(program);
+    let items = keep_items(alloc, asked, body, faults)?;
+    let module = Module {
+        span,
+        body: Tree::list(items),
+        shebang: shebang.to_tree(alloc)?,
+    };
+    module.into_tree(alloc)
+}
+
+/// What is public of the items of a module.
+#[tactic(auto, using(crate::proofs::Fused::kept_items_is, crate::proofs::Fused::faults_of_items_is))]
+fn keep_items(
+    alloc: Global,
+    asked: Asked<'_>,
+    body: Part<'_>,
+    faults: &mut Vec<Fault>,
+) -> Result<Items<Tree>, AllocError>
+    ensures kept { IfOk result (λ items. items ≡ kept_items (Asked-around asked.entry) (seen body.entry)) }
+    ensures faults { IfOk result (λ _. faults.new.items ≡ faults.old.items ++ faults_of_items (Asked-around asked.entry) (seen body.entry)) }
+{
+    let mut items = Items::new(alloc);
+    for item in body.parts() {
+        if let Some(tree) = keep_item(alloc, asked, item.read(), faults)? {
+            items.push(tree)?;
+        }
+    }
+    Ok(items)
+}
+
+/// A fault of a module as a diagnostic.
+fn diagnostic_of(
+    es_module_info: &EsModuleInfo,
+    fault: Fault,
+) -> Result<FastCheckDiagnostic, AllocError>
+    ensures { IfOk result (IsDiagnosticOf es_module_info.now fault) }
+{
+    let range = FastCheckDiagnosticRange {
+        specifier: es_module_info.specifier().clone()?,
+        range: fault.range,
+        text_info: es_module_info.source().text.clone()?,
+    };
+    match fault.kind {
+        FaultKind::MissingExplicitType => Ok(FastCheckDiagnostic::MissingExplicitType { range }),
+    }
+}
+
+/// The faults of a module as diagnostics.
+fn diagnostics_of(
+    alloc: Global,
+    es_module_info: &EsModuleInfo,
+    faults: &[Fault],
+) -> Result<Vec<FastCheckDiagnostic>, AllocError>
+    ensures { IfOk result (λ diagnostics. AreDiagnosticsOf es_module_info.now faults.now diagnostics.items) }
+{
+    let mut diagnostics = Vec::new(alloc);
+    for fault in faults {
+        diagnostics.push(diagnostic_of(es_module_info, *fault)?)?;
+    }
+    Ok(diagnostics)
+}
+
+/// The faults of a module as diagnostics, or the first of them alone.
+fn tell(
+    alloc: Global,
+    es_module_info: &EsModuleInfo,
+    mut faults: Vec<Fault>,
+    first_alone: bool,
+) -> Result<Vec<FastCheckDiagnostic>, AllocError>
+    ensures { IfOk result (λ diagnostics. AreDiagnosticsOf es_module_info.now (told first_alone faults.items) diagnostics.items) }
+{
+    if first_alone {
+        faults.truncate(1);
+    }
+    diagnostics_of(alloc, es_module_info, faults.as_slice())
+}
