@@ -1,0 +1,3 @@
+pub mod Package
+pub mod Names
+pub mod Imports

@@ -1,0 +1,7 @@
+//! Which names of a module are demanded: name sets, joined and compared.
+
+mod imported_exports;
+mod named_subset;
+
+pub use crate::lattice::imported_exports::ImportedExports;
+pub use crate::lattice::named_subset::{Exports, NamedSubset};

@@ -1,0 +1,92 @@
+//! What is demanded of a module.
+
+ghost use Rattle.std.specs.Prelude.{◌≡◌, ◌∷◌, [], IfOk, OnErr, string_bytes};
+ghost use Rattle.fast_check_names.specs.Names.{Touched, paths, whole, IsSame};
+ghost use Rattle.fast_check_names.specs.Imports.{default_name, imported, IsAdded, IsCopy, IsDepName, IsDefaultAlone};
+
+use crate::lattice::named_subset::NamedSubset;
+use crate::package::FileDepName;
+use std::alloc::{AllocError, Global};
+
+/// What is demanded of a module: all names but `default`, all names, or a set of names.
+#[derive(Debug, Drop)]
+pub enum ImportedExports {
+    /// All names but `default`.
+    Star,
+    /// All names.
+    StarWithDefault,
+    /// The names of the set.
+    Subset(NamedSubset),
+}
+
+impl Clone for ImportedExports {
+    ghost is_clone = { IsCopy };
+
+    fn clone(&self) -> Result<ImportedExports, AllocError> {
+        match self {
+            ImportedExports::Star => Ok(ImportedExports::Star),
+            ImportedExports::StarWithDefault => Ok(ImportedExports::StarWithDefault),
+            ImportedExports::Subset(names) => Ok(ImportedExports::Subset(names.clone()?)),
+        }
+    }
+}
+
+/// The set of `default` alone, whole.
+fn default_alone(alloc: Global) -> Result<NamedSubset, AllocError>
+    ensures { IfOk result (λ subset. IsSame (paths subset) (whole default_name [])) }
+{
+    let mut names = NamedSubset::default(alloc);
+    names.add(alloc, String::from_str(alloc, "default")?)?;
+    Ok(names)
+}
+
+impl ImportedExports {
+    /// All names but `default`.
+    pub fn star() -> ImportedExports
+        ensures { result ≡ ImportedExports.Star }
+    {
+        ImportedExports::Star
+    }
+
+    /// All names.
+    pub fn star_with_default() -> ImportedExports
+        ensures { result ≡ ImportedExports.StarWithDefault }
+    {
+        ImportedExports::StarWithDefault
+    }
+
+    /// The names of a set.
+    pub fn subset(named: NamedSubset) -> ImportedExports
+        ensures { result ≡ ImportedExports.Subset named }
+    {
+        ImportedExports::Subset(named)
+    }
+
+    /// What a declaration that refers to a file demands of it.
+    pub fn from_file_dep_name(
+        alloc: Global,
+        dep_name: &FileDepName,
+    ) -> Result<ImportedExports, AllocError>
+        ensures { IfOk result (IsDepName dep_name.now) }
+    {
+        match dep_name {
+            FileDepName::Star => Ok(ImportedExports::Star),
+            FileDepName::Name(name) => {
+                let mut names = NamedSubset::default(alloc);
+                names.add(alloc, String::from_str(alloc, name.as_str())?)?;
+                Ok(ImportedExports::Subset(names))
+            }
+        }
+    }
+
+    /// Whether `default` or something below it is demanded.
+    fn names_default(&self) -> bool
+        ensures { result ≡ imported self.now Touched (default_name ∷ []) }
+    {
+        match self {
+            ImportedExports::Star => false,
+            ImportedExports::StarWithDefault => true,
+            ImportedExports::Subset(names) => names.contains_name("default"),
+        }
+    }
+}

@@ -1,0 +1,357 @@
+//! Sets of demanded names.
+
+ghost use Rattle.std.specs.Prelude.{◌≡◌, ◌∷◌, [], ◌↔◌, true, false, Some, None, IfOk, OnOk, OnErr, IsTrue, string_bytes, option_copied};
+ghost use Rattle.fast_check_names.specs.Names.{Name, Path, Part, Touched, Puts, paths, paths_below, paths_at, nothing, named, subset_of, whole, whole_path, whole_below, path_of, IsJoin, IsJoined, IsListed, IsJoinBelow, IsJoinWhereHeld, IsSame, IsDifference, IsDifferenceBelow};
+ghost use Rattle.std.specs.BTreeMap.{get_by_text, IsOrdered};
+ghost use Rattle.std.specs.String.{string_cmp};
+
+use std::alloc::{AllocError, Global};
+use std::collections::BTreeMap;
+use std::default::Emptied;
+
+/// What is demanded below a name: all of it, or a subset, which may be empty.
+#[derive(Debug, PartialEq, Eq, Drop)]
+#[cycle(names)]
+pub enum Exports {
+    All,
+    Subset(NamedSubset),
+}
+
+/// A set of names, each with what is demanded below it.
+#[derive(Debug, PartialEq, Eq, Drop)]
+#[cycle(names)]
+pub struct NamedSubset {
+    names: BTreeMap<String, Exports>,
+}
+
+/// Puts what is demanded below a name into the map.
+fn put(
+    names: &mut BTreeMap<String, Exports>,
+    name: &String,
+    exports: Exports,
+) -> Result<(), AllocError>
+    ensures { OnOk result (Puts (string_bytes name.now) exports names.old names.new) }
+{
+    names.insert(name.clone()?, exports)?;
+    Ok(())
+}
+
+/// The entries of a map, in its order.
+fn entries_of(
+    alloc: Global,
+    names: BTreeMap<String, Exports>,
+) -> Result<Vec<(String, Exports)>, AllocError>
+    ensures entries { IfOk result (λ entries. entries.items ≡ names.entries) }
+    ensures ordered { IsOrdered string_cmp names }
+{
+    names.into_iter().collect(alloc)
+}
+
+impl Clone for Exports {
+    ghost is_clone = { λ source copy. IsSame (paths_below copy) (paths_below source) };
+
+    fn clone(&self) -> Result<Exports, AllocError> {
+        copy_exports(self)
+    }
+}
+
+impl Clone for NamedSubset {
+    ghost is_clone = { λ source copy. IsSame (paths copy) (paths source) };
+
+    fn clone(&self) -> Result<NamedSubset, AllocError> {
+        copy_names(self)
+    }
+}
+
+#[cycle(copy)]
+fn copy_exports(exports: &Exports) -> Result<Exports, AllocError>
+    ensures { IfOk result (λ copy. IsSame (paths_below copy) (paths_below exports.now)) }
+{
+    match exports {
+        Exports::All => Ok(Exports::All),
+        Exports::Subset(names) => Ok(Exports::Subset(copy_names(names)?)),
+    }
+}
+
+#[cycle(copy)]
+fn copy_names(subset: &NamedSubset) -> Result<NamedSubset, AllocError>
+    ensures { IfOk result (λ copy. IsSame (paths copy) (paths subset.now)) }
+{
+    let mut names = BTreeMap::emptied(&subset.names)?;
+    for (name, exports) in &subset.names {
+        let below = copy_exports(exports)?;
+        put(&mut names, name, below)?;
+    }
+    Ok(NamedSubset { names })
+}
+
+impl NamedSubset {
+    /// The set without names.
+    pub fn default(alloc: Global) -> Self
+        ensures { IsSame (paths result) nothing }
+    {
+        NamedSubset {
+            names: BTreeMap::new(alloc),
+        }
+    }
+
+    /// Whether no name is demanded.
+    pub fn is_empty(&self) -> bool
+        ensures none { IsTrue result → IsSame (paths self.now) nothing }
+        ensures some { result ≡ false → (n : Name) × IsTrue (paths self.now Touched (n ∷ [])) }
+    {
+        self.names.is_empty()
+    }
+
+    /// Whether something is demanded at this first name.
+    pub fn contains_name(&self, name: &str) -> bool
+        ensures { result ≡ paths self.now Touched (name.now ∷ []) }
+    {
+        self.names.contains_key(name)
+    }
+}
+
+/// What `new` has beyond `old` below one name, None where that is nothing.
+#[cycle(difference)]
+fn difference_below(
+    alloc: Global,
+    old: &Exports,
+    new: &Exports,
+) -> Result<Option<Exports>, AllocError>
+    ensures { IfOk result (IsDifferenceBelow (Some old.now) (Some new.now)) }
+{
+    match (old, new) {
+        (Exports::All, _) => Ok(None),
+        (Exports::Subset(_), Exports::All) => Ok(Some(Exports::All)),
+        (Exports::Subset(old), Exports::Subset(new)) => {
+            let rest = difference(alloc, old, new)?;
+            if rest.is_empty() {
+                return Ok(None);
+            }
+            Ok(Some(Exports::Subset(rest)))
+        }
+    }
+}
+
+/// What `new` has beyond `old`.
+#[cycle(difference)]
+fn difference(
+    alloc: Global,
+    old: &NamedSubset,
+    new: &NamedSubset,
+) -> Result<NamedSubset, AllocError>
+    ensures { IfOk result (λ answer. IsDifference (paths old.now) (paths new.now) (paths answer)) }
+{
+    let mut names = BTreeMap::new(alloc);
+    for (name, exports) in &new.names {
+        match old.names.get(name.as_str()) {
+            None => {
+                put(&mut names, name, exports.clone()?)?;
+            }
+            Some(below) => {
+                if let Some(rest) = difference_below(alloc, below, exports)? {
+                    put(&mut names, name, rest)?;
+                }
+            }
+        }
+    }
+    Ok(NamedSubset { names })
+}
+
+/// What is demanded below one name by either.
+#[cycle(join)]
+fn join_below(alloc: Global, old: &Exports, new: &Exports) -> Result<Exports, AllocError>
+    ensures { IfOk result (λ joined. IsJoinBelow (Some old.now) (Some new.now) (Some joined)) }
+{
+    match (old, new) {
+        (Exports::All, _) => Ok(Exports::All),
+        (Exports::Subset(_), Exports::All) => Ok(Exports::All),
+        (Exports::Subset(old), Exports::Subset(new)) => Ok(Exports::Subset(join(alloc, old, new)?)),
+    }
+}
+
+/// The names of both.
+#[cycle(join)]
+fn join(alloc: Global, old: &NamedSubset, new: &NamedSubset) -> Result<NamedSubset, AllocError>
+    ensures { IfOk result (λ joined. IsJoin (paths old.now) (paths new.now) (paths joined)) }
+{
+    let mut names = BTreeMap::new(alloc);
+    for (name, exports) in &old.names {
+        match new.names.get(name.as_str()) {
+            None => {
+                put(&mut names, name, exports.clone()?)?;
+            }
+            Some(more) => {
+                let below = join_below(alloc, exports, more)?;
+                put(&mut names, name, below)?;
+            }
+        }
+    }
+    put_absent(&mut names, &old.names, &new.names)?;
+    Ok(NamedSubset { names })
+}
+
+/// Puts the names of `new` that `old` lacks.
+fn put_absent(
+    names: &mut BTreeMap<String, Exports>,
+    old: &BTreeMap<String, Exports>,
+    new: &BTreeMap<String, Exports>,
+) -> Result<(), AllocError>
+    requires { (n : Name) → IsJoinWhereHeld (get_by_text old.now n) (get_by_text new.now n) (get_by_text names.old n) }
+    ensures { OnOk result ((n : Name) → IsJoinBelow (get_by_text old.now n) (get_by_text new.now n) (get_by_text names.new n)) }
+{
+    for (name, exports) in new {
+        if !old.contains_key(name.as_str()) {
+            put(names, name, exports.clone()?)?;
+        }
+    }
+    Ok(())
+}
+
+/// The set of one name, and what is demanded below it.
+fn single(alloc: Global, name: &String, exports: Exports) -> Result<NamedSubset, AllocError>
+    ensures { IfOk result (λ subset. IsSame (paths subset) (named (string_bytes name.now) (paths_below exports))) }
+{
+    let mut names = BTreeMap::new(alloc);
+    put(&mut names, name, exports)?;
+    Ok(NamedSubset { names })
+}
+
+/// What a path demands below a name: all of it where the path is empty.
+fn path_below(alloc: Global, parts: &[String]) -> Result<Exports, AllocError>
+    ensures { IfOk result (λ exports. IsSame (paths_below exports) (whole_below (path_of parts.now))) }
+{
+    let Some((first, rest)) = parts.split_first() else {
+        return Ok(Exports::All);
+    };
+    let below = path_below(alloc, rest)?;
+    Ok(Exports::Subset(single(alloc, first, below)?))
+}
+
+impl NamedSubset {
+    /// The first names, each once, with what is demanded below it, in no promised order. Where memory is wanting the set is dropped.
+    pub fn into_names(self, alloc: Global) -> Result<Vec<(String, Exports)>, AllocError>
+        ensures { IfOk result (λ names. IsListed (paths self) names.items) }
+    {
+        entries_of(alloc, self.names)
+    }
+
+    /// The set of one path, demanded whole; of no parts the empty set.
+    pub fn from_parts(alloc: Global, parts: &[String]) -> Result<Self, AllocError>
+        ensures { IfOk result (λ subset. IsSame (paths subset) (whole_path (path_of parts.now))) }
+    {
+        let Some((first, rest)) = parts.split_first() else {
+            return Ok(NamedSubset::default(alloc));
+        };
+        single(alloc, first, path_below(alloc, rest)?)
+    }
+
+    /// Demands a name whole.
+    pub fn add(&mut self, alloc: Global, export: String) -> Result<(), AllocError>
+        ensures joined { OnOk result (IsJoined (paths self.old) (whole (string_bytes export) []) (paths self.new)) }
+        ensures err { OnErr result (IsSame (paths self.new) (paths self.old)) }
+    {
+        self.names.insert(export, Exports::All)?;
+        Ok(())
+    }
+
+    /// Demands a path whole: the name, and below it the parts of `qualified`, each below the one before.
+    #[cycle(qualified)]
+    pub fn add_qualified(
+        &mut self,
+        alloc: Global,
+        export_name: String,
+        qualified: &[String],
+    ) -> Result<(), AllocError>
+        ensures joined { OnOk result (IsJoined (paths self.old) (whole (string_bytes export_name) (path_of qualified.now)) (paths self.new)) }
+        ensures err { OnErr result (IsSame (paths self.new) (paths self.old)) }
+    {
+        let Some((next, rest)) = qualified.split_first() else {
+            return self.add(alloc, export_name);
+        };
+        if let Some(below) = self.names.get_mut(export_name.as_str()) {
+            return below.add_qualified(alloc, next.as_str(), rest);
+        }
+        let below = path_below(alloc, qualified)?;
+        self.names.insert(export_name, below)?;
+        Ok(())
+    }
+
+    /// Demands what `exports` says below a name.
+    pub fn add_named(
+        &mut self,
+        alloc: Global,
+        export: String,
+        exports: Exports,
+    ) -> Result<(), AllocError>
+        ensures joined { OnOk result (IsJoined (paths self.old) (named (string_bytes export) (paths_below exports)) (paths self.new)) }
+        ensures err { OnErr result (IsSame (paths self.new) (paths self.old)) }
+    {
+        if let Some(below) = self.names.get_mut(export.as_str()) {
+            let _ = below.extend(alloc, exports)?;
+            return Ok(());
+        }
+        self.names.insert(export, exports)?;
+        Ok(())
+    }
+
+    /// Adds the names of `new_subset`, and answers those that were lacking.
+    pub fn extend(
+        &mut self,
+        alloc: Global,
+        new_subset: NamedSubset,
+    ) -> Result<NamedSubset, AllocError>
+        ensures joined { OnOk result (IsJoined (paths self.old) (paths new_subset) (paths self.new)) }
+        ensures difference { IfOk result (λ answer. IsDifference (paths self.old) (paths new_subset) (paths answer)) }
+        ensures err { OnErr result (self.new ≡ self.old) }
+    {
+        let difference = difference(alloc, self, &new_subset)?;
+        let joined = join(alloc, self, &new_subset)?;
+        *self = joined;
+        Ok(difference)
+    }
+}
+
+impl Exports {
+    /// A subset without names.
+    pub fn subset(alloc: Global) -> Self
+        ensures { IsSame (paths_below result) (subset_of nothing) }
+    {
+        Exports::Subset(NamedSubset::default(alloc))
+    }
+
+    /// Demands a path whole below this name, if the name itself is not demanded whole.
+    #[cycle(qualified)]
+    pub fn add_qualified(
+        &mut self,
+        alloc: Global,
+        export_name: &str,
+        qualified: &[String],
+    ) -> Result<(), AllocError>
+        ensures joined { OnOk result (IsJoined (paths_below self.old) (whole_below (export_name.now ∷ path_of qualified.now)) (paths_below self.new)) }
+        ensures err { OnErr result (IsSame (paths_below self.new) (paths_below self.old)) }
+    {
+        match self {
+            Exports::All => Ok(()),
+            Exports::Subset(names) => {
+                names.add_qualified(alloc, String::from_str(alloc, export_name)?, qualified)
+            }
+        }
+    }
+
+    /// Adds what `new_named` demands, and answers what was lacking, None where nothing was.
+    pub fn extend(
+        &mut self,
+        alloc: Global,
+        new_named: Exports,
+    ) -> Result<Option<Exports>, AllocError>
+        ensures joined { OnOk result (IsJoined (paths_below self.old) (paths_below new_named) (paths_below self.new)) }
+        ensures difference { IfOk result (IsDifferenceBelow (Some self.old) (Some new_named)) }
+        ensures err { OnErr result (self.new ≡ self.old) }
+    {
+        let difference = difference_below(alloc, self, &new_named)?;
+        let joined = join_below(alloc, self, &new_named)?;
+        *self = joined;
+        Ok(difference)
+    }
+}

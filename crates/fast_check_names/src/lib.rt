@@ -1,0 +1,10 @@
+//! The names that a public surface is asked for, and the packages that ask.
+//!
+//! `package` has packages and workspace members, and `lattice` the sets of demanded names.
+#![tactic(auto)]
+
+pub mod lattice;
+pub mod package;
+
+pub use crate::lattice::{Exports, ImportedExports, NamedSubset};
+pub use crate::package::{FileDepName, PackageNv, WorkspaceMember};
