@@ -11,5 +11,8 @@ pub use diagnostics::{
     Diagnostic, DiagnosticLevel, DiagnosticLocation, DiagnosticSnippet, FastCheckDiagnostic,
     FastCheckDiagnosticRange,
 };
+pub use fast_check_names::{
+    Exports, FileDepName, ImportedExports, NamedSubset, PackageNv, WorkspaceMember,
+};
 pub use public_ranges::ModulePublicRanges;
 pub use tables::{EsModuleInfo, MediaType, ModuleGraph, ModuleSpecifier, ParsedSource};
