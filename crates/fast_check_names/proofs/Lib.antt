@@ -8,3 +8,4 @@ pub mod Listed
 pub mod Shapes
 pub mod Forms
 pub mod Added
+pub mod Traced
