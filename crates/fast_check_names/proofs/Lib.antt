@@ -5,3 +5,7 @@ pub mod Join
 pub mod Difference
 pub mod Writes
 pub mod Listed
+pub mod Shapes
+pub mod Forms
+pub mod Added
+pub mod Traced

@@ -1,5 +1,5 @@
 -- The names of a set as a list.
-use Rattle.std.proofs.Common.{◌≡◌, ◌∙◌, sym, ap, refl, subst, Bool, true, false, cond, List, ℕ, [], ◌∷◌, map, Option, Some, None, String, string_bytes, ◌≢◌, Result, Ok, Err}
+use Rattle.std.proofs.Common.{◌≡◌, ◌∙◌, sym, ap, refl, subst, Bool, true, false, ◌&&◌, not, cond, List, ℕ, [], ◌∷◌, map, Option, Some, None, String, string_bytes, ◌≢◌, Result, Ok, Err}
 use Rattle.std.specs.Result.{IfOk}
 use Rattle.std.specs.Map.{lookup}
 use Rattle.std.specs.BTreeMap as tree
@@ -18,9 +18,10 @@ use Rattle.std.proofs.lemmas.Map.Text.{is_eq-slice_cmp}
 use Rattle.std.proofs.lemmas.Map.Keys.{IsDistinct-from_sorted}
 use Rattle.std.proofs.lemmas.Map.Made.{AllPairs-from_IsDistinct}
 use Rattle.fast_check_names.specs.declared.lattice.named_subset.Exports.{Exports}
+use Rattle.fast_check_names.specs.declared.lattice.named_subset.Exports.TheVariants.{All, Subset}
 use Rattle.fast_check_names.specs.declared.lattice.named_subset.NamedSubset.{NamedSubset, out-NamedSubset}
-use Rattle.fast_check_names.specs.Names.{Name, Path, Part, paths, paths_at, listed_at, IsListed}
-use Rattle.fast_check_names.proofs.Paths.{paths_opened}
+use Rattle.fast_check_names.specs.Names.{Name, Path, Part, Touched, Covered, has_subset, paths, paths_below, paths_at, listed_at, IsListed}
+use Rattle.fast_check_names.proofs.Paths.{paths_opened, below_all, below_subset_nil}
 use Rattle.fast_check_names.proofs.Build.{Entry}
 
 -- a look-up by the order finds what one by equality finds
@@ -55,3 +56,20 @@ listed s names e ordered = record {
 pub if_ok_from : {T E : Type 0} {P Q : T → Type 0} (r : Result T E) → ((x : T) → P x → Q x) → IfOk r P → IfOk r Q
 if_ok_from (Ok x) f p = f x p
 if_ok_from (Err e) f p = tt
+
+-- whether what stands under a name is a part of it
+abbrev pub is_part : Option Exports → Bool
+is_part o = paths_at o Touched [] && not (paths_at o Covered [])
+
+pub part_of_none : false ≡ is_part None
+part_of_none = refl
+
+pub part_of_all : false ≡ is_part (Some All)
+part_of_all = sym (ap (λ b. paths_below All Touched [] && not b) (below_all Covered []) ∙ ap (λ b. b && false) (below_all Touched []))
+
+pub part_of_subset : (s : NamedSubset) → true ≡ is_part (Some (Subset s))
+part_of_subset s = sym (ap (λ b. paths_below (Subset s) Touched [] && not b) (below_subset_nil s Covered) ∙ ap (λ b. b && true) (below_subset_nil s Touched))
+
+pub part_found : (s : NamedSubset) (n : Name) (o : Option Exports) → o ≡ get_by_text (out-NamedSubset s).names n → is_part o ≡ has_subset (paths s) (n ∷ [])
+part_found s n o e =
+    ap is_part e ∙ sym (ap (λ b. b && not (paths s Covered (n ∷ []))) (paths_opened s n Touched []) ∙ ap (λ b. paths_at (get_by_text (out-NamedSubset s).names n) Touched [] && not b) (paths_opened s n Covered []))

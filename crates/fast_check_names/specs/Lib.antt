@@ -1,3 +1,4 @@
 pub mod Package
 pub mod Names
 pub mod Imports
+pub mod Traces

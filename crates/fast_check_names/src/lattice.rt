@@ -2,6 +2,8 @@
 
 mod imported_exports;
 mod named_subset;
+mod traced_modules;
 
 pub use crate::lattice::imported_exports::ImportedExports;
 pub use crate::lattice::named_subset::{Exports, NamedSubset};
+pub use crate::lattice::traced_modules::{HandledExports, PendingTrace, PendingTraces};

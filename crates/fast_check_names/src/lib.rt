@@ -6,5 +6,7 @@
 pub mod lattice;
 pub mod package;
 
-pub use crate::lattice::{Exports, ImportedExports, NamedSubset};
+pub use crate::lattice::{
+    Exports, HandledExports, ImportedExports, NamedSubset, PendingTrace, PendingTraces,
+};
 pub use crate::package::{FileDepName, PackageNv, WorkspaceMember};

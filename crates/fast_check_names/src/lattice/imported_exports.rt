@@ -1,6 +1,6 @@
 //! What is demanded of a module.
 
-ghost use Rattle.std.specs.Prelude.{◌≡◌, ◌∷◌, [], IfOk, OnErr, string_bytes};
+ghost use Rattle.std.specs.Prelude.{◌≡◌, Some, ◌∷◌, [], IfOk, OnErr, string_bytes};
 ghost use Rattle.fast_check_names.specs.Names.{Touched, paths, whole, IsSame};
 ghost use Rattle.fast_check_names.specs.Imports.{default_name, imported, IsAdded, IsCopy, IsDepName, IsDefaultAlone};
 
@@ -87,6 +87,65 @@ impl ImportedExports {
             ImportedExports::Star => false,
             ImportedExports::StarWithDefault => true,
             ImportedExports::Subset(names) => names.contains_name("default"),
+        }
+    }
+
+    /// What a set of names becomes when all names but `default` are added, and what was not demanded before.
+    fn star_beside(names: &NamedSubset) -> (ImportedExports, ImportedExports)
+        ensures { IsAdded (ImportedExports.Subset names.now) ImportedExports.Star (Some result.1) result.0 }
+    {
+        if !names.contains_name("default") {
+            return (ImportedExports::Star, ImportedExports::Star);
+        }
+        if names.has_part_of("default") {
+            return (
+                ImportedExports::StarWithDefault,
+                ImportedExports::StarWithDefault,
+            );
+        }
+        (ImportedExports::StarWithDefault, ImportedExports::Star)
+    }
+
+    /// Adds what is demanded next, and answers what was not demanded before: None where nothing is new.
+    ///
+    /// Where `default` is demanded beside all other names, the answer may stand for more than was handed in: `default` is then demanded
+    /// whole. A reader of the answers follows `default` and all names.
+    pub fn add(
+        &mut self,
+        alloc: Global,
+        exports_to_trace: ImportedExports,
+    ) -> Result<Option<ImportedExports>, AllocError>
+        ensures added { IfOk result (λ answer. IsAdded self.old exports_to_trace answer self.new) }
+        ensures err { OnErr result (self.new ≡ self.old) }
+    {
+        match self {
+            ImportedExports::StarWithDefault => Ok(None),
+            ImportedExports::Star => {
+                if !exports_to_trace.names_default() {
+                    return Ok(None);
+                }
+                let default = default_alone(alloc)?;
+                *self = ImportedExports::StarWithDefault;
+                Ok(Some(ImportedExports::Subset(default)))
+            }
+            ImportedExports::Subset(names) => match exports_to_trace {
+                ImportedExports::Subset(new_subset) => {
+                    let rest = names.extend(alloc, new_subset)?;
+                    if rest.is_empty() {
+                        return Ok(None);
+                    }
+                    Ok(Some(ImportedExports::Subset(rest)))
+                }
+                ImportedExports::StarWithDefault => {
+                    *self = ImportedExports::StarWithDefault;
+                    Ok(Some(ImportedExports::StarWithDefault))
+                }
+                ImportedExports::Star => {
+                    let (state, answer) = ImportedExports::star_beside(names);
+                    *self = state;
+                    Ok(Some(answer))
+                }
+            },
         }
     }
 }

@@ -1,7 +1,7 @@
 //! Sets of demanded names.
 
 ghost use Rattle.std.specs.Prelude.{◌≡◌, ◌∷◌, [], ◌↔◌, true, false, Some, None, IfOk, OnOk, OnErr, IsTrue, string_bytes, option_copied};
-ghost use Rattle.fast_check_names.specs.Names.{Name, Path, Part, Touched, Puts, paths, paths_below, paths_at, nothing, named, subset_of, whole, whole_path, whole_below, path_of, IsJoin, IsJoined, IsListed, IsJoinBelow, IsJoinWhereHeld, IsSame, IsDifference, IsDifferenceBelow};
+ghost use Rattle.fast_check_names.specs.Names.{Name, Path, Part, Touched, Puts, paths, paths_below, paths_at, nothing, named, subset_of, whole, whole_path, whole_below, path_of, IsJoin, IsJoined, IsListed, has_subset, IsJoinBelow, IsJoinWhereHeld, IsSame, IsDifference, IsDifferenceBelow};
 ghost use Rattle.std.specs.BTreeMap.{get_by_text, IsOrdered};
 ghost use Rattle.std.specs.String.{string_cmp};
 
@@ -229,6 +229,17 @@ fn path_below(alloc: Global, parts: &[String]) -> Result<Exports, AllocError>
 }
 
 impl NamedSubset {
+    /// Whether a part of what stands below this first name is demanded, and not all of it.
+    pub(crate) fn has_part_of(&self, name: &str) -> bool
+        ensures { result ≡ has_subset (paths self.now) (name.now ∷ []) }
+    {
+        match self.names.get(name) {
+            None => false,
+            Some(Exports::All) => false,
+            Some(Exports::Subset(_)) => true,
+        }
+    }
+
     /// The first names, each once, with what is demanded below it, in no promised order. Where memory is wanting the set is dropped.
     pub fn into_names(self, alloc: Global) -> Result<Vec<(String, Exports)>, AllocError>
         ensures { IfOk result (λ names. IsListed (paths self) names.items) }
