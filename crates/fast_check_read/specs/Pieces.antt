@@ -3,6 +3,10 @@ use Rattle.std.specs.Prelude.{ℕ, ◌^◌, List, [], ◌∷◌, Bool, false, na
 use Rattle.serde_json.specs.Data.{Num, unsigned, Data, null, boolean, number, string, array, object, Items, no_items, item}
 use Rattle.serde_json.specs.Find.{as_bool, as_number, as_str, as_u64 as number_as_u64}
 use Rattle.fast_check_syntax.specs.declared.source.SourceRange.{SourceRange}
+use Rattle.fast_check_syntax.specs.declared.kind.Word.{Word}
+use Rattle.fast_check_schema.specs.declared.form.Words.{Words}
+use Rattle.fast_check_schema.specs.Lookup.{word_by_text}
+use Rattle.fast_check_schema.specs.Schema.{words_of}
 
 -- a whole number that is not negative
 abbrev pub u64_of : Data → Option ℕ
@@ -29,3 +33,7 @@ range_of_data _ = None
 abbrev pub items_list : Items → List Data
 items_list no_items = []
 items_list (item value more) = value ∷ items_list more
+
+-- the word of a text
+abbrev pub word_of : Data → Words → Option Word
+word_of value words = option_and_then (λ text. option_map (λ row. row.word) (word_by_text text (words_of words))) (as_str value)

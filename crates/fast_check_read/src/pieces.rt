@@ -1,4 +1,4 @@
-ghost use Rattle.std.specs.Prelude.{◌≡◌, Some, None, option_map, IfOk};
+ghost use Rattle.std.specs.Prelude.{◌≡◌, Some, None, option_map, IfErr};
 ghost use Rattle.std.specs.Option.{ok_or};
 ghost use Rattle.std.specs.Result.{result_ok};
 ghost use Rattle.serde_json.specs.Find.{as_bool, as_str, as_array, as_object};
@@ -37,7 +37,8 @@ pub fn read_u32(value: &Value) -> Result<u32, ReadError>
 
 /// A text.
 pub fn read_text(value: &Value) -> Result<&str, ReadError>
-    ensures { option_map (λ text. text.now) (result_ok result) ≡ as_str (view value.now) }
+    ensures text { option_map (λ text. text.now) (result_ok result) ≡ as_str (view value.now) }
+    ensures err { IfErr result (λ error. error ≡ ReadError.BadForm) }
 {
     value.as_str().ok_or(ReadError::BadForm)
 }
