@@ -1,7 +1,5 @@
-ghost use Rattle.std.specs.Prelude.{◌≡◌, None, option_map, IfOk, IfErr};
+ghost use Rattle.std.specs.Prelude.{◌≡◌, option_map};
 ghost use Rattle.std.specs.Option.{ok_or};
-ghost use Rattle.serde_json.specs.Find.{as_array, as_object};
-ghost use Rattle.serde_json.specs.declared.value.Value.{Array, Object};
 ghost use Rattle.serde_json.specs.View.{view, items_view, members_view};
 ghost use Rattle.fast_check_syntax.specs.Shape.{list};
 ghost use Rattle.fast_check_schema.specs.Rows.{field_row};
@@ -10,7 +8,7 @@ ghost use Rattle.fast_check_read.specs.Pieces.{word_of};
 ghost use Rattle.fast_check_read.specs.Reading.{reading, item_readings, member_readings, tree_of, counted, option_tree, list_items, option_items, default_tree, field_tree, node_tree, choice_tree, marked_tree};
 
 use crate::error::ReadError;
-use crate::pieces::{read_flag, read_range, read_text, read_u32};
+use crate::pieces::{read_array, read_flag, read_members, read_range, read_text, read_u32};
 use fast_check_schema::{
     Choice, Count, Field, Form, Words, fields, marked, variant_named, word_named,
 };
@@ -41,28 +39,6 @@ fn read_word(value: &Value, list: Words) -> Result<Word, ReadError>
     ensures { result ≡ ok_or (word_of (view value.now) list) ReadError.BadForm }
 {
     word_named(list, read_text(value)?).ok_or(ReadError::BadForm)
-}
-
-/// The members of an object.
-fn read_members(value: &Value) -> Result<&Map<String, Value>, ReadError>
-    ensures ok { IfOk result (λ members. value.now ≡ Object members.now) }
-    ensures err { IfErr result (λ error. (error ≡ ReadError.BadForm) × (as_object (view value.now) ≡ None)) }
-{
-    match value {
-        Value::Object(members) => Ok(members),
-        _ => Err(ReadError::BadForm),
-    }
-}
-
-/// The items of an array.
-fn read_array(value: &Value) -> Result<&Vec<Value>, ReadError>
-    ensures ok { IfOk result (λ items. value.now ≡ Array items.now) }
-    ensures err { IfErr result (λ error. (error ≡ ReadError.BadForm) × (as_array (view value.now) ≡ None)) }
-{
-    match value {
-        Value::Array(items) => Ok(items),
-        _ => Err(ReadError::BadForm),
-    }
 }
 
 /// The node of a kind from an object's members. Members that are no field of it are passed over.
