@@ -1,3 +1,4 @@
+pub mod Comments
 pub mod Each
 pub mod Pieces
 pub mod Reading

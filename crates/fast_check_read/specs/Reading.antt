@@ -12,10 +12,10 @@ use Rattle.fast_check_schema.specs.declared.form.Form.TheVariants as forms
 use Rattle.fast_check_schema.specs.declared.form.Count.{Count}
 use Rattle.fast_check_schema.specs.declared.form.Count.TheVariants as counts
 use Rattle.fast_check_schema.specs.Rows.{FieldRow}
-use Rattle.fast_check_schema.specs.Schema.{fields_of, variants_of, words_of}
-use Rattle.fast_check_schema.specs.Lookup.{variant_by_name, word_by_text, marked_choice}
+use Rattle.fast_check_schema.specs.Schema.{fields_of, variants_of}
+use Rattle.fast_check_schema.specs.Lookup.{variant_by_name, marked_choice}
 use Rattle.fast_check_read.specs.Each.{each}
-use Rattle.fast_check_read.specs.Pieces.{u32_of, range_of_data}
+use Rattle.fast_check_read.specs.Pieces.{u32_of, range_of_data, word_of}
 
 -- a value as it reads wherever it stands: as one of a form, and, where it is an array, as a list of a form, whose items may be null or not
 pub record Reading : Type 0 where
@@ -35,21 +35,31 @@ number_leaf value _ = None
 
 abbrev pub text_leaf : List ℕ → Form → Option Tree
 text_leaf text forms.Text = Some (Text text)
-text_leaf text (forms.Word words) = option_map (λ row. Word row.word) (word_by_text text (words_of words))
+text_leaf text (forms.Word words) = option_map Word (word_of (string text) words)
 text_leaf text _ = None
 
 abbrev pub range_leaf : Data → Form → Option Tree
 range_leaf value forms.Range = option_map Range (range_of_data value)
 range_leaf value _ = None
 
--- what may be null: an empty option
+-- null where an option may stand: an empty option
 abbrev pub or_absent : Bool → Option Tree → Option Tree
 or_absent is_null tree = if is_null then Some Absent else tree
+
+abbrev pub option_tree : Reading → Form → Option Tree
+option_tree r form = or_absent r.is_null (r.one form)
+
+-- the items of a list
+abbrev pub list_items : Form → List Reading → Option (List Tree)
+list_items form rs = each (λ r. r.one form) rs
+
+abbrev pub option_items : Form → List Reading → Option (List Tree)
+option_items form rs = each (λ r. option_tree r form) rs
 
 -- what stands so often
 abbrev pub counted : Reading → Form → Count → Option Tree
 counted r form counts.One = r.one form
-counted r form counts.Option = or_absent r.is_null (r.one form)
+counted r form counts.Option = option_tree r form
 counted r form counts.List = option_map list (r.list_of form)
 counted r form counts.ListOfOptions = option_map list (r.list_of_options form)
 counted r form counts.OptionOfList = or_absent r.is_null (option_map list (r.list_of form))
@@ -113,8 +123,8 @@ abbrev mutual
   reading (array ds) = record {
     is_null = false;
     one = range_leaf (array ds);
-    list_of = λ form. each (λ r. r.one form) (item_readings ds);
-    list_of_options = λ form. each (λ r. or_absent r.is_null (r.one form)) (item_readings ds);
+    list_of = λ form. list_items form (item_readings ds);
+    list_of_options = λ form. option_items form (item_readings ds);
   }
   reading (object ms) = no_array false (object_tree (member_readings ms))
 

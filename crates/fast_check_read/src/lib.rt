@@ -1,10 +1,16 @@
 //! Reading the JSON of trees, comments and their pieces.
 #![tactic(auto)]
 
+mod comments;
 mod error;
+mod float;
 mod pieces;
 mod tree;
 
+pub use comments::read_comments;
 pub use error::ReadError;
-pub use pieces::{read_flag, read_range, read_text, read_u32, read_u64};
+pub use float::has_float;
+pub use pieces::{
+    read_flag, read_optional_flag, read_range, read_ranges, read_text, read_u32, read_u64,
+};
 pub use tree::read_tree;

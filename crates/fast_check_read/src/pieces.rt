@@ -1,13 +1,14 @@
-ghost use Rattle.std.specs.Prelude.{◌≡◌, Some, None, option_map, IfOk};
+ghost use Rattle.std.specs.Prelude.{◌≡◌, None, option_map, IfOk, IfErr};
 ghost use Rattle.std.specs.Option.{ok_or};
 ghost use Rattle.std.specs.Result.{result_ok};
-ghost use Rattle.serde_json.specs.Find.{as_bool, as_str, as_array, as_object};
-ghost use Rattle.serde_json.specs.View.{view, items_view, members_view};
-ghost use Rattle.fast_check_read.specs.Each.{each, Answers};
-ghost use Rattle.fast_check_read.specs.Pieces.{u32_of, u64_of, range_of_data, items_list};
+ghost use Rattle.serde_json.specs.Find.{as_array, as_bool, as_object, as_str};
+ghost use Rattle.serde_json.specs.declared.value.Value.{Array, Object};
+ghost use Rattle.serde_json.specs.View.{view};
+ghost use Rattle.fast_check_read.specs.Each.{Answers};
+ghost use Rattle.fast_check_read.specs.Pieces.{u32_of, u64_of, optional_flag_of, pair_of, range_of_data, ranges_of};
 
 use crate::error::ReadError;
-use fast_check_syntax::{SourcePos, SourceRange};
+use fast_check_syntax::{Items, SourcePos, SourceRange};
 use serde_json::{Map, Value};
 use std::alloc::Global;
 
@@ -37,7 +38,8 @@ pub fn read_u32(value: &Value) -> Result<u32, ReadError>
 
 /// A text.
 pub fn read_text(value: &Value) -> Result<&str, ReadError>
-    ensures { option_map (λ text. text.now) (result_ok result) ≡ as_str (view value.now) }
+    ensures text { option_map (λ text. text.now) (result_ok result) ≡ as_str (view value.now) }
+    ensures err { IfErr result (λ error. error ≡ ReadError.BadForm) }
 {
     value.as_str().ok_or(ReadError::BadForm)
 }
@@ -46,14 +48,64 @@ pub fn read_text(value: &Value) -> Result<&str, ReadError>
 pub fn read_range(value: &Value) -> Result<SourceRange, ReadError>
     ensures { result ≡ ok_or (range_of_data (view value.now)) ReadError.BadForm }
 {
+    let (start, end) = read_pair(value)?;
+    Ok(SourceRange {
+        start: SourcePos(read_u32(start)?),
+        end: SourcePos(read_u32(end)?),
+    })
+}
+
+/// The items of an array of two.
+pub(crate) fn read_pair(value: &Value) -> Result<(&Value, &Value), ReadError>
+    ensures pair { option_map (λ p. (view p.0.now, view p.1.now)) (result_ok result) ≡ pair_of (view value.now) }
+    ensures err { IfErr result (λ error. error ≡ ReadError.BadForm) }
+{
+    let mut items = read_array(value)?.iter();
+    match (items.next(), items.next(), items.next()) {
+        (Some(first), Some(second), None) => Ok((first, second)),
+        _ => Err(ReadError::BadForm),
+    }
+}
+
+/// A flag that may be left out, and is then false. A null is no flag.
+pub fn read_optional_flag(value: Option<&Value>) -> Result<bool, ReadError>
+    ensures { result ≡ ok_or (optional_flag_of (option_map (λ v. view v.now) value.entry)) ReadError.BadForm }
+{
     match value {
-        Value::Array(ends) => match ends.as_slice() {
-            [start, end] => Ok(SourceRange {
-                start: SourcePos(read_u32(start)?),
-                end: SourcePos(read_u32(end)?),
-            }),
-            _ => Err(ReadError::BadForm),
-        },
+        Some(value) => read_flag(value),
+        None => Ok(false),
+    }
+}
+
+/// An array of ranges.
+pub fn read_ranges(alloc: Global, value: &Value) -> Result<Items<SourceRange>, ReadError>
+    ensures { Answers (ranges_of (view value.now)) result }
+{
+    let mut ranges = Items::new(alloc);
+    for item in read_array(value)? {
+        ranges.push(read_range(item)?)?;
+    }
+    Ok(ranges)
+}
+
+/// The members of an object.
+pub(crate) fn read_members(value: &Value) -> Result<&Map<String, Value>, ReadError>
+    ensures ok { IfOk result (λ members. value.now ≡ Object members.now) }
+    ensures err { IfErr result (λ error. (error ≡ ReadError.BadForm) × (as_object (view value.now) ≡ None)) }
+{
+    match value {
+        Value::Object(members) => Ok(members),
+        _ => Err(ReadError::BadForm),
+    }
+}
+
+/// The items of an array.
+pub(crate) fn read_array(value: &Value) -> Result<&Vec<Value>, ReadError>
+    ensures ok { IfOk result (λ items. value.now ≡ Array items.now) }
+    ensures err { IfErr result (λ error. (error ≡ ReadError.BadForm) × (as_array (view value.now) ≡ None)) }
+{
+    match value {
+        Value::Array(items) => Ok(items),
         _ => Err(ReadError::BadForm),
     }
 }

@@ -1,69 +1,51 @@
-ghost use Rattle.std.specs.Prelude.{◌≡◌, Some, None, option_map, option_and_then, IfOk, IfErr, map};
-ghost use Rattle.serde_json.specs.Find.{as_array, as_object};
-ghost use Rattle.serde_json.specs.declared.value.Value.{Array, Object};
+ghost use Rattle.std.specs.Prelude.{◌≡◌, option_map};
+ghost use Rattle.std.specs.Option.{ok_or};
 ghost use Rattle.serde_json.specs.View.{view, items_view, members_view};
+ghost use Rattle.fast_check_syntax.specs.Shape.{list};
 ghost use Rattle.fast_check_schema.specs.Rows.{field_row};
-ghost use Rattle.fast_check_read.specs.Each.{each, Answers};
-ghost use Rattle.fast_check_read.specs.Reading.{reading, item_readings, member_readings, tree_of, counted, or_absent, default_tree, field_tree, node_tree, choice_tree};
+ghost use Rattle.fast_check_read.specs.Each.{Answers};
+ghost use Rattle.fast_check_read.specs.Pieces.{word_of};
+ghost use Rattle.fast_check_read.specs.Reading.{reading, item_readings, member_readings, tree_of, counted, option_tree, list_items, option_items, default_tree, field_tree, node_tree, choice_tree, marked_tree};
 
 use crate::error::ReadError;
-use crate::pieces::{read_flag, read_range, read_text, read_u32};
-use fast_check_schema::{Choice, Count, Field, Form, fields, marked, variant_named, word_named};
-use fast_check_syntax::{Atom, DUMMY_SP, Items, Kind, SyntaxContext, Tree};
+use crate::pieces::{read_array, read_flag, read_members, read_range, read_text, read_u32};
+use fast_check_schema::{
+    Choice, Count, Field, Form, Words, fields, marked, variant_named, word_named,
+};
+use fast_check_syntax::{Atom, DUMMY_SP, Items, Kind, SyntaxContext, Tree, Word};
 use serde_json::{Map, Value};
 use std::alloc::Global;
 
 /// The tree of a JSON value that stands where `form` does.
 #[cycle(read)]
-pub fn read_tree(alloc: Global, value: &Value, form: Form) -> Result<Tree, ReadError> {
-    match form {
-        Form::Struct(kind) => read_node(alloc, read_members(value)?, kind),
-        Form::Choice(choice) => read_choice(alloc, read_members(value)?, choice),
-        Form::Marked(mark) => read_marked(alloc, read_members(value)?, mark),
-        leaf => read_leaf(alloc, value, leaf),
-    }
-}
-
-/// A form that is no object: a flag, a scope's number, a text, a range or a word.
-fn read_leaf(alloc: Global, value: &Value, form: Form) -> Result<Tree, ReadError> {
+#[tactic(auto, using(crate::proofs::Words::tree_of_word))]
+pub fn read_tree(alloc: Global, value: &Value, form: Form) -> Result<Tree, ReadError>
+    ensures { Answers (tree_of (view value.now) form) result }
+{
     match form {
         Form::Flag => Ok(Tree::Flag(read_flag(value)?)),
         Form::Context => Ok(Tree::Context(SyntaxContext(read_u32(value)?))),
         Form::Text => Ok(Tree::Text(Atom::from_str(alloc, read_text(value)?)?)),
         Form::Range => Ok(Tree::Range(read_range(value)?)),
-        Form::Word(list) => match word_named(list, read_text(value)?) {
-            Some(word) => Ok(Tree::Word(word)),
-            None => Err(ReadError::BadForm),
-        },
-        _ => Err(ReadError::BadForm),
+        Form::Word(list) => Ok(Tree::Word(read_word(value, list)?)),
+        Form::Struct(kind) => read_node(alloc, read_members(value)?, kind),
+        Form::Choice(choice) => read_choice(alloc, read_members(value)?, choice),
+        Form::Marked(mark) => read_marked(alloc, read_members(value)?, mark),
     }
 }
 
-/// The members of an object.
-fn read_members(value: &Value) -> Result<&Map<String, Value>, ReadError>
-    ensures ok { IfOk result (λ members. value.now ≡ Object members.now) }
-    ensures err { IfErr result (λ error. (error ≡ ReadError.BadForm) × (as_object (view value.now) ≡ None)) }
+/// A word of a list.
+fn read_word(value: &Value, list: Words) -> Result<Word, ReadError>
+    ensures { result ≡ ok_or (word_of (view value.now) list) ReadError.BadForm }
 {
-    match value {
-        Value::Object(members) => Ok(members),
-        _ => Err(ReadError::BadForm),
-    }
-}
-
-/// The items of an array.
-fn read_array(value: &Value) -> Result<&Vec<Value>, ReadError>
-    ensures ok { IfOk result (λ items. value.now ≡ Array items.now) }
-    ensures err { IfErr result (λ error. (error ≡ ReadError.BadForm) × (as_array (view value.now) ≡ None)) }
-{
-    match value {
-        Value::Array(items) => Ok(items),
-        _ => Err(ReadError::BadForm),
-    }
+    word_named(list, read_text(value)?).ok_or(ReadError::BadForm)
 }
 
 /// The node of a kind from an object's members. Members that are no field of it are passed over.
 #[cycle(read)]
-fn read_node(alloc: Global, members: &Map<String, Value>, kind: Kind) -> Result<Tree, ReadError> {
+fn read_node(alloc: Global, members: &Map<String, Value>, kind: Kind) -> Result<Tree, ReadError>
+    ensures { Answers (node_tree (member_readings (members_view members.now.entries)) kind) result }
+{
     let mut parts = Items::new(alloc);
     for field in fields(kind) {
         parts.push(read_field(alloc, members, *field)?)?;
@@ -72,11 +54,9 @@ fn read_node(alloc: Global, members: &Map<String, Value>, kind: Kind) -> Result<
 }
 
 #[cycle(read)]
-fn read_field(
-    alloc: Global,
-    members: &Map<String, Value>,
-    field: Field,
-) -> Result<Tree, ReadError> {
+fn read_field(alloc: Global, members: &Map<String, Value>, field: Field) -> Result<Tree, ReadError>
+    ensures { Answers (field_tree (member_readings (members_view members.now.entries)) (field_row field.entry)) result }
+{
     match members.get(field.0) {
         Some(member) => read_counted(alloc, member, field.1, field.2),
         None => default_of(alloc, field.1, field.2),
@@ -89,7 +69,9 @@ fn read_choice(
     alloc: Global,
     members: &Map<String, Value>,
     choice: Choice,
-) -> Result<Tree, ReadError> {
+) -> Result<Tree, ReadError>
+    ensures { Answers (choice_tree (member_readings (members_view members.now.entries)) choice) result }
+{
     let mut entries = members.iter();
     match (entries.next(), entries.next()) {
         (Some((name, content)), None) => match variant_named(choice, name.as_str()) {
@@ -102,7 +84,9 @@ fn read_choice(
 
 /// A choice, under its mark.
 #[cycle(read)]
-fn read_marked(alloc: Global, members: &Map<String, Value>, mark: Kind) -> Result<Tree, ReadError> {
+fn read_marked(alloc: Global, members: &Map<String, Value>, mark: Kind) -> Result<Tree, ReadError>
+    ensures { Answers (marked_tree (member_readings (members_view members.now.entries)) mark) result }
+{
     match marked(mark) {
         Some(choice) => Ok(Tree::node(alloc, mark, [read_choice(alloc, members, choice)?])?),
         None => Err(ReadError::BadForm),
@@ -111,7 +95,9 @@ fn read_marked(alloc: Global, members: &Map<String, Value>, mark: Kind) -> Resul
 
 /// What stands so often.
 #[cycle(read)]
-fn read_counted(alloc: Global, value: &Value, form: Form, count: Count) -> Result<Tree, ReadError> {
+fn read_counted(alloc: Global, value: &Value, form: Form, count: Count) -> Result<Tree, ReadError>
+    ensures { Answers (counted (reading (view value.now)) form count) result }
+{
     match count {
         Count::One => read_tree(alloc, value, form),
         Count::Option => read_option(alloc, value, form),
@@ -126,15 +112,21 @@ fn read_counted(alloc: Global, value: &Value, form: Form, count: Count) -> Resul
 
 /// An empty option where the value is null.
 #[cycle(read)]
-fn read_option(alloc: Global, value: &Value, form: Form) -> Result<Tree, ReadError> {
-    match value {
-        Value::Null => Ok(Tree::Absent),
-        _ => read_tree(alloc, value, form),
+#[tactic(auto, using(crate::proofs::Words::reading_is_null))]
+fn read_option(alloc: Global, value: &Value, form: Form) -> Result<Tree, ReadError>
+    ensures { Answers (option_tree (reading (view value.now)) form) result }
+{
+    if value.is_null() {
+        Ok(Tree::Absent)
+    } else {
+        read_tree(alloc, value, form)
     }
 }
 
 #[cycle(read)]
-fn read_list(alloc: Global, values: &Vec<Value>, form: Form) -> Result<Tree, ReadError> {
+fn read_list(alloc: Global, values: &Vec<Value>, form: Form) -> Result<Tree, ReadError>
+    ensures { Answers (option_map list (list_items form (item_readings (items_view values.now.items)))) result }
+{
     let mut items = Items::new(alloc);
     for value in values {
         items.push(read_tree(alloc, value, form)?)?;
@@ -143,7 +135,9 @@ fn read_list(alloc: Global, values: &Vec<Value>, form: Form) -> Result<Tree, Rea
 }
 
 #[cycle(read)]
-fn read_options(alloc: Global, values: &Vec<Value>, form: Form) -> Result<Tree, ReadError> {
+fn read_options(alloc: Global, values: &Vec<Value>, form: Form) -> Result<Tree, ReadError>
+    ensures { Answers (option_map list (option_items form (item_readings (items_view values.now.items)))) result }
+{
     let mut items = Items::new(alloc);
     for value in values {
         items.push(read_option(alloc, value, form)?)?;
@@ -152,7 +146,9 @@ fn read_options(alloc: Global, values: &Vec<Value>, form: Form) -> Result<Tree, 
 }
 
 /// What stands for a field that an object lacks.
-fn default_of(alloc: Global, form: Form, count: Count) -> Result<Tree, ReadError> {
+fn default_of(alloc: Global, form: Form, count: Count) -> Result<Tree, ReadError>
+    ensures { Answers (default_tree form count) result }
+{
     match count {
         Count::Option | Count::OptionOfList => Ok(Tree::Absent),
         Count::List | Count::ListOfOptions => Ok(Tree::list(Items::new(alloc))),

@@ -1,0 +1,2 @@
+mod Members
+mod Words

@@ -1,0 +1,42 @@
+ghost use Rattle.std.specs.Prelude.{◌≡◌};
+ghost use Rattle.serde_json.specs.View.{view, items_view, members_view};
+ghost use Rattle.serde_json.specs.Written.{has_float as holds_float, items_have_float, members_have_float};
+
+use serde_json::{Map, Value};
+
+/// Whether a number anywhere in the value is held as a float, as `1.0` and `1e3` are. No form has one, and an input with one is refused.
+#[cycle(float)]
+pub fn has_float(value: &Value) -> bool
+    ensures { result ≡ holds_float (view value.now) }
+{
+    match value {
+        Value::Number(number) => number.is_f64(),
+        Value::Array(items) => items_with_float(items),
+        Value::Object(members) => members_with_float(members),
+        _ => false,
+    }
+}
+
+#[cycle(float)]
+fn items_with_float(items: &Vec<Value>) -> bool
+    ensures { result ≡ items_have_float (items_view items.now.items) }
+{
+    for item in items {
+        if has_float(item) {
+            return true;
+        }
+    }
+    false
+}
+
+#[cycle(float)]
+fn members_with_float(members: &Map<String, Value>) -> bool
+    ensures { result ≡ members_have_float (members_view members.now.entries) }
+{
+    for (_, member) in members.iter() {
+        if has_float(member) {
+            return true;
+        }
+    }
+    false
+}
