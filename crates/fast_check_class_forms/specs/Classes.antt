@@ -1,4 +1,5 @@
--- Classes, constructors and the rarer members. The fields of each form by their names; what a form has that reads a node, and the node that it makes of its fields.
+-- Classes, constructors and the rarer members.
+-- Each form has its fields by their names, and what it holds once it reads a node; where it is made, the node of its fields.
 use Rattle.std.specs.Prelude.{◌≡◌, Bool, [], ◌∷◌}
 use Rattle.fast_check_syntax.specs.declared.kind.Kind.TheVariants as kinds
 use Rattle.fast_check_syntax.specs.declared.part.Part.{Part}

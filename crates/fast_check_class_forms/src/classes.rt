@@ -1,6 +1,14 @@
 ghost use Rattle.std.specs.Prelude.{◌≡◌, IfOk};
 ghost use Rattle.fast_check_syntax.specs.Part.{seen};
-ghost use Rattle.fast_check_class_forms.specs.Classes.{ReadsClass, class, ReadsConstructor, constructor, ReadsTsParamProp, ReadsStaticBlock, ReadsTsIndexSignature};
+ghost use Rattle.fast_check_class_forms.specs.Classes.{
+  ReadsClass,
+  class,
+  ReadsConstructor,
+  constructor,
+  ReadsTsParamProp,
+  ReadsStaticBlock,
+  ReadsTsIndexSignature,
+};
 
 use fast_check_syntax::{Kind, Part, SourceRange, SyntaxContext, Tree};
 use std::alloc::{AllocError, Global};

@@ -1,6 +1,12 @@
 ghost use Rattle.std.specs.Prelude.{◌≡◌, IfOk};
 ghost use Rattle.fast_check_syntax.specs.Part.{seen};
-ghost use Rattle.fast_check_class_forms.specs.Fields.{ReadsClassProp, class_prop, ReadsPrivateProp, private_prop, ReadsAutoAccessor};
+ghost use Rattle.fast_check_class_forms.specs.Fields.{
+  ReadsClassProp,
+  class_prop,
+  ReadsPrivateProp,
+  private_prop,
+  ReadsAutoAccessor,
+};
 
 use fast_check_syntax::{Kind, Part, SourceRange, SyntaxContext, Tree};
 use std::alloc::{AllocError, Global};

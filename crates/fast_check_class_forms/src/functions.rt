@@ -1,6 +1,12 @@
 ghost use Rattle.std.specs.Prelude.{◌≡◌, IfOk};
 ghost use Rattle.fast_check_syntax.specs.Part.{seen};
-ghost use Rattle.fast_check_class_forms.specs.Functions.{ReadsFunction, function, ReadsParam, param, ReadsDecorator};
+ghost use Rattle.fast_check_class_forms.specs.Functions.{
+  ReadsFunction,
+  function,
+  ReadsParam,
+  param,
+  ReadsDecorator,
+};
 
 use fast_check_syntax::{Kind, Part, SourceRange, SyntaxContext, Tree};
 use std::alloc::{AllocError, Global};

@@ -1,6 +1,10 @@
 ghost use Rattle.std.specs.Prelude.{◌≡◌, IfOk};
 ghost use Rattle.fast_check_syntax.specs.Part.{seen};
-ghost use Rattle.fast_check_class_forms.specs.Methods.{ReadsClassMethod, class_method, ReadsPrivateMethod};
+ghost use Rattle.fast_check_class_forms.specs.Methods.{
+  ReadsClassMethod,
+  class_method,
+  ReadsPrivateMethod,
+};
 
 use fast_check_syntax::{Kind, Part, SourceRange, Tree};
 use std::alloc::{AllocError, Global};

@@ -1,4 +1,5 @@
--- JSX, held as it is written. The fields of each form by their names; what a form has that reads a node.
+-- JSX, held as it is written.
+-- Each form has its fields by their names, and what it holds once it reads a node.
 use Rattle.std.specs.Prelude.{◌≡◌, ℕ, List}
 use Rattle.std.specs.Borrow.{Bor}
 use Rattle.fast_check_syntax.specs.declared.source.SourceRange.{SourceRange}

@@ -1,4 +1,5 @@
--- What stands in an object's braces. The fields of each form by their names; what a form has that reads a node.
+-- What stands in an object's braces.
+-- Each form has its fields by their names, and what it holds once it reads a node.
 use Rattle.std.specs.Prelude.{◌≡◌}
 use Rattle.fast_check_syntax.specs.declared.part.Part.{Part}
 use Rattle.fast_check_syntax.specs.declared.source.SourceRange.{SourceRange}

@@ -1,4 +1,5 @@
--- Templates. The fields of each form by their names; what a form has that reads a node.
+-- Templates.
+-- Each form has its fields by their names, and what it holds once it reads a node.
 use Rattle.std.specs.Prelude.{◌≡◌, Bool, ℕ, List}
 use Rattle.std.specs.Borrow.{Bor}
 use Rattle.fast_check_syntax.specs.declared.part.Part.{Part}

@@ -1,6 +1,14 @@
 ghost use Rattle.std.specs.Prelude.{◌≡◌, IfOk};
 ghost use Rattle.fast_check_syntax.specs.Part.{seen};
-ghost use Rattle.fast_check_expression_forms.specs.Assertions.{ReadsTsTypeAssertion, ReadsTsAsExpr, ts_as_expr, ReadsTsSatisfiesExpr, ReadsTsConstAssertion, ReadsTsNonNullExpr, ReadsTsInstantiation};
+ghost use Rattle.fast_check_expression_forms.specs.Assertions.{
+  ReadsTsTypeAssertion,
+  ReadsTsAsExpr,
+  ts_as_expr,
+  ReadsTsSatisfiesExpr,
+  ReadsTsConstAssertion,
+  ReadsTsNonNullExpr,
+  ReadsTsInstantiation,
+};
 
 use fast_check_syntax::{Kind, Part, SourceRange, Tree};
 use std::alloc::{AllocError, Global};

@@ -1,5 +1,14 @@
 ghost use Rattle.fast_check_syntax.specs.Part.{seen};
-ghost use Rattle.fast_check_expression_forms.specs.Calls.{ReadsMemberExpr, ReadsSuperPropExpr, ReadsCallExpr, ReadsSuper, ReadsImport, ReadsNewExpr, ReadsOptChainExpr, ReadsOptCall};
+ghost use Rattle.fast_check_expression_forms.specs.Calls.{
+  ReadsMemberExpr,
+  ReadsSuperPropExpr,
+  ReadsCallExpr,
+  ReadsSuper,
+  ReadsImport,
+  ReadsNewExpr,
+  ReadsOptChainExpr,
+  ReadsOptCall,
+};
 
 use fast_check_syntax::{Part, SourceRange, SyntaxContext};
 
@@ -95,7 +104,7 @@ impl Super {
 #[derive(Drop)]
 pub struct Import<T> {
     pub span: SourceRange,
-    /// `evaluation`, or as it is written: `source`, `defer`.
+    /// The phase as a text, as `source` or `defer`.
     pub phase: T,
 }
 

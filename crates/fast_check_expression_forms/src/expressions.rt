@@ -1,6 +1,26 @@
 ghost use Rattle.std.specs.Prelude.{◌≡◌, IfOk};
 ghost use Rattle.fast_check_syntax.specs.Part.{seen};
-ghost use Rattle.fast_check_expression_forms.specs.Expressions.{ReadsThisExpr, ReadsArrayLit, array_lit, ReadsExprOrSpread, expr_or_spread, ReadsObjectLit, object_lit, ReadsFnExpr, fn_expr, ReadsClassExpr, ReadsArrowExpr, arrow_expr, ReadsSeqExpr, ReadsParenExpr, paren_expr, ReadsYieldExpr, ReadsAwaitExpr, ReadsMetaPropExpr, ReadsInvalid};
+ghost use Rattle.fast_check_expression_forms.specs.Expressions.{
+  ReadsThisExpr,
+  ReadsArrayLit,
+  array_lit,
+  ReadsExprOrSpread,
+  expr_or_spread,
+  ReadsObjectLit,
+  object_lit,
+  ReadsFnExpr,
+  fn_expr,
+  ReadsClassExpr,
+  ReadsArrowExpr,
+  arrow_expr,
+  ReadsSeqExpr,
+  ReadsParenExpr,
+  paren_expr,
+  ReadsYieldExpr,
+  ReadsAwaitExpr,
+  ReadsMetaPropExpr,
+  ReadsInvalid,
+};
 
 use fast_check_syntax::{Kind, Part, SourceRange, SyntaxContext, Tree};
 use std::alloc::{AllocError, Global};

@@ -1,5 +1,11 @@
 ghost use Rattle.fast_check_syntax.specs.Part.{seen};
-ghost use Rattle.fast_check_expression_forms.specs.Jsx.{ReadsJSXMember, ReadsJSXNamespacedName, ReadsJSXEmpty, ReadsJSXElement, ReadsJSXFragment};
+ghost use Rattle.fast_check_expression_forms.specs.Jsx.{
+  ReadsJSXMember,
+  ReadsJSXNamespacedName,
+  ReadsJSXEmpty,
+  ReadsJSXElement,
+  ReadsJSXFragment,
+};
 
 use fast_check_syntax::{Part, SourceRange};
 

@@ -1,5 +1,11 @@
 ghost use Rattle.fast_check_syntax.specs.Part.{seen};
-ghost use Rattle.fast_check_expression_forms.specs.Operators.{ReadsUnaryExpr, ReadsUpdateExpr, ReadsBinExpr, ReadsAssignExpr, ReadsCondExpr};
+ghost use Rattle.fast_check_expression_forms.specs.Operators.{
+  ReadsUnaryExpr,
+  ReadsUpdateExpr,
+  ReadsBinExpr,
+  ReadsAssignExpr,
+  ReadsCondExpr,
+};
 
 use fast_check_syntax::{Part, SourceRange};
 

@@ -1,6 +1,19 @@
 ghost use Rattle.std.specs.Prelude.{◌≡◌, IfOk};
 ghost use Rattle.fast_check_syntax.specs.Part.{seen};
-ghost use Rattle.fast_check_expression_forms.specs.Patterns.{ReadsArrayPat, array_pat, ReadsRestPat, rest_pat, ReadsObjectPat, object_pat, ReadsAssignPat, assign_pat, ReadsKeyValuePatProp, ReadsAssignPatProp, ReadsPatExpr, ReadsTargetPat};
+ghost use Rattle.fast_check_expression_forms.specs.Patterns.{
+  ReadsArrayPat,
+  array_pat,
+  ReadsRestPat,
+  rest_pat,
+  ReadsObjectPat,
+  object_pat,
+  ReadsAssignPat,
+  assign_pat,
+  ReadsKeyValuePatProp,
+  ReadsAssignPatProp,
+  ReadsPatExpr,
+  ReadsTargetPat,
+};
 
 use fast_check_syntax::{Kind, Part, SourceRange, Tree};
 use std::alloc::{AllocError, Global};

@@ -1,5 +1,13 @@
 ghost use Rattle.fast_check_syntax.specs.Part.{seen};
-ghost use Rattle.fast_check_expression_forms.specs.Properties.{ReadsSpreadElement, ReadsKeyValueProp, ReadsAssignProp, ReadsGetterProp, ReadsSetterProp, ReadsMethodProp, ReadsComputedPropName};
+ghost use Rattle.fast_check_expression_forms.specs.Properties.{
+  ReadsSpreadElement,
+  ReadsKeyValueProp,
+  ReadsAssignProp,
+  ReadsGetterProp,
+  ReadsSetterProp,
+  ReadsMethodProp,
+  ReadsComputedPropName,
+};
 
 use fast_check_syntax::{Part, SourceRange};
 

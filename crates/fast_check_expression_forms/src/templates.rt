@@ -1,5 +1,9 @@
 ghost use Rattle.fast_check_syntax.specs.Part.{seen};
-ghost use Rattle.fast_check_expression_forms.specs.Templates.{ReadsTpl, ReadsTplElement, ReadsTaggedTpl};
+ghost use Rattle.fast_check_expression_forms.specs.Templates.{
+  ReadsTpl,
+  ReadsTplElement,
+  ReadsTaggedTpl,
+};
 
 use fast_check_syntax::{Part, SourceRange, SyntaxContext};
 

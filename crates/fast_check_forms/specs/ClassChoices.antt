@@ -1,4 +1,5 @@
--- Which member of a class a node is, and which parameter of a constructor. What a choice has that reads a node, and the kinds of nodes that it is made for.
+-- Which member of a class a node is, and which parameter of a constructor.
+-- Each choice has the kinds of its nodes, and what it holds once it reads a node: one of its forms with that form's fields, or, as `Other`, a node of none of these kinds.
 use Rattle.std.specs.Prelude.{◌≡◌, List, [], ◌∷◌}
 use Rattle.fast_check_syntax.specs.declared.kind.Kind.{Kind}
 use Rattle.fast_check_syntax.specs.declared.kind.Kind.TheVariants as kinds
@@ -19,8 +20,8 @@ use Rattle.fast_check_statement_forms.specs.Statements.{ReadsEmptyStmt}
 
 -- A member of a class.
 abbrev pub class_member_kinds : List Kind
-class_member_kinds = kinds.Constructor ∷ kinds.ClassMethod ∷ kinds.PrivateMethod ∷ kinds.ClassProp ∷ kinds.PrivateProp ∷ kinds.TsIndexSignature ∷
-    kinds.EmptyStmt ∷ kinds.StaticBlock ∷ kinds.AutoAccessor ∷ []
+class_member_kinds = kinds.Constructor ∷ kinds.ClassMethod ∷ kinds.PrivateMethod ∷ kinds.ClassProp ∷
+    kinds.PrivateProp ∷ kinds.TsIndexSignature ∷ kinds.EmptyStmt ∷ kinds.StaticBlock ∷ kinds.AutoAccessor ∷ []
 
 abbrev pub ReadsClassMember : ClassMember → Tree → Type 0
 ReadsClassMember (ClassMember.Constructor form) t = (kind_of t ≡ kinds.Constructor) × ReadsConstructor form t

@@ -1,4 +1,5 @@
--- Which expression a node is, and which form stands in a part of one. What a choice has that reads a node, and the kinds of nodes that it is made for.
+-- Which expression a node is, and which form stands in a part of one.
+-- Each choice has the kinds of its nodes, and what it holds once it reads a node: one of its forms with that form's fields, or, as `Other`, a node of none of these kinds.
 use Rattle.std.specs.Prelude.{◌≡◌, List, [], ◌∷◌}
 use Rattle.fast_check_syntax.specs.declared.kind.Kind.{Kind}
 use Rattle.fast_check_syntax.specs.declared.kind.Kind.TheVariants as kinds
@@ -22,12 +23,14 @@ use Rattle.fast_check_statement_forms.specs.Statements.{ReadsBlockStmt}
 
 -- An expression.
 abbrev pub expr_kinds : List Kind
-expr_kinds = kinds.ThisExpr ∷ kinds.ArrayLit ∷ kinds.ObjectLit ∷ kinds.FnExpr ∷ kinds.UnaryExpr ∷ kinds.UpdateExpr ∷ kinds.BinExpr ∷
-    kinds.AssignExpr ∷ kinds.MemberExpr ∷ kinds.SuperPropExpr ∷ kinds.CondExpr ∷ kinds.CallExpr ∷ kinds.NewExpr ∷ kinds.SeqExpr ∷ kinds.Ident ∷
-    kinds.Tpl ∷ kinds.TaggedTpl ∷ kinds.ArrowExpr ∷ kinds.ClassExpr ∷ kinds.YieldExpr ∷ kinds.MetaPropExpr ∷ kinds.AwaitExpr ∷ kinds.ParenExpr ∷
-    kinds.JSXMember ∷ kinds.JSXNamespacedName ∷ kinds.JSXEmpty ∷ kinds.JSXElement ∷ kinds.JSXFragment ∷ kinds.TsTypeAssertion ∷
-    kinds.TsConstAssertion ∷ kinds.TsNonNullExpr ∷ kinds.TsAsExpr ∷ kinds.TsInstantiation ∷ kinds.TsSatisfiesExpr ∷ kinds.PrivateName ∷
-    kinds.OptChainExpr ∷ kinds.Invalid ∷ lit_kinds
+expr_kinds = kinds.ThisExpr ∷ kinds.ArrayLit ∷ kinds.ObjectLit ∷ kinds.FnExpr ∷ kinds.UnaryExpr ∷
+    kinds.UpdateExpr ∷ kinds.BinExpr ∷ kinds.AssignExpr ∷ kinds.MemberExpr ∷ kinds.SuperPropExpr ∷
+    kinds.CondExpr ∷ kinds.CallExpr ∷ kinds.NewExpr ∷ kinds.SeqExpr ∷ kinds.Ident ∷ kinds.Tpl ∷
+    kinds.TaggedTpl ∷ kinds.ArrowExpr ∷ kinds.ClassExpr ∷ kinds.YieldExpr ∷ kinds.MetaPropExpr ∷
+    kinds.AwaitExpr ∷ kinds.ParenExpr ∷ kinds.JSXMember ∷ kinds.JSXNamespacedName ∷ kinds.JSXEmpty ∷
+    kinds.JSXElement ∷ kinds.JSXFragment ∷ kinds.TsTypeAssertion ∷ kinds.TsConstAssertion ∷
+    kinds.TsNonNullExpr ∷ kinds.TsAsExpr ∷ kinds.TsInstantiation ∷ kinds.TsSatisfiesExpr ∷
+    kinds.PrivateName ∷ kinds.OptChainExpr ∷ kinds.Invalid ∷ lit_kinds
 
 abbrev pub ReadsExpr : Expr → Tree → Type 0
 ReadsExpr (Expr.This form) t = (kind_of t ≡ kinds.ThisExpr) × ReadsThisExpr form t
@@ -70,7 +73,7 @@ ReadsExpr (Expr.OptChain form) t = (kind_of t ≡ kinds.OptChainExpr) × ReadsOp
 ReadsExpr (Expr.Invalid form) t = (kind_of t ≡ kinds.Invalid) × ReadsInvalid form t
 ReadsExpr (Expr.Other node) t = (seen node ≡ t) × IsNoneOf expr_kinds (kind_of t)
 
--- of one of the forms
+-- it is one of these
 abbrev pub IsExpr : Expr → Type 0
 IsExpr (Expr.Other node) = ⊥
 IsExpr _ = Unit {0}

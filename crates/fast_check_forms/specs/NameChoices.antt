@@ -1,4 +1,5 @@
--- Names and literals, where a choice is between several forms of them. What a choice has that reads a node, and the kinds of nodes that it is made for.
+-- Names and literals, where a choice is between several forms of them.
+-- Each choice has the kinds of its nodes, and what it holds once it reads a node: one of its forms with that form's fields, or, as `Other`, a node of none of these kinds.
 use Rattle.std.specs.Prelude.{◌≡◌, List, [], ◌∷◌}
 use Rattle.fast_check_syntax.specs.declared.kind.Kind.{Kind}
 use Rattle.fast_check_syntax.specs.declared.kind.Kind.TheVariants as kinds
@@ -19,7 +20,8 @@ use Rattle.fast_check_program_forms.specs.Names.{ReadsIdentName, ReadsPrivateNam
 
 -- A literal.
 abbrev pub lit_kinds : List Kind
-lit_kinds = kinds.Str ∷ kinds.Bool ∷ kinds.Null ∷ kinds.Number ∷ kinds.BigInt ∷ kinds.Regex ∷ kinds.JSXText ∷ []
+lit_kinds = kinds.Str ∷ kinds.Bool ∷ kinds.Null ∷ kinds.Number ∷ kinds.BigInt ∷ kinds.Regex ∷ kinds.JSXText ∷
+    []
 
 abbrev pub ReadsLit : Lit → Tree → Type 0
 ReadsLit (Lit.Str form) t = (kind_of t ≡ kinds.Str) × ReadsStr form t
@@ -31,7 +33,7 @@ ReadsLit (Lit.Regex form) t = (kind_of t ≡ kinds.Regex) × ReadsRegex form t
 ReadsLit (Lit.JSXText form) t = (kind_of t ≡ kinds.JSXText) × ReadsJSXText form t
 ReadsLit (Lit.Other node) t = (seen node ≡ t) × IsNoneOf lit_kinds (kind_of t)
 
--- of one of the forms
+-- it is one of these
 abbrev pub IsLit : Lit → Type 0
 IsLit (Lit.Other node) = ⊥
 IsLit _ = Unit {0}
@@ -48,7 +50,7 @@ ReadsPropName (PropName.Computed form) t = (kind_of t ≡ kinds.ComputedPropName
 ReadsPropName (PropName.BigInt form) t = (kind_of t ≡ kinds.BigInt) × ReadsBigInt form t
 ReadsPropName (PropName.Other node) t = (seen node ≡ t) × IsNoneOf prop_name_kinds (kind_of t)
 
--- of one of the forms
+-- it is one of these
 abbrev pub IsPropName : PropName → Type 0
 IsPropName (PropName.Other node) = ⊥
 IsPropName _ = Unit {0}

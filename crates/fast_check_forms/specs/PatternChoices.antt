@@ -1,4 +1,5 @@
--- Which pattern or property a node is. What a choice has that reads a node, and the kinds of nodes that it is made for.
+-- Which pattern or property a node is.
+-- Each choice has the kinds of its nodes, and what it holds once it reads a node: one of its forms with that form's fields, or, as `Other`, a node of none of these kinds.
 use Rattle.std.specs.Prelude.{◌≡◌, List, [], ◌∷◌}
 use Rattle.fast_check_syntax.specs.declared.kind.Kind.{Kind}
 use Rattle.fast_check_syntax.specs.declared.kind.Kind.TheVariants as kinds
@@ -19,7 +20,8 @@ use Rattle.fast_check_program_forms.specs.Names.{ReadsBindingIdent, ReadsIdent}
 
 -- A pattern.
 abbrev pub pat_kinds : List Kind
-pat_kinds = kinds.BindingIdent ∷ kinds.ArrayPat ∷ kinds.RestPat ∷ kinds.ObjectPat ∷ kinds.AssignPat ∷ kinds.Invalid ∷ kinds.PatExpr ∷ []
+pat_kinds = kinds.BindingIdent ∷ kinds.ArrayPat ∷ kinds.RestPat ∷ kinds.ObjectPat ∷ kinds.AssignPat ∷
+    kinds.Invalid ∷ kinds.PatExpr ∷ []
 
 abbrev pub ReadsPat : Pat → Tree → Type 0
 ReadsPat (Pat.Ident form) t = (kind_of t ≡ kinds.BindingIdent) × ReadsBindingIdent form t
@@ -31,7 +33,7 @@ ReadsPat (Pat.Invalid form) t = (kind_of t ≡ kinds.Invalid) × ReadsInvalid fo
 ReadsPat (Pat.Expr expr) t = (kind_of t ≡ kinds.PatExpr) × ReadsExpr expr (PatExpr-expr t)
 ReadsPat (Pat.Other node) t = (seen node ≡ t) × IsNoneOf pat_kinds (kind_of t)
 
--- of one of the forms
+-- it is one of these
 abbrev pub IsPat : Pat → Type 0
 IsPat (Pat.Other node) = ⊥
 IsPat _ = Unit {0}
@@ -57,7 +59,8 @@ ReadsAssignTarget (AssignTarget.Other node) t = (seen node ≡ t) × IsNoneOf as
 
 -- A property of an object.
 abbrev pub prop_kinds : List Kind
-prop_kinds = kinds.Ident ∷ kinds.KeyValueProp ∷ kinds.AssignProp ∷ kinds.GetterProp ∷ kinds.SetterProp ∷ kinds.MethodProp ∷ []
+prop_kinds = kinds.Ident ∷ kinds.KeyValueProp ∷ kinds.AssignProp ∷ kinds.GetterProp ∷ kinds.SetterProp ∷
+    kinds.MethodProp ∷ []
 
 abbrev pub ReadsProp : Prop → Tree → Type 0
 ReadsProp (Prop.Shorthand form) t = (kind_of t ≡ kinds.Ident) × ReadsIdent form t
@@ -68,7 +71,7 @@ ReadsProp (Prop.Setter form) t = (kind_of t ≡ kinds.SetterProp) × ReadsSetter
 ReadsProp (Prop.Method form) t = (kind_of t ≡ kinds.MethodProp) × ReadsMethodProp form t
 ReadsProp (Prop.Other node) t = (seen node ≡ t) × IsNoneOf prop_kinds (kind_of t)
 
--- of one of the forms
+-- it is one of these
 abbrev pub IsProp : Prop → Type 0
 IsProp (Prop.Other node) = ⊥
 IsProp _ = Unit {0}

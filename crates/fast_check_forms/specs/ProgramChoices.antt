@@ -1,4 +1,5 @@
--- Which file, item, import or export a node is. What a choice has that reads a node, and the kinds of nodes that it is made for.
+-- Which file, item, import or export a node is.
+-- Each choice has the kinds of its nodes, and what it holds once it reads a node: one of its forms with that form's fields, or, as `Other`, a node of none of these kinds.
 use Rattle.std.specs.Prelude.{◌≡◌, List, [], ◌∷◌, ◌++◌}
 use Rattle.fast_check_syntax.specs.declared.kind.Kind.{Kind}
 use Rattle.fast_check_syntax.specs.declared.kind.Kind.TheVariants as kinds
@@ -31,8 +32,9 @@ ReadsProgram (Program.Other node) t = (seen node ≡ t) × IsNoneOf program_kind
 
 -- An import or an export.
 abbrev pub module_decl_kinds : List Kind
-module_decl_kinds = kinds.ImportDecl ∷ kinds.ExportDecl ∷ kinds.NamedExport ∷ kinds.ExportDefaultDecl ∷ kinds.ExportDefaultExpr ∷ kinds.ExportAll ∷
-    kinds.TsImportEqualsDecl ∷ kinds.TsExportAssignment ∷ kinds.TsNamespaceExportDecl ∷ []
+module_decl_kinds = kinds.ImportDecl ∷ kinds.ExportDecl ∷ kinds.NamedExport ∷ kinds.ExportDefaultDecl ∷
+    kinds.ExportDefaultExpr ∷ kinds.ExportAll ∷ kinds.TsImportEqualsDecl ∷ kinds.TsExportAssignment ∷
+    kinds.TsNamespaceExportDecl ∷ []
 
 abbrev pub ReadsModuleDecl : ModuleDecl → Tree → Type 0
 ReadsModuleDecl (ModuleDecl.Import form) t = (kind_of t ≡ kinds.ImportDecl) × ReadsImportDecl form t
@@ -46,7 +48,7 @@ ReadsModuleDecl (ModuleDecl.TsExportAssignment form) t = (kind_of t ≡ kinds.Ts
 ReadsModuleDecl (ModuleDecl.TsNamespaceExport form) t = (kind_of t ≡ kinds.TsNamespaceExportDecl) × ReadsTsNamespaceExportDecl form t
 ReadsModuleDecl (ModuleDecl.Other node) t = (seen node ≡ t) × IsNoneOf module_decl_kinds (kind_of t)
 
--- of one of the forms
+-- it is one of these
 abbrev pub IsModuleDecl : ModuleDecl → Type 0
 IsModuleDecl (ModuleDecl.Other node) = ⊥
 IsModuleDecl _ = Unit {0}
@@ -62,7 +64,8 @@ ReadsModuleItem (ModuleItem.Other node) t = (seen node ≡ t) × IsNoneOf module
 
 -- A name that an import brings.
 abbrev pub import_specifier_kinds : List Kind
-import_specifier_kinds = kinds.ImportNamedSpecifier ∷ kinds.ImportDefaultSpecifier ∷ kinds.ImportStarAsSpecifier ∷ []
+import_specifier_kinds = kinds.ImportNamedSpecifier ∷ kinds.ImportDefaultSpecifier ∷
+    kinds.ImportStarAsSpecifier ∷ []
 
 abbrev pub ReadsImportSpecifier : ImportSpecifier → Tree → Type 0
 ReadsImportSpecifier (ImportSpecifier.Named form) t = (kind_of t ≡ kinds.ImportNamedSpecifier) × ReadsImportNamedSpecifier form t
@@ -72,7 +75,8 @@ ReadsImportSpecifier (ImportSpecifier.Other node) t = (seen node ≡ t) × IsNon
 
 -- A name that an export gives.
 abbrev pub export_specifier_kinds : List Kind
-export_specifier_kinds = kinds.ExportNamespaceSpecifier ∷ kinds.ExportDefaultSpecifier ∷ kinds.ExportNamedSpecifier ∷ []
+export_specifier_kinds = kinds.ExportNamespaceSpecifier ∷ kinds.ExportDefaultSpecifier ∷
+    kinds.ExportNamedSpecifier ∷ []
 
 abbrev pub ReadsExportSpecifier : ExportSpecifier → Tree → Type 0
 ReadsExportSpecifier (ExportSpecifier.Namespace form) t = (kind_of t ≡ kinds.ExportNamespaceSpecifier) × ReadsExportNamespaceSpecifier form t

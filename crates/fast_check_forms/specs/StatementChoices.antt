@@ -1,4 +1,5 @@
--- Which statement or declaration a node is, and which form stands in a part of one. What a choice has that reads a node, and the kinds of nodes that it is made for.
+-- Which statement or declaration a node is, and which form stands in a part of one.
+-- Each choice has the kinds of its nodes, and what it holds once it reads a node: one of its forms with that form's fields, or, as `Other`, a node of none of these kinds.
 use Rattle.std.specs.Prelude.{◌≡◌, List, [], ◌∷◌}
 use Rattle.fast_check_syntax.specs.declared.kind.Kind.{Kind}
 use Rattle.fast_check_syntax.specs.declared.kind.Kind.TheVariants as kinds
@@ -20,8 +21,8 @@ use Rattle.fast_check_statement_forms.specs.TsDeclarations.{ReadsTsInterfaceDecl
 
 -- A declaration.
 abbrev pub decl_kinds : List Kind
-decl_kinds = kinds.ClassDecl ∷ kinds.FnDecl ∷ kinds.VarDecl ∷ kinds.UsingDecl ∷ kinds.TsInterfaceDecl ∷ kinds.TsTypeAliasDecl ∷ kinds.TsEnumDecl ∷
-    kinds.TsModuleDecl ∷ []
+decl_kinds = kinds.ClassDecl ∷ kinds.FnDecl ∷ kinds.VarDecl ∷ kinds.UsingDecl ∷ kinds.TsInterfaceDecl ∷
+    kinds.TsTypeAliasDecl ∷ kinds.TsEnumDecl ∷ kinds.TsModuleDecl ∷ []
 
 abbrev pub ReadsDecl : Decl → Tree → Type 0
 ReadsDecl (Decl.Class form) t = (kind_of t ≡ kinds.ClassDecl) × ReadsClassDecl form t
@@ -34,16 +35,17 @@ ReadsDecl (Decl.TsEnum form) t = (kind_of t ≡ kinds.TsEnumDecl) × ReadsTsEnum
 ReadsDecl (Decl.TsModule form) t = (kind_of t ≡ kinds.TsModuleDecl) × ReadsTsModuleDecl form t
 ReadsDecl (Decl.Other node) t = (seen node ≡ t) × IsNoneOf decl_kinds (kind_of t)
 
--- of one of the forms
+-- it is one of these
 abbrev pub IsDecl : Decl → Type 0
 IsDecl (Decl.Other node) = ⊥
 IsDecl _ = Unit {0}
 
 -- A statement.
 abbrev pub stmt_kinds : List Kind
-stmt_kinds = kinds.BlockStmt ∷ kinds.EmptyStmt ∷ kinds.DebuggerStmt ∷ kinds.WithStmt ∷ kinds.ReturnStmt ∷ kinds.LabeledStmt ∷ kinds.BreakStmt ∷
-    kinds.ContinueStmt ∷ kinds.IfStmt ∷ kinds.SwitchStmt ∷ kinds.ThrowStmt ∷ kinds.TryStmt ∷ kinds.WhileStmt ∷ kinds.DoWhileStmt ∷ kinds.ForStmt ∷
-    kinds.ForInStmt ∷ kinds.ForOfStmt ∷ kinds.ExprStmt ∷ decl_kinds
+stmt_kinds = kinds.BlockStmt ∷ kinds.EmptyStmt ∷ kinds.DebuggerStmt ∷ kinds.WithStmt ∷ kinds.ReturnStmt ∷
+    kinds.LabeledStmt ∷ kinds.BreakStmt ∷ kinds.ContinueStmt ∷ kinds.IfStmt ∷ kinds.SwitchStmt ∷
+    kinds.ThrowStmt ∷ kinds.TryStmt ∷ kinds.WhileStmt ∷ kinds.DoWhileStmt ∷ kinds.ForStmt ∷ kinds.ForInStmt ∷
+    kinds.ForOfStmt ∷ kinds.ExprStmt ∷ decl_kinds
 
 abbrev pub ReadsStmt : Stmt → Tree → Type 0
 ReadsStmt (Stmt.Block form) t = (kind_of t ≡ kinds.BlockStmt) × ReadsBlockStmt form t
@@ -67,7 +69,7 @@ ReadsStmt (Stmt.Decl decl) t = IsDecl decl × ReadsDecl decl t
 ReadsStmt (Stmt.Expr form) t = (kind_of t ≡ kinds.ExprStmt) × ReadsExprStmt form t
 ReadsStmt (Stmt.Other node) t = (seen node ≡ t) × IsNoneOf stmt_kinds (kind_of t)
 
--- of one of the forms
+-- it is one of these
 abbrev pub IsStmt : Stmt → Type 0
 IsStmt (Stmt.Other node) = ⊥
 IsStmt _ = Unit {0}

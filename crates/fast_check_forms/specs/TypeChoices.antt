@@ -1,4 +1,5 @@
--- Which type a node is, and which form stands in a part of one. What a choice has that reads a node, and the kinds of nodes that it is made for.
+-- Which type a node is, and which form stands in a part of one.
+-- Each choice has the kinds of its nodes, and what it holds once it reads a node: one of its forms with that form's fields, or, as `Other`, a node of none of these kinds.
 use Rattle.std.specs.Prelude.{◌≡◌, List, [], ◌∷◌, ◌++◌}
 use Rattle.fast_check_syntax.specs.declared.kind.Kind.{Kind}
 use Rattle.fast_check_syntax.specs.declared.kind.Kind.TheVariants as kinds
@@ -30,7 +31,7 @@ ReadsTsFnOrConstructorType (TsFnOrConstructorType.TsFnType form) t = (kind_of t 
 ReadsTsFnOrConstructorType (TsFnOrConstructorType.TsConstructorType form) t = (kind_of t ≡ kinds.TsConstructorType) × ReadsTsConstructorType form t
 ReadsTsFnOrConstructorType (TsFnOrConstructorType.Other node) t = (seen node ≡ t) × IsNoneOf ts_fn_or_constructor_type_kinds (kind_of t)
 
--- of one of the forms
+-- it is one of these
 abbrev pub IsTsFnOrConstructorType : TsFnOrConstructorType → Type 0
 IsTsFnOrConstructorType (TsFnOrConstructorType.Other node) = ⊥
 IsTsFnOrConstructorType _ = Unit {0}
@@ -44,17 +45,18 @@ ReadsTsUnionOrIntersectionType (TsUnionOrIntersectionType.TsUnionType form) t = 
 ReadsTsUnionOrIntersectionType (TsUnionOrIntersectionType.TsIntersectionType form) t = (kind_of t ≡ kinds.TsIntersectionType) × ReadsTsIntersectionType form t
 ReadsTsUnionOrIntersectionType (TsUnionOrIntersectionType.Other node) t = (seen node ≡ t) × IsNoneOf ts_union_or_intersection_type_kinds (kind_of t)
 
--- of one of the forms
+-- it is one of these
 abbrev pub IsTsUnionOrIntersectionType : TsUnionOrIntersectionType → Type 0
 IsTsUnionOrIntersectionType (TsUnionOrIntersectionType.Other node) = ⊥
 IsTsUnionOrIntersectionType _ = Unit {0}
 
 -- A type.
 abbrev pub ts_type_kinds : List Kind
-ts_type_kinds = kinds.TsKeywordType ∷ kinds.TsThisType ∷ kinds.TsTypeRef ∷ kinds.TsTypeQuery ∷ kinds.TsTypeLit ∷ kinds.TsArrayType ∷
-    kinds.TsTupleType ∷ kinds.TsOptionalType ∷ kinds.TsRestType ∷ kinds.TsConditionalType ∷ kinds.TsInferType ∷ kinds.TsParenthesizedType ∷
-    kinds.TsTypeOperator ∷ kinds.TsIndexedAccessType ∷ kinds.TsMappedType ∷ kinds.TsLitType ∷ kinds.TsTypePredicate ∷ kinds.TsImportType ∷
-    ts_fn_or_constructor_type_kinds ++ ts_union_or_intersection_type_kinds
+ts_type_kinds = kinds.TsKeywordType ∷ kinds.TsThisType ∷ kinds.TsTypeRef ∷ kinds.TsTypeQuery ∷
+    kinds.TsTypeLit ∷ kinds.TsArrayType ∷ kinds.TsTupleType ∷ kinds.TsOptionalType ∷ kinds.TsRestType ∷
+    kinds.TsConditionalType ∷ kinds.TsInferType ∷ kinds.TsParenthesizedType ∷ kinds.TsTypeOperator ∷
+    kinds.TsIndexedAccessType ∷ kinds.TsMappedType ∷ kinds.TsLitType ∷ kinds.TsTypePredicate ∷
+    kinds.TsImportType ∷ ts_fn_or_constructor_type_kinds ++ ts_union_or_intersection_type_kinds
 
 abbrev pub ReadsTsType : TsType → Tree → Type 0
 ReadsTsType (TsType.TsKeywordType form) t = (kind_of t ≡ kinds.TsKeywordType) × ReadsTsKeywordType form t
@@ -88,7 +90,7 @@ ReadsTsEntityName (TsEntityName.TsQualifiedName form) t = (kind_of t ≡ kinds.T
 ReadsTsEntityName (TsEntityName.Ident form) t = (kind_of t ≡ kinds.Ident) × ReadsIdent form t
 ReadsTsEntityName (TsEntityName.Other node) t = (seen node ≡ t) × IsNoneOf ts_entity_name_kinds (kind_of t)
 
--- of one of the forms
+-- it is one of these
 abbrev pub IsTsEntityName : TsEntityName → Type 0
 IsTsEntityName (TsEntityName.Other node) = ⊥
 IsTsEntityName _ = Unit {0}
@@ -125,8 +127,9 @@ ReadsTsThisTypeOrIdent (TsThisTypeOrIdent.Other node) t = (seen node ≡ t) × I
 
 -- A member of an interface or a type literal.
 abbrev pub ts_type_element_kinds : List Kind
-ts_type_element_kinds = kinds.TsCallSignatureDecl ∷ kinds.TsConstructSignatureDecl ∷ kinds.TsPropertySignature ∷ kinds.TsGetterSignature ∷
-    kinds.TsSetterSignature ∷ kinds.TsMethodSignature ∷ kinds.TsIndexSignature ∷ []
+ts_type_element_kinds = kinds.TsCallSignatureDecl ∷ kinds.TsConstructSignatureDecl ∷
+    kinds.TsPropertySignature ∷ kinds.TsGetterSignature ∷ kinds.TsSetterSignature ∷ kinds.TsMethodSignature ∷
+    kinds.TsIndexSignature ∷ []
 
 abbrev pub ReadsTsTypeElement : TsTypeElement → Tree → Type 0
 ReadsTsTypeElement (TsTypeElement.TsCallSignatureDecl form) t = (kind_of t ≡ kinds.TsCallSignatureDecl) × ReadsTsCallSignatureDecl form t

@@ -1,5 +1,9 @@
 ghost use Rattle.fast_check_syntax.specs.Part.{seen};
-ghost use Rattle.fast_check_forms.specs.ClassChoices.{ReadsClassMember, ReadsParamOrTsParamProp, ReadsTsParamPropParam};
+ghost use Rattle.fast_check_forms.specs.ClassChoices.{
+  ReadsClassMember,
+  ReadsParamOrTsParamProp,
+  ReadsTsParamPropParam,
+};
 
 use fast_check_class_forms::{
     AutoAccessor, ClassMethod, ClassProp, Constructor, Param, PrivateMethod, PrivateProp,

@@ -1,5 +1,10 @@
 ghost use Rattle.fast_check_syntax.specs.Part.{seen};
-ghost use Rattle.fast_check_forms.specs.ExpressionChoices.{ReadsExpr, ReadsBlockStmtOrExpr, ReadsOptChainBase, ReadsCallee};
+ghost use Rattle.fast_check_forms.specs.ExpressionChoices.{
+  ReadsExpr,
+  ReadsBlockStmtOrExpr,
+  ReadsOptChainBase,
+  ReadsCallee,
+};
 
 use crate::name_choices::Lit;
 use fast_check_expression_forms::{

@@ -1,4 +1,8 @@
-//! The forms of the syntax tree under swc's names: each reads a node by its fields, and makes one; and the choices between them.
+//! The forms of the syntax tree under swc's names: each reads a node by its fields, and makes one; and the choices between them, for `match`.
+//!
+//! A form reads a node where its `N` is a `Part` and its `T` a `&str`, and makes one where they are a `Tree` and an `Atom`.
+//!
+//! `of` reads a node by the places of its fields, whatever its kind is. A field that is not there is absent, false, empty or `DUMMY_SP`. `into_tree` fails only for want of memory. The `of` of a choice goes by the node's kind, and is `Other` for a kind that the choice has not.
 #![tactic(auto)]
 
 mod class_choices;
@@ -8,6 +12,8 @@ mod pattern_choices;
 mod program_choices;
 mod ranges;
 mod statement_choices;
+#[cfg(test)]
+mod tests;
 mod type_choices;
 
 pub use class_choices::ClassMember;

@@ -1,5 +1,13 @@
 ghost use Rattle.fast_check_syntax.specs.Part.{seen};
-ghost use Rattle.fast_check_forms.specs.NameChoices.{ReadsLit, ReadsPropName, ReadsMemberProp, ReadsKey, ReadsModuleExportName, ReadsTsModuleName, ReadsTsEnumMemberId};
+ghost use Rattle.fast_check_forms.specs.NameChoices.{
+  ReadsLit,
+  ReadsPropName,
+  ReadsMemberProp,
+  ReadsKey,
+  ReadsModuleExportName,
+  ReadsTsModuleName,
+  ReadsTsEnumMemberId,
+};
 
 use fast_check_expression_forms::ComputedPropName;
 use fast_check_program_forms::{

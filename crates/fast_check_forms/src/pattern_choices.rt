@@ -1,5 +1,11 @@
 ghost use Rattle.fast_check_syntax.specs.Part.{seen};
-ghost use Rattle.fast_check_forms.specs.PatternChoices.{ReadsPat, ReadsObjectPatProp, ReadsAssignTarget, ReadsProp, ReadsPropOrSpread};
+ghost use Rattle.fast_check_forms.specs.PatternChoices.{
+  ReadsPat,
+  ReadsObjectPatProp,
+  ReadsAssignTarget,
+  ReadsProp,
+  ReadsPropOrSpread,
+};
 
 use crate::expression_choices::Expr;
 use fast_check_expression_forms::{

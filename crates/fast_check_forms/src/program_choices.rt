@@ -1,5 +1,13 @@
 ghost use Rattle.fast_check_syntax.specs.Part.{seen};
-ghost use Rattle.fast_check_forms.specs.ProgramChoices.{ReadsProgram, ReadsModuleDecl, ReadsModuleItem, ReadsImportSpecifier, ReadsExportSpecifier, ReadsDefaultDecl, ReadsTsModuleRef};
+ghost use Rattle.fast_check_forms.specs.ProgramChoices.{
+  ReadsProgram,
+  ReadsModuleDecl,
+  ReadsModuleItem,
+  ReadsImportSpecifier,
+  ReadsExportSpecifier,
+  ReadsDefaultDecl,
+  ReadsTsModuleRef,
+};
 
 use crate::statement_choices::Stmt;
 use crate::type_choices::TsEntityName;

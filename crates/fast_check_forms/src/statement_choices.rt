@@ -1,5 +1,11 @@
 ghost use Rattle.fast_check_syntax.specs.Part.{seen};
-ghost use Rattle.fast_check_forms.specs.StatementChoices.{ReadsDecl, ReadsStmt, ReadsVarDeclOrExpr, ReadsForHead, ReadsTsNamespaceBody};
+ghost use Rattle.fast_check_forms.specs.StatementChoices.{
+  ReadsDecl,
+  ReadsStmt,
+  ReadsVarDeclOrExpr,
+  ReadsForHead,
+  ReadsTsNamespaceBody,
+};
 
 use crate::expression_choices::Expr;
 use crate::pattern_choices::Pat;

@@ -1,5 +1,14 @@
 ghost use Rattle.fast_check_syntax.specs.Part.{seen};
-ghost use Rattle.fast_check_forms.specs.TypeChoices.{ReadsTsFnOrConstructorType, ReadsTsUnionOrIntersectionType, ReadsTsType, ReadsTsEntityName, ReadsTsTypeQueryExpr, ReadsTsLit, ReadsTsThisTypeOrIdent, ReadsTsTypeElement};
+ghost use Rattle.fast_check_forms.specs.TypeChoices.{
+  ReadsTsFnOrConstructorType,
+  ReadsTsUnionOrIntersectionType,
+  ReadsTsType,
+  ReadsTsEntityName,
+  ReadsTsTypeQueryExpr,
+  ReadsTsLit,
+  ReadsTsThisTypeOrIdent,
+  ReadsTsTypeElement,
+};
 
 use fast_check_class_forms::TsIndexSignature;
 use fast_check_program_forms::{BigInt, Bool, Ident, Number, Str};

@@ -1,6 +1,19 @@
 ghost use Rattle.std.specs.Prelude.{◌≡◌, IfOk};
 ghost use Rattle.fast_check_syntax.specs.Part.{seen};
-ghost use Rattle.fast_check_program_forms.specs.Literals.{ReadsStr, str, ReadsBool, bool, ReadsNull, ReadsNumber, number, ReadsBigInt, big_int, ReadsRegex, regex, ReadsJSXText};
+ghost use Rattle.fast_check_program_forms.specs.Literals.{
+  ReadsStr,
+  str,
+  ReadsBool,
+  bool,
+  ReadsNull,
+  ReadsNumber,
+  number,
+  ReadsBigInt,
+  big_int,
+  ReadsRegex,
+  regex,
+  ReadsJSXText,
+};
 
 use fast_check_syntax::{Atom, Kind, Part, SourceRange, Tree};
 use std::alloc::{AllocError, Global};

@@ -1,6 +1,29 @@
 ghost use Rattle.std.specs.Prelude.{◌≡◌, IfOk};
 ghost use Rattle.fast_check_syntax.specs.Part.{seen};
-ghost use Rattle.fast_check_program_forms.specs.ModuleDecls.{ReadsImportDecl, import_decl, ReadsImportNamedSpecifier, ReadsImportDefaultSpecifier, ReadsImportStarAsSpecifier, ReadsTsImportEqualsDecl, ReadsTsExternalModuleRef, ReadsExportDecl, export_decl, ReadsNamedExport, named_export, ReadsExportNamespaceSpecifier, ReadsExportDefaultSpecifier, ReadsExportNamedSpecifier, ReadsExportDefaultDecl, export_default_decl, ReadsExportDefaultExpr, export_default_expr, ReadsExportAll, export_all, ReadsTsExportAssignment, ReadsTsNamespaceExportDecl};
+ghost use Rattle.fast_check_program_forms.specs.ModuleDecls.{
+  ReadsImportDecl,
+  import_decl,
+  ReadsImportNamedSpecifier,
+  ReadsImportDefaultSpecifier,
+  ReadsImportStarAsSpecifier,
+  ReadsTsImportEqualsDecl,
+  ReadsTsExternalModuleRef,
+  ReadsExportDecl,
+  export_decl,
+  ReadsNamedExport,
+  named_export,
+  ReadsExportNamespaceSpecifier,
+  ReadsExportDefaultSpecifier,
+  ReadsExportNamedSpecifier,
+  ReadsExportDefaultDecl,
+  export_default_decl,
+  ReadsExportDefaultExpr,
+  export_default_expr,
+  ReadsExportAll,
+  export_all,
+  ReadsTsExportAssignment,
+  ReadsTsNamespaceExportDecl,
+};
 
 use fast_check_syntax::{Atom, Kind, Part, SourceRange, Tree};
 use std::alloc::{AllocError, Global};
@@ -17,7 +40,7 @@ pub struct ImportDecl<N, T> {
     pub type_only: bool,
     /// An `ObjectLit`, or absent.
     pub with: N,
-    /// `evaluation`, or as it is written: `source`, `defer`.
+    /// The phase as a text, as `source` or `defer`.
     pub phase: T,
 }
 

@@ -1,6 +1,14 @@
 ghost use Rattle.std.specs.Prelude.{◌≡◌, IfOk};
 ghost use Rattle.fast_check_syntax.specs.Part.{seen};
-ghost use Rattle.fast_check_program_forms.specs.Names.{ReadsIdent, ident, ReadsIdentName, ReadsBindingIdent, binding_ident, ReadsPrivateName, private_name};
+ghost use Rattle.fast_check_program_forms.specs.Names.{
+  ReadsIdent,
+  ident,
+  ReadsIdentName,
+  ReadsBindingIdent,
+  binding_ident,
+  ReadsPrivateName,
+  private_name,
+};
 
 use fast_check_syntax::{Atom, Kind, Part, SourceRange, SyntaxContext, Tree};
 use std::alloc::{AllocError, Global};

@@ -1,6 +1,16 @@
 ghost use Rattle.std.specs.Prelude.{◌≡◌, IfOk};
 ghost use Rattle.fast_check_syntax.specs.Part.{seen};
-ghost use Rattle.fast_check_statement_forms.specs.Declarations.{ReadsClassDecl, class_decl, ReadsFnDecl, fn_decl, ReadsVarDecl, var_decl, ReadsVarDeclarator, var_declarator, ReadsUsingDecl};
+ghost use Rattle.fast_check_statement_forms.specs.Declarations.{
+  ReadsClassDecl,
+  class_decl,
+  ReadsFnDecl,
+  fn_decl,
+  ReadsVarDecl,
+  var_decl,
+  ReadsVarDeclarator,
+  var_declarator,
+  ReadsUsingDecl,
+};
 
 use fast_check_syntax::{Kind, Part, SourceRange, SyntaxContext, Tree};
 use std::alloc::{AllocError, Global};

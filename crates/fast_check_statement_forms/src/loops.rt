@@ -1,5 +1,11 @@
 ghost use Rattle.fast_check_syntax.specs.Part.{seen};
-ghost use Rattle.fast_check_statement_forms.specs.Loops.{ReadsWhileStmt, ReadsDoWhileStmt, ReadsForStmt, ReadsForInStmt, ReadsForOfStmt};
+ghost use Rattle.fast_check_statement_forms.specs.Loops.{
+  ReadsWhileStmt,
+  ReadsDoWhileStmt,
+  ReadsForStmt,
+  ReadsForInStmt,
+  ReadsForOfStmt,
+};
 
 use fast_check_syntax::{Part, SourceRange};
 

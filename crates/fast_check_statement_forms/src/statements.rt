@@ -1,6 +1,24 @@
 ghost use Rattle.std.specs.Prelude.{◌≡◌, IfOk};
 ghost use Rattle.fast_check_syntax.specs.Part.{seen};
-ghost use Rattle.fast_check_statement_forms.specs.Statements.{ReadsBlockStmt, block_stmt, ReadsEmptyStmt, ReadsDebuggerStmt, ReadsWithStmt, ReadsReturnStmt, return_stmt, ReadsLabeledStmt, ReadsBreakStmt, ReadsContinueStmt, ReadsIfStmt, ReadsSwitchStmt, ReadsSwitchCase, ReadsThrowStmt, ReadsTryStmt, ReadsCatchClause, ReadsExprStmt};
+ghost use Rattle.fast_check_statement_forms.specs.Statements.{
+  ReadsBlockStmt,
+  block_stmt,
+  ReadsEmptyStmt,
+  ReadsDebuggerStmt,
+  ReadsWithStmt,
+  ReadsReturnStmt,
+  return_stmt,
+  ReadsLabeledStmt,
+  ReadsBreakStmt,
+  ReadsContinueStmt,
+  ReadsIfStmt,
+  ReadsSwitchStmt,
+  ReadsSwitchCase,
+  ReadsThrowStmt,
+  ReadsTryStmt,
+  ReadsCatchClause,
+  ReadsExprStmt,
+};
 
 use fast_check_syntax::{Kind, Part, SourceRange, SyntaxContext, Tree};
 use std::alloc::{AllocError, Global};

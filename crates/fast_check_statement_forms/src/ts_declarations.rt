@@ -1,6 +1,19 @@
 ghost use Rattle.std.specs.Prelude.{◌≡◌, IfOk};
 ghost use Rattle.fast_check_syntax.specs.Part.{seen};
-ghost use Rattle.fast_check_statement_forms.specs.TsDeclarations.{ReadsTsInterfaceDecl, ts_interface_decl, ReadsTsExprWithTypeArgs, ReadsTsInterfaceBody, ReadsTsTypeAliasDecl, ReadsTsEnumDecl, ReadsTsEnumMember, ReadsTsModuleDecl, ts_module_decl, ReadsTsModuleBlock, ts_module_block, ReadsTsNamespaceDecl};
+ghost use Rattle.fast_check_statement_forms.specs.TsDeclarations.{
+  ReadsTsInterfaceDecl,
+  ts_interface_decl,
+  ReadsTsExprWithTypeArgs,
+  ReadsTsInterfaceBody,
+  ReadsTsTypeAliasDecl,
+  ReadsTsEnumDecl,
+  ReadsTsEnumMember,
+  ReadsTsModuleDecl,
+  ts_module_decl,
+  ReadsTsModuleBlock,
+  ts_module_block,
+  ReadsTsNamespaceDecl,
+};
 
 use fast_check_syntax::{Kind, Part, SourceRange, Tree};
 use std::alloc::{AllocError, Global};

@@ -1,4 +1,5 @@
--- Function types, and the members of interfaces and type literals. The fields of each form by their names; what a form has that reads a node.
+-- Function types, and the members of interfaces and type literals.
+-- Each form has its fields by their names, and what it holds once it reads a node.
 use Rattle.std.specs.Prelude.{◌≡◌, Bool}
 use Rattle.fast_check_syntax.specs.declared.part.Part.{Part}
 use Rattle.fast_check_syntax.specs.declared.source.SourceRange.{SourceRange}

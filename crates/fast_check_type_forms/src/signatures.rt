@@ -1,5 +1,14 @@
 ghost use Rattle.fast_check_syntax.specs.Part.{seen};
-ghost use Rattle.fast_check_type_forms.specs.Signatures.{ReadsTsFnType, ReadsTsConstructorType, ReadsTsCallSignatureDecl, ReadsTsConstructSignatureDecl, ReadsTsPropertySignature, ReadsTsGetterSignature, ReadsTsSetterSignature, ReadsTsMethodSignature};
+ghost use Rattle.fast_check_type_forms.specs.Signatures.{
+  ReadsTsFnType,
+  ReadsTsConstructorType,
+  ReadsTsCallSignatureDecl,
+  ReadsTsConstructSignatureDecl,
+  ReadsTsPropertySignature,
+  ReadsTsGetterSignature,
+  ReadsTsSetterSignature,
+  ReadsTsMethodSignature,
+};
 
 use fast_check_syntax::{Part, SourceRange};
 

@@ -1,6 +1,14 @@
 ghost use Rattle.std.specs.Prelude.{◌≡◌, IfOk};
 ghost use Rattle.fast_check_syntax.specs.Part.{seen};
-ghost use Rattle.fast_check_type_forms.specs.TypeOperators.{ReadsTsConditionalType, ReadsTsInferType, ReadsTsTypeOperator, ts_type_operator, ReadsTsIndexedAccessType, ReadsTsMappedType, ReadsTsTypePredicate};
+ghost use Rattle.fast_check_type_forms.specs.TypeOperators.{
+  ReadsTsConditionalType,
+  ReadsTsInferType,
+  ReadsTsTypeOperator,
+  ts_type_operator,
+  ReadsTsIndexedAccessType,
+  ReadsTsMappedType,
+  ReadsTsTypePredicate,
+};
 
 use fast_check_syntax::{Kind, Part, SourceRange, Tree};
 use std::alloc::{AllocError, Global};

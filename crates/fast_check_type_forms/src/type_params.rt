@@ -1,6 +1,13 @@
 ghost use Rattle.std.specs.Prelude.{◌≡◌, IfOk};
 ghost use Rattle.fast_check_syntax.specs.Part.{seen};
-ghost use Rattle.fast_check_type_forms.specs.TypeParams.{ReadsTsTypeParam, ReadsTsTypeParamDecl, ReadsTsTypeParamInstantiation, ts_type_param_instantiation, ReadsTsTypeAnn, ts_type_ann};
+ghost use Rattle.fast_check_type_forms.specs.TypeParams.{
+  ReadsTsTypeParam,
+  ReadsTsTypeParamDecl,
+  ReadsTsTypeParamInstantiation,
+  ts_type_param_instantiation,
+  ReadsTsTypeAnn,
+  ts_type_ann,
+};
 
 use fast_check_syntax::{Kind, Part, SourceRange, Tree};
 use std::alloc::{AllocError, Global};

@@ -1,6 +1,29 @@
 ghost use Rattle.std.specs.Prelude.{◌≡◌, IfOk};
 ghost use Rattle.fast_check_syntax.specs.Part.{seen};
-ghost use Rattle.fast_check_type_forms.specs.Types.{ReadsTsKeywordType, ts_keyword_type, ReadsTsThisType, ReadsTsTypeRef, ts_type_ref, ReadsTsQualifiedName, ReadsTsTypeQuery, ReadsTsImportType, ReadsTsTypeLit, ReadsTsArrayType, ReadsTsTupleType, ReadsTsTupleElement, ts_tuple_element, ReadsTsOptionalType, ReadsTsRestType, ReadsTsParenthesizedType, ReadsTsUnionType, ts_union_type, ReadsTsIntersectionType, ReadsTsLitType, ts_lit_type, ReadsTsTplLitType};
+ghost use Rattle.fast_check_type_forms.specs.Types.{
+  ReadsTsKeywordType,
+  ts_keyword_type,
+  ReadsTsThisType,
+  ReadsTsTypeRef,
+  ts_type_ref,
+  ReadsTsQualifiedName,
+  ReadsTsTypeQuery,
+  ReadsTsImportType,
+  ReadsTsTypeLit,
+  ReadsTsArrayType,
+  ReadsTsTupleType,
+  ReadsTsTupleElement,
+  ts_tuple_element,
+  ReadsTsOptionalType,
+  ReadsTsRestType,
+  ReadsTsParenthesizedType,
+  ReadsTsUnionType,
+  ts_union_type,
+  ReadsTsIntersectionType,
+  ReadsTsLitType,
+  ts_lit_type,
+  ReadsTsTplLitType,
+};
 
 use fast_check_syntax::{Kind, Part, SourceRange, Tree};
 use std::alloc::{AllocError, Global};
