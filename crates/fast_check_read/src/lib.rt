@@ -4,12 +4,14 @@
 mod comments;
 mod error;
 mod float;
+mod input;
 mod pieces;
 mod tree;
 
 pub use comments::read_comments;
 pub use error::ReadError;
 pub use float::has_float;
+pub use input::{InputFault, read_input};
 pub use pieces::{
     read_flag, read_optional_flag, read_range, read_ranges, read_text, read_u32, read_u64,
 };
