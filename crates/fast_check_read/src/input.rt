@@ -1,5 +1,5 @@
 ghost use Rattle.std.specs.Prelude.{◌≡◌, None, Some, IfOk, IfErr, IsUtf8, ◌<◌, length};
-ghost use Rattle.serde_json.specs.Text.{read_text};
+ghost use Rattle.serde_json.specs.Read.{read as read_text};
 ghost use Rattle.serde_json.specs.View.{view};
 
 use serde_json::Value;
