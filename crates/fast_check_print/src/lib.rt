@@ -1,0 +1,8 @@
+//! Printing trees, comments and their pieces as JSON.
+#![tactic(auto)]
+
+mod pieces;
+mod tree;
+
+pub use pieces::{print_position, print_range, print_text};
+pub use tree::print_tree;
