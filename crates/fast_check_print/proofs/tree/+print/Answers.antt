@@ -17,6 +17,6 @@ print_fields-returns t c =
     let fields = iter_rest (zip_second c.loop-part.part-iterator) in
     let parts = iter_rest (zip_first c.loop-part.part-iterator) in
     view-Object c.loop-part.members ∙ ap object (sym (c.loop-part.invariant ∙ elim c.in-None.ensures.steps [
-      inl end ↦ with_fields-no_parts members fields parts end.1.0
+      | inl end ↦ with_fields-no_parts members fields parts end.1.0
       | inr end ↦ with_fields-no_fields members fields parts end.1.0
     ]))
