@@ -1,0 +1,2 @@
+mod Fields
+mod Lists
