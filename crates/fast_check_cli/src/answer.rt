@@ -14,38 +14,56 @@ pub fn print_answer(
     answer: &Result<FastCheckModule, Vec<FastCheckDiagnostic>>,
 ) -> Result<Value, AllocError> {
     match answer {
-        Ok(module) => object(alloc, [("Ok", print_module(alloc, module)?)]),
+        Ok(module) => single(alloc, "Ok", print_module(alloc, module)?),
         Err(diagnostics) => {
             let mut printed = Vec::new(alloc);
             for diagnostic in diagnostics.as_slice() {
                 printed.push(print_diagnostic(alloc, diagnostic)?)?;
             }
-            object(alloc, [("Err", Value::Array(printed))])
+            single(alloc, "Err", Value::Array(printed))
         }
     }
 }
 
-/// The object of these members.
-fn object<const N: usize>(
+/// A member more of an object.
+fn put(
     alloc: Global,
-    members: [(&'static str, Value); N],
-) -> Result<Value, AllocError> {
-    let mut map = Map::new(alloc);
-    for (name, value) in Vec::from_array(alloc, members)? {
-        drop(map.insert(String::from_str(alloc, name)?, value)?);
-    }
-    Ok(Value::Object(map))
+    members: &mut Map<String, Value>,
+    name: &str,
+    value: Value,
+) -> Result<(), AllocError> {
+    drop(members.insert(String::from_str(alloc, name)?, value)?);
+    Ok(())
+}
+
+/// The object of one member.
+fn single(alloc: Global, name: &str, value: Value) -> Result<Value, AllocError> {
+    let mut members = Map::new(alloc);
+    put(alloc, &mut members, name, value)?;
+    Ok(Value::Object(members))
 }
 
 fn print_module(alloc: Global, module: &FastCheckModule) -> Result<Value, AllocError> {
-    object(
+    let mut members = Map::new(alloc);
+    put(
         alloc,
-        [
-            ("comments", print_comments(alloc, &module.comments)?),
-            ("module_info", print_module_info(alloc, &module.module_info)?),
-            ("program", print_tree(alloc, &module.program, Form::Struct(Kind::Module))?),
-        ],
-    )
+        &mut members,
+        "comments",
+        print_comments(alloc, &module.comments)?,
+    )?;
+    put(
+        alloc,
+        &mut members,
+        "module_info",
+        print_module_info(alloc, &module.module_info)?,
+    )?;
+    put(
+        alloc,
+        &mut members,
+        "program",
+        print_tree(alloc, &module.program, Form::Struct(Kind::Module))?,
+    )?;
+    Ok(Value::Object(members))
 }
 
 fn print_module_info(alloc: Global, info: &ModuleInfo) -> Result<Value, AllocError> {
@@ -53,25 +71,39 @@ fn print_module_info(alloc: Global, info: &ModuleInfo) -> Result<Value, AllocErr
     for source in info.sources.as_slice() {
         sources.push(print_static_source(alloc, source)?)?;
     }
-    object(alloc, [("sources", Value::Array(sources))])
+    single(alloc, "sources", Value::Array(sources))
 }
 
 fn print_static_source(alloc: Global, source: &StaticSource) -> Result<Value, AllocError> {
-    object(
+    let mut members = Map::new(alloc);
+    put(
         alloc,
-        [
-            ("is_export", Value::Bool(source.is_export)),
-            ("range", print_range(alloc, source.range)?),
-            ("specifier", print_text(alloc, source.specifier.as_str())?),
-            ("type_only", Value::Bool(source.type_only)),
-        ],
-    )
+        &mut members,
+        "is_export",
+        Value::Bool(source.is_export),
+    )?;
+    put(
+        alloc,
+        &mut members,
+        "range",
+        print_range(alloc, source.range)?,
+    )?;
+    put(
+        alloc,
+        &mut members,
+        "specifier",
+        print_text(alloc, source.specifier.as_str())?,
+    )?;
+    put(
+        alloc,
+        &mut members,
+        "type_only",
+        Value::Bool(source.type_only),
+    )?;
+    Ok(Value::Object(members))
 }
 
-fn print_diagnostic(
-    alloc: Global,
-    diagnostic: &FastCheckDiagnostic,
-) -> Result<Value, AllocError> {
+fn print_diagnostic(alloc: Global, diagnostic: &FastCheckDiagnostic) -> Result<Value, AllocError> {
     let range = match diagnostic.range() {
         Some(range) => print_range(alloc, range.range)?,
         None => Value::Null,
@@ -80,19 +112,46 @@ fn print_diagnostic(
         DiagnosticLevel::Error => "Error",
         DiagnosticLevel::Warning => "Warning",
     };
-    object(
+    let mut members = Map::new(alloc);
+    put(
         alloc,
-        [
-            ("code", print_text(alloc, diagnostic.code())?),
-            ("docs_url", print_optional(alloc, diagnostic.docs_url(alloc)?)?),
-            ("hint", print_optional(alloc, diagnostic.hint(alloc)?)?),
-            ("info", print_lines(alloc, diagnostic.info(alloc)?)?),
-            ("level", print_text(alloc, level)?),
-            ("message", Value::String(diagnostic.message(alloc)?)),
-            ("range", range),
-            ("specifier", print_text(alloc, diagnostic.specifier().as_str())?),
-        ],
-    )
+        &mut members,
+        "code",
+        print_text(alloc, diagnostic.code())?,
+    )?;
+    put(
+        alloc,
+        &mut members,
+        "docs_url",
+        print_optional(alloc, diagnostic.docs_url(alloc)?)?,
+    )?;
+    put(
+        alloc,
+        &mut members,
+        "hint",
+        print_optional(alloc, diagnostic.hint(alloc)?)?,
+    )?;
+    put(
+        alloc,
+        &mut members,
+        "info",
+        print_lines(alloc, diagnostic.info(alloc)?)?,
+    )?;
+    put(alloc, &mut members, "level", print_text(alloc, level)?)?;
+    put(
+        alloc,
+        &mut members,
+        "message",
+        Value::String(diagnostic.message(alloc)?),
+    )?;
+    put(alloc, &mut members, "range", range)?;
+    put(
+        alloc,
+        &mut members,
+        "specifier",
+        print_text(alloc, diagnostic.specifier().as_str())?,
+    )?;
+    Ok(Value::Object(members))
 }
 
 fn print_optional(alloc: Global, text: Option<String>) -> Result<Value, AllocError> {

@@ -6,8 +6,6 @@ mod refusal;
 mod request;
 mod run;
 
-
-
 use run::run;
 use std::alloc::{AllocError, Global};
 use std::env;

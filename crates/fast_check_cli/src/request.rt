@@ -51,10 +51,7 @@ fn member<'a>(value: &'a Value, name: &str) -> Result<&'a Value, ReadError> {
     value.get(name).ok_or(ReadError::BadForm)
 }
 
-fn read_optional_ranges(
-    alloc: Global,
-    value: Option<&Value>,
-) -> Result<Vec<SourceRange>, Refusal> {
+fn read_optional_ranges(alloc: Global, value: Option<&Value>) -> Result<Vec<SourceRange>, Refusal> {
     let mut ranges = Vec::new(alloc);
     if let Some(value) = value {
         for range in read_ranges(alloc, value)?.as_slice() {
@@ -82,7 +79,11 @@ fn read_source(alloc: Global, value: &Value) -> Result<ParsedSource, Refusal> {
     Ok(ParsedSource {
         media_type: read_media_type(member(value, "media_type")?)?,
         text: RcStr::from_str(alloc, read_text(member(value, "text")?)?)?,
-        program: read_tree(alloc, member(value, "program")?, Form::Choice(Choice::Program))?,
+        program: read_tree(
+            alloc,
+            member(value, "program")?,
+            Form::Choice(Choice::Program),
+        )?,
         comments: match value.get("comments") {
             Some(comments) => read_comments(alloc, comments)?,
             None => Comments::new(alloc),
