@@ -1,12 +1,7 @@
 //! `fast-check (build|transform|pair) FILE`: the fast check of TypeScript modules, from a JSON file to a line of JSON.
 #![tactic(auto)]
 
-mod answer;
-mod refusal;
-mod request;
-mod run;
-
-use run::run;
+use fast_check_program::{Refusal, run};
 use std::alloc::{AllocError, Global};
 use std::env;
 use std::fs::File;
@@ -27,7 +22,7 @@ fn main(rt: HostRuntime) -> ExitCode {
     let mut out = rt.stdout();
     let mut err = rt.stderr();
     let Ok(words) = words(&rt, rt.alloc()) else {
-        return ExitCode::from(refusal::Refusal::OutOfMemory.told(&mut err));
+        return ExitCode::from(Refusal::OutOfMemory.told(&mut err));
     };
     let file = match words.as_slice() {
         [_, path] => File::open(&rt, path.as_str()).ok(),

@@ -1,0 +1,115 @@
+#!/usr/bin/env python3
+"""Times `fast-check transform` on modules of growing size.
+
+For each shape and size it prints the input's megabytes, the program's seconds and peak memory, the seconds that a JSON
+library of Python (orjson, or json where that isn't there) needs to load and dump the same file, and the ratio of both.
+The program has to be built: run `./fast-check transform examples/first.json` once.
+
+Usage: bench/transform.py [MEGABYTES ..]        (1 2 5 10 20 where none is given)
+"""
+import json
+import os
+import resource
+import subprocess
+import sys
+import tempfile
+import time
+
+try:
+    import orjson
+    NAME, LOAD, DUMP = "orjson", orjson.loads, orjson.dumps
+except ImportError:
+    NAME, LOAD, DUMP = "json", json.loads, lambda value: json.dumps(value).encode()
+
+TOP = os.path.dirname(os.path.dirname(os.path.abspath(__file__)))
+PROGRAM = os.path.join(TOP, "crates/fast_check_cli/out/fast_check_cli")
+DEPTH = 40
+
+
+def literal(kind, place):
+    if kind == 0:
+        return {"Lit": {"Str": {"span": [place, place + 5], "value": f"a{place}", "raw": f'"a{place}"'}}}
+    if kind == 1:
+        return {"Lit": {"Num": {"span": [place, place + 5], "raw": str(place)}}}
+    return {"Lit": {"Bool": {"span": [place, place + 4], "value": True}}}
+
+
+def nested(place):
+    value = literal(1, place)
+    for level in range(DEPTH):
+        value = {"Paren": {"span": [place - level, place + 5 + level], "expr": value}}
+    return value
+
+
+def declarator(index, place, shape):
+    name = {"id": {"span": [place, place + 5], "ctxt": 2, "sym": f"x{index}", "optional": False}, "type_ann": None}
+    value = literal(index % 3, place + 8)
+    if shape == "deep":
+        name["type_ann"] = {"span": [place + 5, place + 7], "type_ann": {"TsKeywordType": {"span": [place + 5, place + 7], "kind": "TsNumberKeyword"}}}
+        value = nested(place + 60)
+    return {"span": [place, place + 20], "name": {"Ident": name}, "init": value, "definite": False}
+
+
+def statement(declarators, start, end):
+    var = {"span": [start + 7, end], "ctxt": 0, "kind": "Const", "declare": False, "decls": declarators}
+    return {"ModuleDecl": {"ExportDecl": {"span": [start, end], "decl": {"Var": var}}}}
+
+
+def module(shape, size):
+    """A module of about `size` bytes: a statement for each declarator (`items`), one statement for all (`wide`), or
+    values nested deep behind written types (`deep`). Every second declarator is public."""
+    one = len(json.dumps(statement([declarator(100000, 5000000, shape)], 4999990, 5000030)))
+    count = max(1, size // one)
+    ranges, declarators, place = [], [], 1
+    for index in range(count):
+        declarators.append(declarator(index, place + 14, shape))
+        if index % 2 == 0:
+            ranges.append([place + 14, place + 34])
+        place += 200
+    if shape == "wide":
+        body = [statement(declarators, 1, place)]
+    else:
+        body = [statement([d], d["span"][0] - 14, d["span"][1] + 1) for d in declarators]
+    source = {"media_type": "TypeScript", "text": "", "program": {"Module": {"span": [1, place], "body": body, "shebang": None}},
+              "comments": {"leading": [], "trailing": []}, "unresolved_context": 1}
+    return {"module": {"specifier": "file:///p/mod.ts", "source": source}, "ranges": ranges, "impls": [], "first": False}
+
+
+def best(repeat, call):
+    times = []
+    for _ in range(repeat):
+        start = time.perf_counter()
+        call()
+        times.append(time.perf_counter() - start)
+    return min(times)
+
+
+def peak_of(path):
+    """Peak memory of one run, in megabytes."""
+    pid = os.fork()
+    if pid == 0:
+        null = os.open(os.devnull, os.O_WRONLY)
+        os.dup2(null, 1)
+        os.execv(PROGRAM, [PROGRAM, "transform", path])
+    _, status, usage = os.wait4(pid, 0)
+    if status != 0:
+        sys.exit(f"status {status} on {path}")
+    return usage.ru_maxrss / 1024
+
+
+def main():
+    sizes = [int(word) for word in sys.argv[1:]] or [1, 2, 5, 10, 20]
+    print(f"shape    MB in   seconds   MB peak   {NAME} load+dump   ratio")
+    for shape in ("items", "wide", "deep"):
+        for size in sizes:
+            with tempfile.NamedTemporaryFile(suffix=".json") as file:
+                file.write(json.dumps(module(shape, size * 1000000), separators=(",", ":")).encode())
+                file.flush()
+                text = open(file.name, "rb").read()
+                run = lambda: subprocess.run([PROGRAM, "transform", file.name], stdout=subprocess.DEVNULL, check=True)
+                program = best(3, run)
+                library = best(3, lambda: DUMP(LOAD(open(file.name, "rb").read())))
+                print(f"{shape:6} {len(text) / 1e6:7.2f} {program:9.3f} {peak_of(file.name):9.0f} {library:18.3f} {program / library:7.2f}", flush=True)
+
+
+main()
