@@ -16,9 +16,9 @@ use Rattle.fast_check_names.specs.declared.lattice.imported_exports.ImportedExpo
 use Rattle.fast_check_names.specs.declared.lattice.imported_exports.ImportedExports.TheVariants.{Star, StarWithDefault, Subset}
 use Rattle.fast_check_names.specs.Names.{Name, Path, Part, Touched, Covered, NameSet, paths, paths_at, nothing, whole, has_subset, has_whole, IsSame, IsBelow, IsJoin, IsJoined, HasMore, IsDifference}
 use Rattle.fast_check_names.specs.Imports.{default_name, all_but_default, all_names, imported, answered, IsLeastForm, IsAnswer, IsDefaultAlone, NameDemand, names_but_default, each_name, subset_at, whole_at, demands, is_star, IsWidened, IsAdded}
-use Rattle.fast_check_names.proofs.Paths.{paths_opened, paths_opened_nil}
+use Rattle.fast_check_names.specs.Paths.{paths_opened, paths_opened_nil}
 use Rattle.fast_check_names.proofs.Build.{Entry}
-use Rattle.fast_check_names.proofs.Shapes.{nothing_below, all_below}
+use Rattle.fast_check_names.specs.Shapes.{nothing_below, all_below}
 
 -- No set of names has all names but `default`: a name longer than each of its names is missing.
 

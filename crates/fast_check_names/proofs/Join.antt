@@ -9,7 +9,7 @@ use Rattle.fast_check_names.specs.declared.lattice.named_subset.Exports.{Exports
 use Rattle.fast_check_names.specs.declared.lattice.named_subset.Exports.TheVariants.{All, Subset}
 use Rattle.fast_check_names.specs.declared.lattice.named_subset.NamedSubset.{NamedSubset, out-NamedSubset}
 use Rattle.fast_check_names.specs.Names.{Name, Names, Path, Part, NameSet, Puts, is_touched, everything, named, paths, paths_below, paths_at, IsJoin, IsJoinBelow, IsJoinWhereHeld, IsSame}
-use Rattle.fast_check_names.proofs.Paths.{made, paths_made, paths_made_nil, paths_opened, paths_opened_nil, below_all, below_subset, below_subset_nil}
+use Rattle.fast_check_names.specs.Paths.{made, paths_made, paths_made_nil, paths_opened, paths_opened_nil, below_all, below_subset, below_subset_nil}
 
 or_false : (b : Bool) → b ≡ (b || false)
 or_false true = refl

@@ -21,7 +21,7 @@ use Rattle.fast_check_names.specs.declared.lattice.named_subset.Exports.{Exports
 use Rattle.fast_check_names.specs.declared.lattice.named_subset.Exports.TheVariants.{All, Subset}
 use Rattle.fast_check_names.specs.declared.lattice.named_subset.NamedSubset.{NamedSubset, out-NamedSubset}
 use Rattle.fast_check_names.specs.Names.{Name, Path, Part, Touched, Covered, has_subset, paths, paths_below, paths_at, listed_at, IsListed}
-use Rattle.fast_check_names.proofs.Paths.{paths_opened, below_all, below_subset_nil}
+use Rattle.fast_check_names.specs.Paths.{paths_opened, below_all, below_subset_nil}
 use Rattle.fast_check_names.proofs.Build.{Entry}
 
 -- a look-up by the order finds what one by equality finds

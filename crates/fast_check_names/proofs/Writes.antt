@@ -16,7 +16,7 @@ use Rattle.fast_check_names.specs.declared.lattice.named_subset.Exports.{Exports
 use Rattle.fast_check_names.specs.declared.lattice.named_subset.Exports.TheVariants.{Subset}
 use Rattle.fast_check_names.specs.declared.lattice.named_subset.NamedSubset.{NamedSubset, out-NamedSubset}
 use Rattle.fast_check_names.specs.Names.{Name, Names, Path, Part, NameSet, Puts, paths, paths_below, paths_at, named, whole, whole_below, whole_path, everything, IsSame, IsJoin, IsJoined, IsJoinBelow, is_touched}
-use Rattle.fast_check_names.proofs.Paths.{made, paths_made, paths_made_nil, paths_opened, paths_opened_nil, below_subset, below_subset_nil}
+use Rattle.fast_check_names.specs.Paths.{made, paths_made, paths_made_nil, paths_opened, paths_opened_nil, below_subset, below_subset_nil}
 use Rattle.fast_check_names.proofs.Build.{Entry}
 use Rattle.fast_check_names.proofs.Sets.{of_join}
 use Rattle.fast_check_names.proofs.Join.{join_put, or_itself}

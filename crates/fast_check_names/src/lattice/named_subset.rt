@@ -1,16 +1,18 @@
 //! Sets of demanded names.
 
-ghost use Rattle.std.specs.Prelude.{◌≡◌, ◌∷◌, [], ◌↔◌, true, false, Some, None, IfOk, OnOk, OnErr, IsTrue, string_bytes, option_copied};
+ghost use Rattle.std.specs.Prelude.{◌≡◌, ◌∷◌, [], ◌↔◌, true, false, Some, None, is_some, IfOk, OnOk, OnErr, IsTrue, string_bytes, option_copied};
 ghost use Rattle.fast_check_names.specs.Names.{Name, Path, Part, Touched, Puts, paths, paths_below, paths_at, nothing, named, subset_of, whole, whole_path, whole_below, path_of, IsJoin, IsJoined, IsListed, has_subset, IsJoinBelow, IsJoinWhereHeld, IsSame, IsDifference, IsDifferenceBelow};
 ghost use Rattle.std.specs.BTreeMap.{get_by_text, IsOrdered};
 ghost use Rattle.std.specs.String.{string_cmp};
+ghost use Rattle.fast_check_names.specs.Equality.{same_exports, same_names};
+ghost use Rattle.fast_check_names.specs.EqualityLaws.{exports_laws, names_laws, exports_equiv, names_equiv};
 
 use std::alloc::{AllocError, Global};
 use std::collections::BTreeMap;
 use std::default::Emptied;
 
 /// What is demanded below a name: all of it, or a subset, which may be empty.
-#[derive(Debug, PartialEq, Eq, Drop)]
+#[derive(Debug, Drop)]
 #[cycle(names)]
 pub enum Exports {
     All,
@@ -18,7 +20,7 @@ pub enum Exports {
 }
 
 /// A set of names, each with what is demanded below it.
-#[derive(Debug, PartialEq, Eq, Drop)]
+#[derive(Debug, Drop)]
 #[cycle(names)]
 pub struct NamedSubset {
     names: BTreeMap<String, Exports>,
@@ -206,6 +208,83 @@ fn put_absent(
         }
     }
     Ok(())
+}
+
+/// Whether each name of `names` is one of `others`.
+fn has_names(others: &BTreeMap<String, Exports>, names: &BTreeMap<String, Exports>) -> bool
+    ensures { IsTrue result ↔ ((n : Name) → IsTrue (is_some (get_by_text names.now n)) → IsTrue (is_some (get_by_text others.now n))) }
+{
+    for (name, _) in names {
+        if !others.contains_key(name.as_str()) {
+            return false;
+        }
+    }
+    true
+}
+
+#[cycle(same)]
+fn is_same_below(a: &Exports, b: &Exports) -> bool
+    ensures { IsTrue result ↔ IsSame (paths_below a.now) (paths_below b.now) }
+{
+    match (a, b) {
+        (Exports::All, Exports::All) => true,
+        (Exports::Subset(a), Exports::Subset(b)) => is_same(a, b),
+        (Exports::All, Exports::Subset(_)) => false,
+        (Exports::Subset(_), Exports::All) => false,
+    }
+}
+
+#[cycle(same)]
+fn is_same(a: &NamedSubset, b: &NamedSubset) -> bool
+    ensures { IsTrue result ↔ IsSame (paths a.now) (paths b.now) }
+{
+    for (name, below) in &a.names {
+        match b.names.get(name.as_str()) {
+            None => return false,
+            Some(other) => {
+                if !is_same_below(below, other) {
+                    return false;
+                }
+            }
+        }
+    }
+    has_names(&a.names, &b.names)
+}
+
+impl PartialEq for Exports {
+    ghost eq = { same_exports };
+
+    ghost laws = { exports_laws };
+
+    /// Whether both demand the same.
+    fn eq(&self, other: &Exports) -> bool
+        ensures value { result ≡ same_exports self.now other.now }
+        ensures same { IsTrue result ↔ IsSame (paths_below self.now) (paths_below other.now) }
+    {
+        is_same_below(self, other)
+    }
+}
+
+impl PartialEq for NamedSubset {
+    ghost eq = { same_names };
+
+    ghost laws = { names_laws };
+
+    /// Whether both have the same names, and below each the same. The order in which they were added plays no part.
+    fn eq(&self, other: &NamedSubset) -> bool
+        ensures value { result ≡ same_names self.now other.now }
+        ensures same { IsTrue result ↔ IsSame (paths self.now) (paths other.now) }
+    {
+        is_same(self, other)
+    }
+}
+
+impl Eq for Exports {
+    ghost laws = { exports_equiv };
+}
+
+impl Eq for NamedSubset {
+    ghost laws = { names_equiv };
 }
 
 /// The set of one name, and what is demanded below it.

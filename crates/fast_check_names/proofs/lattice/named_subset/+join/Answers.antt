@@ -3,7 +3,7 @@ use Rattle.std.specs.BTreeMap.{get_by_text}
 use Rattle.fast_check_names.specs.declared.lattice.named_subset.Exports.{Exports}
 use Rattle.fast_check_names.specs.Names.{Name, Names, IsJoinBelow, IsJoinWhereHeld}
 use Rattle.fast_check_names.proofs.Build.{built_put, built_last, found_at, none_first, built_first}
-use Rattle.fast_check_names.proofs.Paths.{made}
+use Rattle.fast_check_names.specs.Paths.{made}
 use Rattle.fast_check_names.proofs.Join.{join_nothing, join_both, join_each}
 use Rattle.fast_check_names.proofs.lattice.named_subset.+join.Goals as goal
 

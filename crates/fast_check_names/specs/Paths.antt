@@ -24,7 +24,7 @@ paths_roll x part p = ap (λ (f : NameSet). f part p) (fold-roll-NamedSubset Nam
 paths_out : (s : NamedSubset) (part : Part) (p : Path) → paths s part p ≡ named_step (map-NamedSubset Exports NamedSubset NameSet NameSet paths_below paths (out-NamedSubset s)) part p
 paths_out s part p = ap (λ (f : NameSet). f part p) (fold_out-NamedSubset NameSet NameSet exports_step named_step s)
 
-below_roll : (x : Exports-F Exports NamedSubset) (part : Part) (p : Path) → paths_below (roll-Exports x) part p ≡ exports_step (map-Exports Exports NamedSubset NameSet NameSet paths_below paths x) part p
+pub below_roll : (x : Exports-F Exports NamedSubset) (part : Part) (p : Path) → paths_below (roll-Exports x) part p ≡ exports_step (map-Exports Exports NamedSubset NameSet NameSet paths_below paths x) part p
 below_roll x part p = ap (λ (f : NameSet). f part p) (fold-roll-Exports NameSet NameSet exports_step named_step x)
 
 found_mapped : (test : String Global → Bool) (part : Part) (q : Path) (es : List (String Global × Exports)) → under (lookup test (map (λ e. (e.0, paths_below e.1)) es)) part q ≡ paths_at (lookup test es) part q

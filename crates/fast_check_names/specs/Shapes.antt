@@ -7,14 +7,14 @@ use Rattle.fast_check_names.specs.declared.lattice.named_subset.NamedSubset.{Nam
 use Rattle.fast_check_names.specs.declared.lattice.named_subset.Exports.TheOpen as open'
 use Rattle.fast_check_names.specs.declared.lattice.named_subset.Exports.TheOpen.{Exports-F}
 use Rattle.fast_check_names.specs.Names.{Name, IsNameSet, Path, Part, Touched, Covered, NameSet, paths, paths_below, paths_at, named_step, exports_step}
-use Rattle.fast_check_names.proofs.Paths.{touched_below, paths_opened}
+use Rattle.fast_check_names.specs.Paths.{touched_below, paths_opened}
 
 -- what is covered itself covers all
 all_shape : (x : Exports-F Exports NamedSubset) → exports_step (map-Exports Exports NamedSubset NameSet NameSet paths_below paths x) Covered [] ≡ true → (part : Part) (q : Path) → exports_step (map-Exports Exports NamedSubset NameSet NameSet paths_below paths x) part q ≡ true
 all_shape open'.All h part q = refl
 all_shape (open'.Subset s) h part q = absurd (false≢true h)
 
-opened : (x : Exports) (part : Part) (q : Path) → paths_below x part q ≡ exports_step (map-Exports Exports NamedSubset NameSet NameSet paths_below paths (out-Exports x)) part q
+pub opened : (x : Exports) (part : Part) (q : Path) → paths_below x part q ≡ exports_step (map-Exports Exports NamedSubset NameSet NameSet paths_below paths (out-Exports x)) part q
 opened x part q = ap (λ (f : NameSet). f part q) (fold_out-Exports NameSet NameSet exports_step named_step x)
 
 pub all_below : (o : Option Exports) → paths_at o Covered [] ≡ true → (part : Part) (q : Path) → paths_at o part q ≡ true
