@@ -73,7 +73,7 @@ join_put s m' n f z now j part (m ∷ q) =
     paths_made m' m part q ∙ (ap (λ o. paths_at o part q) (now m) ∙ (⊎_elim
     (λ e. ap (λ b. paths_at (cond b (Some z) (at m)) part q) e
     ∙ here (bytes_eq n m) (paths_at (at m) part q) (f part q) (paths_below z part q) e
-      (subst (λ (k : Name). paths_below z part q ≡ (paths_at (at k) part q || f part q)) ((bytes_eq-Decides n m).0 e) (j part q)))
+    (subst (λ (k : Name). paths_below z part q ≡ (paths_at (at k) part q || f part q)) ((bytes_eq-Decides n m).0 e) (j part q)))
     (λ e. ap (λ b. paths_at (cond b (Some z) (at m)) part q) e ∙ there (bytes_eq n m) (paths_at (at m) part q) (f part q) e)
     (cases_Bool (bytes_eq n m))
     ∙ ap (λ b. b || (bytes_eq n m && f part q)) (sym (paths_opened s m part q))))

@@ -1,4 +1,5 @@
 pub mod Package
+pub mod PackageOrder
 pub mod Names
 pub mod Imports
 pub mod Traces

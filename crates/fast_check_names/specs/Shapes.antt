@@ -26,7 +26,6 @@ pub nothing_below : (o : Option Exports) → paths_at o Touched [] ≡ false →
 nothing_below None h part q = refl
 nothing_below (Some x) h part q = absurd (false≢true (sym h ∙ touched_below x))
 
-
 -- a fact of a longer path, from the same of the subset that stands there
 deeper : (x : Exports-F Exports NamedSubset) (part other : Part) (p r : Path) (n : Name) → ((s : NamedSubset) → paths s part (n ∷ p) ≡ true → paths s other (n ∷ r) ≡ true) → exports_step (map-Exports Exports NamedSubset NameSet NameSet paths_below paths x) part (n ∷ p) ≡ true → exports_step (map-Exports Exports NamedSubset NameSet NameSet paths_below paths x) other (n ∷ r) ≡ true
 deeper open'.All part other p r n f h = refl

@@ -36,7 +36,7 @@ pub join-returns : goal.join-returns
 join-returns t c = join_each c.args.old.now c.args.new.now (made c.put_absent.new.names) c.in_ok-put_absent.ensures
 
 pub join-put_absent-requires : goal.join-put_absent-requires
-join-put_absent-requires t c = 
+join-put_absent-requires t c =
     built_last L (R c.args.new.now.names) c.args.old.now.names c.loop-name.names (rw c.in-None.ensures.steps.0 at c.loop-name.invariant) (λ n o is e. e)
 
 pub join_below-returns-in_ok-join-in-Subset-Subset : goal.join_below-returns-in_ok-join-in-Subset-Subset
