@@ -1,12 +1,12 @@
 -- Equal sets, name by name.
-use Rattle.std.proofs.Common.{◌≡◌, ◌∙◌, sym, ap, refl, subst, Bool, true, false, [], ◌∷◌, Option, Some, None, ◌↔◌, string_bytes}
+use Rattle.std.proofs.Common.{◌≡◌, ◌∙◌, sym, ap, refl, subst, true, false, [], ◌∷◌, Option, Some, None}
 use Rattle.std.specs.Option.{is_some}
 use Rattle.std.specs.BTreeMap.{get_by_text}
 use Rattle.std.proofs.lemmas.Bool.{false≢true}
 use Rattle.fast_check_names.specs.declared.lattice.named_subset.Exports.{Exports}
 use Rattle.fast_check_names.specs.declared.lattice.named_subset.Exports.TheVariants.{All, Subset}
 use Rattle.fast_check_names.specs.declared.lattice.named_subset.NamedSubset.{NamedSubset, out-NamedSubset}
-use Rattle.fast_check_names.specs.Names.{Name, Path, Part, Touched, Covered, NameSet, paths, paths_below, paths_at, IsSame}
+use Rattle.fast_check_names.specs.Names.{Name, Touched, Covered, paths, paths_below, paths_at, IsSame}
 use Rattle.fast_check_names.specs.Paths.{paths_opened, paths_opened_nil, below_all, below_subset, below_subset_nil, touched_below, touched_name}
 
 -- what stands under a name of the one stands under it in the other

@@ -7,7 +7,6 @@ use Rattle.std.specs.Map.{lookup}
 use Rattle.std.specs.BTreeMap.{get_by_text, is_at}
 use Rattle.std.specs.Cmp.Lexicographic.{slice_cmp}
 use Rattle.std.specs.Ordering.{nat_cmp}
-use Rattle.std.specs.Str.{bytes_eq}
 use Rattle.std.specs.declared.alloc.Global.{Global}
 use Rattle.std.proofs.lemmas.Bool.{false≢true, cases_Bool}
 use Rattle.std.proofs.lemmas.Slice.Eq.{bytes_eq-Decides}
@@ -18,7 +17,7 @@ use Rattle.fast_check_names.specs.declared.lattice.named_subset.NamedSubset.{Nam
 use Rattle.fast_check_names.specs.declared.lattice.named_subset.Exports.TheOpen as open'
 use Rattle.fast_check_names.specs.declared.lattice.named_subset.Exports.TheOpen.{Exports-F, NamedSubset-F}
 use Rattle.fast_check_names.specs.declared.lattice.named_subset.Exports.TheFolds.{ind-Exports, ind-NamedSubset}
-use Rattle.fast_check_names.specs.Names.{Name, Path, Part, Touched, Covered, NameSet, paths, paths_below, paths_at, nothing, everything, subset_of, named_step, exports_step, IsSame}
+use Rattle.fast_check_names.specs.Names.{Name, Touched, Covered, NameSet, paths, paths_below, paths_at, everything, subset_of, exports_step, IsSame}
 use Rattle.fast_check_names.specs.Equality.{matches, is_all, is_subset_by, exports_test, names_test, same_names, same_exports}
 use Rattle.fast_check_names.specs.Paths.{paths_opened, paths_opened_nil, paths_made, paths_made_nil, touched_below, below_roll}
 use Rattle.fast_check_names.specs.Shapes.{opened}

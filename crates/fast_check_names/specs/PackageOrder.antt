@@ -1,6 +1,6 @@
 -- The order of packages is total, and only equal packages tie.
-use Rattle.std.proofs.Common.{◌≡◌, ◌∙◌, sym, Bool, true, false, ◌&&◌, Some, List, ℕ, ap}
-use Rattle.std.specs.Ordering.{nat_cmp, on, then_cmp, eq_by_cmp, ordering_then, is_eq}
+use Rattle.std.proofs.Common.{◌≡◌, ◌∙◌, Bool, ◌&&◌, Some, ap}
+use Rattle.std.specs.Ordering.{nat_cmp, eq_by_cmp, ordering_then, is_eq}
 use Rattle.std.specs.Cmp.{IsTotalOrder, IsPartialOrder, nat_cmp_total, on_total, then_total, po, unsigned_ties}
 use Rattle.std.specs.Cmp.Lexicographic.{nat_list_cmp_total, slice_cmp, texts_ties}
 use Rattle.std.specs.declared.cmp.Ordering.{Ordering}
@@ -9,7 +9,7 @@ use Rattle.semver.specs.Order.{pre_cmp, build_cmp}
 use Rattle.semver.specs.OrderLaws.{pre_total, build_total, order_ties, pre-anti, build-anti}
 use Rattle.fast_check_names.specs.declared.package.PackageNv.{PackageNv}
 use Rattle.fast_check_names.specs.contracts.package.PackageNvPartialEq.TheImpl as nv_eq
-use Rattle.fast_check_names.specs.Package.{Nv, VersionParts, nv_of, nv_cmp, version_cmp}
+use Rattle.fast_check_names.specs.Package.{nv_of, nv_cmp, version_cmp}
 
 version_total : IsTotalOrder version_cmp
 version_total = then_total (on_total (λ v. v.0) nat_cmp_total) (then_total (on_total (λ v. v.1) nat_cmp_total) (then_total (on_total (λ v. v.2) nat_cmp_total) (then_total (on_total (λ v. v.3) pre_total) (on_total (λ v. v.4) build_total))))

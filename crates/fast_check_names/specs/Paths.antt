@@ -1,16 +1,11 @@
 -- The equations of `paths`.
-use Rattle.std.proofs.Common.{◌≡◌, ◌∙◌, sym, ap, refl, Bool, cond, true, false, ◌||◌, map, List, [], ◌∷◌, Option, Some, None, String, string_bytes, ⊎_elim}
+use Rattle.std.proofs.Common.{◌≡◌, ◌∙◌, sym, ap, refl, Bool, cond, true, false, map, List, [], ◌∷◌, Option, Some, None, String, string_bytes}
 use Rattle.std.specs.Option.{is_some}
-use Rattle.std.proofs.lemmas.Bool.{cases_Bool}
 use Rattle.std.specs.Map.{lookup}
-use Rattle.std.specs.BTreeMap as tree
-use Rattle.std.specs.BTreeMap.{BTreeMap, get_by_text, is_at}
-use Rattle.std.specs.String.{string_cmp}
+use Rattle.std.specs.BTreeMap.{get_by_text, is_at}
 use Rattle.std.specs.Cmp.Lexicographic.{slice_cmp}
 use Rattle.std.specs.Ordering.{nat_cmp}
-use Rattle.std.specs.Str.{bytes_eq}
 use Rattle.std.specs.declared.alloc.Global.{Global}
-use Rattle.std.proofs.lemmas.Map.Text.{btree_map_updates_text}
 use Rattle.fast_check_names.specs.declared.lattice.named_subset.Exports.{Exports, out-Exports, roll-Exports, map-Exports, fold-roll-Exports, fold_out-Exports}
 use Rattle.fast_check_names.specs.declared.lattice.named_subset.Exports.TheVariants.{All, Subset, rolls-All, rolls-Subset}
 use Rattle.fast_check_names.specs.declared.lattice.named_subset.Exports.TheOpen as open'

@@ -1,5 +1,5 @@
 -- Closure of what stands below a name.
-use Rattle.std.proofs.Common.{◌≡◌, ◌∙◌, sym, ap, refl, Bool, true, false, [], ◌∷◌, ◌++◌, Option, Some, None}
+use Rattle.std.proofs.Common.{◌≡◌, ◌∙◌, sym, ap, refl, true, false, [], ◌∷◌, ◌++◌, Option, Some, None}
 use Rattle.std.specs.BTreeMap.{get_by_text}
 use Rattle.std.proofs.lemmas.Bool.{false≢true}
 use Rattle.fast_check_names.specs.declared.lattice.named_subset.Exports.{Exports, out-Exports, map-Exports, fold_out-Exports}

@@ -1,8 +1,8 @@
-use Rattle.std.proofs.Common.{◌≡◌, subst, sym, refl, ap, Some, None, string_bytes, Option}
+use Rattle.std.proofs.Common.{◌≡◌, subst, sym, Some, None, string_bytes, Option}
 use Rattle.std.specs.BTreeMap.{get_by_text}
 use Rattle.fast_check_names.specs.declared.lattice.named_subset.Exports.{Exports}
 use Rattle.fast_check_names.specs.Names.{Name, Names, IsJoinBelow, IsJoinWhereHeld}
-use Rattle.fast_check_names.proofs.Build.{built_put, built_last, found_at, none_first, built_first}
+use Rattle.fast_check_names.proofs.Build.{built_put, built_last, found_at}
 use Rattle.fast_check_names.specs.Paths.{made}
 use Rattle.fast_check_names.proofs.Join.{join_nothing, join_both, join_each}
 use Rattle.fast_check_names.proofs.lattice.named_subset.+join.Goals as goal

@@ -1,9 +1,8 @@
-use Rattle.std.proofs.Common.{◌≡◌, ◌∙◌, sym, ap, subst, string_bytes, Option, Some, None}
+use Rattle.std.proofs.Common.{◌≡◌, ◌∙◌, sym, string_bytes, Option, Some, None}
 use Rattle.std.specs.BTreeMap.{get_by_text}
 use Rattle.std.proofs.lemmas.Bool.{false≢true}
 use Rattle.fast_check_names.specs.declared.lattice.named_subset.Exports.{Exports}
-use Rattle.fast_check_names.specs.declared.lattice.named_subset.NamedSubset.{out-NamedSubset}
-use Rattle.fast_check_names.specs.Names.{Name, Names, IsSame, paths, paths_below}
+use Rattle.fast_check_names.specs.Names.{Name, Names}
 use Rattle.fast_check_names.proofs.Build.{built_skip, built_last, found, found_at}
 use Rattle.fast_check_names.proofs.Alike.{IsAlike, alike_at, alike_same, held_same, lacks_one, found_same, subsets_same, same_subsets, all_not_subset}
 use Rattle.fast_check_names.proofs.lattice.named_subset.+same.Goals as goal
