@@ -38,7 +38,7 @@ fn main(rt: HostRuntime) -> anyhow::Result<()> {
     let count = count.as_str().parse::<u64>().context("a number")?;
     let mut old = grown(alloc, 0, count)?;
     let new = grown(alloc, count / 2, count)?;
-    if command == "extend" {
+    if command.as_str() == "extend" {
         let answer = old.extend(alloc, new)?;
         println!(rt; "{} of {} are new", names_in(alloc, answer)?, count)?;
     }
