@@ -1,16 +1,15 @@
 -- What `add` does, case by case.
-use Rattle.std.proofs.Common.{◌≡◌, ◌∙◌, sym, ap, refl, subst, ⊎_elim, inl, inr, ◌⊎◌, ◌↔◌, Bool, true, false, ◌&&◌, ◌||◌, not, [], ◌∷◌, Option, Some, None}
-use Rattle.std.proofs.lemmas.Bool.{false≢true, cases_Bool, or_left, or_right}
+use Rattle.std.proofs.Common.{◌≡◌, ◌∙◌, sym, ap, refl, subst, inl, inr, ◌⊎◌, ◌↔◌, Bool, true, false, ◌&&◌, ◌||◌, not, [], ◌∷◌, Option, Some, None}
+use Rattle.std.proofs.lemmas.Bool.{false≢true, or_left, or_right}
 use Rattle.std.proofs.lemmas.Slice.Eq.{bytes_eq-Decides}
 use Rattle.std.specs.Str.{bytes_eq}
 use Rattle.fast_check_names.specs.declared.lattice.named_subset.NamedSubset.{NamedSubset}
 use Rattle.fast_check_names.specs.declared.lattice.imported_exports.ImportedExports.{ImportedExports}
 use Rattle.fast_check_names.specs.declared.lattice.imported_exports.ImportedExports.TheVariants.{Star, StarWithDefault, Subset}
-use Rattle.fast_check_names.specs.Names.{Name, Path, Part, Touched, Covered, NameSet, paths, nothing, whole, has_subset, has_whole, IsSame, IsBelow, IsJoin, IsJoined, IsOfSource, HasMore, IsDifference}
-use Rattle.fast_check_names.specs.Imports.{default_name, all_but_default, all_names, imported, answered, IsLeastForm, IsAnswer, IsDefaultAlone, NameDemand, names_but_default, each_name, subset_at, whole_at, demands, is_star, IsWidened, IsAdded}
-use Rattle.fast_check_names.proofs.Paths.{paths_opened_nil}
+use Rattle.fast_check_names.specs.Names.{Name, Path, Touched, Covered, paths, nothing, whole, has_subset, has_whole, IsSame, IsBelow, IsJoin, IsJoined, HasMore, IsDifference}
+use Rattle.fast_check_names.specs.Imports.{default_name, all_but_default, all_names, imported, answered, IsLeastForm, IsAnswer, NameDemand, names_but_default, each_name, subset_at, whole_at, demands, is_star, IsWidened, IsAdded}
 use Rattle.fast_check_names.proofs.Sets.{same_subset, same_whole}
-use Rattle.fast_check_names.proofs.Shapes.{own_set}
+use Rattle.fast_check_names.specs.Shapes.{own_set}
 use Rattle.fast_check_names.proofs.Forms.{more_than_star, more_than_all, star_below_all, set_below_all, set_below_star, least_all, new_above, join_nothing, join_above, join_default, join_whole_default}
 
 none_some : {X : Type 0} (x : X) → None ≡ Some x → ⊥

@@ -18,7 +18,7 @@ use Rattle.std.proofs.lemmas.Map.Text.{is_eq-slice_cmp}
 use Rattle.fast_check_names.specs.declared.lattice.named_subset.Exports.{Exports}
 use Rattle.fast_check_names.specs.declared.lattice.named_subset.NamedSubset.{NamedSubset, out-NamedSubset}
 use Rattle.fast_check_names.specs.Names.{Name, Names, IsSame, Puts, Path, Part, Touched, paths, paths_at}
-use Rattle.fast_check_names.proofs.Paths.{paths_opened, paths_opened_nil, touched_name}
+use Rattle.fast_check_names.specs.Paths.{paths_opened, paths_opened_nil, touched_name}
 
 abbrev pub Entry : Type 0
 Entry = String Global × Exports
@@ -88,7 +88,7 @@ module _ (L : Name → Option Exports → Type 0) (R : Name → Option Exports �
       (cases_Bool (is_in n b.front))
 
   module _ (k : String Global) (x : Exports) (rest : List Entry) (built : Names) (b : IsBuilt L R source ((k, x) ∷ rest) built) (all : All (λ e. tree.get string_cmp source e.0 ≡ Some e.1) source.entries) where
-    found : get_by_text source (string_bytes k) ≡ Some x
+    pub found : get_by_text source (string_bytes k) ≡ Some x
     found = All-contains (λ e. tree.get string_cmp source e.0 ≡ Some e.1) source.entries (k, x) all (subst (λ (es : List Entry). Contains es (k, x)) b.is (Contains-append_right b.front ((k, x) ∷ rest) (k, x) (0, omega arith, refl)))
 
     -- what the relation says of the key, said of a name that is the key

@@ -1,13 +1,13 @@
 -- The least difference, name by name.
-use Rattle.std.proofs.Common.{◌≡◌, ◌∙◌, sym, refl, subst, Bool, true, false, ◌||◌, [], ◌∷◌, Option, Some, None, ◌↔◌}
+use Rattle.std.proofs.Common.{◌≡◌, ◌∙◌, sym, refl, subst, Bool, true, false, ◌||◌, [], ◌∷◌, Option, Some, None}
 use Rattle.std.specs.BTreeMap.{get_by_text}
 use Rattle.std.proofs.lemmas.Bool.{or_left, or_right, false≢true}
 use Rattle.fast_check_names.specs.declared.lattice.named_subset.Exports.{Exports}
 use Rattle.fast_check_names.specs.declared.lattice.named_subset.Exports.TheVariants.{All, Subset}
 use Rattle.fast_check_names.specs.declared.lattice.named_subset.NamedSubset.{NamedSubset, out-NamedSubset}
-use Rattle.fast_check_names.specs.Names.{Name, Path, Part, Touched, Covered, NameSet, nothing, paths, paths_below, paths_at, subset_of, IsBelow, IsBelowJoin, IsClosed, IsNameSet, IsLeastDifference, IsLeastDifferenceBelow, IsSame, IsOfSource, HasMore, IsDifference, IsDifferenceBelow}
+use Rattle.fast_check_names.specs.Names.{Name, Path, Part, Touched, Covered, NameSet, nothing, paths, paths_below, paths_at, subset_of, IsBelow, IsBelowJoin, IsClosed, IsNameSet, IsLeastDifference, IsLeastDifferenceBelow, IsSame, HasMore, IsDifference, IsDifferenceBelow}
 use Rattle.fast_check_names.proofs.Sets.{of_source_along, of_itself, of_nothing, of_subset, of_each}
-use Rattle.fast_check_names.proofs.Paths.{paths_opened, paths_opened_nil, below_all, below_all_is, below_subset, below_subset_is, below_subset_nil, touched_below}
+use Rattle.fast_check_names.specs.Paths.{paths_opened, paths_opened_nil, below_all, below_subset, below_subset_is, below_subset_nil, touched_below}
 
 abbrev DiffAt : Option Exports → Option Exports → Option Exports → Type 0
 DiffAt old new answer = IsLeastDifferenceBelow (paths_at old) (paths_at new) (paths_at answer)

@@ -1,24 +1,21 @@
 -- The three forms of what is demanded of a module, and what `add` does to them.
-use Rattle.std.proofs.Common.{◌≡◌, ◌∙◌, sym, ap, refl, subst, ⊎_elim, inl, inr, ◌⊎◌, ◌↔◌, Bool, true, false, ◌&&◌, ◌||◌, not, cond, ℕ, ◌+◌, ◌≤◌, ◌<◌, length, List, [], ◌∷◌, ◌++◌, Option, Some, None, String, string_bytes, arith, length-append}
+use Rattle.std.proofs.Common.{◌≡◌, ◌∙◌, sym, ap, refl, subst, ⊎_elim, Bool, true, false, ◌&&◌, ◌||◌, not, cond, ℕ, ◌≤◌, ◌<◌, length, List, [], ◌∷◌, ◌++◌, Some, None, string_bytes, arith, length-append}
 use Rattle.std.specs.Map.{lookup}
-use Rattle.std.specs.Option.{is_some}
 use Rattle.std.specs.BTreeMap.{get_by_text, is_at}
 use Rattle.std.specs.Cmp.Lexicographic.{slice_cmp}
 use Rattle.std.specs.Ordering.{nat_cmp}
 use Rattle.std.specs.Str.{bytes_eq}
-use Rattle.std.specs.declared.alloc.Global.{Global}
 use Rattle.std.proofs.lemmas.Bool.{false≢true, cases_Bool, or_left, or_right}
 use Rattle.std.proofs.lemmas.Slice.Eq.{bytes_eq-Decides}
 use Rattle.std.proofs.lemmas.Map.Text.{is_eq-slice_cmp}
-use Rattle.fast_check_names.specs.declared.lattice.named_subset.Exports.{Exports}
 use Rattle.fast_check_names.specs.declared.lattice.named_subset.NamedSubset.{NamedSubset, out-NamedSubset}
 use Rattle.fast_check_names.specs.declared.lattice.imported_exports.ImportedExports.{ImportedExports}
 use Rattle.fast_check_names.specs.declared.lattice.imported_exports.ImportedExports.TheVariants.{Star, StarWithDefault, Subset}
-use Rattle.fast_check_names.specs.Names.{Name, Path, Part, Touched, Covered, NameSet, paths, paths_at, nothing, whole, has_subset, has_whole, IsSame, IsBelow, IsJoin, IsJoined, HasMore, IsDifference}
-use Rattle.fast_check_names.specs.Imports.{default_name, all_but_default, all_names, imported, answered, IsLeastForm, IsAnswer, IsDefaultAlone, NameDemand, names_but_default, each_name, subset_at, whole_at, demands, is_star, IsWidened, IsAdded}
-use Rattle.fast_check_names.proofs.Paths.{paths_opened, paths_opened_nil}
+use Rattle.fast_check_names.specs.Names.{Name, Path, Part, Touched, Covered, NameSet, paths, paths_at, nothing, whole, IsSame, IsBelow, IsJoin, HasMore}
+use Rattle.fast_check_names.specs.Imports.{default_name, all_but_default, all_names, imported}
+use Rattle.fast_check_names.specs.Paths.{paths_opened, paths_opened_nil}
 use Rattle.fast_check_names.proofs.Build.{Entry}
-use Rattle.fast_check_names.proofs.Shapes.{nothing_below, all_below}
+use Rattle.fast_check_names.specs.Shapes.{nothing_below, all_below}
 
 -- No set of names has all names but `default`: a name longer than each of its names is missing.
 

@@ -9,7 +9,7 @@ use Rattle.fast_check_names.specs.declared.lattice.named_subset.Exports.{Exports
 use Rattle.fast_check_names.specs.declared.lattice.named_subset.Exports.TheVariants.{All, Subset}
 use Rattle.fast_check_names.specs.declared.lattice.named_subset.NamedSubset.{NamedSubset, out-NamedSubset}
 use Rattle.fast_check_names.specs.Names.{Name, Names, Path, Part, NameSet, Puts, is_touched, everything, named, paths, paths_below, paths_at, IsJoin, IsJoinBelow, IsJoinWhereHeld, IsSame}
-use Rattle.fast_check_names.proofs.Paths.{made, paths_made, paths_made_nil, paths_opened, paths_opened_nil, below_all, below_subset, below_subset_nil}
+use Rattle.fast_check_names.specs.Paths.{made, paths_made, paths_made_nil, paths_opened, paths_opened_nil, below_all, below_subset, below_subset_nil}
 
 or_false : (b : Bool) → b ≡ (b || false)
 or_false true = refl
@@ -73,7 +73,7 @@ join_put s m' n f z now j part (m ∷ q) =
     paths_made m' m part q ∙ (ap (λ o. paths_at o part q) (now m) ∙ (⊎_elim
     (λ e. ap (λ b. paths_at (cond b (Some z) (at m)) part q) e
     ∙ here (bytes_eq n m) (paths_at (at m) part q) (f part q) (paths_below z part q) e
-      (subst (λ (k : Name). paths_below z part q ≡ (paths_at (at k) part q || f part q)) ((bytes_eq-Decides n m).0 e) (j part q)))
+    (subst (λ (k : Name). paths_below z part q ≡ (paths_at (at k) part q || f part q)) ((bytes_eq-Decides n m).0 e) (j part q)))
     (λ e. ap (λ b. paths_at (cond b (Some z) (at m)) part q) e ∙ there (bytes_eq n m) (paths_at (at m) part q) (f part q) e)
     (cases_Bool (bytes_eq n m))
     ∙ ap (λ b. b || (bytes_eq n m && f part q)) (sym (paths_opened s m part q))))

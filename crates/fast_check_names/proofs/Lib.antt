@@ -1,11 +1,10 @@
-pub mod Paths
 pub mod Build
 pub mod Sets
 pub mod Join
 pub mod Difference
 pub mod Writes
 pub mod Listed
-pub mod Shapes
 pub mod Forms
 pub mod Added
 pub mod Traced
+pub mod Alike

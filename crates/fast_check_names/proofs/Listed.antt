@@ -1,5 +1,5 @@
 -- The names of a set as a list.
-use Rattle.std.proofs.Common.{◌≡◌, ◌∙◌, sym, ap, refl, subst, Bool, true, false, ◌&&◌, not, cond, List, ℕ, [], ◌∷◌, map, Option, Some, None, String, string_bytes, ◌≢◌, Result, Ok, Err}
+use Rattle.std.proofs.Common.{◌≡◌, ◌∙◌, sym, ap, refl, subst, Bool, true, false, ◌&&◌, not, cond, List, [], ◌∷◌, map, Option, Some, None, String, string_bytes, ◌≢◌, Result, Ok, Err}
 use Rattle.std.specs.Result.{IfOk}
 use Rattle.std.specs.Map.{lookup}
 use Rattle.std.specs.BTreeMap as tree
@@ -20,8 +20,8 @@ use Rattle.std.proofs.lemmas.Map.Made.{AllPairs-from_IsDistinct}
 use Rattle.fast_check_names.specs.declared.lattice.named_subset.Exports.{Exports}
 use Rattle.fast_check_names.specs.declared.lattice.named_subset.Exports.TheVariants.{All, Subset}
 use Rattle.fast_check_names.specs.declared.lattice.named_subset.NamedSubset.{NamedSubset, out-NamedSubset}
-use Rattle.fast_check_names.specs.Names.{Name, Path, Part, Touched, Covered, has_subset, paths, paths_below, paths_at, listed_at, IsListed}
-use Rattle.fast_check_names.proofs.Paths.{paths_opened, below_all, below_subset_nil}
+use Rattle.fast_check_names.specs.Names.{Name, Touched, Covered, has_subset, paths, paths_below, paths_at, listed_at, IsListed}
+use Rattle.fast_check_names.specs.Paths.{paths_opened, below_all, below_subset_nil}
 use Rattle.fast_check_names.proofs.Build.{Entry}
 
 -- a look-up by the order finds what one by equality finds

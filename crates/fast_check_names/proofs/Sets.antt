@@ -1,7 +1,7 @@
 -- Subsets and whole paths of name sets: what becomes of them in joins and below names.
 use Rattle.std.proofs.Common.{◌≡◌, ◌∙◌, sym, ap, refl, Bool, true, false, ◌&&◌, ◌||◌, not, [], ◌∷◌}
 use Rattle.std.proofs.lemmas.Bool.{false≢true}
-use Rattle.fast_check_names.specs.Names.{Name, Path, Part, Touched, Covered, NameSet, nothing, subset_of, has_subset, has_whole, IsSame, IsJoin, IsOfSource, IsOfEither}
+use Rattle.fast_check_names.specs.Names.{Name, Path, Touched, Covered, NameSet, nothing, subset_of, has_subset, has_whole, IsSame, IsJoin, IsOfSource, IsOfEither}
 
 -- what stands below a name of a set
 abbrev pub at_name : NameSet → Name → NameSet

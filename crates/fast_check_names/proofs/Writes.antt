@@ -1,6 +1,6 @@
 -- What writes to the map behind a set do to its paths.
-use Rattle.std.proofs.Common.{◌≡◌, ◌∙◌, sym, ap, refl, subst, Bool, true, false, ◌&&◌, ◌||◌, List, ℕ, [], ◌∷◌, Option, Some, None, String, string_bytes, Result, Ok, Err}
-use Rattle.std.specs.Option.{is_some, IsSome}
+use Rattle.std.proofs.Common.{◌≡◌, ◌∙◌, sym, ap, refl, subst, ◌&&◌, ◌||◌, List, ℕ, [], ◌∷◌, Option, Some, String, string_bytes, Result, Ok, Err}
+use Rattle.std.specs.Option.{IsSome}
 use Rattle.std.specs.Result.{OnOk, OnErr}
 use Rattle.std.specs.Map.{lookup}
 use Rattle.std.specs.BTreeMap as tree
@@ -15,8 +15,8 @@ use Rattle.std.proofs.lemmas.Map.Text.{btree_map_updates_text}
 use Rattle.fast_check_names.specs.declared.lattice.named_subset.Exports.{Exports}
 use Rattle.fast_check_names.specs.declared.lattice.named_subset.Exports.TheVariants.{Subset}
 use Rattle.fast_check_names.specs.declared.lattice.named_subset.NamedSubset.{NamedSubset, out-NamedSubset}
-use Rattle.fast_check_names.specs.Names.{Name, Names, Path, Part, NameSet, Puts, paths, paths_below, paths_at, named, whole, whole_below, whole_path, everything, IsSame, IsJoin, IsJoined, IsJoinBelow, is_touched}
-use Rattle.fast_check_names.proofs.Paths.{made, paths_made, paths_made_nil, paths_opened, paths_opened_nil, below_subset, below_subset_nil}
+use Rattle.fast_check_names.specs.Names.{Name, Names, Path, NameSet, Puts, paths, paths_below, paths_at, named, whole, whole_below, IsSame, IsJoin, IsJoined, IsJoinBelow, is_touched}
+use Rattle.fast_check_names.specs.Paths.{made, paths_made, paths_made_nil, paths_opened, paths_opened_nil, below_subset, below_subset_nil}
 use Rattle.fast_check_names.proofs.Build.{Entry}
 use Rattle.fast_check_names.proofs.Sets.{of_join}
 use Rattle.fast_check_names.proofs.Join.{join_put, or_itself}

@@ -1,12 +1,12 @@
 -- What is demanded of a module: all names but `default`, all names, or a set of names.
-use Rattle.std.specs.Prelude.{ℕ, ◌≡◌, ◌↔◌, ◌⊎◌, Bool, true, false, ◌||◌, not, List, [], ◌∷◌, Option, Some, None, IsTrue, codes, string_bytes}
+use Rattle.std.specs.Prelude.{◌≡◌, ◌↔◌, ◌⊎◌, Bool, true, false, ◌||◌, not, [], ◌∷◌, Option, Some, None, IsTrue, codes, string_bytes}
 use Rattle.std.specs.Str.{bytes_eq}
 use Rattle.fast_check_names.specs.declared.lattice.named_subset.NamedSubset.{NamedSubset}
 use Rattle.fast_check_names.specs.declared.lattice.imported_exports.ImportedExports.{ImportedExports}
 use Rattle.fast_check_names.specs.declared.lattice.imported_exports.ImportedExports.TheVariants.{Star, StarWithDefault, Subset}
 use Rattle.fast_check_names.specs.declared.package.FileDepName.{FileDepName}
 use Rattle.fast_check_names.specs.declared.package.FileDepName.TheVariants.{Star as StarDep, Name as NameDep}
-use Rattle.fast_check_names.specs.Names.{Name, Path, Part, Touched, NameSet, paths, nothing, whole, has_subset, has_whole, IsSame, IsBelow, IsJoin, HasMore, IsDifference}
+use Rattle.fast_check_names.specs.Names.{Name, Path, Touched, NameSet, paths, nothing, whole, has_subset, has_whole, IsSame, IsBelow, IsJoin, HasMore, IsDifference}
 
 abbrev pub default_name : Name
 default_name = codes "default"

@@ -5,6 +5,10 @@
 
 pub mod lattice;
 pub mod package;
+#[cfg(test)]
+mod pairs;
+#[cfg(test)]
+mod tests;
 
 pub use crate::lattice::{
     Exports, HandledExports, ImportedExports, NamedSubset, PendingTrace, PendingTraces,

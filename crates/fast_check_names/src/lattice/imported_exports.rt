@@ -1,4 +1,4 @@
-//! What is demanded of a module.
+//! What is demanded of a module, as the finder of public ranges of deno_graph keeps it.
 
 ghost use Rattle.std.specs.Prelude.{◌≡◌, Some, ◌∷◌, [], IfOk, OnErr, string_bytes};
 ghost use Rattle.fast_check_names.specs.Names.{Touched, paths, whole, IsSame};
@@ -45,21 +45,21 @@ impl ImportedExports {
     pub fn star() -> ImportedExports
         ensures { result ≡ ImportedExports.Star }
     {
-        ImportedExports::Star
+        Self::Star
     }
 
     /// All names.
     pub fn star_with_default() -> ImportedExports
         ensures { result ≡ ImportedExports.StarWithDefault }
     {
-        ImportedExports::StarWithDefault
+        Self::StarWithDefault
     }
 
     /// The names of a set.
     pub fn subset(named: NamedSubset) -> ImportedExports
         ensures { result ≡ ImportedExports.Subset named }
     {
-        ImportedExports::Subset(named)
+        Self::Subset(named)
     }
 
     /// What a declaration that refers to a file demands of it.

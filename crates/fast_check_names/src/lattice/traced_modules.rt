@@ -1,4 +1,4 @@
-//! The modules that were followed, and those that wait to be.
+//! The modules that were followed, and those that wait to be, as the finder of public ranges of deno_graph keeps them.
 
 ghost use Rattle.std.specs.Prelude.{◌≡◌, ◌++◌, [], ◌<◌, ◌↔◌, length, IfOk, OnOk, OnErr, IsSome, option_map, option_to_list};
 ghost use Rattle.fast_check_names.specs.Traces.{handled, pending, entry_of, Handles, Waits};

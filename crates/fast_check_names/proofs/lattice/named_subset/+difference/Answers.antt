@@ -1,10 +1,9 @@
-use Rattle.std.proofs.Common.{◌≡◌, subst, sym, ◌∙◌, ap, Some, None, string_bytes, Option, List, ℕ}
+use Rattle.std.proofs.Common.{◌≡◌, subst, sym, Some, None, string_bytes, Option}
 use Rattle.std.specs.BTreeMap.{get_by_text}
 use Rattle.fast_check_names.specs.declared.lattice.named_subset.Exports.{Exports}
-use Rattle.fast_check_names.specs.declared.lattice.named_subset.Exports.TheVariants.{All, Subset}
-use Rattle.fast_check_names.specs.Names.{Name, Names, IsDifferenceBelow, paths, IsDifference}
+use Rattle.fast_check_names.specs.Names.{Name, Names, IsDifferenceBelow}
 use Rattle.fast_check_names.proofs.Build.{built_put, built_skip, built_last, found_at}
-use Rattle.fast_check_names.proofs.Paths.{made}
+use Rattle.fast_check_names.specs.Paths.{made}
 use Rattle.fast_check_names.proofs.Difference.{below_absent, below_nothing, below_all_before, below_whole, below_no_rest, below_rest, difference_each}
 use Rattle.fast_check_names.proofs.lattice.named_subset.+difference.Goals as goal
 

@@ -1,9 +1,9 @@
-use Rattle.std.proofs.Common.{◌≡◌, subst, sym, refl, ap, Some, None, string_bytes, Option}
+use Rattle.std.proofs.Common.{◌≡◌, subst, sym, Some, None, string_bytes, Option}
 use Rattle.std.specs.BTreeMap.{get_by_text}
 use Rattle.fast_check_names.specs.declared.lattice.named_subset.Exports.{Exports}
 use Rattle.fast_check_names.specs.Names.{Name, Names, IsJoinBelow, IsJoinWhereHeld}
-use Rattle.fast_check_names.proofs.Build.{built_put, built_last, found_at, none_first, built_first}
-use Rattle.fast_check_names.proofs.Paths.{made}
+use Rattle.fast_check_names.proofs.Build.{built_put, built_last, found_at}
+use Rattle.fast_check_names.specs.Paths.{made}
 use Rattle.fast_check_names.proofs.Join.{join_nothing, join_both, join_each}
 use Rattle.fast_check_names.proofs.lattice.named_subset.+join.Goals as goal
 
@@ -36,7 +36,7 @@ pub join-returns : goal.join-returns
 join-returns t c = join_each c.args.old.now c.args.new.now (made c.put_absent.new.names) c.in_ok-put_absent.ensures
 
 pub join-put_absent-requires : goal.join-put_absent-requires
-join-put_absent-requires t c = 
+join-put_absent-requires t c =
     built_last L (R c.args.new.now.names) c.args.old.now.names c.loop-name.names (rw c.in-None.ensures.steps.0 at c.loop-name.invariant) (λ n o is e. e)
 
 pub join_below-returns-in_ok-join-in-Subset-Subset : goal.join_below-returns-in_ok-join-in-Subset-Subset

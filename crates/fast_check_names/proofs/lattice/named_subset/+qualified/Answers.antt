@@ -1,14 +1,12 @@
-use Rattle.std.proofs.Common.{string_bytes, refl, subst, sym, ◌≡◌, Some, None, ap, ◌∙◌, ◌∷◌}
-use Rattle.std.specs.BTreeMap.{get_by_text}
-use Rattle.fast_check_names.specs.declared.lattice.named_subset.Exports.{Exports}
+use Rattle.std.proofs.Common.{string_bytes, subst, sym, ◌≡◌, Some, None, ap, ◌∙◌, ◌∷◌}
 use Rattle.fast_check_names.specs.declared.lattice.named_subset.Exports.TheViews.{out-Exports, out-roll-Exports}
 use Rattle.fast_check_names.specs.declared.lattice.named_subset.Exports.TheVariants.{Subset, rolls-Subset}
 use Rattle.fast_check_names.specs.declared.lattice.named_subset.Exports.TheOpen as open'
 use Rattle.std.specs.Result.{OnOk}
 use Rattle.fast_check_names.specs.declared.lattice.named_subset.NamedSubset.{NamedSubset, out-NamedSubset}
-use Rattle.fast_check_names.specs.Names.{Name, Path, Names, Puts, NameSet, paths, paths_below, whole, whole_below, path_of, IsJoin, IsJoined, IsSame}
+use Rattle.fast_check_names.specs.Names.{Name, Path, Names, Puts, paths, paths_below, whole, whole_below, path_of, IsJoin, IsJoined, IsSame}
 use Rattle.fast_check_names.proofs.Build.{found_at}
-use Rattle.fast_check_names.proofs.Join.{same_put, join_absent}
+use Rattle.fast_check_names.proofs.Join.{same_put}
 use Rattle.fast_check_names.proofs.Writes.{on_ok_from, on_err_from, puts_inserted, puts_written, joined_put, joined_path, join_at, same_at}
 use Rattle.fast_check_names.proofs.lattice.named_subset.+qualified.Goals as goal
 

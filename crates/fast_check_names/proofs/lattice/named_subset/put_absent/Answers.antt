@@ -1,4 +1,4 @@
-use Rattle.std.proofs.Common.{◌≡◌, subst, sym, refl, ap, Some, None, string_bytes, Option, ◌∙◌}
+use Rattle.std.proofs.Common.{subst, sym, Some, string_bytes, Option, ◌∙◌}
 use Rattle.std.specs.BTreeMap.{get_by_text}
 use Rattle.fast_check_names.specs.declared.lattice.named_subset.Exports.{Exports}
 use Rattle.fast_check_names.specs.Names.{Name, Names, IsJoinBelow, IsJoinWhereHeld}

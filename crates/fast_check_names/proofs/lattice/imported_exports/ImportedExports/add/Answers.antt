@@ -1,7 +1,5 @@
-use Rattle.std.proofs.Common.{◌∙◌, sym, subst, ◌≡◌, Some, None}
+use Rattle.std.proofs.Common.{◌∙◌, sym, subst}
 use Rattle.fast_check_names.specs.declared.lattice.named_subset.NamedSubset.{NamedSubset}
-use Rattle.fast_check_names.specs.declared.lattice.imported_exports.ImportedExports.{ImportedExports}
-use Rattle.fast_check_names.specs.declared.lattice.imported_exports.ImportedExports.TheVariants.{Star, StarWithDefault, Subset}
 use Rattle.fast_check_names.specs.Names.{paths, IsJoined, IsDifference}
 use Rattle.fast_check_names.proofs.Added.{added_to_star, added_default, added_all, added_names, added_no_names}
 use Rattle.fast_check_names.proofs.lattice.imported_exports.ImportedExports.add.Goals as goal

@@ -1,5 +1,4 @@
-use Rattle.std.proofs.Common.{string_bytes, refl, subst, ◌≡◌, Some, None, Option, ap, ◌∙◌}
-use Rattle.std.specs.BTreeMap.{get_by_text}
+use Rattle.std.proofs.Common.{string_bytes, refl, subst, Some, None, ap, ◌∙◌}
 use Rattle.fast_check_names.specs.declared.lattice.named_subset.NamedSubset.{out-NamedSubset}
 use Rattle.fast_check_names.specs.Names.{Names, Puts, paths_below}
 use Rattle.fast_check_names.proofs.Build.{found_at}

@@ -1,5 +1,5 @@
 use Rattle.std.proofs.Common.{◌∙◌}
-use Rattle.fast_check_names.proofs.Paths.{touched_name}
+use Rattle.fast_check_names.specs.Paths.{touched_name}
 use Rattle.fast_check_names.proofs.lattice.named_subset.NamedSubset.contains_name.Goals as goal
 
 pub returns : goal.returns

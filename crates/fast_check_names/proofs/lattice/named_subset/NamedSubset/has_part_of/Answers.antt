@@ -1,4 +1,4 @@
-use Rattle.std.proofs.Common.{◌≡◌, ◌∙◌, sym, ap, Some, None}
+use Rattle.std.proofs.Common.{◌∙◌, sym, ap, Some, None}
 use Rattle.fast_check_names.specs.declared.lattice.named_subset.Exports.TheVariants.{All, Subset}
 use Rattle.fast_check_names.proofs.Listed.{part_found, part_of_none, part_of_all, part_of_subset}
 use Rattle.fast_check_names.proofs.lattice.named_subset.NamedSubset.has_part_of.Goals as goal

@@ -1,4 +1,4 @@
-use Rattle.std.proofs.Common.{◌≡◌, ap, refl, Some, ◌∙◌}
+use Rattle.std.proofs.Common.{ap, refl, Some, ◌∙◌}
 use Rattle.fast_check_names.proofs.Writes.{on_err}
 use Rattle.fast_check_names.proofs.Traced.{inserted_last, kept, waits_new, waits_held}
 use Rattle.fast_check_names.proofs.lattice.traced_modules.PendingTraces.add.Goals as goal

@@ -1,5 +1,5 @@
 -- Closure of what stands below a name.
-use Rattle.std.proofs.Common.{◌≡◌, ◌∙◌, sym, ap, refl, Bool, true, false, [], ◌∷◌, ◌++◌, Option, Some, None}
+use Rattle.std.proofs.Common.{◌≡◌, ◌∙◌, sym, ap, refl, true, false, [], ◌∷◌, ◌++◌, Option, Some, None}
 use Rattle.std.specs.BTreeMap.{get_by_text}
 use Rattle.std.proofs.lemmas.Bool.{false≢true}
 use Rattle.fast_check_names.specs.declared.lattice.named_subset.Exports.{Exports, out-Exports, map-Exports, fold_out-Exports}
@@ -7,14 +7,14 @@ use Rattle.fast_check_names.specs.declared.lattice.named_subset.NamedSubset.{Nam
 use Rattle.fast_check_names.specs.declared.lattice.named_subset.Exports.TheOpen as open'
 use Rattle.fast_check_names.specs.declared.lattice.named_subset.Exports.TheOpen.{Exports-F}
 use Rattle.fast_check_names.specs.Names.{Name, IsNameSet, Path, Part, Touched, Covered, NameSet, paths, paths_below, paths_at, named_step, exports_step}
-use Rattle.fast_check_names.proofs.Paths.{touched_below, paths_opened}
+use Rattle.fast_check_names.specs.Paths.{touched_below, paths_opened}
 
 -- what is covered itself covers all
 all_shape : (x : Exports-F Exports NamedSubset) → exports_step (map-Exports Exports NamedSubset NameSet NameSet paths_below paths x) Covered [] ≡ true → (part : Part) (q : Path) → exports_step (map-Exports Exports NamedSubset NameSet NameSet paths_below paths x) part q ≡ true
 all_shape open'.All h part q = refl
 all_shape (open'.Subset s) h part q = absurd (false≢true h)
 
-opened : (x : Exports) (part : Part) (q : Path) → paths_below x part q ≡ exports_step (map-Exports Exports NamedSubset NameSet NameSet paths_below paths (out-Exports x)) part q
+pub opened : (x : Exports) (part : Part) (q : Path) → paths_below x part q ≡ exports_step (map-Exports Exports NamedSubset NameSet NameSet paths_below paths (out-Exports x)) part q
 opened x part q = ap (λ (f : NameSet). f part q) (fold_out-Exports NameSet NameSet exports_step named_step x)
 
 pub all_below : (o : Option Exports) → paths_at o Covered [] ≡ true → (part : Part) (q : Path) → paths_at o part q ≡ true
@@ -25,7 +25,6 @@ all_below (Some x) h part q = opened x part q ∙ all_shape (out-Exports x) (sym
 pub nothing_below : (o : Option Exports) → paths_at o Touched [] ≡ false → (part : Part) (q : Path) → paths_at o part q ≡ false
 nothing_below None h part q = refl
 nothing_below (Some x) h part q = absurd (false≢true (sym h ∙ touched_below x))
-
 
 -- a fact of a longer path, from the same of the subset that stands there
 deeper : (x : Exports-F Exports NamedSubset) (part other : Part) (p r : Path) (n : Name) → ((s : NamedSubset) → paths s part (n ∷ p) ≡ true → paths s other (n ∷ r) ≡ true) → exports_step (map-Exports Exports NamedSubset NameSet NameSet paths_below paths x) part (n ∷ p) ≡ true → exports_step (map-Exports Exports NamedSubset NameSet NameSet paths_below paths x) other (n ∷ r) ≡ true

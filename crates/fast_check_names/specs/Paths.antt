@@ -1,16 +1,11 @@
 -- The equations of `paths`.
-use Rattle.std.proofs.Common.{◌≡◌, ◌∙◌, sym, ap, refl, Bool, cond, true, false, ◌||◌, map, List, [], ◌∷◌, Option, Some, None, String, string_bytes, ⊎_elim}
+use Rattle.std.proofs.Common.{◌≡◌, ◌∙◌, sym, ap, refl, Bool, cond, true, false, map, List, [], ◌∷◌, Option, Some, None, String, string_bytes}
 use Rattle.std.specs.Option.{is_some}
-use Rattle.std.proofs.lemmas.Bool.{cases_Bool}
 use Rattle.std.specs.Map.{lookup}
-use Rattle.std.specs.BTreeMap as tree
-use Rattle.std.specs.BTreeMap.{BTreeMap, get_by_text, is_at}
-use Rattle.std.specs.String.{string_cmp}
+use Rattle.std.specs.BTreeMap.{get_by_text, is_at}
 use Rattle.std.specs.Cmp.Lexicographic.{slice_cmp}
 use Rattle.std.specs.Ordering.{nat_cmp}
-use Rattle.std.specs.Str.{bytes_eq}
 use Rattle.std.specs.declared.alloc.Global.{Global}
-use Rattle.std.proofs.lemmas.Map.Text.{btree_map_updates_text}
 use Rattle.fast_check_names.specs.declared.lattice.named_subset.Exports.{Exports, out-Exports, roll-Exports, map-Exports, fold-roll-Exports, fold_out-Exports}
 use Rattle.fast_check_names.specs.declared.lattice.named_subset.Exports.TheVariants.{All, Subset, rolls-All, rolls-Subset}
 use Rattle.fast_check_names.specs.declared.lattice.named_subset.Exports.TheOpen as open'
@@ -24,7 +19,7 @@ paths_roll x part p = ap (λ (f : NameSet). f part p) (fold-roll-NamedSubset Nam
 paths_out : (s : NamedSubset) (part : Part) (p : Path) → paths s part p ≡ named_step (map-NamedSubset Exports NamedSubset NameSet NameSet paths_below paths (out-NamedSubset s)) part p
 paths_out s part p = ap (λ (f : NameSet). f part p) (fold_out-NamedSubset NameSet NameSet exports_step named_step s)
 
-below_roll : (x : Exports-F Exports NamedSubset) (part : Part) (p : Path) → paths_below (roll-Exports x) part p ≡ exports_step (map-Exports Exports NamedSubset NameSet NameSet paths_below paths x) part p
+pub below_roll : (x : Exports-F Exports NamedSubset) (part : Part) (p : Path) → paths_below (roll-Exports x) part p ≡ exports_step (map-Exports Exports NamedSubset NameSet NameSet paths_below paths x) part p
 below_roll x part p = ap (λ (f : NameSet). f part p) (fold-roll-Exports NameSet NameSet exports_step named_step x)
 
 found_mapped : (test : String Global → Bool) (part : Part) (q : Path) (es : List (String Global × Exports)) → under (lookup test (map (λ e. (e.0, paths_below e.1)) es)) part q ≡ paths_at (lookup test es) part q
