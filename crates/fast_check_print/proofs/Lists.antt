@@ -1,7 +1,7 @@
 -- The items of a list, printed.
 use Rattle.std.proofs.Common.{◌≡◌, ℕ, ◌≤◌, List, [], ◌∷◌, length, take, map, Vec, Global, refl, ap, ◌∙◌}
 use Rattle.std.proofs.lemmas.List.{take_all}
-use Rattle.serde_json.specs.Data.{Data, array}
+use Rattle.serde_json.specs.Data.{array}
 use Rattle.serde_json.specs.View.{view, items_of}
 use Rattle.serde_json.specs.declared.value.Value.{Value, Array}
 use Rattle.serde_json.proofs.Views.{view-Array}

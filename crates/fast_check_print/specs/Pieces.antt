@@ -1,5 +1,5 @@
 -- The JSON of ranges, words and objects of one member.
-use Rattle.std.specs.Prelude.{ℕ, List, [], ◌∷◌, Option, Some, None}
+use Rattle.std.specs.Prelude.{ℕ, List, [], Option, Some, None}
 use Rattle.serde_json.specs.Data.{Data, unsigned, number, array, object, no_items, item, no_members, member}
 use Rattle.fast_check_syntax.specs.declared.kind.Word.{Word}
 use Rattle.fast_check_syntax.specs.declared.source.SourceRange.{SourceRange}

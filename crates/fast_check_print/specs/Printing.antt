@@ -1,5 +1,5 @@
 -- The JSON value of a tree that stands at a place of a form.
-use Rattle.std.specs.Prelude.{ℕ, zero, suc, List, [], ◌∷◌, map, Bool, if◌then◌else◌, Option, Some, None}
+use Rattle.std.specs.Prelude.{ℕ, zero, suc, List, [], ◌∷◌, map, if◌then◌else◌, Option, Some, None}
 use Rattle.serde_json.specs.Data.{Data, null, boolean, string, array, object, Members, no_members, put}
 use Rattle.serde_json.specs.View.{items_of}
 use Rattle.fast_check_syntax.specs.Shape.{◌is◌}

@@ -1,5 +1,5 @@
 -- A member that a map finds is the one that a field is read from.
-use Rattle.std.proofs.Common.{◌≡◌, ℕ, List, [], ◌∷◌, Option, Some, None, option_map, String, BTreeMap, Global, Ordering, Less, Equal, Greater, Bor, refl, sym, ap, ◌∙◌}
+use Rattle.std.proofs.Common.{◌≡◌, ℕ, List, Option, Some, None, option_map, String, BTreeMap, Global, Ordering, Less, Equal, Greater, Bor, refl, sym, ap, ◌∙◌}
 use Rattle.std.specs.BTreeMap.{get_by_text}
 use Rattle.std.specs.Cmp.Lexicographic.{slice_cmp}
 use Rattle.std.specs.Option.{option_copied}

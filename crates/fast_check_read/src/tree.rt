@@ -46,8 +46,9 @@ fn read_word(value: &Value, list: Words) -> Result<Word, ReadError>
 fn read_node(alloc: Global, members: &Map<String, Value>, kind: Kind) -> Result<Tree, ReadError>
     ensures { Answers (node_tree (member_readings (members_view members.now.entries)) kind) result }
 {
-    let mut parts = Items::new(alloc);
-    for field in fields(kind) {
+    let fields = fields(kind);
+    let mut parts = Items::from_vec(Vec::with_capacity(alloc, fields.len())?);
+    for field in fields {
         parts.push(read_field(alloc, members, *field)?)?;
     }
     Ok(Tree::Node(kind, parts))
@@ -127,7 +128,7 @@ fn read_option(alloc: Global, value: &Value, form: Form) -> Result<Tree, ReadErr
 fn read_list(alloc: Global, values: &Vec<Value>, form: Form) -> Result<Tree, ReadError>
     ensures { Answers (option_map list (list_items form (item_readings (items_view values.now.items)))) result }
 {
-    let mut items = Items::new(alloc);
+    let mut items = Items::from_vec(Vec::with_capacity(alloc, values.len())?);
     for value in values {
         items.push(read_tree(alloc, value, form)?)?;
     }
@@ -138,7 +139,7 @@ fn read_list(alloc: Global, values: &Vec<Value>, form: Form) -> Result<Tree, Rea
 fn read_options(alloc: Global, values: &Vec<Value>, form: Form) -> Result<Tree, ReadError>
     ensures { Answers (option_map list (option_items form (item_readings (items_view values.now.items)))) result }
 {
-    let mut items = Items::new(alloc);
+    let mut items = Items::from_vec(Vec::with_capacity(alloc, values.len())?);
     for value in values {
         items.push(read_option(alloc, value, form)?)?;
     }

@@ -1,5 +1,5 @@
 -- Looking into the tables: by the text that JSON has, and by the node or word that a tree has.
-use Rattle.std.specs.Prelude.{ℕ, zero, suc, List, [], Bool, true, false, Option, Some, None, if◌then◌else◌}
+use Rattle.std.specs.Prelude.{ℕ, zero, suc, List, Bool, false, Option, Some, None, if◌then◌else◌}
 use Rattle.std.specs.List.{find, list_any}
 use Rattle.std.specs.Str.{bytes_eq}
 use denote.Enum.Bare.{sameb}
@@ -12,9 +12,8 @@ use Rattle.fast_check_schema.specs.declared.form.Form.{Form}
 use Rattle.fast_check_schema.specs.declared.form.Form.TheVariants as forms
 use Rattle.fast_check_schema.specs.declared.form.Choice.{Choice}
 use Rattle.fast_check_schema.specs.declared.form.Choice.TheVariants as choices
-use Rattle.fast_check_schema.specs.declared.form.Words.{Words}
 use Rattle.fast_check_schema.specs.Rows.{VariantRow, WordRow}
-use Rattle.fast_check_schema.specs.Schema.{variants_of, words_of}
+use Rattle.fast_check_schema.specs.Schema.{variants_of}
 
 -- the variant of this name
 abbrev pub variant_by_name : List ℕ → List VariantRow → Option VariantRow

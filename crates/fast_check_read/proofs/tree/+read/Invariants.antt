@@ -9,7 +9,7 @@ use Rattle.fast_check_read.proofs.tree.+read.Given as goal
 abbrev pub invariant-read_node-loop-field : goal.invariant-read_node-loop-field
 invariant-read_node-loop-field l =
     let part = field_tree (member_readings (members_view l.members.entries)) in
-    each part (map field_row l.field-items) ≡ option_map (λ more. l.parts ++ more) (each part (map field_row (drop l.field-index l.field-items)))
+    each part (map field_row l.fields) ≡ option_map (λ more. l.parts ++ more) (each part (map field_row (drop l.field-index l.fields)))
 
 abbrev pub invariant-read_list-loop-value : goal.invariant-read_list-loop-value
 invariant-read_list-loop-value l =
