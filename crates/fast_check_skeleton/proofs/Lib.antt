@@ -1,7 +1,5 @@
 pub mod Moving
 pub mod InferredMoved
-
-
-
 pub mod Agreeing
 pub mod Standing
+mod Example

@@ -7,3 +7,4 @@ pub mod Grammar
 pub mod Carried
 pub mod Hidden
 pub mod Worlds
+pub mod Example

@@ -1,0 +1,199 @@
+-- The two modules of the example agree but for what is hidden.
+use Rattle.std.specs.Prelude.{◌≡◌, ℕ, ◌==◌, Bool, false, List, [], ◌∷◌, refl, ◌↔◌}
+use Rattle.std.proofs.Common.{inl, inr, arith, ap, ◌∙◌, sym, subst, subst₂}
+use Rattle.fast_check_syntax.specs.declared.kind.Kind.{Kind}
+use Rattle.fast_check_syntax.specs.declared.kind.Kind.TheVariants.{Module, VarDecl, VarDeclarator, ExportDecl, FnDecl, Function, BindingIdent, TsTypeAnn, TsKeywordType, List as List'}
+use Rattle.fast_check_syntax.specs.declared.kind.Word.TheVariants as words
+use Rattle.fast_check_syntax.specs.declared.source.SourceRange.{SourceRange}
+use Rattle.fast_check_syntax.specs.declared.source.SyntaxContext.{SyntaxContext}
+use Rattle.fast_check_syntax.specs.declared.tree.Tree as tree
+use Rattle.fast_check_syntax.specs.declared.tree.Tree.{Tree, Absent, roll-Tree, out-roll-Tree}
+use Rattle.fast_check_syntax.specs.declared.tree.Tree.TheOpen.{Tree-F}
+use Rattle.fast_check_syntax.specs.Shape.{kind_of, parts, part, is_absent, node, list, range_of, flag_of, context_at, context_of}
+use Rattle.fast_check_syntax.specs.Moves.{Renaming, IsRenaming, IsPair, partners, twice, moved}
+use Rattle.fast_check_syntax.specs.Same.{SameTree, SameRange}
+use Rattle.fast_check_syntax.proofs.Made.{kind_of_node, parts_node, part_node, is_absent_node, flag_of_flag, range_of_range}
+use Rattle.fast_check_syntax.proofs.Moved.{node_moved, absent_moved, flag_moved, word_moved, text_moved, context_moved, range_moved}
+use Rattle.fast_check_syntax.proofs.Same.{tree_from}
+use Rattle.fast_check_program_forms.specs.Names.{BindingIdent-id, BindingIdent-type_ann, binding_ident}
+use Rattle.fast_check_program_forms.specs.ModuleDecls.{ExportDecl-span, ExportDecl-decl, export_decl}
+use Rattle.fast_check_program_forms.specs.Programs.{Module-body, Module-shebang, module'}
+use Rattle.fast_check_class_forms.specs.Functions.{Function-span}
+use Rattle.fast_check_statement_forms.specs.Declarations.{FnDecl-function, VarDecl-span, VarDecl-ctxt, VarDecl-kind, VarDecl-declare, VarDecl-decls, VarDeclarator-span, VarDeclarator-name, VarDeclarator-init, VarDeclarator-definite, var_decl, var_declarator}
+use Rattle.fast_check_skeleton.specs.Surroundings.{Surroundings}
+use Rattle.fast_check_skeleton.specs.Inferred.{mutability_of}
+use Rattle.fast_check_skeleton.specs.Visible.{declared_ident, declared_type, is_ambient, is_public_declarator, items_of}
+use Rattle.fast_check_skeleton.specs.Hidden.{AgreeHidden, SameHead, SameDeclarator, SameDeclarators, SameStatement, SameDecl, SameItem, SameItems}
+use Rattle.fast_check_skeleton.specs.Hidden as h
+use Rattle.fast_check_skeleton.specs.Example.{at, scope, name, annotation, declarator, statement, exported, text_value, first, hidden_function, name_value, second, renaming, around, Example}
+use Rattle.fast_check_skeleton.proofs.Agreeing.{two_worlds}
+
+-- ---- the renaming
+
+starts_one : (a b x y : ℕ) → IsPair renaming.starts a x → IsPair renaming.starts b y → (a ≡ b) ↔ (x ≡ y)
+starts_one a b x y p q = (λ e. grind arith, λ e. grind arith)
+
+ends_one : (a b x y : ℕ) → IsPair renaming.ends a x → IsPair renaming.ends b y → (a ≡ b) ↔ (x ≡ y)
+ends_one a b x y p q = (λ e. grind arith, λ e. grind arith)
+
+scopes_one : (a b x y : ℕ) → IsPair renaming.scopes a x → IsPair renaming.scopes b y → (a ≡ b) ↔ (x ≡ y)
+scopes_one a b x y p q = (λ e. grind arith, λ e. grind arith)
+
+is_renaming : IsRenaming renaming
+is_renaming = record {
+  starts = record { zero = inl (refl, refl); same = starts_one };
+  ends = record { zero = inl (refl, refl); same = ends_one };
+  scopes = record { zero = inl (refl, refl); same = scopes_one };
+}
+
+-- ---- what the forms read as
+
+context_of_context : (c : SyntaxContext) → context_of (tree.Context c) ≡ c
+unfolding roll-Tree denote.Hole.Carrier.roll
+context_of_context c = ap context_at (out-roll-Tree (Tree-F.Context c))
+
+span_made : (kind : Kind) (span : SourceRange) (ts : List Tree) → range_of (part 0 (node kind (tree.Range span ∷ ts))) ≡ span
+span_made kind span ts = ap range_of (part_node 0 kind (tree.Range span ∷ ts)) ∙ range_of_range span
+
+items_made : (span : SourceRange) (items : List Tree) (shebang : Tree) → items_of (module' span (list items) shebang) ≡ items
+items_made span items shebang = ap parts (part_node 1 Module (tree.Range span ∷ list items ∷ shebang ∷ [])) ∙ parts_node List' items
+
+decl_made : (span : SourceRange) (decl : Tree) → ExportDecl-decl (export_decl span decl) ≡ decl
+decl_made span decl = part_node 1 ExportDecl (tree.Range span ∷ decl ∷ [])
+
+module _ (span : SourceRange) (ctxt : SyntaxContext) (kind : Tree) (declare : Bool) (ds : List Tree) where
+  abbrev statement_parts : List Tree
+  statement_parts = tree.Range span ∷ tree.Context ctxt ∷ kind ∷ tree.Flag declare ∷ list ds ∷ []
+
+  ctxt_made : VarDecl-ctxt (var_decl span ctxt kind declare (list ds)) ≡ ctxt
+  ctxt_made = ap context_of (part_node 1 VarDecl statement_parts) ∙ context_of_context ctxt
+
+  kind_made : VarDecl-kind (var_decl span ctxt kind declare (list ds)) ≡ kind
+  kind_made = part_node 2 VarDecl statement_parts
+
+  declare_made : VarDecl-declare (var_decl span ctxt kind declare (list ds)) ≡ declare
+  declare_made = ap flag_of (part_node 3 VarDecl statement_parts) ∙ flag_of_flag declare
+
+  decls_made : parts (VarDecl-decls (var_decl span ctxt kind declare (list ds))) ≡ ds
+  decls_made = ap parts (part_node 4 VarDecl statement_parts) ∙ parts_node List' ds
+
+module _ (span : SourceRange) (id type init : Tree) (definite : Bool) where
+  abbrev declarator_parts : List Tree
+  declarator_parts = tree.Range span ∷ binding_ident id type ∷ init ∷ tree.Flag definite ∷ []
+
+  ident_made : declared_ident (var_declarator span (binding_ident id type) init definite) ≡ id
+  ident_made = ap BindingIdent-id (part_node 1 VarDeclarator declarator_parts) ∙ part_node 0 BindingIdent (id ∷ type ∷ [])
+
+  type_made : declared_type (var_declarator span (binding_ident id type) init definite) ≡ type
+  type_made = ap BindingIdent-type_ann (part_node 1 VarDeclarator declarator_parts) ∙ part_node 1 BindingIdent (id ∷ type ∷ [])
+
+  definite_made : VarDeclarator-definite (var_declarator span (binding_ident id type) init definite) ≡ definite
+  definite_made = ap flag_of (part_node 3 VarDeclarator declarator_parts) ∙ flag_of_flag definite
+
+-- ---- what agrees
+
+abbrev a : Surroundings
+a = around 14
+
+abbrev b : Surroundings
+b = around 30
+
+same_names : moved (partners renaming) (name 14 2) ≡ moved twice (name 30 3)
+same_names = simp (node_moved, range_moved, context_moved, text_moved, flag_moved)
+
+same_types : moved (partners renaming) (annotation 14) ≡ moved twice (annotation 30)
+same_types = simp (node_moved, range_moved, word_moved)
+
+same_consts : moved (partners renaming) (tree.Word words.Const) ≡ moved twice (tree.Word words.Const)
+same_consts = simp word_moved
+
+same_absent : moved (partners renaming) Absent ≡ moved twice Absent
+same_absent = simp absent_moved
+
+abbrev Same : Tree → Tree → Type 0
+Same = SameTree renaming
+
+same : (t u : Tree) → moved (partners renaming) t ≡ moved twice u → Same t u
+same t u e = tree_from renaming is_renaming t u e
+
+abbrev first_declarator : Tree
+first_declarator = declarator 14 2 text_value 29
+
+abbrev second_declarator : Tree
+second_declarator = declarator 30 3 name_value 43
+
+first_span : VarDeclarator-span first_declarator ≡ at 14 29
+first_span = span_made VarDeclarator (at 14 29) (binding_ident (name 14 2) (annotation 14) ∷ text_value ∷ tree.Flag false ∷ [])
+
+second_span : VarDeclarator-span second_declarator ≡ at 30 43
+second_span = span_made VarDeclarator (at 30 43) (binding_ident (name 30 3) (annotation 30) ∷ name_value ∷ tree.Flag false ∷ [])
+
+heads : SameHead renaming a b first_declarator second_declarator
+heads = record {
+  is_public = ap a.is_public first_span ∙ sym (ap b.is_public second_span);
+  span = subst₂ (SameRange renaming) (sym first_span) (sym second_span)
+      (record { start = inr (inr (inr (inl (refl, refl)))); end = inr (inr (inr (inl (refl, refl)))) });
+  ident = subst₂ Same (sym (ident_made (at 14 29) (name 14 2) (annotation 14) text_value false)) (sym (ident_made (at 30 43) (name 30 3) (annotation 30) name_value false))
+      (same (name 14 2) (name 30 3) same_names);
+  definite = definite_made (at 14 29) (name 14 2) (annotation 14) text_value false ∙ sym (definite_made (at 30 43) (name 30 3) (annotation 30) name_value false);
+  type = subst₂ Same (sym (type_made (at 14 29) (name 14 2) (annotation 14) text_value false)) (sym (type_made (at 30 43) (name 30 3) (annotation 30) name_value false))
+      (same (annotation 14) (annotation 30) same_types);
+}
+
+-- a type is written, so the values do not count
+is_typed : is_absent (declared_type first_declarator) ≡ false
+is_typed = ap is_absent (type_made (at 14 29) (name 14 2) (annotation 14) text_value false) ∙
+    is_absent_node TsTypeAnn (tree.Range (at 15 23) ∷ node TsKeywordType (tree.Range (at 17 23) ∷ tree.Word words.TsStringKeyword ∷ []) ∷ [])
+
+abbrev first_statement : Tree
+first_statement = statement 8 2 text_value 29
+
+abbrev second_statement : Tree
+second_statement = statement 24 3 name_value 43
+
+abbrev const : Tree
+const = tree.Word words.Const
+
+statements : SameStatement renaming a b first_statement second_statement
+statements = record {
+  kinds = record { left = simp kind_of_node; right = simp kind_of_node };
+  span = subst₂ (SameRange renaming)
+      (sym (span_made VarDecl (at 8 30) (tree.Context (scope 0) ∷ const ∷ tree.Flag false ∷ list (first_declarator ∷ []) ∷ [])))
+      (sym (span_made VarDecl (at 24 44) (tree.Context (scope 0) ∷ const ∷ tree.Flag false ∷ list (second_declarator ∷ []) ∷ [])))
+      (record { start = inr (inr (inl (refl, refl))); end = inr (inr (inr (inr (inl (refl, refl))))) });
+  ctxt = subst₂ (λ (x y : SyntaxContext). IsPair renaming.scopes x.0 y.0)
+      (sym (ctxt_made (at 8 30) (scope 0) const false (first_declarator ∷ []))) (sym (ctxt_made (at 24 44) (scope 0) const false (second_declarator ∷ []))) (inl (refl, refl));
+  kind = subst₂ Same (sym (kind_made (at 8 30) (scope 0) const false (first_declarator ∷ []))) (sym (kind_made (at 24 44) (scope 0) const false (second_declarator ∷ [])))
+      (same const const same_consts);
+  declare = declare_made (at 8 30) (scope 0) const false (first_declarator ∷ []) ∙ sym (declare_made (at 24 44) (scope 0) const false (second_declarator ∷ []));
+}
+
+decls : SameDecl renaming a b first_statement second_statement
+decls = h.SameDecl.variable statements (declare_made (at 8 30) (scope 0) const false (first_declarator ∷ []))
+    (subst₂ (SameDeclarators renaming a b (SameDeclarator renaming a b (mutability_of (VarDecl-kind first_statement))))
+        (sym (decls_made (at 8 30) (scope 0) const false (first_declarator ∷ []))) (sym (decls_made (at 24 44) (scope 0) const false (second_declarator ∷ [])))
+        (h.SameDeclarators.next (h.SameDeclarator.typed heads is_typed) h.SameDeclarators.end))
+
+exports : SameItem renaming a b (exported 1 2 text_value 29) (exported 17 3 name_value 43)
+exports = h.SameItem.exported (record { left = simp kind_of_node; right = simp kind_of_node })
+    (subst₂ (SameRange renaming) (sym (span_made ExportDecl (at 1 30) (first_statement ∷ []))) (sym (span_made ExportDecl (at 17 44) (second_statement ∷ [])))
+        (record { start = inr (inl (refl, refl)); end = inr (inr (inr (inr (inl (refl, refl))))) }))
+    (subst₂ (SameDecl renaming a b) (sym (decl_made (at 1 30) first_statement)) (sym (decl_made (at 17 44) second_statement)) decls)
+
+silent : h.IsSilent b hidden_function
+silent = h.IsSilent.function (simp kind_of_node) (simp (part_node, range_of_range))
+
+agree : AgreeHidden renaming a b first second
+agree = record {
+  is_declaration_file = refl;
+  items = subst₂ (SameItems renaming a b)
+      (sym (items_made (at 1 30) (exported 1 2 text_value 29 ∷ []) Absent)) (sym (items_made (at 1 44) (hidden_function ∷ exported 17 3 name_value 43 ∷ []) Absent))
+      (h.SameItems.right silent (h.SameItems.next exports h.SameItems.end));
+  shebang = subst₂ Same
+      (sym (part_node 2 Module (tree.Range (at 1 30) ∷ list (exported 1 2 text_value 29 ∷ []) ∷ Absent ∷ [])))
+      (sym (part_node 2 Module (tree.Range (at 1 44) ∷ list (hidden_function ∷ exported 17 3 name_value 43 ∷ []) ∷ Absent ∷ [])))
+      (same Absent Absent same_absent);
+}
+
+pub example : Example
+example = record { one_to_one = is_renaming; agree = agree; answers = two_worlds a first b second renaming is_renaming agree }
