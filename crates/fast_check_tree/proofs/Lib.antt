@@ -1,0 +1,2 @@
+pub mod SimpleTypes
+pub mod InferredTypes
