@@ -4,3 +4,6 @@ pub mod TemplateType
 pub mod GlobalCalls
 pub mod SimpleType
 pub mod InferredType
+pub mod ReturnClass
+pub mod ReturnStep
+pub mod OptionalParams

@@ -4,6 +4,8 @@ mod builders;
 mod global_calls;
 mod infer_type;
 mod literal_type;
+mod optional_params;
+mod return_class;
 mod simple_type;
 mod template_type;
 
@@ -14,5 +16,7 @@ pub use builders::{
 pub use global_calls::object_freeze_call_arg;
 pub use infer_type::maybe_infer_type;
 pub use literal_type::{DeclMutabilityKind, maybe_lit_to_ts_type};
+pub use optional_params::ParamsOptionalStartIndex;
+pub use return_class::{ReturnStatementAnalysis, analyze_return_stmts_in_function_body};
 pub use simple_type::is_simple_type;
 pub use template_type::tpl_to_ts_type;
