@@ -1,2 +1,9 @@
 pub mod Builders
 pub mod LiteralType
+pub mod TemplateType
+pub mod GlobalCalls
+pub mod SimpleType
+pub mod InferredType
+pub mod ReturnClass
+pub mod ReturnStep
+pub mod OptionalParams

@@ -1,0 +1,10 @@
+pub mod Leaves
+pub mod SimpleTypes
+pub mod InferredTypes
+pub mod Returns
+pub mod BuildersMoved
+pub mod GlobalCallsMoved
+pub mod SimpleTypesMoved
+pub mod InferredMoved
+pub mod ReturnsMoved
+pub mod OptionalStart
