@@ -1,7 +1,18 @@
 //! Helpers of the transform, under the names of deno_graph's `swc_helpers`.
 
 mod builders;
+mod global_calls;
+mod infer_type;
 mod literal_type;
+mod simple_type;
+mod template_type;
 
-pub use builders::{never_value, regex_type, ts_keyword_type, ts_lit_type, type_ann, type_ref};
+pub use builders::{
+    IdentTypeRef, any_type_ann, is_void_type, never_value, new_ident, regex_type, ts_keyword_type,
+    ts_lit_type, ts_readonly, ts_tuple_element, type_ann, type_ref,
+};
+pub use global_calls::object_freeze_call_arg;
+pub use infer_type::maybe_infer_type;
 pub use literal_type::{DeclMutabilityKind, maybe_lit_to_ts_type};
+pub use simple_type::is_simple_type;
+pub use template_type::tpl_to_ts_type;

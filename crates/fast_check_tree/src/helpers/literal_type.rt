@@ -23,8 +23,8 @@ fn literal_or_keyword(
     ensures { IfOk result (λ ty. ty ≡ literal_or_keyword mutability keyword (seen lit.entry)) }
 {
     match mutability {
-        DeclMutabilityKind::Const => ts_lit_type(alloc, lit.to_tree(alloc)?),
-        DeclMutabilityKind::Mutable => ts_keyword_type(alloc, keyword),
+        DeclMutabilityKind::Const => ts_lit_type(lit.to_tree(alloc)?).into_tree(alloc),
+        DeclMutabilityKind::Mutable => ts_keyword_type(keyword).into_tree(alloc),
     }
 }
 
@@ -38,7 +38,7 @@ pub fn maybe_lit_to_ts_type(
     ensures { IfOk result (λ ty. ty ≡ type_of_literal mutability (seen lit.entry)) }
 {
     let keyword = match lit.kind() {
-        Kind::Null => return Ok(Some(ts_keyword_type(alloc, Word::TsNullKeyword)?)),
+        Kind::Null => return Ok(Some(ts_keyword_type(Word::TsNullKeyword).into_tree(alloc)?)),
         Kind::Regex => return Ok(Some(regex_type(alloc)?)),
         Kind::Str => Word::TsStringKeyword,
         Kind::Bool => Word::TsBooleanKeyword,

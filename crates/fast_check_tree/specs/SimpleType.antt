@@ -1,0 +1,37 @@
+-- Simple types: those that an assertion to them shows as they are written. A type that is computed from others, or has parameters of its own, is none.
+use Rattle.std.specs.Prelude.{ℕ, Bool, true, false, not, ◌||◌, if◌then◌else◌, List}
+use Rattle.std.specs.List.{list_all}
+use Rattle.fast_check_syntax.specs.declared.kind.Kind.TheVariants.{TsKeywordType, TsThisType, TsTypeLit, TsLitType, TsTplLitType, TsTypeRef, TsTypeParamInstantiation, TsTupleType, TsTupleElement, TsArrayType, TsOptionalType, TsRestType, TsUnionType, TsIntersectionType, TsParenthesizedType, TsTypeOperator}
+use Rattle.fast_check_syntax.specs.declared.kind.Kind.TheVariants as kinds
+use Rattle.fast_check_syntax.specs.declared.tree.Tree.{Tree}
+use Rattle.fast_check_syntax.specs.Shape.{◌is◌, kind_of, is_absent}
+use Rattle.fast_check_syntax.specs.Recursion.{by_form}
+use Rattle.fast_check_type_forms.specs.Types.{TsLitType-lit, TsTypeRef-type_params}
+
+-- A keyword, `this`, a type literal, and a literal but a template are simple.
+-- So are a reference to a type, a tuple, an array, an optional, rest, union, intersection or parenthesised type and an operator on a type, where the types in it are.
+-- Of what holds types, as a list of them, it is said where it holds of each.
+-- `inside` says it of the part at a place, `each` of all parts.
+abbrev pub simple_form : Tree → (ℕ → Bool) → List Bool → Bool
+simple_form type inside each =
+    let kind = kind_of type in
+    if kind is TsKeywordType then true
+    else (if kind is TsThisType then true
+    else (if kind is TsTypeLit then true
+    else (if kind is TsLitType then not (kind_of (TsLitType-lit type) is TsTplLitType)
+    else (if kind is TsTypeRef then is_absent (TsTypeRef-type_params type) || inside 2
+    else (if kind is TsTypeParamInstantiation then inside 1
+    else (if kind is TsTupleType then inside 1
+    else (if kind is TsTupleElement then inside 2
+    else (if kind is TsArrayType then inside 1
+    else (if kind is TsOptionalType then inside 1
+    else (if kind is TsRestType then inside 1
+    else (if kind is TsUnionType then inside 1
+    else (if kind is TsIntersectionType then inside 1
+    else (if kind is TsParenthesizedType then inside 1
+    else (if kind is TsTypeOperator then inside 2
+    else (if kind is kinds.List then list_all (λ simple. simple) each
+    else false)))))))))))))))
+
+unfoldable pub is_simple_type : Tree → Bool
+is_simple_type = by_form false simple_form
