@@ -2,11 +2,11 @@
 #![tactic(auto)]
 
 mod answer;
+mod command;
 mod refusal;
 mod request;
-mod run;
 #[cfg(test)]
 mod tests;
 
+pub use command::run;
 pub use refusal::Refusal;
-pub use run::run;

@@ -4,7 +4,8 @@ use std::io;
 use std::io::{ErrorKind, Read, Write};
 use std::test::Fail;
 
-const EMPTY: &str = r#"{"module": {"specifier": "file:///p/mod.ts", "source": {"media_type": "TypeScript", "text": "", "program": {"Module": {}}}}}"#;
+const EMPTY: &str =
+    r#"{"module": {"specifier": "file:///p/mod.ts", "source": {"media_type": "TypeScript", "text": "", "program": {"Module": {}}}}}"#;
 
 /// A reader that fails behind its first bytes.
 #[derive(Drop)]
@@ -58,7 +59,10 @@ fn a_reader_that_fails_is_unreadable(rt: HostRuntime) -> Result<(), Fail> {
     );
     assert_eq!(rt; status, 2);
     assert!(rt; out.is_empty());
-    assert_eq!(rt; err.as_slice(), b"error: input refused: unreadable\n".as_slice());
+    assert_eq!(rt;
+        err.as_slice(),
+        b"error: input refused: unreadable\n".as_slice()
+    );
     Ok(())
 }
 
@@ -67,7 +71,13 @@ fn an_answer_that_cannot_be_written_is_no_success(rt: HostRuntime) -> Result<(),
     let words = words(rt.alloc())?;
     let mut err = Vec::new(rt.alloc());
     let input = Some(EMPTY.as_bytes());
-    let status = run(rt.alloc(), words.as_slice(), input, &mut Closed {}, &mut err);
+    let status = run(
+        rt.alloc(),
+        words.as_slice(),
+        input,
+        &mut Closed {},
+        &mut err,
+    );
     assert_eq!(rt; status, 2);
     assert_eq!(rt; err.as_slice(), b"error: output refused\n".as_slice());
     Ok(())
@@ -78,7 +88,16 @@ fn a_refused_error_line_changes_no_status(rt: HostRuntime) -> Result<(), Fail> {
     let words = words(rt.alloc())?;
     let mut out = Vec::new(rt.alloc());
     let input = Some(b"[]".as_slice());
-    assert_eq!(rt; run(rt.alloc(), words.as_slice(), input, &mut out, &mut Closed {}), 2);
+    assert_eq!(rt;
+        run(
+            rt.alloc(),
+            words.as_slice(),
+            input,
+            &mut out,
+            &mut Closed {}
+        ),
+        2
+    );
     assert!(rt; out.is_empty());
     Ok(())
 }
@@ -88,9 +107,16 @@ fn an_empty_module_has_an_empty_skeleton(rt: HostRuntime) -> Result<(), Fail> {
     let words = words(rt.alloc())?;
     let mut out = Vec::new(rt.alloc());
     let mut err = Vec::new(rt.alloc());
-    let status = run(rt.alloc(), words.as_slice(), Some(EMPTY.as_bytes()), &mut out, &mut err);
+    let status = run(
+        rt.alloc(),
+        words.as_slice(),
+        Some(EMPTY.as_bytes()),
+        &mut out,
+        &mut err,
+    );
     assert_eq!(rt; status, 0);
-    let line = r#"{"Ok":{"comments":{"leading":[],"trailing":[]},"module_info":{"sources":[]},"program":{"body":[],"shebang":null,"span":[0,0]}}}"#;
+    let line =
+        r#"{"Ok":{"comments":{"leading":[],"trailing":[]},"module_info":{"sources":[]},"program":{"body":[],"shebang":null,"span":[0,0]}}}"#;
     assert_eq!(rt; out.len(), line.len() + 1);
     assert!(rt; out.starts_with(line.as_bytes()));
     assert!(rt; err.is_empty());
