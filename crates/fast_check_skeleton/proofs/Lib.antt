@@ -1,5 +1,4 @@
 pub mod Moving
-pub mod InferredMoved
 
 
 

@@ -1,6 +1,6 @@
 pub mod Surroundings
 pub mod Seen
-pub mod Inferred
+pub mod Mutability
 pub mod Visible
 pub mod Skeleton
 pub mod Grammar
