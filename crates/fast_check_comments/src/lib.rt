@@ -3,10 +3,12 @@
 
 mod comment;
 mod comments;
+mod comments_mut;
 mod map;
 
 pub use comment::{Comment, CommentKind};
 pub use comments::Comments;
+pub use comments_mut::CommentsMut;
 pub use map::{CommentList, CommentMap};
 
 #[cfg(test)]

@@ -23,11 +23,28 @@ impl Model for CommentList {
 }
 
 impl CommentList {
+    ghost use Rattle.std.specs.List.{filter};
+    ghost use Rattle.fast_check_comments.specs.Kept.{is_kept, is_empty};
+
     /// The list of these comments.
     pub fn from_vec(comments: Vec<Comment>) -> CommentList
         ensures { result ≡ comments.items }
     {
         CommentList { comments }
+    }
+
+    /// Takes away the comments that no skeleton keeps.
+    pub(crate) fn prune(&mut self)
+        ensures { self.new ≡ filter is_kept self.old }
+    {
+        self.comments.retain(|comment| comment.is_kept());
+    }
+
+    /// Whether there is no comment in the list.
+    pub(crate) fn is_empty(&self) -> bool
+        ensures { result ≡ is_empty self.now }
+    {
+        self.comments.is_empty()
     }
 
     /// The comments, in order.
@@ -71,6 +88,7 @@ impl CommentMap {
     ghost use Rattle.fast_check_comments.specs.declared.comment.Comment.{Comment};
     ghost use Rattle.std.specs.Option.{option_map};
     ghost use Rattle.fast_check_comments.specs.Places.{comments_at, with_comments, without_comments};
+    ghost use Rattle.fast_check_comments.specs.Kept.{pruned};
 
     /// The map without comments. It takes no memory.
     pub fn new(alloc: Global) -> CommentMap
@@ -117,6 +135,16 @@ impl CommentMap {
         ensures { self.new ≡ without_comments position self.old }
     {
         drop(self.entries.remove(&position));
+    }
+
+    /// Takes away the comments that no skeleton keeps, and each position that is left with none.
+    pub(crate) fn prune(&mut self)
+        ensures { self.new ≡ pruned self.old }
+    {
+        self.entries.retain(|_, comments| {
+            comments.prune();
+            !comments.is_empty()
+        });
     }
 }
 
