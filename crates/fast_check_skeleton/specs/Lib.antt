@@ -4,6 +4,7 @@ pub mod Mutability
 pub mod Visible
 pub mod Skeleton
 pub mod Grammar
+pub mod KeptComments
 pub mod Carried
 pub mod Hidden
 pub mod Worlds
