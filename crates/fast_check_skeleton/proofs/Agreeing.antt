@@ -1,15 +1,15 @@
 -- Modules that agree but for what is hidden are seen alike, so that their answers are the same.
 use Rattle.std.specs.Prelude.{◌≡◌, Bool, true, false, not, ◌&&◌, ◌||◌, Option, Some, None, option_map, List, [], ◌∷◌, ◌++◌, map, flat_map, refl, if◌then◌else◌}
-use Rattle.std.specs.List.{list_all}
-use Rattle.std.proofs.Common.{ap, ap₂, ◌∙◌, sym, subst, subst₂}
+use Rattle.std.specs.List.{list_all, list_any}
+use Rattle.std.proofs.Common.{ap, ap₂, ◌∙◌, sym, subst, subst₂, true≢false}
 use Rattle.fast_check_syntax.specs.declared.kind.Kind.{Kind}
-use Rattle.fast_check_syntax.specs.declared.kind.Kind.TheVariants.{Module, VarDeclarator, VarDecl, ExportDecl, FnDecl, List as List'}
+use Rattle.fast_check_syntax.specs.declared.kind.Kind.TheVariants.{Module, VarDeclarator, VarDecl, ExportDecl, FnDecl, TsInterfaceDecl, TsTypeAliasDecl, TsEnumDecl, ExprStmt, AssignExpr, List as List'}
 use Rattle.fast_check_syntax.specs.declared.kind.Word.TheVariants.{Const as ConstWord}
 use Rattle.fast_check_syntax.specs.declared.source.SourceRange.{SourceRange}
 use Rattle.fast_check_syntax.specs.declared.source.SyntaxContext.{SyntaxContext}
 use Rattle.fast_check_syntax.specs.declared.tree.Tree as tree
 use Rattle.fast_check_syntax.specs.declared.tree.Tree.{Tree}
-use Rattle.fast_check_syntax.specs.Shape.{◌is◌, differs, kind_of, parts, is_absent, has_word, list}
+use Rattle.fast_check_syntax.specs.Shape.{◌is◌, is_kind, kind_of, parts, is_absent, has_word, list}
 use Rattle.fast_check_syntax.specs.Moves.{Moves, Renaming, IsRenaming, IsPair, partners, twice, moved}
 use Rattle.fast_check_syntax.specs.Same.{SameTree, SameRange, Each}
 use Rattle.fast_check_syntax.proofs.Moved.{is_absent_moved, has_word_moved, node_moved}
@@ -21,16 +21,19 @@ use Rattle.fast_check_program_forms.specs.ModuleDecls.{ExportDecl-span, ExportDe
 use Rattle.fast_check_statement_forms.specs.Declarations.{VarDecl-span, VarDecl-ctxt, VarDecl-kind, VarDecl-declare, VarDecl-decls, VarDeclarator-span, VarDeclarator-name, VarDeclarator-init, VarDeclarator-definite}
 use Rattle.fast_check_tree.specs.declared.helpers.literal_type.DeclMutabilityKind.{DeclMutabilityKind}
 use Rattle.fast_check_tree.specs.declared.helpers.literal_type.DeclMutabilityKind.TheVariants.{Const, Mutable}
+use Rattle.fast_check_statement_forms.specs.Statements.{ExprStmt-expr}
 use Rattle.fast_check_skeleton.specs.declared.fault.Fault.{Fault}
 use Rattle.fast_check_skeleton.specs.Surroundings.{Surroundings}
-use Rattle.fast_check_skeleton.specs.Inferred.{inferred_type, mutability_of}
+use Rattle.fast_check_tree.specs.InferredType.{inferred_type}
+use Rattle.fast_check_skeleton.specs.Mutability.{mutability_of}
 use Rattle.fast_check_skeleton.specs.Seen.{Seen, written, range, scope, flag, form, inferred, hidden, end, also, seens, moved_seen, moved_seens}
-use Rattle.fast_check_skeleton.specs.Visible.{declared_ident, declared_type, standing, by_inferred, value_seen, declarator_seen, is_ambient, is_public_declarator, declarator_in, public_declarator, public_declarators, statement_seen, decl_seen, exported_seen, item_seen, items_of, visible}
+use Rattle.fast_check_skeleton.specs.Visible.{declared_ident, declared_type, standing, by_inferred, value_seen, declarator_seen, is_ambient, is_public_declarator, declarator_in, public_declarator, public_declarators, statement_seen, is_standing, own_range, standing_seen, decl_seen, exported_seen, item_seen, items_of, visible}
 use Rattle.fast_check_skeleton.specs.Skeleton.{Answer, answer_of, transformed, skeleton_of, faults_of}
-use Rattle.fast_check_skeleton.specs.Hidden.{Both, IsSilentDecl, IsSilent, SameHead, SameDeclarator, SameAmbient, SameDeclarators, SameStatement, SameDecl, SameItem, SameItems, AgreeHidden}
+use Rattle.fast_check_skeleton.specs.Hidden.{Both, statement_kinds, is_plain_statement, IsSilentDecl, IsSilent, SameHead, SameDeclarator, SameAmbient, SameDeclarators, SameStatement, SameDecl, SameItem, SameItems, AgreeHidden}
 use Rattle.fast_check_skeleton.specs.Hidden as h
 use Rattle.fast_check_skeleton.specs.Worlds.{SameFault, SameSkeleton, SameAnswers, TwoWorlds}
-use Rattle.fast_check_skeleton.proofs.InferredMoved.{inferred_type_moved}
+use Rattle.fast_check_tree.proofs.GlobalCallsMoved.{moved_scope}
+use Rattle.fast_check_tree.proofs.InferredMoved.{inferred_type_moved}
 use Rattle.fast_check_skeleton.proofs.Moving.{moved_fault, moved_answer, map_append, answer_of_moved}
 
 seens_moved : (m : Moves) (ss : List Seen) → moved_seens m (seens ss) ≡ seens (map (moved_seen m) ss)
@@ -42,6 +45,36 @@ seens_moved m (s ∷ ss) = ap (also (moved_seen m s)) (seens_moved m ss)
 both_true : (a b : Bool) → (a && b) ≡ true → (a ≡ true) × (b ≡ true)
 both_true true b e = (refl, e)
 both_true false b e = cc
+
+-- a kind of which a fact is true is no kind of which it is false
+apart : (f : Kind → Bool) (k j : Kind) → f k ≡ true → f j ≡ false → k is j ≡ false
+apart f k j e n = go (k is j) refl
+  where
+    go : (b : Bool) → k is j ≡ b → b ≡ false
+    go false p = refl
+    go true p = absurd (true≢false (sym e ∙ (ap f (is_kind k j p) ∙ n)))
+
+stands_apart : (k j : Kind) → is_standing k ≡ true → is_standing j ≡ false → k is j ≡ false
+stands_apart = apart is_standing
+
+-- whether a statement of this kind may be plain
+abbrev may_be_plain : Kind → Bool
+may_be_plain k = list_any (λ kind. k is kind) statement_kinds || (k is ExprStmt)
+
+plain_kind : (t : Tree) → is_plain_statement t ≡ true → may_be_plain (kind_of t) ≡ true
+plain_kind t = go (list_any (λ kind. kind_of t is kind) statement_kinds) (kind_of t is ExprStmt) (not (kind_of (ExprStmt-expr t) is AssignExpr))
+  where
+    go : (a b c : Bool) → (a || (b && c)) ≡ true → (a || b) ≡ true
+    go true b c e = refl
+    go false true c e = refl
+    go false false c e = e
+
+plain_apart : (t : Tree) (j : Kind) → is_plain_statement t ≡ true → may_be_plain j ≡ false → kind_of t is j ≡ false
+plain_apart t j e n = apart may_be_plain (kind_of t) j (plain_kind t e) n
+
+plain_no_standing : (t : Tree) → is_plain_statement t ≡ true → is_standing (kind_of t) ≡ false
+plain_no_standing t e =
+    λ i. plain_apart t TsInterfaceDecl e refl i || (plain_apart t TsTypeAliasDecl e refl i || plain_apart t TsEnumDecl e refl i)
 
 module _ (around : Surroundings) where
   not_public : (statement d : Tree) → is_public_declarator around d ≡ false → public_declarator around statement d ≡ []
@@ -57,27 +90,42 @@ module _ (around : Surroundings) where
       go false e = refl
       go true e = cc
 
-  decl_of : (t : Tree) → kind_of t ≡ VarDecl → decl_seen around t ≡ statement_seen t (public_declarators around t)
-  decl_of t e = ap (λ k. if k is VarDecl then statement_seen t (public_declarators around t) else []) e
+  abbrev decl_if : SourceRange → Tree → Bool → Bool → List Seen
+  decl_if p t is_variable stands = if is_variable then statement_seen t (public_declarators around t) else (if stands then standing_seen around p t else [])
 
-  no_decl : (t : Tree) → kind_of t ≡ FnDecl → decl_seen around t ≡ []
-  no_decl t e = ap (λ k. if k is VarDecl then statement_seen t (public_declarators around t) else []) e
+  decl_of : (p : SourceRange) (t : Tree) → kind_of t ≡ VarDecl → decl_seen around p t ≡ statement_seen t (public_declarators around t)
+  decl_of p t e = ap (λ k. decl_if p t (k is VarDecl) (is_standing k)) e
 
-  export_of : (t : Tree) → kind_of t ≡ ExportDecl → item_seen around t ≡ exported_seen t (decl_seen around (ExportDecl-decl t))
-  export_of t e = ap (λ k. if k is ExportDecl then exported_seen t (decl_seen around (ExportDecl-decl t)) else decl_seen around t) e
+  no_decl : (p : SourceRange) (t : Tree) → kind_of t is VarDecl ≡ false → is_standing (kind_of t) ≡ false → decl_seen around p t ≡ []
+  no_decl p t e f = λ i. decl_if p t (e i) (f i)
 
-  item_of : (t : Tree) (k : Kind) → kind_of t ≡ k → k is ExportDecl ≡ false → item_seen around t ≡ decl_seen around t
-  item_of t k e n = ap (λ k. if k is ExportDecl then exported_seen t (decl_seen around (ExportDecl-decl t)) else decl_seen around t) e ∙
-      ap (λ b. if b then exported_seen t (decl_seen around (ExportDecl-decl t)) else decl_seen around t) n
+  standing_of : (p : SourceRange) (t : Tree) → is_standing (kind_of t) ≡ true → decl_seen around p t ≡ standing_seen around p t
+  standing_of p t e = λ i. decl_if p t (stands_apart (kind_of t) VarDecl e refl i) (e i)
 
-  silent_decl : (t : Tree) → IsSilentDecl around t → decl_seen around t ≡ []
-  silent_decl t (h.IsSilentDecl.variable k e) = decl_of t k ∙ ap (statement_seen t) (no_declarators t (parts (VarDecl-decls t)) e)
+  abbrev item_if : Tree → Bool → List Seen
+  item_if t is_export = if is_export then exported_seen t (decl_seen around (ExportDecl-span t) (ExportDecl-decl t)) else decl_seen around (own_range t) t
+
+  export_of : (t : Tree) → kind_of t ≡ ExportDecl → item_seen around t ≡ exported_seen t (decl_seen around (ExportDecl-span t) (ExportDecl-decl t))
+  export_of t e = ap (λ k. item_if t (k is ExportDecl)) e
+
+  item_of : (t : Tree) → kind_of t is ExportDecl ≡ false → item_seen around t ≡ decl_seen around (own_range t) t
+  item_of t e = ap (item_if t) e
+
+  silent_decl : (p : SourceRange) (t : Tree) → IsSilentDecl around p t → decl_seen around p t ≡ []
+  silent_decl p t (h.IsSilentDecl.variable k e) = decl_of p t k ∙ ap (statement_seen t) (no_declarators t (parts (VarDecl-decls t)) e)
+  silent_decl p t (h.IsSilentDecl.standing s e) = standing_of p t s ∙ ap (λ b. if b then written t ∷ [] else []) e
+
+  no_export : (p : SourceRange) (t : Tree) → IsSilentDecl around p t → kind_of t is ExportDecl ≡ false
+  no_export p t (h.IsSilentDecl.variable k e) = ap (λ j. j is ExportDecl) k
+  no_export p t (h.IsSilentDecl.standing s e) = stands_apart (kind_of t) ExportDecl s refl
 
   silent_item : (t : Tree) → IsSilent around t → item_seen around t ≡ []
-  silent_item t (h.IsSilent.decl (h.IsSilentDecl.variable k e)) = item_of t VarDecl k refl ∙ silent_decl t (h.IsSilentDecl.variable k e)
-  silent_item t (h.IsSilent.function k e) = item_of t FnDecl k refl ∙ no_decl t k
-  silent_item t (h.IsSilent.exported k s) = export_of t k ∙ ap (exported_seen t) (silent_decl (ExportDecl-decl t) s)
-  silent_item t (h.IsSilent.exported_function k j e) = export_of t k ∙ ap (exported_seen t) (no_decl (ExportDecl-decl t) j)
+  silent_item t (h.IsSilent.decl s) = item_of t (no_export (own_range t) t s) ∙ silent_decl (own_range t) t s
+  silent_item t (h.IsSilent.statement s) = item_of t (plain_apart t ExportDecl s refl) ∙ no_decl (own_range t) t (plain_apart t VarDecl s refl) (plain_no_standing t s)
+  silent_item t (h.IsSilent.function k e) = item_of t (ap (λ j. j is ExportDecl) k) ∙ no_decl (own_range t) t (ap (λ j. j is VarDecl) k) (ap is_standing k)
+  silent_item t (h.IsSilent.exported k s) = export_of t k ∙ ap (exported_seen t) (silent_decl (ExportDecl-span t) (ExportDecl-decl t) s)
+  silent_item t (h.IsSilent.exported_function k j e) =
+      export_of t k ∙ ap (exported_seen t) (no_decl (ExportDecl-span t) (ExportDecl-decl t) (ap (λ i. i is VarDecl) j) (ap is_standing j))
 
 -- ---- what agrees is seen alike
 
@@ -127,31 +175,36 @@ module _ (r : Renaming) (ok : IsRenaming r) where
   by_inferred_moved m (Some t) = refl
   by_inferred_moved m None = refl
 
-  same_value : (mutability : DeclMutabilityKind) (v w : Tree) → SameTree r v w → Alike (by_inferred (inferred_type mutability v)) (by_inferred (inferred_type mutability w))
-  same_value mutability v w s =
-      sym (ap by_inferred (inferred_type_moved (partners r) (partners_keep r ok) mutability v) ∙ by_inferred_moved (partners r) (inferred_type mutability v)) ∙
-      (ap (λ t. by_inferred (inferred_type mutability t)) (tree_to r ok s) ∙
-      (ap by_inferred (inferred_type_moved twice twice_keeps mutability w) ∙ by_inferred_moved twice (inferred_type mutability w)))
+  -- the scope numbers of what nothing binds are partners
+  scope_to : (c d : SyntaxContext) → IsPair r.scopes c.0 d.0 → moved_scope (partners r) c ≡ moved_scope twice d
+  scope_to c d p = λ i. record { 0 = to_partner r.scopes ok.scopes c.0 d.0 p i }
+
+  same_value : (mutability : DeclMutabilityKind) (c d : SyntaxContext) (v w : Tree) → IsPair r.scopes c.0 d.0 → SameTree r v w →
+      Alike (by_inferred (inferred_type mutability c v)) (by_inferred (inferred_type mutability d w))
+  same_value mutability c d v w p s =
+      sym (ap by_inferred (inferred_type_moved (partners r) (partners_keep r ok) mutability c v) ∙ by_inferred_moved (partners r) (inferred_type mutability c v)) ∙
+      (ap₂ (λ u t. by_inferred (inferred_type mutability u t)) (scope_to c d p) (tree_to r ok s) ∙
+      (ap by_inferred (inferred_type_moved twice twice_keeps mutability d w) ∙ by_inferred_moved twice (inferred_type mutability d w)))
 
   module _ (a b : Surroundings) where
     -- ---- declarators
 
-    abbrev value_of : DeclMutabilityKind → Tree → Seen
-    value_of mutability d = by_inferred (inferred_type mutability (VarDeclarator-init d))
+    abbrev value_of : Surroundings → DeclMutabilityKind → Tree → Seen
+    value_of around mutability d = by_inferred (inferred_type mutability around.unresolved (VarDeclarator-init d))
 
-    declared : (mutability : DeclMutabilityKind) (t u : Tree) → SameHead r a b t u → (is_absent (declared_type t) ≡ true → Alike (value_of mutability t) (value_of mutability u)) →
-        Alike (declarator_seen mutability t) (declarator_seen mutability u)
+    declared : (mutability : DeclMutabilityKind) (t u : Tree) → SameHead r a b t u → (is_absent (declared_type t) ≡ true → Alike (value_of a mutability t) (value_of b mutability u)) →
+        Alike (declarator_seen a mutability t) (declarator_seen b mutability u)
     declared mutability t u d v =
-        let w = alike_if (is_absent (declared_type t)) (is_absent (declared_type u)) (value_of mutability t) hidden (value_of mutability u) hidden (absent_alike (declared_type t) (declared_type u) d.type) v (λ e. refl) in
+        let w = alike_if (is_absent (declared_type t)) (is_absent (declared_type u)) (value_of a mutability t) hidden (value_of b mutability u) hidden (absent_alike (declared_type t) (declared_type u) d.type) v (λ e. refl) in
         λ i. form VarDeclarator (also (range_alike (VarDeclarator-span t) (VarDeclarator-span u) d.span i) (also (written_alike d.ident i) (also (flag (d.definite i)) (also (standing_alike d.type i) (also (w i) end)))))
 
-    declarator_alike : (mutability : DeclMutabilityKind) {t u : Tree} → SameDeclarator r a b mutability t u →
-        (is_public_declarator a t ≡ is_public_declarator b u) × Alike (declarator_seen mutability t) (declarator_seen mutability u)
-    declarator_alike mutability (h.SameDeclarator.typed {t = t} {u = u} d w) = (d.is_public, declared mutability t u d (λ e. cc))
-    declarator_alike mutability (h.SameDeclarator.inferred {t = t} {u = u} x y d f g s) =
+    declarator_alike : IsPair r.scopes a.unresolved.0 b.unresolved.0 → (mutability : DeclMutabilityKind) {t u : Tree} → SameDeclarator r a b mutability t u →
+        (is_public_declarator a t ≡ is_public_declarator b u) × Alike (declarator_seen a mutability t) (declarator_seen b mutability u)
+    declarator_alike c mutability (h.SameDeclarator.typed {t = t} {u = u} d w) = (d.is_public, declared mutability t u d (λ e. cc))
+    declarator_alike c mutability (h.SameDeclarator.inferred {t = t} {u = u} x y d f g s) =
         (d.is_public, declared mutability t u d (λ e. subst₂ (λ i j. Alike (by_inferred i) (by_inferred j)) (sym f) (sym g) (ap inferred (tree_to r ok s))))
-    declarator_alike mutability (h.SameDeclarator.same {t = t} {u = u} d s) =
-        (d.is_public, declared mutability t u d (λ e. same_value mutability (VarDeclarator-init t) (VarDeclarator-init u) s))
+    declarator_alike c mutability (h.SameDeclarator.same {t = t} {u = u} d s) =
+        (d.is_public, declared mutability t u d (λ e. same_value mutability a.unresolved b.unresolved (VarDeclarator-init t) (VarDeclarator-init u) c s))
 
     declarators_alike : (Same : Tree → Tree → Type 0) (s s' : Tree) →
         ((t u : Tree) → Same t u → (is_public_declarator a t ≡ is_public_declarator b u) × Alike (declarator_in a s t) (declarator_in b s' u)) →
@@ -185,25 +238,35 @@ module _ (r : Renaming) (ok : IsRenaming r) where
     ambient_alike : (t u : Tree) → a.is_declaration_file ≡ b.is_declaration_file → VarDecl-declare t ≡ VarDecl-declare u → is_ambient a t ≡ is_ambient b u
     ambient_alike t u e f = ap₂ (λ x y. x || y) e f
 
-    decl_alike : (t u : Tree) → a.is_declaration_file ≡ b.is_declaration_file → SameDecl r a b t u → (kind_of t ≡ VarDecl) × (kind_of u ≡ VarDecl) × AllAlike (decl_seen a t) (decl_seen b u)
-    decl_alike t u m (h.SameDecl.variable d n rest) = (d.kinds.left, d.kinds.right,
-        subst₂ AllAlike (sym (decl_of a t d.kinds.left)) (sym (decl_of b u d.kinds.right))
+    -- the kinds are not that of an export, and what is seen is alike
+    abbrev DeclsAlike : SourceRange → SourceRange → Tree → Tree → Type 0
+    DeclsAlike p q t u = (kind_of t is ExportDecl ≡ false) × (kind_of u is ExportDecl ≡ false) × AllAlike (decl_seen a p t) (decl_seen b q u)
+
+    decl_alike : IsPair r.scopes a.unresolved.0 b.unresolved.0 → a.is_declaration_file ≡ b.is_declaration_file → (p q : SourceRange) (t u : Tree) → SameDecl r a b p q t u → DeclsAlike p q t u
+    decl_alike c m p q t u (h.SameDecl.variable d n rest) = (ap (λ k. k is ExportDecl) d.kinds.left, ap (λ k. k is ExportDecl) d.kinds.right,
+        subst₂ AllAlike (sym (decl_of a p t d.kinds.left)) (sym (decl_of b q u d.kinds.right))
             (statement_alike t u (public_declarators a t) (public_declarators b u) d
                 (declarators_alike (SameDeclarator r a b (mutability_of (VarDecl-kind t))) t u go (parts (VarDecl-decls t)) (parts (VarDecl-decls u)) rest)))
       where
         go : (x y : Tree) → SameDeclarator r a b (mutability_of (VarDecl-kind t)) x y → (is_public_declarator a x ≡ is_public_declarator b y) × Alike (declarator_in a t x) (declarator_in b u y)
         go x y s =
-            let e = declarator_alike (mutability_of (VarDecl-kind t)) s in
-            (e.0, alike_if (is_ambient a t) (is_ambient b u) (written x) (declarator_seen (mutability_of (VarDecl-kind t)) x) (written y) (declarator_seen (mutability_of (VarDecl-kind u)) y)
-                (ambient_alike t u m d.declare) (λ e. cc) (λ f. subst (λ k. Alike (declarator_seen (mutability_of (VarDecl-kind t)) x) (declarator_seen k y)) (mutability_alike (VarDecl-kind t) (VarDecl-kind u) d.kind) e.1))
-    decl_alike t u m (h.SameDecl.ambient d n rest) = (d.kinds.left, d.kinds.right,
-        subst₂ AllAlike (sym (decl_of a t d.kinds.left)) (sym (decl_of b u d.kinds.right))
+            let e = declarator_alike c (mutability_of (VarDecl-kind t)) s in
+            (e.0, alike_if (is_ambient a t) (is_ambient b u) (written x) (declarator_seen a (mutability_of (VarDecl-kind t)) x) (written y) (declarator_seen b (mutability_of (VarDecl-kind u)) y)
+                (ambient_alike t u m d.declare) (λ e. cc) (λ f. subst (λ k. Alike (declarator_seen a (mutability_of (VarDecl-kind t)) x) (declarator_seen b k y)) (mutability_alike (VarDecl-kind t) (VarDecl-kind u) d.kind) e.1))
+    decl_alike c m p q t u (h.SameDecl.ambient d n rest) = (ap (λ k. k is ExportDecl) d.kinds.left, ap (λ k. k is ExportDecl) d.kinds.right,
+        subst₂ AllAlike (sym (decl_of a p t d.kinds.left)) (sym (decl_of b q u d.kinds.right))
             (statement_alike t u (public_declarators a t) (public_declarators b u) d
                 (declarators_alike (SameAmbient r a b) t u go (parts (VarDecl-decls t)) (parts (VarDecl-decls u)) rest)))
       where
         go : (x y : Tree) → SameAmbient r a b x y → (is_public_declarator a x ≡ is_public_declarator b y) × Alike (declarator_in a t x) (declarator_in b u y)
-        go x y s = (s.is_public, alike_if (is_ambient a t) (is_ambient b u) (written x) (declarator_seen (mutability_of (VarDecl-kind t)) x) (written y) (declarator_seen (mutability_of (VarDecl-kind u)) y)
+        go x y s = (s.is_public, alike_if (is_ambient a t) (is_ambient b u) (written x) (declarator_seen a (mutability_of (VarDecl-kind t)) x) (written y) (declarator_seen b (mutability_of (VarDecl-kind u)) y)
             (ambient_alike t u m d.declare) (λ e. written_alike s.tree) (λ e. cc))
+
+    decl_alike c m p q t u (h.SameDecl.standing k d s e f) =
+        let st = ap is_standing d.left ∙ s in
+        let su = ap is_standing d.right ∙ s in
+        (stands_apart (kind_of t) ExportDecl st refl, stands_apart (kind_of u) ExportDecl su refl,
+            subst₂ AllAlike (sym (standing_of a p t st)) (sym (standing_of b q u su)) (all_alike_if (a.is_public p) (b.is_public q) (written t) (written u) e (written_alike f)))
 
     -- ---- items
 
@@ -214,22 +277,23 @@ module _ (r : Renaming) (ok : IsRenaming r) where
     exported_alike t u [] (y ∷ ys) s p = cc
     exported_alike t u (x ∷ xs) [] s p = cc
 
-    item_alike : (t u : Tree) → a.is_declaration_file ≡ b.is_declaration_file → SameItem r a b t u → AllAlike (item_seen a t) (item_seen b u)
-    item_alike t u m (h.SameItem.decl d) =
-        let e = decl_alike t u m d in subst₂ AllAlike (sym (item_of a t VarDecl e.0 refl)) (sym (item_of b u VarDecl e.1 refl)) e.2
-    item_alike t u m (h.SameItem.exported k s d) =
+    item_alike : IsPair r.scopes a.unresolved.0 b.unresolved.0 → a.is_declaration_file ≡ b.is_declaration_file → (t u : Tree) → SameItem r a b t u → AllAlike (item_seen a t) (item_seen b u)
+    item_alike c m t u (h.SameItem.decl d) =
+        let e = decl_alike c m (own_range t) (own_range u) t u d in subst₂ AllAlike (sym (item_of a t e.0)) (sym (item_of b u e.1)) e.2
+    item_alike c m t u (h.SameItem.exported k s d) =
         subst₂ AllAlike (sym (export_of a t k.left)) (sym (export_of b u k.right))
-            (exported_alike t u (decl_seen a (ExportDecl-decl t)) (decl_seen b (ExportDecl-decl u)) s (decl_alike (ExportDecl-decl t) (ExportDecl-decl u) m d).2)
+            (exported_alike t u (decl_seen a (ExportDecl-span t) (ExportDecl-decl t)) (decl_seen b (ExportDecl-span u) (ExportDecl-decl u)) s
+                (decl_alike c m (ExportDecl-span t) (ExportDecl-span u) (ExportDecl-decl t) (ExportDecl-decl u) d).2)
 
-    items_alike : a.is_declaration_file ≡ b.is_declaration_file → (ts us : List Tree) → SameItems r a b ts us → AllAlike (flat_map (item_seen a) ts) (flat_map (item_seen b) us)
-    items_alike m [] [] h.SameItems.end = refl
-    items_alike m (t ∷ ts) us (h.SameItems.left q rest) = subst (λ xs. AllAlike (xs ++ flat_map (item_seen a) ts) (flat_map (item_seen b) us)) (sym (silent_item a t q)) (items_alike m ts us rest)
-    items_alike m ts (u ∷ us) (h.SameItems.right q rest) = subst (λ xs. AllAlike (flat_map (item_seen a) ts) (xs ++ flat_map (item_seen b) us)) (sym (silent_item b u q)) (items_alike m ts us rest)
-    items_alike m (t ∷ ts) (u ∷ us) (h.SameItems.next s rest) =
-        append_alike (item_seen a t) (flat_map (item_seen a) ts) (item_seen b u) (flat_map (item_seen b) us) (item_alike t u m s) (items_alike m ts us rest)
+    items_alike : IsPair r.scopes a.unresolved.0 b.unresolved.0 → a.is_declaration_file ≡ b.is_declaration_file → (ts us : List Tree) → SameItems r a b ts us → AllAlike (flat_map (item_seen a) ts) (flat_map (item_seen b) us)
+    items_alike c m [] [] h.SameItems.end = refl
+    items_alike c m (t ∷ ts) us (h.SameItems.left q rest) = subst (λ xs. AllAlike (xs ++ flat_map (item_seen a) ts) (flat_map (item_seen b) us)) (sym (silent_item a t q)) (items_alike c m ts us rest)
+    items_alike c m ts (u ∷ us) (h.SameItems.right q rest) = subst (λ xs. AllAlike (flat_map (item_seen a) ts) (xs ++ flat_map (item_seen b) us)) (sym (silent_item b u q)) (items_alike c m ts us rest)
+    items_alike c m (t ∷ ts) (u ∷ us) (h.SameItems.next s rest) =
+        append_alike (item_seen a t) (flat_map (item_seen a) ts) (item_seen b u) (flat_map (item_seen b) us) (item_alike c m t u s) (items_alike c m ts us rest)
 
     visible_alike : (t u : Tree) → AgreeHidden r a b t u → AllAlike (visible a t) (visible b u)
-    visible_alike t u g = items_alike g.is_declaration_file (items_of t) (items_of u) g.items
+    visible_alike t u g = items_alike g.unresolved g.is_declaration_file (items_of t) (items_of u) g.items
 
     -- ---- answers
 

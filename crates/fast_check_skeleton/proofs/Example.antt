@@ -21,7 +21,7 @@ use Rattle.fast_check_program_forms.specs.Programs.{Module-body, Module-shebang,
 use Rattle.fast_check_class_forms.specs.Functions.{Function-span}
 use Rattle.fast_check_statement_forms.specs.Declarations.{FnDecl-function, VarDecl-span, VarDecl-ctxt, VarDecl-kind, VarDecl-declare, VarDecl-decls, VarDeclarator-span, VarDeclarator-name, VarDeclarator-init, VarDeclarator-definite, var_decl, var_declarator}
 use Rattle.fast_check_skeleton.specs.Surroundings.{Surroundings}
-use Rattle.fast_check_skeleton.specs.Inferred.{mutability_of}
+use Rattle.fast_check_skeleton.specs.Mutability.{mutability_of}
 use Rattle.fast_check_skeleton.specs.Visible.{declared_ident, declared_type, is_ambient, is_public_declarator, items_of}
 use Rattle.fast_check_skeleton.specs.Hidden.{AgreeHidden, SameHead, SameDeclarator, SameDeclarators, SameStatement, SameDecl, SameItem, SameItems}
 use Rattle.fast_check_skeleton.specs.Hidden as h
@@ -168,23 +168,30 @@ statements = record {
   declare = declare_made (at 8 30) (scope 0) const false (first_declarator ∷ []) ∙ sym (declare_made (at 24 44) (scope 0) const false (second_declarator ∷ []));
 }
 
-decls : SameDecl renaming a b first_statement second_statement
-decls = h.SameDecl.variable statements (declare_made (at 8 30) (scope 0) const false (first_declarator ∷ []))
+decls : (p q : SourceRange) → SameDecl renaming a b p q first_statement second_statement
+decls p q = h.SameDecl.variable statements (declare_made (at 8 30) (scope 0) const false (first_declarator ∷ []))
     (subst₂ (SameDeclarators renaming a b (SameDeclarator renaming a b (mutability_of (VarDecl-kind first_statement))))
         (sym (decls_made (at 8 30) (scope 0) const false (first_declarator ∷ []))) (sym (decls_made (at 24 44) (scope 0) const false (second_declarator ∷ [])))
         (h.SameDeclarators.next (h.SameDeclarator.typed heads is_typed) h.SameDeclarators.end))
+
+abbrev first_export : SourceRange
+first_export = ExportDecl-span (exported 1 2 text_value 29)
+
+abbrev second_export : SourceRange
+second_export = ExportDecl-span (exported 17 3 name_value 43)
 
 exports : SameItem renaming a b (exported 1 2 text_value 29) (exported 17 3 name_value 43)
 exports = h.SameItem.exported (record { left = simp kind_of_node; right = simp kind_of_node })
     (subst₂ (SameRange renaming) (sym (span_made ExportDecl (at 1 30) (first_statement ∷ []))) (sym (span_made ExportDecl (at 17 44) (second_statement ∷ [])))
         (record { start = inr (inl (refl, refl)); end = inr (inr (inr (inr (inl (refl, refl))))) }))
-    (subst₂ (SameDecl renaming a b) (sym (decl_made (at 1 30) first_statement)) (sym (decl_made (at 17 44) second_statement)) decls)
+    (subst₂ (SameDecl renaming a b first_export second_export) (sym (decl_made (at 1 30) first_statement)) (sym (decl_made (at 17 44) second_statement)) (decls first_export second_export))
 
 silent : h.IsSilent b hidden_function
 silent = h.IsSilent.function (simp kind_of_node) (simp (part_node, range_of_range))
 
 agree : AgreeHidden renaming a b first second
 agree = record {
+  unresolved = inr (inl (refl, refl));
   is_declaration_file = refl;
   items = subst₂ (SameItems renaming a b)
       (sym (items_made (at 1 30) (exported 1 2 text_value 29 ∷ []) Absent)) (sym (items_made (at 1 44) (hidden_function ∷ exported 17 3 name_value 43 ∷ []) Absent))

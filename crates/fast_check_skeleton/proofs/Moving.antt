@@ -14,7 +14,7 @@ use Rattle.fast_check_skeleton.specs.declared.fault.Fault.{Fault}
 use Rattle.fast_check_skeleton.specs.declared.fault.FaultKind.{FaultKind}
 use Rattle.fast_check_skeleton.specs.Seen.{Seen, written, range, scope, flag, form, inferred, hidden, Seens, end, also, moved_seen, moved_seens, tree_in, range_in, flag_in}
 use Rattle.fast_check_skeleton.specs.Skeleton.{Answer, joined, Part, fault_at, typed_declarator, declarator_answer, declarator_form, around, form_answer, answer_to, answered, answer_of}
-use Rattle.fast_check_skeleton.proofs.InferredMoved.{type_ann_moved}
+use Rattle.fast_check_tree.proofs.BuildersMoved.{type_ann_moved}
 
 abbrev pub moved_fault : Moves → Fault → Fault
 moved_fault m f = record { kind = f.kind; range = moved_range m f.range }

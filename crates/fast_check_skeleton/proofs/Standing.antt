@@ -1,6 +1,6 @@
 -- A skeleton stands in the grammar: where there is no fault, each declarator has its type.
 use Rattle.std.specs.Prelude.{◌≡◌, Bool, true, false, ◌||◌, IsTrue, ◌⊎◌, Option, Some, None, List, [], ◌∷◌, ◌++◌, map, flat_map, refl, if◌then◌else◌}
-use Rattle.std.proofs.Common.{ap, ◌∙◌, sym, subst, inl, inr, append_assoc}
+use Rattle.std.proofs.Common.{ap, ◌∙◌, sym, subst, inl, inr, append_assoc, append-nil}
 use Rattle.fast_check_syntax.specs.declared.kind.Kind.{Kind}
 use Rattle.fast_check_syntax.specs.declared.kind.Kind.TheVariants.{Module, VarDeclarator, VarDecl, ExportDecl, BindingIdent, TsTypeAnn, List as List'}
 use Rattle.fast_check_syntax.specs.declared.source.SourceRange.{SourceRange}
@@ -15,11 +15,12 @@ use Rattle.fast_check_statement_forms.specs.Declarations.{VarDecl-span, VarDecl-
 use Rattle.fast_check_tree.specs.Builders.{type_ann, never_value}
 use Rattle.fast_check_tree.specs.declared.helpers.literal_type.DeclMutabilityKind.{DeclMutabilityKind}
 use Rattle.fast_check_skeleton.specs.Surroundings.{Surroundings}
-use Rattle.fast_check_skeleton.specs.Inferred.{inferred_type, mutability_of}
+use Rattle.fast_check_tree.specs.InferredType.{inferred_type}
+use Rattle.fast_check_skeleton.specs.Mutability.{mutability_of}
 use Rattle.fast_check_skeleton.specs.Seen.{Seen, written, form, inferred, hidden, seens}
-use Rattle.fast_check_skeleton.specs.Visible.{declared_ident, declared_type, standing, by_inferred, value_seen, declarator_seen, is_ambient, is_public_declarator, declarator_in, public_declarator, public_declarators, statement_seen, decl_seen, exported_seen, item_seen, items_of, visible}
+use Rattle.fast_check_skeleton.specs.Visible.{declared_ident, declared_type, standing, by_inferred, value_seen, declarator_seen, is_ambient, is_public_declarator, declarator_in, public_declarator, public_declarators, statement_seen, is_standing, own_range, standing_seen, decl_seen, exported_seen, item_seen, items_of, visible}
 use Rattle.fast_check_skeleton.specs.Skeleton.{Answer, joined, Part, typed_declarator, answer_to, answered, answer_of, transformed, skeleton_of, faults_of}
-use Rattle.fast_check_skeleton.specs.Grammar.{IsTypedDeclarator, IsTypedStatement, IsTypedItem, IsSkeleton}
+use Rattle.fast_check_skeleton.specs.Grammar.{IsTypedDeclarator, IsTypedStatement, IsTypedDecl, IsTypedItem, IsSkeleton}
 
 -- ---- once
 
@@ -73,15 +74,15 @@ typed span ident definite type e =
       value = part_node 2 VarDeclarator (tree.Range span ∷ binding_ident ident type ∷ never_value ∷ tree.Flag definite ∷ []);
     }
 
-module _ (mutability : DeclMutabilityKind) (d : Tree) where
+module _ (around : Surroundings) (mutability : DeclMutabilityKind) (d : Tree) where
   by_value : (o : Option Tree) (t : Bool) → is_absent (declared_type d) ≡ t →
       Stands IsTypedDeclarator (form VarDeclarator (seens (Seen.range (VarDeclarator-span d) ∷ written (declared_ident d) ∷ Seen.flag (VarDeclarator-definite d) ∷ (if t then hidden else written (declared_type d)) ∷ (if t then by_inferred o else hidden) ∷ [])) ∷ [])
   by_value (Some type) true e f = (typed (VarDeclarator-span d) (declared_ident d) (VarDeclarator-definite d) (type_ann type) (is_absent_node TsTypeAnn (tree.Range none_range ∷ type ∷ [])), tt)
   by_value None true e f = cc
   by_value o false e f = (typed (VarDeclarator-span d) (declared_ident d) (VarDeclarator-definite d) (declared_type d) e, tt)
 
-  declarator_stands : Stands IsTypedDeclarator (declarator_seen mutability d ∷ [])
-  declarator_stands = by_value (inferred_type mutability (VarDeclarator-init d)) (is_absent (declared_type d)) refl
+  declarator_stands : Stands IsTypedDeclarator (declarator_seen around mutability d ∷ [])
+  declarator_stands = by_value (inferred_type mutability around.unresolved (VarDeclarator-init d)) (is_absent (declared_type d)) refl
 
 -- ---- statements and items
 
@@ -91,8 +92,8 @@ module _ (around : Surroundings) where
     where
       one : (d : Tree) (b : Bool) → Stands IsTypedDeclarator (if b then declarator_in around statement d ∷ [] else [])
       one d false e = tt
-      one d true e = let P : Bool → Type 0 = λ a. Stands IsTypedDeclarator ((if a then written d else declarator_seen (mutability_of (VarDecl-kind statement)) d) ∷ []) in
-          subst P (sym n) (declarator_stands (mutability_of (VarDecl-kind statement)) d) e
+      one d true e = let P : Bool → Type 0 = λ a. Stands IsTypedDeclarator ((if a then written d else declarator_seen around (mutability_of (VarDecl-kind statement)) d) ∷ []) in
+          subst P (sym n) (declarator_stands around (mutability_of (VarDecl-kind statement)) d) e
 
   abbrev made_parts : Tree → List Tree → List Tree
   made_parts statement ds = tree.Range (VarDecl-span statement) ∷ tree.Context (VarDecl-ctxt statement) ∷ VarDecl-kind statement ∷ tree.Flag (VarDecl-declare statement) ∷ list ds ∷ []
@@ -121,33 +122,62 @@ module _ (around : Surroundings) where
               (p n (sym (ap (λ a. a.faults) (stood_is (d ∷ ds))) ∙ no_left (stood (d ∷ ds)).faults [] (no_left ((stood (d ∷ ds)).faults ++ []) [] e))));
     }, tt)
 
-  decl_stands : (decl : Tree) → Stands (IsTypedStatement around.is_declaration_file) (decl_seen around decl)
-  decl_stands decl = go (kind_of decl is VarDecl)
+  abbrev IsDecl : Tree → Type 0
+  IsDecl = IsTypedDecl around.is_declaration_file
+
+  statement_decl : (ts : List Tree) → OfAll (IsTypedStatement around.is_declaration_file) ts → OfAll IsDecl ts
+  statement_decl [] h = tt
+  statement_decl (t ∷ ts) h = (inl h.0, statement_decl ts h.1)
+
+  standing_stands : (decl : Tree) → is_standing (kind_of decl) ≡ true → (b : Bool) → Stands IsDecl (if b then written decl ∷ [] else [])
+  standing_stands decl s true e = (inr s, tt)
+  standing_stands decl s false e = tt
+
+  decl_stands : (place : SourceRange) (decl : Tree) → Stands IsDecl (decl_seen around place decl)
+  decl_stands place decl = go (kind_of decl is VarDecl) (is_standing (kind_of decl)) refl
     where
-      go : (b : Bool) → Stands (IsTypedStatement around.is_declaration_file) (if b then statement_seen decl (public_declarators around decl) else [])
-      go true e = statement_stands decl (public_declarators around decl) (declarators_stand decl) e
-      go false e = tt
+      go : (b s : Bool) → is_standing (kind_of decl) ≡ s → Stands IsDecl (if b then statement_seen decl (public_declarators around decl) else (if s then standing_seen around place decl else []))
+      go true s q e = statement_decl (answer_of (statement_seen decl (public_declarators around decl))).trees (statement_stands decl (public_declarators around decl) (declarators_stand decl) e)
+      go false true q e = standing_stands decl q (around.is_public place) e
+      go false false q e = tt
 
   -- what is seen of a declaration is one form at most
-  export_stands : (export : Tree) (b : Bool) (ds : List Seen) → (is_ambient around (ExportDecl-decl export) ≡ false → Stands IsTypedDeclarator ds) →
-      Stands (IsTypedItem around.is_declaration_file) (exported_seen export (if b then statement_seen (ExportDecl-decl export) ds else []))
-  export_stands export false ds p e = tt
-  export_stands export true [] p e = tt
-  export_stands export true (d ∷ ds) p e =
-      let made = node VarDecl (made_parts (ExportDecl-decl export) (stood (d ∷ ds)).trees) in
-      (inr (kind_of_node ExportDecl (tree.Range (ExportDecl-span export) ∷ made ∷ []),
-          subst (IsTypedStatement around.is_declaration_file) (sym (part_node 1 ExportDecl (tree.Range (ExportDecl-span export) ∷ made ∷ [])))
-              (statement_stands (ExportDecl-decl export) (d ∷ ds) p (no_left ((answer_of (statement_seen (ExportDecl-decl export) (d ∷ ds))).faults) [] e)).0), tt)
+  abbrev pub OneTree : List Seen → Type 0
+  OneTree [] = Unit {0}
+  OneTree (s ∷ []) = (t : Tree) × ((answer_to s).trees ≡ t ∷ [])
+  OneTree (s ∷ t ∷ ss) = ⊥
+
+  pub decl_one : (place : SourceRange) (decl : Tree) → OneTree (decl_seen around place decl)
+  decl_one place decl = go (kind_of decl is VarDecl) (is_standing (kind_of decl)) (around.is_public place) (public_declarators around decl)
+    where
+      go : (b s p : Bool) (ds : List Seen) → OneTree (if b then statement_seen decl ds else (if s then (if p then written decl ∷ [] else []) else []))
+      go true s p [] = tt
+      go true s p (d ∷ ds) = (_, refl)
+      go false true true ds = (decl, refl)
+      go false true false ds = tt
+      go false false p ds = tt
+
+  export_stands : (export : Tree) (ss : List Seen) → OneTree ss → Stands IsDecl ss → Stands (IsTypedItem around.is_declaration_file) (exported_seen export ss)
+  export_stands export [] one p e = tt
+  export_stands export (s ∷ []) one p e =
+      let q : OfAll IsDecl ((answer_to s).trees ++ []) = p (no_left ((answer_to s).faults ++ []) [] e) in
+      let made = one.0 in
+      let decl : IsDecl made = (subst (OfAll IsDecl) (append-nil (answer_to s).trees ∙ one.1) q).0 in
+      subst (λ ts. OfAll (IsTypedItem around.is_declaration_file) (node ExportDecl (tree.Range (ExportDecl-span export) ∷ ts) ∷ []))
+          (sym (append-nil (answer_to s).trees ∙ one.1))
+          (inr (kind_of_node ExportDecl (tree.Range (ExportDecl-span export) ∷ made ∷ []),
+              subst IsDecl (sym (part_node 1 ExportDecl (tree.Range (ExportDecl-span export) ∷ made ∷ []))) decl), tt)
+  export_stands export (s ∷ t ∷ ss) one p e = absurd one
 
   item_stands : (item : Tree) → Stands (IsTypedItem around.is_declaration_file) (item_seen around item)
   item_stands item = go (kind_of item is ExportDecl)
     where
-      wrap : (ts : List Tree) → OfAll (IsTypedStatement around.is_declaration_file) ts → OfAll (IsTypedItem around.is_declaration_file) ts
+      wrap : (ts : List Tree) → OfAll IsDecl ts → OfAll (IsTypedItem around.is_declaration_file) ts
       wrap [] h = tt
       wrap (t ∷ ts) h = (inl h.0, wrap ts h.1)
-      go : (b : Bool) → Stands (IsTypedItem around.is_declaration_file) (if b then exported_seen item (decl_seen around (ExportDecl-decl item)) else decl_seen around item)
-      go true e = export_stands item (kind_of (ExportDecl-decl item) is VarDecl) (public_declarators around (ExportDecl-decl item)) (declarators_stand (ExportDecl-decl item)) e
-      go false e = wrap (answer_of (decl_seen around item)).trees (decl_stands item e)
+      go : (b : Bool) → Stands (IsTypedItem around.is_declaration_file) (if b then exported_seen item (decl_seen around (ExportDecl-span item) (ExportDecl-decl item)) else decl_seen around (own_range item) item)
+      go true e = export_stands item (decl_seen around (ExportDecl-span item) (ExportDecl-decl item)) (decl_one (ExportDecl-span item) (ExportDecl-decl item)) (decl_stands (ExportDecl-span item) (ExportDecl-decl item)) e
+      go false e = wrap (answer_of (decl_seen around (own_range item) item)).trees (decl_stands (own_range item) item e)
 
   abbrev module_parts : Tree → List Tree
   module_parts program = tree.Range (Module-span program) ∷ list (transformed around program).trees ∷ Module-shebang program ∷ []

@@ -1,35 +1,38 @@
--- The modules that a transform takes so far: without comments, and of nothing but variable statements, exported or not, whose declarators have a written keyword type, a literal for a value, or neither type nor value.
-use Rattle.std.specs.Prelude.{Bool, true, false, ◌&&◌, ◌||◌, if◌then◌else◌}
+-- The modules that a transform takes so far: of nothing but interfaces, type aliases, enums and variable statements, exported or not, whose declarators are identifiers with a written type, with a value that shows its type, or with neither type nor value; and of statements that declare and assign nothing.
+use Rattle.std.specs.Prelude.{Bool, not, ◌&&◌, ◌||◌, is_some, if◌then◌else◌}
 use Rattle.std.specs.List.{list_all}
 use Rattle.fast_check_syntax.specs.declared.kind.Kind.{Kind}
-use Rattle.fast_check_syntax.specs.declared.kind.Kind.TheVariants.{Module, Script, ExportDecl, VarDecl, BindingIdent, TsKeywordType, Str, Bool as BoolKind, Number, BigInt, Null, Regex}
+use Rattle.fast_check_syntax.specs.declared.kind.Kind.TheVariants.{Module, Script, ExportDecl, VarDecl, BindingIdent}
+use Rattle.fast_check_syntax.specs.declared.source.SyntaxContext.{SyntaxContext}
 use Rattle.fast_check_syntax.specs.declared.tree.Tree.{Tree}
 use Rattle.fast_check_syntax.specs.Shape.{◌is◌, kind_of, parts, is_absent}
 use Rattle.fast_check_statement_forms.specs.Declarations.{VarDecl-decls, VarDeclarator-name, VarDeclarator-init}
-use Rattle.fast_check_program_forms.specs.Names.{BindingIdent-type_ann}
 use Rattle.fast_check_program_forms.specs.ModuleDecls.{ExportDecl-decl}
-use Rattle.fast_check_type_forms.specs.TypeParams.{TsTypeAnn-type_ann}
-use Rattle.fast_check_skeleton.specs.Visible.{declared_type, items_of}
+use Rattle.fast_check_tree.specs.declared.helpers.literal_type.DeclMutabilityKind.TheVariants.{Mutable}
+use Rattle.fast_check_tree.specs.InferredType.{inferred_type}
+use Rattle.fast_check_skeleton.specs.Hidden.{is_plain_statement}
+use Rattle.fast_check_skeleton.specs.Visible.{declared_type, is_standing, items_of}
 
--- text, boolean, number, big integer, null and regular expression
-abbrev pub is_literal : Kind → Bool
-is_literal kind = (kind is Str) || ((kind is BoolKind) || ((kind is Number) || ((kind is BigInt) || ((kind is Null) || (kind is Regex)))))
+-- a value that shows its type, whatever it is declared as
+abbrev pub shows_type : SyntaxContext → Tree → Bool
+shows_type unresolved value = is_some (inferred_type Mutable unresolved value)
 
-abbrev pub is_carried_declarator : Tree → Bool
-is_carried_declarator d =
+abbrev pub is_carried_declarator : SyntaxContext → Tree → Bool
+is_carried_declarator unresolved d =
     (kind_of (VarDeclarator-name d) is BindingIdent) &&
-    (if is_absent (declared_type d)
-     then is_absent (VarDeclarator-init d) || is_literal (kind_of (VarDeclarator-init d))
-     else (kind_of (TsTypeAnn-type_ann (declared_type d)) is TsKeywordType))
+    (not (is_absent (declared_type d)) || (is_absent (VarDeclarator-init d) || shows_type unresolved (VarDeclarator-init d)))
 
-abbrev pub is_carried_decl : Tree → Bool
-is_carried_decl decl = (kind_of decl is VarDecl) && list_all is_carried_declarator (parts (VarDecl-decls decl))
+abbrev pub is_carried_decl : SyntaxContext → Tree → Bool
+is_carried_decl unresolved decl =
+    if kind_of decl is VarDecl then list_all (is_carried_declarator unresolved) (parts (VarDecl-decls decl)) else is_standing (kind_of decl)
 
-abbrev pub is_carried_item : Tree → Bool
-is_carried_item item = if kind_of item is ExportDecl then is_carried_decl (ExportDecl-decl item) else is_carried_decl item
+abbrev pub is_carried_item : SyntaxContext → Tree → Bool
+is_carried_item unresolved item =
+    if kind_of item is ExportDecl then is_carried_decl unresolved (ExportDecl-decl item)
+    else is_carried_decl unresolved item || is_plain_statement item
 
 abbrev pub is_program : Kind → Bool
 is_program kind = (kind is Module) || (kind is Script)
 
-abbrev pub is_carried_program : Tree → Bool
-is_carried_program program = is_program (kind_of program) && list_all is_carried_item (items_of program)
+abbrev pub is_carried_program : SyntaxContext → Tree → Bool
+is_carried_program unresolved program = is_program (kind_of program) && list_all (is_carried_item unresolved) (items_of program)

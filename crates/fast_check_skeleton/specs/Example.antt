@@ -73,12 +73,12 @@ abbrev pub renaming : Renaming
 renaming = record {
   starts = (0, 0) ∷ (1, 17) ∷ (8, 24) ∷ (14, 30) ∷ (15, 31) ∷ (17, 33) ∷ [];
   ends = (0, 0) ∷ (15, 31) ∷ (23, 39) ∷ (29, 43) ∷ (30, 44) ∷ [];
-  scopes = (0, 0) ∷ (2, 3) ∷ [];
+  scopes = (0, 0) ∷ (1, 1) ∷ (2, 3) ∷ [];
 }
 
 -- the declarator that begins at a place is public, and nothing else
 abbrev pub around : ℕ → Surroundings
-around place = record { is_public = λ r. r.start.0 == place; is_declaration_file = false }
+around place = record { is_public = λ r. r.start.0 == place; unresolved = scope 1; is_declaration_file = false }
 
 -- they agree, and so the law says that their answers are the same
 pub record Example : Type 0 where

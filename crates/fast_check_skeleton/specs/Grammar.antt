@@ -1,5 +1,5 @@
 -- The grammar of skeletons: what a type checker finds there, whatever the source was.
-use Rattle.std.specs.Prelude.{◌≡◌, Bool, false, ◌||◌, IsTrue, ◌⊎◌}
+use Rattle.std.specs.Prelude.{◌≡◌, Bool, true, false, ◌||◌, IsTrue, ◌⊎◌}
 use Rattle.fast_check_syntax.specs.declared.kind.Kind.TheVariants.{Module, ExportDecl, VarDecl, VarDeclarator, BindingIdent}
 use Rattle.fast_check_syntax.specs.declared.tree.Tree.{Tree}
 use Rattle.fast_check_syntax.specs.Shape.{kind_of, parts, is_absent, OfAll}
@@ -7,6 +7,7 @@ use Rattle.fast_check_tree.specs.Builders.{never_value}
 use Rattle.fast_check_program_forms.specs.Names.{BindingIdent-type_ann}
 use Rattle.fast_check_program_forms.specs.Programs.{Module-body}
 use Rattle.fast_check_program_forms.specs.ModuleDecls.{ExportDecl-decl}
+use Rattle.fast_check_skeleton.specs.Visible.{is_standing}
 use Rattle.fast_check_statement_forms.specs.Declarations.{VarDecl-declare, VarDecl-decls, VarDeclarator-name, VarDeclarator-init}
 
 -- a declarator of an identifier with a written type, and `{} as never` for its value
@@ -21,9 +22,13 @@ pub record IsTypedStatement (is_declaration_file : Bool) (statement : Tree) : Ty
   pub kind : kind_of statement ≡ VarDecl
   pub declarators : IsTrue (is_declaration_file || VarDecl-declare statement) ⊎ OfAll IsTypedDeclarator (parts (VarDecl-decls statement))
 
--- an item of a skeleton: a variable statement, exported or not
+-- a declaration of a skeleton: a variable statement, or an interface, type alias or enum, which stands as it was written
+abbrev pub IsTypedDecl : Bool → Tree → Type 0
+IsTypedDecl is_declaration_file decl = IsTypedStatement is_declaration_file decl ⊎ (is_standing (kind_of decl) ≡ true)
+
+-- an item of a skeleton: a declaration, exported or not
 abbrev pub IsTypedItem : Bool → Tree → Type 0
-IsTypedItem is_declaration_file item = IsTypedStatement is_declaration_file item ⊎ ((kind_of item ≡ ExportDecl) × IsTypedStatement is_declaration_file (ExportDecl-decl item))
+IsTypedItem is_declaration_file item = IsTypedDecl is_declaration_file item ⊎ ((kind_of item ≡ ExportDecl) × IsTypedDecl is_declaration_file (ExportDecl-decl item))
 
 -- a skeleton: a module of nothing but such items
 pub record IsSkeleton (is_declaration_file : Bool) (program : Tree) : Type 0 where

@@ -1,10 +1,11 @@
 -- Agreement of two sources but for what is hidden: one rule for each part that may differ. All else agrees node by node, under a renaming of positions and scope numbers.
-use Rattle.std.specs.Prelude.{◌≡◌, Bool, true, false, not, Option, Some, None, List, [], ◌∷◌}
-use Rattle.std.specs.List.{list_all}
+use Rattle.std.specs.Prelude.{◌≡◌, Bool, true, false, not, ◌&&◌, ◌||◌, Option, Some, None, List, [], ◌∷◌}
+use Rattle.std.specs.List.{list_all, list_any}
 use Rattle.fast_check_syntax.specs.declared.kind.Kind.{Kind}
-use Rattle.fast_check_syntax.specs.declared.kind.Kind.TheVariants.{VarDecl, ExportDecl, FnDecl}
+use Rattle.fast_check_syntax.specs.declared.kind.Kind.TheVariants.{VarDecl, ExportDecl, FnDecl, BlockStmt, EmptyStmt, DebuggerStmt, WithStmt, ReturnStmt, LabeledStmt, BreakStmt, ContinueStmt, IfStmt, SwitchStmt, ThrowStmt, TryStmt, WhileStmt, DoWhileStmt, ForStmt, ForInStmt, ForOfStmt, ExprStmt, AssignExpr}
+use Rattle.fast_check_syntax.specs.declared.source.SourceRange.{SourceRange}
 use Rattle.fast_check_syntax.specs.declared.tree.Tree.{Tree}
-use Rattle.fast_check_syntax.specs.Shape.{kind_of, parts, is_absent}
+use Rattle.fast_check_syntax.specs.Shape.{◌is◌, kind_of, parts, is_absent}
 use Rattle.fast_check_syntax.specs.Moves.{Renaming, IsPair}
 use Rattle.fast_check_syntax.specs.Same.{SameTree, SameRange}
 use Rattle.fast_check_tree.specs.declared.helpers.literal_type.DeclMutabilityKind.{DeclMutabilityKind}
@@ -12,21 +13,39 @@ use Rattle.fast_check_class_forms.specs.Functions.{Function-span}
 use Rattle.fast_check_program_forms.specs.Programs.{Module-shebang}
 use Rattle.fast_check_program_forms.specs.ModuleDecls.{ExportDecl-span, ExportDecl-decl}
 use Rattle.fast_check_statement_forms.specs.Declarations.{FnDecl-function, VarDecl-span, VarDecl-ctxt, VarDecl-kind, VarDecl-declare, VarDecl-decls, VarDeclarator-span, VarDeclarator-init, VarDeclarator-definite}
+use Rattle.fast_check_tree.specs.InferredType.{inferred_type}
+use Rattle.fast_check_statement_forms.specs.Statements.{ExprStmt-expr}
 use Rattle.fast_check_skeleton.specs.Surroundings.{Surroundings}
-use Rattle.fast_check_skeleton.specs.Inferred.{inferred_type, mutability_of}
-use Rattle.fast_check_skeleton.specs.Visible.{declared_ident, declared_type, is_ambient, is_public_declarator, items_of}
+use Rattle.fast_check_skeleton.specs.Mutability.{mutability_of}
+use Rattle.fast_check_skeleton.specs.Visible.{declared_ident, declared_type, is_ambient, is_public_declarator, is_standing, own_range, items_of}
 
--- a declaration that goes without a word, behind the range that an export of it would have
-pub data IsSilentDecl (around : Surroundings) : Tree → Type 0 where
+-- the statements that are no declarations and no expressions
+abbrev pub statement_kinds : List Kind
+statement_kinds =
+    BlockStmt ∷ EmptyStmt ∷ DebuggerStmt ∷ WithStmt ∷ ReturnStmt ∷ LabeledStmt ∷ BreakStmt ∷ ContinueStmt ∷ IfStmt ∷ SwitchStmt ∷
+    ThrowStmt ∷ TryStmt ∷ WhileStmt ∷ DoWhileStmt ∷ ForStmt ∷ ForInStmt ∷ ForOfStmt ∷ []
+
+-- a statement that is no declaration and no assignment
+abbrev pub is_plain_statement : Tree → Bool
+is_plain_statement t =
+    list_any (λ kind. kind_of t is kind) statement_kinds ||
+    ((kind_of t is ExprStmt) && not (kind_of (ExprStmt-expr t) is AssignExpr))
+
+-- a declaration that goes without a word; `place` is the range of its export, or else its own
+pub data IsSilentDecl (around : Surroundings) (place : SourceRange) : Tree → Type 0 where
   -- a variable statement without a public declarator
-  variable : {t : Tree} → kind_of t ≡ VarDecl → list_all (λ d. not (is_public_declarator around d)) (parts (VarDecl-decls t)) ≡ true → IsSilentDecl around t
+  variable : {t : Tree} → kind_of t ≡ VarDecl → list_all (λ d. not (is_public_declarator around d)) (parts (VarDecl-decls t)) ≡ true → IsSilentDecl around place t
+  -- an interface, type alias or enum that is not public
+  standing : {t : Tree} → is_standing (kind_of t) ≡ true → around.is_public place ≡ false → IsSilentDecl around place t
 
 -- an item that goes without a word
 pub data IsSilent (around : Surroundings) : Tree → Type 0 where
-  decl : {t : Tree} → IsSilentDecl around t → IsSilent around t
+  decl : {t : Tree} → IsSilentDecl around (own_range t) t → IsSilent around t
+  -- a statement that declares and assigns nothing
+  statement : {t : Tree} → is_plain_statement t ≡ true → IsSilent around t
   -- a function that is not public
   function : {t : Tree} → kind_of t ≡ FnDecl → around.is_public (Function-span (FnDecl-function t)) ≡ false → IsSilent around t
-  exported : {t : Tree} → kind_of t ≡ ExportDecl → IsSilentDecl around (ExportDecl-decl t) → IsSilent around t
+  exported : {t : Tree} → kind_of t ≡ ExportDecl → IsSilentDecl around (ExportDecl-span t) (ExportDecl-decl t) → IsSilent around t
   -- an exported function is public by the range of the export
   exported_function : {t : Tree} → kind_of t ≡ ExportDecl → kind_of (ExportDecl-decl t) ≡ FnDecl → around.is_public (ExportDecl-span t) ≡ false → IsSilent around t
 
@@ -50,7 +69,7 @@ module _ (r : Renaming) (a b : Surroundings) where
     typed : {t u : Tree} → SameHead t u → is_absent (declared_type t) ≡ false → SameDeclarator mutability t u
     -- any values of the same inferred type
     inferred : {t u : Tree} (x y : Tree) → SameHead t u →
-        inferred_type mutability (VarDeclarator-init t) ≡ Some x → inferred_type mutability (VarDeclarator-init u) ≡ Some y → SameTree r x y → SameDeclarator mutability t u
+        inferred_type mutability a.unresolved (VarDeclarator-init t) ≡ Some x → inferred_type mutability b.unresolved (VarDeclarator-init u) ≡ Some y → SameTree r x y → SameDeclarator mutability t u
     -- the same values
     same : {t u : Tree} → SameHead t u → SameTree r (VarDeclarator-init t) (VarDeclarator-init u) → SameDeclarator mutability t u
 
@@ -74,15 +93,18 @@ module _ (r : Renaming) (a b : Surroundings) where
     pub kind : SameTree r (VarDecl-kind t) (VarDecl-kind u)
     pub declare : VarDecl-declare t ≡ VarDecl-declare u
 
-  pub data SameDecl : Tree → Tree → Type 0 where
+  -- declarations; `p` and `q` are the ranges of their exports, or else their own
+  pub data SameDecl (p q : SourceRange) : Tree → Tree → Type 0 where
     variable : {t u : Tree} → SameStatement t u → is_ambient a t ≡ false →
-        SameDeclarators (SameDeclarator (mutability_of (VarDecl-kind t))) (parts (VarDecl-decls t)) (parts (VarDecl-decls u)) → SameDecl t u
+        SameDeclarators (SameDeclarator (mutability_of (VarDecl-kind t))) (parts (VarDecl-decls t)) (parts (VarDecl-decls u)) → SameDecl p q t u
     ambient : {t u : Tree} → SameStatement t u → is_ambient a t ≡ true →
-        SameDeclarators SameAmbient (parts (VarDecl-decls t)) (parts (VarDecl-decls u)) → SameDecl t u
+        SameDeclarators SameAmbient (parts (VarDecl-decls t)) (parts (VarDecl-decls u)) → SameDecl p q t u
+    -- interfaces, type aliases and enums stand as they are written
+    standing : {t u : Tree} (k : Kind) → Both k t u → is_standing k ≡ true → a.is_public p ≡ b.is_public q → SameTree r t u → SameDecl p q t u
 
   pub data SameItem : Tree → Tree → Type 0 where
-    decl : {t u : Tree} → SameDecl t u → SameItem t u
-    exported : {t u : Tree} → Both ExportDecl t u → SameRange r (ExportDecl-span t) (ExportDecl-span u) → SameDecl (ExportDecl-decl t) (ExportDecl-decl u) → SameItem t u
+    decl : {t u : Tree} → SameDecl (own_range t) (own_range u) t u → SameItem t u
+    exported : {t u : Tree} → Both ExportDecl t u → SameRange r (ExportDecl-span t) (ExportDecl-span u) → SameDecl (ExportDecl-span t) (ExportDecl-span u) (ExportDecl-decl t) (ExportDecl-decl u) → SameItem t u
 
   -- items one by one, the silent ones aside
   pub data SameItems : List Tree → List Tree → Type 0 where
@@ -93,6 +115,8 @@ module _ (r : Renaming) (a b : Surroundings) where
 
   -- two modules that agree but for what is hidden
   pub record AgreeHidden (t u : Tree) : Type 0 where
+    -- what nothing in the first module binds is what nothing in the second binds
+    pub unresolved : IsPair r.scopes a.unresolved.0 b.unresolved.0
     pub is_declaration_file : a.is_declaration_file ≡ b.is_declaration_file
     pub items : SameItems (items_of t) (items_of u)
     pub shebang : SameTree r (Module-shebang t) (Module-shebang u)

@@ -1,9 +1,10 @@
 pub mod Surroundings
 pub mod Seen
-pub mod Inferred
+pub mod Mutability
 pub mod Visible
 pub mod Skeleton
 pub mod Grammar
+pub mod KeptComments
 pub mod Carried
 pub mod Hidden
 pub mod Worlds

@@ -1,9 +1,12 @@
 -- What the skeleton of a module depends on beside its tree.
 use Rattle.std.specs.Prelude.{Bool}
 use Rattle.fast_check_syntax.specs.declared.source.SourceRange.{SourceRange}
+use Rattle.fast_check_syntax.specs.declared.source.SyntaxContext.{SyntaxContext}
 
 pub record Surroundings : Type 0 where
   -- whether a range is public, so that what stands there may be seen from outside
   pub is_public : SourceRange → Bool
+  -- the scope number of the names that nothing in the module binds
+  pub unresolved : SyntaxContext
   -- whether the file is a declaration file (`.d.ts`, `.d.mts`, `.d.cts`), all of which is ambient
   pub is_declaration_file : Bool

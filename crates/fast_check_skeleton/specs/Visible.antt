@@ -2,16 +2,20 @@
 -- All that is asked outside the tree is asked here. What follows sees nothing that is hidden.
 use Rattle.std.specs.Prelude.{Bool, true, false, ◌||◌, if◌then◌else◌, Option, Some, None, List, [], ◌∷◌}
 use Rattle.std.specs.List.{flat_map}
-use Rattle.fast_check_syntax.specs.declared.kind.Kind.TheVariants.{VarDeclarator, VarDecl, ExportDecl, List as List'}
+use Rattle.fast_check_syntax.specs.declared.kind.Kind.TheVariants.{VarDeclarator, VarDecl, ExportDecl, TsInterfaceDecl, TsTypeAliasDecl, TsEnumDecl, List as List'}
+use Rattle.fast_check_syntax.specs.declared.kind.Kind.{Kind}
+use Rattle.fast_check_syntax.specs.declared.source.SourceRange.{SourceRange}
 use Rattle.fast_check_syntax.specs.declared.tree.Tree.{Tree}
 use Rattle.fast_check_syntax.specs.Shape.{◌is◌, kind_of, parts, is_absent}
 use Rattle.fast_check_tree.specs.declared.helpers.literal_type.DeclMutabilityKind.{DeclMutabilityKind}
 use Rattle.fast_check_program_forms.specs.Names.{BindingIdent-id, BindingIdent-type_ann}
 use Rattle.fast_check_program_forms.specs.Programs.{Module-body}
 use Rattle.fast_check_program_forms.specs.ModuleDecls.{ExportDecl-span, ExportDecl-decl}
+use Rattle.fast_check_statement_forms.specs.TsDeclarations.{TsInterfaceDecl-span}
 use Rattle.fast_check_statement_forms.specs.Declarations.{VarDecl-span, VarDecl-ctxt, VarDecl-kind, VarDecl-declare, VarDecl-decls, VarDeclarator-span, VarDeclarator-name, VarDeclarator-init, VarDeclarator-definite}
+use Rattle.fast_check_tree.specs.InferredType.{inferred_type}
 use Rattle.fast_check_skeleton.specs.Surroundings.{Surroundings}
-use Rattle.fast_check_skeleton.specs.Inferred.{inferred_type, mutability_of}
+use Rattle.fast_check_skeleton.specs.Mutability.{mutability_of}
 use Rattle.fast_check_skeleton.specs.Seen.{Seen, written, range, scope, flag, form, inferred, hidden, seens}
 
 -- the identifier that a declarator declares, and its written type
@@ -30,14 +34,14 @@ by_inferred (Some type) = inferred type
 by_inferred None = hidden
 
 -- a value: hidden behind a written type, else seen by its inferred type
-abbrev pub value_seen : DeclMutabilityKind → Tree → Tree → Seen
-value_seen mutability type value = if is_absent type then by_inferred (inferred_type mutability value) else hidden
+abbrev pub value_seen : Surroundings → DeclMutabilityKind → Tree → Tree → Seen
+value_seen around mutability type value = if is_absent type then by_inferred (inferred_type mutability around.unresolved value) else hidden
 
 -- a declarator that is not ambient: its range, its identifier, whether it is definite, its written type and its value
-abbrev pub declarator_seen : DeclMutabilityKind → Tree → Seen
-declarator_seen mutability d =
+abbrev pub declarator_seen : Surroundings → DeclMutabilityKind → Tree → Seen
+declarator_seen around mutability d =
     form VarDeclarator (seens (range (VarDeclarator-span d) ∷ written (declared_ident d) ∷ flag (VarDeclarator-definite d) ∷ standing (declared_type d) ∷
-        value_seen mutability (declared_type d) (VarDeclarator-init d) ∷ []))
+        value_seen around mutability (declared_type d) (VarDeclarator-init d) ∷ []))
 
 -- ambient declarations stand as they are written: those of a declaration file, and those that are declared
 abbrev pub is_ambient : Surroundings → Tree → Bool
@@ -49,7 +53,7 @@ is_public_declarator around d = around.is_public (VarDeclarator-span d)
 
 -- a declarator of a statement
 abbrev pub declarator_in : Surroundings → Tree → Tree → Seen
-declarator_in around statement d = if is_ambient around statement then written d else declarator_seen (mutability_of (VarDecl-kind statement)) d
+declarator_in around statement d = if is_ambient around statement then written d else declarator_seen around (mutability_of (VarDecl-kind statement)) d
 
 -- a public declarator; nothing of another
 abbrev pub public_declarator : Surroundings → Tree → Tree → List Seen
@@ -65,9 +69,22 @@ statement_seen statement (d ∷ ds) =
     form VarDecl (seens (range (VarDecl-span statement) ∷ scope (VarDecl-ctxt statement) ∷ written (VarDecl-kind statement) ∷
         flag (VarDecl-declare statement) ∷ form List' (seens (d ∷ ds)) ∷ [])) ∷ []
 
--- a declaration
-abbrev pub decl_seen : Surroundings → Tree → List Seen
-decl_seen around decl = if kind_of decl is VarDecl then statement_seen decl (public_declarators around decl) else []
+-- interfaces, type aliases and enums stand as they are written
+abbrev pub is_standing : Kind → Bool
+is_standing kind = (kind is TsInterfaceDecl) || ((kind is TsTypeAliasDecl) || (kind is TsEnumDecl))
+
+-- the range of a declaration that stands: its forms begin with it alike
+abbrev pub own_range : Tree → SourceRange
+own_range decl = TsInterfaceDecl-span decl
+
+abbrev pub standing_seen : Surroundings → SourceRange → Tree → List Seen
+standing_seen around place decl = if around.is_public place then written decl ∷ [] else []
+
+-- A declaration. Of a variable statement the declarators are public, by their own ranges; another is public by `place`, which is the range of its export, or else its own. Of other forms nothing is seen.
+abbrev pub decl_seen : Surroundings → SourceRange → Tree → List Seen
+decl_seen around place decl =
+    if kind_of decl is VarDecl then statement_seen decl (public_declarators around decl)
+    else (if is_standing (kind_of decl) then standing_seen around place decl else [])
 
 -- an exported declaration; nothing where none of it is seen
 abbrev pub exported_seen : Tree → List Seen → List Seen
@@ -77,7 +94,7 @@ exported_seen export (d ∷ ds) = form ExportDecl (seens (range (ExportDecl-span
 -- an item of a module
 abbrev pub item_seen : Surroundings → Tree → List Seen
 item_seen around item =
-    if kind_of item is ExportDecl then exported_seen item (decl_seen around (ExportDecl-decl item)) else decl_seen around item
+    if kind_of item is ExportDecl then exported_seen item (decl_seen around (ExportDecl-span item) (ExportDecl-decl item)) else decl_seen around (own_range item) item
 
 -- the items of a module. A script is taken as a module: its fields stand in the same places.
 abbrev pub items_of : Tree → List Tree

@@ -1,7 +1,7 @@
 -- One level of a tree: its kind and parts, or what a leaf holds.
 use Rattle.std.specs.Prelude.{◌≡◌, ℕ, Bool, true, false, List, [], ◌∷◌, slice_get, unwrap_or, refl}
 use Rattle.std.proofs.Common.{sym}
-use denote.Enum.Bare.{sameb, false_same}
+use denote.Enum.Bare.{sameb, same_true, false_same}
 use Rattle.fast_check_syntax.specs.declared.kind.Kind.{Kind}
 use Rattle.fast_check_syntax.specs.contracts.kind.Kind.{the_type}
 use Rattle.fast_check_syntax.specs.declared.kind.Kind.TheVariants.{Leaf, List as List'}
@@ -99,6 +99,10 @@ a is b = sameb the_type a b
 
 pub differs : (a b : Kind) → (a ≡ b → ⊥) → a is b ≡ false
 differs a b n = false_same the_type tt a b n
+
+-- two kinds that are one
+pub is_kind : (a b : Kind) → a is b ≡ true → a ≡ b
+is_kind a b e = same_true the_type tt a b e
 
 not_absent_at : (l : Tree-F Tree) (kind : Kind) → kind_at l ≡ kind → (kind ≡ Leaf → ⊥) → is_absent_at l ≡ false
 not_absent_at Tree-F.Absent kind e not_leaf = absurd (not_leaf (sym e))

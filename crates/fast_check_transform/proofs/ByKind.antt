@@ -1,69 +1,86 @@
 -- What is kept of a declaration and of an item, kind by kind.
-use Rattle.std.specs.Prelude.{◌≡◌, Bool, true, false, List, [], ◌∷◌, ◌++◌, refl, if◌then◌else◌}
+use Rattle.std.specs.Prelude.{◌≡◌, Bool, true, false, ◌&&◌, List, [], ◌∷◌, ◌++◌, refl, if◌then◌else◌}
 use Rattle.std.proofs.Common.{ap, ◌∙◌, sym, append-nil}
 use Rattle.fast_check_syntax.specs.declared.kind.Kind.{Kind}
 use Rattle.fast_check_syntax.specs.declared.kind.Kind.TheVariants.{ExportDecl, VarDecl}
+use Rattle.fast_check_syntax.specs.declared.source.SourceRange.{SourceRange}
+use Rattle.fast_check_syntax.specs.declared.tree.Tree as tree
 use Rattle.fast_check_syntax.specs.declared.tree.Tree.{Tree}
-use Rattle.fast_check_syntax.specs.Shape.{◌is◌, differs, kind_of}
-use Rattle.fast_check_program_forms.specs.ModuleDecls.{ExportDecl-decl}
+use Rattle.fast_check_syntax.specs.Shape.{◌is◌, differs, kind_of, node}
+use Rattle.fast_check_program_forms.specs.ModuleDecls.{ExportDecl-span, ExportDecl-decl}
 use Rattle.fast_check_skeleton.specs.declared.fault.Fault.{Fault}
 use Rattle.fast_check_skeleton.specs.Surroundings.{Surroundings}
 use Rattle.fast_check_skeleton.specs.Seen.{Seen}
-use Rattle.fast_check_skeleton.specs.Visible.{public_declarators, statement_seen, decl_seen, exported_seen, item_seen}
-use Rattle.fast_check_skeleton.specs.Skeleton.{answer_of}
+use Rattle.fast_check_skeleton.specs.Visible.{public_declarators, statement_seen, is_standing, own_range, standing_seen, decl_seen, exported_seen, item_seen}
+use Rattle.fast_check_skeleton.specs.Skeleton.{answer_to, answer_of}
+use Rattle.fast_check_skeleton.proofs.Standing.{OneTree, decl_one}
 use Rattle.fast_check_transform.specs.Kept.{kept_statement, statement_faults, kept_decl, decl_faults, exported, kept_item, item_faults}
 
-abbrev seen_if : Surroundings → Tree → Bool → List Seen
-seen_if around decl b = if b then statement_seen decl (public_declarators around decl) else []
+module _ (around : Surroundings) (place : SourceRange) (decl : Tree) where
+  abbrev seen_if : Bool → Bool → Bool → List Seen
+  seen_if b s p = if b then statement_seen decl (public_declarators around decl) else (if s then (if p then Seen.written decl ∷ [] else []) else [])
 
-module _ (around : Surroundings) (decl : Tree) where
-  pub kept_VarDecl : kind_of decl ≡ VarDecl → kept_decl around decl ≡ kept_statement around decl
+  pub kept_VarDecl : kind_of decl is VarDecl ≡ true → kept_decl around place decl ≡ kept_statement around decl
   unfolding kept_decl kept_statement
-  kept_VarDecl e = ap (λ k. (answer_of (seen_if around decl (k is VarDecl))).trees) e
+  kept_VarDecl e = ap (λ b. (answer_of (seen_if b (is_standing (kind_of decl)) (around.is_public place))).trees) e
 
-  pub faults_VarDecl : kind_of decl ≡ VarDecl → decl_faults around decl ≡ statement_faults around decl
+  pub faults_VarDecl : kind_of decl is VarDecl ≡ true → decl_faults around place decl ≡ statement_faults around decl
   unfolding decl_faults statement_faults
-  faults_VarDecl e = ap (λ k. (answer_of (seen_if around decl (k is VarDecl))).faults) e
+  faults_VarDecl e = ap (λ b. (answer_of (seen_if b (is_standing (kind_of decl)) (around.is_public place))).faults) e
 
-  pub kept_other : (kind_of decl ≡ VarDecl → ⊥) → kept_decl around decl ≡ []
+  pub kept_public : kind_of decl is VarDecl ≡ false → is_standing (kind_of decl) ≡ true → around.is_public place ≡ true → kept_decl around place decl ≡ decl ∷ []
   unfolding kept_decl
-  kept_other n = ap (λ b. (answer_of (seen_if around decl b)).trees) (differs (kind_of decl) VarDecl n)
+  kept_public e s p = λ i. (answer_of (seen_if (e i) (s i) (p i))).trees
 
-  pub faults_other : (kind_of decl ≡ VarDecl → ⊥) → decl_faults around decl ≡ []
+  pub kept_private : kind_of decl is VarDecl ≡ false → is_standing (kind_of decl) ≡ true → around.is_public place ≡ false → kept_decl around place decl ≡ []
+  unfolding kept_decl
+  kept_private e s p = λ i. (answer_of (seen_if (e i) (s i) (p i))).trees
+
+  pub kept_other : kind_of decl is VarDecl ≡ false → is_standing (kind_of decl) ≡ false → kept_decl around place decl ≡ []
+  unfolding kept_decl
+  kept_other e s = λ i. (answer_of (seen_if (e i) (s i) (around.is_public place))).trees
+
+  -- no declaration but a variable statement is at fault
+  pub faults_other : kind_of decl is VarDecl ≡ false → decl_faults around place decl ≡ []
   unfolding decl_faults
-  faults_other n = ap (λ b. (answer_of (seen_if around decl b)).faults) (differs (kind_of decl) VarDecl n)
-
--- what is seen of a declaration is one form at most
-export_trees : (item decl : Tree) (b : Bool) (ds : List Seen) →
-    (answer_of (exported_seen item (if b then statement_seen decl ds else []))).trees ≡ exported item (answer_of (if b then statement_seen decl ds else [])).trees
-export_trees item decl false ds = refl
-export_trees item decl true [] = refl
-export_trees item decl true (d ∷ ds) = refl
-
-export_faults : (item decl : Tree) (b : Bool) (ds : List Seen) →
-    (answer_of (exported_seen item (if b then statement_seen decl ds else []))).faults ≡ (answer_of (if b then statement_seen decl ds else [])).faults
-export_faults item decl false ds = refl
-export_faults item decl true [] = refl
-export_faults item decl true (d ∷ ds) = append-nil (answer_of (statement_seen decl (d ∷ ds))).faults
+  faults_other e = ap (λ b. (answer_of (seen_if b (is_standing (kind_of decl)) (around.is_public place))).faults) e ∙ go (is_standing (kind_of decl)) (around.is_public place)
+    where
+      go : (s p : Bool) → (answer_of (seen_if false s p)).faults ≡ []
+      go true true = refl
+      go true false = refl
+      go false p = refl
 
 module _ (around : Surroundings) (item : Tree) where
-  abbrev item_if : Bool → List Seen
-  item_if b = if b then exported_seen item (decl_seen around (ExportDecl-decl item)) else decl_seen around item
+  -- what is seen of a declaration is one form at most
+  export_trees : (ss : List Seen) → OneTree around ss → (answer_of (exported_seen item ss)).trees ≡ exported item (answer_of ss).trees
+  export_trees [] one = refl
+  export_trees (s ∷ []) one =
+      ap (λ ts. node ExportDecl (tree.Range (ExportDecl-span item) ∷ ts) ∷ []) (append-nil (answer_to s).trees ∙ one.1)
+      ∙ sym (ap (exported item) (append-nil (answer_to s).trees ∙ one.1))
+  export_trees (s ∷ t ∷ ss) one = absurd one
 
-  pub kept_ExportDecl : kind_of item ≡ ExportDecl → kept_item around item ≡ exported item (kept_decl around (ExportDecl-decl item))
+  export_faults : (ss : List Seen) → OneTree around ss → (answer_of (exported_seen item ss)).faults ≡ (answer_of ss).faults
+  export_faults [] one = refl
+  export_faults (s ∷ []) one = append-nil (answer_of (s ∷ [])).faults
+  export_faults (s ∷ t ∷ ss) one = absurd one
+
+  abbrev item_if : Bool → List Seen
+  item_if b = if b then exported_seen item (decl_seen around (ExportDecl-span item) (ExportDecl-decl item)) else decl_seen around (own_range item) item
+
+  pub kept_ExportDecl : kind_of item ≡ ExportDecl → kept_item around item ≡ exported item (kept_decl around (ExportDecl-span item) (ExportDecl-decl item))
   unfolding kept_item kept_decl
   kept_ExportDecl e = ap (λ k. (answer_of (item_if (k is ExportDecl))).trees) e ∙
-      export_trees item (ExportDecl-decl item) (kind_of (ExportDecl-decl item) is VarDecl) (public_declarators around (ExportDecl-decl item))
+      export_trees (decl_seen around (ExportDecl-span item) (ExportDecl-decl item)) (decl_one around (ExportDecl-span item) (ExportDecl-decl item))
 
-  pub faults_ExportDecl : kind_of item ≡ ExportDecl → item_faults around item ≡ decl_faults around (ExportDecl-decl item)
+  pub faults_ExportDecl : kind_of item ≡ ExportDecl → item_faults around item ≡ decl_faults around (ExportDecl-span item) (ExportDecl-decl item)
   unfolding item_faults decl_faults
   faults_ExportDecl e = ap (λ k. (answer_of (item_if (k is ExportDecl))).faults) e ∙
-      export_faults item (ExportDecl-decl item) (kind_of (ExportDecl-decl item) is VarDecl) (public_declarators around (ExportDecl-decl item))
+      export_faults (decl_seen around (ExportDecl-span item) (ExportDecl-decl item)) (decl_one around (ExportDecl-span item) (ExportDecl-decl item))
 
-  pub kept_item_other : (kind_of item ≡ ExportDecl → ⊥) → kept_item around item ≡ kept_decl around item
+  pub kept_item_other : (kind_of item ≡ ExportDecl → ⊥) → kept_item around item ≡ kept_decl around (own_range item) item
   unfolding kept_item kept_decl
   kept_item_other n = ap (λ b. (answer_of (item_if b)).trees) (differs (kind_of item) ExportDecl n)
 
-  pub item_faults_other : (kind_of item ≡ ExportDecl → ⊥) → item_faults around item ≡ decl_faults around item
+  pub item_faults_other : (kind_of item ≡ ExportDecl → ⊥) → item_faults around item ≡ decl_faults around (own_range item) item
   unfolding item_faults decl_faults
   item_faults_other n = ap (λ b. (answer_of (item_if b)).faults) (differs (kind_of item) ExportDecl n)

@@ -7,7 +7,8 @@ use Rattle.fast_check_syntax.specs.Shape.{parts, is_absent, list}
 use Rattle.fast_check_statement_forms.specs.Declarations.{VarDecl-span, VarDecl-ctxt, VarDecl-kind, VarDecl-declare, VarDecl-decls, var_decl, VarDeclarator-span, VarDeclarator-init, VarDeclarator-definite}
 use Rattle.fast_check_skeleton.specs.declared.fault.Fault.{Fault}
 use Rattle.fast_check_skeleton.specs.Surroundings.{Surroundings}
-use Rattle.fast_check_skeleton.specs.Inferred.{inferred_type, mutability_of}
+use Rattle.fast_check_tree.specs.InferredType.{inferred_type}
+use Rattle.fast_check_skeleton.specs.Mutability.{mutability_of}
 use Rattle.fast_check_skeleton.specs.Seen.{Seen, written, form, hidden, seens}
 use Rattle.fast_check_skeleton.specs.Visible.{declared_ident, declared_type, by_inferred, declarator_seen, is_ambient, is_public_declarator, declarator_in, public_declarator, public_declarators, statement_seen, item_seen}
 use Rattle.fast_check_skeleton.specs.Skeleton.{answer_to, answer_of, skeleton_of, faults_of}
@@ -54,9 +55,9 @@ module _ (around : Surroundings) (statement : Tree) where
   declarator_has : (d : Tree) → HasTree (declarator_in around statement d)
   declarator_has d = go (is_ambient around statement)
     where
-      go : (a : Bool) → HasTree (if a then written d else declarator_seen (mutability_of (VarDecl-kind statement)) d)
+      go : (a : Bool) → HasTree (if a then written d else declarator_seen around (mutability_of (VarDecl-kind statement)) d)
       go true = (d, refl)
-      go false = by_type d (inferred_type (mutability_of (VarDecl-kind statement)) (VarDeclarator-init d)) (is_absent (declared_type d))
+      go false = by_type d (inferred_type (mutability_of (VarDecl-kind statement)) around.unresolved (VarDeclarator-init d)) (is_absent (declared_type d))
 
   declarators_have : (ds : List Tree) → AllHave (flat_map (public_declarator around statement) ds)
   declarators_have [] = tt

@@ -1,4 +1,5 @@
 pub mod Fused
 pub mod ByKind
+pub mod Removed
 pub mod Diagnosed
 pub mod Grammatical

@@ -15,7 +15,7 @@ use Rattle.fast_check_transform.specs.declared.asked.Asked.{Asked}
 
 -- what is asked beside the tree
 abbrev pub Asked-around : Asked → Surroundings
-Asked-around asked = record { is_public = is_public asked.public_ranges.now; is_declaration_file = asked.is_declaration_file }
+Asked-around asked = record { is_public = is_public asked.public_ranges.now; unresolved = asked.unresolved; is_declaration_file = asked.is_declaration_file }
 
 abbrev pub as_list : Option Tree → List Tree
 as_list (Some t) = t ∷ []
@@ -52,12 +52,12 @@ kept_statement around statement = (answer_of (statement_seen statement (public_d
 unfoldable pub statement_faults : Surroundings → Tree → List Fault
 statement_faults around statement = (answer_of (statement_seen statement (public_declarators around statement))).faults
 
--- of a declaration
-unfoldable pub kept_decl : Surroundings → Tree → List Tree
-kept_decl around decl = (answer_of (decl_seen around decl)).trees
+-- of a declaration, which is public by the range of its export, or else by its own
+unfoldable pub kept_decl : Surroundings → SourceRange → Tree → List Tree
+kept_decl around place decl = (answer_of (decl_seen around place decl)).trees
 
-unfoldable pub decl_faults : Surroundings → Tree → List Fault
-decl_faults around decl = (answer_of (decl_seen around decl)).faults
+unfoldable pub decl_faults : Surroundings → SourceRange → Tree → List Fault
+decl_faults around place decl = (answer_of (decl_seen around place decl)).faults
 
 -- an export of a declaration; nothing where there is none
 abbrev pub exported : Tree → List Tree → List Tree

@@ -13,10 +13,12 @@ use Rattle.fast_check_skeleton.specs.declared.fault.FaultKind.TheVariants as kin
 use Rattle.fast_check_skeleton.specs.Carried.{is_carried_program}
 use Rattle.fast_check_skeleton.specs.Skeleton.{skeleton_of, faults_of}
 use Rattle.fast_check_skeleton.specs.Surroundings.{Surroundings}
+use Rattle.fast_check_skeleton.specs.KeptComments.{kept_comments}
+use Rattle.fast_check_comments.specs.declared.comments.Comments.{Comments}
 
 -- what a module's skeleton depends on beside its tree: what is public of it, and whether it is a declaration file
 abbrev pub surroundings_of : EsModule → PublicRanges → Surroundings
-surroundings_of info public = record { is_public = is_public public; is_declaration_file = is_declaration info.source.media_type }
+surroundings_of info public = record { is_public = is_public public; unresolved = info.source.unresolved_context; is_declaration_file = is_declaration info.source.media_type }
 
 -- the skeleton of a module
 abbrev pub skeleton : EsModule → PublicRanges → Tree
@@ -25,6 +27,10 @@ skeleton info public = skeleton_of (surroundings_of info public) info.source.pro
 -- what is wrong with a module, in reading order
 abbrev pub faults : EsModule → PublicRanges → List Fault
 faults info public = faults_of (surroundings_of info public) info.source.program
+
+-- the comments that stay with it
+abbrev pub comments : EsModule → PublicRanges → Comments
+comments info public = kept_comments (surroundings_of info public) info.source.program info.source.comments
 
 -- what is told of the faults: all of them, or the first alone
 abbrev pub told : Bool → List Fault → List Fault
@@ -48,6 +54,4 @@ AreDiagnosticsOf info _ _ = ⊥
 
 -- a module that a transform takes so far
 pub record IsCarried (info : EsModule) : Type 0 where
-  pub leading : info.source.comments.leading ≡ []
-  pub trailing : info.source.comments.trailing ≡ []
-  pub program : IsTrue (is_carried_program info.source.program)
+  pub program : IsTrue (is_carried_program info.source.unresolved_context info.source.program)

@@ -1,11 +1,14 @@
 ghost use Rattle.std.specs.Prelude.{◌≡◌};
 
+use fast_check_syntax::SyntaxContext;
 use fast_check_tables::{EsModuleInfo, ModulePublicRanges};
 
 /// What the transform asks beside the tree.
 #[derive(Clone, Copy)]
 pub struct Asked<'a> {
     pub public_ranges: &'a ModulePublicRanges,
+    /// The scope number of the names that nothing in the module binds.
+    pub unresolved: SyntaxContext,
     pub is_declaration_file: bool,
 }
 
@@ -19,6 +22,7 @@ impl<'a> Asked<'a> {
     {
         Asked {
             public_ranges,
+            unresolved: es_module_info.source().unresolved_context,
             is_declaration_file: es_module_info.source().media_type.is_declaration(),
         }
     }

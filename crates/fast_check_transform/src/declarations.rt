@@ -1,6 +1,6 @@
 ghost use Rattle.std.specs.Prelude.{◌≡◌, IfOk, ◌++◌, ◌∷◌, []};
 ghost use Rattle.fast_check_syntax.specs.Part.{seen};
-ghost use Rattle.fast_check_skeleton.specs.Inferred.{mutability_of, inferred_type};
+ghost use Rattle.fast_check_skeleton.specs.Mutability.{mutability_of};
 ghost use Rattle.fast_check_skeleton.specs.Skeleton.{answer_to};
 ghost use Rattle.fast_check_skeleton.specs.Visible.{declarator_seen, is_ambient};
 ghost use Rattle.fast_check_transform.specs.Kept.{Asked-around, as_list, retyped, kept_declarators, declarator_faults, kept_statement, statement_faults};
@@ -10,7 +10,7 @@ use fast_check_program_forms::{BindingIdent, Ident};
 use fast_check_skeleton::{Fault, FaultKind};
 use fast_check_statement_forms::{VarDecl, VarDeclarator};
 use fast_check_syntax::{Items, Part, Tree, Word};
-use fast_check_tree::helpers::{DeclMutabilityKind, maybe_lit_to_ts_type, never_value, type_ann};
+use fast_check_tree::helpers::{DeclMutabilityKind, maybe_infer_type, never_value, type_ann};
 use std::alloc::{AllocError, Global};
 
 /// Whether what a statement of this kind declares keeps its value.
@@ -52,19 +52,20 @@ fn retyped(alloc: Global, declarator: Part<'_>, ty: Tree) -> Result<Tree, AllocE
 /// A declarator with the type that is written or that its value shows. Where there is neither, that is a fault.
 fn typed_declarator(
     alloc: Global,
+    asked: Asked<'_>,
     mutability: DeclMutabilityKind,
     declarator: Part<'_>,
     faults: &mut Vec<Fault>,
 ) -> Result<Tree, AllocError>
-    ensures kept { IfOk result (λ tree. tree ∷ [] ≡ (answer_to (declarator_seen mutability (seen declarator.entry))).trees) }
-    ensures faults { IfOk result (λ _. faults.new.items ≡ faults.old.items ++ (answer_to (declarator_seen mutability (seen declarator.entry))).faults) }
+    ensures kept { IfOk result (λ tree. tree ∷ [] ≡ (answer_to (declarator_seen (Asked-around asked.entry) mutability (seen declarator.entry))).trees) }
+    ensures faults { IfOk result (λ _. faults.new.items ≡ faults.old.items ++ (answer_to (declarator_seen (Asked-around asked.entry) mutability (seen declarator.entry))).faults) }
 {
     let VarDeclarator { name, init, .. } = VarDeclarator::of(declarator);
     let name = BindingIdent::of(name);
     if !name.type_ann.is_absent() {
         return retyped(alloc, declarator, name.type_ann.to_tree(alloc)?);
     }
-    match maybe_lit_to_ts_type(alloc, init, mutability)? {
+    match maybe_infer_type(alloc, init, mutability, asked.unresolved)? {
         Some(ty) => retyped(alloc, declarator, type_ann(alloc, ty)?),
         None => {
             faults.push(Fault {
@@ -97,7 +98,7 @@ fn public_declarators(
             if is_ambient {
                 items.push(declarator.to_tree(alloc)?)?;
             } else {
-                items.push(typed_declarator(alloc, mutability, declarator, faults)?)?;
+                items.push(typed_declarator(alloc, asked, mutability, declarator, faults)?)?;
             }
         }
     }

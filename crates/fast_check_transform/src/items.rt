@@ -1,29 +1,50 @@
 ghost use Rattle.std.specs.Prelude.{◌≡◌, IfOk, ◌++◌};
 ghost use Rattle.fast_check_syntax.specs.Part.{seen};
+ghost use Rattle.fast_check_skeleton.specs.Visible.{own_range, is_standing};
 ghost use Rattle.fast_check_transform.specs.Kept.{Asked-around, as_list, kept_decl, decl_faults, kept_item, item_faults};
 
 use crate::asked::Asked;
 use crate::declarations::keep_statement;
 use fast_check_program_forms::ExportDecl;
 use fast_check_skeleton::Fault;
-use fast_check_syntax::{Kind, Part, Tree};
+use fast_check_statement_forms::TsInterfaceDecl;
+use fast_check_syntax::{Kind, Part, SourceRange, Tree};
 use std::alloc::{AllocError, Global};
 
-/// What is public of a declaration; none where nothing is.
-#[tactic(auto, using(crate::proofs::ByKind::kept_VarDecl, crate::proofs::ByKind::faults_VarDecl, crate::proofs::ByKind::kept_other, crate::proofs::ByKind::faults_other))]
+/// Whether a declaration of this kind stands as it is written: an interface, a type alias or an enum.
+pub fn is_standing(kind: Kind) -> bool
+    ensures { result ≡ is_standing kind }
+{
+    kind == Kind::TsInterfaceDecl || kind == Kind::TsTypeAliasDecl || kind == Kind::TsEnumDecl
+}
+
+/// The range that an item begins with.
+pub fn own_range(item: Part<'_>) -> SourceRange
+    ensures { result ≡ own_range (seen item.entry) }
+{
+    TsInterfaceDecl::of(item).span
+}
+
+/// What is public of a declaration, which is public by `place` where it is no variable statement; none where nothing is.
+#[tactic(auto, using(crate::proofs::ByKind::kept_VarDecl, crate::proofs::ByKind::faults_VarDecl, crate::proofs::ByKind::kept_public, crate::proofs::ByKind::kept_private, crate::proofs::ByKind::kept_other, crate::proofs::ByKind::faults_other))]
 fn keep_decl(
     alloc: Global,
     asked: Asked<'_>,
+    place: SourceRange,
     decl: Part<'_>,
     faults: &mut Vec<Fault>,
 ) -> Result<Option<Tree>, AllocError>
-    ensures kept { IfOk result (λ tree. as_list tree ≡ kept_decl (Asked-around asked.entry) (seen decl.entry)) }
-    ensures faults { IfOk result (λ _. faults.new.items ≡ faults.old.items ++ decl_faults (Asked-around asked.entry) (seen decl.entry)) }
+    ensures kept { IfOk result (λ tree. as_list tree ≡ kept_decl (Asked-around asked.entry) place (seen decl.entry)) }
+    ensures faults { IfOk result (λ _. faults.new.items ≡ faults.old.items ++ decl_faults (Asked-around asked.entry) place (seen decl.entry)) }
 {
-    match decl.kind() {
-        Kind::VarDecl => keep_statement(alloc, asked, decl, faults),
-        _ => Ok(None),
+    let kind = decl.kind();
+    if kind == Kind::VarDecl {
+        return keep_statement(alloc, asked, decl, faults);
     }
+    if is_standing(kind) && asked.public_ranges.contains(&place) {
+        return Ok(Some(decl.to_tree(alloc)?));
+    }
+    Ok(None)
 }
 
 /// What is public of an item of a module; none where nothing is.
@@ -40,11 +61,11 @@ pub fn keep_item(
     match item.kind() {
         Kind::ExportDecl => {
             let ExportDecl { span, decl } = ExportDecl::of(item);
-            match keep_decl(alloc, asked, decl, faults)? {
+            match keep_decl(alloc, asked, span, decl, faults)? {
                 Some(decl) => Ok(Some(ExportDecl { span, decl }.into_tree(alloc)?)),
                 None => Ok(None),
             }
         }
-        _ => keep_decl(alloc, asked, item, faults),
+        _ => keep_decl(alloc, asked, own_range(item), item, faults),
     }
 }

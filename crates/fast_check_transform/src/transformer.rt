@@ -1,14 +1,17 @@
 ghost use Rattle.std.specs.Prelude.{◌≡◌, ◌↔◌, ◌++◌, [], IfOk, IsOk, IfErr};
 ghost use Rattle.fast_check_syntax.specs.Part.{seen};
+ghost use Rattle.std.specs.List.{flat_map};
+ghost use Rattle.fast_check_syntax.specs.Shape.{parts};
 ghost use Rattle.fast_check_skeleton.specs.Grammar.{IsSkeleton};
+ghost use Rattle.fast_check_skeleton.specs.KeptComments.{removed_start, removed_starts, without_all_leading};
 ghost use Rattle.fast_check_skeleton.specs.Skeleton.{skeleton_of, faults_of};
 ghost use Rattle.fast_check_tables.specs.MediaType.{is_declaration};
 ghost use Rattle.fast_check_transform.specs.Kept.{Asked-around, kept_items, faults_of_items};
-ghost use Rattle.fast_check_transform.specs.Transform.{IsCarried, skeleton, faults, told, IsDiagnosticOf, AreDiagnosticsOf};
+ghost use Rattle.fast_check_transform.specs.Transform.{IsCarried, skeleton, comments, faults, told, IsDiagnosticOf, AreDiagnosticsOf};
 
 use crate::asked::Asked;
-use crate::items::keep_item;
-use fast_check_comments::Comments;
+use crate::items::{keep_item, own_range};
+use fast_check_comments::{Comments, CommentsMut};
 use fast_check_names::WorkspaceMember;
 use fast_check_program_forms::Module;
 use fast_check_skeleton::{Fault, FaultKind};
@@ -72,7 +75,7 @@ pub fn transform(
     ensures ok { IfOk result (λ answer. IsOk answer ↔ (faults es_module_info.now public_ranges.now ≡ [])) }
     ensures skeleton { IfOk result (λ answer. IfOk answer (λ made. made.program ≡ skeleton es_module_info.now public_ranges.now)) }
     ensures grammar { IfOk result (λ answer. IfOk answer (λ made. IsSkeleton (is_declaration es_module_info.now.source.media_type) made.program)) }
-    ensures comments { IfOk result (λ answer. IfOk answer (λ made. made.comments ≡ es_module_info.now.source.comments)) }
+    ensures comments { IfOk result (λ answer. IfOk answer (λ made. made.comments ≡ comments es_module_info.now public_ranges.now)) }
     ensures sources { IfOk result (λ answer. IfOk answer (λ made. made.module_info.sources.items ≡ [])) }
     ensures faults { IfOk result (λ answer. IfErr answer (λ diagnostics.
         AreDiagnosticsOf es_module_info.now (told options.now.should_error_on_first_diagnostic (faults es_module_info.now public_ranges.now)) diagnostics.items)) }
@@ -80,8 +83,9 @@ pub fn transform(
     let _ = graph;
     let asked = Asked::of(es_module_info, public_ranges);
     let source = es_module_info.source();
+    let mut comments = CommentsMut::new(source.comments.clone()?);
     let mut faults = Vec::new(alloc);
-    let program = keep_program(alloc, asked, source.program.read(), &mut faults)?;
+    let program = keep_program(alloc, asked, source.program.read(), &mut comments, &mut faults)?;
     if !faults.is_empty() {
         let first_alone = options.should_error_on_first_diagnostic;
         return Ok(Err(tell(alloc, es_module_info, faults, first_alone)?));
@@ -91,19 +95,21 @@ pub fn transform(
             sources: Vec::new(alloc),
         },
         program,
-        comments: source.comments.clone()?,
+        comments: comments.into_comments(),
     }))
 }
 
-/// A module with what is public of its items.
+/// A module with what is public of its items. The comments before the others go.
 #[tactic(auto, using(crate::proofs::Fused::skeleton_of_is, crate::proofs::Fused::faults_of_is))]
 fn keep_program(
     alloc: Global,
     asked: Asked<'_>,
     program: Part<'_>,
+    comments: &mut CommentsMut,
     faults: &mut Vec<Fault>,
 ) -> Result<Tree, AllocError>
     ensures kept { IfOk result (λ tree. tree ≡ skeleton_of (Asked-around asked.entry) (seen program.entry)) }
+    ensures comments { IfOk result (λ _. comments.new ≡ without_all_leading (removed_starts (Asked-around asked.entry) (seen program.entry)) comments.old) }
     ensures faults { IfOk result (λ _. faults.new.items ≡ faults.old.items ++ faults_of (Asked-around asked.entry) (seen program.entry)) }
 {
     let Module {
@@ -111,7 +117,7 @@ fn keep_program(
         body,
         shebang,
     } = Module::of(program);
-    let items = keep_items(alloc, asked, body, faults)?;
+    let items = keep_items(alloc, asked, body, comments, faults)?;
     let module = Module {
         span,
         body: Tree::list(items),
@@ -120,21 +126,28 @@ fn keep_program(
     module.into_tree(alloc)
 }
 
-/// What is public of the items of a module.
+/// What is public of the items of a module. The comments before the others go.
 #[tactic(auto, using(crate::proofs::Fused::kept_items_is, crate::proofs::Fused::faults_of_items_is))]
 fn keep_items(
     alloc: Global,
     asked: Asked<'_>,
     body: Part<'_>,
+    comments: &mut CommentsMut,
     faults: &mut Vec<Fault>,
 ) -> Result<Items<Tree>, AllocError>
     ensures kept { IfOk result (λ items. items ≡ kept_items (Asked-around asked.entry) (seen body.entry)) }
+    ensures comments { IfOk result (λ _. comments.new ≡ without_all_leading (flat_map (removed_start (Asked-around asked.entry)) (parts (seen body.entry))) comments.old) }
     ensures faults { IfOk result (λ _. faults.new.items ≡ faults.old.items ++ faults_of_items (Asked-around asked.entry) (seen body.entry)) }
 {
     let mut items = Items::new(alloc);
     for item in body.parts() {
-        if let Some(tree) = keep_item(alloc, asked, item.read(), faults)? {
-            items.push(tree)?;
+        let item = item.read();
+        match keep_item(alloc, asked, item, faults)? {
+            None => {
+                comments.remove_leading(own_range(item).start);
+                continue;
+            }
+            Some(tree) => items.push(tree)?,
         }
     }
     Ok(items)

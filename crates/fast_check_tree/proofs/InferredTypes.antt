@@ -1,5 +1,5 @@
 -- The equations of `inferred_type`, form by form.
-use Rattle.std.proofs.Common.{◌≡◌, ℕ, Bool, true, false, Option, Some, None, List, map, refl, ◌∙◌, sym}
+use Rattle.std.proofs.Common.{◌≡◌, ℕ, Bool, true, false, Option, Some, None, List, map, refl, ap, is_some, if◌then◌else◌, ◌∙◌, sym}
 use Rattle.fast_check_syntax.specs.declared.kind.Kind.{Kind}
 use Rattle.fast_check_syntax.specs.declared.kind.Kind.TheVariants.{Leaf, TsAsExpr, TsTypeAssertion, CallExpr, Tpl, ParenExpr, TsSatisfiesExpr}
 use Rattle.fast_check_syntax.specs.declared.source.SyntaxContext.{SyntaxContext}
@@ -9,10 +9,14 @@ use Rattle.fast_check_syntax.specs.Recursion.{by_form_absent, by_form_is, by_for
 use Rattle.fast_check_expression_forms.specs.Assertions.{TsAsExpr-type_ann, TsTypeAssertion-type_ann}
 use Rattle.fast_check_expression_forms.specs.Calls.{CallExpr-callee, CallExpr-args}
 use Rattle.fast_check_tree.specs.declared.helpers.literal_type.DeclMutabilityKind.{DeclMutabilityKind}
+use Rattle.fast_check_tree.specs.declared.helpers.literal_type.DeclMutabilityKind.TheVariants.{Mutable}
+use Rattle.fast_check_tree.specs.Builders.{unique_symbol}
+use Rattle.fast_check_tree.specs.GlobalCalls.{is_symbol_call}
+use Rattle.fast_check_tree.specs.SimpleType.{is_simple_type}
 use Rattle.fast_check_tree.specs.LiteralType.{type_of_literal}
 use Rattle.fast_check_tree.specs.TemplateType.{type_of_template}
 use Rattle.fast_check_tree.proofs.Leaves.{leaf_of_absent}
-use Rattle.fast_check_tree.specs.InferredType.{inferred_type, inferred_form, asserted_type, symbol_type}
+use Rattle.fast_check_tree.specs.InferredType.{inferred_type, shows_type, inferred_form, asserted_type, symbol_type}
 
 pub inferred_absent : (m : DeclMutabilityKind) (u : SyntaxContext) → inferred_type m u Absent ≡ None
 unfolding inferred_type
@@ -62,3 +66,31 @@ other_form m u t inside each o = simp (differs (kind_of t) TsAsExpr o.not-TsAsEx
 
 pub inferred_other : (m : DeclMutabilityKind) (u : SyntaxContext) (t : Tree) → IsOtherValue (kind_of t) → inferred_type m u t ≡ type_of_literal m t
 inferred_other m u t o = inferred_out m u t ∙ other_form m u t (λ i. inferred_type m u (part i t)) (map (inferred_type m u) (parts t)) o
+
+-- ---- whether a type is shown
+
+shown_if : (b : Bool) (type : Tree) → is_some (if b then Some type else None) ≡ b
+shown_if true type = refl
+shown_if false type = refl
+
+module _ (u : SyntaxContext) (t : Tree) where
+  pub shows_TsAsExpr : kind_of t ≡ TsAsExpr → shows_type u t ≡ is_simple_type (TsAsExpr-type_ann t)
+  shows_TsAsExpr e = ap is_some (inferred_TsAsExpr Mutable u t e) ∙ shown_if (is_simple_type (TsAsExpr-type_ann t)) (TsAsExpr-type_ann t)
+
+  pub shows_TsTypeAssertion : kind_of t ≡ TsTypeAssertion → shows_type u t ≡ is_simple_type (TsTypeAssertion-type_ann t)
+  shows_TsTypeAssertion e = ap is_some (inferred_TsTypeAssertion Mutable u t e) ∙ shown_if (is_simple_type (TsTypeAssertion-type_ann t)) (TsTypeAssertion-type_ann t)
+
+  pub shows_CallExpr : kind_of t ≡ CallExpr → shows_type u t ≡ is_symbol_call u (CallExpr-callee t) (CallExpr-args t)
+  shows_CallExpr e = ap is_some (inferred_CallExpr Mutable u t e) ∙ shown_if (is_symbol_call u (CallExpr-callee t) (CallExpr-args t)) unique_symbol
+
+  pub shows_Tpl : kind_of t ≡ Tpl → shows_type u t ≡ true
+  shows_Tpl e = ap is_some (inferred_Tpl Mutable u t e)
+
+  pub shows_ParenExpr : kind_of t ≡ ParenExpr → shows_type u t ≡ shows_type u (part 1 t)
+  shows_ParenExpr e = ap is_some (inferred_ParenExpr Mutable u t e)
+
+  pub shows_TsSatisfiesExpr : kind_of t ≡ TsSatisfiesExpr → shows_type u t ≡ shows_type u (part 1 t)
+  shows_TsSatisfiesExpr e = ap is_some (inferred_TsSatisfiesExpr Mutable u t e)
+
+  pub shows_other : IsOtherValue (kind_of t) → shows_type u t ≡ is_some (type_of_literal Mutable t)
+  shows_other o = ap is_some (inferred_other Mutable u t o)

@@ -1,5 +1,5 @@
 -- The type that a value shows by itself, with no checking of types.
-use Rattle.std.specs.Prelude.{◌≡◌, ℕ, Option, Some, None, List, ◌⊎◌, if◌then◌else◌}
+use Rattle.std.specs.Prelude.{◌≡◌, ℕ, Bool, is_some, Option, Some, None, List, ◌⊎◌, if◌then◌else◌}
 use Rattle.fast_check_syntax.specs.declared.kind.Kind.TheVariants.{TsAsExpr, TsTypeAssertion, CallExpr, Tpl, ParenExpr, TsSatisfiesExpr}
 use Rattle.fast_check_syntax.specs.declared.source.SyntaxContext.{SyntaxContext}
 use Rattle.fast_check_syntax.specs.declared.tree.Tree.{Tree}
@@ -8,6 +8,7 @@ use Rattle.fast_check_syntax.specs.Recursion.{by_form}
 use Rattle.fast_check_expression_forms.specs.Assertions.{TsAsExpr-type_ann, TsTypeAssertion-type_ann}
 use Rattle.fast_check_expression_forms.specs.Calls.{CallExpr-callee, CallExpr-args}
 use Rattle.fast_check_tree.specs.declared.helpers.literal_type.DeclMutabilityKind.{DeclMutabilityKind}
+use Rattle.fast_check_tree.specs.declared.helpers.literal_type.DeclMutabilityKind.TheVariants.{Mutable}
 use Rattle.fast_check_tree.specs.Builders.{unique_symbol}
 use Rattle.fast_check_tree.specs.GlobalCalls.{is_symbol_call}
 use Rattle.fast_check_tree.specs.LiteralType.{type_of_literal}
@@ -37,6 +38,10 @@ inferred_form mutability unresolved value inside each =
 
 unfoldable pub inferred_type : DeclMutabilityKind → SyntaxContext → Tree → Option Tree
 inferred_type mutability unresolved = by_form None (inferred_form mutability unresolved)
+
+-- the value shows a type, whatever it is declared as
+abbrev pub shows_type : SyntaxContext → Tree → Bool
+shows_type unresolved value = is_some (inferred_type Mutable unresolved value)
 
 -- the value is `value as type`, or `<type>value`
 abbrev pub Asserts : Tree → Tree → Type 0

@@ -14,7 +14,7 @@ pub use builders::{
     ts_lit_type, ts_readonly, ts_tuple_element, type_ann, type_ref,
 };
 pub use global_calls::object_freeze_call_arg;
-pub use infer_type::maybe_infer_type;
+pub use infer_type::{maybe_infer_type, shows_type};
 pub use literal_type::{DeclMutabilityKind, maybe_lit_to_ts_type};
 pub use optional_params::ParamsOptionalStartIndex;
 pub use return_class::{ReturnStatementAnalysis, analyze_return_stmts_in_function_body};

@@ -1,8 +1,10 @@
-ghost use Rattle.std.specs.Prelude.{◌≡◌, IfOk, Some, IsTrue};
+ghost use Rattle.std.specs.Prelude.{◌≡◌, IfOk, Some, IsTrue, is_some};
 ghost use Rattle.fast_check_syntax.specs.declared.tree.Tree.{Tree};
 ghost use Rattle.fast_check_syntax.specs.Part.{seen};
+ghost use Rattle.fast_check_tree.specs.LiteralType.{type_of_literal};
+ghost use Rattle.fast_check_tree.specs.declared.helpers.literal_type.DeclMutabilityKind.TheVariants.{Mutable};
 ghost use Rattle.fast_check_tree.specs.SimpleType.{is_simple_type};
-ghost use Rattle.fast_check_tree.specs.InferredType.{inferred_type, asserted_type, symbol_type, Asserts};
+ghost use Rattle.fast_check_tree.specs.InferredType.{inferred_type, shows_type, asserted_type, symbol_type, Asserts};
 
 use crate::helpers::builders::unique_symbol;
 use crate::helpers::global_calls::is_symbol_call;
@@ -70,5 +72,36 @@ pub fn maybe_infer_type(
             )
         }
         _ => maybe_lit_to_ts_type(alloc, value, mutability),
+    }
+}
+
+/// Whether an expression is a literal that shows its type.
+fn is_typed_literal(lit: Part<'_>) -> bool
+    ensures { result ≡ is_some (type_of_literal Mutable (seen lit.entry)) }
+{
+    match lit.kind() {
+        Kind::Str => true,
+        Kind::Bool => true,
+        Kind::Number => true,
+        Kind::BigInt => true,
+        Kind::Null => true,
+        Kind::Regex => true,
+        _ => false,
+    }
+}
+
+/// Whether `maybe_infer_type` infers a type from a value, whatever it is declared as. It takes no memory.
+#[tactic(auto, using(crate::proofs::InferredTypes::shows_TsAsExpr, crate::proofs::InferredTypes::shows_TsTypeAssertion, crate::proofs::InferredTypes::shows_CallExpr, crate::proofs::InferredTypes::shows_Tpl, crate::proofs::InferredTypes::shows_ParenExpr, crate::proofs::InferredTypes::shows_TsSatisfiesExpr, fast_check_syntax::specs::Height::height_part))]
+pub fn shows_type(value: Part<'_>, unresolved: SyntaxContext) -> bool
+    ensures { result ≡ shows_type unresolved (seen value.entry) }
+{
+    match value.kind() {
+        Kind::TsAsExpr => is_simple_type(TsAsExpr::of(value).type_ann),
+        Kind::TsTypeAssertion => is_simple_type(TsTypeAssertion::of(value).type_ann),
+        Kind::CallExpr => is_symbol_call(&CallExpr::of(value), unresolved),
+        Kind::Tpl => true,
+        Kind::ParenExpr => shows_type(ParenExpr::of(value).expr, unresolved),
+        Kind::TsSatisfiesExpr => shows_type(TsSatisfiesExpr::of(value).expr, unresolved),
+        _ => is_typed_literal(value),
     }
 }
