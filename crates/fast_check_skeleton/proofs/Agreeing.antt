@@ -9,7 +9,7 @@ use Rattle.fast_check_syntax.specs.declared.source.SourceRange.{SourceRange}
 use Rattle.fast_check_syntax.specs.declared.source.SyntaxContext.{SyntaxContext}
 use Rattle.fast_check_syntax.specs.declared.tree.Tree as tree
 use Rattle.fast_check_syntax.specs.declared.tree.Tree.{Tree}
-use Rattle.fast_check_syntax.specs.Shape.{◌is◌, differs, kind_of, parts, is_absent, has_word, list}
+use Rattle.fast_check_syntax.specs.Shape.{◌is◌, kind_of, parts, is_absent, has_word, list}
 use Rattle.fast_check_syntax.specs.Moves.{Moves, Renaming, IsRenaming, IsPair, partners, twice, moved}
 use Rattle.fast_check_syntax.specs.Same.{SameTree, SameRange, Each}
 use Rattle.fast_check_syntax.proofs.Moved.{is_absent_moved, has_word_moved, node_moved}
@@ -18,18 +18,18 @@ use Rattle.fast_check_syntax.proofs.Partners.{partners-keep as partners_keep, tw
 use Rattle.fast_check_syntax.proofs.Same.{tree_to, tree_from, range_to, range_from}
 use Rattle.fast_check_program_forms.specs.Programs.{Module-span, Module-shebang}
 use Rattle.fast_check_program_forms.specs.ModuleDecls.{ExportDecl-span, ExportDecl-decl}
-use Rattle.fast_check_statement_forms.specs.Declarations.{VarDecl-span, VarDecl-ctxt, VarDecl-kind, VarDecl-declare, VarDecl-decls, VarDeclarator-span, VarDeclarator-name, VarDeclarator-init, VarDeclarator-definite}
+use Rattle.fast_check_statement_forms.specs.Declarations.{VarDecl-span, VarDecl-ctxt, VarDecl-kind, VarDecl-declare, VarDecl-decls, VarDeclarator-span, VarDeclarator-init}
 use Rattle.fast_check_tree.specs.declared.helpers.literal_type.DeclMutabilityKind.{DeclMutabilityKind}
 use Rattle.fast_check_tree.specs.declared.helpers.literal_type.DeclMutabilityKind.TheVariants.{Const, Mutable}
 use Rattle.fast_check_skeleton.specs.declared.fault.Fault.{Fault}
 use Rattle.fast_check_skeleton.specs.Surroundings.{Surroundings}
 use Rattle.fast_check_skeleton.specs.Inferred.{inferred_type, mutability_of}
 use Rattle.fast_check_skeleton.specs.Seen.{Seen, written, range, scope, flag, form, inferred, hidden, end, also, seens, moved_seen, moved_seens}
-use Rattle.fast_check_skeleton.specs.Visible.{declared_ident, declared_type, standing, by_inferred, value_seen, declarator_seen, is_ambient, is_public_declarator, declarator_in, public_declarator, public_declarators, statement_seen, decl_seen, exported_seen, item_seen, items_of, visible}
-use Rattle.fast_check_skeleton.specs.Skeleton.{Answer, answer_of, transformed, skeleton_of, faults_of}
+use Rattle.fast_check_skeleton.specs.Visible.{declared_type, standing, by_inferred, declarator_seen, is_ambient, is_public_declarator, declarator_in, public_declarator, public_declarators, statement_seen, decl_seen, exported_seen, item_seen, items_of, visible}
+use Rattle.fast_check_skeleton.specs.Skeleton.{answer_of, transformed}
 use Rattle.fast_check_skeleton.specs.Hidden.{Both, IsSilentDecl, IsSilent, SameHead, SameDeclarator, SameAmbient, SameDeclarators, SameStatement, SameDecl, SameItem, SameItems, AgreeHidden}
 use Rattle.fast_check_skeleton.specs.Hidden as h
-use Rattle.fast_check_skeleton.specs.Worlds.{SameFault, SameSkeleton, SameAnswers, TwoWorlds}
+use Rattle.fast_check_skeleton.specs.Worlds.{SameFault, SameAnswers, TwoWorlds}
 use Rattle.fast_check_skeleton.proofs.InferredMoved.{inferred_type_moved}
 use Rattle.fast_check_skeleton.proofs.Moving.{moved_fault, moved_answer, map_append, answer_of_moved}
 
@@ -163,8 +163,8 @@ module _ (r : Renaming) (ok : IsRenaming r) where
         subst (λ xs. AllAlike (flat_map (public_declarator a s) ts) (xs ++ flat_map (public_declarator b s') us)) (sym (not_public b s' u q)) (declarators_alike Same s s' f ts us rest)
     declarators_alike Same s s' f (t ∷ ts) (u ∷ us) (h.SameDeclarators.next x rest) =
         append_alike (public_declarator a s t) (flat_map (public_declarator a s) ts) (public_declarator b s' u) (flat_map (public_declarator b s') us)
-            (all_alike_if (is_public_declarator a t) (is_public_declarator b u) (declarator_in a s t) (declarator_in b s' u) (f t u x).0 (f t u x).1)
-            (declarators_alike Same s s' f ts us rest)
+        (all_alike_if (is_public_declarator a t) (is_public_declarator b u) (declarator_in a s t) (declarator_in b s' u) (f t u x).0 (f t u x).1)
+        (declarators_alike Same s s' f ts us rest)
 
     -- ---- statements
 
@@ -172,7 +172,7 @@ module _ (r : Renaming) (ok : IsRenaming r) where
     statement_alike t u [] [] d p = refl
     statement_alike t u (x ∷ xs) (y ∷ ys) d p =
         λ i. form VarDecl (also (range_alike (VarDecl-span t) (VarDecl-span u) d.span i) (also (scope_alike (VarDecl-ctxt t) (VarDecl-ctxt u) d.ctxt i)
-            (also (written_alike d.kind i) (also (flag (d.declare i)) (also (form_alike List' (x ∷ xs) (y ∷ ys) p i) end))))) ∷ []
+        (also (written_alike d.kind i) (also (flag (d.declare i)) (also (form_alike List' (x ∷ xs) (y ∷ ys) p i) end))))) ∷ []
     statement_alike t u [] (y ∷ ys) d p = cc
     statement_alike t u (x ∷ xs) [] d p = cc
 
@@ -186,24 +186,35 @@ module _ (r : Renaming) (ok : IsRenaming r) where
     ambient_alike t u e f = ap₂ (λ x y. x || y) e f
 
     decl_alike : (t u : Tree) → a.is_declaration_file ≡ b.is_declaration_file → SameDecl r a b t u → (kind_of t ≡ VarDecl) × (kind_of u ≡ VarDecl) × AllAlike (decl_seen a t) (decl_seen b u)
-    decl_alike t u m (h.SameDecl.variable d n rest) = (d.kinds.left, d.kinds.right,
-        subst₂ AllAlike (sym (decl_of a t d.kinds.left)) (sym (decl_of b u d.kinds.right))
-            (statement_alike t u (public_declarators a t) (public_declarators b u) d
-                (declarators_alike (SameDeclarator r a b (mutability_of (VarDecl-kind t))) t u go (parts (VarDecl-decls t)) (parts (VarDecl-decls u)) rest)))
+    decl_alike t u m (h.SameDecl.variable d n rest) = (
+      d.kinds.left,
+      d.kinds.right,
+      subst₂ AllAlike (sym (decl_of a t d.kinds.left)) (sym (decl_of b u d.kinds.right))
+          (statement_alike t u (public_declarators a t) (public_declarators b u) d
+          (declarators_alike (SameDeclarator r a b (mutability_of (VarDecl-kind t))) t u go (parts (VarDecl-decls t)) (parts (VarDecl-decls u)) rest)),
+    )
       where
         go : (x y : Tree) → SameDeclarator r a b (mutability_of (VarDecl-kind t)) x y → (is_public_declarator a x ≡ is_public_declarator b y) × Alike (declarator_in a t x) (declarator_in b u y)
         go x y s =
-            let e = declarator_alike (mutability_of (VarDecl-kind t)) s in
-            (e.0, alike_if (is_ambient a t) (is_ambient b u) (written x) (declarator_seen (mutability_of (VarDecl-kind t)) x) (written y) (declarator_seen (mutability_of (VarDecl-kind u)) y)
-                (ambient_alike t u m d.declare) (λ e. cc) (λ f. subst (λ k. Alike (declarator_seen (mutability_of (VarDecl-kind t)) x) (declarator_seen k y)) (mutability_alike (VarDecl-kind t) (VarDecl-kind u) d.kind) e.1))
-    decl_alike t u m (h.SameDecl.ambient d n rest) = (d.kinds.left, d.kinds.right,
-        subst₂ AllAlike (sym (decl_of a t d.kinds.left)) (sym (decl_of b u d.kinds.right))
-            (statement_alike t u (public_declarators a t) (public_declarators b u) d
-                (declarators_alike (SameAmbient r a b) t u go (parts (VarDecl-decls t)) (parts (VarDecl-decls u)) rest)))
+            let e = declarator_alike (mutability_of (VarDecl-kind t)) s in (
+              e.0,
+              alike_if (is_ambient a t) (is_ambient b u) (written x) (declarator_seen (mutability_of (VarDecl-kind t)) x) (written y) (declarator_seen (mutability_of (VarDecl-kind u)) y)
+                  (ambient_alike t u m d.declare) (λ e. cc) (λ f. subst (λ k. Alike (declarator_seen (mutability_of (VarDecl-kind t)) x) (declarator_seen k y)) (mutability_alike (VarDecl-kind t) (VarDecl-kind u) d.kind) e.1),
+            )
+    decl_alike t u m (h.SameDecl.ambient d n rest) = (
+      d.kinds.left,
+      d.kinds.right,
+      subst₂ AllAlike (sym (decl_of a t d.kinds.left)) (sym (decl_of b u d.kinds.right))
+          (statement_alike t u (public_declarators a t) (public_declarators b u) d
+          (declarators_alike (SameAmbient r a b) t u go (parts (VarDecl-decls t)) (parts (VarDecl-decls u)) rest)),
+    )
       where
         go : (x y : Tree) → SameAmbient r a b x y → (is_public_declarator a x ≡ is_public_declarator b y) × Alike (declarator_in a t x) (declarator_in b u y)
-        go x y s = (s.is_public, alike_if (is_ambient a t) (is_ambient b u) (written x) (declarator_seen (mutability_of (VarDecl-kind t)) x) (written y) (declarator_seen (mutability_of (VarDecl-kind u)) y)
-            (ambient_alike t u m d.declare) (λ e. written_alike s.tree) (λ e. cc))
+        go x y s = (
+          s.is_public,
+          alike_if (is_ambient a t) (is_ambient b u) (written x) (declarator_seen (mutability_of (VarDecl-kind t)) x) (written y) (declarator_seen (mutability_of (VarDecl-kind u)) y)
+              (ambient_alike t u m d.declare) (λ e. written_alike s.tree) (λ e. cc),
+        )
 
     -- ---- items
 
@@ -219,7 +230,7 @@ module _ (r : Renaming) (ok : IsRenaming r) where
         let e = decl_alike t u m d in subst₂ AllAlike (sym (item_of a t VarDecl e.0 refl)) (sym (item_of b u VarDecl e.1 refl)) e.2
     item_alike t u m (h.SameItem.exported k s d) =
         subst₂ AllAlike (sym (export_of a t k.left)) (sym (export_of b u k.right))
-            (exported_alike t u (decl_seen a (ExportDecl-decl t)) (decl_seen b (ExportDecl-decl u)) s (decl_alike (ExportDecl-decl t) (ExportDecl-decl u) m d).2)
+        (exported_alike t u (decl_seen a (ExportDecl-decl t)) (decl_seen b (ExportDecl-decl u)) s (decl_alike (ExportDecl-decl t) (ExportDecl-decl u) m d).2)
 
     items_alike : a.is_declaration_file ≡ b.is_declaration_file → (ts us : List Tree) → SameItems r a b ts us → AllAlike (flat_map (item_seen a) ts) (flat_map (item_seen b) us)
     items_alike m [] [] h.SameItems.end = refl
@@ -248,12 +259,12 @@ module _ (r : Renaming) (ok : IsRenaming r) where
     same_answers : (t u : Tree) → AgreeHidden r a b t u → SameAnswers r a t b u
     same_answers t u g =
         let e : moved_answer (partners r) (transformed a t) ≡ moved_answer twice (transformed b u) =
-            sym (answer_of_moved (partners r) (partners_keep r ok) (visible a t)) ∙ (ap answer_of (visible_alike t u g) ∙ answer_of_moved twice twice_keeps (visible b u)) in
+        sym (answer_of_moved (partners r) (partners_keep r ok) (visible a t)) ∙ (ap answer_of (visible_alike t u g) ∙ answer_of_moved twice twice_keeps (visible b u)) in
         record {
           skeletons = record {
             body = subst₂ (SameTree r) (sym (part_node 1 Module (module_parts a t))) (sym (part_node 1 Module (module_parts b u)))
                 (tree_from r ok (list (transformed a t).trees) (list (transformed b u).trees)
-                    (node_moved (partners r) List' (transformed a t).trees ∙ (ap (λ x. list x.trees) e ∙ sym (node_moved twice List' (transformed b u).trees))));
+                (node_moved (partners r) List' (transformed a t).trees ∙ (ap (λ x. list x.trees) e ∙ sym (node_moved twice List' (transformed b u).trees))));
             shebang = subst₂ (SameTree r) (sym (part_node 2 Module (module_parts a t))) (sym (part_node 2 Module (module_parts b u))) g.shebang;
           };
           faults = faults_from (transformed a t).faults (transformed b u).faults (ap (λ x. x.faults) e);

@@ -1,7 +1,6 @@
 -- The inferred type of a moved value is the value's inferred type, moved.
-use Rattle.std.specs.Prelude.{◌≡◌, Bool, true, false, Option, Some, None, option_map, refl, if◌then◌else◌, ◌∷◌, []}
+use Rattle.std.specs.Prelude.{◌≡◌, Bool, true, false, Option, Some, None, option_map, refl, if◌then◌else◌}
 use Rattle.std.proofs.Common.{ap, ◌∙◌, sym}
-use Rattle.fast_check_syntax.specs.declared.kind.Kind.{Kind}
 use Rattle.fast_check_syntax.specs.declared.kind.Kind.TheVariants.{Str, Bool as BoolKind, Number, BigInt, Null, Regex}
 use Rattle.fast_check_syntax.specs.declared.kind.Word.{Word}
 use Rattle.fast_check_syntax.specs.declared.kind.Word.TheVariants as words
@@ -43,13 +42,13 @@ module _ (m : Moves) (ok : Keeps m) where
   pub inferred_type_moved : (mutability : DeclMutabilityKind) (t : Tree) → inferred_type mutability (moved m t) ≡ option_map (moved m) (inferred_type mutability t)
   inferred_type_moved mutability t =
       ap (λ k.
-          if k is Str then Some (literal_or_keyword mutability words.TsStringKeyword (moved m t))
-          else (if k is BoolKind then Some (literal_or_keyword mutability words.TsBooleanKeyword (moved m t))
-          else (if k is Number then Some (literal_or_keyword mutability words.TsNumberKeyword (moved m t))
-          else (if k is BigInt then Some (literal_or_keyword mutability words.TsBigIntKeyword (moved m t))
-          else (if k is Null then Some (ts_keyword_type words.TsNullKeyword)
-          else (if k is Regex then Some regex_type
-          else None)))))) (kind_of_moved m t) ∙
+      if k is Str then Some (literal_or_keyword mutability words.TsStringKeyword (moved m t))
+      else (if k is BoolKind then Some (literal_or_keyword mutability words.TsBooleanKeyword (moved m t))
+      else (if k is Number then Some (literal_or_keyword mutability words.TsNumberKeyword (moved m t))
+      else (if k is BigInt then Some (literal_or_keyword mutability words.TsBigIntKeyword (moved m t))
+      else (if k is Null then Some (ts_keyword_type words.TsNullKeyword)
+      else (if k is Regex then Some regex_type
+      else None)))))) (kind_of_moved m t) ∙
       chosen m (kind_of t is Str) _ _ _ _ (ap Some (literal_moved mutability words.TsStringKeyword t))
       (chosen m (kind_of t is BoolKind) _ _ _ _ (ap Some (literal_moved mutability words.TsBooleanKeyword t))
       (chosen m (kind_of t is Number) _ _ _ _ (ap Some (literal_moved mutability words.TsNumberKeyword t))

@@ -1,7 +1,6 @@
 -- A skeleton stands in the grammar: where there is no fault, each declarator has its type.
 use Rattle.std.specs.Prelude.{◌≡◌, Bool, true, false, ◌||◌, IsTrue, ◌⊎◌, Option, Some, None, List, [], ◌∷◌, ◌++◌, map, flat_map, refl, if◌then◌else◌}
 use Rattle.std.proofs.Common.{ap, ◌∙◌, sym, subst, inl, inr, append_assoc}
-use Rattle.fast_check_syntax.specs.declared.kind.Kind.{Kind}
 use Rattle.fast_check_syntax.specs.declared.kind.Kind.TheVariants.{Module, VarDeclarator, VarDecl, ExportDecl, BindingIdent, TsTypeAnn, List as List'}
 use Rattle.fast_check_syntax.specs.declared.source.SourceRange.{SourceRange}
 use Rattle.fast_check_syntax.specs.declared.tree.Tree as tree
@@ -10,14 +9,14 @@ use Rattle.fast_check_syntax.specs.Shape.{◌is◌, kind_of, parts, is_absent, f
 use Rattle.fast_check_syntax.proofs.Made.{kind_of_node, parts_node, part_node, is_absent_node, flag_of_flag}
 use Rattle.fast_check_program_forms.specs.Names.{BindingIdent-type_ann, binding_ident}
 use Rattle.fast_check_program_forms.specs.ModuleDecls.{ExportDecl-span, ExportDecl-decl}
-use Rattle.fast_check_program_forms.specs.Programs.{Module-span, Module-body, Module-shebang}
-use Rattle.fast_check_statement_forms.specs.Declarations.{VarDecl-span, VarDecl-ctxt, VarDecl-kind, VarDecl-declare, VarDecl-decls, VarDeclarator-span, VarDeclarator-name, VarDeclarator-init, VarDeclarator-definite}
+use Rattle.fast_check_program_forms.specs.Programs.{Module-span, Module-shebang}
+use Rattle.fast_check_statement_forms.specs.Declarations.{VarDecl-span, VarDecl-ctxt, VarDecl-kind, VarDecl-declare, VarDecl-decls, VarDeclarator-span, VarDeclarator-init, VarDeclarator-definite}
 use Rattle.fast_check_tree.specs.Builders.{type_ann, never_value}
 use Rattle.fast_check_tree.specs.declared.helpers.literal_type.DeclMutabilityKind.{DeclMutabilityKind}
 use Rattle.fast_check_skeleton.specs.Surroundings.{Surroundings}
 use Rattle.fast_check_skeleton.specs.Inferred.{inferred_type, mutability_of}
-use Rattle.fast_check_skeleton.specs.Seen.{Seen, written, form, inferred, hidden, seens}
-use Rattle.fast_check_skeleton.specs.Visible.{declared_ident, declared_type, standing, by_inferred, value_seen, declarator_seen, is_ambient, is_public_declarator, declarator_in, public_declarator, public_declarators, statement_seen, decl_seen, exported_seen, item_seen, items_of, visible}
+use Rattle.fast_check_skeleton.specs.Seen.{Seen, written, form, hidden, seens}
+use Rattle.fast_check_skeleton.specs.Visible.{declared_ident, declared_type, by_inferred, declarator_seen, is_ambient, is_public_declarator, declarator_in, public_declarator, public_declarators, statement_seen, decl_seen, exported_seen, item_seen, items_of}
 use Rattle.fast_check_skeleton.specs.Skeleton.{Answer, joined, Part, typed_declarator, answer_to, answered, answer_of, transformed, skeleton_of, faults_of}
 use Rattle.fast_check_skeleton.specs.Grammar.{IsTypedDeclarator, IsTypedStatement, IsTypedItem, IsSkeleton}
 
@@ -55,7 +54,7 @@ stands_append : (P : Tree → Type 0) (xs ys : List Seen) → Stands P xs → St
 stands_append P xs ys p q e =
     let e' = sym (ap (λ a. a.faults) (answer_append xs ys)) ∙ e in
     subst (OfAll P) (sym (ap (λ a. a.trees) (answer_append xs ys)))
-        (all_append P (answer_of xs).trees (answer_of ys).trees (p (no_left (answer_of xs).faults (answer_of ys).faults e')) (q (no_right (answer_of xs).faults (answer_of ys).faults e')))
+    (all_append P (answer_of xs).trees (answer_of ys).trees (p (no_left (answer_of xs).faults (answer_of ys).faults e')) (q (no_right (answer_of xs).faults (answer_of ys).faults e')))
 
 stands_all : (P : Tree → Type 0) (f : Tree → List Seen) (ts : List Tree) → ((t : Tree) → Stands P (f t)) → Stands P (flat_map f ts)
 stands_all P f [] p e = tt
@@ -114,12 +113,15 @@ module _ (around : Surroundings) where
   statement_stands : (statement : Tree) (ds : List Seen) → (is_ambient around statement ≡ false → Stands IsTypedDeclarator ds) →
       Stands (IsTypedStatement around.is_declaration_file) (statement_seen statement ds)
   statement_stands statement [] p e = tt
-  statement_stands statement (d ∷ ds) p e = (record {
+  statement_stands statement (d ∷ ds) p e = (
+    record {
       kind = kind_of_node VarDecl (made_parts statement (stood (d ∷ ds)).trees);
       declarators = ambient_or_typed statement (stood (d ∷ ds)).trees (is_ambient around statement) refl
           (λ n. subst (λ a. OfAll IsTypedDeclarator a.trees) (sym (stood_is (d ∷ ds)))
-              (p n (sym (ap (λ a. a.faults) (stood_is (d ∷ ds))) ∙ no_left (stood (d ∷ ds)).faults [] (no_left ((stood (d ∷ ds)).faults ++ []) [] e))));
-    }, tt)
+          (p n (sym (ap (λ a. a.faults) (stood_is (d ∷ ds))) ∙ no_left (stood (d ∷ ds)).faults [] (no_left ((stood (d ∷ ds)).faults ++ []) [] e))));
+    },
+    tt,
+  )
 
   decl_stands : (decl : Tree) → Stands (IsTypedStatement around.is_declaration_file) (decl_seen around decl)
   decl_stands decl = go (kind_of decl is VarDecl)
@@ -134,10 +136,14 @@ module _ (around : Surroundings) where
   export_stands export false ds p e = tt
   export_stands export true [] p e = tt
   export_stands export true (d ∷ ds) p e =
-      let made = node VarDecl (made_parts (ExportDecl-decl export) (stood (d ∷ ds)).trees) in
-      (inr (kind_of_node ExportDecl (tree.Range (ExportDecl-span export) ∷ made ∷ []),
+      let made = node VarDecl (made_parts (ExportDecl-decl export) (stood (d ∷ ds)).trees) in (
+        inr (
+          kind_of_node ExportDecl (tree.Range (ExportDecl-span export) ∷ made ∷ []),
           subst (IsTypedStatement around.is_declaration_file) (sym (part_node 1 ExportDecl (tree.Range (ExportDecl-span export) ∷ made ∷ [])))
-              (statement_stands (ExportDecl-decl export) (d ∷ ds) p (no_left ((answer_of (statement_seen (ExportDecl-decl export) (d ∷ ds))).faults) [] e)).0), tt)
+              (statement_stands (ExportDecl-decl export) (d ∷ ds) p (no_left ((answer_of (statement_seen (ExportDecl-decl export) (d ∷ ds))).faults) [] e)).0,
+        ),
+        tt,
+      )
 
   item_stands : (item : Tree) → Stands (IsTypedItem around.is_declaration_file) (item_seen around item)
   item_stands item = go (kind_of item is ExportDecl)
@@ -145,6 +151,7 @@ module _ (around : Surroundings) where
       wrap : (ts : List Tree) → OfAll (IsTypedStatement around.is_declaration_file) ts → OfAll (IsTypedItem around.is_declaration_file) ts
       wrap [] h = tt
       wrap (t ∷ ts) h = (inl h.0, wrap ts h.1)
+
       go : (b : Bool) → Stands (IsTypedItem around.is_declaration_file) (if b then exported_seen item (decl_seen around (ExportDecl-decl item)) else decl_seen around item)
       go true e = export_stands item (kind_of (ExportDecl-decl item) is VarDecl) (public_declarators around (ExportDecl-decl item)) (declarators_stand (ExportDecl-decl item)) e
       go false e = wrap (answer_of (decl_seen around item)).trees (decl_stands item e)

@@ -1,6 +1,6 @@
 -- Stage 1 of the meaning of a transform: what is seen of a module.
 -- All that is asked outside the tree is asked here. What follows sees nothing that is hidden.
-use Rattle.std.specs.Prelude.{Bool, true, false, ◌||◌, if◌then◌else◌, Option, Some, None, List, [], ◌∷◌}
+use Rattle.std.specs.Prelude.{Bool, ◌||◌, if◌then◌else◌, Option, Some, None, List, [], ◌∷◌}
 use Rattle.std.specs.List.{flat_map}
 use Rattle.fast_check_syntax.specs.declared.kind.Kind.TheVariants.{VarDeclarator, VarDecl, ExportDecl, List as List'}
 use Rattle.fast_check_syntax.specs.declared.tree.Tree.{Tree}
@@ -37,7 +37,7 @@ value_seen mutability type value = if is_absent type then by_inferred (inferred_
 abbrev pub declarator_seen : DeclMutabilityKind → Tree → Seen
 declarator_seen mutability d =
     form VarDeclarator (seens (range (VarDeclarator-span d) ∷ written (declared_ident d) ∷ flag (VarDeclarator-definite d) ∷ standing (declared_type d) ∷
-        value_seen mutability (declared_type d) (VarDeclarator-init d) ∷ []))
+    value_seen mutability (declared_type d) (VarDeclarator-init d) ∷ []))
 
 -- ambient declarations stand as they are written: those of a declaration file, and those that are declared
 abbrev pub is_ambient : Surroundings → Tree → Bool
@@ -63,7 +63,7 @@ abbrev pub statement_seen : Tree → List Seen → List Seen
 statement_seen statement [] = []
 statement_seen statement (d ∷ ds) =
     form VarDecl (seens (range (VarDecl-span statement) ∷ scope (VarDecl-ctxt statement) ∷ written (VarDecl-kind statement) ∷
-        flag (VarDecl-declare statement) ∷ form List' (seens (d ∷ ds)) ∷ [])) ∷ []
+    flag (VarDecl-declare statement) ∷ form List' (seens (d ∷ ds)) ∷ [])) ∷ []
 
 -- a declaration
 abbrev pub decl_seen : Surroundings → Tree → List Seen
