@@ -1,30 +1,31 @@
 -- The two modules of the example agree but for what is hidden.
-use Rattle.std.specs.Prelude.{◌≡◌, ℕ, ◌==◌, Bool, false, List, [], ◌∷◌, refl, ◌↔◌}
-use Rattle.std.proofs.Common.{inl, inr, arith, ap, ◌∙◌, sym, subst, subst₂}
+use Rattle.std.specs.Prelude.{◌≡◌, ℕ, Bool, false, List, [], ◌∷◌, refl, ◌↔◌}
+use Rattle.std.proofs.Common.{inl, inr, arith, ap, ◌∙◌, sym, subst₂}
 use Rattle.fast_check_syntax.specs.declared.kind.Kind.{Kind}
-use Rattle.fast_check_syntax.specs.declared.kind.Kind.TheVariants.{Module, VarDecl, VarDeclarator, ExportDecl, FnDecl, Function, BindingIdent, TsTypeAnn, TsKeywordType, List as List'}
+use Rattle.fast_check_syntax.specs.declared.kind.Kind.TheVariants.{Module, VarDecl, VarDeclarator, ExportDecl, BindingIdent, TsTypeAnn, TsKeywordType, List as List'}
 use Rattle.fast_check_syntax.specs.declared.kind.Word.TheVariants as words
 use Rattle.fast_check_syntax.specs.declared.source.SourceRange.{SourceRange}
 use Rattle.fast_check_syntax.specs.declared.source.SyntaxContext.{SyntaxContext}
 use Rattle.fast_check_syntax.specs.declared.tree.Tree as tree
 use Rattle.fast_check_syntax.specs.declared.tree.Tree.{Tree, Absent, roll-Tree, out-roll-Tree}
 use Rattle.fast_check_syntax.specs.declared.tree.Tree.TheOpen.{Tree-F}
-use Rattle.fast_check_syntax.specs.Shape.{kind_of, parts, part, is_absent, node, list, range_of, flag_of, context_at, context_of}
-use Rattle.fast_check_syntax.specs.Moves.{Renaming, IsRenaming, IsPair, partners, twice, moved}
+use Rattle.fast_check_syntax.specs.Shape.{parts, part, is_absent, node, list, range_of, flag_of, context_at, context_of}
+use Rattle.fast_check_syntax.specs.Moves.{IsRenaming, IsPair, partners, twice, moved}
 use Rattle.fast_check_syntax.specs.Same.{SameTree, SameRange}
 use Rattle.fast_check_syntax.proofs.Made.{kind_of_node, parts_node, part_node, is_absent_node, flag_of_flag, range_of_range}
 use Rattle.fast_check_syntax.proofs.Moved.{node_moved, absent_moved, flag_moved, word_moved, text_moved, context_moved, range_moved}
 use Rattle.fast_check_syntax.proofs.Same.{tree_from}
 use Rattle.fast_check_program_forms.specs.Names.{BindingIdent-id, BindingIdent-type_ann, binding_ident}
 use Rattle.fast_check_program_forms.specs.ModuleDecls.{ExportDecl-span, ExportDecl-decl, export_decl}
-use Rattle.fast_check_program_forms.specs.Programs.{Module-body, Module-shebang, module'}
-use Rattle.fast_check_class_forms.specs.Functions.{Function-span}
-use Rattle.fast_check_statement_forms.specs.Declarations.{FnDecl-function, VarDecl-span, VarDecl-ctxt, VarDecl-kind, VarDecl-declare, VarDecl-decls, VarDeclarator-span, VarDeclarator-name, VarDeclarator-init, VarDeclarator-definite, var_decl, var_declarator}
+use Rattle.fast_check_program_forms.specs.Programs.{module'}
+use Rattle.fast_check_statement_forms.specs.Declarations.{VarDecl-ctxt, VarDecl-kind, VarDecl-declare, VarDecl-decls, VarDeclarator-span, VarDeclarator-definite, var_decl, var_declarator}
+use Rattle.fast_check_tree.specs.Builders.{never_value}
 use Rattle.fast_check_skeleton.specs.Surroundings.{Surroundings}
 use Rattle.fast_check_skeleton.specs.Mutability.{mutability_of}
-use Rattle.fast_check_skeleton.specs.Visible.{declared_ident, declared_type, is_ambient, is_public_declarator, items_of}
+use Rattle.fast_check_skeleton.specs.Visible.{declared_ident, declared_type, items_of}
 use Rattle.fast_check_skeleton.specs.Hidden.{AgreeHidden, SameHead, SameDeclarator, SameDeclarators, SameStatement, SameDecl, SameItem, SameItems}
 use Rattle.fast_check_skeleton.specs.Hidden as h
+use Rattle.fast_check_skeleton.specs.Skeleton.{skeleton_of}
 use Rattle.fast_check_skeleton.specs.Example.{at, scope, name, annotation, declarator, statement, exported, text_value, first, hidden_function, name_value, second, renaming, around, Example}
 use Rattle.fast_check_skeleton.proofs.Agreeing.{two_worlds}
 
@@ -171,8 +172,8 @@ statements = record {
 decls : (p q : SourceRange) → SameDecl renaming a b p q first_statement second_statement
 decls p q = h.SameDecl.variable statements (declare_made (at 8 30) (scope 0) const false (first_declarator ∷ []))
     (subst₂ (SameDeclarators renaming a b (SameDeclarator renaming a b (mutability_of (VarDecl-kind first_statement))))
-        (sym (decls_made (at 8 30) (scope 0) const false (first_declarator ∷ []))) (sym (decls_made (at 24 44) (scope 0) const false (second_declarator ∷ [])))
-        (h.SameDeclarators.next (h.SameDeclarator.typed heads is_typed) h.SameDeclarators.end))
+    (sym (decls_made (at 8 30) (scope 0) const false (first_declarator ∷ []))) (sym (decls_made (at 24 44) (scope 0) const false (second_declarator ∷ [])))
+    (h.SameDeclarators.next (h.SameDeclarator.typed heads is_typed) h.SameDeclarators.end))
 
 abbrev first_export : SourceRange
 first_export = ExportDecl-span (exported 1 2 text_value 29)
@@ -183,7 +184,7 @@ second_export = ExportDecl-span (exported 17 3 name_value 43)
 exports : SameItem renaming a b (exported 1 2 text_value 29) (exported 17 3 name_value 43)
 exports = h.SameItem.exported (record { left = simp kind_of_node; right = simp kind_of_node })
     (subst₂ (SameRange renaming) (sym (span_made ExportDecl (at 1 30) (first_statement ∷ []))) (sym (span_made ExportDecl (at 17 44) (second_statement ∷ [])))
-        (record { start = inr (inl (refl, refl)); end = inr (inr (inr (inr (inl (refl, refl))))) }))
+    (record { start = inr (inl (refl, refl)); end = inr (inr (inr (inr (inl (refl, refl))))) }))
     (subst₂ (SameDecl renaming a b first_export second_export) (sym (decl_made (at 1 30) first_statement)) (sym (decl_made (at 17 44) second_statement)) (decls first_export second_export))
 
 silent : h.IsSilent b hidden_function
@@ -202,5 +203,8 @@ agree = record {
       (same Absent Absent same_absent);
 }
 
+skeleton_is : skeleton_of a first ≡ module' (at 1 30) (list (exported 1 2 never_value 29 ∷ [])) Absent
+skeleton_is = simp (parts_node, kind_of_node, range_of_range, flag_of_flag, context_of_context, is_absent_node)
+
 pub example : Example
-example = record { one_to_one = is_renaming; agree = agree; answers = two_worlds a first b second renaming is_renaming agree }
+example = record { one_to_one = is_renaming; agree = agree; answers = two_worlds a first b second renaming is_renaming agree; skeleton = skeleton_is }

@@ -1,6 +1,6 @@
 -- Two modules that agree but for what is hidden, so that the law of two worlds speaks of something:
 -- `export const x: string = "a";`, and behind a hidden function and with another value `function g() {}` and `export const x: string = y;`.
-use Rattle.std.specs.Prelude.{ℕ, ◌+◌, ◌==◌, false, List, [], ◌∷◌}
+use Rattle.std.specs.Prelude.{◌≡◌, ℕ, ◌+◌, ◌==◌, false, [], ◌∷◌}
 use Rattle.fast_check_syntax.specs.declared.kind.Word.TheVariants as words
 use Rattle.fast_check_syntax.specs.declared.source.SourceRange.{SourceRange}
 use Rattle.fast_check_syntax.specs.declared.source.SyntaxContext.{SyntaxContext}
@@ -17,8 +17,10 @@ use Rattle.fast_check_statement_forms.specs.Declarations.{fn_decl, var_decl, var
 use Rattle.fast_check_statement_forms.specs.Statements.{block_stmt}
 use Rattle.fast_check_type_forms.specs.Types.{ts_keyword_type}
 use Rattle.fast_check_type_forms.specs.TypeParams.{ts_type_ann}
+use Rattle.fast_check_tree.specs.Builders.{never_value}
 use Rattle.fast_check_skeleton.specs.Surroundings.{Surroundings}
 use Rattle.fast_check_skeleton.specs.Hidden.{AgreeHidden}
+use Rattle.fast_check_skeleton.specs.Skeleton.{skeleton_of}
 use Rattle.fast_check_skeleton.specs.Worlds.{SameAnswers}
 
 -- from one place to another
@@ -59,7 +61,7 @@ first = module' (at 1 30) (list (exported 1 2 text_value 29 ∷ [])) Absent
 abbrev pub hidden_function : Tree
 hidden_function =
     fn_decl (ident (at 10 11) (scope 3) (103 ∷ []) false) false
-        (function (at 1 16) (list []) (list []) (scope 4) (block_stmt (at 14 16) (scope 4) (list [])) false false Absent Absent)
+    (function (at 1 16) (list []) (list []) (scope 4) (block_stmt (at 14 16) (scope 4) (list [])) false false Absent Absent)
 
 -- `y` at 42
 abbrev pub name_value : Tree
@@ -80,8 +82,9 @@ renaming = record {
 abbrev pub around : ℕ → Surroundings
 around place = record { is_public = λ r. r.start.0 == place; unresolved = scope 1; is_declaration_file = false }
 
--- they agree, and so the law says that their answers are the same
+-- they agree, and so the law says that their answers are the same: the first is `export const x: string = {} as never;`
 pub record Example : Type 0 where
   pub one_to_one : IsRenaming renaming
   pub agree : AgreeHidden renaming (around 14) (around 30) first second
   pub answers : SameAnswers renaming (around 14) first (around 30) second
+  pub skeleton : skeleton_of (around 14) first ≡ module' (at 1 30) (list (exported 1 2 never_value 29 ∷ [])) Absent

@@ -1,5 +1,5 @@
 -- Stage 2 of the meaning of a transform: the skeleton and the faults, by cases on what is seen. Nothing is asked outside, and nothing that is hidden is there to be read.
-use Rattle.std.specs.Prelude.{Bool, true, false, List, [], ◌∷◌, map, if◌then◌else◌}
+use Rattle.std.specs.Prelude.{Bool, List, [], ◌∷◌, map, if◌then◌else◌}
 use Rattle.std.specs.List.{flat_map}
 use Rattle.fast_check_syntax.specs.declared.kind.Kind.{Kind}
 use Rattle.fast_check_syntax.specs.declared.kind.Kind.TheVariants.{VarDeclarator}

@@ -1,5 +1,5 @@
 -- The law of two worlds: a hidden edit changes no skeleton and no fault.
-use Rattle.std.specs.Prelude.{◌≡◌, List}
+use Rattle.std.specs.Prelude.{◌≡◌}
 use Rattle.fast_check_syntax.specs.declared.tree.Tree.{Tree}
 use Rattle.fast_check_syntax.specs.Moves.{Renaming, IsRenaming}
 use Rattle.fast_check_syntax.specs.Same.{SameTree, SameRange, Each}
