@@ -216,8 +216,8 @@ module _ (r : Renaming) (ok : IsRenaming r) where
         subst (λ xs. AllAlike (flat_map (public_declarator a s) ts) (xs ++ flat_map (public_declarator b s') us)) (sym (not_public b s' u q)) (declarators_alike Same s s' f ts us rest)
     declarators_alike Same s s' f (t ∷ ts) (u ∷ us) (h.SameDeclarators.next x rest) =
         append_alike (public_declarator a s t) (flat_map (public_declarator a s) ts) (public_declarator b s' u) (flat_map (public_declarator b s') us)
-            (all_alike_if (is_public_declarator a t) (is_public_declarator b u) (declarator_in a s t) (declarator_in b s' u) (f t u x).0 (f t u x).1)
-            (declarators_alike Same s s' f ts us rest)
+        (all_alike_if (is_public_declarator a t) (is_public_declarator b u) (declarator_in a s t) (declarator_in b s' u) (f t u x).0 (f t u x).1)
+        (declarators_alike Same s s' f ts us rest)
 
     -- ---- statements
 
@@ -225,7 +225,7 @@ module _ (r : Renaming) (ok : IsRenaming r) where
     statement_alike t u [] [] d p = refl
     statement_alike t u (x ∷ xs) (y ∷ ys) d p =
         λ i. form VarDecl (also (range_alike (VarDecl-span t) (VarDecl-span u) d.span i) (also (scope_alike (VarDecl-ctxt t) (VarDecl-ctxt u) d.ctxt i)
-            (also (written_alike d.kind i) (also (flag (d.declare i)) (also (form_alike List' (x ∷ xs) (y ∷ ys) p i) end))))) ∷ []
+        (also (written_alike d.kind i) (also (flag (d.declare i)) (also (form_alike List' (x ∷ xs) (y ∷ ys) p i) end))))) ∷ []
     statement_alike t u [] (y ∷ ys) d p = cc
     statement_alike t u (x ∷ xs) [] d p = cc
 
@@ -243,30 +243,42 @@ module _ (r : Renaming) (ok : IsRenaming r) where
     DeclsAlike p q t u = (kind_of t is ExportDecl ≡ false) × (kind_of u is ExportDecl ≡ false) × AllAlike (decl_seen a p t) (decl_seen b q u)
 
     decl_alike : IsPair r.scopes a.unresolved.0 b.unresolved.0 → a.is_declaration_file ≡ b.is_declaration_file → (p q : SourceRange) (t u : Tree) → SameDecl r a b p q t u → DeclsAlike p q t u
-    decl_alike c m p q t u (h.SameDecl.variable d n rest) = (ap (λ k. k is ExportDecl) d.kinds.left, ap (λ k. k is ExportDecl) d.kinds.right,
-        subst₂ AllAlike (sym (decl_of a p t d.kinds.left)) (sym (decl_of b q u d.kinds.right))
-            (statement_alike t u (public_declarators a t) (public_declarators b u) d
-                (declarators_alike (SameDeclarator r a b (mutability_of (VarDecl-kind t))) t u go (parts (VarDecl-decls t)) (parts (VarDecl-decls u)) rest)))
+    decl_alike c m p q t u (h.SameDecl.variable d n rest) = (
+      ap (λ k. k is ExportDecl) d.kinds.left,
+      ap (λ k. k is ExportDecl) d.kinds.right,
+      subst₂ AllAlike (sym (decl_of a p t d.kinds.left)) (sym (decl_of b q u d.kinds.right))
+          (statement_alike t u (public_declarators a t) (public_declarators b u) d
+          (declarators_alike (SameDeclarator r a b (mutability_of (VarDecl-kind t))) t u go (parts (VarDecl-decls t)) (parts (VarDecl-decls u)) rest)),
+    )
       where
         go : (x y : Tree) → SameDeclarator r a b (mutability_of (VarDecl-kind t)) x y → (is_public_declarator a x ≡ is_public_declarator b y) × Alike (declarator_in a t x) (declarator_in b u y)
         go x y s =
-            let e = declarator_alike c (mutability_of (VarDecl-kind t)) s in
-            (e.0, alike_if (is_ambient a t) (is_ambient b u) (written x) (declarator_seen a (mutability_of (VarDecl-kind t)) x) (written y) (declarator_seen b (mutability_of (VarDecl-kind u)) y)
-                (ambient_alike t u m d.declare) (λ e. cc) (λ f. subst (λ k. Alike (declarator_seen a (mutability_of (VarDecl-kind t)) x) (declarator_seen b k y)) (mutability_alike (VarDecl-kind t) (VarDecl-kind u) d.kind) e.1))
-    decl_alike c m p q t u (h.SameDecl.ambient d n rest) = (ap (λ k. k is ExportDecl) d.kinds.left, ap (λ k. k is ExportDecl) d.kinds.right,
-        subst₂ AllAlike (sym (decl_of a p t d.kinds.left)) (sym (decl_of b q u d.kinds.right))
-            (statement_alike t u (public_declarators a t) (public_declarators b u) d
-                (declarators_alike (SameAmbient r a b) t u go (parts (VarDecl-decls t)) (parts (VarDecl-decls u)) rest)))
+            let e = declarator_alike c (mutability_of (VarDecl-kind t)) s in (
+              e.0,
+              alike_if (is_ambient a t) (is_ambient b u) (written x) (declarator_seen a (mutability_of (VarDecl-kind t)) x) (written y) (declarator_seen b (mutability_of (VarDecl-kind u)) y)
+                  (ambient_alike t u m d.declare) (λ e. cc) (λ f. subst (λ k. Alike (declarator_seen a (mutability_of (VarDecl-kind t)) x) (declarator_seen b k y)) (mutability_alike (VarDecl-kind t) (VarDecl-kind u) d.kind) e.1),
+            )
+    decl_alike c m p q t u (h.SameDecl.ambient d n rest) = (
+      ap (λ k. k is ExportDecl) d.kinds.left,
+      ap (λ k. k is ExportDecl) d.kinds.right,
+      subst₂ AllAlike (sym (decl_of a p t d.kinds.left)) (sym (decl_of b q u d.kinds.right))
+          (statement_alike t u (public_declarators a t) (public_declarators b u) d
+          (declarators_alike (SameAmbient r a b) t u go (parts (VarDecl-decls t)) (parts (VarDecl-decls u)) rest)),
+    )
       where
         go : (x y : Tree) → SameAmbient r a b x y → (is_public_declarator a x ≡ is_public_declarator b y) × Alike (declarator_in a t x) (declarator_in b u y)
-        go x y s = (s.is_public, alike_if (is_ambient a t) (is_ambient b u) (written x) (declarator_seen a (mutability_of (VarDecl-kind t)) x) (written y) (declarator_seen b (mutability_of (VarDecl-kind u)) y)
-            (ambient_alike t u m d.declare) (λ e. written_alike s.tree) (λ e. cc))
-
+        go x y s = (
+          s.is_public,
+          alike_if (is_ambient a t) (is_ambient b u) (written x) (declarator_seen a (mutability_of (VarDecl-kind t)) x) (written y) (declarator_seen b (mutability_of (VarDecl-kind u)) y)
+              (ambient_alike t u m d.declare) (λ e. written_alike s.tree) (λ e. cc),
+        )
     decl_alike c m p q t u (h.SameDecl.standing k d s e f) =
         let st = ap is_standing d.left ∙ s in
-        let su = ap is_standing d.right ∙ s in
-        (stands_apart (kind_of t) ExportDecl st refl, stands_apart (kind_of u) ExportDecl su refl,
-            subst₂ AllAlike (sym (standing_of a p t st)) (sym (standing_of b q u su)) (all_alike_if (a.is_public p) (b.is_public q) (written t) (written u) e (written_alike f)))
+        let su = ap is_standing d.right ∙ s in (
+          stands_apart (kind_of t) ExportDecl st refl,
+          stands_apart (kind_of u) ExportDecl su refl,
+          subst₂ AllAlike (sym (standing_of a p t st)) (sym (standing_of b q u su)) (all_alike_if (a.is_public p) (b.is_public q) (written t) (written u) e (written_alike f)),
+        )
 
     -- ---- items
 
@@ -282,8 +294,8 @@ module _ (r : Renaming) (ok : IsRenaming r) where
         let e = decl_alike c m (own_range t) (own_range u) t u d in subst₂ AllAlike (sym (item_of a t e.0)) (sym (item_of b u e.1)) e.2
     item_alike c m t u (h.SameItem.exported k s d) =
         subst₂ AllAlike (sym (export_of a t k.left)) (sym (export_of b u k.right))
-            (exported_alike t u (decl_seen a (ExportDecl-span t) (ExportDecl-decl t)) (decl_seen b (ExportDecl-span u) (ExportDecl-decl u)) s
-                (decl_alike c m (ExportDecl-span t) (ExportDecl-span u) (ExportDecl-decl t) (ExportDecl-decl u) d).2)
+        (exported_alike t u (decl_seen a (ExportDecl-span t) (ExportDecl-decl t)) (decl_seen b (ExportDecl-span u) (ExportDecl-decl u)) s
+        (decl_alike c m (ExportDecl-span t) (ExportDecl-span u) (ExportDecl-decl t) (ExportDecl-decl u) d).2)
 
     items_alike : IsPair r.scopes a.unresolved.0 b.unresolved.0 → a.is_declaration_file ≡ b.is_declaration_file → (ts us : List Tree) → SameItems r a b ts us → AllAlike (flat_map (item_seen a) ts) (flat_map (item_seen b) us)
     items_alike c m [] [] h.SameItems.end = refl
@@ -312,12 +324,12 @@ module _ (r : Renaming) (ok : IsRenaming r) where
     same_answers : (t u : Tree) → AgreeHidden r a b t u → SameAnswers r a t b u
     same_answers t u g =
         let e : moved_answer (partners r) (transformed a t) ≡ moved_answer twice (transformed b u) =
-            sym (answer_of_moved (partners r) (partners_keep r ok) (visible a t)) ∙ (ap answer_of (visible_alike t u g) ∙ answer_of_moved twice twice_keeps (visible b u)) in
+        sym (answer_of_moved (partners r) (partners_keep r ok) (visible a t)) ∙ (ap answer_of (visible_alike t u g) ∙ answer_of_moved twice twice_keeps (visible b u)) in
         record {
           skeletons = record {
             body = subst₂ (SameTree r) (sym (part_node 1 Module (module_parts a t))) (sym (part_node 1 Module (module_parts b u)))
                 (tree_from r ok (list (transformed a t).trees) (list (transformed b u).trees)
-                    (node_moved (partners r) List' (transformed a t).trees ∙ (ap (λ x. list x.trees) e ∙ sym (node_moved twice List' (transformed b u).trees))));
+                (node_moved (partners r) List' (transformed a t).trees ∙ (ap (λ x. list x.trees) e ∙ sym (node_moved twice List' (transformed b u).trees))));
             shebang = subst₂ (SameTree r) (sym (part_node 2 Module (module_parts a t))) (sym (part_node 2 Module (module_parts b u))) g.shebang;
           };
           faults = faults_from (transformed a t).faults (transformed b u).faults (ap (λ x. x.faults) e);

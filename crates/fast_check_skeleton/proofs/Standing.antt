@@ -56,7 +56,7 @@ stands_append : (P : Tree → Type 0) (xs ys : List Seen) → Stands P xs → St
 stands_append P xs ys p q e =
     let e' = sym (ap (λ a. a.faults) (answer_append xs ys)) ∙ e in
     subst (OfAll P) (sym (ap (λ a. a.trees) (answer_append xs ys)))
-        (all_append P (answer_of xs).trees (answer_of ys).trees (p (no_left (answer_of xs).faults (answer_of ys).faults e')) (q (no_right (answer_of xs).faults (answer_of ys).faults e')))
+    (all_append P (answer_of xs).trees (answer_of ys).trees (p (no_left (answer_of xs).faults (answer_of ys).faults e')) (q (no_right (answer_of xs).faults (answer_of ys).faults e')))
 
 stands_all : (P : Tree → Type 0) (f : Tree → List Seen) (ts : List Tree) → ((t : Tree) → Stands P (f t)) → Stands P (flat_map f ts)
 stands_all P f [] p e = tt
@@ -115,12 +115,15 @@ module _ (around : Surroundings) where
   statement_stands : (statement : Tree) (ds : List Seen) → (is_ambient around statement ≡ false → Stands IsTypedDeclarator ds) →
       Stands (IsTypedStatement around.is_declaration_file) (statement_seen statement ds)
   statement_stands statement [] p e = tt
-  statement_stands statement (d ∷ ds) p e = (record {
+  statement_stands statement (d ∷ ds) p e = (
+    record {
       kind = kind_of_node VarDecl (made_parts statement (stood (d ∷ ds)).trees);
       declarators = ambient_or_typed statement (stood (d ∷ ds)).trees (is_ambient around statement) refl
           (λ n. subst (λ a. OfAll IsTypedDeclarator a.trees) (sym (stood_is (d ∷ ds)))
-              (p n (sym (ap (λ a. a.faults) (stood_is (d ∷ ds))) ∙ no_left (stood (d ∷ ds)).faults [] (no_left ((stood (d ∷ ds)).faults ++ []) [] e))));
-    }, tt)
+          (p n (sym (ap (λ a. a.faults) (stood_is (d ∷ ds))) ∙ no_left (stood (d ∷ ds)).faults [] (no_left ((stood (d ∷ ds)).faults ++ []) [] e))));
+    },
+    tt,
+  )
 
   abbrev IsDecl : Tree → Type 0
   IsDecl = IsTypedDecl around.is_declaration_file
@@ -164,9 +167,13 @@ module _ (around : Surroundings) where
       let made = one.0 in
       let decl : IsDecl made = (subst (OfAll IsDecl) (append-nil (answer_to s).trees ∙ one.1) q).0 in
       subst (λ ts. OfAll (IsTypedItem around.is_declaration_file) (node ExportDecl (tree.Range (ExportDecl-span export) ∷ ts) ∷ []))
-          (sym (append-nil (answer_to s).trees ∙ one.1))
-          (inr (kind_of_node ExportDecl (tree.Range (ExportDecl-span export) ∷ made ∷ []),
-              subst IsDecl (sym (part_node 1 ExportDecl (tree.Range (ExportDecl-span export) ∷ made ∷ []))) decl), tt)
+      (sym (append-nil (answer_to s).trees ∙ one.1)) (
+        inr (
+          kind_of_node ExportDecl (tree.Range (ExportDecl-span export) ∷ made ∷ []),
+          subst IsDecl (sym (part_node 1 ExportDecl (tree.Range (ExportDecl-span export) ∷ made ∷ []))) decl,
+        ),
+        tt,
+      )
   export_stands export (s ∷ t ∷ ss) one p e = absurd one
 
   item_stands : (item : Tree) → Stands (IsTypedItem around.is_declaration_file) (item_seen around item)
@@ -175,6 +182,7 @@ module _ (around : Surroundings) where
       wrap : (ts : List Tree) → OfAll IsDecl ts → OfAll (IsTypedItem around.is_declaration_file) ts
       wrap [] h = tt
       wrap (t ∷ ts) h = (inl h.0, wrap ts h.1)
+
       go : (b : Bool) → Stands (IsTypedItem around.is_declaration_file) (if b then exported_seen item (decl_seen around (ExportDecl-span item) (ExportDecl-decl item)) else decl_seen around (own_range item) item)
       go true e = export_stands item (decl_seen around (ExportDecl-span item) (ExportDecl-decl item)) (decl_one (ExportDecl-span item) (ExportDecl-decl item)) (decl_stands (ExportDecl-span item) (ExportDecl-decl item)) e
       go false e = wrap (answer_of (decl_seen around (own_range item) item)).trees (decl_stands (own_range item) item e)

@@ -41,7 +41,7 @@ value_seen around mutability type value = if is_absent type then by_inferred (in
 abbrev pub declarator_seen : Surroundings → DeclMutabilityKind → Tree → Seen
 declarator_seen around mutability d =
     form VarDeclarator (seens (range (VarDeclarator-span d) ∷ written (declared_ident d) ∷ flag (VarDeclarator-definite d) ∷ standing (declared_type d) ∷
-        value_seen around mutability (declared_type d) (VarDeclarator-init d) ∷ []))
+    value_seen around mutability (declared_type d) (VarDeclarator-init d) ∷ []))
 
 -- ambient declarations stand as they are written: those of a declaration file, and those that are declared
 abbrev pub is_ambient : Surroundings → Tree → Bool
@@ -67,7 +67,7 @@ abbrev pub statement_seen : Tree → List Seen → List Seen
 statement_seen statement [] = []
 statement_seen statement (d ∷ ds) =
     form VarDecl (seens (range (VarDecl-span statement) ∷ scope (VarDecl-ctxt statement) ∷ written (VarDecl-kind statement) ∷
-        flag (VarDecl-declare statement) ∷ form List' (seens (d ∷ ds)) ∷ [])) ∷ []
+    flag (VarDecl-declare statement) ∷ form List' (seens (d ∷ ds)) ∷ [])) ∷ []
 
 -- interfaces, type aliases and enums stand as they are written
 abbrev pub is_standing : Kind → Bool

@@ -39,7 +39,10 @@ fn is_program(kind: Kind) -> bool
 fn are_carried_items(unresolved: SyntaxContext, items: Part<'_>) -> bool
     ensures { result ≡ list_all (is_carried_item unresolved) (parts (seen items.entry)) }
 {
-    items.parts().iter().all(|item| is_carried_item(unresolved, item.read()))
+    items
+        .parts()
+        .iter()
+        .all(|item| is_carried_item(unresolved, item.read()))
 }
 
 fn is_carried_item(unresolved: SyntaxContext, item: Part<'_>) -> bool

@@ -85,7 +85,13 @@ pub fn transform(
     let source = es_module_info.source();
     let mut comments = CommentsMut::new(source.comments.clone()?);
     let mut faults = Vec::new(alloc);
-    let program = keep_program(alloc, asked, source.program.read(), &mut comments, &mut faults)?;
+    let program = keep_program(
+        alloc,
+        asked,
+        source.program.read(),
+        &mut comments,
+        &mut faults,
+    )?;
     if !faults.is_empty() {
         let first_alone = options.should_error_on_first_diagnostic;
         return Ok(Err(tell(alloc, es_module_info, faults, first_alone)?));

@@ -41,8 +41,8 @@ module _ (m : Moves) (ok : Keeps m) where
   pub is_global_moved : (name : List ℕ) (u : SyntaxContext) (t : Tree) → is_global name (moved_scope m u) (moved m t) ≡ is_global name u t
   is_global_moved name u t =
       ap₂ (λ k b. (k is Ident) && b) (kind_of_moved m t)
-          (ap₂ (λ x y. bytes_eq x name && y) (ap text_of (part_moved m 2 t) ∙ text_of_moved m (part 2 t))
-              (ap (λ c. c.0 == m.scopes u.0) (ap context_of (part_moved m 1 t) ∙ context_of_moved (part 1 t)) ∙ same_scope (context_of (part 1 t)).0 u.0))
+      (ap₂ (λ x y. bytes_eq x name && y) (ap text_of (part_moved m 2 t) ∙ text_of_moved m (part 2 t))
+      (ap (λ c. c.0 == m.scopes u.0) (ap context_of (part_moved m 1 t) ∙ context_of_moved (part 1 t)) ∙ same_scope (context_of (part 1 t)).0 u.0))
 
   pub is_plain_name_moved : (name : List ℕ) (t : Tree) → is_plain_name name (moved m t) ≡ is_plain_name name t
   is_plain_name_moved name t =
@@ -51,8 +51,8 @@ module _ (m : Moves) (ok : Keeps m) where
   pub is_global_member_moved : (object name : List ℕ) (u : SyntaxContext) (t : Tree) → is_global_member object name (moved_scope m u) (moved m t) ≡ is_global_member object name u t
   is_global_member_moved object name u t =
       ap₂ (λ k b. (k is MemberExpr) && b) (kind_of_moved m t)
-          (ap₂ ◌&&◌ (ap (is_global object (moved_scope m u)) (part_moved m 1 t) ∙ is_global_moved object u (part 1 t))
-              (ap (is_plain_name name) (part_moved m 2 t) ∙ is_plain_name_moved name (part 2 t)))
+      (ap₂ ◌&&◌ (ap (is_global object (moved_scope m u)) (part_moved m 1 t) ∙ is_global_moved object u (part 1 t))
+      (ap (is_plain_name name) (part_moved m 2 t) ∙ is_plain_name_moved name (part 2 t)))
 
   description_moved : (ts : List Tree) → is_symbol_description (map (moved m) ts) ≡ is_symbol_description ts
   description_moved [] = refl
@@ -62,5 +62,5 @@ module _ (m : Moves) (ok : Keeps m) where
   pub is_symbol_call_moved : (u : SyntaxContext) (callee args : Tree) → is_symbol_call (moved_scope m u) (moved m callee) (moved m args) ≡ is_symbol_call u callee args
   is_symbol_call_moved u callee args =
       ap₂ ◌&&◌
-          (ap₂ ◌||◌ (is_global_moved (codes "Symbol") u callee) (is_global_member_moved (codes "Symbol") (codes "for") u callee))
-          (ap is_symbol_description (parts_moved m args) ∙ description_moved (parts args))
+      (ap₂ ◌||◌ (is_global_moved (codes "Symbol") u callee) (is_global_member_moved (codes "Symbol") (codes "for") u callee))
+      (ap is_symbol_description (parts_moved m args) ∙ description_moved (parts args))

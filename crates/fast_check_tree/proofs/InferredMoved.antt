@@ -39,13 +39,13 @@ module _ (m : Moves) (ok : Keeps m) where
   pub type_of_literal_moved : (mutability : DeclMutabilityKind) (t : Tree) → type_of_literal mutability (moved m t) ≡ option_map (moved m) (type_of_literal mutability t)
   type_of_literal_moved mutability t =
       ap (λ k.
-          if k is Str then Some (literal_or_keyword mutability words.TsStringKeyword (moved m t))
-          else (if k is BoolKind then Some (literal_or_keyword mutability words.TsBooleanKeyword (moved m t))
-          else (if k is Number then Some (literal_or_keyword mutability words.TsNumberKeyword (moved m t))
-          else (if k is BigInt then Some (literal_or_keyword mutability words.TsBigIntKeyword (moved m t))
-          else (if k is Null then Some (ts_keyword_type words.TsNullKeyword)
-          else (if k is Regex then Some regex_type
-          else None)))))) (kind_of_moved m t) ∙
+      if k is Str then Some (literal_or_keyword mutability words.TsStringKeyword (moved m t))
+      else (if k is BoolKind then Some (literal_or_keyword mutability words.TsBooleanKeyword (moved m t))
+      else (if k is Number then Some (literal_or_keyword mutability words.TsNumberKeyword (moved m t))
+      else (if k is BigInt then Some (literal_or_keyword mutability words.TsBigIntKeyword (moved m t))
+      else (if k is Null then Some (ts_keyword_type words.TsNullKeyword)
+      else (if k is Regex then Some regex_type
+      else None)))))) (kind_of_moved m t) ∙
       chosen m (kind_of t is Str) _ _ _ _ (ap Some (literal_or_keyword_moved mutability words.TsStringKeyword t))
       (chosen m (kind_of t is BoolKind) _ _ _ _ (ap Some (literal_or_keyword_moved mutability words.TsBooleanKeyword t))
       (chosen m (kind_of t is Number) _ _ _ _ (ap Some (literal_or_keyword_moved mutability words.TsNumberKeyword t))
@@ -63,7 +63,7 @@ module _ (m : Moves) (ok : Keeps m) where
   text_or_string_moved : (t : Tree) → text_or_string (moved m t) ≡ moved m (text_or_string t)
   text_or_string_moved t =
       simp (is_absent_moved, text_of_moved) (sym (either_moved (is_absent t) _ _ (ts_keyword_type_moved m ok words.TsStringKeyword)
-          (ts_lit_type_moved m ok (str none_range (text_of t) Absent) ∙ simp (text_type_moved))))
+      (ts_lit_type_moved m ok (str none_range (text_of t) Absent) ∙ simp (text_type_moved))))
 
   text_without_moved : (ts : List Tree) (t : Tree) → text_without (map (moved m) ts) (moved m t) ≡ moved m (text_without ts t)
   text_without_moved [] t = refl
@@ -91,13 +91,13 @@ module _ (m : Moves) (ok : Keeps m) where
         inferred_form mutability (moved_scope m u) (moved m t) f' es' ≡ option_map (moved m) (inferred_form mutability u t f es)
     form_moved t f' f es' es at =
         ap (λ k.
-            if k is TsAsExpr then asserted_type (part 2 (moved m t))
-            else (if k is TsTypeAssertion then asserted_type (part 2 (moved m t))
-            else (if k is CallExpr then symbol_type (moved_scope m u) (part 2 (moved m t)) (part 3 (moved m t))
-            else (if k is Tpl then Some (type_of_template mutability (moved m t))
-            else (if k is ParenExpr then f' 1
-            else (if k is TsSatisfiesExpr then f' 1
-            else type_of_literal mutability (moved m t))))))) (kind_of_moved m t) ∙
+        if k is TsAsExpr then asserted_type (part 2 (moved m t))
+        else (if k is TsTypeAssertion then asserted_type (part 2 (moved m t))
+        else (if k is CallExpr then symbol_type (moved_scope m u) (part 2 (moved m t)) (part 3 (moved m t))
+        else (if k is Tpl then Some (type_of_template mutability (moved m t))
+        else (if k is ParenExpr then f' 1
+        else (if k is TsSatisfiesExpr then f' 1
+        else type_of_literal mutability (moved m t))))))) (kind_of_moved m t) ∙
         chosen m (kind_of t is TsAsExpr) _ _ _ _ (ap asserted_type (part_moved m 2 t) ∙ asserted_type_moved (part 2 t))
         (chosen m (kind_of t is TsTypeAssertion) _ _ _ _ (ap asserted_type (part_moved m 2 t) ∙ asserted_type_moved (part 2 t))
         (chosen m (kind_of t is CallExpr) _ _ _ _ (ap₂ (symbol_type (moved_scope m u)) (part_moved m 2 t) (part_moved m 3 t) ∙ symbol_type_moved u (part 2 t) (part 3 t))
@@ -112,7 +112,7 @@ module _ (m : Moves) (ok : Keeps m) where
     moves_with t h =
         inferred_out mutability (moved_scope m u) (moved m t)
         ∙ (form_moved t (λ i. inferred_type mutability (moved_scope m u) (part i (moved m t))) (λ i. inferred_type mutability u (part i t)) (map (inferred_type mutability (moved_scope m u)) (parts (moved m t))) (map (inferred_type mutability u) (parts t))
-            (λ i. ap (inferred_type mutability (moved_scope m u)) (part_moved m i t) ∙ h i)
+        (λ i. ap (inferred_type mutability (moved_scope m u)) (part_moved m i t) ∙ h i)
         ∙ ap (option_map (moved m)) (sym (inferred_out mutability u t)))
 
     absent_moves_with : Moves-with Absent

@@ -25,8 +25,8 @@ module _ (m : Moves) where
   stays t h =
       returns_out (moved m t)
       ∙ (form_moved t (λ i. returns (part i (moved m t))) (λ i. returns (part i t)) (map returns (parts (moved m t))) (map returns (parts t))
-          (λ i. ap returns (part_moved m i t) ∙ at_part Stays (ap returns (absent_moved m)) (parts t) h i)
-          (ap (map returns) (parts_moved m t) ∙ each_stays (parts t) h)
+      (λ i. ap returns (part_moved m i t) ∙ at_part Stays (ap returns (absent_moved m)) (parts t) h i)
+      (ap (map returns) (parts_moved m t) ∙ each_stays (parts t) h)
       ∙ sym (returns_out t))
 
   pub returns_moved : (t : Tree) → returns (moved m t) ≡ returns t

@@ -23,8 +23,8 @@ module _ (m : Moves) where
   stays t h =
       simple_out (moved m t)
       ∙ (form_moved t (λ i. is_simple_type (part i (moved m t))) (λ i. is_simple_type (part i t)) _ _
-          (λ i. ap is_simple_type (part_moved m i t) ∙ at_part Stays (ap is_simple_type (absent_moved m)) (parts t) h i)
-          (ap (map is_simple_type) (parts_moved m t) ∙ each_stays (parts t) h)
+      (λ i. ap is_simple_type (part_moved m i t) ∙ at_part Stays (ap is_simple_type (absent_moved m)) (parts t) h i)
+      (ap (map is_simple_type) (parts_moved m t) ∙ each_stays (parts t) h)
       ∙ sym (simple_out t))
 
   pub is_simple_type_moved : (t : Tree) → is_simple_type (moved m t) ≡ is_simple_type t

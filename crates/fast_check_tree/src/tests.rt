@@ -28,7 +28,11 @@ fn literal(rt: &HostRuntime, kind: Kind, text: &str) -> Result<Tree, Fail> {
 
 fn ident(rt: &HostRuntime, name: &str, ctxt: SyntaxContext) -> Result<Tree, Fail> {
     let sym = Tree::Text(atom(rt, name)?);
-    node(rt, Kind::Ident, [SPAN, Tree::Context(ctxt), sym, Tree::Flag(false)])
+    node(
+        rt,
+        Kind::Ident,
+        [SPAN, Tree::Context(ctxt), sym, Tree::Flag(false)],
+    )
 }
 
 /// The member `object.name`.
@@ -128,7 +132,11 @@ fn unique_name(ty: Part<'_>) -> &str {
 
 #[test]
 fn calls_of_symbol_show_unique_symbol(rt: HostRuntime) -> Result<(), Fail> {
-    let named = call(&rt, ident(&rt, "Symbol", UNRESOLVED)?, list(&rt, [text_argument(&rt)?])?)?;
+    let named = call(
+        &rt,
+        ident(&rt, "Symbol", UNRESOLVED)?,
+        list(&rt, [text_argument(&rt)?])?,
+    )?;
     let shown = inferred(&rt, &named, DeclMutabilityKind::Const)?;
     assert_eq!(rt; unique_name(shown.read()), "symbol");
     let shown = inferred(&rt, &named, DeclMutabilityKind::Mutable)?;
@@ -150,18 +158,28 @@ fn calls_of_symbol_show_unique_symbol(rt: HostRuntime) -> Result<(), Fail> {
 fn assertions_show_simple_types(rt: HostRuntime) -> Result<(), Fail> {
     let string = keyword(&rt, Word::TsStringKeyword)?;
     let array = node(&rt, Kind::TsArrayType, [SPAN, string])?;
-    let asserted = node(&rt, Kind::TsAsExpr, [SPAN, literal(&rt, Kind::Str, "x")?, array])?;
+    let asserted = node(
+        &rt,
+        Kind::TsAsExpr,
+        [SPAN, literal(&rt, Kind::Str, "x")?, array],
+    )?;
     let shown = inferred(&rt, &asserted, DeclMutabilityKind::Const)?;
     assert_eq!(rt; shown.read().kind(), Kind::TsArrayType);
-    let tuple = node(&rt, Kind::TsTupleType, [SPAN, list(&rt, [
-        node(&rt, Kind::TsFnType, [SPAN])?,
-    ])?])?;
+    let tuple = node(
+        &rt,
+        Kind::TsTupleType,
+        [SPAN, list(&rt, [node(&rt, Kind::TsFnType, [SPAN])?])?],
+    )?;
     let asserted = node(&rt, Kind::TsTypeAssertion, [SPAN, Tree::Absent, tuple])?;
     let shown = inferred(&rt, &asserted, DeclMutabilityKind::Const)?;
     assert!(rt; shown.read().is_absent());
     // ("x" satisfies string)
     let string = keyword(&rt, Word::TsStringKeyword)?;
-    let checked = node(&rt, Kind::TsSatisfiesExpr, [SPAN, literal(&rt, Kind::Str, "x")?, string])?;
+    let checked = node(
+        &rt,
+        Kind::TsSatisfiesExpr,
+        [SPAN, literal(&rt, Kind::Str, "x")?, string],
+    )?;
     let wrapped = node(&rt, Kind::ParenExpr, [SPAN, checked])?;
     let shown = inferred(&rt, &wrapped, DeclMutabilityKind::Mutable)?;
     assert!(rt; is_keyword(&shown, Word::TsStringKeyword));
@@ -188,10 +206,25 @@ fn new_nodes_are_made(rt: HostRuntime) -> Result<(), Fail> {
     assert!(rt; !is_void_type(any.read()));
     let readonly = ts_readonly(alloc, type_ref(atom(&rt, "A")?).into_tree(alloc)?)?;
     assert!(rt; readonly.read().part(1).has_word(Word::ReadOnly));
-    let element = ts_tuple_element(alloc, ts_lit_type(literal(&rt, Kind::Str, "a")?).into_tree(alloc)?)?;
+    let element = ts_tuple_element(
+        alloc,
+        ts_lit_type(literal(&rt, Kind::Str, "a")?).into_tree(alloc)?,
+    )?;
     assert_eq!(rt; element.read().part(2).kind(), Kind::TsLitType);
-    assert_eq!(rt; new_ident(atom(&rt, "a")?).into_tree(alloc)?.read().part(2).text(), "a");
+    assert_eq!(rt;
+        new_ident(atom(&rt, "a")?)
+            .into_tree(alloc)?
+            .read()
+            .part(2)
+            .text(),
+        "a"
+    );
     assert_eq!(rt; never_value(alloc)?.read().kind(), Kind::TsAsExpr);
-    assert_eq!(rt; type_ann(alloc, Tree::list(Items::new(alloc)))?.read().kind(), Kind::TsTypeAnn);
+    assert_eq!(rt;
+        type_ann(alloc, Tree::list(Items::new(alloc)))?
+            .read()
+            .kind(),
+        Kind::TsTypeAnn
+    );
     Ok(())
 }

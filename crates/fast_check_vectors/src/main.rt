@@ -3,10 +3,9 @@
 #![tactic(auto)]
 
 use fast_check_program::run;
-use std::fs;
 use std::fs::File;
-use std::io;
 use std::io::Write;
+use std::{fs, io};
 
 fn main(rt: HostRuntime) -> io::Result<()> {
     let cases = fs::read_to_string(&rt, "cases")?;

@@ -101,10 +101,7 @@ pub fn type_ann(alloc: Global, ty: Tree) -> Result<Tree, AllocError>
 pub fn any_type_ann(alloc: Global) -> Result<Tree, AllocError>
     ensures { IfOk result (λ tree. tree ≡ build.any_type_ann) }
 {
-    type_ann(
-        alloc,
-        ts_keyword_type(Word::TsAnyKeyword).into_tree(alloc)?,
-    )
+    type_ann(alloc, ts_keyword_type(Word::TsAnyKeyword).into_tree(alloc)?)
 }
 
 /// The type `readonly ty`.

@@ -24,10 +24,7 @@ pub enum ReturnStatementAnalysis {
 }
 
 /// The class after one more return statement.
-fn after_return(
-    analysis: ReturnStatementAnalysis,
-    has_argument: bool,
-) -> ReturnStatementAnalysis
+fn after_return(analysis: ReturnStatementAnalysis, has_argument: bool) -> ReturnStatementAnalysis
     ensures { result ≡ after_return analysis has_argument }
 {
     match analysis {

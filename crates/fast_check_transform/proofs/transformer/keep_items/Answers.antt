@@ -23,7 +23,7 @@ loop-item-preserved-in-None c =
       items = grind (arith, common_steps);
       comments = c.remove_leading.ensures ∙ ((λ i. without_leading (start i) (c.loop-item.invariant.comments i))
           ∙ sym (one_more (Asked-around c.args.asked) c.parts-item-items.result.now c.loop-item.item-index item ((own_range item).start ∷ []) c.args.comments.now
-              c.loop-item-test.true (search rules) (removed_if_none (Asked-around c.args.asked) item none)));
+          c.loop-item-test.true (search rules) (removed_if_none (Asked-around c.args.asked) item none)));
       faults = grind (arith, common_steps);
     }
 
@@ -35,6 +35,6 @@ loop-item-preserved c =
       items = grind (arith, common_steps);
       comments = c.loop-item.invariant.comments
           ∙ sym (one_more (Asked-around c.args.asked) c.parts-item-items.result.now c.loop-item.item-index item [] c.args.comments.now
-              c.loop-item-test.true (search rules) (removed_if_some (Asked-around c.args.asked) item c.in-Some.tree some));
+          c.loop-item-test.true (search rules) (removed_if_some (Asked-around c.args.asked) item c.in-Some.tree some));
       faults = grind (arith, common_steps);
     }

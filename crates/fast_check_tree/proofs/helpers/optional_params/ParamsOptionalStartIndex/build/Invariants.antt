@@ -11,5 +11,5 @@ invariant-loop-pat g l = record {
   place : l.place ≡ length l.yielded;
   room : l.place + (goal.iterator-loop-pat g).remaining l.pat-iterator < 2 ^ 64;
   start : IsOptionalStart l.start (map seen l.yielded);
-  within : IsWithin l.start l.place
+  within : IsWithin l.start l.place;
 }
