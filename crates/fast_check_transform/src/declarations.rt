@@ -94,10 +94,8 @@ fn public_declarators(
     let mut items = Items::new(alloc);
     for declarator in decls.parts() {
         let declarator = declarator.read();
-        if asked
-            .public_ranges
-            .contains(&VarDeclarator::of(declarator).span)
-        {
+        let span = VarDeclarator::of(declarator).span;
+        if asked.public_ranges.contains(&span) {
             if is_ambient {
                 items.push(declarator.to_tree(alloc)?)?;
             } else {

@@ -5,6 +5,8 @@ mod asked;
 mod carried;
 mod declarations;
 mod items;
+#[cfg(test)]
+mod tests;
 mod transformer;
 
 pub use carried::is_carried;
