@@ -12,7 +12,8 @@ pub use diagnostics::{
     FastCheckDiagnosticRange,
 };
 pub use fast_check_names::{
-    Exports, FileDepName, ImportedExports, NamedSubset, PackageNv, WorkspaceMember,
+    Exports, FileDepName, HandledExports, ImportedExports, NamedSubset, PackageNv, PendingTrace,
+    PendingTraces, WorkspaceMember,
 };
 pub use public_ranges::ModulePublicRanges;
 pub use tables::{EsModuleInfo, MediaType, ModuleGraph, ModuleSpecifier, ParsedSource};
