@@ -76,3 +76,20 @@ read_below (Tree-F.Word x) i d h = absurd (omega arith)
 -- the same of a part that is read in a loop
 pub height_read : (t : Tree) (i : ℕ) (d : Tree) → i < length (parts t) → height (get_or (parts t) i d) < height t
 height_read t i d h = rw (height_out t) (read_below (out-Tree t) i d h)
+
+inner_at_most : (l : Tree-F Tree) (i : ℕ) → height (unwrap_or (slice_get (parts_at l) i) Absent) ≤ height_step (map-Tree Tree ℕ height l)
+inner_at_most (Tree-F.Node k ts) i = omega (arith, at_most_highest ts i)
+inner_at_most Tree-F.Absent i = omega (arith, absent-zero)
+inner_at_most (Tree-F.Flag x) i = omega (arith, absent-zero)
+inner_at_most (Tree-F.Context x) i = omega (arith, absent-zero)
+inner_at_most (Tree-F.Text x) i = omega (arith, absent-zero)
+inner_at_most (Tree-F.Range x) i = omega (arith, absent-zero)
+inner_at_most (Tree-F.Word x) i = omega (arith, absent-zero)
+
+-- a part is no higher than its tree, of whatever kind this is
+pub height_at_most : (t : Tree) (i : ℕ) → height (part i t) ≤ height t
+height_at_most t i = rw (height_out t) (inner_at_most (out-Tree t) i)
+
+-- a part of a part is lower than the node
+pub height_inner : (t : Tree) (i k : ℕ) → (kind_of t ≡ Leaf → ⊥) → height (part k (part i t)) < height t
+height_inner t i k e = omega (arith, height_part t i e, height_at_most (part i t) k)

@@ -1,6 +1,7 @@
 pub mod Shape
 pub mod Part
 pub mod Recursion
-pub mod Height
+pub mod Descent
+mod Height
 pub mod Moves
 pub mod Same
