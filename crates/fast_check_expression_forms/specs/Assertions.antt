@@ -29,6 +29,9 @@ pub record ReadsTsTypeAssertion (form : TsTypeAssertion Part) (t : Tree) : Type 
   pub expr : seen form.expr ≡ TsTypeAssertion-expr t
   pub type_ann : seen form.type_ann ≡ TsTypeAssertion-type_ann t
 
+abbrev pub ts_type_assertion : SourceRange → Tree → Tree → Tree
+ts_type_assertion span expr type_ann = node kinds.TsTypeAssertion (Range span ∷ expr ∷ type_ann ∷ [])
+
 -- `expr as type_ann`.
 abbrev pub TsAsExpr-span : Tree → SourceRange
 TsAsExpr-span t = range_of (part 0 t)

@@ -133,6 +133,9 @@ PatExpr-expr t = part 0 t
 pub record ReadsPatExpr (form : PatExpr Part) (t : Tree) : Type 0 where
   pub expr : seen form.expr ≡ PatExpr-expr t
 
+abbrev pub pat_expr : Tree → Tree
+pat_expr expr = node kinds.PatExpr (expr ∷ [])
+
 -- A pattern that is assigned to, as `[a]` in `[a] = b`.
 abbrev pub TargetPat-pat : Tree → Tree
 TargetPat-pat t = part 0 t

@@ -2,6 +2,7 @@ ghost use Rattle.std.specs.Prelude.{◌≡◌, IfOk};
 ghost use Rattle.fast_check_syntax.specs.Part.{seen};
 ghost use Rattle.fast_check_expression_forms.specs.Assertions.{
   ReadsTsTypeAssertion,
+  ts_type_assertion,
   ReadsTsAsExpr,
   ts_as_expr,
   ReadsTsSatisfiesExpr,
@@ -33,6 +34,25 @@ impl<'a> TsTypeAssertion<Part<'a>> {
             expr: node.part(1),
             type_ann: node.part(2),
         }
+    }
+}
+
+impl TsTypeAssertion<Tree> {
+    /// The node of these fields.
+    pub fn into_tree(self, alloc: Global) -> Result<Tree, AllocError>
+        ensures { IfOk result (λ tree. tree ≡
+            ts_type_assertion self.span self.expr self.type_ann) }
+    {
+        let TsTypeAssertion {
+            span,
+            expr,
+            type_ann,
+        } = self;
+        Tree::node(
+            alloc,
+            Kind::TsTypeAssertion,
+            [Tree::Range(span), expr, type_ann],
+        )
     }
 }
 

@@ -12,6 +12,7 @@ ghost use Rattle.fast_check_expression_forms.specs.Patterns.{
   ReadsKeyValuePatProp,
   ReadsAssignPatProp,
   ReadsPatExpr,
+  pat_expr,
   ReadsTargetPat,
 };
 
@@ -246,6 +247,16 @@ impl<'a> PatExpr<Part<'a>> {
         ensures { ReadsPatExpr result (seen node.entry) }
     {
         PatExpr { expr: node.part(0) }
+    }
+}
+
+impl PatExpr<Tree> {
+    /// The node of these fields.
+    pub fn into_tree(self, alloc: Global) -> Result<Tree, AllocError>
+        ensures { IfOk result (λ tree. tree ≡ pat_expr self.expr) }
+    {
+        let PatExpr { expr } = self;
+        Tree::node(alloc, Kind::PatExpr, [expr])
     }
 }
 

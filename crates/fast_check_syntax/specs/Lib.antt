@@ -2,6 +2,6 @@ pub mod Shape
 pub mod Part
 pub mod Recursion
 pub mod Descent
-mod Height
+pub mod Height
 pub mod Moves
 pub mod Same

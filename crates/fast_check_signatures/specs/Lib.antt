@@ -1,0 +1,6 @@
+pub mod Seen
+pub mod NewNodes
+pub mod Parameters
+pub mod Functions
+pub mod Expressions
+pub mod Answers

@@ -1,0 +1,104 @@
+-- What is seen of parameters: their types and whether they may be left out; a default only where nothing else gives a type.
+use Rattle.std.specs.Prelude.{Bool, true, false, Option, Some, None, List, [], ◌∷◌, if◌then◌else◌}
+use Rattle.std.specs.List.{list_all}
+use Rattle.fast_check_syntax.specs.declared.kind.Kind.TheVariants.{BindingIdent, ArrayPat, ObjectPat, AssignPat, RestPat, PatExpr}
+use Rattle.fast_check_syntax.specs.declared.source.SourceRange.{SourceRange}
+use Rattle.fast_check_syntax.specs.declared.source.SyntaxContext.{SyntaxContext}
+use Rattle.fast_check_syntax.specs.declared.tree.Tree.{Tree}
+use Rattle.fast_check_syntax.specs.Shape.{◌is◌, kind_of, is_absent, list}
+use Rattle.fast_check_expression_forms.specs.Patterns.{ArrayPat-span, ArrayPat-optional, ArrayPat-type_ann, array_pat, ObjectPat-span, ObjectPat-optional, ObjectPat-type_ann, object_pat, RestPat-span, RestPat-dot3_token, RestPat-arg, RestPat-type_ann, rest_pat, AssignPat-span, AssignPat-left, AssignPat-right, assign_pat}
+use Rattle.fast_check_forms.specs.Ranges.{range_of_node}
+use Rattle.fast_check_program_forms.specs.Names.{Ident-span, Ident-ctxt, Ident-sym, ident, BindingIdent-id, BindingIdent-type_ann, binding_ident}
+use Rattle.fast_check_tree.specs.declared.helpers.literal_type.DeclMutabilityKind.TheVariants.{Mutable}
+use Rattle.fast_check_tree.specs.Builders.{type_ann, never_value}
+use Rattle.fast_check_tree.specs.InferredType.{inferred_type}
+use Rattle.fast_check_tree.specs.OptionalParams.{is_optional_param}
+use Rattle.fast_check_signatures.specs.declared.fault.FaultKind.TheVariants.{MissingExplicitType, UnsupportedDestructuring}
+use Rattle.fast_check_signatures.specs.Seen.{Seen, written, range, form, faulty, seens}
+use Rattle.fast_check_signatures.specs.NewNodes.{never_array, empty_object_pat, or_undefined}
+
+-- What is seen of an expression. A fault of a function stands at the place that is given, that of the parent that names it, or else at the function.
+abbrev pub Look : Type 0
+Look = Tree → Option SourceRange → Seen
+
+-- an array or an object pattern, emptied
+abbrev pub emptied_array : Tree → Tree
+emptied_array pat = array_pat (ArrayPat-span pat) (list []) (ArrayPat-optional pat) (ArrayPat-type_ann pat)
+
+abbrev pub emptied_object : Tree → Tree
+emptied_object pat = object_pat (ObjectPat-span pat) (list []) (ObjectPat-optional pat) (ObjectPat-type_ann pat)
+
+-- a parameter that stands if its type is written; at this place its type is missing
+abbrev pub typed : Tree → SourceRange → Tree → Seen
+typed type place pat = if is_absent type then faulty MissingExplicitType place else written pat
+
+-- what a rest is gathered in: patterns are emptied, and `{}` stands for what can't be there
+abbrev pub rest_arg : Tree → Tree
+rest_arg arg =
+    let kind = kind_of arg in
+    if kind is ArrayPat then emptied_array arg
+    else (if kind is ObjectPat then emptied_object arg
+    else (if kind is RestPat then empty_object_pat
+    else (if kind is AssignPat then empty_object_pat
+    else (if kind is PatExpr then empty_object_pat
+    else arg))))
+
+abbrev pub rest_seen : Tree → Seen
+rest_seen pat = typed (RestPat-type_ann pat) (RestPat-span pat) (rest_pat (RestPat-span pat) (RestPat-dot3_token pat) (rest_arg (RestPat-arg pat)) (RestPat-type_ann pat))
+
+-- an identifier with this mark
+abbrev pub with_optional : Bool → Tree → Tree
+with_optional optional id = ident (Ident-span id) (Ident-ctxt id) (Ident-sym id) optional
+
+-- An identifier of a type that had a default: it may be left out where all parameters from it on may, and else takes `undefined` as well.
+abbrev pub without_default : Bool → Tree → Tree → Tree
+without_default true id type = binding_ident (with_optional true id) type
+without_default false id type = binding_ident (with_optional false id) (or_undefined type)
+
+-- a default that gives the type where it may stay; else the type is missing at this place
+abbrev pub default_seen : SourceRange → SourceRange → Tree → Seen → Seen
+default_seen span place left value = form AssignPat (seens (range span ∷ range place ∷ written left ∷ value ∷ []))
+
+module _ (unresolved : SyntaxContext) (look : Look) where
+  -- an identifier with a default, whose type is written, or shown by the default, or else left to it
+  abbrev pub by_shown : Bool → Tree → Option Tree → Seen
+  by_shown is_optional pat (Some type) = written (without_default is_optional (BindingIdent-id (AssignPat-left pat)) (type_ann type))
+  by_shown is_optional pat None =
+      let place = Ident-span (BindingIdent-id (AssignPat-left pat)) in
+      default_seen (AssignPat-span pat) place (AssignPat-left pat) (look (AssignPat-right pat) (Some place))
+
+  abbrev pub ident_default_seen : Bool → Tree → Seen
+  ident_default_seen is_optional pat =
+      let id = AssignPat-left pat in
+      if is_absent (BindingIdent-type_ann id) then by_shown is_optional pat (inferred_type Mutable unresolved (AssignPat-right pat))
+      else written (without_default is_optional (BindingIdent-id id) (BindingIdent-type_ann id))
+
+  -- a pattern with a default: behind a written type, `never` stands for the default
+  abbrev pub pattern_default_seen : Tree → SourceRange → Tree → Tree → Tree → Seen
+  pattern_default_seen type place emptied never pat =
+      if is_absent type then default_seen (AssignPat-span pat) place emptied (look (AssignPat-right pat) None)
+      else written (assign_pat (AssignPat-span pat) emptied never)
+
+  abbrev pub assign_seen : Bool → Tree → Seen
+  assign_seen is_optional pat =
+      let left = AssignPat-left pat in
+      if kind_of left is BindingIdent then ident_default_seen is_optional pat
+      else (if kind_of left is ArrayPat then pattern_default_seen (ArrayPat-type_ann left) (ArrayPat-span left) (emptied_array left) never_array pat
+      else (if kind_of left is ObjectPat then pattern_default_seen (ObjectPat-type_ann left) (ObjectPat-span left) (emptied_object left) never_value pat
+      else faulty UnsupportedDestructuring (AssignPat-span pat)))
+
+  -- a parameter, and whether all from it on may be left out
+  abbrev pub pat_seen : Bool → Tree → Seen
+  pat_seen is_optional pat =
+      let kind = kind_of pat in
+      if kind is BindingIdent then typed (BindingIdent-type_ann pat) (Ident-span (BindingIdent-id pat)) pat
+      else (if kind is AssignPat then assign_seen is_optional pat
+      else (if kind is RestPat then rest_seen pat
+      else (if kind is ArrayPat then typed (ArrayPat-type_ann pat) (ArrayPat-span pat) (emptied_array pat)
+      else (if kind is ObjectPat then typed (ObjectPat-type_ann pat) (ObjectPat-span pat) (emptied_object pat)
+      else faulty UnsupportedDestructuring (range_of_node pat)))))
+
+  -- parameters, in order
+  abbrev pub pats_seen : List Tree → List Seen
+  pats_seen [] = []
+  pats_seen (pat ∷ pats) = pat_seen (list_all is_optional_param (pat ∷ pats)) pat ∷ pats_seen pats

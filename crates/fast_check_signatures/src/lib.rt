@@ -1,0 +1,9 @@
+//! What stands of values, functions and parameters where a type checker is to read them without inference, and what is
+//! wrong with those that it could not read: the definitions that the transform is proved against.
+#![tactic(auto)]
+
+mod fault;
+mod function_kind;
+
+pub use fault::{Fault, FaultKind};
+pub use function_kind::FunctionKind;
