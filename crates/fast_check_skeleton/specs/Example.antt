@@ -80,7 +80,7 @@ renaming = record {
 
 -- the declarator that begins at a place is public, and nothing else
 abbrev pub around : ℕ → Surroundings
-around place = record { is_public = λ r. r.start.0 == place; unresolved = scope 1; is_declaration_file = false }
+around place = record { is_public = λ r. r.start.0 == place; is_implementation = λ r. false; unresolved = scope 1; is_declaration_file = false }
 
 -- they agree, and so the law says that their answers are the same: the first is `export const x: string = {} as never;`
 pub record Example : Type 0 where

@@ -1,36 +1,49 @@
 -- The grammar of skeletons: what a type checker finds there, whatever the source was.
 use Rattle.std.specs.Prelude.{◌≡◌, Bool, true, false, ◌||◌, IsTrue, ◌⊎◌}
-use Rattle.fast_check_syntax.specs.declared.kind.Kind.TheVariants.{Module, ExportDecl, VarDecl, VarDeclarator, BindingIdent}
+use Rattle.fast_check_syntax.specs.declared.kind.Kind.TheVariants.{Module, ExportDecl, VarDecl, VarDeclarator, FnDecl, BindingIdent}
+use Rattle.fast_check_syntax.specs.declared.source.SyntaxContext.{SyntaxContext}
 use Rattle.fast_check_syntax.specs.declared.tree.Tree.{Tree}
 use Rattle.fast_check_syntax.specs.Shape.{kind_of, parts, is_absent, OfAll}
 use Rattle.fast_check_tree.specs.Builders.{never_value}
 use Rattle.fast_check_program_forms.specs.Names.{BindingIdent-type_ann}
 use Rattle.fast_check_program_forms.specs.Programs.{Module-body}
 use Rattle.fast_check_program_forms.specs.ModuleDecls.{ExportDecl-decl}
+use Rattle.fast_check_signatures.specs.TypedGrammar.{IsLeavable, IsTypedFunction}
 use Rattle.fast_check_skeleton.specs.Visible.{is_standing}
-use Rattle.fast_check_statement_forms.specs.Declarations.{VarDecl-declare, VarDecl-decls, VarDeclarator-name, VarDeclarator-init}
+use Rattle.fast_check_statement_forms.specs.Declarations.{FnDecl-function, VarDecl-declare, VarDecl-decls, VarDeclarator-name, VarDeclarator-init}
 
--- a declarator of an identifier with a written type, and `{} as never` for its value
-pub record IsTypedDeclarator (d : Tree) : Type 0 where
-  pub kind : kind_of d ≡ VarDeclarator
-  pub name : kind_of (VarDeclarator-name d) ≡ BindingIdent
-  pub type : is_absent (BindingIdent-type_ann (VarDeclarator-name d)) ≡ false
-  pub value : VarDeclarator-init d ≡ never_value
+-- a value behind a written type is `{} as never`; another gives the type
+abbrev pub HasTypedValue : SyntaxContext → Tree → Tree → Type 0
+HasTypedValue unresolved type value = ((is_absent type ≡ false) × (value ≡ never_value)) ⊎ IsLeavable unresolved value
 
--- a variable statement of typed declarators; an ambient one stands as it was written
-pub record IsTypedStatement (is_declaration_file : Bool) (statement : Tree) : Type 0 where
-  pub kind : kind_of statement ≡ VarDecl
-  pub declarators : IsTrue (is_declaration_file || VarDecl-declare statement) ⊎ OfAll IsTypedDeclarator (parts (VarDecl-decls statement))
+-- `unresolved` is the scope number of the names that nothing in the module binds
+module _ (unresolved : SyntaxContext) where
+  -- a declarator of an identifier with a written type, and `{} as never` for its value, or with a value that gives the type
+  pub record IsTypedDeclarator (d : Tree) : Type 0 where
+    pub kind : kind_of d ≡ VarDeclarator
+    pub name : kind_of (VarDeclarator-name d) ≡ BindingIdent
+    pub value : HasTypedValue unresolved (BindingIdent-type_ann (VarDeclarator-name d)) (VarDeclarator-init d)
 
--- a declaration of a skeleton: a variable statement, or an interface, type alias or enum, which stands as it was written
-abbrev pub IsTypedDecl : Bool → Tree → Type 0
-IsTypedDecl is_declaration_file decl = IsTypedStatement is_declaration_file decl ⊎ (is_standing (kind_of decl) ≡ true)
+  -- a variable statement of typed declarators; an ambient one stands as it was written
+  pub record IsTypedStatement (is_declaration_file : Bool) (statement : Tree) : Type 0 where
+    pub kind : kind_of statement ≡ VarDecl
+    pub declarators : IsTrue (is_declaration_file || VarDecl-declare statement) ⊎ OfAll IsTypedDeclarator (parts (VarDecl-decls statement))
 
--- an item of a skeleton: a declaration, exported or not
-abbrev pub IsTypedItem : Bool → Tree → Type 0
-IsTypedItem is_declaration_file item = IsTypedDecl is_declaration_file item ⊎ ((kind_of item ≡ ExportDecl) × IsTypedDecl is_declaration_file (ExportDecl-decl item))
+  -- a function with a written return type, or without a body; in a declaration file it stands as it was written
+  pub record IsTypedFunctionDecl (is_declaration_file : Bool) (decl : Tree) : Type 0 where
+    pub kind : kind_of decl ≡ FnDecl
+    pub function : IsTrue is_declaration_file ⊎ IsTypedFunction unresolved (FnDecl-function decl)
 
--- a skeleton: a module of nothing but such items
-pub record IsSkeleton (is_declaration_file : Bool) (program : Tree) : Type 0 where
-  pub kind : kind_of program ≡ Module
-  pub items : OfAll (IsTypedItem is_declaration_file) (parts (Module-body program))
+  -- a declaration of a skeleton: a variable statement, a function, or an interface, type alias or enum, which stands as it was written
+  abbrev pub IsTypedDecl : Bool → Tree → Type 0
+  IsTypedDecl is_declaration_file decl =
+      IsTypedStatement is_declaration_file decl ⊎ (IsTypedFunctionDecl is_declaration_file decl ⊎ (is_standing (kind_of decl) ≡ true))
+
+  -- an item of a skeleton: a declaration, exported or not
+  abbrev pub IsTypedItem : Bool → Tree → Type 0
+  IsTypedItem is_declaration_file item = IsTypedDecl is_declaration_file item ⊎ ((kind_of item ≡ ExportDecl) × IsTypedDecl is_declaration_file (ExportDecl-decl item))
+
+  -- a skeleton: a module of nothing but such items
+  pub record IsSkeleton (is_declaration_file : Bool) (program : Tree) : Type 0 where
+    pub kind : kind_of program ≡ Module
+    pub items : OfAll (IsTypedItem is_declaration_file) (parts (Module-body program))

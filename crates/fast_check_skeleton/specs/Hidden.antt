@@ -2,17 +2,18 @@
 use Rattle.std.specs.Prelude.{◌≡◌, Bool, true, false, not, ◌&&◌, ◌||◌, Option, Some, None, List, [], ◌∷◌}
 use Rattle.std.specs.List.{list_all, list_any}
 use Rattle.fast_check_syntax.specs.declared.kind.Kind.{Kind}
-use Rattle.fast_check_syntax.specs.declared.kind.Kind.TheVariants.{VarDecl, ExportDecl, FnDecl, BlockStmt, EmptyStmt, DebuggerStmt, WithStmt, ReturnStmt, LabeledStmt, BreakStmt, ContinueStmt, IfStmt, SwitchStmt, ThrowStmt, TryStmt, WhileStmt, DoWhileStmt, ForStmt, ForInStmt, ForOfStmt, ExprStmt, AssignExpr}
+use Rattle.fast_check_syntax.specs.declared.kind.Kind.TheVariants.{BindingIdent, VarDecl, ExportDecl, FnDecl, BlockStmt, EmptyStmt, DebuggerStmt, WithStmt, ReturnStmt, LabeledStmt, BreakStmt, ContinueStmt, IfStmt, SwitchStmt, ThrowStmt, TryStmt, WhileStmt, DoWhileStmt, ForStmt, ForInStmt, ForOfStmt, ExprStmt, AssignExpr}
 use Rattle.fast_check_syntax.specs.declared.source.SourceRange.{SourceRange}
 use Rattle.fast_check_syntax.specs.declared.tree.Tree.{Tree}
 use Rattle.fast_check_syntax.specs.Shape.{◌is◌, kind_of, parts, is_absent}
 use Rattle.fast_check_syntax.specs.Moves.{Renaming, IsPair}
 use Rattle.fast_check_syntax.specs.Same.{SameTree, SameRange}
 use Rattle.fast_check_tree.specs.declared.helpers.literal_type.DeclMutabilityKind.{DeclMutabilityKind}
-use Rattle.fast_check_class_forms.specs.Functions.{Function-span}
+use Rattle.fast_check_forms.specs.Ranges.{range_of_node}
 use Rattle.fast_check_program_forms.specs.Programs.{Module-shebang}
 use Rattle.fast_check_program_forms.specs.ModuleDecls.{ExportDecl-span, ExportDecl-decl}
-use Rattle.fast_check_statement_forms.specs.Declarations.{FnDecl-function, VarDecl-span, VarDecl-ctxt, VarDecl-kind, VarDecl-declare, VarDecl-decls, VarDeclarator-span, VarDeclarator-init, VarDeclarator-definite}
+use Rattle.fast_check_statement_forms.specs.Declarations.{FnDecl-ident, FnDecl-declare, FnDecl-function, VarDecl-span, VarDecl-ctxt, VarDecl-kind, VarDecl-declare, VarDecl-decls, VarDeclarator-span, VarDeclarator-name, VarDeclarator-init, VarDeclarator-definite}
+use Rattle.fast_check_signatures.specs.SameValues.{Both, Neither, SameExpr, SameFunction, SameImplementation}
 use Rattle.fast_check_tree.specs.InferredType.{inferred_type}
 use Rattle.fast_check_statement_forms.specs.Statements.{ExprStmt-expr}
 use Rattle.fast_check_skeleton.specs.Surroundings.{Surroundings}
@@ -37,28 +38,22 @@ pub data IsSilentDecl (around : Surroundings) (place : SourceRange) : Tree → T
   variable : {t : Tree} → kind_of t ≡ VarDecl → list_all (λ d. not (is_public_declarator around d)) (parts (VarDecl-decls t)) ≡ true → IsSilentDecl around place t
   -- an interface, type alias or enum that is not public
   standing : {t : Tree} → is_standing (kind_of t) ≡ true → around.is_public place ≡ false → IsSilentDecl around place t
+  -- a function that is not public
+  function : {t : Tree} → kind_of t ≡ FnDecl → around.is_public place ≡ false → IsSilentDecl around place t
 
 -- an item that goes without a word
 pub data IsSilent (around : Surroundings) : Tree → Type 0 where
   decl : {t : Tree} → IsSilentDecl around (own_range t) t → IsSilent around t
   -- a statement that declares and assigns nothing
   statement : {t : Tree} → is_plain_statement t ≡ true → IsSilent around t
-  -- a function that is not public
-  function : {t : Tree} → kind_of t ≡ FnDecl → around.is_public (Function-span (FnDecl-function t)) ≡ false → IsSilent around t
   exported : {t : Tree} → kind_of t ≡ ExportDecl → IsSilentDecl around (ExportDecl-span t) (ExportDecl-decl t) → IsSilent around t
-  -- an exported function is public by the range of the export
-  exported_function : {t : Tree} → kind_of t ≡ ExportDecl → kind_of (ExportDecl-decl t) ≡ FnDecl → around.is_public (ExportDecl-span t) ≡ false → IsSilent around t
-
--- both are of a kind
-pub record Both (k : Kind) (t u : Tree) : Type 0 where
-  pub left : kind_of t ≡ k
-  pub right : kind_of u ≡ k
 
 module _ (r : Renaming) (a b : Surroundings) where
   -- what agrees of two declarators, whatever their values
   pub record SameHead (t u : Tree) : Type 0 where
     pub is_public : is_public_declarator a t ≡ is_public_declarator b u
     pub span : SameRange r (VarDeclarator-span t) (VarDeclarator-span u)
+    pub names : Both BindingIdent (VarDeclarator-name t) (VarDeclarator-name u)
     pub ident : SameTree r (declared_ident t) (declared_ident u)
     pub definite : VarDeclarator-definite t ≡ VarDeclarator-definite u
     pub type : SameTree r (declared_type t) (declared_type u)
@@ -72,6 +67,13 @@ module _ (r : Renaming) (a b : Surroundings) where
         inferred_type mutability a.unresolved (VarDeclarator-init t) ≡ Some x → inferred_type mutability b.unresolved (VarDeclarator-init u) ≡ Some y → SameTree r x y → SameDeclarator mutability t u
     -- the same values
     same : {t u : Tree} → SameHead t u → SameTree r (VarDeclarator-init t) (VarDeclarator-init u) → SameDeclarator mutability t u
+    -- values that show no type and are to stay
+    kept : {t u : Tree} → SameHead t u →
+        inferred_type mutability a.unresolved (VarDeclarator-init t) ≡ None → inferred_type mutability b.unresolved (VarDeclarator-init u) ≡ None →
+        SameExpr r a.unresolved b.unresolved (VarDeclarator-init t) (VarDeclarator-init u) → SameDeclarator mutability t u
+    -- any values and types of patterns, which can't be declared
+    destructured : {t u : Tree} → is_public_declarator a t ≡ is_public_declarator b u → Neither BindingIdent (VarDeclarator-name t) (VarDeclarator-name u) →
+        SameRange r (range_of_node (VarDeclarator-name t)) (range_of_node (VarDeclarator-name u)) → SameDeclarator mutability t u
 
   -- ambient declarators, which stand as they are written
   pub record SameAmbient (t u : Tree) : Type 0 where
@@ -93,6 +95,14 @@ module _ (r : Renaming) (a b : Surroundings) where
     pub kind : SameTree r (VarDecl-kind t) (VarDecl-kind u)
     pub declare : VarDecl-declare t ≡ VarDecl-declare u
 
+  -- what agrees of two functions that are not ambient, whatever their signatures
+  pub record SameFunctionDecl (p q : SourceRange) (t u : Tree) : Type 0 where
+    pub kinds : Both FnDecl t u
+    pub is_public : a.is_public p ≡ b.is_public q
+    pub is_declaration_file : a.is_declaration_file ≡ false
+    pub ident : SameTree r (FnDecl-ident t) (FnDecl-ident u)
+    pub declare : FnDecl-declare t ≡ FnDecl-declare u
+
   -- declarations; `p` and `q` are the ranges of their exports, or else their own
   pub data SameDecl (p q : SourceRange) : Tree → Tree → Type 0 where
     variable : {t u : Tree} → SameStatement t u → is_ambient a t ≡ false →
@@ -101,6 +111,13 @@ module _ (r : Renaming) (a b : Surroundings) where
         SameDeclarators SameAmbient (parts (VarDecl-decls t)) (parts (VarDecl-decls u)) → SameDecl p q t u
     -- interfaces, type aliases and enums stand as they are written
     standing : {t u : Tree} (k : Kind) → Both k t u → is_standing k ≡ true → a.is_public p ≡ b.is_public q → SameTree r t u → SameDecl p q t u
+    function : {t u : Tree} → SameFunctionDecl p q t u → a.is_implementation p ≡ false → b.is_implementation q ≡ false →
+        SameFunction r a.unresolved b.unresolved (FnDecl-function t) (FnDecl-function u) → SameDecl p q t u
+    -- implementations behind overloads
+    implementation : {t u : Tree} → SameFunctionDecl p q t u → a.is_implementation p ≡ true → b.is_implementation q ≡ true →
+        SameImplementation r a.unresolved b.unresolved (FnDecl-function t) (FnDecl-function u) → SameDecl p q t u
+    -- functions of declaration files
+    ambient_function : {t u : Tree} → Both FnDecl t u → a.is_public p ≡ b.is_public q → a.is_declaration_file ≡ true → SameTree r t u → SameDecl p q t u
 
   pub data SameItem : Tree → Tree → Type 0 where
     decl : {t u : Tree} → SameDecl (own_range t) (own_range u) t u → SameItem t u

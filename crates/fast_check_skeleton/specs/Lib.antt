@@ -1,5 +1,4 @@
 pub mod Surroundings
-pub mod Seen
 pub mod Mutability
 pub mod Visible
 pub mod Skeleton

@@ -6,6 +6,8 @@ use Rattle.fast_check_syntax.specs.declared.source.SyntaxContext.{SyntaxContext}
 pub record Surroundings : Type 0 where
   -- whether a range is public, so that what stands there may be seen from outside
   pub is_public : SourceRange → Bool
+  -- whether the function of a public range is an implementation behind overloads, so that its own signature is not seen
+  pub is_implementation : SourceRange → Bool
   -- the scope number of the names that nothing in the module binds
   pub unresolved : SyntaxContext
   -- whether the file is a declaration file (`.d.ts`, `.d.mts`, `.d.cts`), all of which is ambient

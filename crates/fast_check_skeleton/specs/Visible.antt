@@ -2,21 +2,25 @@
 -- All that is asked outside the tree is asked here. What follows sees nothing that is hidden.
 use Rattle.std.specs.Prelude.{Bool, true, false, ◌||◌, if◌then◌else◌, Option, Some, None, List, [], ◌∷◌}
 use Rattle.std.specs.List.{flat_map}
-use Rattle.fast_check_syntax.specs.declared.kind.Kind.TheVariants.{VarDeclarator, VarDecl, ExportDecl, TsInterfaceDecl, TsTypeAliasDecl, TsEnumDecl, List as List'}
+use Rattle.fast_check_syntax.specs.declared.kind.Kind.TheVariants.{BindingIdent, VarDeclarator, VarDecl, FnDecl, ExportDecl, TsInterfaceDecl, TsTypeAliasDecl, TsEnumDecl, List as List'}
 use Rattle.fast_check_syntax.specs.declared.kind.Kind.{Kind}
 use Rattle.fast_check_syntax.specs.declared.source.SourceRange.{SourceRange}
 use Rattle.fast_check_syntax.specs.declared.tree.Tree.{Tree}
 use Rattle.fast_check_syntax.specs.Shape.{◌is◌, kind_of, parts, is_absent}
 use Rattle.fast_check_tree.specs.declared.helpers.literal_type.DeclMutabilityKind.{DeclMutabilityKind}
-use Rattle.fast_check_program_forms.specs.Names.{BindingIdent-id, BindingIdent-type_ann}
+use Rattle.fast_check_forms.specs.Ranges.{range_of_node}
+use Rattle.fast_check_program_forms.specs.Names.{Ident-span, BindingIdent-id, BindingIdent-type_ann}
 use Rattle.fast_check_program_forms.specs.Programs.{Module-body}
 use Rattle.fast_check_program_forms.specs.ModuleDecls.{ExportDecl-span, ExportDecl-decl}
-use Rattle.fast_check_statement_forms.specs.TsDeclarations.{TsInterfaceDecl-span}
-use Rattle.fast_check_statement_forms.specs.Declarations.{VarDecl-span, VarDecl-ctxt, VarDecl-kind, VarDecl-declare, VarDecl-decls, VarDeclarator-span, VarDeclarator-name, VarDeclarator-init, VarDeclarator-definite}
+use Rattle.fast_check_statement_forms.specs.Declarations.{FnDecl-ident, FnDecl-declare, FnDecl-function, VarDecl-span, VarDecl-ctxt, VarDecl-kind, VarDecl-declare, VarDecl-decls, VarDeclarator-span, VarDeclarator-name, VarDeclarator-init, VarDeclarator-definite}
 use Rattle.fast_check_tree.specs.InferredType.{inferred_type}
+use Rattle.fast_check_signatures.specs.declared.fault.FaultKind.TheVariants.{UnsupportedDestructuring}
+use Rattle.fast_check_signatures.specs.declared.function_kind.FunctionKind.TheVariants.{DeclarationLike}
+use Rattle.fast_check_signatures.specs.Expressions.{expr_seen}
+use Rattle.fast_check_signatures.specs.Functions.{function_seen, implementation_seen}
 use Rattle.fast_check_skeleton.specs.Surroundings.{Surroundings}
 use Rattle.fast_check_skeleton.specs.Mutability.{mutability_of}
-use Rattle.fast_check_skeleton.specs.Seen.{Seen, written, range, scope, flag, form, inferred, hidden, seens}
+use Rattle.fast_check_signatures.specs.Seen.{Seen, written, range, scope, flag, form, inferred, faulty, refused, hidden, seens}
 
 -- the identifier that a declarator declares, and its written type
 abbrev pub declared_ident : Tree → Tree
@@ -33,15 +37,28 @@ abbrev pub by_inferred : Option Tree → Seen
 by_inferred (Some type) = inferred type
 by_inferred None = hidden
 
--- a value: hidden behind a written type, else seen by its inferred type
-abbrev pub value_seen : Surroundings → DeclMutabilityKind → Tree → Tree → Seen
-value_seen around mutability type value = if is_absent type then by_inferred (inferred_type mutability around.unresolved value) else hidden
+-- what is seen of a declarator where no type is written
+abbrev pub untyped : Tree → Seen → Seen
+untyped type seen = if is_absent type then seen else hidden
 
--- a declarator that is not ambient: its range, its identifier, whether it is definite, its written type and its value
+-- a value that shows no type: it may stay, so that it gives the type, and the identifier names it; where there is none, nothing gives the type
+abbrev pub kept_value_seen : Surroundings → SourceRange → Option Tree → Tree → Seen
+kept_value_seen around place (Some type) value = hidden
+kept_value_seen around place None value = if is_absent value then refused else expr_seen around.unresolved value (Some place)
+
+-- a declarator of an identifier: its range, its identifier, whether it is definite, its written type, and behind none its value by the inferred type, or else as it may stay
+abbrev pub ident_declarator_seen : Surroundings → DeclMutabilityKind → Tree → Seen
+ident_declarator_seen around mutability d =
+    let type = declared_type d in
+    let shown = inferred_type mutability around.unresolved (VarDeclarator-init d) in
+    form VarDeclarator (seens (range (VarDeclarator-span d) ∷ written (declared_ident d) ∷ flag (VarDeclarator-definite d) ∷ standing type ∷
+    untyped type (by_inferred shown) ∷ untyped type (kept_value_seen around (Ident-span (declared_ident d)) shown (VarDeclarator-init d)) ∷ []))
+
+-- a declarator that is not ambient; a pattern can't be one
 abbrev pub declarator_seen : Surroundings → DeclMutabilityKind → Tree → Seen
 declarator_seen around mutability d =
-    form VarDeclarator (seens (range (VarDeclarator-span d) ∷ written (declared_ident d) ∷ flag (VarDeclarator-definite d) ∷ standing (declared_type d) ∷
-    value_seen around mutability (declared_type d) (VarDeclarator-init d) ∷ []))
+    if kind_of (VarDeclarator-name d) is BindingIdent then ident_declarator_seen around mutability d
+    else faulty UnsupportedDestructuring (range_of_node (VarDeclarator-name d))
 
 -- ambient declarations stand as they are written: those of a declaration file, and those that are declared
 abbrev pub is_ambient : Surroundings → Tree → Bool
@@ -73,18 +90,34 @@ statement_seen statement (d ∷ ds) =
 abbrev pub is_standing : Kind → Bool
 is_standing kind = (kind is TsInterfaceDecl) || ((kind is TsTypeAliasDecl) || (kind is TsEnumDecl))
 
--- the range of a declaration that stands: its forms begin with it alike
+-- the range of a declaration or a statement
 abbrev pub own_range : Tree → SourceRange
-own_range decl = TsInterfaceDecl-span decl
+own_range item = range_of_node item
 
 abbrev pub standing_seen : Surroundings → SourceRange → Tree → List Seen
 standing_seen around place decl = if around.is_public place then written decl ∷ [] else []
+
+-- a function that is not ambient, which is public by `place`: its signature, or where it is an implementation behind overloads the count of its parameters
+abbrev pub signature_of : Surroundings → SourceRange → Tree → Seen
+signature_of around place decl =
+    if around.is_implementation place then implementation_seen (FnDecl-function decl)
+    else function_seen around.unresolved (expr_seen around.unresolved) DeclarationLike (Ident-span (FnDecl-ident decl)) (FnDecl-function decl)
+
+-- a function declaration; in a declaration file it stands as it is written
+abbrev pub function_decl_seen : Surroundings → SourceRange → Tree → Seen
+function_decl_seen around place decl =
+    if around.is_declaration_file then written decl
+    else form FnDecl (seens (written (FnDecl-ident decl) ∷ flag (FnDecl-declare decl) ∷ signature_of around place decl ∷ []))
+
+abbrev pub public_function : Surroundings → SourceRange → Tree → List Seen
+public_function around place decl = if around.is_public place then function_decl_seen around place decl ∷ [] else []
 
 -- A declaration. Of a variable statement the declarators are public, by their own ranges; another is public by `place`, which is the range of its export, or else its own. Of other forms nothing is seen.
 abbrev pub decl_seen : Surroundings → SourceRange → Tree → List Seen
 decl_seen around place decl =
     if kind_of decl is VarDecl then statement_seen decl (public_declarators around decl)
-    else (if is_standing (kind_of decl) then standing_seen around place decl else [])
+    else (if kind_of decl is FnDecl then public_function around place decl
+    else (if is_standing (kind_of decl) then standing_seen around place decl else []))
 
 -- an exported declaration; nothing where none of it is seen
 abbrev pub exported_seen : Tree → List Seen → List Seen

@@ -4,7 +4,7 @@ use Rattle.fast_check_syntax.specs.declared.tree.Tree.{Tree}
 use Rattle.fast_check_syntax.specs.Moves.{Renaming, IsRenaming}
 use Rattle.fast_check_syntax.specs.Same.{SameTree, SameRange, Each}
 use Rattle.fast_check_program_forms.specs.Programs.{Module-body, Module-shebang}
-use Rattle.fast_check_skeleton.specs.declared.fault.Fault.{Fault}
+use Rattle.fast_check_signatures.specs.declared.fault.Fault.{Fault}
 use Rattle.fast_check_skeleton.specs.Surroundings.{Surroundings}
 use Rattle.fast_check_skeleton.specs.Skeleton.{skeleton_of, faults_of}
 use Rattle.fast_check_skeleton.specs.Hidden.{AgreeHidden}

@@ -2,8 +2,7 @@
 //! and the law that they keep.
 #![tactic(auto)]
 
-mod fault;
 mod worlds;
 
-pub use fault::{Fault, FaultKind};
+pub use fast_check_signatures::{Fault, FaultKind, FunctionKind};
 pub use worlds::two_worlds;
