@@ -1,5 +1,5 @@
 -- What is seen of an expression that gives a type by itself, if it may stay in a skeleton.
-use Rattle.std.specs.Prelude.{Bool, Option, Some, None, List, [], ◌∷◌, map, is_some, if◌then◌else◌}
+use Rattle.std.specs.Prelude.{Bool, not, ◌&&◌, ◌||◌, Option, Some, None, List, [], ◌∷◌, map, is_some, if◌then◌else◌}
 use Rattle.std.specs.List.{list_any}
 use Rattle.fast_check_syntax.specs.declared.kind.Kind.{Kind}
 use Rattle.fast_check_syntax.specs.declared.kind.Kind.TheVariants as kinds
@@ -38,11 +38,27 @@ is_plain = is_among plain_kinds
 abbrev pub is_compound : Kind → Bool
 is_compound = is_among compound_kinds
 
+-- other expressions that may stay
+abbrev pub other_kinds : List Kind
+other_kinds = kinds.TsSatisfiesExpr ∷ kinds.TsAsExpr ∷ kinds.TsTypeAssertion ∷ kinds.FnExpr ∷ kinds.ArrowExpr ∷ []
+
+-- whether an expression is `Object.freeze(x)`, which has the type of its argument
+abbrev pub freezes : SyntaxContext → Tree → Bool
+freezes unresolved t = is_some (object_freeze_call_arg unresolved (CallExpr-callee t) (CallExpr-args t))
+
+abbrev pub is_frozen : SyntaxContext → Tree → Bool
+is_frozen unresolved t = (kind_of t is kinds.CallExpr) && freezes unresolved t
+
+-- whether an expression may not stay, whatever its parts are
+abbrev pub is_refused : SyntaxContext → Tree → Bool
+is_refused unresolved t =
+    let kind = kind_of t in not (is_plain kind || (is_compound kind || (is_among other_kinds kind || is_frozen unresolved t)))
+
 module _ (unresolved : SyntaxContext) where
   -- a call stays where it is `Object.freeze(x)`, by its argument
   abbrev pub call_seen : Tree → Look → Seen
   call_seen t look =
-      if is_some (object_freeze_call_arg unresolved (CallExpr-callee t) (CallExpr-args t)) then
+      if freezes unresolved t then
       form kinds.CallExpr (seens (range (CallExpr-span t) ∷ scope (CallExpr-ctxt t) ∷ written (CallExpr-callee t) ∷ look (CallExpr-args t) None ∷ written (CallExpr-type_args t) ∷ []))
       else refused
 

@@ -1,0 +1,162 @@
+-- Agreement of values, functions and parameters but for what is hidden: one rule for each part that may differ. All else agrees under a renaming of positions and scope numbers.
+use Rattle.std.specs.Prelude.{◌≡◌, Bool, true, false, Option, Some, None, List, [], ◌∷◌, map, is_some, if◌then◌else◌}
+use Rattle.fast_check_syntax.specs.declared.kind.Kind.{Kind}
+use Rattle.fast_check_syntax.specs.declared.kind.Kind.TheVariants.{AssignPat, ArrayPat, ObjectPat, RestPat, BindingIdent, BlockStmt, CallExpr, TsSatisfiesExpr, TsAsExpr, TsTypeAssertion, FnExpr, ArrowExpr}
+use Rattle.fast_check_syntax.specs.declared.source.SyntaxContext.{SyntaxContext}
+use Rattle.fast_check_syntax.specs.declared.tree.Tree.{Tree}
+use Rattle.fast_check_syntax.specs.Shape.{◌is◌, kind_of, parts, is_absent}
+use Rattle.fast_check_syntax.specs.Moves.{Renaming, IsPair}
+use Rattle.fast_check_syntax.specs.Same.{SameTree, SameRange}
+use Rattle.fast_check_class_forms.specs.Functions.{Function-span, Function-params, Function-ctxt, Function-body, Function-is_generator, Function-is_async, Function-type_params, Function-return_type, Param-span, Param-pat}
+use Rattle.fast_check_expression_forms.specs.Assertions.{TsAsExpr-span, TsAsExpr-type_ann, TsTypeAssertion-span, TsTypeAssertion-type_ann, TsSatisfiesExpr-span, TsSatisfiesExpr-expr, TsSatisfiesExpr-type_ann}
+use Rattle.fast_check_expression_forms.specs.Calls.{CallExpr-span, CallExpr-ctxt, CallExpr-callee, CallExpr-args, CallExpr-type_args}
+use Rattle.fast_check_expression_forms.specs.Expressions.{ArrowExpr-span, ArrowExpr-ctxt, ArrowExpr-params, ArrowExpr-body, ArrowExpr-is_async, ArrowExpr-is_generator, ArrowExpr-type_params, ArrowExpr-return_type, FnExpr-ident, FnExpr-function}
+use Rattle.fast_check_expression_forms.specs.Patterns.{ArrayPat-span, ArrayPat-optional, ArrayPat-type_ann, ObjectPat-span, ObjectPat-optional, ObjectPat-type_ann, RestPat-span, RestPat-dot3_token, RestPat-arg, RestPat-type_ann, AssignPat-span, AssignPat-left, AssignPat-right}
+use Rattle.fast_check_program_forms.specs.Names.{BindingIdent-type_ann}
+use Rattle.fast_check_tree.specs.declared.helpers.literal_type.DeclMutabilityKind.TheVariants.{Mutable}
+use Rattle.fast_check_tree.specs.InferredType.{inferred_type}
+use Rattle.fast_check_tree.specs.ReturnClass.{return_class}
+use Rattle.fast_check_signatures.specs.Expressions.{is_compound, is_frozen, is_refused}
+
+-- both are of a kind
+pub record Both (k : Kind) (t u : Tree) : Type 0 where
+  pub left : kind_of t ≡ k
+  pub right : kind_of u ≡ k
+
+-- neither is of a kind
+pub record Neither (k : Kind) (t u : Tree) : Type 0 where
+  pub left : kind_of t is k ≡ false
+  pub right : kind_of u is k ≡ false
+
+-- which parameters of an implementation are a rest
+abbrev pub rests : Tree → List Bool
+rests function = map (λ p. kind_of (Param-pat p) is RestPat) (parts (Function-params function))
+
+-- the written type of an array or an object pattern
+abbrev pub pattern_type : Tree → Tree
+pattern_type pat = if kind_of pat is ArrayPat then ArrayPat-type_ann pat else ObjectPat-type_ann pat
+
+-- `c` and `d` are the scope numbers of the names that nothing in either source binds
+module _ (r : Renaming) (c d : SyntaxContext) where
+  -- values from which a type is inferred, and the types agree
+  pub record SameShown (t u : Tree) : Type 0 where
+    pub left : Tree
+    pub right : Tree
+    pub left_is : inferred_type Mutable c t ≡ Some left
+    pub right_is : inferred_type Mutable d u ≡ Some right
+    pub types : SameTree r left right
+
+  -- values from which no type is inferred
+  pub record NoneShown (t u : Tree) : Type 0 where
+    pub left : inferred_type Mutable c t ≡ None
+    pub right : inferred_type Mutable d u ≡ None
+
+  -- array or object patterns, whatever stands in them
+  pub data SameEmptied : Tree → Tree → Type 0 where
+    array : {t u : Tree} → Both ArrayPat t u → SameRange r (ArrayPat-span t) (ArrayPat-span u) → ArrayPat-optional t ≡ ArrayPat-optional u →
+        SameTree r (ArrayPat-type_ann t) (ArrayPat-type_ann u) → SameEmptied t u
+    object : {t u : Tree} → Both ObjectPat t u → SameRange r (ObjectPat-span t) (ObjectPat-span u) → ObjectPat-optional t ≡ ObjectPat-optional u →
+        SameTree r (ObjectPat-type_ann t) (ObjectPat-type_ann u) → SameEmptied t u
+
+  -- what agrees of two functions, whatever their bodies and parameters
+  pub record SameFunctionHead (t u : Tree) : Type 0 where
+    pub span : SameRange r (Function-span t) (Function-span u)
+    pub ctxt : IsPair r.scopes (Function-ctxt t).0 (Function-ctxt u).0
+    pub type_params : SameTree r (Function-type_params t) (Function-type_params u)
+    pub has_body : is_absent (Function-body t) ≡ is_absent (Function-body u)
+
+  -- what agrees beside it of two that are no implementations behind overloads
+  pub record SameReturn (t u : Tree) : Type 0 where
+    pub is_async : Function-is_async t ≡ Function-is_async u
+    pub is_generator : Function-is_generator t ≡ Function-is_generator u
+    pub return_type : SameTree r (Function-return_type t) (Function-return_type u)
+
+  -- implementations behind overloads: any bodies, return types and parameters, but for how many these are and which is a rest
+  pub record SameImplementation (t u : Tree) : Type 0 where
+    pub head : SameFunctionHead t u
+    pub rests : rests t ≡ rests u
+
+  -- what agrees of two arrows, whatever their bodies and parameters
+  pub record SameArrowHead (t u : Tree) : Type 0 where
+    pub span : SameRange r (ArrowExpr-span t) (ArrowExpr-span u)
+    pub ctxt : IsPair r.scopes (ArrowExpr-ctxt t).0 (ArrowExpr-ctxt u).0
+    pub is_async : ArrowExpr-is_async t ≡ ArrowExpr-is_async u
+    pub is_generator : ArrowExpr-is_generator t ≡ ArrowExpr-is_generator u
+    pub type_params : SameTree r (ArrowExpr-type_params t) (ArrowExpr-type_params u)
+    pub return_type : SameTree r (ArrowExpr-return_type t) (ArrowExpr-return_type u)
+
+  mutual
+    -- expressions that may have to stay, with the lists, elements, properties and names inside of them
+    pub data SameExpr : Tree → Tree → Type 0 where
+      same : {t u : Tree} → SameTree r t u → SameExpr t u
+      -- any two that may not stay, whatever their parts
+      refused : {t u : Tree} → is_refused c t ≡ true → is_refused d u ≡ true → SameExpr t u
+      -- part by part
+      compound : {t u : Tree} (k : Kind) → Both k t u → is_compound k ≡ true → SameExprs (parts t) (parts u) → SameExpr t u
+      satisfies : {t u : Tree} → Both TsSatisfiesExpr t u → SameRange r (TsSatisfiesExpr-span t) (TsSatisfiesExpr-span u) →
+          SameExpr (TsSatisfiesExpr-expr t) (TsSatisfiesExpr-expr u) → SameTree r (TsSatisfiesExpr-type_ann t) (TsSatisfiesExpr-type_ann u) → SameExpr t u
+      -- any operands of assertions
+      as_type : {t u : Tree} → Both TsAsExpr t u → SameRange r (TsAsExpr-span t) (TsAsExpr-span u) → SameTree r (TsAsExpr-type_ann t) (TsAsExpr-type_ann u) → SameExpr t u
+      assertion : {t u : Tree} → Both TsTypeAssertion t u → SameRange r (TsTypeAssertion-span t) (TsTypeAssertion-span u) →
+          SameTree r (TsTypeAssertion-type_ann t) (TsTypeAssertion-type_ann u) → SameExpr t u
+      -- `Object.freeze(x)`, by the argument
+      frozen : {t u : Tree} → is_frozen c t ≡ true → is_frozen d u ≡ true → SameRange r (CallExpr-span t) (CallExpr-span u) →
+          IsPair r.scopes (CallExpr-ctxt t).0 (CallExpr-ctxt u).0 → SameTree r (CallExpr-callee t) (CallExpr-callee u) →
+          SameExpr (CallExpr-args t) (CallExpr-args u) → SameTree r (CallExpr-type_args t) (CallExpr-type_args u) → SameExpr t u
+      function : {t u : Tree} → Both FnExpr t u → SameTree r (FnExpr-ident t) (FnExpr-ident u) → SameFunction (FnExpr-function t) (FnExpr-function u) → SameExpr t u
+      arrow : {t u : Tree} → Both ArrowExpr t u → SameArrowHead t u → SamePats (parts (ArrowExpr-params t)) (parts (ArrowExpr-params u)) → SameArrowBody t u → SameExpr t u
+
+    pub data SameExprs : List Tree → List Tree → Type 0 where
+      no_exprs : SameExprs [] []
+      next_expr : {t u : Tree} {ts us : List Tree} → SameExpr t u → SameExprs ts us → SameExprs (t ∷ ts) (u ∷ us)
+
+    -- bodies of arrows
+    pub data SameArrowBody : Tree → Tree → Type 0 where
+      -- any bodies behind a written return type
+      typed_arrow : {t u : Tree} → is_absent (ArrowExpr-return_type t) ≡ false → SameArrowBody t u
+      -- blocks of one return class
+      classed_arrow : {t u : Tree} → Both BlockStmt (ArrowExpr-body t) (ArrowExpr-body u) → return_class (ArrowExpr-body t) ≡ return_class (ArrowExpr-body u) → SameArrowBody t u
+      -- any values of the same inferred type
+      shown_value : {t u : Tree} → Neither BlockStmt (ArrowExpr-body t) (ArrowExpr-body u) → SameShown (ArrowExpr-body t) (ArrowExpr-body u) → SameArrowBody t u
+      -- values that are to stay
+      kept_value : {t u : Tree} → Neither BlockStmt (ArrowExpr-body t) (ArrowExpr-body u) → NoneShown (ArrowExpr-body t) (ArrowExpr-body u) →
+          SameExpr (ArrowExpr-body t) (ArrowExpr-body u) → SameArrowBody t u
+
+    -- functions: any bodies behind a written return type, and bodies of one return class
+    pub data SameFunction : Tree → Tree → Type 0 where
+      typed_function : {t u : Tree} → SameFunctionHead t u → SameReturn t u → is_absent (Function-return_type t) ≡ false →
+          SameParams (parts (Function-params t)) (parts (Function-params u)) → SameFunction t u
+      classed_function : {t u : Tree} → SameFunctionHead t u → SameReturn t u → return_class (Function-body t) ≡ return_class (Function-body u) →
+          SameParams (parts (Function-params t)) (parts (Function-params u)) → SameFunction t u
+
+    -- parameters of functions, whatever their decorators
+    pub data SameParams : List Tree → List Tree → Type 0 where
+      no_params : SameParams [] []
+      next_param : {t u : Tree} {ts us : List Tree} → SameRange r (Param-span t) (Param-span u) → SamePat (Param-pat t) (Param-pat u) → SameParams ts us → SameParams (t ∷ ts) (u ∷ us)
+
+    pub data SamePats : List Tree → List Tree → Type 0 where
+      no_pats : SamePats [] []
+      next_pat : {t u : Tree} {ts us : List Tree} → SamePat t u → SamePats ts us → SamePats (t ∷ ts) (u ∷ us)
+
+    -- parameters
+    pub data SamePat : Tree → Tree → Type 0 where
+      same_pat : {t u : Tree} → SameTree r t u → SamePat t u
+      emptied : {t u : Tree} → SameEmptied t u → SamePat t u
+      -- a rest that is gathered in a pattern
+      rest : {t u : Tree} → Both RestPat t u → SameRange r (RestPat-span t) (RestPat-span u) → SameRange r (RestPat-dot3_token t) (RestPat-dot3_token u) →
+          SameEmptied (RestPat-arg t) (RestPat-arg u) → SameTree r (RestPat-type_ann t) (RestPat-type_ann u) → SamePat t u
+      -- any defaults of identifiers with a written type
+      typed_default : {t u : Tree} → Both AssignPat t u → Both BindingIdent (AssignPat-left t) (AssignPat-left u) →
+          SameTree r (AssignPat-left t) (AssignPat-left u) → is_absent (BindingIdent-type_ann (AssignPat-left t)) ≡ false → SamePat t u
+      -- any defaults of the same inferred type
+      shown_default : {t u : Tree} → Both AssignPat t u → Both BindingIdent (AssignPat-left t) (AssignPat-left u) →
+          SameTree r (AssignPat-left t) (AssignPat-left u) → SameShown (AssignPat-right t) (AssignPat-right u) → SamePat t u
+      -- defaults that are to stay
+      kept_default : {t u : Tree} → Both AssignPat t u → Both BindingIdent (AssignPat-left t) (AssignPat-left u) → SameRange r (AssignPat-span t) (AssignPat-span u) →
+          SameTree r (AssignPat-left t) (AssignPat-left u) → NoneShown (AssignPat-right t) (AssignPat-right u) → SameExpr (AssignPat-right t) (AssignPat-right u) → SamePat t u
+      -- any defaults of patterns with a written type
+      typed_pattern : {t u : Tree} → Both AssignPat t u → SameRange r (AssignPat-span t) (AssignPat-span u) → SameEmptied (AssignPat-left t) (AssignPat-left u) →
+          is_absent (pattern_type (AssignPat-left t)) ≡ false → SamePat t u
+      -- defaults of patterns that are to stay
+      kept_pattern : {t u : Tree} → Both AssignPat t u → SameRange r (AssignPat-span t) (AssignPat-span u) → SameEmptied (AssignPat-left t) (AssignPat-left u) →
+          SameExpr (AssignPat-right t) (AssignPat-right u) → SamePat t u
