@@ -1,0 +1,2 @@
+pub mod NewNodesMoved
+pub mod AnswersMoved
