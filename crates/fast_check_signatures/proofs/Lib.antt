@@ -1,2 +1,3 @@
 pub mod NewNodesMoved
 pub mod AnswersMoved
+pub mod Looks
