@@ -5,6 +5,14 @@ use fast_check_syntax::SourceRange;
 pub enum FaultKind {
     /// A public symbol has no type that is written, or that its value shows.
     MissingExplicitType,
+    /// A public function has no return type that is written, or that its body shows.
+    MissingExplicitReturnType {
+        /// Whether it is a function expression or an arrow without return statement, so that it returns no value.
+        is_definitely_void_or_never: bool,
+        is_async: bool,
+    },
+    /// A pattern takes a value apart, where a public variable, a parameter or a parameter property has to have a name.
+    UnsupportedDestructuring,
 }
 
 /// A fault with its place in the source.
