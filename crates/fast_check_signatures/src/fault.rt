@@ -7,12 +7,11 @@ pub enum FaultKind {
     MissingExplicitType,
     /// A public function has no return type that is written, or that its body shows.
     MissingExplicitReturnType {
-        /// Whether the function returns nothing, so that its return type is `void` or `never`.
+        /// Whether it is a function expression or an arrow without return statement, so that it returns no value.
         is_definitely_void_or_never: bool,
-        /// Whether the function is `async`.
         is_async: bool,
     },
-    /// A pattern stands where a skeleton can have an identifier alone.
+    /// A pattern takes a value apart, where a public variable, a parameter or a parameter property has to have a name.
     UnsupportedDestructuring,
 }
 

@@ -17,7 +17,20 @@ use url::Url;
 #[derive(Debug, Clone, Drop)]
 pub enum FastCheckDiagnostic {
     /// A public declaration without written type, from whose value none is inferred.
-    MissingExplicitType { range: FastCheckDiagnosticRange },
+    MissingExplicitType {
+        range: FastCheckDiagnosticRange,
+    },
+    /// A public function without written return type, from whose body none is inferred.
+    MissingExplicitReturnType {
+        range: FastCheckDiagnosticRange,
+        /// Whether it is a function expression or an arrow without return statement, so that it returns no value.
+        is_definitely_void_or_never: bool,
+        is_async: bool,
+    },
+    /// A pattern that takes a value apart, where a public variable, a parameter or a parameter property has to have a name.
+    UnsupportedDestructuring {
+        range: FastCheckDiagnosticRange,
+    },
 }
 
 impl FastCheckDiagnostic {
@@ -28,7 +41,9 @@ impl FastCheckDiagnostic {
         ensures { result.now ≡ specifier_of self.now }
     {
         match self {
-            FastCheckDiagnostic::MissingExplicitType { range } => &range.specifier,
+            FastCheckDiagnostic::MissingExplicitType { range }
+            | FastCheckDiagnostic::MissingExplicitReturnType { range, .. }
+            | FastCheckDiagnostic::UnsupportedDestructuring { range } => &range.specifier,
         }
     }
 
@@ -38,6 +53,8 @@ impl FastCheckDiagnostic {
     {
         match self {
             FastCheckDiagnostic::MissingExplicitType { range } => Some(range),
+            FastCheckDiagnostic::MissingExplicitReturnType { range, .. } => Some(range),
+            FastCheckDiagnostic::UnsupportedDestructuring { range } => Some(range),
         }
     }
 
@@ -49,6 +66,10 @@ impl FastCheckDiagnostic {
             FastCheckDiagnostic::MissingExplicitType { .. } => {
                 Some("this symbol is missing an explicit type")
             }
+            FastCheckDiagnostic::MissingExplicitReturnType { .. } => {
+                Some("this function is missing an explicit return type")
+            }
+            FastCheckDiagnostic::UnsupportedDestructuring { .. } => None,
         }
     }
 }
@@ -62,6 +83,15 @@ impl fmt::Display for FastCheckDiagnostic {
         match self {
             FastCheckDiagnostic::MissingExplicitType { .. } => {
                 write!(f, "missing explicit type in the public API")
+            }
+            FastCheckDiagnostic::MissingExplicitReturnType { .. } => {
+                write!(f, "missing explicit return type in the public API")
+            }
+            FastCheckDiagnostic::UnsupportedDestructuring { .. } => {
+                write!(
+                    f,
+                    "found destructuring, which is not supported in the public API"
+                )
             }
         }
     }

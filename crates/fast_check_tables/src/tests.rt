@@ -6,6 +6,7 @@ use fast_check_comments::Comments;
 use fast_check_syntax::{SourcePos, SourceRange, SyntaxContext, Tree};
 use std::alloc::Global;
 use std::hash::{DefaultHasher, Hash, Hasher};
+use std::process::Abort;
 use std::rc::RcStr;
 use std::test::Fail;
 use url::Url;
@@ -42,29 +43,145 @@ fn hash_of(place: &FastCheckDiagnosticRange) -> u64 {
     state.finish()
 }
 
+/// What a reader has to be told of a diagnostic.
+#[derive(Clone, Copy)]
+struct Texts<'a> {
+    code: &'a str,
+    message: &'a str,
+    hint: &'a str,
+    info: &'a [&'a str],
+}
+
+fn assert_told(
+    rt: &impl Abort,
+    alloc: Global,
+    diagnostic: &FastCheckDiagnostic,
+    want: &Texts<'_>,
+) -> Result<(), Fail> {
+    let told: &dyn Diagnostic = diagnostic;
+    assert_eq!(rt; told.level(), DiagnosticLevel::Error);
+    assert_eq!(rt; told.code(), want.code);
+    assert_eq!(rt; told.message(alloc)?.as_str(), want.message);
+    let printed = format!(in alloc; "{diagnostic}")?;
+    assert_eq!(rt; printed.as_str(), want.message);
+    assert_eq!(rt; told.hint(alloc)?.as_deref(), Some(want.hint));
+    let info = told.info(alloc)?;
+    assert_eq!(rt; info.len(), want.info.len());
+    for (line, want) in info.iter().zip(want.info) {
+        assert_eq!(rt; line.as_str(), *want);
+    }
+    let page = format!(in alloc; "/go/slow-type-{}", want.code)?;
+    let url = told.docs_url(alloc)?;
+    assert!(rt; url.is_some_and(|url| url.ends_with(page.as_str())));
+    Ok(())
+}
+
 #[test]
 fn a_missing_type_is_told_in_its_texts(rt: HostRuntime) -> Result<(), Fail> {
-    let diagnostic = missing_type(rt.alloc())?;
+    let want = Texts {
+        code: "missing-explicit-type",
+        message: "missing explicit type in the public API",
+        hint: "add an explicit type annotation to the symbol",
+        info: &["all symbols in the public API must have an explicit type"],
+    };
+    assert_told(&rt, rt.alloc(), &missing_type(rt.alloc())?, &want)
+}
+
+#[test]
+fn a_missing_return_type_is_told_by_what_the_function_is(rt: HostRuntime) -> Result<(), Fail> {
+    let wanted = "all functions in the public API must have an explicit return type";
+    let reason =
+        "this function has no return statements, so a return type could not be inferred automatically";
+    for (is_definitely_void_or_never, is_async, hint, info) in [
+        (
+            false,
+            false,
+            "add an explicit return type to the function",
+            &[wanted] as &[&str],
+        ),
+        (
+            false,
+            true,
+            "add an explicit return type of 'Promise<void>' or 'Promise<never>' to the function",
+            &[wanted],
+        ),
+        (
+            true,
+            false,
+            "add an explicit return type of 'void' or 'never' to the function",
+            &[
+                wanted,
+                "function expressions without a return statement can have a return type of either 'void' or 'never'",
+                reason,
+            ],
+        ),
+        (
+            true,
+            true,
+            "add an explicit return type of 'void' or 'never' to the function",
+            &[
+                wanted,
+                "async function expressions without a return statement can have a return type of either 'Promise<void>' or 'Promise<never>'",
+                reason,
+            ],
+        ),
+    ] {
+        let diagnostic = FastCheckDiagnostic::MissingExplicitReturnType {
+            range: place(
+                rt.alloc(),
+                "file:///p/mod.ts",
+                range(18, 19),
+                "export function* g() {}",
+            )?,
+            is_definitely_void_or_never,
+            is_async,
+        };
+        let want = Texts {
+            code: "missing-explicit-return-type",
+            message: "missing explicit return type in the public API",
+            hint,
+            info,
+        };
+        assert_told(&rt, rt.alloc(), &diagnostic, &want)?;
+        let range = diagnostic.range().map(|place| place.range);
+        assert_eq!(rt;
+            range,
+            Some(SourceRange {
+                start: SourcePos(18),
+                end: SourcePos(19)
+            })
+        );
+        assert_eq!(rt; diagnostic.specifier().as_str(), "file:///p/mod.ts");
+        assert_eq!(rt;
+            diagnostic.range_description(),
+            Some("this function is missing an explicit return type")
+        );
+    }
+    Ok(())
+}
+
+#[test]
+fn destructuring_is_told_in_its_texts(rt: HostRuntime) -> Result<(), Fail> {
+    let diagnostic = FastCheckDiagnostic::UnsupportedDestructuring {
+        range: place(
+            rt.alloc(),
+            "file:///p/mod.ts",
+            range(14, 17),
+            "export const [a] = b;",
+        )?,
+    };
+    let want = Texts {
+        code: "unsupported-destructuring",
+        message: "found destructuring, which is not supported in the public API",
+        hint: "separate each destructured symbol into its own export statement",
+        info: &["destructuring can not be inferred by fast check"],
+    };
+    assert_told(&rt, rt.alloc(), &diagnostic, &want)?;
     let told: &dyn Diagnostic = &diagnostic;
-    assert_eq!(rt; told.level(), DiagnosticLevel::Error);
-    assert_eq!(rt; told.code(), "missing-explicit-type");
-    let message = told.message(rt.alloc())?;
-    assert_eq!(rt; message.as_str(), "missing explicit type in the public API");
-    let printed = format!(in rt.alloc(); "{diagnostic}")?;
-    assert_eq!(rt; printed.as_str(), "missing explicit type in the public API");
-    let hint = told.hint(rt.alloc())?;
-    assert_eq!(rt;
-        hint.as_deref(),
-        Some("add an explicit type annotation to the symbol")
-    );
-    let info = told.info(rt.alloc())?;
-    assert_eq!(rt; info.len(), 1);
-    assert_eq!(rt;
-        info[0].as_str(),
-        "all symbols in the public API must have an explicit type"
-    );
-    let url = told.docs_url(rt.alloc())?;
-    assert!(rt; url.is_some_and(|url| url.ends_with("/go/slow-type-missing-explicit-type")));
+    let snippet = told.snippet().expect(&rt, "it has a range");
+    assert_eq!(rt; snippet.range, range(14, 17));
+    assert_eq!(rt; snippet.description, None);
+    assert_eq!(rt; diagnostic.specifier().as_str(), "file:///p/mod.ts");
     Ok(())
 }
 

@@ -6,7 +6,7 @@ use Rattle.fast_check_tables.specs.EsModule.{EsModule}
 use Rattle.fast_check_tables.specs.MediaType.{is_declaration}
 use Rattle.fast_check_tables.specs.PublicRanges.{PublicRanges, is_public}
 use Rattle.fast_check_tables.specs.declared.diagnostics.FastCheckDiagnostic.{FastCheckDiagnostic}
-use Rattle.fast_check_tables.specs.declared.diagnostics.FastCheckDiagnostic.TheVariants.{MissingExplicitType}
+use Rattle.fast_check_tables.specs.declared.diagnostics.FastCheckDiagnostic.TheVariants.{MissingExplicitType, MissingExplicitReturnType, UnsupportedDestructuring}
 use Rattle.fast_check_tables.specs.declared.diagnostics.range.FastCheckDiagnosticRange.{FastCheckDiagnosticRange}
 use Rattle.fast_check_skeleton.specs.declared.fault.Fault.{Fault}
 use Rattle.fast_check_skeleton.specs.declared.fault.FaultKind.TheVariants as kinds
@@ -45,6 +45,9 @@ pub record IsPlaceOf (info : EsModule) (fault : Fault) (place : FastCheckDiagnos
 -- a fault of a module, as a diagnostic of its kind at its place
 abbrev pub IsDiagnosticOf : EsModule → Fault → FastCheckDiagnostic → Type 0
 IsDiagnosticOf info fault (MissingExplicitType place) = (fault.kind ≡ kinds.MissingExplicitType) × IsPlaceOf info fault place
+IsDiagnosticOf info fault (MissingExplicitReturnType place is_definitely_void_or_never is_async) =
+    (fault.kind ≡ kinds.MissingExplicitReturnType is_definitely_void_or_never is_async) × IsPlaceOf info fault place
+IsDiagnosticOf info fault (UnsupportedDestructuring place) = (fault.kind ≡ kinds.UnsupportedDestructuring) × IsPlaceOf info fault place
 
 -- faults one by one as diagnostics
 abbrev pub AreDiagnosticsOf : EsModule → List Fault → List FastCheckDiagnostic → Type 0

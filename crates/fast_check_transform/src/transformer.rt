@@ -171,9 +171,20 @@ fn diagnostic_of(
         range: fault.range,
         text_info: es_module_info.source().text.clone()?,
     };
-    match fault.kind {
-        FaultKind::MissingExplicitType => Ok(FastCheckDiagnostic::MissingExplicitType { range }),
-    }
+    Ok(match fault.kind {
+        FaultKind::MissingExplicitType => FastCheckDiagnostic::MissingExplicitType { range },
+        FaultKind::MissingExplicitReturnType {
+            is_definitely_void_or_never,
+            is_async,
+        } => FastCheckDiagnostic::MissingExplicitReturnType {
+            range,
+            is_definitely_void_or_never,
+            is_async,
+        },
+        FaultKind::UnsupportedDestructuring => {
+            FastCheckDiagnostic::UnsupportedDestructuring { range }
+        }
+    })
 }
 
 /// The faults of a module as diagnostics.

@@ -1,6 +1,7 @@
 //! What a reader is told of each of the faults that leave a module without skeleton.
 ghost use Rattle.std.specs.Prelude.{◌≡◌, IfOk, map};
 ghost use Rattle.std.specs.String.{string_bytes};
+ghost use Rattle.fast_check_tables.specs.Diagnostic.{hint_of_return_type, info_of_return_type};
 
 use crate::diagnostics::{
     Diagnostic, DiagnosticLevel, DiagnosticLocation, DiagnosticSnippet, FastCheckDiagnostic,
@@ -17,13 +18,17 @@ impl Diagnostic for FastCheckDiagnostic {
 
     fn level(&self) -> DiagnosticLevel {
         match self {
-            FastCheckDiagnostic::MissingExplicitType { .. } => DiagnosticLevel::Error,
+            FastCheckDiagnostic::MissingExplicitType { .. }
+            | FastCheckDiagnostic::MissingExplicitReturnType { .. }
+            | FastCheckDiagnostic::UnsupportedDestructuring { .. } => DiagnosticLevel::Error,
         }
     }
 
     fn code(&self) -> &'static str {
         match self {
             FastCheckDiagnostic::MissingExplicitType { .. } => "missing-explicit-type",
+            FastCheckDiagnostic::MissingExplicitReturnType { .. } => "missing-explicit-return-type",
+            FastCheckDiagnostic::UnsupportedDestructuring { .. } => "unsupported-destructuring",
         }
     }
 
@@ -58,6 +63,14 @@ impl Diagnostic for FastCheckDiagnostic {
             FastCheckDiagnostic::MissingExplicitType { .. } => {
                 "add an explicit type annotation to the symbol"
             }
+            FastCheckDiagnostic::MissingExplicitReturnType {
+                is_definitely_void_or_never,
+                is_async,
+                ..
+            } => return_type_hint(*is_definitely_void_or_never, *is_async),
+            FastCheckDiagnostic::UnsupportedDestructuring { .. } => {
+                "separate each destructured symbol into its own export statement"
+            }
         };
         Ok(Some(String::from_str(alloc, hint)?))
     }
@@ -72,6 +85,15 @@ impl Diagnostic for FastCheckDiagnostic {
                 alloc,
                 &["all symbols in the public API must have an explicit type"],
             ),
+            FastCheckDiagnostic::MissingExplicitReturnType {
+                is_definitely_void_or_never,
+                is_async,
+                ..
+            } => return_type_info(alloc, *is_definitely_void_or_never, *is_async),
+            FastCheckDiagnostic::UnsupportedDestructuring { .. } => lines(
+                alloc,
+                &["destructuring can not be inferred by fast check"],
+            ),
         }
     }
 
@@ -79,6 +101,41 @@ impl Diagnostic for FastCheckDiagnostic {
         let code = self.code();
         Ok(Some(format!(in alloc; "{DOCS_URL}{code}")?))
     }
+}
+
+/// What can be done about a function without return type.
+fn return_type_hint(is_definitely_void_or_never: bool, is_async: bool) -> &'static str
+    ensures { result.now ≡ hint_of_return_type is_definitely_void_or_never is_async }
+{
+    if is_definitely_void_or_never {
+        "add an explicit return type of 'void' or 'never' to the function"
+    } else if is_async {
+        "add an explicit return type of 'Promise<void>' or 'Promise<never>' to the function"
+    } else {
+        "add an explicit return type to the function"
+    }
+}
+
+/// The lines that say more of a function without return type.
+fn return_type_info(
+    alloc: Global,
+    is_definitely_void_or_never: bool,
+    is_async: bool,
+) -> Result<Vec<String>, AllocError>
+    ensures { IfOk result (λ lines. map string_bytes lines.items ≡ info_of_return_type is_definitely_void_or_never is_async) }
+{
+    let wanted = "all functions in the public API must have an explicit return type";
+    if !is_definitely_void_or_never {
+        return lines(alloc, &[wanted]);
+    }
+    let offered = if is_async {
+        "async function expressions without a return statement can have a return type of either 'Promise<void>' or 'Promise<never>'"
+    } else {
+        "function expressions without a return statement can have a return type of either 'void' or 'never'"
+    };
+    let reason =
+        "this function has no return statements, so a return type could not be inferred automatically";
+    lines(alloc, &[wanted, offered, reason])
 }
 
 fn lines(alloc: Global, texts: &[&str]) -> Result<Vec<String>, AllocError>
