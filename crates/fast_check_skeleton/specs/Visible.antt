@@ -2,17 +2,18 @@
 -- All that is asked outside the tree is asked here. What follows sees nothing that is hidden.
 use Rattle.std.specs.Prelude.{Bool, true, false, ◌||◌, if◌then◌else◌, Option, Some, None, List, [], ◌∷◌}
 use Rattle.std.specs.List.{flat_map}
-use Rattle.fast_check_syntax.specs.declared.kind.Kind.TheVariants.{VarDeclarator, VarDecl, ExportDecl, TsInterfaceDecl, TsTypeAliasDecl, TsEnumDecl, List as List'}
+use Rattle.fast_check_syntax.specs.declared.kind.Kind.TheVariants.{VarDeclarator, VarDecl, FnDecl, ExportDecl, TsInterfaceDecl, TsTypeAliasDecl, TsEnumDecl, List as List'}
 use Rattle.fast_check_syntax.specs.declared.kind.Kind.{Kind}
 use Rattle.fast_check_syntax.specs.declared.source.SourceRange.{SourceRange}
 use Rattle.fast_check_syntax.specs.declared.tree.Tree.{Tree}
 use Rattle.fast_check_syntax.specs.Shape.{◌is◌, kind_of, parts, is_absent}
 use Rattle.fast_check_tree.specs.declared.helpers.literal_type.DeclMutabilityKind.{DeclMutabilityKind}
+use Rattle.fast_check_class_forms.specs.Functions.{Function-span}
 use Rattle.fast_check_program_forms.specs.Names.{BindingIdent-id, BindingIdent-type_ann}
 use Rattle.fast_check_program_forms.specs.Programs.{Module-body}
 use Rattle.fast_check_program_forms.specs.ModuleDecls.{ExportDecl-span, ExportDecl-decl}
 use Rattle.fast_check_statement_forms.specs.TsDeclarations.{TsInterfaceDecl-span}
-use Rattle.fast_check_statement_forms.specs.Declarations.{VarDecl-span, VarDecl-ctxt, VarDecl-kind, VarDecl-declare, VarDecl-decls, VarDeclarator-span, VarDeclarator-name, VarDeclarator-init, VarDeclarator-definite}
+use Rattle.fast_check_statement_forms.specs.Declarations.{FnDecl-function, VarDecl-span, VarDecl-ctxt, VarDecl-kind, VarDecl-declare, VarDecl-decls, VarDeclarator-span, VarDeclarator-name, VarDeclarator-init, VarDeclarator-definite}
 use Rattle.fast_check_tree.specs.InferredType.{inferred_type}
 use Rattle.fast_check_skeleton.specs.Surroundings.{Surroundings}
 use Rattle.fast_check_skeleton.specs.Mutability.{mutability_of}
@@ -73,9 +74,9 @@ statement_seen statement (d ∷ ds) =
 abbrev pub is_standing : Kind → Bool
 is_standing kind = (kind is TsInterfaceDecl) || ((kind is TsTypeAliasDecl) || (kind is TsEnumDecl))
 
--- the range of a declaration that stands: its forms begin with it alike
+-- the range of an item: that of a function declaration is its function's, and the other forms begin with it alike
 abbrev pub own_range : Tree → SourceRange
-own_range decl = TsInterfaceDecl-span decl
+own_range item = if kind_of item is FnDecl then Function-span (FnDecl-function item) else TsInterfaceDecl-span item
 
 abbrev pub standing_seen : Surroundings → SourceRange → Tree → List Seen
 standing_seen around place decl = if around.is_public place then written decl ∷ [] else []
