@@ -1,1 +1,2 @@
 mod Pruned
+mod Removed

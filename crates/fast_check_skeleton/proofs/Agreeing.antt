@@ -1,4 +1,4 @@
--- Modules that agree but for what is hidden are seen alike, so that their answers are the same.
+-- Modules that agree but for what is hidden are seen alike, so that their skeletons and faults are the same.
 use Rattle.std.specs.Prelude.{◌≡◌, Bool, true, false, not, ◌&&◌, ◌||◌, Option, Some, None, option_map, List, [], ◌∷◌, ◌++◌, map, flat_map, refl, if◌then◌else◌}
 use Rattle.std.specs.List.{list_all, list_any}
 use Rattle.std.proofs.Common.{ap, ap₂, ◌∙◌, sym, subst, subst₂, true≢false}
@@ -31,7 +31,7 @@ use Rattle.fast_check_skeleton.specs.Visible.{declared_ident, declared_type, sta
 use Rattle.fast_check_skeleton.specs.Skeleton.{Answer, answer_of, transformed, skeleton_of, faults_of}
 use Rattle.fast_check_skeleton.specs.Hidden.{Both, statement_kinds, is_plain_statement, IsSilentDecl, IsSilent, SameHead, SameDeclarator, SameAmbient, SameDeclarators, SameStatement, SameDecl, SameItem, SameItems, AgreeHidden}
 use Rattle.fast_check_skeleton.specs.Hidden as h
-use Rattle.fast_check_skeleton.specs.Worlds.{SameFault, SameSkeleton, SameAnswers, TwoWorlds}
+use Rattle.fast_check_skeleton.specs.Worlds.{SameFault, SameSkeleton}
 use Rattle.fast_check_tree.proofs.GlobalCallsMoved.{moved_scope}
 use Rattle.fast_check_tree.proofs.InferredMoved.{inferred_type_moved}
 use Rattle.fast_check_skeleton.proofs.Moving.{moved_fault, moved_answer, map_append, answer_of_moved}
@@ -54,7 +54,7 @@ apart f k j e n = go (k is j) refl
     go false p = refl
     go true p = absurd (true≢false (sym e ∙ (ap f (is_kind k j p) ∙ n)))
 
-stands_apart : (k j : Kind) → is_standing k ≡ true → is_standing j ≡ false → k is j ≡ false
+pub stands_apart : (k j : Kind) → is_standing k ≡ true → is_standing j ≡ false → k is j ≡ false
 stands_apart = apart is_standing
 
 -- whether a statement of this kind may be plain
@@ -119,7 +119,7 @@ module _ (around : Surroundings) where
   no_export p t (h.IsSilentDecl.variable k e) = ap (λ j. j is ExportDecl) k
   no_export p t (h.IsSilentDecl.standing s e) = stands_apart (kind_of t) ExportDecl s refl
 
-  silent_item : (t : Tree) → IsSilent around t → item_seen around t ≡ []
+  pub silent_item : (t : Tree) → IsSilent around t → item_seen around t ≡ []
   silent_item t (h.IsSilent.decl s) = item_of t (no_export (own_range t) t s) ∙ silent_decl (own_range t) t s
   silent_item t (h.IsSilent.statement s) = item_of t (plain_apart t ExportDecl s refl) ∙ no_decl (own_range t) t (plain_apart t VarDecl s refl) (plain_no_standing t s)
   silent_item t (h.IsSilent.function k e) = item_of t (ap (λ j. j is ExportDecl) k) ∙ no_decl (own_range t) t (ap (λ j. j is VarDecl) k) (ap is_standing k)
@@ -133,7 +133,7 @@ module _ (r : Renaming) (ok : IsRenaming r) where
   abbrev Alike : Seen → Seen → Type 0
   Alike s t = moved_seen (partners r) s ≡ moved_seen twice t
 
-  abbrev AllAlike : List Seen → List Seen → Type 0
+  abbrev pub AllAlike : List Seen → List Seen → Type 0
   AllAlike ss ts = map (moved_seen (partners r)) ss ≡ map (moved_seen twice) ts
 
   written_alike : {t u : Tree} → SameTree r t u → Alike (written t) (written u)
@@ -289,7 +289,7 @@ module _ (r : Renaming) (ok : IsRenaming r) where
     exported_alike t u [] (y ∷ ys) s p = cc
     exported_alike t u (x ∷ xs) [] s p = cc
 
-    item_alike : IsPair r.scopes a.unresolved.0 b.unresolved.0 → a.is_declaration_file ≡ b.is_declaration_file → (t u : Tree) → SameItem r a b t u → AllAlike (item_seen a t) (item_seen b u)
+    pub item_alike : IsPair r.scopes a.unresolved.0 b.unresolved.0 → a.is_declaration_file ≡ b.is_declaration_file → (t u : Tree) → SameItem r a b t u → AllAlike (item_seen a t) (item_seen b u)
     item_alike c m t u (h.SameItem.decl d) =
         let e = decl_alike c m (own_range t) (own_range u) t u d in subst₂ AllAlike (sym (item_of a t e.0)) (sym (item_of b u e.1)) e.2
     item_alike c m t u (h.SameItem.exported k s d) =
@@ -299,8 +299,8 @@ module _ (r : Renaming) (ok : IsRenaming r) where
 
     items_alike : IsPair r.scopes a.unresolved.0 b.unresolved.0 → a.is_declaration_file ≡ b.is_declaration_file → (ts us : List Tree) → SameItems r a b ts us → AllAlike (flat_map (item_seen a) ts) (flat_map (item_seen b) us)
     items_alike c m [] [] h.SameItems.end = refl
-    items_alike c m (t ∷ ts) us (h.SameItems.left q rest) = subst (λ xs. AllAlike (xs ++ flat_map (item_seen a) ts) (flat_map (item_seen b) us)) (sym (silent_item a t q)) (items_alike c m ts us rest)
-    items_alike c m ts (u ∷ us) (h.SameItems.right q rest) = subst (λ xs. AllAlike (flat_map (item_seen a) ts) (xs ++ flat_map (item_seen b) us)) (sym (silent_item b u q)) (items_alike c m ts us rest)
+    items_alike c m (t ∷ ts) us (h.SameItems.left q n rest) = subst (λ xs. AllAlike (xs ++ flat_map (item_seen a) ts) (flat_map (item_seen b) us)) (sym (silent_item a t q)) (items_alike c m ts us rest)
+    items_alike c m ts (u ∷ us) (h.SameItems.right q n rest) = subst (λ xs. AllAlike (flat_map (item_seen a) ts) (xs ++ flat_map (item_seen b) us)) (sym (silent_item b u q)) (items_alike c m ts us rest)
     items_alike c m (t ∷ ts) (u ∷ us) (h.SameItems.next s rest) =
         append_alike (item_seen a t) (flat_map (item_seen a) ts) (item_seen b u) (flat_map (item_seen b) us) (item_alike c m t u s) (items_alike c m ts us rest)
 
@@ -321,20 +321,15 @@ module _ (r : Renaming) (ok : IsRenaming r) where
     abbrev module_parts : Surroundings → Tree → List Tree
     module_parts around t = tree.Range (Module-span t) ∷ list (transformed around t).trees ∷ Module-shebang t ∷ []
 
-    same_answers : (t u : Tree) → AgreeHidden r a b t u → SameAnswers r a t b u
-    same_answers t u g =
+    pub same_trees : (t u : Tree) → AgreeHidden r a b t u → SameSkeleton r (skeleton_of a t) (skeleton_of b u) × Each (SameFault r) (faults_of a t) (faults_of b u)
+    same_trees t u g =
         let e : moved_answer (partners r) (transformed a t) ≡ moved_answer twice (transformed b u) =
-        sym (answer_of_moved (partners r) (partners_keep r ok) (visible a t)) ∙ (ap answer_of (visible_alike t u g) ∙ answer_of_moved twice twice_keeps (visible b u)) in
-        record {
-          skeletons = record {
+        sym (answer_of_moved (partners r) (partners_keep r ok) (visible a t)) ∙ (ap answer_of (visible_alike t u g) ∙ answer_of_moved twice twice_keeps (visible b u)) in (
+          record {
             body = subst₂ (SameTree r) (sym (part_node 1 Module (module_parts a t))) (sym (part_node 1 Module (module_parts b u)))
                 (tree_from r ok (list (transformed a t).trees) (list (transformed b u).trees)
                 (node_moved (partners r) List' (transformed a t).trees ∙ (ap (λ x. list x.trees) e ∙ sym (node_moved twice List' (transformed b u).trees))));
             shebang = subst₂ (SameTree r) (sym (part_node 2 Module (module_parts a t))) (sym (part_node 2 Module (module_parts b u))) g.shebang;
-          };
-          faults = faults_from (transformed a t).faults (transformed b u).faults (ap (λ x. x.faults) e);
-        }
-
--- under each renaming
-pub two_worlds : (a : Surroundings) (t : Tree) (b : Surroundings) (u : Tree) → TwoWorlds a t b u
-two_worlds a t b u r ok g = same_answers r ok a b t u g
+          },
+          faults_from (transformed a t).faults (transformed b u).faults (ap (λ x. x.faults) e),
+        )

@@ -1,6 +1,6 @@
 -- The two modules of the example agree but for what is hidden.
 use Rattle.std.specs.Prelude.{◌≡◌, ℕ, Bool, false, List, [], ◌∷◌, refl, ◌↔◌}
-use Rattle.std.proofs.Common.{inl, inr, arith, ap, ◌∙◌, sym, subst₂}
+use Rattle.std.proofs.Common.{inl, inr, arith, ap, ◌∙◌, sym, subst, subst₂}
 use Rattle.fast_check_syntax.specs.declared.kind.Kind.{Kind}
 use Rattle.fast_check_syntax.specs.declared.kind.Kind.TheVariants.{Module, VarDecl, VarDeclarator, ExportDecl, BindingIdent, TsTypeAnn, TsKeywordType, List as List'}
 use Rattle.fast_check_syntax.specs.declared.kind.Word.TheVariants as words
@@ -11,10 +11,11 @@ use Rattle.fast_check_syntax.specs.declared.tree.Tree.{Tree, Absent, roll-Tree, 
 use Rattle.fast_check_syntax.specs.declared.tree.Tree.TheOpen.{Tree-F}
 use Rattle.fast_check_syntax.specs.Shape.{parts, part, is_absent, node, list, range_of, flag_of, context_at, context_of}
 use Rattle.fast_check_syntax.specs.Moves.{IsRenaming, IsPair, partners, twice, moved}
-use Rattle.fast_check_syntax.specs.Same.{SameTree, SameRange}
+use Rattle.fast_check_syntax.specs.Same.{SameTree, SameRange, Each}
 use Rattle.fast_check_syntax.proofs.Made.{kind_of_node, parts_node, part_node, is_absent_node, flag_of_flag, range_of_range}
 use Rattle.fast_check_syntax.proofs.Moved.{node_moved, absent_moved, flag_moved, word_moved, text_moved, context_moved, range_moved}
 use Rattle.fast_check_syntax.proofs.Same.{tree_from}
+use Rattle.fast_check_comments.specs.Kept.{kept}
 use Rattle.fast_check_program_forms.specs.Names.{BindingIdent-id, BindingIdent-type_ann, binding_ident}
 use Rattle.fast_check_program_forms.specs.ModuleDecls.{ExportDecl-span, ExportDecl-decl, export_decl}
 use Rattle.fast_check_program_forms.specs.Programs.{module'}
@@ -22,12 +23,14 @@ use Rattle.fast_check_statement_forms.specs.Declarations.{VarDecl-ctxt, VarDecl-
 use Rattle.fast_check_tree.specs.Builders.{never_value}
 use Rattle.fast_check_skeleton.specs.Surroundings.{Surroundings}
 use Rattle.fast_check_skeleton.specs.Mutability.{mutability_of}
-use Rattle.fast_check_skeleton.specs.Visible.{declared_ident, declared_type, items_of}
-use Rattle.fast_check_skeleton.specs.Hidden.{AgreeHidden, SameHead, SameDeclarator, SameDeclarators, SameStatement, SameDecl, SameItem, SameItems}
+use Rattle.fast_check_skeleton.specs.Visible.{declared_ident, declared_type, own_range, items_of}
+use Rattle.fast_check_skeleton.specs.Hidden.{IsNoPartner, AgreeHidden, SameHead, SameDeclarator, SameDeclarators, SameStatement, SameDecl, SameItem, SameItems}
 use Rattle.fast_check_skeleton.specs.Hidden as h
+use Rattle.fast_check_skeleton.specs.KeptComments.{kept_comments}
+use Rattle.fast_check_skeleton.specs.SameComments.{all_comments_at, SameComment, SameComments}
 use Rattle.fast_check_skeleton.specs.Skeleton.{skeleton_of}
-use Rattle.fast_check_skeleton.specs.Example.{at, scope, name, annotation, declarator, statement, exported, text_value, first, hidden_function, name_value, second, renaming, around, Example}
-use Rattle.fast_check_skeleton.proofs.Agreeing.{two_worlds}
+use Rattle.fast_check_skeleton.specs.Example.{at, scope, name, annotation, declarator, statement, exported, documented, before_tokens, text_value, first, first_comments, hidden_function, name_value, second, second_comments, renaming, around, Example}
+use Rattle.fast_check_skeleton.proofs.CommentsAlike.{two_worlds}
 
 -- ---- the renaming
 
@@ -94,15 +97,15 @@ module _ (span : SourceRange) (id type init : Tree) (definite : Bool) where
 -- ---- what agrees
 
 abbrev a : Surroundings
-a = around 14
+a = around 23
 
 abbrev b : Surroundings
-b = around 30
+b = around 48
 
-same_names : moved (partners renaming) (name 14 2) ≡ moved twice (name 30 3)
+same_names : moved (partners renaming) (name 23 2) ≡ moved twice (name 48 3)
 same_names = simp (node_moved, range_moved, context_moved, text_moved, flag_moved)
 
-same_types : moved (partners renaming) (annotation 14) ≡ moved twice (annotation 30)
+same_types : moved (partners renaming) (annotation 23) ≡ moved twice (annotation 48)
 same_types = simp (node_moved, range_moved, word_moved)
 
 same_consts : moved (partners renaming) (tree.Word words.Const) ≡ moved twice (tree.Word words.Const)
@@ -118,39 +121,39 @@ same : (t u : Tree) → moved (partners renaming) t ≡ moved twice u → Same t
 same t u e = tree_from renaming is_renaming t u e
 
 abbrev first_declarator : Tree
-first_declarator = declarator 14 2 text_value 29
+first_declarator = declarator 23 2 text_value 38
 
 abbrev second_declarator : Tree
-second_declarator = declarator 30 3 name_value 43
+second_declarator = declarator 48 3 name_value 61
 
-first_span : VarDeclarator-span first_declarator ≡ at 14 29
-first_span = span_made VarDeclarator (at 14 29) (binding_ident (name 14 2) (annotation 14) ∷ text_value ∷ tree.Flag false ∷ [])
+first_span : VarDeclarator-span first_declarator ≡ at 23 38
+first_span = span_made VarDeclarator (at 23 38) (binding_ident (name 23 2) (annotation 23) ∷ text_value ∷ tree.Flag false ∷ [])
 
-second_span : VarDeclarator-span second_declarator ≡ at 30 43
-second_span = span_made VarDeclarator (at 30 43) (binding_ident (name 30 3) (annotation 30) ∷ name_value ∷ tree.Flag false ∷ [])
+second_span : VarDeclarator-span second_declarator ≡ at 48 61
+second_span = span_made VarDeclarator (at 48 61) (binding_ident (name 48 3) (annotation 48) ∷ name_value ∷ tree.Flag false ∷ [])
 
 heads : SameHead renaming a b first_declarator second_declarator
 heads = record {
   is_public = ap a.is_public first_span ∙ sym (ap b.is_public second_span);
   span = subst₂ (SameRange renaming) (sym first_span) (sym second_span)
-      (record { start = inr (inr (inr (inl (refl, refl)))); end = inr (inr (inr (inl (refl, refl)))) });
-  ident = subst₂ Same (sym (ident_made (at 14 29) (name 14 2) (annotation 14) text_value false)) (sym (ident_made (at 30 43) (name 30 3) (annotation 30) name_value false))
-      (same (name 14 2) (name 30 3) same_names);
-  definite = definite_made (at 14 29) (name 14 2) (annotation 14) text_value false ∙ sym (definite_made (at 30 43) (name 30 3) (annotation 30) name_value false);
-  type = subst₂ Same (sym (type_made (at 14 29) (name 14 2) (annotation 14) text_value false)) (sym (type_made (at 30 43) (name 30 3) (annotation 30) name_value false))
-      (same (annotation 14) (annotation 30) same_types);
+      (record { start = inr (inr (inr (inr (inl (refl, refl))))); end = inr (inr (inr (inr (inl (refl, refl))))) });
+  ident = subst₂ Same (sym (ident_made (at 23 38) (name 23 2) (annotation 23) text_value false)) (sym (ident_made (at 48 61) (name 48 3) (annotation 48) name_value false))
+      (same (name 23 2) (name 48 3) same_names);
+  definite = definite_made (at 23 38) (name 23 2) (annotation 23) text_value false ∙ sym (definite_made (at 48 61) (name 48 3) (annotation 48) name_value false);
+  type = subst₂ Same (sym (type_made (at 23 38) (name 23 2) (annotation 23) text_value false)) (sym (type_made (at 48 61) (name 48 3) (annotation 48) name_value false))
+      (same (annotation 23) (annotation 48) same_types);
 }
 
 -- a type is written, so the values do not count
 is_typed : is_absent (declared_type first_declarator) ≡ false
-is_typed = ap is_absent (type_made (at 14 29) (name 14 2) (annotation 14) text_value false) ∙
-    is_absent_node TsTypeAnn (tree.Range (at 15 23) ∷ node TsKeywordType (tree.Range (at 17 23) ∷ tree.Word words.TsStringKeyword ∷ []) ∷ [])
+is_typed = ap is_absent (type_made (at 23 38) (name 23 2) (annotation 23) text_value false) ∙
+    is_absent_node TsTypeAnn (tree.Range (at 24 32) ∷ node TsKeywordType (tree.Range (at 26 32) ∷ tree.Word words.TsStringKeyword ∷ []) ∷ [])
 
 abbrev first_statement : Tree
-first_statement = statement 8 2 text_value 29
+first_statement = statement 17 2 text_value 38
 
 abbrev second_statement : Tree
-second_statement = statement 24 3 name_value 43
+second_statement = statement 42 3 name_value 61
 
 abbrev const : Tree
 const = tree.Word words.Const
@@ -159,52 +162,94 @@ statements : SameStatement renaming a b first_statement second_statement
 statements = record {
   kinds = record { left = simp kind_of_node; right = simp kind_of_node };
   span = subst₂ (SameRange renaming)
-      (sym (span_made VarDecl (at 8 30) (tree.Context (scope 0) ∷ const ∷ tree.Flag false ∷ list (first_declarator ∷ []) ∷ [])))
-      (sym (span_made VarDecl (at 24 44) (tree.Context (scope 0) ∷ const ∷ tree.Flag false ∷ list (second_declarator ∷ []) ∷ [])))
-      (record { start = inr (inr (inl (refl, refl))); end = inr (inr (inr (inr (inl (refl, refl))))) });
+      (sym (span_made VarDecl (at 17 39) (tree.Context (scope 0) ∷ const ∷ tree.Flag false ∷ list (first_declarator ∷ []) ∷ [])))
+      (sym (span_made VarDecl (at 42 62) (tree.Context (scope 0) ∷ const ∷ tree.Flag false ∷ list (second_declarator ∷ []) ∷ [])))
+      (record { start = inr (inr (inr (inl (refl, refl)))); end = inr (inr (inr (inr (inr (inl (refl, refl)))))) });
   ctxt = subst₂ (λ (x y : SyntaxContext). IsPair renaming.scopes x.0 y.0)
-      (sym (ctxt_made (at 8 30) (scope 0) const false (first_declarator ∷ []))) (sym (ctxt_made (at 24 44) (scope 0) const false (second_declarator ∷ []))) (inl (refl, refl));
-  kind = subst₂ Same (sym (kind_made (at 8 30) (scope 0) const false (first_declarator ∷ []))) (sym (kind_made (at 24 44) (scope 0) const false (second_declarator ∷ [])))
+      (sym (ctxt_made (at 17 39) (scope 0) const false (first_declarator ∷ []))) (sym (ctxt_made (at 42 62) (scope 0) const false (second_declarator ∷ []))) (inl (refl, refl));
+  kind = subst₂ Same (sym (kind_made (at 17 39) (scope 0) const false (first_declarator ∷ []))) (sym (kind_made (at 42 62) (scope 0) const false (second_declarator ∷ [])))
       (same const const same_consts);
-  declare = declare_made (at 8 30) (scope 0) const false (first_declarator ∷ []) ∙ sym (declare_made (at 24 44) (scope 0) const false (second_declarator ∷ []));
+  declare = declare_made (at 17 39) (scope 0) const false (first_declarator ∷ []) ∙ sym (declare_made (at 42 62) (scope 0) const false (second_declarator ∷ []));
 }
 
 decls : (p q : SourceRange) → SameDecl renaming a b p q first_statement second_statement
-decls p q = h.SameDecl.variable statements (declare_made (at 8 30) (scope 0) const false (first_declarator ∷ []))
+decls p q = h.SameDecl.variable statements (declare_made (at 17 39) (scope 0) const false (first_declarator ∷ []))
     (subst₂ (SameDeclarators renaming a b (SameDeclarator renaming a b (mutability_of (VarDecl-kind first_statement))))
-    (sym (decls_made (at 8 30) (scope 0) const false (first_declarator ∷ []))) (sym (decls_made (at 24 44) (scope 0) const false (second_declarator ∷ [])))
+    (sym (decls_made (at 17 39) (scope 0) const false (first_declarator ∷ []))) (sym (decls_made (at 42 62) (scope 0) const false (second_declarator ∷ [])))
     (h.SameDeclarators.next (h.SameDeclarator.typed heads is_typed) h.SameDeclarators.end))
 
 abbrev first_export : SourceRange
-first_export = ExportDecl-span (exported 1 2 text_value 29)
+first_export = ExportDecl-span (exported 10 2 text_value 38)
 
 abbrev second_export : SourceRange
-second_export = ExportDecl-span (exported 17 3 name_value 43)
+second_export = ExportDecl-span (exported 35 3 name_value 61)
 
-exports : SameItem renaming a b (exported 1 2 text_value 29) (exported 17 3 name_value 43)
+exports : SameItem renaming a b (exported 10 2 text_value 38) (exported 35 3 name_value 61)
 exports = h.SameItem.exported (record { left = simp kind_of_node; right = simp kind_of_node })
-    (subst₂ (SameRange renaming) (sym (span_made ExportDecl (at 1 30) (first_statement ∷ []))) (sym (span_made ExportDecl (at 17 44) (second_statement ∷ [])))
-    (record { start = inr (inl (refl, refl)); end = inr (inr (inr (inr (inl (refl, refl))))) }))
-    (subst₂ (SameDecl renaming a b first_export second_export) (sym (decl_made (at 1 30) first_statement)) (sym (decl_made (at 17 44) second_statement)) (decls first_export second_export))
+    (subst₂ (SameRange renaming) (sym (span_made ExportDecl (at 10 39) (first_statement ∷ []))) (sym (span_made ExportDecl (at 35 62) (second_statement ∷ [])))
+    (record { start = inr (inr (inl (refl, refl))); end = inr (inr (inr (inr (inr (inl (refl, refl)))))) }))
+    (subst₂ (SameDecl renaming a b first_export second_export) (sym (decl_made (at 10 39) first_statement)) (sym (decl_made (at 35 62) second_statement)) (decls first_export second_export))
 
 silent : h.IsSilent b hidden_function
 silent = h.IsSilent.function (simp kind_of_node) (simp (part_node, range_of_range))
+
+begins_at : own_range hidden_function ≡ at 10 25
+begins_at = simp (kind_of_node, part_node, range_of_range)
+
+begins_alone : IsNoPartner renaming.starts (own_range hidden_function).start.0
+begins_alone n p = let q : IsPair renaming.starts n 10 = subst (λ s. IsPair renaming.starts n s.start.0) begins_at p in grind arith
 
 agree : AgreeHidden renaming a b first second
 agree = record {
   unresolved = inr (inl (refl, refl));
   is_declaration_file = refl;
   items = subst₂ (SameItems renaming a b)
-      (sym (items_made (at 1 30) (exported 1 2 text_value 29 ∷ []) Absent)) (sym (items_made (at 1 44) (hidden_function ∷ exported 17 3 name_value 43 ∷ []) Absent))
-      (h.SameItems.right silent (h.SameItems.next exports h.SameItems.end));
+      (sym (items_made (at 10 39) (exported 10 2 text_value 38 ∷ []) Absent)) (sym (items_made (at 10 62) (hidden_function ∷ exported 35 3 name_value 61 ∷ []) Absent))
+      (h.SameItems.right silent begins_alone (h.SameItems.next exports h.SameItems.end));
   shebang = subst₂ Same
-      (sym (part_node 2 Module (tree.Range (at 1 30) ∷ list (exported 1 2 text_value 29 ∷ []) ∷ Absent ∷ [])))
-      (sym (part_node 2 Module (tree.Range (at 1 44) ∷ list (hidden_function ∷ exported 17 3 name_value 43 ∷ []) ∷ Absent ∷ [])))
+      (sym (part_node 2 Module (tree.Range (at 10 39) ∷ list (exported 10 2 text_value 38 ∷ []) ∷ Absent ∷ [])))
+      (sym (part_node 2 Module (tree.Range (at 10 62) ∷ list (hidden_function ∷ exported 35 3 name_value 61 ∷ []) ∷ Absent ∷ [])))
       (same Absent Absent same_absent);
 }
 
-skeleton_is : skeleton_of a first ≡ module' (at 1 30) (list (exported 1 2 never_value 29 ∷ [])) Absent
+skeleton_is : skeleton_of a first ≡ module' (at 10 39) (list (exported 10 2 never_value 38 ∷ [])) Absent
 skeleton_is = simp (parts_node, kind_of_node, range_of_range, flag_of_flag, context_of_context, is_absent_node)
 
+-- ---- the comments
+
+abbrev SameLeading : ℕ → ℕ → Type 0
+SameLeading p q = Each (SameComment renaming) (all_comments_at p (kept first_comments).leading) (all_comments_at q (kept second_comments).leading)
+
+is_at : (p q x y : ℕ) → (p ≡ x) × (q ≡ y) → SameLeading p q → SameLeading x y
+is_at p q x y e s = subst₂ SameLeading e.0 e.1 s
+
+-- at each pair of starts there is none, but at that of the exports
+agree_leading : (x y : ℕ) → IsPair renaming.starts x y → SameLeading x y
+agree_leading x y (inl e) = is_at 0 0 x y e tt
+agree_leading x y (inr (inl e)) = is_at 1 26 x y e tt
+agree_leading x y (inr (inr (inl e))) = is_at 10 35 x y e (record { kind = refl; span = record { start = inr (inl (refl, refl)); end = inr (inl (refl, refl)) }; text = refl }, tt)
+agree_leading x y (inr (inr (inr (inl e)))) = is_at 17 42 x y e tt
+agree_leading x y (inr (inr (inr (inr (inl e))))) = is_at 23 48 x y e tt
+agree_leading x y (inr (inr (inr (inr (inr (inl e)))))) = is_at 24 49 x y e tt
+agree_leading x y (inr (inr (inr (inr (inr (inr (inl e))))))) = is_at 26 51 x y e tt
+agree_leading x y (inr (inr (inr (inr (inr (inr (inr e))))))) = absurd e
+
+agree_comments : SameComments renaming (kept first_comments) (kept second_comments)
+agree_comments = record { leading = agree_leading; trailing = λ p q pair. tt }
+
+first_stay : kept_comments a first first_comments ≡ before_tokens (documented 120 1 ∷ [])
+first_stay = simp (parts_node, kind_of_node, range_of_range, flag_of_flag)
+
+second_stay : kept_comments b second second_comments ≡ before_tokens (documented 120 26 ∷ [])
+second_stay = simp (parts_node, kind_of_node, range_of_range, flag_of_flag)
+
 pub example : Example
-example = record { one_to_one = is_renaming; agree = agree; answers = two_worlds a first b second renaming is_renaming agree; skeleton = skeleton_is }
+example = record {
+  one_to_one = is_renaming;
+  agree = agree;
+  agree_comments = agree_comments;
+  answers = two_worlds a first first_comments b second second_comments renaming is_renaming agree agree_comments;
+  skeleton = skeleton_is;
+  first_stay = first_stay;
+  second_stay = second_stay;
+}

@@ -1,4 +1,5 @@
 pub mod Moving
 pub mod Agreeing
+pub mod CommentsAlike
 pub mod Standing
 mod Example

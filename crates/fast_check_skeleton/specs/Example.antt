@@ -1,13 +1,18 @@
 -- Two modules that agree but for what is hidden, so that the law of two worlds speaks of something:
--- `export const x: string = "a";`, and behind a hidden function and with another value `function g() {}` and `export const x: string = y;`.
-use Rattle.std.specs.Prelude.{◌≡◌, ℕ, ◌+◌, ◌==◌, false, [], ◌∷◌}
+-- `/** x */ export const x: string = "a";`, and behind a hidden function and with another value `/** g */ function g() {} /** x */ export const x: string = y;`.
+use Rattle.std.specs.Prelude.{◌≡◌, ℕ, ◌+◌, ◌==◌, false, List, [], ◌∷◌}
 use Rattle.fast_check_syntax.specs.declared.kind.Word.TheVariants as words
+use Rattle.fast_check_syntax.specs.declared.source.SourcePos.{SourcePos}
 use Rattle.fast_check_syntax.specs.declared.source.SourceRange.{SourceRange}
 use Rattle.fast_check_syntax.specs.declared.source.SyntaxContext.{SyntaxContext}
 use Rattle.fast_check_syntax.specs.declared.tree.Tree as tree
 use Rattle.fast_check_syntax.specs.declared.tree.Tree.{Tree, Absent}
 use Rattle.fast_check_syntax.specs.Shape.{list}
 use Rattle.fast_check_syntax.specs.Moves.{Renaming, IsRenaming}
+use Rattle.fast_check_comments.specs.declared.comment.Comment.{Comment}
+use Rattle.fast_check_comments.specs.declared.comment.CommentKind.TheVariants.{Block}
+use Rattle.fast_check_comments.specs.declared.comments.Comments.{Comments}
+use Rattle.fast_check_comments.specs.Kept.{kept}
 use Rattle.fast_check_class_forms.specs.Functions.{function}
 use Rattle.fast_check_program_forms.specs.Literals.{str}
 use Rattle.fast_check_program_forms.specs.ModuleDecls.{export_decl}
@@ -19,6 +24,8 @@ use Rattle.fast_check_type_forms.specs.Types.{ts_keyword_type}
 use Rattle.fast_check_type_forms.specs.TypeParams.{ts_type_ann}
 use Rattle.fast_check_tree.specs.Builders.{never_value}
 use Rattle.fast_check_skeleton.specs.Surroundings.{Surroundings}
+use Rattle.fast_check_skeleton.specs.KeptComments.{kept_comments}
+use Rattle.fast_check_skeleton.specs.SameComments.{SameComments}
 use Rattle.fast_check_skeleton.specs.Hidden.{AgreeHidden}
 use Rattle.fast_check_skeleton.specs.Skeleton.{skeleton_of}
 use Rattle.fast_check_skeleton.specs.Worlds.{SameAnswers}
@@ -50,31 +57,45 @@ statement start number value end = var_decl (at start (end + 1)) (scope 0) (tree
 abbrev pub exported : ℕ → ℕ → Tree → ℕ → Tree
 exported start number value end = export_decl (at start (end + 1)) (statement (start + 7) number value end)
 
--- `"a"` at 26
+-- `/** x */` at a place, before what begins 9 bytes further; the name is another in `/** g */`
+abbrev pub documented : ℕ → ℕ → SourcePos × List Comment
+documented letter start =
+    (record { 0 = start + 9 }, record { kind = Block; span = at start (start + 8); text = 42 ∷ 32 ∷ letter ∷ 32 ∷ [] } ∷ [])
+
+abbrev pub before_tokens : List (SourcePos × List Comment) → Comments
+before_tokens places = record { leading = places; trailing = [] }
+
+-- `"a"` at 35
 abbrev pub text_value : Tree
-text_value = str (at 26 29) (97 ∷ []) Absent
+text_value = str (at 35 38) (97 ∷ []) Absent
 
 abbrev pub first : Tree
-first = module' (at 1 30) (list (exported 1 2 text_value 29 ∷ [])) Absent
+first = module' (at 10 39) (list (exported 10 2 text_value 38 ∷ [])) Absent
 
--- `function g() {}` at 1
+abbrev pub first_comments : Comments
+first_comments = before_tokens (documented 120 1 ∷ [])
+
+-- `function g() {}` at 10
 abbrev pub hidden_function : Tree
 hidden_function =
-    fn_decl (ident (at 10 11) (scope 3) (103 ∷ []) false) false
-    (function (at 1 16) (list []) (list []) (scope 4) (block_stmt (at 14 16) (scope 4) (list [])) false false Absent Absent)
+    fn_decl (ident (at 19 20) (scope 3) (103 ∷ []) false) false
+    (function (at 10 25) (list []) (list []) (scope 4) (block_stmt (at 23 25) (scope 4) (list [])) false false Absent Absent)
 
--- `y` at 42
+-- `y` at 60
 abbrev pub name_value : Tree
-name_value = ident (at 42 43) (scope 1) (121 ∷ []) false
+name_value = ident (at 60 61) (scope 1) (121 ∷ []) false
 
 abbrev pub second : Tree
-second = module' (at 1 44) (list (hidden_function ∷ exported 17 3 name_value 43 ∷ [])) Absent
+second = module' (at 10 62) (list (hidden_function ∷ exported 35 3 name_value 61 ∷ [])) Absent
+
+abbrev pub second_comments : Comments
+second_comments = before_tokens (documented 103 1 ∷ documented 120 26 ∷ [])
 
 -- the places and the scope number of what is not hidden
 abbrev pub renaming : Renaming
 renaming = record {
-  starts = (0, 0) ∷ (1, 17) ∷ (8, 24) ∷ (14, 30) ∷ (15, 31) ∷ (17, 33) ∷ [];
-  ends = (0, 0) ∷ (15, 31) ∷ (23, 39) ∷ (29, 43) ∷ (30, 44) ∷ [];
+  starts = (0, 0) ∷ (1, 26) ∷ (10, 35) ∷ (17, 42) ∷ (23, 48) ∷ (24, 49) ∷ (26, 51) ∷ [];
+  ends = (0, 0) ∷ (9, 34) ∷ (24, 49) ∷ (32, 57) ∷ (38, 61) ∷ (39, 62) ∷ [];
   scopes = (0, 0) ∷ (1, 1) ∷ (2, 3) ∷ [];
 }
 
@@ -82,9 +103,12 @@ renaming = record {
 abbrev pub around : ℕ → Surroundings
 around place = record { is_public = λ r. r.start.0 == place; is_implementation = λ r. false; unresolved = scope 1; is_declaration_file = false }
 
--- they agree, and so the law says that their answers are the same: the first is `export const x: string = {} as never;`
+-- They agree, and so the law says that their answers are the same: the first is `/** x */ export const x: string = {} as never;`. What documents the hidden function goes.
 pub record Example : Type 0 where
   pub one_to_one : IsRenaming renaming
-  pub agree : AgreeHidden renaming (around 14) (around 30) first second
-  pub answers : SameAnswers renaming (around 14) first (around 30) second
-  pub skeleton : skeleton_of (around 14) first ≡ module' (at 1 30) (list (exported 1 2 never_value 29 ∷ [])) Absent
+  pub agree : AgreeHidden renaming (around 23) (around 48) first second
+  pub agree_comments : SameComments renaming (kept first_comments) (kept second_comments)
+  pub answers : SameAnswers renaming (around 23) first first_comments (around 48) second second_comments
+  pub skeleton : skeleton_of (around 23) first ≡ module' (at 10 39) (list (exported 10 2 never_value 38 ∷ [])) Absent
+  pub first_stay : kept_comments (around 23) first first_comments ≡ before_tokens (documented 120 1 ∷ [])
+  pub second_stay : kept_comments (around 48) second second_comments ≡ before_tokens (documented 120 26 ∷ [])

@@ -1,12 +1,12 @@
 -- Agreement of two sources but for what is hidden: one rule for each part that may differ. All else agrees node by node, under a renaming of positions and scope numbers.
-use Rattle.std.specs.Prelude.{◌≡◌, Bool, true, false, not, ◌&&◌, ◌||◌, Option, Some, None, List, [], ◌∷◌}
+use Rattle.std.specs.Prelude.{◌≡◌, ℕ, Bool, true, false, not, ◌&&◌, ◌||◌, Option, Some, None, List, [], ◌∷◌}
 use Rattle.std.specs.List.{list_all, list_any}
 use Rattle.fast_check_syntax.specs.declared.kind.Kind.{Kind}
 use Rattle.fast_check_syntax.specs.declared.kind.Kind.TheVariants.{BindingIdent, VarDecl, ExportDecl, FnDecl, BlockStmt, EmptyStmt, DebuggerStmt, WithStmt, ReturnStmt, LabeledStmt, BreakStmt, ContinueStmt, IfStmt, SwitchStmt, ThrowStmt, TryStmt, WhileStmt, DoWhileStmt, ForStmt, ForInStmt, ForOfStmt, ExprStmt, AssignExpr}
 use Rattle.fast_check_syntax.specs.declared.source.SourceRange.{SourceRange}
 use Rattle.fast_check_syntax.specs.declared.tree.Tree.{Tree}
 use Rattle.fast_check_syntax.specs.Shape.{◌is◌, kind_of, parts, is_absent}
-use Rattle.fast_check_syntax.specs.Moves.{Renaming, IsPair}
+use Rattle.fast_check_syntax.specs.Moves.{Renaming, Pairs, IsPair}
 use Rattle.fast_check_syntax.specs.Same.{SameTree, SameRange}
 use Rattle.fast_check_tree.specs.declared.helpers.literal_type.DeclMutabilityKind.{DeclMutabilityKind}
 use Rattle.fast_check_forms.specs.Ranges.{range_of_node}
@@ -47,6 +47,13 @@ pub data IsSilent (around : Surroundings) : Tree → Type 0 where
   -- a statement that declares and assigns nothing
   statement : {t : Tree} → is_plain_statement t ≡ true → IsSilent around t
   exported : {t : Tree} → kind_of t ≡ ExportDecl → IsSilentDecl around (ExportDecl-span t) (ExportDecl-decl t) → IsSilent around t
+
+-- a has no partner; b is the partner of none
+abbrev pub HasNoPartner : Pairs → ℕ → Type 0
+HasNoPartner pairs a = (b : ℕ) → IsPair pairs a b → ⊥
+
+abbrev pub IsNoPartner : Pairs → ℕ → Type 0
+IsNoPartner pairs b = (a : ℕ) → IsPair pairs a b → ⊥
 
 module _ (r : Renaming) (a b : Surroundings) where
   -- what agrees of two declarators, whatever their values
@@ -123,11 +130,11 @@ module _ (r : Renaming) (a b : Surroundings) where
     decl : {t u : Tree} → SameDecl (own_range t) (own_range u) t u → SameItem t u
     exported : {t u : Tree} → Both ExportDecl t u → SameRange r (ExportDecl-span t) (ExportDecl-span u) → SameDecl (ExportDecl-span t) (ExportDecl-span u) (ExportDecl-decl t) (ExportDecl-decl u) → SameItem t u
 
-  -- items one by one, the silent ones aside
+  -- items one by one, the silent ones aside; where a silent one begins has no partner
   pub data SameItems : List Tree → List Tree → Type 0 where
     end : SameItems [] []
-    left : {t : Tree} {ts us : List Tree} → IsSilent a t → SameItems ts us → SameItems (t ∷ ts) us
-    right : {u : Tree} {ts us : List Tree} → IsSilent b u → SameItems ts us → SameItems ts (u ∷ us)
+    left : {t : Tree} {ts us : List Tree} → IsSilent a t → HasNoPartner r.starts (own_range t).start.0 → SameItems ts us → SameItems (t ∷ ts) us
+    right : {u : Tree} {ts us : List Tree} → IsSilent b u → IsNoPartner r.starts (own_range u).start.0 → SameItems ts us → SameItems ts (u ∷ us)
     next : {t u : Tree} {ts us : List Tree} → SameItem t u → SameItems ts us → SameItems (t ∷ ts) (u ∷ us)
 
   -- two modules that agree but for what is hidden

@@ -5,6 +5,7 @@ pub mod Skeleton
 pub mod Grammar
 pub mod KeptComments
 pub mod Carried
+pub mod SameComments
 pub mod Hidden
 pub mod Worlds
 pub mod Example

@@ -8,10 +8,12 @@ use Rattle.fast_check_syntax.specs.declared.source.SourceRange.{SourceRange}
 use Rattle.fast_check_syntax.specs.declared.tree.Tree.{Tree}
 use Rattle.fast_check_syntax.specs.Shape.{◌is◌, kind_of, parts, is_absent}
 use Rattle.fast_check_tree.specs.declared.helpers.literal_type.DeclMutabilityKind.{DeclMutabilityKind}
+use Rattle.fast_check_class_forms.specs.Functions.{Function-span}
 use Rattle.fast_check_forms.specs.Ranges.{range_of_node}
 use Rattle.fast_check_program_forms.specs.Names.{Ident-span, BindingIdent-id, BindingIdent-type_ann}
 use Rattle.fast_check_program_forms.specs.Programs.{Module-body}
 use Rattle.fast_check_program_forms.specs.ModuleDecls.{ExportDecl-span, ExportDecl-decl}
+use Rattle.fast_check_statement_forms.specs.TsDeclarations.{TsInterfaceDecl-span}
 use Rattle.fast_check_statement_forms.specs.Declarations.{FnDecl-ident, FnDecl-declare, FnDecl-function, VarDecl-span, VarDecl-ctxt, VarDecl-kind, VarDecl-declare, VarDecl-decls, VarDeclarator-span, VarDeclarator-name, VarDeclarator-init, VarDeclarator-definite}
 use Rattle.fast_check_tree.specs.InferredType.{inferred_type}
 use Rattle.fast_check_signatures.specs.declared.fault.FaultKind.TheVariants.{UnsupportedDestructuring}
@@ -90,9 +92,9 @@ statement_seen statement (d ∷ ds) =
 abbrev pub is_standing : Kind → Bool
 is_standing kind = (kind is TsInterfaceDecl) || ((kind is TsTypeAliasDecl) || (kind is TsEnumDecl))
 
--- the range of a declaration or a statement
+-- the range of an item: that of a function declaration is its function's, and the other forms begin with it alike
 abbrev pub own_range : Tree → SourceRange
-own_range item = range_of_node item
+own_range item = if kind_of item is FnDecl then Function-span (FnDecl-function item) else TsInterfaceDecl-span item
 
 abbrev pub standing_seen : Surroundings → SourceRange → Tree → List Seen
 standing_seen around place decl = if around.is_public place then written decl ∷ [] else []

@@ -1,12 +1,16 @@
--- The law of two worlds: a hidden edit changes no skeleton and no fault.
+-- The law of two worlds: a hidden edit changes no skeleton, no fault and no comment that stays.
 use Rattle.std.specs.Prelude.{◌≡◌}
 use Rattle.fast_check_syntax.specs.declared.tree.Tree.{Tree}
 use Rattle.fast_check_syntax.specs.Moves.{Renaming, IsRenaming}
 use Rattle.fast_check_syntax.specs.Same.{SameTree, SameRange, Each}
+use Rattle.fast_check_comments.specs.declared.comments.Comments.{Comments}
+use Rattle.fast_check_comments.specs.Kept.{kept}
 use Rattle.fast_check_program_forms.specs.Programs.{Module-body, Module-shebang}
 use Rattle.fast_check_signatures.specs.declared.fault.Fault.{Fault}
 use Rattle.fast_check_skeleton.specs.Surroundings.{Surroundings}
 use Rattle.fast_check_skeleton.specs.Skeleton.{skeleton_of, faults_of}
+use Rattle.fast_check_skeleton.specs.KeptComments.{kept_comments}
+use Rattle.fast_check_skeleton.specs.SameComments.{SameComments}
 use Rattle.fast_check_skeleton.specs.Hidden.{AgreeHidden}
 
 -- one fault, at places that the renaming pairs
@@ -19,10 +23,12 @@ pub record SameSkeleton (r : Renaming) (t u : Tree) : Type 0 where
   pub body : SameTree r (Module-body t) (Module-body u)
   pub shebang : SameTree r (Module-shebang t) (Module-shebang u)
 
-pub record SameAnswers (r : Renaming) (a : Surroundings) (t : Tree) (b : Surroundings) (u : Tree) : Type 0 where
+-- what is answered of t with the comments c, and of u with the comments d
+pub record SameAnswers (r : Renaming) (a : Surroundings) (t : Tree) (c : Comments) (b : Surroundings) (u : Tree) (d : Comments) : Type 0 where
   pub skeletons : SameSkeleton r (skeleton_of a t) (skeleton_of b u)
   pub faults : Each (SameFault r) (faults_of a t) (faults_of b u)
+  pub comments : SameComments r (kept_comments a t c) (kept_comments b u d)
 
--- under each renaming under which two modules agree but for what is hidden, their answers are the same
-abbrev pub TwoWorlds : Surroundings → Tree → Surroundings → Tree → Type 0
-TwoWorlds a t b u = (r : Renaming) → IsRenaming r → AgreeHidden r a b t u → SameAnswers r a t b u
+-- Under each renaming under which two modules agree but for what is hidden, and so do those of their comments that a skeleton may keep, their answers are the same.
+abbrev pub TwoWorlds : Surroundings → Tree → Comments → Surroundings → Tree → Comments → Type 0
+TwoWorlds a t c b u d = (r : Renaming) → IsRenaming r → AgreeHidden r a b t u → SameComments r (kept c) (kept d) → SameAnswers r a t c b u d

@@ -5,9 +5,10 @@ ghost use Rattle.fast_check_transform.specs.Kept.{Asked-around, as_list, kept_de
 
 use crate::asked::Asked;
 use crate::declarations::keep_statement;
+use fast_check_class_forms::Function;
 use fast_check_program_forms::ExportDecl;
 use fast_check_skeleton::Fault;
-use fast_check_statement_forms::TsInterfaceDecl;
+use fast_check_statement_forms::{FnDecl, TsInterfaceDecl};
 use fast_check_syntax::{Kind, Part, SourceRange, Tree};
 use std::alloc::{AllocError, Global};
 
@@ -18,10 +19,13 @@ pub fn is_standing(kind: Kind) -> bool
     kind == Kind::TsInterfaceDecl || kind == Kind::TsTypeAliasDecl || kind == Kind::TsEnumDecl
 }
 
-/// The range that an item begins with.
+/// The range of an item. A function declaration has none beside its function's, and the other forms begin with it alike.
 pub fn own_range(item: Part<'_>) -> SourceRange
     ensures { result ≡ own_range (seen item.entry) }
 {
+    if item.kind() == Kind::FnDecl {
+        return Function::of(FnDecl::of(item).function).span;
+    }
     TsInterfaceDecl::of(item).span
 }
 

@@ -1,0 +1,188 @@
+-- Modules that agree but for what is hidden, and so do their comments, keep the same comments.
+use Rattle.std.specs.Prelude.{◌≡◌, ℕ, ◌==◌, Bool, true, false, not, ◌||◌, List, [], ◌∷◌, ◌++◌, flat_map, refl, if◌then◌else◌}
+use Rattle.std.specs.Bool.{one_answer}
+use Rattle.std.specs.Cmp.{unsigned_ties, unsigned_Decides}
+use Rattle.std.specs.List.{list_any}
+use Rattle.std.specs.Ordering.{is_eq, nat_cmp}
+use Rattle.std.proofs.Common.{ap, ap₂, ◌∙◌, sym, subst, subst₂, arith, cond, eqb-true, eq-eqb, true≢false}
+use Rattle.std.proofs.lemmas.List.Folds.{list_any-append}
+use Rattle.fast_check_syntax.specs.declared.kind.Kind.{Kind}
+use Rattle.fast_check_syntax.specs.declared.kind.Kind.TheVariants.{VarDecl, FnDecl, ExportDecl}
+use Rattle.fast_check_syntax.specs.declared.source.SourcePos.{SourcePos}
+use Rattle.fast_check_syntax.specs.declared.source.SourceRange.{SourceRange}
+use Rattle.fast_check_syntax.specs.declared.tree.Tree.{Tree}
+use Rattle.fast_check_syntax.specs.Shape.{◌is◌, kind_of, part, range_of}
+use Rattle.fast_check_syntax.specs.Moves.{Moves, Keeps, Renaming, IsRenaming, IsPair, partners, twice, moved, moved_range}
+use Rattle.fast_check_syntax.specs.Same.{SameTree, SameRange, Each}
+use Rattle.fast_check_syntax.proofs.Moved.{part_moved, range_of_moved}
+use Rattle.fast_check_syntax.proofs.Partners.{partners-keep as partners_keep, twice-keeps as twice_keeps}
+use Rattle.fast_check_syntax.proofs.Same.{tree_to, range_from}
+use Rattle.fast_check_comments.specs.declared.comment.Comment.{Comment}
+use Rattle.fast_check_comments.specs.declared.comments.Comments.{Comments}
+use Rattle.fast_check_comments.specs.Kept.{kept, without_leading}
+use Rattle.fast_check_comments.specs.Places.{Places, is_place_at, without_comments}
+use Rattle.fast_check_class_forms.specs.Functions.{Function-span}
+use Rattle.fast_check_program_forms.specs.ModuleDecls.{ExportDecl-span}
+use Rattle.fast_check_statement_forms.specs.Declarations.{FnDecl-function, VarDecl-span}
+use Rattle.fast_check_statement_forms.specs.TsDeclarations.{TsInterfaceDecl-span}
+use Rattle.fast_check_skeleton.specs.Surroundings.{Surroundings}
+use Rattle.fast_check_skeleton.specs.Seen.{Seen}
+use Rattle.fast_check_skeleton.specs.Visible.{is_standing, own_range, item_seen, items_of}
+use Rattle.fast_check_skeleton.specs.KeptComments.{start_of_unseen, removed_start, removed_starts, without_all_leading, kept_comments}
+use Rattle.fast_check_skeleton.specs.SameComments.{all_comments_at, SameComment, SameAtPairs, SameComments}
+use Rattle.fast_check_skeleton.specs.Hidden.{HasNoPartner, IsNoPartner, SameDecl, SameItem, SameItems, AgreeHidden}
+use Rattle.fast_check_skeleton.specs.Hidden as h
+use Rattle.fast_check_skeleton.specs.Worlds.{SameAnswers, TwoWorlds}
+use Rattle.fast_check_skeleton.proofs.Agreeing.{stands_apart, silent_item, AllAlike, item_alike, same_trees}
+
+-- ---- what is left at a position
+
+-- no place is at two positions
+at_one : (s p n : ℕ) → (s == p) ≡ false → is_eq (nat_cmp s n) ≡ true → is_eq (nat_cmp p n) ≡ false
+at_one s p n e f = go (is_eq (nat_cmp p n)) refl
+  where
+    go : (b : Bool) → is_eq (nat_cmp p n) ≡ b → b ≡ false
+    go false g = refl
+    go true g =
+        let s_is = eqb-true s n (unsigned_ties s n ∙ f) in
+        let p_is = eqb-true p n (unsigned_ties p n ∙ g) in
+        sym (eq-eqb s p (s_is ∙ sym p_is)) ∙ e
+
+-- at the position nothing, at another what stood there
+without_at : (p : ℕ) (s : SourcePos) (places : Places) → all_comments_at p (without_comments s places) ≡ (if s.0 == p then [] else all_comments_at p places)
+without_at p s [] = go (s.0 == p)
+  where
+    go : (m : Bool) → all_comments_at p [] ≡ (if m then [] else all_comments_at p [])
+    go true = refl
+    go false = refl
+without_at p s (x ∷ xs) =
+    go (s.0 == p) (is_place_at s x) (λ e. ap (λ n. is_eq (nat_cmp n x.0.0)) (eqb-true s.0 p e)) (at_one s.0 p x.0.0) (without_at p s xs)
+  where
+    go : (m u : Bool) → (m ≡ true → u ≡ is_place_at (record { 0 = p }) x) → (m ≡ false → u ≡ true → is_place_at (record { 0 = p }) x ≡ false) →
+        all_comments_at p (without_comments s xs) ≡ (if m then [] else all_comments_at p xs) →
+        all_comments_at p (cond (not u) (x ∷ without_comments s xs) (without_comments s xs)) ≡ (if m then [] else all_comments_at p (x ∷ xs))
+    go true true f g e = e
+    go true false f g e = ap (λ b. (if b then x.1 else []) ++ all_comments_at p (without_comments s xs)) (sym (f refl)) ∙ e
+    go false true f g e = e ∙ ap (λ b. (if b then x.1 else []) ++ all_comments_at p xs) (sym (g refl refl))
+    go false false f g e = ap (λ cs. (if is_place_at (record { 0 = p }) x then x.1 else []) ++ cs) e
+
+-- whether a position is one of the starts
+abbrev is_among : ℕ → List SourcePos → Bool
+is_among p starts = list_any (λ s. s.0 == p) starts
+
+-- at the starts nothing, elsewhere what stood there
+all_without : (p : ℕ) (starts : List SourcePos) (c : Comments) → all_comments_at p (without_all_leading starts c).leading ≡ (if is_among p starts then [] else all_comments_at p c.leading)
+all_without p [] c = refl
+all_without p (s ∷ ss) c =
+    all_without p ss (without_leading s c) ∙ (ap (λ cs. if is_among p ss then [] else cs) (without_at p s c.leading) ∙ go (is_among p ss) (s.0 == p))
+  where
+    go : (m n : Bool) → (if m then [] else (if n then [] else all_comments_at p c.leading)) ≡ (if n || m then [] else all_comments_at p c.leading)
+    go true true = refl
+    go true false = refl
+    go false true = refl
+    go false false = refl
+
+trailing_stay : (starts : List SourcePos) (c : Comments) → (without_all_leading starts c).trailing ≡ c.trailing
+trailing_stay [] c = refl
+trailing_stay (s ∷ ss) c = trailing_stay ss (without_leading s c)
+
+-- ---- where items begin
+
+own_other : (t : Tree) → kind_of t is FnDecl ≡ false → own_range t ≡ TsInterfaceDecl-span t
+own_other t e = ap (λ b. if b then Function-span (FnDecl-function t) else TsInterfaceDecl-span t) e
+
+first_moved : (m : Moves) → Keeps m → (t : Tree) → range_of (part 0 (moved m t)) ≡ moved_range m (range_of (part 0 t))
+first_moved m ok t = ap range_of (part_moved m 0 t) ∙ range_of_moved m ok (part 0 t)
+
+module _ (r : Renaming) (ok : IsRenaming r) where
+  first_alike : (t u : Tree) → SameTree r t u → SameRange r (TsInterfaceDecl-span t) (TsInterfaceDecl-span u)
+  first_alike t u s = range_from r ok (range_of (part 0 t)) (range_of (part 0 u))
+      (sym (first_moved (partners r) (partners_keep r ok) t) ∙ (ap (λ x. range_of (part 0 x)) (tree_to r ok s) ∙ first_moved twice twice_keeps u))
+
+  one_start : (p q x y : ℕ) → IsPair r.starts p q → IsPair r.starts x y → (x == p) ≡ (y == q)
+  one_start p q x y h k =
+      let same = ok.starts.same x p y q k h in
+      one_answer (x == p) (y == q) (unsigned_Decides x p) (λ e. same.1 (eqb-true y q e), λ e. eq-eqb y q (same.0 e))
+
+  no_left : (p q x : ℕ) → IsPair r.starts p q → HasNoPartner r.starts x → (x == p) ≡ false
+  no_left p q x h n = go (x == p) refl
+    where
+      go : (b : Bool) → (x == p) ≡ b → b ≡ false
+      go false e = refl
+      go true e = absurd (n q (subst (λ z. IsPair r.starts z q) (sym (eqb-true x p e)) h))
+
+  no_right : (p q y : ℕ) → IsPair r.starts p q → IsNoPartner r.starts y → (y == q) ≡ false
+  no_right p q y h n = go (y == q) refl
+    where
+      go : (b : Bool) → (y == q) ≡ b → b ≡ false
+      go false e = refl
+      go true e = absurd (n p (subst (λ z. IsPair r.starts p z) (sym (eqb-true y q e)) h))
+
+  module _ (a b : Surroundings) where
+    decl_begins : (p q : SourceRange) (t u : Tree) → SameDecl r a b p q t u → SameRange r (own_range t) (own_range u)
+    decl_begins p q t u (h.SameDecl.variable d n rest) =
+        subst₂ (SameRange r) (sym (own_other t (ap (λ k. k is FnDecl) d.kinds.left))) (sym (own_other u (ap (λ k. k is FnDecl) d.kinds.right))) d.span
+    decl_begins p q t u (h.SameDecl.ambient d n rest) =
+        subst₂ (SameRange r) (sym (own_other t (ap (λ k. k is FnDecl) d.kinds.left))) (sym (own_other u (ap (λ k. k is FnDecl) d.kinds.right))) d.span
+    decl_begins p q t u (h.SameDecl.standing k d s e f) =
+        let t_other = stands_apart (kind_of t) FnDecl (ap is_standing d.left ∙ s) refl in
+        let u_other = stands_apart (kind_of u) FnDecl (ap is_standing d.right ∙ s) refl in
+        subst₂ (SameRange r) (sym (own_other t t_other)) (sym (own_other u u_other)) (first_alike t u f)
+
+    item_begins : (t u : Tree) → SameItem r a b t u → SameRange r (own_range t) (own_range u)
+    item_begins t u (h.SameItem.decl d) = decl_begins (own_range t) (own_range u) t u d
+    item_begins t u (h.SameItem.exported k s d) =
+        subst₂ (SameRange r) (sym (own_other t (ap (λ j. j is FnDecl) k.left))) (sym (own_other u (ap (λ j. j is FnDecl) k.right))) s
+
+    -- ---- where what goes begins
+
+    module _ (p q : ℕ) (pair : IsPair r.starts p q) where
+      unseen_alike : (t u : Tree) (ss ts : List Seen) → SameRange r (own_range t) (own_range u) → AllAlike r ok ss ts → is_among p (start_of_unseen t ss) ≡ is_among q (start_of_unseen u ts)
+      unseen_alike t u [] [] s e = ap (λ m. m || false) (one_start p q (own_range t).start.0 (own_range u).start.0 pair s.start)
+      unseen_alike t u (x ∷ xs) (y ∷ ys) s e = refl
+      unseen_alike t u [] (y ∷ ys) s e = cc
+      unseen_alike t u (x ∷ xs) [] s e = cc
+
+      removed_left : (t : Tree) → h.IsSilent a t → HasNoPartner r.starts (own_range t).start.0 → is_among p (removed_start a t) ≡ false
+      removed_left t s n = ap (λ ss. is_among p (start_of_unseen t ss)) (silent_item a t s) ∙ ap (λ m. m || false) (no_left p q (own_range t).start.0 pair n)
+
+      removed_right : (u : Tree) → h.IsSilent b u → IsNoPartner r.starts (own_range u).start.0 → is_among q (removed_start b u) ≡ false
+      removed_right u s n = ap (λ ss. is_among q (start_of_unseen u ss)) (silent_item b u s) ∙ ap (λ m. m || false) (no_right p q (own_range u).start.0 pair n)
+
+      among_more : (n : ℕ) (around : Surroundings) (t : Tree) (ts : List Tree) →
+          is_among n (flat_map (removed_start around) (t ∷ ts)) ≡ (is_among n (removed_start around t) || is_among n (flat_map (removed_start around) ts))
+      among_more n around t ts = list_any-append (λ (s : SourcePos). s.0 == n) (removed_start around t) (flat_map (removed_start around) ts)
+
+      removed_alike : IsPair r.scopes a.unresolved.0 b.unresolved.0 → a.is_declaration_file ≡ b.is_declaration_file → (ts us : List Tree) → SameItems r a b ts us →
+          is_among p (flat_map (removed_start a) ts) ≡ is_among q (flat_map (removed_start b) us)
+      removed_alike c m [] [] h.SameItems.end = refl
+      removed_alike c m (t ∷ ts) us (h.SameItems.left s n rest) =
+          among_more p a t ts ∙ (ap (λ x. x || is_among p (flat_map (removed_start a) ts)) (removed_left t s n) ∙ removed_alike c m ts us rest)
+      removed_alike c m ts (u ∷ us) (h.SameItems.right s n rest) =
+          removed_alike c m ts us rest ∙ sym (among_more q b u us ∙ ap (λ x. x || is_among q (flat_map (removed_start b) us)) (removed_right u s n))
+      removed_alike c m (t ∷ ts) (u ∷ us) (h.SameItems.next s rest) =
+          among_more p a t ts ∙ (ap₂ (λ x y. x || y) (unseen_alike t u (item_seen a t) (item_seen b u) (item_begins t u s) (item_alike r ok a b c m t u s)) (removed_alike c m ts us rest)
+          ∙ sym (among_more q b u us))
+
+    -- ---- the comments that stay
+
+    each_if : (m n : Bool) (xs ys : List Comment) → m ≡ n → Each (SameComment r) xs ys → Each (SameComment r) (if m then [] else xs) (if n then [] else ys)
+    each_if true true xs ys e s = tt
+    each_if false false xs ys e s = s
+    each_if true false xs ys e s = cc
+    each_if false true xs ys e s = cc
+
+    same_comments : (t u : Tree) (c d : Comments) → AgreeHidden r a b t u → SameComments r (kept c) (kept d) → SameComments r (kept_comments a t c) (kept_comments b u d)
+    same_comments t u c d g s = record {
+      leading = λ p q pair.
+          subst₂ (Each (SameComment r)) (sym (all_without p (removed_starts a t) (kept c))) (sym (all_without q (removed_starts b u) (kept d)))
+          (each_if (is_among p (removed_starts a t)) (is_among q (removed_starts b u)) (all_comments_at p (kept c).leading) (all_comments_at q (kept d).leading)
+          (removed_alike p q pair g.unresolved g.is_declaration_file (items_of t) (items_of u) g.items) (s.leading p q pair));
+      trailing = subst₂ (SameAtPairs r r.ends) (sym (trailing_stay (removed_starts a t) (kept c))) (sym (trailing_stay (removed_starts b u) (kept d))) s.trailing;
+    }
+
+-- under each renaming
+pub two_worlds : (a : Surroundings) (t : Tree) (c : Comments) (b : Surroundings) (u : Tree) (d : Comments) → TwoWorlds a t c b u d
+two_worlds a t c b u d r ok g s =
+    let trees = same_trees r ok a b t u g in
+    record { skeletons = trees.0; faults = trees.1; comments = same_comments r ok a b t u c d g s }
