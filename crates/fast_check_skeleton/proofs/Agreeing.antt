@@ -1,40 +1,49 @@
 -- Modules that agree but for what is hidden are seen alike, so that their skeletons and faults are the same.
-use Rattle.std.specs.Prelude.{◌≡◌, Bool, true, false, not, ◌&&◌, ◌||◌, Option, Some, None, option_map, List, [], ◌∷◌, ◌++◌, map, flat_map, refl, if◌then◌else◌}
+use Rattle.std.specs.Prelude.{◌≡◌, Bool, true, false, not, ◌&&◌, ◌||◌, Option, Some, None, is_some, option_map, List, [], ◌∷◌, ◌++◌, map, flat_map, refl, if◌then◌else◌}
 use Rattle.std.specs.List.{list_all, list_any}
 use Rattle.std.proofs.Common.{ap, ap₂, ◌∙◌, sym, subst, subst₂, true≢false}
 use Rattle.fast_check_syntax.specs.declared.kind.Kind.{Kind}
-use Rattle.fast_check_syntax.specs.declared.kind.Kind.TheVariants.{Module, VarDeclarator, VarDecl, ExportDecl, FnDecl, TsInterfaceDecl, TsTypeAliasDecl, TsEnumDecl, ExprStmt, AssignExpr, List as List'}
+use Rattle.fast_check_syntax.specs.declared.kind.Kind.TheVariants.{Module, BindingIdent, VarDeclarator, VarDecl, ExportDecl, FnDecl, TsInterfaceDecl, TsTypeAliasDecl, TsEnumDecl, ExprStmt, AssignExpr, List as List'}
 use Rattle.fast_check_syntax.specs.declared.kind.Word.TheVariants.{Const as ConstWord}
 use Rattle.fast_check_syntax.specs.declared.source.SourceRange.{SourceRange}
 use Rattle.fast_check_syntax.specs.declared.source.SyntaxContext.{SyntaxContext}
 use Rattle.fast_check_syntax.specs.declared.tree.Tree as tree
 use Rattle.fast_check_syntax.specs.declared.tree.Tree.{Tree}
-use Rattle.fast_check_syntax.specs.Shape.{◌is◌, is_kind, kind_of, parts, is_absent, has_word, list}
-use Rattle.fast_check_syntax.specs.Moves.{Moves, Renaming, IsRenaming, IsPair, partners, twice, moved}
+use Rattle.fast_check_syntax.specs.Shape.{◌is◌, is_kind, kind_of, parts, is_absent, has_word, range_of, part, list}
+use Rattle.fast_check_syntax.specs.Moves.{Moves, Renaming, IsRenaming, IsPair, partners, twice, moved, moved_range}
 use Rattle.fast_check_syntax.specs.Same.{SameTree, SameRange, Each}
-use Rattle.fast_check_syntax.proofs.Moved.{is_absent_moved, has_word_moved, node_moved}
+use Rattle.fast_check_syntax.proofs.Moved.{is_absent_moved, has_word_moved, node_moved, part_moved, range_of_moved}
 use Rattle.fast_check_syntax.proofs.Made.{part_node}
 use Rattle.fast_check_syntax.proofs.Partners.{partners-keep as partners_keep, twice-keeps as twice_keeps, to_partner}
 use Rattle.fast_check_syntax.proofs.Same.{tree_to, tree_from, range_to, range_from}
+use Rattle.fast_check_forms.specs.Ranges.{range_of_node}
+use Rattle.fast_check_program_forms.specs.Names.{Ident-span}
 use Rattle.fast_check_program_forms.specs.Programs.{Module-span, Module-shebang}
 use Rattle.fast_check_program_forms.specs.ModuleDecls.{ExportDecl-span, ExportDecl-decl}
-use Rattle.fast_check_statement_forms.specs.Declarations.{VarDecl-span, VarDecl-ctxt, VarDecl-kind, VarDecl-declare, VarDecl-decls, VarDeclarator-span, VarDeclarator-name, VarDeclarator-init, VarDeclarator-definite}
+use Rattle.fast_check_statement_forms.specs.Declarations.{FnDecl-ident, FnDecl-declare, FnDecl-function, VarDecl-span, VarDecl-ctxt, VarDecl-kind, VarDecl-declare, VarDecl-decls, VarDeclarator-span, VarDeclarator-name, VarDeclarator-init, VarDeclarator-definite}
 use Rattle.fast_check_tree.specs.declared.helpers.literal_type.DeclMutabilityKind.{DeclMutabilityKind}
 use Rattle.fast_check_tree.specs.declared.helpers.literal_type.DeclMutabilityKind.TheVariants.{Const, Mutable}
 use Rattle.fast_check_statement_forms.specs.Statements.{ExprStmt-expr}
-use Rattle.fast_check_skeleton.specs.declared.fault.Fault.{Fault}
+use Rattle.fast_check_signatures.specs.declared.fault.Fault.{Fault}
+use Rattle.fast_check_signatures.specs.declared.fault.FaultKind.TheVariants.{UnsupportedDestructuring}
+use Rattle.fast_check_signatures.specs.declared.function_kind.FunctionKind.TheVariants.{DeclarationLike}
 use Rattle.fast_check_skeleton.specs.Surroundings.{Surroundings}
 use Rattle.fast_check_tree.specs.InferredType.{inferred_type}
 use Rattle.fast_check_skeleton.specs.Mutability.{mutability_of}
-use Rattle.fast_check_skeleton.specs.Seen.{Seen, written, range, scope, flag, form, inferred, hidden, end, also, seens, moved_seen, moved_seens}
-use Rattle.fast_check_skeleton.specs.Visible.{declared_ident, declared_type, standing, by_inferred, value_seen, declarator_seen, is_ambient, is_public_declarator, declarator_in, public_declarator, public_declarators, statement_seen, is_standing, own_range, standing_seen, decl_seen, exported_seen, item_seen, items_of, visible}
-use Rattle.fast_check_skeleton.specs.Skeleton.{Answer, answer_of, transformed, skeleton_of, faults_of}
-use Rattle.fast_check_skeleton.specs.Hidden.{Both, statement_kinds, is_plain_statement, IsSilentDecl, IsSilent, SameHead, SameDeclarator, SameAmbient, SameDeclarators, SameStatement, SameDecl, SameItem, SameItems, AgreeHidden}
+use Rattle.fast_check_signatures.specs.Seen.{Seen, written, range, scope, flag, form, inferred, faulty, refused, hidden, end, also, seens, moved_seen, moved_seens}
+use Rattle.fast_check_skeleton.specs.Visible.{declared_ident, declared_type, standing, by_inferred, untyped, kept_value_seen, ident_declarator_seen, declarator_seen, is_ambient, is_public_declarator, declarator_in, public_declarator, public_declarators, statement_seen, is_standing, own_range, standing_seen, signature_of, function_decl_seen, public_function, decl_seen, exported_seen, item_seen, items_of, visible}
+use Rattle.fast_check_signatures.specs.Answers.{Answer, answer_of}
+use Rattle.fast_check_signatures.specs.Expressions.{expr_seen}
+use Rattle.fast_check_signatures.specs.Functions.{function_seen, implementation_seen}
+use Rattle.fast_check_signatures.specs.SameValues.{Both, Neither, SameExpr, SameFunction, SameImplementation}
+use Rattle.fast_check_signatures.specs.SameValues as v
+use Rattle.fast_check_skeleton.specs.Skeleton.{transformed, skeleton_of, faults_of}
+use Rattle.fast_check_skeleton.specs.Hidden.{statement_kinds, is_plain_statement, IsSilentDecl, IsSilent, SameHead, SameDeclarator, SameAmbient, SameDeclarators, SameStatement, SameFunctionDecl, SameDecl, SameItem, SameItems, AgreeHidden}
 use Rattle.fast_check_skeleton.specs.Hidden as h
 use Rattle.fast_check_skeleton.specs.Worlds.{SameFault, SameSkeleton}
 use Rattle.fast_check_tree.proofs.GlobalCallsMoved.{moved_scope}
 use Rattle.fast_check_tree.proofs.InferredMoved.{inferred_type_moved}
-use Rattle.fast_check_skeleton.proofs.Moving.{moved_fault, moved_answer, map_append, answer_of_moved}
+use Rattle.fast_check_signatures.proofs.AnswersMoved.{moved_fault, moved_answer, map_append, answer_of_moved}
 
 seens_moved : (m : Moves) (ss : List Seen) → moved_seens m (seens ss) ≡ seens (map (moved_seen m) ss)
 seens_moved m [] = refl
@@ -90,17 +99,21 @@ module _ (around : Surroundings) where
       go false e = refl
       go true e = cc
 
-  abbrev decl_if : SourceRange → Tree → Bool → Bool → List Seen
-  decl_if p t is_variable stands = if is_variable then statement_seen t (public_declarators around t) else (if stands then standing_seen around p t else [])
+  abbrev decl_if : SourceRange → Tree → Bool → Bool → Bool → List Seen
+  decl_if p t is_variable is_function stands =
+      if is_variable then statement_seen t (public_declarators around t) else (if is_function then public_function around p t else (if stands then standing_seen around p t else []))
 
   decl_of : (p : SourceRange) (t : Tree) → kind_of t ≡ VarDecl → decl_seen around p t ≡ statement_seen t (public_declarators around t)
-  decl_of p t e = ap (λ k. decl_if p t (k is VarDecl) (is_standing k)) e
+  decl_of p t e = ap (λ k. decl_if p t (k is VarDecl) (k is FnDecl) (is_standing k)) e
 
-  no_decl : (p : SourceRange) (t : Tree) → kind_of t is VarDecl ≡ false → is_standing (kind_of t) ≡ false → decl_seen around p t ≡ []
-  no_decl p t e f = λ i. decl_if p t (e i) (f i)
+  function_of : (p : SourceRange) (t : Tree) → kind_of t ≡ FnDecl → decl_seen around p t ≡ public_function around p t
+  function_of p t e = ap (λ k. decl_if p t (k is VarDecl) (k is FnDecl) (is_standing k)) e
+
+  no_decl : (p : SourceRange) (t : Tree) → kind_of t is VarDecl ≡ false → kind_of t is FnDecl ≡ false → is_standing (kind_of t) ≡ false → decl_seen around p t ≡ []
+  no_decl p t e f g = λ i. decl_if p t (e i) (f i) (g i)
 
   standing_of : (p : SourceRange) (t : Tree) → is_standing (kind_of t) ≡ true → decl_seen around p t ≡ standing_seen around p t
-  standing_of p t e = λ i. decl_if p t (stands_apart (kind_of t) VarDecl e refl i) (e i)
+  standing_of p t e = λ i. decl_if p t (stands_apart (kind_of t) VarDecl e refl i) (stands_apart (kind_of t) FnDecl e refl i) (e i)
 
   abbrev item_if : Tree → Bool → List Seen
   item_if t is_export = if is_export then exported_seen t (decl_seen around (ExportDecl-span t) (ExportDecl-decl t)) else decl_seen around (own_range t) t
@@ -114,18 +127,17 @@ module _ (around : Surroundings) where
   silent_decl : (p : SourceRange) (t : Tree) → IsSilentDecl around p t → decl_seen around p t ≡ []
   silent_decl p t (h.IsSilentDecl.variable k e) = decl_of p t k ∙ ap (statement_seen t) (no_declarators t (parts (VarDecl-decls t)) e)
   silent_decl p t (h.IsSilentDecl.standing s e) = standing_of p t s ∙ ap (λ b. if b then written t ∷ [] else []) e
+  silent_decl p t (h.IsSilentDecl.function k e) = function_of p t k ∙ ap (λ b. if b then function_decl_seen around p t ∷ [] else []) e
 
   no_export : (p : SourceRange) (t : Tree) → IsSilentDecl around p t → kind_of t is ExportDecl ≡ false
   no_export p t (h.IsSilentDecl.variable k e) = ap (λ j. j is ExportDecl) k
   no_export p t (h.IsSilentDecl.standing s e) = stands_apart (kind_of t) ExportDecl s refl
+  no_export p t (h.IsSilentDecl.function k e) = ap (λ j. j is ExportDecl) k
 
   pub silent_item : (t : Tree) → IsSilent around t → item_seen around t ≡ []
   silent_item t (h.IsSilent.decl s) = item_of t (no_export (own_range t) t s) ∙ silent_decl (own_range t) t s
-  silent_item t (h.IsSilent.statement s) = item_of t (plain_apart t ExportDecl s refl) ∙ no_decl (own_range t) t (plain_apart t VarDecl s refl) (plain_no_standing t s)
-  silent_item t (h.IsSilent.function k e) = item_of t (ap (λ j. j is ExportDecl) k) ∙ no_decl (own_range t) t (ap (λ j. j is VarDecl) k) (ap is_standing k)
+  silent_item t (h.IsSilent.statement s) = item_of t (plain_apart t ExportDecl s refl) ∙ no_decl (own_range t) t (plain_apart t VarDecl s refl) (plain_apart t FnDecl s refl) (plain_no_standing t s)
   silent_item t (h.IsSilent.exported k s) = export_of t k ∙ ap (exported_seen t) (silent_decl (ExportDecl-span t) (ExportDecl-decl t) s)
-  silent_item t (h.IsSilent.exported_function k j e) =
-      export_of t k ∙ ap (exported_seen t) (no_decl (ExportDecl-span t) (ExportDecl-decl t) (ap (λ i. i is VarDecl) j) (ap is_standing j))
 
 -- ---- what agrees is seen alike
 
@@ -187,24 +199,99 @@ module _ (r : Renaming) (ok : IsRenaming r) where
       (ap by_inferred (inferred_type_moved twice twice_keeps mutability d w) ∙ by_inferred_moved twice (inferred_type mutability d w)))
 
   module _ (a b : Surroundings) where
+    expr_alike : {t u : Tree} → SameExpr r a.unresolved b.unresolved t u → (p q : Option SourceRange) → option_map (moved_range (partners r)) p ≡ option_map (moved_range twice) q → Alike (expr_seen a.unresolved t p) (expr_seen b.unresolved u q)
+    expr_alike = ?
+    expr_absent : {t u : Tree} → SameExpr r a.unresolved b.unresolved t u → is_absent t ≡ is_absent u
+    expr_absent = ?
+    function_alike : {t u : Tree} → IsPair r.scopes a.unresolved.0 b.unresolved.0 → SameFunction r a.unresolved b.unresolved t u → (p q : SourceRange) → SameRange r p q →
+        Alike (function_seen a.unresolved (expr_seen a.unresolved) DeclarationLike p t) (function_seen b.unresolved (expr_seen b.unresolved) DeclarationLike q u)
+    function_alike = ?
+    implementation_alike : {t u : Tree} → SameImplementation r a.unresolved b.unresolved t u → Alike (implementation_seen t) (implementation_seen u)
+    implementation_alike = ?
+
     -- ---- declarators
 
-    abbrev value_of : Surroundings → DeclMutabilityKind → Tree → Seen
-    value_of around mutability d = by_inferred (inferred_type mutability around.unresolved (VarDeclarator-init d))
+    abbrev shown_of : Surroundings → DeclMutabilityKind → Tree → Option Tree
+    shown_of around mutability d = inferred_type mutability around.unresolved (VarDeclarator-init d)
 
-    declared : (mutability : DeclMutabilityKind) (t u : Tree) → SameHead r a b t u → (is_absent (declared_type t) ≡ true → Alike (value_of a mutability t) (value_of b mutability u)) →
+    abbrev value_of : Surroundings → DeclMutabilityKind → Tree → Seen
+    value_of around mutability d = by_inferred (shown_of around mutability d)
+
+    abbrev kept_of : Surroundings → DeclMutabilityKind → Tree → Seen
+    kept_of around mutability d = kept_value_seen around (Ident-span (declared_ident d)) (shown_of around mutability d) (VarDeclarator-init d)
+
+    of_ident : (around : Surroundings) (mutability : DeclMutabilityKind) (d : Tree) → kind_of (VarDeclarator-name d) ≡ BindingIdent → declarator_seen around mutability d ≡ ident_declarator_seen around mutability d
+    of_ident around mutability d e = ap (λ k. if k is BindingIdent then ident_declarator_seen around mutability d else faulty UnsupportedDestructuring (range_of_node (VarDeclarator-name d))) e
+
+    of_pattern : (around : Surroundings) (mutability : DeclMutabilityKind) (d : Tree) → kind_of (VarDeclarator-name d) is BindingIdent ≡ false →
+        declarator_seen around mutability d ≡ faulty UnsupportedDestructuring (range_of_node (VarDeclarator-name d))
+    of_pattern around mutability d e = ap (λ b. if b then ident_declarator_seen around mutability d else faulty UnsupportedDestructuring (range_of_node (VarDeclarator-name d))) e
+
+    declared : (mutability : DeclMutabilityKind) (t u : Tree) → SameHead r a b t u →
+        (is_absent (declared_type t) ≡ true → Alike (value_of a mutability t) (value_of b mutability u)) →
+        (is_absent (declared_type t) ≡ true → Alike (kept_of a mutability t) (kept_of b mutability u)) →
         Alike (declarator_seen a mutability t) (declarator_seen b mutability u)
-    declared mutability t u d v =
-        let w = alike_if (is_absent (declared_type t)) (is_absent (declared_type u)) (value_of a mutability t) hidden (value_of b mutability u) hidden (absent_alike (declared_type t) (declared_type u) d.type) v (λ e. refl) in
-        λ i. form VarDeclarator (also (range_alike (VarDeclarator-span t) (VarDeclarator-span u) d.span i) (also (written_alike d.ident i) (also (flag (d.definite i)) (also (standing_alike d.type i) (also (w i) end)))))
+    declared mutability t u d v k =
+        let e = absent_alike (declared_type t) (declared_type u) d.type in
+        let w = alike_if (is_absent (declared_type t)) (is_absent (declared_type u)) (value_of a mutability t) hidden (value_of b mutability u) hidden e v (λ e. refl) in
+        let x = alike_if (is_absent (declared_type t)) (is_absent (declared_type u)) (kept_of a mutability t) hidden (kept_of b mutability u) hidden e k (λ e. refl) in
+        let same : Alike (ident_declarator_seen a mutability t) (ident_declarator_seen b mutability u) =
+        λ i. form VarDeclarator (also (range_alike (VarDeclarator-span t) (VarDeclarator-span u) d.span i) (also (written_alike d.ident i) (also (flag (d.definite i))
+        (also (standing_alike d.type i) (also (w i) (also (x i) end)))))) in
+        subst₂ Alike (sym (of_ident a mutability t d.names.left)) (sym (of_ident b mutability u d.names.right)) same
+
+    -- values that show no type on either side, or a type on both
+    kept_alike : (p q : SourceRange) (o o' : Option Tree) (v w : Tree) → is_some o ≡ is_some o' → SameRange r p q → SameExpr r a.unresolved b.unresolved v w →
+        Alike (kept_value_seen a p o v) (kept_value_seen b q o' w)
+    kept_alike p q (Some x) (Some y) v w e s f = refl
+    kept_alike p q (Some x) None v w e s f = cc
+    kept_alike p q None (Some y) v w e s f = cc
+    kept_alike p q None None v w e s f =
+        alike_if (is_absent v) (is_absent w) refused (expr_seen a.unresolved v (Some p)) refused (expr_seen b.unresolved w (Some q)) (expr_absent f) (λ e. refl)
+        (λ e. expr_alike f (Some p) (Some q) (ap Some (range_to r ok p q s)))
+
+    both_shown : (m n : Moves) (o o' : Option Tree) → option_map (moved m) o ≡ option_map (moved n) o' → is_some o ≡ is_some o'
+    both_shown m n (Some x) (Some y) e = refl
+    both_shown m n None None e = refl
+    both_shown m n (Some x) None e = cc
+    both_shown m n None (Some y) e = cc
+
+    same_shown : (mutability : DeclMutabilityKind) (v w : Tree) → IsPair r.scopes a.unresolved.0 b.unresolved.0 → SameTree r v w →
+        is_some (inferred_type mutability a.unresolved v) ≡ is_some (inferred_type mutability b.unresolved w)
+    same_shown mutability v w c s =
+        both_shown (partners r) twice (inferred_type mutability a.unresolved v) (inferred_type mutability b.unresolved w)
+        (sym (inferred_type_moved (partners r) (partners_keep r ok) mutability a.unresolved v) ∙ (ap₂ (inferred_type mutability) (scope_to a.unresolved b.unresolved c) (tree_to r ok s) ∙
+        inferred_type_moved twice twice_keeps mutability b.unresolved w))
+
+    ident_place : (t u : Tree) → SameTree r t u → SameRange r (Ident-span t) (Ident-span u)
+    ident_place t u s = range_from r ok (Ident-span t) (Ident-span u)
+        (sym (ap range_of (part_moved (partners r) 0 t) ∙ range_of_moved (partners r) (partners_keep r ok) (part 0 t)) ∙
+        (ap Ident-span (tree_to r ok s) ∙ (ap range_of (part_moved twice 0 u) ∙ range_of_moved twice twice_keeps (part 0 u))))
 
     declarator_alike : IsPair r.scopes a.unresolved.0 b.unresolved.0 → (mutability : DeclMutabilityKind) {t u : Tree} → SameDeclarator r a b mutability t u →
         (is_public_declarator a t ≡ is_public_declarator b u) × Alike (declarator_seen a mutability t) (declarator_seen b mutability u)
-    declarator_alike c mutability (h.SameDeclarator.typed {t = t} {u = u} d w) = (d.is_public, declared mutability t u d (λ e. cc))
-    declarator_alike c mutability (h.SameDeclarator.inferred {t = t} {u = u} x y d f g s) =
-        (d.is_public, declared mutability t u d (λ e. subst₂ (λ i j. Alike (by_inferred i) (by_inferred j)) (sym f) (sym g) (ap inferred (tree_to r ok s))))
-    declarator_alike c mutability (h.SameDeclarator.same {t = t} {u = u} d s) =
-        (d.is_public, declared mutability t u d (λ e. same_value mutability a.unresolved b.unresolved (VarDeclarator-init t) (VarDeclarator-init u) c s))
+    declarator_alike c mutability (h.SameDeclarator.typed {t = t} {u = u} d w) = (d.is_public, declared mutability t u d (λ e. cc) (λ e. cc))
+    declarator_alike c mutability (h.SameDeclarator.inferred {t = t} {u = u} x y d f g s) = (
+      d.is_public,
+      declared mutability t u d (λ e. subst₂ (λ i j. Alike (by_inferred i) (by_inferred j)) (sym f) (sym g) (ap inferred (tree_to r ok s)))
+          (λ e. subst₂ (λ i j. Alike (kept_value_seen a (Ident-span (declared_ident t)) i (VarDeclarator-init t)) (kept_value_seen b (Ident-span (declared_ident u)) j (VarDeclarator-init u))) (sym f) (sym g) refl),
+    )
+    declarator_alike c mutability (h.SameDeclarator.same {t = t} {u = u} d s) = (
+      d.is_public,
+      declared mutability t u d (λ e. same_value mutability a.unresolved b.unresolved (VarDeclarator-init t) (VarDeclarator-init u) c s)
+          (λ e. kept_alike (Ident-span (declared_ident t)) (Ident-span (declared_ident u)) (shown_of a mutability t) (shown_of b mutability u) (VarDeclarator-init t) (VarDeclarator-init u)
+          (same_shown mutability (VarDeclarator-init t) (VarDeclarator-init u) c s) (ident_place (declared_ident t) (declared_ident u) d.ident) (v.SameExpr.same s)),
+    )
+    declarator_alike c mutability (h.SameDeclarator.kept {t = t} {u = u} d f g s) = (
+      d.is_public,
+      declared mutability t u d (λ e. subst₂ (λ i j. Alike (by_inferred i) (by_inferred j)) (sym f) (sym g) refl)
+          (λ e. kept_alike (Ident-span (declared_ident t)) (Ident-span (declared_ident u)) (shown_of a mutability t) (shown_of b mutability u) (VarDeclarator-init t) (VarDeclarator-init u)
+          (ap is_some f ∙ sym (ap is_some g)) (ident_place (declared_ident t) (declared_ident u) d.ident) s),
+    )
+    declarator_alike c mutability (h.SameDeclarator.destructured {t = t} {u = u} e n s) = (
+      e,
+      subst₂ Alike (sym (of_pattern a mutability t n.left)) (sym (of_pattern b mutability u n.right)) (ap (faulty UnsupportedDestructuring) (range_to r ok _ _ s)),
+    )
 
     declarators_alike : (Same : Tree → Tree → Type 0) (s s' : Tree) →
         ((t u : Tree) → Same t u → (is_public_declarator a t ≡ is_public_declarator b u) × Alike (declarator_in a s t) (declarator_in b s' u)) →
@@ -237,6 +324,28 @@ module _ (r : Renaming) (ok : IsRenaming r) where
 
     ambient_alike : (t u : Tree) → a.is_declaration_file ≡ b.is_declaration_file → VarDecl-declare t ≡ VarDecl-declare u → is_ambient a t ≡ is_ambient b u
     ambient_alike t u e f = ap₂ (λ x y. x || y) e f
+
+    -- ---- functions
+
+    -- what is seen of a function that is no implementation
+    abbrev here : Surroundings → Tree → Seen
+    here around t = function_seen around.unresolved (expr_seen around.unresolved) DeclarationLike (Ident-span (FnDecl-ident t)) (FnDecl-function t)
+
+    abbrev signature_if : Surroundings → Tree → Bool → Seen → Seen
+    signature_if around t is_implementation seen = if is_implementation then implementation_seen (FnDecl-function t) else seen
+
+    abbrev function_form : Surroundings → SourceRange → Tree → Seen
+    function_form around p t = form FnDecl (seens (written (FnDecl-ident t) ∷ flag (FnDecl-declare t) ∷ signature_of around p t ∷ []))
+
+    declared_function : (p q : SourceRange) (t u : Tree) → a.is_declaration_file ≡ b.is_declaration_file → SameFunctionDecl r a b p q t u → Alike (signature_of a p t) (signature_of b q u) →
+        Alike (function_decl_seen a p t) (function_decl_seen b q u)
+    declared_function p q t u m d s =
+        let same : Alike (function_form a p t) (function_form b q u) = λ i. form FnDecl (also (written_alike d.ident i) (also (flag (d.declare i)) (also (s i) end))) in
+        subst₂ (λ x y. Alike (if x then written t else function_form a p t) (if y then written u else function_form b q u)) (sym d.is_declaration_file) (sym d.is_declaration_file ∙ m) same
+
+    public_alike : (p q : SourceRange) (t u : Tree) → Both FnDecl t u → a.is_public p ≡ b.is_public q → Alike (function_decl_seen a p t) (function_decl_seen b q u) → AllAlike (decl_seen a p t) (decl_seen b q u)
+    public_alike p q t u k e s =
+        subst₂ AllAlike (sym (function_of a p t k.left)) (sym (function_of b q u k.right)) (all_alike_if (a.is_public p) (b.is_public q) (function_decl_seen a p t) (function_decl_seen b q u) e s)
 
     -- the kinds are not that of an export, and what is seen is alike
     abbrev DeclsAlike : SourceRange → SourceRange → Tree → Tree → Type 0
@@ -279,6 +388,25 @@ module _ (r : Renaming) (ok : IsRenaming r) where
           stands_apart (kind_of u) ExportDecl su refl,
           subst₂ AllAlike (sym (standing_of a p t st)) (sym (standing_of b q u su)) (all_alike_if (a.is_public p) (b.is_public q) (written t) (written u) e (written_alike f)),
         )
+
+    decl_alike c m p q t u (h.SameDecl.function d e f g) = (
+      ap (λ k. k is ExportDecl) d.kinds.left,
+      ap (λ k. k is ExportDecl) d.kinds.right,
+      public_alike p q t u d.kinds d.is_public (declared_function p q t u m d
+          (subst₂ (λ x y. Alike (signature_if a t x (here a t)) (signature_if b u y (here b u))) (sym e) (sym f)
+          (function_alike c g (Ident-span (FnDecl-ident t)) (Ident-span (FnDecl-ident u)) (ident_place (FnDecl-ident t) (FnDecl-ident u) d.ident)))),
+    )
+    decl_alike c m p q t u (h.SameDecl.implementation d e f g) = (
+      ap (λ k. k is ExportDecl) d.kinds.left,
+      ap (λ k. k is ExportDecl) d.kinds.right,
+      public_alike p q t u d.kinds d.is_public (declared_function p q t u m d
+          (subst₂ (λ x y. Alike (signature_if a t x (here a t)) (signature_if b u y (here b u))) (sym e) (sym f) (implementation_alike g))),
+    )
+    decl_alike c m p q t u (h.SameDecl.ambient_function k e f s) = (
+      ap (λ j. j is ExportDecl) k.left,
+      ap (λ j. j is ExportDecl) k.right,
+      public_alike p q t u k e (subst₂ (λ x y. Alike (if x then written t else function_form a p t) (if y then written u else function_form b q u)) (sym f) (sym f ∙ m) (written_alike s)),
+    )
 
     -- ---- items
 

@@ -26,12 +26,14 @@ use Rattle.fast_check_program_forms.specs.ModuleDecls.{ExportDecl-span}
 use Rattle.fast_check_statement_forms.specs.Declarations.{FnDecl-function, VarDecl-span}
 use Rattle.fast_check_statement_forms.specs.TsDeclarations.{TsInterfaceDecl-span}
 use Rattle.fast_check_skeleton.specs.Surroundings.{Surroundings}
-use Rattle.fast_check_skeleton.specs.Seen.{Seen}
+use Rattle.fast_check_signatures.specs.Seen.{Seen}
 use Rattle.fast_check_skeleton.specs.Visible.{is_standing, own_range, item_seen, items_of}
 use Rattle.fast_check_skeleton.specs.KeptComments.{start_of_unseen, removed_start, removed_starts, without_all_leading, kept_comments}
 use Rattle.fast_check_skeleton.specs.SameComments.{all_comments_at, SameComment, SameAtPairs, SameComments}
 use Rattle.fast_check_skeleton.specs.Hidden.{HasNoPartner, IsNoPartner, SameDecl, SameItem, SameItems, AgreeHidden}
 use Rattle.fast_check_skeleton.specs.Hidden as h
+use Rattle.fast_check_signatures.specs.SameValues.{Both}
+use Rattle.fast_check_signatures.specs.SameValues as v
 use Rattle.fast_check_skeleton.specs.Worlds.{SameAnswers, TwoWorlds}
 use Rattle.fast_check_skeleton.proofs.Agreeing.{stands_apart, silent_item, AllAlike, item_alike, same_trees}
 
@@ -118,6 +120,19 @@ module _ (r : Renaming) (ok : IsRenaming r) where
       go false e = refl
       go true e = absurd (n p (subst (λ z. IsPair r.starts p z) (sym (eqb-true y q e)) h))
 
+  own_function : (t : Tree) → kind_of t ≡ FnDecl → own_range t ≡ Function-span (FnDecl-function t)
+  own_function t e = ap (λ k. if k is FnDecl then Function-span (FnDecl-function t) else TsInterfaceDecl-span t) e
+
+  function_begins : (t u : Tree) → Both FnDecl t u → SameRange r (Function-span (FnDecl-function t)) (Function-span (FnDecl-function u)) → SameRange r (own_range t) (own_range u)
+  function_begins t u k s = subst₂ (SameRange r) (sym (own_function t k.left)) (sym (own_function u k.right)) s
+
+  inner_moved : (m : Moves) → Keeps m → (t : Tree) → Function-span (FnDecl-function (moved m t)) ≡ moved_range m (Function-span (FnDecl-function t))
+  inner_moved m keeps t = ap (λ x. range_of (part 0 x)) (part_moved m 2 t) ∙ first_moved m keeps (part 2 t)
+
+  inner_alike : (t u : Tree) → SameTree r t u → SameRange r (Function-span (FnDecl-function t)) (Function-span (FnDecl-function u))
+  inner_alike t u s = range_from r ok (Function-span (FnDecl-function t)) (Function-span (FnDecl-function u))
+      (sym (inner_moved (partners r) (partners_keep r ok) t) ∙ (ap (λ x. Function-span (FnDecl-function x)) (tree_to r ok s) ∙ inner_moved twice twice_keeps u))
+
   module _ (a b : Surroundings) where
     decl_begins : (p q : SourceRange) (t u : Tree) → SameDecl r a b p q t u → SameRange r (own_range t) (own_range u)
     decl_begins p q t u (h.SameDecl.variable d n rest) =
@@ -128,6 +143,10 @@ module _ (r : Renaming) (ok : IsRenaming r) where
         let t_other = stands_apart (kind_of t) FnDecl (ap is_standing d.left ∙ s) refl in
         let u_other = stands_apart (kind_of u) FnDecl (ap is_standing d.right ∙ s) refl in
         subst₂ (SameRange r) (sym (own_other t t_other)) (sym (own_other u u_other)) (first_alike t u f)
+    decl_begins p q t u (h.SameDecl.function d e f (v.SameFunction.typed_function g x y z)) = function_begins t u d.kinds g.span
+    decl_begins p q t u (h.SameDecl.function d e f (v.SameFunction.classed_function g x y z)) = function_begins t u d.kinds g.span
+    decl_begins p q t u (h.SameDecl.implementation d e f g) = function_begins t u d.kinds g.head.span
+    decl_begins p q t u (h.SameDecl.ambient_function k e f s) = function_begins t u k (inner_alike t u s)
 
     item_begins : (t u : Tree) → SameItem r a b t u → SameRange r (own_range t) (own_range u)
     item_begins t u (h.SameItem.decl d) = decl_begins (own_range t) (own_range u) t u d

@@ -137,6 +137,7 @@ heads = record {
   is_public = ap a.is_public first_span ∙ sym (ap b.is_public second_span);
   span = subst₂ (SameRange renaming) (sym first_span) (sym second_span)
       (record { start = inr (inr (inr (inr (inl (refl, refl))))); end = inr (inr (inr (inr (inl (refl, refl))))) });
+  names = record { left = simp (part_node, kind_of_node); right = simp (part_node, kind_of_node) };
   ident = subst₂ Same (sym (ident_made (at 23 38) (name 23 2) (annotation 23) text_value false)) (sym (ident_made (at 48 61) (name 48 3) (annotation 48) name_value false))
       (same (name 23 2) (name 48 3) same_names);
   definite = definite_made (at 23 38) (name 23 2) (annotation 23) text_value false ∙ sym (definite_made (at 48 61) (name 48 3) (annotation 48) name_value false);
@@ -190,11 +191,11 @@ exports = h.SameItem.exported (record { left = simp kind_of_node; right = simp k
     (record { start = inr (inr (inl (refl, refl))); end = inr (inr (inr (inr (inr (inl (refl, refl)))))) }))
     (subst₂ (SameDecl renaming a b first_export second_export) (sym (decl_made (at 10 39) first_statement)) (sym (decl_made (at 35 62) second_statement)) (decls first_export second_export))
 
-silent : h.IsSilent b hidden_function
-silent = h.IsSilent.function (simp kind_of_node) (simp (part_node, range_of_range))
-
 begins_at : own_range hidden_function ≡ at 10 25
 begins_at = simp (kind_of_node, part_node, range_of_range)
+
+silent : h.IsSilent b hidden_function
+silent = h.IsSilent.decl (h.IsSilentDecl.function (simp kind_of_node) (ap b.is_public begins_at))
 
 begins_alone : IsNoPartner renaming.starts (own_range hidden_function).start.0
 begins_alone n p = let q : IsPair renaming.starts n 10 = subst (λ s. IsPair renaming.starts n s.start.0) begins_at p in grind arith

@@ -1,4 +1,3 @@
-pub mod Moving
 pub mod Agreeing
 pub mod CommentsAlike
 pub mod Standing
