@@ -1,3 +1,4 @@
 pub mod NewNodesMoved
 pub mod AnswersMoved
 pub mod Looks
+pub mod Gone

@@ -2,50 +2,75 @@
 use Rattle.std.specs.Prelude.{◌≡◌, Bool, true, false, ◌&&◌, List, [], ◌∷◌, ◌++◌, refl, if◌then◌else◌}
 use Rattle.std.proofs.Common.{ap, ◌∙◌, sym, append-nil}
 use Rattle.fast_check_syntax.specs.declared.kind.Kind.{Kind}
-use Rattle.fast_check_syntax.specs.declared.kind.Kind.TheVariants.{ExportDecl, VarDecl}
+use Rattle.fast_check_syntax.specs.declared.kind.Kind.TheVariants.{ExportDecl, VarDecl, FnDecl}
 use Rattle.fast_check_syntax.specs.declared.source.SourceRange.{SourceRange}
 use Rattle.fast_check_syntax.specs.declared.tree.Tree as tree
 use Rattle.fast_check_syntax.specs.declared.tree.Tree.{Tree}
 use Rattle.fast_check_syntax.specs.Shape.{◌is◌, differs, kind_of, node}
 use Rattle.fast_check_program_forms.specs.ModuleDecls.{ExportDecl-span, ExportDecl-decl}
-use Rattle.fast_check_skeleton.specs.declared.fault.Fault.{Fault}
+use Rattle.fast_check_signatures.specs.declared.fault.Fault.{Fault}
 use Rattle.fast_check_skeleton.specs.Surroundings.{Surroundings}
-use Rattle.fast_check_skeleton.specs.Seen.{Seen}
-use Rattle.fast_check_skeleton.specs.Visible.{public_declarators, statement_seen, is_standing, own_range, standing_seen, decl_seen, exported_seen, item_seen}
-use Rattle.fast_check_skeleton.specs.Skeleton.{answer_to, answer_of}
-use Rattle.fast_check_skeleton.proofs.Standing.{OneTree, decl_one}
-use Rattle.fast_check_transform.specs.Kept.{kept_statement, statement_faults, kept_decl, decl_faults, exported, kept_item, item_faults}
+use Rattle.fast_check_signatures.specs.Seen.{Seen}
+use Rattle.fast_check_skeleton.specs.Visible.{public_declarators, statement_seen, is_standing, own_range, function_decl_seen, decl_seen, exported_seen, item_seen}
+use Rattle.fast_check_signatures.specs.Answers.{answer_to, answer_of}
+use Rattle.fast_check_skeleton.proofs.Standing.{OneTree, decl_one, export_is}
+use Rattle.fast_check_transform.specs.Kept.{kept_statement, statement_faults, kept_function, function_faults, kept_decl, decl_faults, exported, kept_item, item_faults}
 
 module _ (around : Surroundings) (place : SourceRange) (decl : Tree) where
-  abbrev seen_if : Bool → Bool → Bool → List Seen
-  seen_if b s p = if b then statement_seen decl (public_declarators around decl) else (if s then (if p then Seen.written decl ∷ [] else []) else [])
+  abbrev seen_if : Bool → Bool → Bool → Bool → List Seen
+  seen_if b f s p =
+      if b then statement_seen decl (public_declarators around decl)
+      else (if f then (if p then function_decl_seen around place decl ∷ [] else []) else (if s then (if p then Seen.written decl ∷ [] else []) else []))
 
   pub kept_VarDecl : kind_of decl is VarDecl ≡ true → kept_decl around place decl ≡ kept_statement around decl
   unfolding kept_decl kept_statement
-  kept_VarDecl e = ap (λ b. (answer_of (seen_if b (is_standing (kind_of decl)) (around.is_public place))).trees) e
+  kept_VarDecl e = ap (λ b. (answer_of (seen_if b (kind_of decl is FnDecl) (is_standing (kind_of decl)) (around.is_public place))).trees) e
 
   pub faults_VarDecl : kind_of decl is VarDecl ≡ true → decl_faults around place decl ≡ statement_faults around decl
   unfolding decl_faults statement_faults
-  faults_VarDecl e = ap (λ b. (answer_of (seen_if b (is_standing (kind_of decl)) (around.is_public place))).faults) e
+  faults_VarDecl e = ap (λ b. (answer_of (seen_if b (kind_of decl is FnDecl) (is_standing (kind_of decl)) (around.is_public place))).faults) e
 
-  pub kept_public : kind_of decl is VarDecl ≡ false → is_standing (kind_of decl) ≡ true → around.is_public place ≡ true → kept_decl around place decl ≡ decl ∷ []
+  -- what is not public goes without a word
+  pub kept_private : kind_of decl is VarDecl ≡ false → around.is_public place ≡ false → kept_decl around place decl ≡ []
   unfolding kept_decl
-  kept_public e s p = λ i. (answer_of (seen_if (e i) (s i) (p i))).trees
-
-  pub kept_private : kind_of decl is VarDecl ≡ false → is_standing (kind_of decl) ≡ true → around.is_public place ≡ false → kept_decl around place decl ≡ []
-  unfolding kept_decl
-  kept_private e s p = λ i. (answer_of (seen_if (e i) (s i) (p i))).trees
-
-  pub kept_other : kind_of decl is VarDecl ≡ false → is_standing (kind_of decl) ≡ false → kept_decl around place decl ≡ []
-  unfolding kept_decl
-  kept_other e s = λ i. (answer_of (seen_if (e i) (s i) (around.is_public place))).trees
-
-  -- no declaration but a variable statement is at fault
-  pub faults_other : kind_of decl is VarDecl ≡ false → decl_faults around place decl ≡ []
-  unfolding decl_faults
-  faults_other e = ap (λ b. (answer_of (seen_if b (is_standing (kind_of decl)) (around.is_public place))).faults) e ∙ go (is_standing (kind_of decl)) (around.is_public place)
+  kept_private e p = (λ i. (answer_of (seen_if (e i) (kind_of decl is FnDecl) (is_standing (kind_of decl)) (p i))).trees) ∙ go (kind_of decl is FnDecl) (is_standing (kind_of decl))
     where
-      go : (s p : Bool) → (answer_of (seen_if false s p)).faults ≡ []
+      go : (f s : Bool) → (answer_of (seen_if false f s false)).trees ≡ []
+      go true s = refl
+      go false true = refl
+      go false false = refl
+
+  pub faults_private : kind_of decl is VarDecl ≡ false → around.is_public place ≡ false → decl_faults around place decl ≡ []
+  unfolding decl_faults
+  faults_private e p = (λ i. (answer_of (seen_if (e i) (kind_of decl is FnDecl) (is_standing (kind_of decl)) (p i))).faults) ∙ go (kind_of decl is FnDecl) (is_standing (kind_of decl))
+    where
+      go : (f s : Bool) → (answer_of (seen_if false f s false)).faults ≡ []
+      go true s = refl
+      go false true = refl
+      go false false = refl
+
+  pub kept_FnDecl : kind_of decl is VarDecl ≡ false → kind_of decl is FnDecl ≡ true → around.is_public place ≡ true → kept_decl around place decl ≡ kept_function around place decl
+  unfolding kept_decl kept_function
+  kept_FnDecl e f p = (λ i. (answer_of (seen_if (e i) (f i) (is_standing (kind_of decl)) (p i))).trees) ∙ append-nil _
+
+  pub faults_FnDecl : kind_of decl is VarDecl ≡ false → kind_of decl is FnDecl ≡ true → around.is_public place ≡ true → decl_faults around place decl ≡ function_faults around place decl
+  unfolding decl_faults function_faults
+  faults_FnDecl e f p = (λ i. (answer_of (seen_if (e i) (f i) (is_standing (kind_of decl)) (p i))).faults) ∙ append-nil _
+
+  pub kept_standing : kind_of decl is VarDecl ≡ false → kind_of decl is FnDecl ≡ false → is_standing (kind_of decl) ≡ true → around.is_public place ≡ true → kept_decl around place decl ≡ decl ∷ []
+  unfolding kept_decl
+  kept_standing e f s p = λ i. (answer_of (seen_if (e i) (f i) (s i) (p i))).trees
+
+  pub kept_other : kind_of decl is VarDecl ≡ false → kind_of decl is FnDecl ≡ false → is_standing (kind_of decl) ≡ false → kept_decl around place decl ≡ []
+  unfolding kept_decl
+  kept_other e f s = λ i. (answer_of (seen_if (e i) (f i) (s i) (around.is_public place))).trees
+
+  -- no declaration but a variable statement or a function is at fault
+  pub faults_other : kind_of decl is VarDecl ≡ false → kind_of decl is FnDecl ≡ false → decl_faults around place decl ≡ []
+  unfolding decl_faults
+  faults_other e f = (λ i. (answer_of (seen_if (e i) (f i) (is_standing (kind_of decl)) (around.is_public place))).faults) ∙ go (is_standing (kind_of decl)) (around.is_public place)
+    where
+      go : (s p : Bool) → (answer_of (seen_if false false s p)).faults ≡ []
       go true true = refl
       go true false = refl
       go false p = refl
@@ -54,14 +79,12 @@ module _ (around : Surroundings) (item : Tree) where
   -- what is seen of a declaration is one form at most
   export_trees : (ss : List Seen) → OneTree around ss → (answer_of (exported_seen item ss)).trees ≡ exported item (answer_of ss).trees
   export_trees [] one = refl
-  export_trees (s ∷ []) one =
-      ap (λ ts. node ExportDecl (tree.Range (ExportDecl-span item) ∷ ts) ∷ []) (append-nil (answer_to s).trees ∙ one.1)
-      ∙ sym (ap (exported item) (append-nil (answer_to s).trees ∙ one.1))
+  export_trees (s ∷ []) one = ap (λ a. a.trees) (export_is around item s one) ∙ sym (ap (exported item) (append-nil (answer_to s).trees ∙ one.1.1))
   export_trees (s ∷ t ∷ ss) one = absurd one
 
   export_faults : (ss : List Seen) → OneTree around ss → (answer_of (exported_seen item ss)).faults ≡ (answer_of ss).faults
   export_faults [] one = refl
-  export_faults (s ∷ []) one = append-nil (answer_of (s ∷ [])).faults
+  export_faults (s ∷ []) one = ap (λ a. a.faults) (export_is around item s one) ∙ sym (append-nil (answer_to s).faults)
   export_faults (s ∷ t ∷ ss) one = absurd one
 
   abbrev item_if : Bool → List Seen

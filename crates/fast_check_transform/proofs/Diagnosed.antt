@@ -5,7 +5,7 @@ use Rattle.std.proofs.Common.{subst, sym}
 use Rattle.std.proofs.lemmas.List.{take_more}
 use Rattle.fast_check_tables.specs.EsModule.{EsModule}
 use Rattle.fast_check_tables.specs.declared.diagnostics.FastCheckDiagnostic.{FastCheckDiagnostic}
-use Rattle.fast_check_skeleton.specs.declared.fault.Fault.{Fault}
+use Rattle.fast_check_signatures.specs.declared.fault.Fault.{Fault}
 use Rattle.fast_check_transform.specs.Transform.{IsDiagnosticOf, AreDiagnosticsOf}
 
 pub one_more : (info : EsModule) (fs : List Fault) (ds : List FastCheckDiagnostic) (f : Fault) (d : FastCheckDiagnostic) →

@@ -5,15 +5,16 @@ use Rattle.fast_check_syntax.specs.declared.tree.Tree.{Tree}
 use Rattle.fast_check_syntax.specs.declared.kind.Kind.TheVariants.{VarDeclarator}
 use Rattle.fast_check_syntax.specs.Shape.{parts, is_absent, list}
 use Rattle.fast_check_statement_forms.specs.Declarations.{VarDecl-span, VarDecl-ctxt, VarDecl-kind, VarDecl-declare, VarDecl-decls, var_decl, VarDeclarator-span, VarDeclarator-init, VarDeclarator-definite}
-use Rattle.fast_check_skeleton.specs.declared.fault.Fault.{Fault}
+use Rattle.fast_check_signatures.specs.declared.fault.Fault.{Fault}
 use Rattle.fast_check_skeleton.specs.Surroundings.{Surroundings}
 use Rattle.fast_check_tree.specs.InferredType.{inferred_type}
 use Rattle.fast_check_skeleton.specs.Mutability.{mutability_of}
-use Rattle.fast_check_skeleton.specs.Seen.{Seen, written, form, hidden, seens}
+use Rattle.fast_check_signatures.specs.Seen.{Seen, written, form, hidden, seens}
 use Rattle.fast_check_skeleton.specs.Visible.{declared_ident, declared_type, by_inferred, declarator_seen, is_ambient, is_public_declarator, declarator_in, public_declarator, public_declarators, statement_seen, item_seen}
-use Rattle.fast_check_skeleton.specs.Skeleton.{answer_to, answer_of, skeleton_of, faults_of}
+use Rattle.fast_check_signatures.specs.Answers.{answer_to, answer_of}
+use Rattle.fast_check_skeleton.specs.Skeleton.{skeleton_of, faults_of}
 use Rattle.fast_check_program_forms.specs.Programs.{Module-span, Module-body, Module-shebang, module'}
-use Rattle.fast_check_skeleton.proofs.Standing.{answer_append, stood, stood_is}
+use Rattle.fast_check_skeleton.proofs.Standing.{AllStay, answer_append, declarator_one, declarators_stay, statement_is}
 use Rattle.fast_check_transform.specs.Kept.{kept_declarators, kept_declarator, declarator_faults, declarator_fault, with_declarators, kept_statement, statement_faults, kept_item, item_faults, kept_items, faults_of_items}
 
 pub trees_all : (f : Tree → List Seen) (ts : List Tree) → (answer_of (flat_map f ts)).trees ≡ flat_map (λ t. (answer_of (f t)).trees) ts
@@ -45,19 +46,13 @@ all_have_append : (xs ys : List Seen) → AllHave xs → AllHave ys → AllHave 
 all_have_append [] ys p q = q
 all_have_append (x ∷ xs) ys p q = (p.0, all_have_append xs ys p.1 q)
 
-by_type : (d : Tree) (o : Option Tree) (t : Bool) →
-    HasTree (form VarDeclarator (seens (Seen.range (VarDeclarator-span d) ∷ written (declared_ident d) ∷ Seen.flag (VarDeclarator-definite d) ∷ (if t then hidden else written (declared_type d)) ∷ (if t then by_inferred o else hidden) ∷ [])))
-by_type d (Some type) true = (_, refl)
-by_type d None true = (_, refl)
-by_type d o false = (_, refl)
-
 module _ (around : Surroundings) (statement : Tree) where
   declarator_has : (d : Tree) → HasTree (declarator_in around statement d)
   declarator_has d = go (is_ambient around statement)
     where
       go : (a : Bool) → HasTree (if a then written d else declarator_seen around (mutability_of (VarDecl-kind statement)) d)
       go true = (d, refl)
-      go false = by_type d (inferred_type (mutability_of (VarDecl-kind statement)) around.unresolved (VarDeclarator-init d)) (is_absent (declared_type d))
+      go false = (declarator_one around (mutability_of (VarDecl-kind statement)) d).1
 
   declarators_have : (ds : List Tree) → AllHave (flat_map (public_declarator around statement) ds)
   declarators_have [] = tt
@@ -67,24 +62,24 @@ module _ (around : Surroundings) (statement : Tree) where
       go true = (declarator_has d, tt)
       go false = tt
 
-  kept_of : (ss : List Seen) → AllHave ss → (answer_of (statement_seen statement ss)).trees ≡ with_declarators statement (answer_of ss).trees
-  kept_of [] h = refl
-  kept_of (s ∷ ss) h =
+  kept_of : (ss : List Seen) → AllHave ss → AllStay ss → (answer_of (statement_seen statement ss)).trees ≡ with_declarators statement (answer_of ss).trees
+  kept_of [] h g = refl
+  kept_of (s ∷ ss) h g =
       let e : (answer_of (s ∷ ss)).trees ≡ h.0.0 ∷ (answer_of ss).trees = ap (λ x. x ++ (answer_of ss).trees) h.0.1 in
-      ap (λ a. var_decl (VarDecl-span statement) (VarDecl-ctxt statement) (VarDecl-kind statement) (VarDecl-declare statement) (list a.trees) ∷ []) (stood_is around (s ∷ ss)) ∙
+      ap (λ a. a.trees ++ []) (statement_is around statement (s ∷ ss) g) ∙
       (ap (λ x. var_decl (VarDecl-span statement) (VarDecl-ctxt statement) (VarDecl-kind statement) (VarDecl-declare statement) (list x) ∷ []) e ∙ sym (ap (with_declarators statement) e))
 
-  faults_of_seen : (ss : List Seen) → (answer_of (statement_seen statement ss)).faults ≡ (answer_of ss).faults
-  faults_of_seen [] = refl
-  faults_of_seen (s ∷ ss) = append-nil (((stood around (s ∷ ss)).faults) ++ []) ∙ (append-nil ((stood around (s ∷ ss)).faults) ∙ ap (λ a. a.faults) (stood_is around (s ∷ ss)))
+  faults_of_seen : (ss : List Seen) → AllStay ss → (answer_of (statement_seen statement ss)).faults ≡ (answer_of ss).faults
+  faults_of_seen [] g = refl
+  faults_of_seen (s ∷ ss) g = append-nil _ ∙ ap (λ a. a.faults) (statement_is around statement (s ∷ ss) g)
 
   pub kept_statement_is : kept_statement around statement ≡ with_declarators statement (kept_declarators around statement)
   unfolding kept_statement kept_declarators
-  kept_statement_is = kept_of (public_declarators around statement) (declarators_have (parts (VarDecl-decls statement)))
+  kept_statement_is = kept_of (public_declarators around statement) (declarators_have (parts (VarDecl-decls statement))) (declarators_stay around statement)
 
   pub statement_faults_is : statement_faults around statement ≡ declarator_faults around statement
   unfolding statement_faults declarator_faults
-  statement_faults_is = faults_of_seen (public_declarators around statement)
+  statement_faults_is = faults_of_seen (public_declarators around statement) (declarators_stay around statement)
 
 pub with_declarators_none : (statement : Tree) (ds : List Tree) → ds ≡ [] → with_declarators statement ds ≡ []
 with_declarators_none statement ds e = ap (with_declarators statement) e

@@ -1,3 +1,4 @@
+pub mod Declared
 pub mod Fused
 pub mod ByKind
 pub mod Removed

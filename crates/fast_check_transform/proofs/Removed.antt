@@ -12,7 +12,7 @@ use Rattle.fast_check_comments.specs.declared.comments.Comments.{Comments}
 use Rattle.fast_check_comments.specs.Kept.{without_leading}
 use Rattle.fast_check_program_forms.specs.ModuleDecls.{ExportDecl-span, ExportDecl-decl}
 use Rattle.fast_check_skeleton.specs.Surroundings.{Surroundings}
-use Rattle.fast_check_skeleton.specs.Seen.{Seen}
+use Rattle.fast_check_signatures.specs.Seen.{Seen}
 use Rattle.fast_check_skeleton.specs.Visible.{own_range, decl_seen, exported_seen, item_seen}
 use Rattle.fast_check_skeleton.specs.Skeleton.{answer_to, answer_of}
 use Rattle.fast_check_skeleton.specs.KeptComments.{start_of_unseen, removed_start, without_all_leading}

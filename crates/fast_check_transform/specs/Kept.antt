@@ -1,29 +1,44 @@
 -- What the parts of a transform keep: the answer to what is seen of each part of a module.
-use Rattle.std.specs.Prelude.{Option, Some, None, List, [], ◌∷◌}
+use Rattle.std.specs.Prelude.{Option, Some, None, List, [], ◌∷◌, ◌++◌, if◌then◌else◌}
 use Rattle.std.specs.List.{flat_map}
 use Rattle.fast_check_syntax.specs.declared.source.SourceRange.{SourceRange}
 use Rattle.fast_check_syntax.specs.declared.tree.Tree.{Tree}
 use Rattle.fast_check_syntax.specs.Shape.{list, parts}
 use Rattle.fast_check_program_forms.specs.ModuleDecls.{ExportDecl-span, export_decl}
-use Rattle.fast_check_statement_forms.specs.Declarations.{VarDecl-span, VarDecl-ctxt, VarDecl-kind, VarDecl-declare, var_decl, VarDeclarator-span, VarDeclarator-definite}
-use Rattle.fast_check_tables.specs.PublicRanges.{is_public}
-use Rattle.fast_check_skeleton.specs.declared.fault.Fault.{Fault}
+use Rattle.fast_check_statement_forms.specs.Declarations.{VarDecl-span, VarDecl-ctxt, VarDecl-kind, VarDecl-declare, var_decl, VarDeclarator-span, VarDeclarator-init, VarDeclarator-definite, var_declarator}
+use Rattle.fast_check_program_forms.specs.Names.{Ident-span, binding_ident}
+use Rattle.fast_check_tables.specs.PublicRanges.{is_public, is_implementation}
+use Rattle.fast_check_signatures.specs.declared.fault.Fault.{Fault}
 use Rattle.fast_check_skeleton.specs.Surroundings.{Surroundings}
-use Rattle.fast_check_skeleton.specs.Visible.{declared_ident, public_declarator, public_declarators, decl_seen, item_seen, statement_seen}
-use Rattle.fast_check_skeleton.specs.Skeleton.{answer_of, typed_declarator}
+use Rattle.fast_check_skeleton.specs.Visible.{declared_ident, kept_value_seen, function_decl_seen, public_declarator, public_declarators, decl_seen, item_seen, statement_seen}
+use Rattle.fast_check_signatures.specs.declared.fault.FaultKind.TheVariants.{MissingExplicitType}
+use Rattle.fast_check_signatures.specs.Answers.{Answer, first_or_absent, fault_at, answer_to, answer_of}
 use Rattle.fast_check_transform.specs.declared.asked.Asked.{Asked}
 
 -- what is asked beside the tree
 abbrev pub Asked-around : Asked → Surroundings
-Asked-around asked = record { is_public = is_public asked.public_ranges.now; unresolved = asked.unresolved; is_declaration_file = asked.is_declaration_file }
+Asked-around asked = record { is_public = is_public asked.public_ranges.now; is_implementation = is_implementation asked.public_ranges.now; unresolved = asked.unresolved; is_declaration_file = asked.is_declaration_file }
 
 abbrev pub as_list : Option Tree → List Tree
 as_list (Some t) = t ∷ []
 as_list None = []
 
--- a declarator of another type, with `{} as never` for its value
-abbrev pub retyped : Tree → Tree → Tree
-retyped d type = typed_declarator (VarDeclarator-span d) (declared_ident d) (VarDeclarator-definite d) type
+-- a declarator of another type and value
+abbrev pub retyped : Tree → Tree → Tree → Tree
+retyped d type value = var_declarator (VarDeclarator-span d) (binding_ident (declared_ident d) type) value (VarDeclarator-definite d)
+
+-- what becomes of the value of a declarator that nothing else gives a type
+abbrev pub valued : Surroundings → Tree → Answer
+valued around d = answer_to (kept_value_seen around (Ident-span (declared_ident d)) None (VarDeclarator-init d))
+
+-- the value that stays, if it does
+abbrev pub valued_tree : Surroundings → Tree → Tree
+valued_tree around d = first_or_absent (valued around d).trees
+
+-- what is wrong with it; where it may not stay the type is missing
+abbrev pub valued_faults : Surroundings → Tree → List Fault
+valued_faults around d =
+    (valued around d).faults ++ (if (valued around d).is_leavable then [] else fault_at MissingExplicitType (Ident-span (declared_ident d)) ∷ [])
 
 -- of the declarators of a statement
 unfoldable pub kept_declarators : Surroundings → Tree → List Tree
@@ -58,6 +73,13 @@ kept_decl around place decl = (answer_of (decl_seen around place decl)).trees
 
 unfoldable pub decl_faults : Surroundings → SourceRange → Tree → List Fault
 decl_faults around place decl = (answer_of (decl_seen around place decl)).faults
+
+-- of a function that is public by `place`
+unfoldable pub kept_function : Surroundings → SourceRange → Tree → List Tree
+kept_function around place decl = (answer_to (function_decl_seen around place decl)).trees
+
+unfoldable pub function_faults : Surroundings → SourceRange → Tree → List Fault
+function_faults around place decl = (answer_to (function_decl_seen around place decl)).faults
 
 -- an export of a declaration; nothing where there is none
 abbrev pub exported : Tree → List Tree → List Tree

@@ -1,16 +1,19 @@
-ghost use Rattle.std.specs.Prelude.{◌≡◌, IfOk, ◌++◌, ◌∷◌, []};
+ghost use Rattle.std.specs.Prelude.{◌≡◌, IfOk, ◌++◌, ◌∷◌, [], None};
 ghost use Rattle.fast_check_syntax.specs.Part.{seen};
+ghost use Rattle.fast_check_syntax.specs.declared.tree.Tree.{Absent};
 ghost use Rattle.fast_check_skeleton.specs.Mutability.{mutability_of};
-ghost use Rattle.fast_check_skeleton.specs.Skeleton.{answer_to};
-ghost use Rattle.fast_check_skeleton.specs.Visible.{declarator_seen, is_ambient};
-ghost use Rattle.fast_check_transform.specs.Kept.{Asked-around, as_list, retyped, kept_declarators, declarator_faults, kept_statement, statement_faults};
+ghost use Rattle.fast_check_signatures.specs.Answers.{answer_to, first_or_absent, kept_tree};
+ghost use Rattle.fast_check_skeleton.specs.Visible.{declarator_seen, ident_declarator_seen, kept_value_seen, is_ambient};
+ghost use Rattle.fast_check_transform.specs.Kept.{Asked-around, as_list, retyped, valued_tree, valued_faults, kept_declarators, declarator_faults, kept_statement, statement_faults};
 
 use crate::asked::Asked;
+use fast_check_forms::range_of_node;
 use fast_check_program_forms::{BindingIdent, Ident};
-use fast_check_skeleton::{Fault, FaultKind};
+use fast_check_signatures::{Fault, FaultKind};
 use fast_check_statement_forms::{VarDecl, VarDeclarator};
-use fast_check_syntax::{Items, Part, Tree, Word};
+use fast_check_syntax::{Items, Kind, Part, SourceRange, Tree, Word};
 use fast_check_tree::helpers::{DeclMutabilityKind, maybe_infer_type, never_value, type_ann};
+use fast_check_values::leave_expr;
 use std::alloc::{AllocError, Global};
 
 /// Whether what a statement of this kind declares keeps its value.
@@ -31,9 +34,14 @@ fn is_ambient(asked: Asked<'_>, statement: Part<'_>) -> bool
     asked.is_declaration_file || VarDecl::of(statement).declare
 }
 
-/// A declarator with this type, and `{} as never` for its value.
-fn retyped(alloc: Global, declarator: Part<'_>, ty: Tree) -> Result<Tree, AllocError>
-    ensures { IfOk result (λ tree. tree ≡ retyped (seen declarator.entry) ty) }
+/// A declarator with this type and this value.
+fn retyped(
+    alloc: Global,
+    declarator: Part<'_>,
+    ty: Tree,
+    value: Tree,
+) -> Result<Tree, AllocError>
+    ensures { IfOk result (λ tree. tree ≡ retyped (seen declarator.entry) ty value) }
 {
     let declarator = VarDeclarator::of(declarator);
     let name = BindingIdent {
@@ -43,13 +51,87 @@ fn retyped(alloc: Global, declarator: Part<'_>, ty: Tree) -> Result<Tree, AllocE
     VarDeclarator {
         span: declarator.span,
         name: name.into_tree(alloc)?,
-        init: never_value(alloc)?,
+        init: value,
         definite: declarator.definite,
     }
     .into_tree(alloc)
 }
 
-/// A declarator with the type that is written or that its value shows. Where there is neither, that is a fault.
+/// The value of a declarator as it stays, where it shows no type; none where it may not stay, or is not there. It is
+/// named by the identifier at `place`.
+#[tactic(auto, using(crate::proofs::Declared::kept_value_absent, crate::proofs::Declared::kept_value_present))]
+fn keep_value(
+    alloc: Global,
+    asked: Asked<'_>,
+    place: SourceRange,
+    value: Part<'_>,
+    faults: &mut Vec<Fault>,
+) -> Result<Option<Tree>, AllocError>
+    ensures kept { IfOk result (λ tree. tree ≡ kept_tree (answer_to (kept_value_seen (Asked-around asked.entry) place None (seen value.entry)))) }
+    ensures faults { IfOk result (λ _. faults.new.items ≡ faults.old.items ++ (answer_to (kept_value_seen (Asked-around asked.entry) place None (seen value.entry))).faults) }
+{
+    if value.is_absent() {
+        return Ok(None);
+    }
+    leave_expr(alloc, asked.unresolved, value, Some(place), faults)
+}
+
+#[tactic(auto, using(crate::proofs::Declared::stays_tree, crate::proofs::Declared::stays_faults, crate::proofs::Declared::goes_tree, crate::proofs::Declared::goes_faults))]
+/// A declarator without type, with the value that gives it. Where there is none that may stay, that is a fault at the
+/// identifier.
+fn valued_declarator(
+    alloc: Global,
+    asked: Asked<'_>,
+    declarator: Part<'_>,
+    faults: &mut Vec<Fault>,
+) -> Result<Tree, AllocError>
+    ensures kept { IfOk result (λ tree. tree ≡ retyped (seen declarator.entry) Absent (valued_tree (Asked-around asked.entry) (seen declarator.entry))) }
+    ensures faults { IfOk result (λ _. faults.new.items ≡ faults.old.items ++ valued_faults (Asked-around asked.entry) (seen declarator.entry)) }
+{
+    let VarDeclarator { name, init, .. } = VarDeclarator::of(declarator);
+    let place = Ident::of(BindingIdent::of(name).id).span;
+    match keep_value(alloc, asked, place, init, faults)? {
+        Some(value) => retyped(alloc, declarator, Tree::Absent, value),
+        None => {
+            faults.push(Fault {
+                kind: FaultKind::MissingExplicitType,
+                range: place,
+            })?;
+            retyped(alloc, declarator, Tree::Absent, Tree::Absent)
+        }
+    }
+}
+
+/// A declarator of an identifier, with the type that is written or that its value shows, or else with a value that may
+/// stay.
+fn ident_declarator(
+    alloc: Global,
+    asked: Asked<'_>,
+    mutability: DeclMutabilityKind,
+    declarator: Part<'_>,
+    faults: &mut Vec<Fault>,
+) -> Result<Tree, AllocError>
+    ensures kept { IfOk result (λ tree. tree ∷ [] ≡ (answer_to (ident_declarator_seen (Asked-around asked.entry) mutability (seen declarator.entry))).trees) }
+    ensures faults { IfOk result (λ _. faults.new.items ≡ faults.old.items ++ (answer_to (ident_declarator_seen (Asked-around asked.entry) mutability (seen declarator.entry))).faults) }
+{
+    let VarDeclarator { name, init, .. } = VarDeclarator::of(declarator);
+    let ty = BindingIdent::of(name).type_ann;
+    if !ty.is_absent() {
+        return retyped(alloc, declarator, ty.to_tree(alloc)?, never_value(alloc)?);
+    }
+    match maybe_infer_type(alloc, init, mutability, asked.unresolved)? {
+        Some(ty) => retyped(
+            alloc,
+            declarator,
+            type_ann(alloc, ty)?,
+            never_value(alloc)?,
+        ),
+        None => valued_declarator(alloc, asked, declarator, faults),
+    }
+}
+
+/// A declarator with the type that is written or that its value shows, or with a value that gives it. Where there is
+/// none, or where a pattern stands for the identifier, that is a fault.
 fn typed_declarator(
     alloc: Global,
     asked: Asked<'_>,
@@ -60,21 +142,15 @@ fn typed_declarator(
     ensures kept { IfOk result (λ tree. tree ∷ [] ≡ (answer_to (declarator_seen (Asked-around asked.entry) mutability (seen declarator.entry))).trees) }
     ensures faults { IfOk result (λ _. faults.new.items ≡ faults.old.items ++ (answer_to (declarator_seen (Asked-around asked.entry) mutability (seen declarator.entry))).faults) }
 {
-    let VarDeclarator { name, init, .. } = VarDeclarator::of(declarator);
-    let name = BindingIdent::of(name);
-    if !name.type_ann.is_absent() {
-        return retyped(alloc, declarator, name.type_ann.to_tree(alloc)?);
+    let name = VarDeclarator::of(declarator).name;
+    if name.kind() == Kind::BindingIdent {
+        return ident_declarator(alloc, asked, mutability, declarator, faults);
     }
-    match maybe_infer_type(alloc, init, mutability, asked.unresolved)? {
-        Some(ty) => retyped(alloc, declarator, type_ann(alloc, ty)?),
-        None => {
-            faults.push(Fault {
-                kind: FaultKind::MissingExplicitType,
-                range: Ident::of(name.id).span,
-            })?;
-            retyped(alloc, declarator, Tree::Absent)
-        }
-    }
+    faults.push(Fault {
+        kind: FaultKind::UnsupportedDestructuring,
+        range: range_of_node(name),
+    })?;
+    Ok(Tree::Absent)
 }
 
 /// The public declarators of a statement, those of an ambient one as they are written.

@@ -1,15 +1,16 @@
-ghost use Rattle.std.specs.Prelude.{◌≡◌, IfOk, ◌++◌};
+ghost use Rattle.std.specs.Prelude.{◌≡◌, IfOk, ◌++◌, ◌∷◌, []};
 ghost use Rattle.fast_check_syntax.specs.Part.{seen};
 ghost use Rattle.fast_check_skeleton.specs.Visible.{own_range, is_standing};
-ghost use Rattle.fast_check_transform.specs.Kept.{Asked-around, as_list, kept_decl, decl_faults, kept_item, item_faults};
+ghost use Rattle.fast_check_transform.specs.Kept.{Asked-around, as_list, kept_function, function_faults, kept_decl, decl_faults, kept_item, item_faults};
 
 use crate::asked::Asked;
 use crate::declarations::keep_statement;
 use fast_check_class_forms::Function;
-use fast_check_program_forms::ExportDecl;
-use fast_check_skeleton::Fault;
+use fast_check_program_forms::{ExportDecl, Ident};
+use fast_check_signatures::{Fault, FunctionKind};
 use fast_check_statement_forms::{FnDecl, TsInterfaceDecl};
 use fast_check_syntax::{Kind, Part, SourceRange, Tree};
+use fast_check_values::{transform_fn, transform_implementation};
 use std::alloc::{AllocError, Global};
 
 /// Whether a declaration of this kind stands as it is written: an interface, a type alias or an enum.
@@ -29,8 +30,44 @@ pub fn own_range(item: Part<'_>) -> SourceRange
     TsInterfaceDecl::of(item).span
 }
 
+/// A public function: in a declaration file as it is written; an implementation behind overloads, by the count of its
+/// parameters; another, by its signature.
+#[tactic(auto, using(crate::proofs::Declared::function_ambient, crate::proofs::Declared::faults_ambient, crate::proofs::Declared::function_implementation, crate::proofs::Declared::faults_implementation, crate::proofs::Declared::function_other, crate::proofs::Declared::faults_function))]
+fn keep_function(
+    alloc: Global,
+    asked: Asked<'_>,
+    place: SourceRange,
+    decl: Part<'_>,
+    faults: &mut Vec<Fault>,
+) -> Result<Tree, AllocError>
+    ensures kept { IfOk result (λ tree. tree ∷ [] ≡ kept_function (Asked-around asked.entry) place (seen decl.entry)) }
+    ensures faults { IfOk result (λ _. faults.new.items ≡ faults.old.items ++ function_faults (Asked-around asked.entry) place (seen decl.entry)) }
+{
+    if asked.is_declaration_file {
+        return decl.to_tree(alloc);
+    }
+    let FnDecl {
+        ident,
+        declare,
+        function,
+    } = FnDecl::of(decl);
+    let function = if asked.public_ranges.is_impl_with_overloads(&place) {
+        transform_implementation(alloc, function)?
+    } else {
+        let name = Ident::of(ident).span;
+        transform_fn(alloc, asked.unresolved, FunctionKind::DeclarationLike, name, function, faults)?
+    };
+    let ident = ident.to_tree(alloc)?;
+    FnDecl {
+        ident,
+        declare,
+        function,
+    }
+    .into_tree(alloc)
+}
+
 /// What is public of a declaration, which is public by `place` where it is no variable statement; none where nothing is.
-#[tactic(auto, using(crate::proofs::ByKind::kept_VarDecl, crate::proofs::ByKind::faults_VarDecl, crate::proofs::ByKind::kept_public, crate::proofs::ByKind::kept_private, crate::proofs::ByKind::kept_other, crate::proofs::ByKind::faults_other))]
+#[tactic(auto, using(crate::proofs::ByKind::kept_VarDecl, crate::proofs::ByKind::faults_VarDecl, crate::proofs::ByKind::kept_private, crate::proofs::ByKind::faults_private, crate::proofs::ByKind::kept_FnDecl, crate::proofs::ByKind::faults_FnDecl, crate::proofs::ByKind::kept_standing, crate::proofs::ByKind::kept_other, crate::proofs::ByKind::faults_other))]
 fn keep_decl(
     alloc: Global,
     asked: Asked<'_>,
@@ -45,7 +82,13 @@ fn keep_decl(
     if kind == Kind::VarDecl {
         return keep_statement(alloc, asked, decl, faults);
     }
-    if is_standing(kind) && asked.public_ranges.contains(&place) {
+    if !asked.public_ranges.contains(&place) {
+        return Ok(None);
+    }
+    if kind == Kind::FnDecl {
+        return Ok(Some(keep_function(alloc, asked, place, decl, faults)?));
+    }
+    if is_standing(kind) {
         return Ok(Some(decl.to_tree(alloc)?));
     }
     Ok(None)

@@ -1,7 +1,7 @@
 use Rattle.std.proofs.Common.{sym, subst}
 use Rattle.fast_check_syntax.specs.Shape.{none_range}
-use Rattle.fast_check_skeleton.specs.declared.fault.Fault.{Fault}
-use Rattle.fast_check_skeleton.specs.declared.fault.FaultKind.TheVariants.{MissingExplicitType}
+use Rattle.fast_check_signatures.specs.declared.fault.Fault.{Fault}
+use Rattle.fast_check_signatures.specs.declared.fault.FaultKind.TheVariants.{MissingExplicitType}
 use Rattle.fast_check_transform.specs.Transform.{AreDiagnosticsOf}
 use Rattle.fast_check_transform.proofs.Diagnosed.{next_of}
 use Rattle.fast_check_transform.proofs.transformer.diagnostics_of.Goals as goal
