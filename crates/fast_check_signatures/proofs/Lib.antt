@@ -1,2 +1,4 @@
 pub mod NewNodesMoved
 pub mod AnswersMoved
+pub mod MovedParts
+pub mod ParametersMoved
