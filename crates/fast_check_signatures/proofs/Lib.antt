@@ -2,3 +2,5 @@ pub mod NewNodesMoved
 pub mod AnswersMoved
 pub mod MovedParts
 pub mod ParametersMoved
+pub mod FunctionsMoved
+pub mod SeenMoved
