@@ -19,7 +19,7 @@ use Rattle.fast_check_signatures.specs.declared.function_kind.FunctionKind.{Func
 use Rattle.fast_check_signatures.specs.declared.function_kind.FunctionKind.TheVariants.{DeclarationLike, ExpressionLike}
 use Rattle.fast_check_signatures.specs.Seen.{Seen, written, range, scope, flag, form, faulty, end, seens, tree_in}
 use Rattle.fast_check_signatures.specs.NewNodes.{function_body, arrow_body, promised, void_or_promise_void, any_param}
-use Rattle.fast_check_signatures.specs.Parameters.{Look, pat_seen, pats_seen}
+use Rattle.fast_check_signatures.specs.Parameters.{Look, pats_seen}
 
 abbrev pub return_type_missing : Bool → Bool → FaultKind
 return_type_missing is_definitely_void_or_never is_async = MissingExplicitReturnType is_definitely_void_or_never is_async

@@ -1,7 +1,6 @@
 -- New nodes that stand for what is taken out of a signature. No text stands for them: their ranges and scope numbers are 0.
-use Rattle.std.specs.Prelude.{ℕ, Bool, true, false, ◌&&◌, ◌||◌, List, [], ◌∷◌, ◌++◌, codes, if◌then◌else◌}
+use Rattle.std.specs.Prelude.{ℕ, Bool, true, false, ◌&&◌, List, [], ◌∷◌, ◌++◌, codes, if◌then◌else◌}
 use Rattle.std.specs.Fmt.{decimal}
-use Rattle.std.specs.Str.{bytes_eq}
 use Rattle.fast_check_syntax.specs.declared.kind.Kind.TheVariants.{TsTypeRef}
 use Rattle.fast_check_syntax.specs.declared.kind.Word.TheVariants.{TsVoidKeyword, TsNeverKeyword, TsUndefinedKeyword}
 use Rattle.fast_check_syntax.specs.declared.source.SyntaxContext.{SyntaxContext}
@@ -15,7 +14,7 @@ use Rattle.fast_check_program_forms.specs.Names.{ident, binding_ident}
 use Rattle.fast_check_statement_forms.specs.Statements.{block_stmt, return_stmt}
 use Rattle.fast_check_type_forms.specs.Types.{ts_type_ref, ts_union_type, TsTypeRef-type_name, TsTypeRef-type_params}
 use Rattle.fast_check_type_forms.specs.TypeParams.{ts_type_param_instantiation, ts_type_ann, TsTypeAnn-span, TsTypeAnn-type_ann, TsTypeParamInstantiation-params}
-use Rattle.fast_check_tree.specs.Builders.{ts_keyword_type, type_ann, any_type_ann, new_ident, never_value, is_void_type}
+use Rattle.fast_check_tree.specs.Builders.{ts_keyword_type, any_type_ann, new_ident, never_value, is_void_type}
 use Rattle.fast_check_tree.specs.GlobalCalls.{is_global}
 
 abbrev pub no_scope : SyntaxContext

@@ -4,7 +4,7 @@ use Rattle.fast_check_syntax.specs.declared.kind.Kind.{Kind}
 use Rattle.fast_check_syntax.specs.declared.source.SourceRange.{SourceRange}
 use Rattle.fast_check_syntax.specs.declared.source.SyntaxContext.{SyntaxContext}
 use Rattle.fast_check_syntax.specs.declared.tree.Tree.{Tree, Absent}
-use Rattle.fast_check_syntax.specs.Shape.{is_absent, none_range}
+use Rattle.fast_check_syntax.specs.Shape.{none_range}
 use Rattle.fast_check_syntax.specs.Moves.{Moves, moved, moved_range}
 use Rattle.fast_check_signatures.specs.declared.fault.FaultKind.{FaultKind}
 
