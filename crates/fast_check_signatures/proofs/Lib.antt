@@ -1,3 +1,5 @@
 pub mod Looks
 pub mod NewNodesMoved
 pub mod AnswersMoved
+pub mod AlikeTrees
+pub mod AlikeSeen
