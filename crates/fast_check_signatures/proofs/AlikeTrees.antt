@@ -1,6 +1,6 @@
 -- Trees that are equal under a renaming, as equations: made of such parts they are so again, and so is what is read of them.
-use Rattle.std.specs.Prelude.{◌≡◌, ℕ, Bool, List, [], ◌∷◌, map, refl}
-use Rattle.std.proofs.Common.{ap, ap₂, ◌∙◌, sym}
+use Rattle.std.specs.Prelude.{◌≡◌, ℕ, Bool, List, [], map, refl}
+use Rattle.std.proofs.Common.{ap, ◌∙◌, sym}
 use Rattle.fast_check_syntax.specs.declared.kind.Kind.{Kind}
 use Rattle.fast_check_syntax.specs.declared.kind.Kind.TheVariants.{List as List'}
 use Rattle.fast_check_syntax.specs.declared.source.SourceRange.{SourceRange}

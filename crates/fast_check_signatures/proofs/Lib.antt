@@ -3,3 +3,4 @@ pub mod NewNodesMoved
 pub mod AnswersMoved
 pub mod AlikeTrees
 pub mod AlikeSeen
+pub mod AlikeParameters
