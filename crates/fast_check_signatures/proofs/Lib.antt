@@ -4,3 +4,4 @@ pub mod AnswersMoved
 pub mod AlikeTrees
 pub mod AlikeSeen
 pub mod AlikeParameters
+pub mod AlikeFunctions
