@@ -97,10 +97,10 @@ module _ (r : Renaming) (ok : IsRenaming r) where
         (λ w. same_written r ok s.return_type)
 
     -- a function, by its parameters, where its body has the class of the other's if no type is written
-    pub function_alike : (kind : FunctionKind) (p q : SourceRange) (t u : Tree) (params params' : List Seen) → RangeAlike r ok p q → SameFunctionHead r c d t u → SameReturn r c d t u →
+    pub signature_of_alike : (kind : FunctionKind) (p q : SourceRange) (t u : Tree) (params params' : List Seen) → RangeAlike r ok p q → SameFunctionHead r c d t u → SameReturn r c d t u →
         (is_absent (Function-return_type t) ≡ true → return_class (Function-body t) ≡ return_class (Function-body u)) → AllAlike r ok params params' →
         Alike r ok (signature_seen t (return_type_seen kind p t) params) (signature_seen u (return_type_seen kind q u) params')
-    function_alike kind p q t u params params' e h s classes ps =
+    signature_of_alike kind p q t u params params' e h s classes ps =
         signature_alike t u (return_type_seen kind p t) (return_type_seen kind q u) params params' h (return_type_alike kind p q t u e h s classes) ps
 
     -- ---- parameters
