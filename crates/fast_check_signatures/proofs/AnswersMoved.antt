@@ -82,7 +82,7 @@ around_moved m kind ps =
 
 -- ---- the parts of a form
 
-tree_in_moved : (m : Moves) (s : Seen) → tree_in (moved_seen m s) ≡ moved m (tree_in s)
+pub tree_in_moved : (m : Moves) (s : Seen) → tree_in (moved_seen m s) ≡ moved m (tree_in s)
 tree_in_moved m (written t) = refl
 tree_in_moved m _ = sym (absent_moved m)
 

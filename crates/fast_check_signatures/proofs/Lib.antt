@@ -1,6 +1,10 @@
 pub mod Looks
 pub mod NewNodesMoved
 pub mod AnswersMoved
+pub mod MovedParts
+pub mod ParametersMoved
+pub mod FunctionsMoved
+pub mod SeenMoved
 pub mod AlikeTrees
 pub mod AlikeSeen
 pub mod AlikeParameters

@@ -3,3 +3,4 @@ pub mod Moved
 pub mod Induction
 pub mod Same
 pub mod Made
+pub mod DescentMoved

@@ -1,16 +1,17 @@
 -- A call of a global function stays one when its scopes are moved, those of the unresolved with them.
-use Rattle.std.proofs.Common.{◌≡◌, ℕ, Bool, true, false, ◌==◌, ◌&&◌, ◌||◌, List, [], ◌∷◌, map, refl, ap, ap₂, ◌∙◌, sym, true≢false, eqb-true, eq-eqb}
-use Rattle.std.specs.Prelude.{codes}
+use Rattle.std.proofs.Common.{◌≡◌, ℕ, Bool, true, false, ◌==◌, ◌&&◌, ◌||◌, Some, None, List, [], ◌∷◌, map, refl, ap, ap₂, ◌∙◌, sym, true≢false, eqb-true, eq-eqb}
+use Rattle.std.specs.Prelude.{codes, if◌then◌else◌}
+use Rattle.std.specs.Option.{option_map}
 use Rattle.std.specs.Str.{bytes_eq}
 use Rattle.fast_check_syntax.specs.declared.source.SyntaxContext.{SyntaxContext}
 use Rattle.fast_check_syntax.specs.declared.tree.Tree.{Tree, out-Tree}
 use Rattle.fast_check_syntax.specs.declared.tree.Tree.TheOpen.{Tree-F}
 use Rattle.fast_check_syntax.specs.declared.tree.Tree.TheFolds.{map-Tree}
 use Rattle.fast_check_syntax.specs.declared.kind.Kind.TheVariants.{Ident, IdentName, MemberExpr, Str}
-use Rattle.fast_check_syntax.specs.Shape.{◌is◌, kind_of, part, parts, context_of, context_at, text_of}
+use Rattle.fast_check_syntax.specs.Shape.{◌is◌, kind_of, part, parts, context_of, context_at, text_of, is_absent}
 use Rattle.fast_check_syntax.specs.Moves.{Moves, Keeps, moved, moved_level}
-use Rattle.fast_check_syntax.proofs.Moved.{out_moved, kind_of_moved, part_moved, parts_moved, text_of_moved}
-use Rattle.fast_check_tree.specs.GlobalCalls.{is_global, is_plain_name, is_global_member, is_symbol_description, is_symbol_call}
+use Rattle.fast_check_syntax.proofs.Moved.{out_moved, kind_of_moved, part_moved, parts_moved, is_absent_moved, text_of_moved}
+use Rattle.fast_check_tree.specs.GlobalCalls.{is_global, is_plain_name, is_global_member, sole_argument, object_freeze_call_arg, is_symbol_description, is_symbol_call}
 
 -- the scope number of the unresolved, moved
 abbrev pub moved_scope : Moves → SyntaxContext → SyntaxContext
@@ -64,3 +65,23 @@ module _ (m : Moves) (ok : Keeps m) where
       ap₂ ◌&&◌
       (ap₂ ◌||◌ (is_global_moved (codes "Symbol") u callee) (is_global_member_moved (codes "Symbol") (codes "for") u callee))
       (ap is_symbol_description (parts_moved m args) ∙ description_moved (parts args))
+
+  sole_argument_moved : (ts : List Tree) → sole_argument (map (moved m) ts) ≡ option_map (moved m) (sole_argument ts)
+  sole_argument_moved [] = refl
+  sole_argument_moved (t ∷ []) = ap (λ b. if b then Some (moved m t) else None) (ap is_absent (part_moved m 0 t) ∙ is_absent_moved m (part 0 t)) ∙ go (is_absent (part 0 t))
+    where
+      go : (b : Bool) → (if b then Some (moved m t) else None) ≡ option_map (moved m) (if b then Some t else None)
+      go true = refl
+      go false = refl
+  sole_argument_moved (t ∷ u ∷ us) = refl
+
+  pub object_freeze_call_arg_moved : (u : SyntaxContext) (callee args : Tree) →
+      object_freeze_call_arg (moved_scope m u) (moved m callee) (moved m args) ≡ option_map (moved m) (object_freeze_call_arg u callee args)
+  object_freeze_call_arg_moved u callee args =
+      ap₂ (λ b arg. if b then arg else None) (is_global_member_moved (codes "Object") (codes "freeze") u callee)
+      (ap sole_argument (parts_moved m args) ∙ sole_argument_moved (parts args))
+      ∙ go (is_global_member (codes "Object") (codes "freeze") u callee)
+    where
+      go : (b : Bool) → (if b then option_map (moved m) (sole_argument (parts args)) else None) ≡ option_map (moved m) (if b then sole_argument (parts args) else None)
+      go true = refl
+      go false = refl
