@@ -8,9 +8,8 @@ use Rattle.fast_check_syntax.specs.declared.source.SyntaxContext.{SyntaxContext}
 use Rattle.fast_check_syntax.specs.declared.tree.Tree as tree
 use Rattle.fast_check_syntax.specs.declared.tree.Tree.{Tree}
 use Rattle.fast_check_syntax.specs.Shape.{◌is◌, kind_of, part, is_absent, list}
-use Rattle.fast_check_syntax.specs.Moves.{Moves, Keeps, Renaming, IsRenaming, partners, twice, moved, moved_range}
+use Rattle.fast_check_syntax.specs.Moves.{Renaming, IsRenaming, partners, twice, moved_range}
 use Rattle.fast_check_syntax.specs.Same.{SameTree, SameRange}
-use Rattle.fast_check_syntax.proofs.Moved.{node_moved, part_moved, range_moved, flag_moved, context_moved, text_moved, range_of_moved, text_of_moved}
 use Rattle.fast_check_syntax.proofs.Partners.{partners-keep as partners_keep, twice-keeps as twice_keeps}
 use Rattle.fast_check_syntax.proofs.Same.{tree_to, range_to}
 use Rattle.fast_check_expression_forms.specs.Patterns.{ArrayPat-span, ArrayPat-optional, ArrayPat-type_ann, ObjectPat-span, ObjectPat-optional, ObjectPat-type_ann, RestPat-span, RestPat-dot3_token, RestPat-arg, RestPat-type_ann, rest_pat, AssignPat-span, AssignPat-left, AssignPat-right, assign_pat}
@@ -21,27 +20,17 @@ use Rattle.fast_check_tree.specs.Builders.{type_ann, never_value}
 use Rattle.fast_check_tree.specs.InferredType.{inferred_type}
 use Rattle.fast_check_tree.specs.OptionalParams.{is_optional_param}
 use Rattle.fast_check_tree.proofs.BuildersMoved.{type_ann_moved, never_value_moved}
-use Rattle.fast_check_tree.proofs.GlobalCallsMoved.{context_of_moved}
 use Rattle.fast_check_tree.proofs.ReturnsMoved.{is_optional_param_moved}
 use Rattle.fast_check_signatures.specs.declared.fault.FaultKind.TheVariants.{MissingExplicitType, UnsupportedDestructuring}
 use Rattle.fast_check_signatures.specs.Seen.{Seen, written, range, faulty}
 use Rattle.fast_check_signatures.specs.NewNodes.{never_array, empty_object_pat}
-use Rattle.fast_check_signatures.specs.Parameters.{Look, emptied_array, emptied_object, typed, rest_arg, rest_seen, with_optional, without_default, default_seen, by_shown, ident_default_seen, pattern_default_seen, assign_seen, pat_seen}
+use Rattle.fast_check_signatures.specs.Parameters.{Look, emptied_array, emptied_object, typed, rest_arg, rest_seen, without_default, default_seen, by_shown, ident_default_seen, pattern_default_seen, assign_seen, pat_seen}
 use Rattle.fast_check_signatures.specs.SameValues.{Both, SameShown, NoneShown, SameEmptied, pattern_type}
 use Rattle.fast_check_signatures.specs.SameValues as s
-use Rattle.fast_check_signatures.proofs.NewNodesMoved.{never_array_moved, or_undefined_moved}
+use Rattle.fast_check_signatures.proofs.NewNodesMoved.{never_array_moved}
+use Rattle.fast_check_signatures.proofs.ParametersMoved.{without_default_moved}
 use Rattle.fast_check_signatures.proofs.AlikeTrees.{TreeAlike, RangeAlike, image_alike, same_read, new_alike, part_alike, absent_alike, range_of_alike, range_leaf_alike, flag_leaf_alike, node_alike, empty_list_alike}
 use Rattle.fast_check_signatures.proofs.AlikeSeen.{Alike, written_alike, range_alike, faulty_alike, alike_if, form_alike}
-
--- ---- new nodes round moved ones
-
-module _ (m : Moves) (ok : Keeps m) where
-  pub with_optional_moved : (optional : Bool) (id : Tree) → with_optional optional (moved m id) ≡ moved m (with_optional optional id)
-  with_optional_moved optional id = simp (node_moved, range_moved, context_moved, text_moved, flag_moved, part_moved, range_of_moved m ok, context_of_moved m ok, text_of_moved)
-
-  pub without_default_moved : (optional : Bool) (id type : Tree) → without_default optional (moved m id) (moved m type) ≡ moved m (without_default optional id type)
-  without_default_moved true id type = simp (node_moved, with_optional_moved)
-  without_default_moved false id type = simp (node_moved, with_optional_moved, or_undefined_moved m ok)
 
 -- ---- what a parameter of each kind is seen as
 
