@@ -33,12 +33,12 @@ both_false : (a b : Bool) → (a || b) ≡ false → (a ≡ false) × (b ≡ fal
 both_false false b e = (refl, e)
 both_false true b e = cc
 
-both_true : (a b : Bool) → (a && b) ≡ true → (a ≡ true) × (b ≡ true)
+pub both_true : (a b : Bool) → (a && b) ≡ true → (a ≡ true) × (b ≡ true)
 both_true true b e = (refl, e)
 both_true false b e = cc
 
 -- a kind of which a fact is true is none of those of which it is false
-apart : (f : Kind → Bool) (k j : Kind) → f k ≡ true → f j ≡ false → k is j ≡ false
+pub apart : (f : Kind → Bool) (k j : Kind) → f k ≡ true → f j ≡ false → k is j ≡ false
 apart f k j e n = go (k is j) refl
   where
     go : (b : Bool) → k is j ≡ b → b ≡ false

@@ -1,33 +1,19 @@
 -- What is seen of two sources is alike if it is equal once each position and scope number is written by its partner.
-use Rattle.std.specs.Prelude.{◌≡◌, Bool, true, false, List, [], ◌∷◌, map, refl, if◌then◌else◌}
-use Rattle.std.proofs.Common.{ap, ◌∙◌, sym}
+use Rattle.std.specs.Prelude.{◌≡◌, Bool, true, false, List, [], ◌∷◌, ◌++◌, map, refl, if◌then◌else◌}
+use Rattle.std.proofs.Common.{ap, ap₂, ◌∙◌, sym}
 use Rattle.fast_check_syntax.specs.declared.kind.Kind.{Kind}
 use Rattle.fast_check_syntax.specs.declared.source.SourceRange.{SourceRange}
 use Rattle.fast_check_syntax.specs.declared.source.SyntaxContext.{SyntaxContext}
 use Rattle.fast_check_syntax.specs.declared.tree.Tree.{Tree}
-use Rattle.fast_check_syntax.specs.Moves.{Moves, Renaming, IsRenaming, IsPair, partners, twice, moved}
+use Rattle.fast_check_syntax.specs.Moves.{Renaming, IsRenaming, IsPair, partners, twice}
 use Rattle.fast_check_syntax.specs.Same.{SameTree, SameRange}
-use Rattle.fast_check_syntax.proofs.Moved.{absent_moved}
 use Rattle.fast_check_syntax.proofs.Partners.{to_partner}
 use Rattle.fast_check_syntax.proofs.Same.{tree_to, range_to}
 use Rattle.fast_check_signatures.specs.declared.fault.FaultKind.{FaultKind}
-use Rattle.fast_check_signatures.specs.Seen.{Seen, written, range, scope, flag, form, inferred, faulty, refused, hidden, also, seens, moved_seen, moved_seens, tree_in}
+use Rattle.fast_check_signatures.specs.Seen.{Seen, written, range, scope, form, faulty, seens, moved_seen, tree_in}
+use Rattle.fast_check_signatures.proofs.AnswersMoved.{map_append, tree_in_moved}
+use Rattle.fast_check_signatures.proofs.MovedParts.{seens_moved}
 use Rattle.fast_check_signatures.proofs.AlikeTrees.{TreeAlike, RangeAlike}
-
-pub seens_moved : (m : Moves) (ss : List Seen) → moved_seens m (seens ss) ≡ seens (map (moved_seen m) ss)
-seens_moved m [] = refl
-seens_moved m (s ∷ ss) = ap (also (moved_seen m s)) (seens_moved m ss)
-
-pub tree_in_moved : (m : Moves) (s : Seen) → tree_in (moved_seen m s) ≡ moved m (tree_in s)
-tree_in_moved m (written t) = refl
-tree_in_moved m (range a) = sym (absent_moved m)
-tree_in_moved m (scope c) = sym (absent_moved m)
-tree_in_moved m (flag f) = sym (absent_moved m)
-tree_in_moved m (form k ss) = sym (absent_moved m)
-tree_in_moved m (inferred t) = sym (absent_moved m)
-tree_in_moved m (faulty kind place) = sym (absent_moved m)
-tree_in_moved m refused = sym (absent_moved m)
-tree_in_moved m hidden = sym (absent_moved m)
 
 module _ (r : Renaming) (ok : IsRenaming r) where
   abbrev pub Alike : Seen → Seen → Type 0
@@ -57,8 +43,17 @@ module _ (r : Renaming) (ok : IsRenaming r) where
   alike_if true false s s' t t' e p q = cc
   alike_if false true s s' t t' e p q = cc
 
+  pub all_alike_if : (a b : Bool) (s t : Seen) → a ≡ b → Alike s t → AllAlike (if a then s ∷ [] else []) (if b then t ∷ [] else [])
+  all_alike_if true true s t e p = ap (λ x. x ∷ []) p
+  all_alike_if false false s t e p = refl
+  all_alike_if true false s t e p = cc
+  all_alike_if false true s t e p = cc
+
+  pub append_alike : (a b c d : List Seen) → AllAlike a c → AllAlike b d → AllAlike (a ++ b) (c ++ d)
+  append_alike a b c d p q = map_append (moved_seen (partners r)) a b ∙ (ap₂ (λ x y. x ++ y) p q ∙ sym (map_append (moved_seen twice) c d))
+
   pub form_alike : (k : Kind) (ss ts : List Seen) → AllAlike ss ts → Alike (form k (seens ss)) (form k (seens ts))
-  form_alike k ss ts p = ap (form k) (seens_moved (partners r) ss ∙ (ap seens p ∙ sym (seens_moved twice ts)))
+  form_alike k ss ts p = ap (form k) (sym (seens_moved (partners r) ss) ∙ (ap seens p ∙ seens_moved twice ts))
 
   pub tree_in_alike : (s t : Seen) → Alike s t → TreeAlike r ok (tree_in s) (tree_in t)
   tree_in_alike s t e = sym (tree_in_moved (partners r) s) ∙ (ap tree_in e ∙ tree_in_moved twice t)
