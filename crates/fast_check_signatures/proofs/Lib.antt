@@ -1,8 +1,14 @@
+pub mod Looks
 pub mod NewNodesMoved
 pub mod AnswersMoved
-pub mod Looks
 pub mod Gone
 pub mod MovedParts
 pub mod ParametersMoved
 pub mod FunctionsMoved
 pub mod SeenMoved
+pub mod AlikeTrees
+pub mod AlikeSeen
+pub mod AlikeParameters
+pub mod AlikeFunctions
+pub mod AlikeExpressions
+pub mod Alike
