@@ -1,2 +1,3 @@
 pub mod Descending
 pub mod Staying
+pub mod TypedPatterns
