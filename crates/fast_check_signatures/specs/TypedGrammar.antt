@@ -75,5 +75,5 @@ module _ (unresolved : SyntaxContext) where
       array_default : {t : Tree} → kind_of t ≡ AssignPat → IsEmptiedArray (AssignPat-left t) → IsLeavable (AssignPat-right t) → IsTypedPat t
       object_default : {t : Tree} → kind_of t ≡ AssignPat → IsEmptiedObject (AssignPat-left t) → IsLeavable (AssignPat-right t) → IsTypedPat t
       -- behind a written type, `never` stands for the default
-      array_never : {t : Tree} → kind_of t ≡ AssignPat → IsEmptiedArray (AssignPat-left t) → AssignPat-right t ≡ never_array → IsTypedPat t
-      object_never : {t : Tree} → kind_of t ≡ AssignPat → IsEmptiedObject (AssignPat-left t) → AssignPat-right t ≡ never_value → IsTypedPat t
+      array_never : {t : Tree} → kind_of t ≡ AssignPat → IsEmptiedArray (AssignPat-left t) → is_absent (ArrayPat-type_ann (AssignPat-left t)) ≡ false → AssignPat-right t ≡ never_array → IsTypedPat t
+      object_never : {t : Tree} → kind_of t ≡ AssignPat → IsEmptiedObject (AssignPat-left t) → is_absent (ObjectPat-type_ann (AssignPat-left t)) ≡ false → AssignPat-right t ≡ never_value → IsTypedPat t
