@@ -1,3 +1,4 @@
 pub mod Descending
 pub mod Staying
 pub mod TypedPatterns
+pub mod TypedFunctions

@@ -79,6 +79,10 @@ rest_arg_twice arg =
     empty : rest_arg empty_object_pat ≡ empty_object_pat
     empty = ap (rest_by empty_object_pat) (kind_of_node _ _)
 
+-- an identifier is gathered in as it is
+pub ident_gathered : (id type : Tree) → rest_arg (binding_ident id type) ≡ binding_ident id type
+ident_gathered id type = ap (rest_by (binding_ident id type)) (kind_of_node _ _)
+
 -- ---- what stands
 
 -- a tree that is written
