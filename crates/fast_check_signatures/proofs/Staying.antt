@@ -47,7 +47,7 @@ one_is_first P [] p = absurd p
 one_is_first P (t ∷ []) p = refl
 one_is_first P (t ∷ u ∷ ts) p = absurd p
 
-one_before : (P : Tree → Type 0) (R : List Tree → Type 0) (ts us : List Tree) → One P ts → ((t : Tree) → P t → R (t ∷ us)) → R (ts ++ us)
+pub one_before : (P : Tree → Type 0) (R : List Tree → Type 0) (ts us : List Tree) → One P ts → ((t : Tree) → P t → R (t ∷ us)) → R (ts ++ us)
 one_before P R [] us p made = absurd p
 one_before P R (t ∷ []) us p made = made t p
 one_before P R (t ∷ u ∷ ts) us p made = absurd p

@@ -27,7 +27,7 @@ use Rattle.fast_check_signatures.specs.Functions.{class_seen, return_type_seen, 
 use Rattle.fast_check_signatures.specs.Answers.{Answer, visited, first_or_absent, answer_to}
 use Rattle.fast_check_signatures.specs.TypedGrammar.{IsLeavable, IsTypedFunction, IsTypedPat, AllTypedParams}
 use Rattle.fast_check_signatures.proofs.Staying.{of_choice, no_left, no_right, not_empty, One, one_first, Stays, Stands, stands_next, around_stands, around_one_stands}
-use Rattle.fast_check_signatures.proofs.TypedPatterns.{pat_stands, typed_ident, typed_rest, ident_gathered}
+use Rattle.fast_check_signatures.proofs.TypedPatterns.{pat_is_typed, typed_ident, typed_rest, ident_gathered}
 
 -- ---- return types
 
@@ -151,7 +151,7 @@ module _ (unresolved : SyntaxContext) where
     params_stand (p ∷ ps) [] = (refl, λ f. AllTypedParams.no_params)
     params_stand (p ∷ ps) (pat ∷ pats) =
         let is_optional = list_all is_optional_param (pat ∷ pats) in let seen = pat_seen unresolved look is_optional pat in
-        next_stands (param_seen p seen) (params_seen ps (pats_seen unresolved look pats)) (param_stands p seen (pat_stands unresolved look stays is_optional pat)) (params_stand ps pats)
+        next_stands (param_seen p seen) (params_seen ps (pats_seen unresolved look pats)) (param_stands p seen (pat_is_typed unresolved look stays is_optional pat)) (params_stand ps pats)
 
     pub function_is_typed : (kind : FunctionKind) (place : SourceRange) (t : Tree) → StandsAsFunction (function_seen unresolved look kind place t)
     function_is_typed kind place t =

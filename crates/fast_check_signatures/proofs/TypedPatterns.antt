@@ -220,8 +220,8 @@ module _ (unresolved : SyntaxContext) (look : Look) (stays : (t : Tree) (place :
       (typed_rest unresolved (RestPat-span pat) (RestPat-dot3_token pat) (rest_arg (RestPat-arg pat)) (RestPat-type_ann pat) (rest_arg_twice (RestPat-arg pat)))
 
   -- a parameter
-  pub pat_stands : (b : Bool) (pat : Tree) → Typed (pat_seen unresolved look b pat)
-  pat_stands b pat =
+  pub pat_is_typed : (b : Bool) (pat : Tree) → Typed (pat_seen unresolved look b pat)
+  pat_is_typed b pat =
       of_choice Typed (kind_of pat is BindingIdent) _ _
       (λ e. typed_stands (IsTypedPat unresolved) (BindingIdent-type_ann pat) (Ident-span (BindingIdent-id pat)) pat (IsTypedPat.ident (is_kind _ _ e))) (λ ident.
       of_choice Typed (kind_of pat is AssignPat) _ _ (λ e. assign_stands b pat) (λ assign.
@@ -233,9 +233,9 @@ module _ (unresolved : SyntaxContext) (look : Look) (stays : (t : Tree) (place :
       faulty_stands (One (IsTypedPat unresolved)) UnsupportedDestructuring (range_of_node pat))))))
 
   -- parameters, in order
-  pub pats_stand : (pats : List Tree) → Stands (AllTypedPats unresolved) (visited (map answer_to (pats_seen unresolved look pats)))
-  pats_stand [] = (refl, λ f. AllTypedPats.no_pats)
-  pats_stand (pat ∷ pats) =
+  pub pats_are_typed : (pats : List Tree) → Stands (AllTypedPats unresolved) (visited (map answer_to (pats_seen unresolved look pats)))
+  pats_are_typed [] = (refl, λ f. AllTypedPats.no_pats)
+  pats_are_typed (pat ∷ pats) =
       stands_next (IsTypedPat unresolved) (AllTypedPats unresolved) (AllTypedPats unresolved) (λ t ts. AllTypedPats.next_pat)
       (answer_to (pat_seen unresolved look (list_all is_optional_param (pat ∷ pats)) pat)) (map answer_to (pats_seen unresolved look pats))
-      (pat_stands (list_all is_optional_param (pat ∷ pats)) pat) (pats_stand pats)
+      (pat_is_typed (list_all is_optional_param (pat ∷ pats)) pat) (pats_are_typed pats)
