@@ -5,10 +5,9 @@ use Rattle.fast_check_syntax.specs.declared.kind.Kind.{Kind}
 use Rattle.fast_check_syntax.specs.declared.source.SourceRange.{SourceRange}
 use Rattle.fast_check_syntax.specs.declared.tree.Tree.{Tree}
 use Rattle.fast_check_syntax.specs.Shape.{node}
-use Rattle.fast_check_signatures.specs.declared.fault.Fault.{Fault}
 use Rattle.fast_check_signatures.specs.declared.fault.FaultKind.{FaultKind}
 use Rattle.fast_check_signatures.specs.Seen.{Seen, seens}
-use Rattle.fast_check_signatures.specs.Answers.{Answer, Part, fault_at, stands, fails, goes, before, nothing, visited, around, first_or_absent, answer_to, answered}
+use Rattle.fast_check_signatures.specs.Answers.{Answer, Part, fault_at, stands, fails, goes, before, visited, around, first_or_absent, answer_to, answered}
 
 -- ---- once
 
@@ -119,7 +118,7 @@ pub around_stands : (kind : Kind) (Q : List Tree → Type 0) (R : Tree → Type 
     Stands Q (visited (map answer_to ss)) → Stands (One R) (around kind (answered (seens ss)))
 around_stands kind Q R made ss q =
     let l = ap (λ a. a.is_leavable) (around_is kind ss)
-        ∙ ap (λ b. (if b then fails (node kind (visited (map answer_to ss)).trees) (visited (map answer_to ss)).faults else goes (visited (map answer_to ss)).faults).is_leavable) q.0 in
+    ∙ ap (λ b. (if b then fails (node kind (visited (map answer_to ss)).trees) (visited (map answer_to ss)).faults else goes (visited (map answer_to ss)).faults).is_leavable) q.0 in
     (l, around_stays kind Q R made ss (λ e. q.1) l)
 
 -- a form with one part among trees that stand

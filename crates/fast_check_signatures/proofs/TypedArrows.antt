@@ -1,5 +1,5 @@
 -- Each arrow that stands without a fault is typed, where values that may stay give their types.
-use Rattle.std.specs.Prelude.{◌≡◌, Bool, true, false, Option, Some, None, List, [], ◌∷◌, ◌++◌, map, refl, if◌then◌else◌}
+use Rattle.std.specs.Prelude.{◌≡◌, Bool, false, Option, Some, None, List, ◌++◌, map, refl}
 use Rattle.std.proofs.Common.{ap, ◌∙◌, sym, subst}
 use Rattle.fast_check_syntax.specs.declared.kind.Kind.TheVariants.{BlockStmt, List as List'}
 use Rattle.fast_check_syntax.specs.declared.source.SourceRange.{SourceRange}
@@ -17,7 +17,7 @@ use Rattle.fast_check_signatures.specs.declared.function_kind.FunctionKind.TheVa
 use Rattle.fast_check_signatures.specs.Seen.{Seen, written, form, seens, tree_in}
 use Rattle.fast_check_signatures.specs.NewNodes.{arrow_body, promised}
 use Rattle.fast_check_signatures.specs.Parameters.{Look, pats_seen}
-use Rattle.fast_check_signatures.specs.Functions.{return_type_missing, class_seen, typed_arrow_seen, valued_arrow_seen, or_own, by_value, untyped_arrow_seen, arrow_by_type, arrow_seen}
+use Rattle.fast_check_signatures.specs.Functions.{return_type_missing, class_seen, typed_arrow_seen, valued_arrow_seen, or_own, by_value, arrow_by_type, arrow_seen}
 use Rattle.fast_check_signatures.specs.Answers.{visited, first_or_absent, unless_leavable, answer_to}
 use Rattle.fast_check_signatures.specs.TypedGrammar.{IsLeavable, AllTypedPats}
 use Rattle.fast_check_signatures.proofs.Staying.{of_choice, no_left, no_right, One, one_first, Stays, Stands, around_stands, leavable_where}
@@ -63,21 +63,25 @@ module _ (unresolved : SyntaxContext) where
   -- an arrow whose return type is known
   typed_stands : (t : Tree) (place : SourceRange) (pats : List Seen) (type : Seen) → PatsStand pats → IsType type → StandsLeavable (typed_arrow_seen t place pats type)
   typed_stands t place pats type stand shows =
-      let listed = answer_to (form List' (seens pats)) in
-      (refl, λ f. typed (ArrowExpr-span t) (ArrowExpr-ctxt t) (first_or_absent listed.trees) (ArrowExpr-is_generator t) (ArrowExpr-type_params t) (tree_in type)
-      (shows (no_left (answer_to type).faults listed.faults f)) (one_first HoldsTypedPats listed.trees ((list_stands pats stand).1 (no_right (answer_to type).faults listed.faults f))))
+      let listed = answer_to (form List' (seens pats)) in (
+        refl,
+        λ f. typed (ArrowExpr-span t) (ArrowExpr-ctxt t) (first_or_absent listed.trees) (ArrowExpr-is_generator t) (ArrowExpr-type_params t) (tree_in type)
+            (shows (no_left (answer_to type).faults listed.faults f)) (one_first HoldsTypedPats listed.trees ((list_stands pats stand).1 (no_right (answer_to type).faults listed.faults f))),
+      )
 
   -- an arrow whose value gives the return type
   valued_stands : (t : Tree) (place : SourceRange) (pats : List Seen) (value : Seen) → PatsStand pats → Stays (One Leavable) (answer_to value) → StandsLeavable (valued_arrow_seen t place pats value)
   valued_stands t place pats value stand stays =
       let listed = answer_to (form List' (seens pats)) in
       let body = answer_to value in
-      let missing = unless_leavable (record { seen = value; answer = body }) (return_type_missing false (ArrowExpr-is_async t)) place in
-      (refl, λ f. let rest = no_right body.faults (missing ++ listed.faults) f in
-      let leavable = leavable_where body (return_type_missing false (ArrowExpr-is_async t)) place (no_left missing listed.faults rest) in
-      valued (ArrowExpr-span t) (ArrowExpr-ctxt t) (first_or_absent listed.trees) (first_or_absent body.trees) (ArrowExpr-is_async t) (ArrowExpr-is_generator t) (ArrowExpr-type_params t) Absent
-      (one_first Leavable body.trees (stays leavable (no_left body.faults (missing ++ listed.faults) f)))
-      (one_first HoldsTypedPats listed.trees ((list_stands pats stand).1 (no_right missing listed.faults rest))))
+      let missing = unless_leavable (record { seen = value; answer = body }) (return_type_missing false (ArrowExpr-is_async t)) place in (
+        refl,
+        λ f. let rest = no_right body.faults (missing ++ listed.faults) f in
+            let leavable = leavable_where body (return_type_missing false (ArrowExpr-is_async t)) place (no_left missing listed.faults rest) in
+            valued (ArrowExpr-span t) (ArrowExpr-ctxt t) (first_or_absent listed.trees) (first_or_absent body.trees) (ArrowExpr-is_async t) (ArrowExpr-is_generator t) (ArrowExpr-type_params t) Absent
+            (one_first Leavable body.trees (stays leavable (no_left body.faults (missing ++ listed.faults) f)))
+            (one_first HoldsTypedPats listed.trees ((list_stands pats stand).1 (no_right missing listed.faults rest))),
+      )
 
   module _ (look : Look) (stays : (t : Tree) (place : Option SourceRange) → Stays (One (IsLeavable unresolved)) (answer_to (look t place))) where
     by_value_stands : (t : Tree) (place : SourceRange) (pats : List Seen) → PatsStand pats → (shown : Option Tree) → StandsLeavable (by_value unresolved look t place pats shown)

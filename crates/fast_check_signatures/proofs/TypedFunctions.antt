@@ -1,17 +1,16 @@
 -- Each function that stands without a fault is typed, where values that may stay give the types of its parameters.
-use Rattle.std.specs.Prelude.{◌≡◌, ℕ, suc, Bool, true, false, ◌⊎◌, Option, List, [], ◌∷◌, ◌++◌, map, refl, if◌then◌else◌}
+use Rattle.std.specs.Prelude.{◌≡◌, ℕ, suc, Bool, true, false, ◌⊎◌, Option, List, [], ◌∷◌, map, refl, if◌then◌else◌}
 use Rattle.std.specs.List.{list_all}
 use Rattle.std.proofs.Common.{ap, ◌∙◌, sym, subst, inl, inr}
-use Rattle.fast_check_syntax.specs.declared.kind.Kind.TheVariants.{Function, Param, BindingIdent, RestPat, List as List'}
+use Rattle.fast_check_syntax.specs.declared.kind.Kind.TheVariants.{Param, RestPat, List as List'}
 use Rattle.fast_check_syntax.specs.declared.source.SourceRange.{SourceRange}
 use Rattle.fast_check_syntax.specs.declared.source.SyntaxContext.{SyntaxContext}
 use Rattle.fast_check_syntax.specs.declared.tree.Tree as tree
 use Rattle.fast_check_syntax.specs.declared.tree.Tree.{Tree, Absent, roll-Tree, out-roll-Tree}
 use Rattle.fast_check_syntax.specs.declared.tree.Tree.TheOpen.{Tree-F}
-use Rattle.fast_check_syntax.specs.Shape.{◌is◌, kind_of, parts, part, flag_of, is_absent, is_absent_at, none_range, node, list}
+use Rattle.fast_check_syntax.specs.Shape.{◌is◌, kind_of, parts, part, flag_of, is_absent, is_absent_at, none_range, list}
 use Rattle.fast_check_syntax.proofs.Made.{kind_of_node, parts_node, part_node, is_absent_node, flag_of_flag}
-use Rattle.fast_check_class_forms.specs.Functions.{Function-span, Function-params, Function-decorators, Function-ctxt, Function-body, Function-is_generator, Function-is_async, Function-type_params, Function-return_type, function, Param-span, Param-decorators, Param-pat, param}
-use Rattle.fast_check_expression_forms.specs.Patterns.{rest_pat}
+use Rattle.fast_check_class_forms.specs.Functions.{Function-span, Function-params, Function-ctxt, Function-body, Function-is_generator, Function-is_async, Function-type_params, Function-return_type, function, Param-span, Param-decorators, Param-pat, param}
 use Rattle.fast_check_program_forms.specs.Names.{binding_ident}
 use Rattle.fast_check_tree.specs.declared.helpers.return_class.ReturnStatementAnalysis.{ReturnStatementAnalysis}
 use Rattle.fast_check_tree.specs.declared.helpers.return_class.ReturnStatementAnalysis.TheVariants as class
@@ -24,7 +23,7 @@ use Rattle.fast_check_signatures.specs.Seen.{Seen, written, range, form, end, se
 use Rattle.fast_check_signatures.specs.NewNodes.{function_body, param_ident, any_param}
 use Rattle.fast_check_signatures.specs.Parameters.{Look, pat_seen, pats_seen}
 use Rattle.fast_check_signatures.specs.Functions.{class_seen, return_type_seen, body_behind, signature_seen, any_params_from, implementation_seen, param_seen, params_seen, function_seen}
-use Rattle.fast_check_signatures.specs.Answers.{Answer, visited, first_or_absent, answer_to}
+use Rattle.fast_check_signatures.specs.Answers.{visited, first_or_absent, answer_to}
 use Rattle.fast_check_signatures.specs.TypedGrammar.{IsLeavable, IsTypedFunction, IsTypedPat, AllTypedParams}
 use Rattle.fast_check_signatures.proofs.Staying.{of_choice, no_left, no_right, not_empty, One, one_first, Stays, Stands, stands_next, around_stands, around_one_stands}
 use Rattle.fast_check_signatures.proofs.TypedPatterns.{pat_is_typed, typed_ident, typed_rest, ident_gathered}
@@ -124,9 +123,11 @@ module _ (unresolved : SyntaxContext) where
   signature_stands : (t : Tree) (type : Seen) (params : List Seen) → IsTypeOrBodiless (Function-body t) type → ParamsStand params → StandsAsFunction (signature_seen t type params)
   signature_stands t type params shows stand =
       let listed = answer_to (form List' (seens params)) in
-      let behind : (answer_to type).faults ≡ [] → Behind (tree_in type) (body_behind type (Function-body t)) = λ f. stands_behind (tree_in type) (Function-body t) (shows f) in
-      (refl, λ f. typed_signature (Function-span t) (Function-ctxt t) (Function-type_params t) (tree_in type) (body_behind type (Function-body t)) (first_or_absent listed.trees)
-      (behind (no_left (answer_to type).faults listed.faults f)) (one_first HoldsTypedParams listed.trees ((list_stands params stand).1 (no_right (answer_to type).faults listed.faults f))))
+      let behind : (answer_to type).faults ≡ [] → Behind (tree_in type) (body_behind type (Function-body t)) = λ f. stands_behind (tree_in type) (Function-body t) (shows f) in (
+        refl,
+        λ f. typed_signature (Function-span t) (Function-ctxt t) (Function-type_params t) (tree_in type) (body_behind type (Function-body t)) (first_or_absent listed.trees)
+            (behind (no_left (answer_to type).faults listed.faults f)) (one_first HoldsTypedParams listed.trees ((list_stands params stand).1 (no_right (answer_to type).faults listed.faults f))),
+      )
 
   -- ---- an implementation behind overloads
 

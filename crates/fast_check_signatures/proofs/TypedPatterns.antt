@@ -1,5 +1,5 @@
 -- Each parameter that stands without a fault is typed, where values that may stay give their types.
-use Rattle.std.specs.Prelude.{◌≡◌, Bool, true, false, Option, Some, None, List, [], ◌∷◌, ◌++◌, map, refl, if◌then◌else◌}
+use Rattle.std.specs.Prelude.{◌≡◌, Bool, true, false, Option, Some, None, List, [], ◌∷◌, map, refl, if◌then◌else◌}
 use Rattle.std.specs.List.{list_all}
 use Rattle.std.proofs.Common.{ap, ◌∙◌, sym, subst}
 use Rattle.fast_check_syntax.specs.declared.kind.Kind.{Kind}
@@ -8,7 +8,7 @@ use Rattle.fast_check_syntax.specs.declared.source.SourceRange.{SourceRange}
 use Rattle.fast_check_syntax.specs.declared.source.SyntaxContext.{SyntaxContext}
 use Rattle.fast_check_syntax.specs.declared.tree.Tree as tree
 use Rattle.fast_check_syntax.specs.declared.tree.Tree.{Tree}
-use Rattle.fast_check_syntax.specs.Shape.{◌is◌, is_kind, kind_of, part, parts, is_absent, none_range, list, flag_of, range_of}
+use Rattle.fast_check_syntax.specs.Shape.{◌is◌, is_kind, kind_of, part, is_absent, list, flag_of, range_of}
 use Rattle.fast_check_syntax.proofs.Made.{kind_of_node, part_node, is_absent_node, flag_of_flag, range_of_range}
 use Rattle.fast_check_expression_forms.specs.Patterns.{ArrayPat-span, ArrayPat-optional, ArrayPat-type_ann, array_pat, ObjectPat-span, ObjectPat-optional, ObjectPat-type_ann, object_pat, RestPat-span, RestPat-dot3_token, RestPat-arg, RestPat-type_ann, rest_pat, AssignPat-span, AssignPat-left, AssignPat-right, assign_pat}
 use Rattle.fast_check_forms.specs.Ranges.{range_of_node}
@@ -177,9 +177,11 @@ module _ (unresolved : SyntaxContext) where
       IsTypedPat.object_default (kind_of_node _ _) (subst IsEmptiedObject (sym same) e) (subst Leavable (sym value) h)
 
   default_stands : (span place : SourceRange) (left : Tree) (value : Seen) → GivesType left → Stays (One Leavable) (answer_to value) → StandsTyped (default_seen span place left value)
-  default_stands span place left value gives stays =
-      (refl, λ f. gives span (first_or_absent (answer_to value).trees) (one_first Leavable (answer_to value).trees (stays
-      (leavable_where (answer_to value) MissingExplicitType place (no_right (answer_to value).faults _ f)) (no_left (answer_to value).faults _ f))))
+  default_stands span place left value gives stays = (
+    refl,
+    λ f. gives span (first_or_absent (answer_to value).trees) (one_first Leavable (answer_to value).trees (stays
+        (leavable_where (answer_to value) MissingExplicitType place (no_right (answer_to value).faults _ f)) (no_left (answer_to value).faults _ f))),
+  )
 
 module _ (unresolved : SyntaxContext) (look : Look) (stays : (t : Tree) (place : Option SourceRange) → Stays (One (IsLeavable unresolved)) (answer_to (look t place))) where
   abbrev Typed : Seen → Type 0
