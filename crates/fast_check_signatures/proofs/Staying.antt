@@ -105,6 +105,13 @@ wrapped kind a = if a.is_leavable then fails (node kind a.trees) a.faults else g
 around_is : (kind : Kind) (ss : List Seen) → around kind (answered (seens ss)) ≡ wrapped kind (visited (map answer_to ss))
 around_is kind ss = ap (λ answers. wrapped kind (visited answers)) (answered_seens ss)
 
+-- a node has the faults of what it is round
+pub around_faults : (kind : Kind) (ss : List Seen) → (around kind (answered (seens ss))).faults ≡ (visited (map answer_to ss)).faults
+around_faults kind ss = ap (λ a. a.faults) (around_is kind ss) ∙ go (visited (map answer_to ss))
+  where
+    go : (a : Answer) → (wrapped kind a).faults ≡ a.faults
+    go a = of_choice (λ (made : Answer). made.faults ≡ a.faults) a.is_leavable _ _ (λ e. refl) (λ e. refl)
+
 pub around_stays : (kind : Kind) (Q : List Tree → Type 0) (R : Tree → Type 0) → ((ts : List Tree) → Q ts → R (node kind ts)) → (ss : List Seen) →
     Stays Q (visited (map answer_to ss)) → Stays (One R) (around kind (answered (seens ss)))
 around_stays kind Q R made ss q = subst (Stays (One R)) (sym (around_is kind ss)) (go (visited (map answer_to ss)).is_leavable refl)

@@ -26,9 +26,9 @@ use Rattle.fast_check_signatures.specs.Expressions.{is_plain, is_compound, freez
 use Rattle.fast_check_signatures.specs.Answers.{Part, visited, around, default_form, declarator_form, function_form, arrow_form, form_answer, first_or_absent, answer_to, answered, answer_of, kept_tree}
 use Rattle.fast_check_signatures.specs.TypedGrammar.{IsLeavable, AllLeavable, IsTypedFunction, IsTypedPat, AllTypedPats}
 use Rattle.fast_check_signatures.proofs.Descending.{by_descent_holds}
-use Rattle.fast_check_signatures.proofs.Staying.{of_choice, no_left, no_right, One, one_first, one_is_first, one_before, Stays, Stands, visited_next, around_stays, around_one}
+use Rattle.fast_check_signatures.proofs.Staying.{of_choice, no_left, no_right, One, one_first, one_is_first, one_before, Stays, visited_next, around_stays, around_one}
 use Rattle.fast_check_signatures.proofs.TypedPatterns.{pat_is_typed}
-use Rattle.fast_check_signatures.proofs.TypedFunctions.{function_is_typed, implementation_is_typed}
+use Rattle.fast_check_signatures.proofs.TypedFunctions.{function_is_typed, implementation_is_typed, implementation_faultless}
 use Rattle.fast_check_signatures.proofs.TypedArrows.{arrow_is_typed}
 
 -- ---- kinds
@@ -161,25 +161,44 @@ module _ (unresolved : SyntaxContext) where
       go true l e = subst Leavable (ap (λ o. unwrap_or o kept) e) (leavable_stands t place l f)
       go false l e = cc
 
-  -- exactly one tree stands of what is seen, and it has a property, if nothing is at fault
-  abbrev pub StandsAs : (Tree → Type 0) → Seen → Type 0
-  StandsAs P s = (answer_to s).faults ≡ [] → ((answer_to s).trees ≡ first_or_absent (answer_to s).trees ∷ []) × P (first_or_absent (answer_to s).trees)
+  -- what is seen of a function, an arrow or a parameter stands as one tree, which is typed, if nothing is at fault
+  pub function_stands : (kind : FunctionKind) (place : SourceRange) (t : Tree) → (answer_to (function_seen unresolved look kind place t)).faults ≡ [] →
+      IsTypedFunction unresolved (first_or_absent (answer_to (function_seen unresolved look kind place t)).trees)
+  function_stands kind place t f =
+      let made = answer_to (function_seen unresolved look kind place t) in
+      one_first (IsTypedFunction unresolved) made.trees ((function_is_typed unresolved look expr_stays kind place t).1 f)
 
-  one_stands : (P : Tree → Type 0) (s : Seen) → Stands (One P) (answer_to s) → StandsAs P s
-  one_stands P s stands f = (one_is_first P (answer_to s).trees (stands.1 f), one_first P (answer_to s).trees (stands.1 f))
+  pub function_is_one : (kind : FunctionKind) (place : SourceRange) (t : Tree) →
+      (answer_to (function_seen unresolved look kind place t)).trees ≡ first_or_absent (answer_to (function_seen unresolved look kind place t)).trees ∷ []
+  function_is_one kind place t = refl
 
-  pub function_stands : (kind : FunctionKind) (place : SourceRange) (t : Tree) → StandsAs (IsTypedFunction unresolved) (function_seen unresolved look kind place t)
-  function_stands kind place t = one_stands (IsTypedFunction unresolved) (function_seen unresolved look kind place t) (function_is_typed unresolved look expr_stays kind place t)
+  pub implementation_stands : (t : Tree) → IsTypedFunction unresolved (first_or_absent (answer_to (implementation_seen t)).trees)
+  implementation_stands t =
+      let made = answer_to (implementation_seen t) in
+      one_first (IsTypedFunction unresolved) made.trees ((implementation_is_typed unresolved t).1 (implementation_faultless t))
 
-  pub implementation_stands : (t : Tree) → StandsAs (IsTypedFunction unresolved) (implementation_seen t)
-  implementation_stands t = one_stands (IsTypedFunction unresolved) (implementation_seen t) (implementation_is_typed unresolved t)
+  pub implementation_is_one : (t : Tree) → (answer_to (implementation_seen t)).trees ≡ first_or_absent (answer_to (implementation_seen t)).trees ∷ []
+  implementation_is_one t = refl
 
-  pub arrow_stands : (place : Option SourceRange) (t : Tree) → StandsAs (IsLeavable unresolved) (arrow_seen unresolved look place t)
-  arrow_stands place t = one_stands Leavable (arrow_seen unresolved look place t) (arrow_is_typed unresolved look expr_stays place t)
+  pub arrow_stands : (place : Option SourceRange) (t : Tree) → (answer_to (arrow_seen unresolved look place t)).faults ≡ [] →
+      IsLeavable unresolved (first_or_absent (answer_to (arrow_seen unresolved look place t)).trees)
+  arrow_stands place t f = one_first Leavable (answer_to (arrow_seen unresolved look place t)).trees ((arrow_is_typed unresolved look expr_stays place t).1 f)
 
-  pub pat_stands : (is_optional : Bool) (pat : Tree) → StandsAs (IsTypedPat unresolved) (pat_seen unresolved look is_optional pat)
-  pat_stands is_optional pat = one_stands (IsTypedPat unresolved) (pat_seen unresolved look is_optional pat) (pat_is_typed unresolved look expr_stays is_optional pat)
+  pub arrow_is_one : (place : Option SourceRange) (t : Tree) → (answer_to (arrow_seen unresolved look place t)).faults ≡ [] →
+      (answer_to (arrow_seen unresolved look place t)).trees ≡ first_or_absent (answer_to (arrow_seen unresolved look place t)).trees ∷ []
+  arrow_is_one place t f = one_is_first Leavable (answer_to (arrow_seen unresolved look place t)).trees ((arrow_is_typed unresolved look expr_stays place t).1 f)
 
+  pub pat_stands : (is_optional : Bool) (pat : Tree) → (answer_to (pat_seen unresolved look is_optional pat)).faults ≡ [] →
+      IsTypedPat unresolved (first_or_absent (answer_to (pat_seen unresolved look is_optional pat)).trees)
+  pat_stands is_optional pat f =
+      one_first (IsTypedPat unresolved) (answer_to (pat_seen unresolved look is_optional pat)).trees ((pat_is_typed unresolved look expr_stays is_optional pat).1 f)
+
+  pub pat_is_one : (is_optional : Bool) (pat : Tree) → (answer_to (pat_seen unresolved look is_optional pat)).faults ≡ [] →
+      (answer_to (pat_seen unresolved look is_optional pat)).trees ≡ first_or_absent (answer_to (pat_seen unresolved look is_optional pat)).trees ∷ []
+  pat_is_one is_optional pat f =
+      one_is_first (IsTypedPat unresolved) (answer_to (pat_seen unresolved look is_optional pat)).trees ((pat_is_typed unresolved look expr_stays is_optional pat).1 f)
+
+  -- each of several parameters
   pub pats_stand : (pats : List Tree) → (answer_of (pats_seen unresolved look pats)).faults ≡ [] → AllTypedPats unresolved (answer_of (pats_seen unresolved look pats)).trees
   pats_stand [] f = AllTypedPats.no_pats
   pats_stand (pat ∷ pats) f =

@@ -25,7 +25,7 @@ use Rattle.fast_check_signatures.specs.Parameters.{Look, pat_seen, pats_seen}
 use Rattle.fast_check_signatures.specs.Functions.{class_seen, return_type_seen, body_behind, signature_seen, any_params_from, implementation_seen, param_seen, params_seen, function_seen}
 use Rattle.fast_check_signatures.specs.Answers.{visited, first_or_absent, answer_to}
 use Rattle.fast_check_signatures.specs.TypedGrammar.{IsLeavable, IsTypedFunction, IsTypedPat, AllTypedParams}
-use Rattle.fast_check_signatures.proofs.Staying.{of_choice, no_left, no_right, not_empty, One, one_first, Stays, Stands, stands_next, around_stands, around_one_stands}
+use Rattle.fast_check_signatures.proofs.Staying.{of_choice, no_left, no_right, not_empty, One, one_first, Stays, Stands, stands_next, around_faults, around_stands, around_one_stands}
 use Rattle.fast_check_signatures.proofs.TypedPatterns.{pat_is_typed, typed_ident, typed_rest, ident_gathered}
 
 -- ---- return types
@@ -69,6 +69,16 @@ stands_behind type body shown = of_choice (Behind type) (is_absent body) _ _ (λ
     go : (is_absent body ≡ true) ⊎ (is_absent type ≡ false) → is_absent body ≡ false → Behind type (function_body type)
     go (inl bodiless) e = cc
     go (inr typed) e = inr (typed, refl)
+
+-- ---- nothing is at fault in an implementation behind overloads
+
+any_params_clean : (place : ℕ) (params : List Tree) → (visited (map answer_to (any_params_from place params))).faults ≡ []
+any_params_clean place [] = refl
+any_params_clean place (p ∷ ps) = any_params_clean (suc place) ps
+
+pub implementation_faultless : (t : Tree) → (answer_to (implementation_seen t)).faults ≡ []
+implementation_faultless t = let params = parts (Function-params t) in
+    around_faults List' (any_params_from 0 params) ∙ any_params_clean 0 params
 
 module _ (unresolved : SyntaxContext) where
   -- a parameter of a function
