@@ -12,3 +12,9 @@ pub mod AlikeParameters
 pub mod AlikeFunctions
 pub mod AlikeExpressions
 pub mod Alike
+pub mod Descending
+pub mod Staying
+pub mod TypedPatterns
+pub mod TypedFunctions
+pub mod TypedArrows
+pub mod Typed

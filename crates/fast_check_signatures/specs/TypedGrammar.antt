@@ -1,5 +1,5 @@
 -- The grammar of values, functions and parameters in a skeleton: what a type checker finds there, whatever the source was.
-use Rattle.std.specs.Prelude.{◌≡◌, Bool, true, false, List, [], ◌∷◌, ◌⊎◌, codes}
+use Rattle.std.specs.Prelude.{◌≡◌, true, false, List, [], ◌∷◌, ◌⊎◌, codes}
 use Rattle.fast_check_syntax.specs.declared.kind.Kind.TheVariants.{AssignPat, ArrayPat, ObjectPat, RestPat, BindingIdent, Param, Function, CallExpr, TsSatisfiesExpr, TsAsExpr, TsTypeAssertion, FnExpr, ArrowExpr}
 use Rattle.fast_check_syntax.specs.declared.source.SyntaxContext.{SyntaxContext}
 use Rattle.fast_check_syntax.specs.declared.tree.Tree.{Tree}
@@ -75,5 +75,5 @@ module _ (unresolved : SyntaxContext) where
       array_default : {t : Tree} → kind_of t ≡ AssignPat → IsEmptiedArray (AssignPat-left t) → IsLeavable (AssignPat-right t) → IsTypedPat t
       object_default : {t : Tree} → kind_of t ≡ AssignPat → IsEmptiedObject (AssignPat-left t) → IsLeavable (AssignPat-right t) → IsTypedPat t
       -- behind a written type, `never` stands for the default
-      array_never : {t : Tree} → kind_of t ≡ AssignPat → IsEmptiedArray (AssignPat-left t) → AssignPat-right t ≡ never_array → IsTypedPat t
-      object_never : {t : Tree} → kind_of t ≡ AssignPat → IsEmptiedObject (AssignPat-left t) → AssignPat-right t ≡ never_value → IsTypedPat t
+      array_never : {t : Tree} → kind_of t ≡ AssignPat → IsEmptiedArray (AssignPat-left t) → is_absent (ArrayPat-type_ann (AssignPat-left t)) ≡ false → AssignPat-right t ≡ never_array → IsTypedPat t
+      object_never : {t : Tree} → kind_of t ≡ AssignPat → IsEmptiedObject (AssignPat-left t) → is_absent (ObjectPat-type_ann (AssignPat-left t)) ≡ false → AssignPat-right t ≡ never_value → IsTypedPat t
