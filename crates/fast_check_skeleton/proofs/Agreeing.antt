@@ -3,13 +3,13 @@ use Rattle.std.specs.Prelude.{◌≡◌, Bool, true, false, not, ◌&&◌, ◌||
 use Rattle.std.specs.List.{list_all, list_any}
 use Rattle.std.proofs.Common.{ap, ap₂, ◌∙◌, sym, subst, subst₂, true≢false}
 use Rattle.fast_check_syntax.specs.declared.kind.Kind.{Kind}
-use Rattle.fast_check_syntax.specs.declared.kind.Kind.TheVariants.{Module, BindingIdent, VarDeclarator, VarDecl, ExportDecl, FnDecl, TsInterfaceDecl, TsTypeAliasDecl, TsEnumDecl, ExprStmt, AssignExpr, List as List'}
+use Rattle.fast_check_syntax.specs.declared.kind.Kind.TheVariants.{Leaf, CallExpr, TsSatisfiesExpr, TsAsExpr, TsTypeAssertion, FnExpr, ArrowExpr, Module, BindingIdent, VarDeclarator, VarDecl, ExportDecl, FnDecl, TsInterfaceDecl, TsTypeAliasDecl, TsEnumDecl, ExprStmt, AssignExpr, List as List'}
 use Rattle.fast_check_syntax.specs.declared.kind.Word.TheVariants.{Const as ConstWord}
 use Rattle.fast_check_syntax.specs.declared.source.SourceRange.{SourceRange}
 use Rattle.fast_check_syntax.specs.declared.source.SyntaxContext.{SyntaxContext}
 use Rattle.fast_check_syntax.specs.declared.tree.Tree as tree
 use Rattle.fast_check_syntax.specs.declared.tree.Tree.{Tree}
-use Rattle.fast_check_syntax.specs.Shape.{◌is◌, is_kind, kind_of, parts, is_absent, has_word, range_of, part, list}
+use Rattle.fast_check_syntax.specs.Shape.{◌is◌, is_kind, not_absent, kind_of, parts, is_absent, has_word, range_of, part, list}
 use Rattle.fast_check_syntax.specs.Moves.{Moves, Renaming, IsRenaming, IsPair, partners, twice, moved, moved_range}
 use Rattle.fast_check_syntax.specs.Same.{SameTree, SameRange, Each}
 use Rattle.fast_check_syntax.proofs.Moved.{is_absent_moved, has_word_moved, node_moved, part_moved, range_of_moved}
@@ -33,10 +33,15 @@ use Rattle.fast_check_skeleton.specs.Mutability.{mutability_of}
 use Rattle.fast_check_signatures.specs.Seen.{Seen, written, range, scope, flag, form, inferred, faulty, refused, hidden, end, also, seens, moved_seen, moved_seens}
 use Rattle.fast_check_skeleton.specs.Visible.{declared_ident, declared_type, standing, by_inferred, untyped, kept_value_seen, ident_declarator_seen, declarator_seen, is_ambient, is_public_declarator, declarator_in, public_declarator, public_declarators, statement_seen, is_standing, own_range, standing_seen, signature_of, function_decl_seen, public_function, decl_seen, exported_seen, item_seen, items_of, visible}
 use Rattle.fast_check_signatures.specs.Answers.{Answer, answer_of}
-use Rattle.fast_check_signatures.specs.Expressions.{expr_seen}
+use Rattle.fast_check_signatures.specs.Expressions.{is_plain, is_compound, is_among, other_kinds, freezes, is_frozen, is_refused, expr_seen}
 use Rattle.fast_check_signatures.specs.Functions.{function_seen, implementation_seen}
 use Rattle.fast_check_signatures.specs.SameValues.{Both, Neither, SameExpr, SameFunction, SameImplementation}
 use Rattle.fast_check_signatures.specs.SameValues as v
+use Rattle.fast_check_signatures.proofs.AlikeTrees.{scope_to, absent_alike}
+use Rattle.fast_check_signatures.proofs.AlikeSeen.{Alike, AllAlike, same_written, range_alike, scope_alike, alike_if, all_alike_if, form_alike, append_alike}
+use Rattle.fast_check_signatures.proofs.AlikeExpressions.{both_true, apart}
+use Rattle.fast_check_signatures.proofs.Alike.{expr_alike, function_alike}
+use Rattle.fast_check_signatures.proofs.AlikeFunctions.{implementation_alike}
 use Rattle.fast_check_skeleton.specs.Skeleton.{transformed, skeleton_of, faults_of}
 use Rattle.fast_check_skeleton.specs.Hidden.{statement_kinds, is_plain_statement, IsSilentDecl, IsSilent, SameHead, SameDeclarator, SameAmbient, SameDeclarators, SameStatement, SameFunctionDecl, SameDecl, SameItem, SameItems, AgreeHidden}
 use Rattle.fast_check_skeleton.specs.Hidden as h
@@ -45,23 +50,7 @@ use Rattle.fast_check_tree.proofs.GlobalCallsMoved.{moved_scope}
 use Rattle.fast_check_tree.proofs.InferredMoved.{inferred_type_moved}
 use Rattle.fast_check_signatures.proofs.AnswersMoved.{moved_fault, moved_answer, map_append, answer_of_moved}
 
-seens_moved : (m : Moves) (ss : List Seen) → moved_seens m (seens ss) ≡ seens (map (moved_seen m) ss)
-seens_moved m [] = refl
-seens_moved m (s ∷ ss) = ap (also (moved_seen m s)) (seens_moved m ss)
-
 -- ---- what is silent is not seen
-
-both_true : (a b : Bool) → (a && b) ≡ true → (a ≡ true) × (b ≡ true)
-both_true true b e = (refl, e)
-both_true false b e = cc
-
--- a kind of which a fact is true is no kind of which it is false
-apart : (f : Kind → Bool) (k j : Kind) → f k ≡ true → f j ≡ false → k is j ≡ false
-apart f k j e n = go (k is j) refl
-  where
-    go : (b : Bool) → k is j ≡ b → b ≡ false
-    go false p = refl
-    go true p = absurd (true≢false (sym e ∙ (ap f (is_kind k j p) ∙ n)))
 
 pub stands_apart : (k j : Kind) → is_standing k ≡ true → is_standing j ≡ false → k is j ≡ false
 stands_apart = apart is_standing
@@ -139,47 +128,32 @@ module _ (around : Surroundings) where
   silent_item t (h.IsSilent.statement s) = item_of t (plain_apart t ExportDecl s refl) ∙ no_decl (own_range t) t (plain_apart t VarDecl s refl) (plain_apart t FnDecl s refl) (plain_no_standing t s)
   silent_item t (h.IsSilent.exported k s) = export_of t k ∙ ap (exported_seen t) (silent_decl (ExportDecl-span t) (ExportDecl-decl t) s)
 
+-- ---- what is an expression is there
+
+there : (t : Tree) (k : Kind) → kind_of t ≡ k → (k ≡ Leaf → ⊥) → is_absent t ≡ false
+there t k e n = not_absent t k e n
+
+both_there : (k : Kind) (t u : Tree) → Both k t u → (k ≡ Leaf → ⊥) → is_absent t ≡ is_absent u
+both_there k t u d n = there t k d.left n ∙ sym (there u k d.right n)
+
+compound_there : (k : Kind) → is_compound k ≡ true → k ≡ Leaf → ⊥
+compound_there k e l = true≢false (sym e ∙ ap is_compound l)
+
+refused_there : (c : SyntaxContext) (t : Tree) → is_refused c t ≡ true → is_absent t ≡ false
+refused_there c t e = there t (kind_of t) refl
+    (λ l. true≢false (sym e ∙ ap (λ k. not (is_plain k || (is_compound (kind_of t) || (is_among other_kinds (kind_of t) || is_frozen c t)))) l))
+
+frozen_there : (c : SyntaxContext) (t : Tree) → is_frozen c t ≡ true → is_absent t ≡ false
+frozen_there c t e = there t CallExpr (is_kind (kind_of t) CallExpr (both_true (kind_of t is CallExpr) (freezes c t) e).0) (λ l. cc)
+
 -- ---- what agrees is seen alike
 
 module _ (r : Renaming) (ok : IsRenaming r) where
-  abbrev Alike : Seen → Seen → Type 0
-  Alike s t = moved_seen (partners r) s ≡ moved_seen twice t
+  absent_same : (t u : Tree) → SameTree r t u → is_absent t ≡ is_absent u
+  absent_same t u s = absent_alike r ok t u (tree_to r ok s)
 
-  abbrev pub AllAlike : List Seen → List Seen → Type 0
-  AllAlike ss ts = map (moved_seen (partners r)) ss ≡ map (moved_seen twice) ts
-
-  written_alike : {t u : Tree} → SameTree r t u → Alike (written t) (written u)
-  written_alike s = ap written (tree_to r ok s)
-
-  range_alike : (a b : SourceRange) → SameRange r a b → Alike (range a) (range b)
-  range_alike a b s = ap range (range_to r ok a b s)
-
-  scope_alike : (a b : SyntaxContext) → IsPair r.scopes a.0 b.0 → Alike (scope a) (scope b)
-  scope_alike a b p = ap (λ n. scope (record { 0 = n })) (to_partner r.scopes ok.scopes a.0 b.0 p)
-
-  absent_alike : (t u : Tree) → SameTree r t u → is_absent t ≡ is_absent u
-  absent_alike t u s = sym (is_absent_moved (partners r) t) ∙ (ap is_absent (tree_to r ok s) ∙ is_absent_moved twice u)
-
-  alike_if : (a b : Bool) (s s' t t' : Seen) → a ≡ b → (a ≡ true → Alike s t) → (a ≡ false → Alike s' t') → Alike (if a then s else s') (if b then t else t')
-  alike_if true true s s' t t' e p q = p refl
-  alike_if false false s s' t t' e p q = q refl
-  alike_if true false s s' t t' e p q = cc
-  alike_if false true s s' t t' e p q = cc
-
-  all_alike_if : (a b : Bool) (s t : Seen) → a ≡ b → Alike s t → AllAlike (if a then s ∷ [] else []) (if b then t ∷ [] else [])
-  all_alike_if true true s t e p = ap (λ x. x ∷ []) p
-  all_alike_if false false s t e p = refl
-  all_alike_if true false s t e p = cc
-  all_alike_if false true s t e p = cc
-
-  standing_alike : {t u : Tree} → SameTree r t u → Alike (standing t) (standing u)
-  standing_alike {t} {u} s = alike_if (is_absent t) (is_absent u) hidden (written t) hidden (written u) (absent_alike t u s) (λ e. refl) (λ e. written_alike s)
-
-  form_alike : (k : Kind) (ss ts : List Seen) → AllAlike ss ts → Alike (form k (seens ss)) (form k (seens ts))
-  form_alike k ss ts p = ap (form k) (seens_moved (partners r) ss ∙ (ap seens p ∙ sym (seens_moved twice ts)))
-
-  append_alike : (a b c d : List Seen) → AllAlike a c → AllAlike b d → AllAlike (a ++ b) (c ++ d)
-  append_alike a b c d p q = map_append (moved_seen (partners r)) a b ∙ (ap₂ (λ x y. x ++ y) p q ∙ sym (map_append (moved_seen twice) c d))
+  standing_alike : {t u : Tree} → SameTree r t u → Alike r ok (standing t) (standing u)
+  standing_alike {t} {u} s = alike_if r ok (is_absent t) (is_absent u) hidden (written t) hidden (written u) (absent_same t u s) (λ e. refl) (λ e. same_written r ok s)
 
   -- ---- values
 
@@ -187,28 +161,14 @@ module _ (r : Renaming) (ok : IsRenaming r) where
   by_inferred_moved m (Some t) = refl
   by_inferred_moved m None = refl
 
-  -- the scope numbers of what nothing binds are partners
-  scope_to : (c d : SyntaxContext) → IsPair r.scopes c.0 d.0 → moved_scope (partners r) c ≡ moved_scope twice d
-  scope_to c d p = λ i. record { 0 = to_partner r.scopes ok.scopes c.0 d.0 p i }
-
   same_value : (mutability : DeclMutabilityKind) (c d : SyntaxContext) (v w : Tree) → IsPair r.scopes c.0 d.0 → SameTree r v w →
-      Alike (by_inferred (inferred_type mutability c v)) (by_inferred (inferred_type mutability d w))
+      Alike r ok (by_inferred (inferred_type mutability c v)) (by_inferred (inferred_type mutability d w))
   same_value mutability c d v w p s =
       sym (ap by_inferred (inferred_type_moved (partners r) (partners_keep r ok) mutability c v) ∙ by_inferred_moved (partners r) (inferred_type mutability c v)) ∙
-      (ap₂ (λ u t. by_inferred (inferred_type mutability u t)) (scope_to c d p) (tree_to r ok s) ∙
+      (ap₂ (λ u t. by_inferred (inferred_type mutability u t)) (scope_to r ok c d p) (tree_to r ok s) ∙
       (ap by_inferred (inferred_type_moved twice twice_keeps mutability d w) ∙ by_inferred_moved twice (inferred_type mutability d w)))
 
   module _ (a b : Surroundings) where
-    expr_alike : {t u : Tree} → SameExpr r a.unresolved b.unresolved t u → (p q : Option SourceRange) → option_map (moved_range (partners r)) p ≡ option_map (moved_range twice) q → Alike (expr_seen a.unresolved t p) (expr_seen b.unresolved u q)
-    expr_alike = ?
-    expr_absent : {t u : Tree} → SameExpr r a.unresolved b.unresolved t u → is_absent t ≡ is_absent u
-    expr_absent = ?
-    function_alike : {t u : Tree} → IsPair r.scopes a.unresolved.0 b.unresolved.0 → SameFunction r a.unresolved b.unresolved t u → (p q : SourceRange) → SameRange r p q →
-        Alike (function_seen a.unresolved (expr_seen a.unresolved) DeclarationLike p t) (function_seen b.unresolved (expr_seen b.unresolved) DeclarationLike q u)
-    function_alike = ?
-    implementation_alike : {t u : Tree} → SameImplementation r a.unresolved b.unresolved t u → Alike (implementation_seen t) (implementation_seen u)
-    implementation_alike = ?
-
     -- ---- declarators
 
     abbrev shown_of : Surroundings → DeclMutabilityKind → Tree → Option Tree
@@ -228,27 +188,39 @@ module _ (r : Renaming) (ok : IsRenaming r) where
     of_pattern around mutability d e = ap (λ b. if b then ident_declarator_seen around mutability d else faulty UnsupportedDestructuring (range_of_node (VarDeclarator-name d))) e
 
     declared : (mutability : DeclMutabilityKind) (t u : Tree) → SameHead r a b t u →
-        (is_absent (declared_type t) ≡ true → Alike (value_of a mutability t) (value_of b mutability u)) →
-        (is_absent (declared_type t) ≡ true → Alike (kept_of a mutability t) (kept_of b mutability u)) →
-        Alike (declarator_seen a mutability t) (declarator_seen b mutability u)
+        (is_absent (declared_type t) ≡ true → Alike r ok (value_of a mutability t) (value_of b mutability u)) →
+        (is_absent (declared_type t) ≡ true → Alike r ok (kept_of a mutability t) (kept_of b mutability u)) →
+        Alike r ok (declarator_seen a mutability t) (declarator_seen b mutability u)
     declared mutability t u d v k =
-        let e = absent_alike (declared_type t) (declared_type u) d.type in
-        let w = alike_if (is_absent (declared_type t)) (is_absent (declared_type u)) (value_of a mutability t) hidden (value_of b mutability u) hidden e v (λ e. refl) in
-        let x = alike_if (is_absent (declared_type t)) (is_absent (declared_type u)) (kept_of a mutability t) hidden (kept_of b mutability u) hidden e k (λ e. refl) in
-        let same : Alike (ident_declarator_seen a mutability t) (ident_declarator_seen b mutability u) =
-        λ i. form VarDeclarator (also (range_alike (VarDeclarator-span t) (VarDeclarator-span u) d.span i) (also (written_alike d.ident i) (also (flag (d.definite i))
+        let e = absent_same (declared_type t) (declared_type u) d.type in
+        let w = alike_if r ok (is_absent (declared_type t)) (is_absent (declared_type u)) (value_of a mutability t) hidden (value_of b mutability u) hidden e v (λ e. refl) in
+        let x = alike_if r ok (is_absent (declared_type t)) (is_absent (declared_type u)) (kept_of a mutability t) hidden (kept_of b mutability u) hidden e k (λ e. refl) in
+        let same : Alike r ok (ident_declarator_seen a mutability t) (ident_declarator_seen b mutability u) =
+        λ i. form VarDeclarator (also (range_alike r ok (VarDeclarator-span t) (VarDeclarator-span u) d.span i) (also (same_written r ok d.ident i) (also (flag (d.definite i))
         (also (standing_alike d.type i) (also (w i) (also (x i) end)))))) in
-        subst₂ Alike (sym (of_ident a mutability t d.names.left)) (sym (of_ident b mutability u d.names.right)) same
+        subst₂ (Alike r ok) (sym (of_ident a mutability t d.names.left)) (sym (of_ident b mutability u d.names.right)) same
+
+    -- neither is absent, or both are
+    expr_absent : {t u : Tree} → SameExpr r a.unresolved b.unresolved t u → is_absent t ≡ is_absent u
+    expr_absent (v.SameExpr.same {t = t} {u = u} s) = absent_same t u s
+    expr_absent (v.SameExpr.refused {t = t} {u = u} e f) = refused_there a.unresolved t e ∙ sym (refused_there b.unresolved u f)
+    expr_absent (v.SameExpr.compound {t = t} {u = u} k d e xs) = both_there k t u d (compound_there k e)
+    expr_absent (v.SameExpr.satisfies {t = t} {u = u} d x y z) = both_there TsSatisfiesExpr t u d (λ l. cc)
+    expr_absent (v.SameExpr.as_type {t = t} {u = u} d x y) = both_there TsAsExpr t u d (λ l. cc)
+    expr_absent (v.SameExpr.assertion {t = t} {u = u} d x y) = both_there TsTypeAssertion t u d (λ l. cc)
+    expr_absent (v.SameExpr.frozen {t = t} {u = u} e f x y z w m) = frozen_there a.unresolved t e ∙ sym (frozen_there b.unresolved u f)
+    expr_absent (v.SameExpr.function {t = t} {u = u} d x y) = both_there FnExpr t u d (λ l. cc)
+    expr_absent (v.SameExpr.arrow {t = t} {u = u} d x y z) = both_there ArrowExpr t u d (λ l. cc)
 
     -- values that show no type on either side, or a type on both
-    kept_alike : (p q : SourceRange) (o o' : Option Tree) (v w : Tree) → is_some o ≡ is_some o' → SameRange r p q → SameExpr r a.unresolved b.unresolved v w →
-        Alike (kept_value_seen a p o v) (kept_value_seen b q o' w)
-    kept_alike p q (Some x) (Some y) v w e s f = refl
-    kept_alike p q (Some x) None v w e s f = cc
-    kept_alike p q None (Some y) v w e s f = cc
-    kept_alike p q None None v w e s f =
-        alike_if (is_absent v) (is_absent w) refused (expr_seen a.unresolved v (Some p)) refused (expr_seen b.unresolved w (Some q)) (expr_absent f) (λ e. refl)
-        (λ e. expr_alike f (Some p) (Some q) (ap Some (range_to r ok p q s)))
+    kept_alike : IsPair r.scopes a.unresolved.0 b.unresolved.0 → (p q : SourceRange) (o o' : Option Tree) (v w : Tree) → is_some o ≡ is_some o' → SameRange r p q → SameExpr r a.unresolved b.unresolved v w →
+        Alike r ok (kept_value_seen a p o v) (kept_value_seen b q o' w)
+    kept_alike c p q (Some x) (Some y) v w e s f = refl
+    kept_alike c p q (Some x) None v w e s f = cc
+    kept_alike c p q None (Some y) v w e s f = cc
+    kept_alike c p q None None v w e s f =
+        alike_if r ok (is_absent v) (is_absent w) refused (expr_seen a.unresolved v (Some p)) refused (expr_seen b.unresolved w (Some q)) (expr_absent f) (λ e. refl)
+        (λ e. expr_alike r ok a.unresolved b.unresolved c f (Some p) (Some q) (ap Some (range_to r ok p q s)))
 
     both_shown : (m n : Moves) (o o' : Option Tree) → option_map (moved m) o ≡ option_map (moved n) o' → is_some o ≡ is_some o'
     both_shown m n (Some x) (Some y) e = refl
@@ -260,7 +232,7 @@ module _ (r : Renaming) (ok : IsRenaming r) where
         is_some (inferred_type mutability a.unresolved v) ≡ is_some (inferred_type mutability b.unresolved w)
     same_shown mutability v w c s =
         both_shown (partners r) twice (inferred_type mutability a.unresolved v) (inferred_type mutability b.unresolved w)
-        (sym (inferred_type_moved (partners r) (partners_keep r ok) mutability a.unresolved v) ∙ (ap₂ (inferred_type mutability) (scope_to a.unresolved b.unresolved c) (tree_to r ok s) ∙
+        (sym (inferred_type_moved (partners r) (partners_keep r ok) mutability a.unresolved v) ∙ (ap₂ (inferred_type mutability) (scope_to r ok a.unresolved b.unresolved c) (tree_to r ok s) ∙
         inferred_type_moved twice twice_keeps mutability b.unresolved w))
 
     ident_place : (t u : Tree) → SameTree r t u → SameRange r (Ident-span t) (Ident-span u)
@@ -269,50 +241,50 @@ module _ (r : Renaming) (ok : IsRenaming r) where
         (ap Ident-span (tree_to r ok s) ∙ (ap range_of (part_moved twice 0 u) ∙ range_of_moved twice twice_keeps (part 0 u))))
 
     declarator_alike : IsPair r.scopes a.unresolved.0 b.unresolved.0 → (mutability : DeclMutabilityKind) {t u : Tree} → SameDeclarator r a b mutability t u →
-        (is_public_declarator a t ≡ is_public_declarator b u) × Alike (declarator_seen a mutability t) (declarator_seen b mutability u)
+        (is_public_declarator a t ≡ is_public_declarator b u) × Alike r ok (declarator_seen a mutability t) (declarator_seen b mutability u)
     declarator_alike c mutability (h.SameDeclarator.typed {t = t} {u = u} d w) = (d.is_public, declared mutability t u d (λ e. cc) (λ e. cc))
     declarator_alike c mutability (h.SameDeclarator.inferred {t = t} {u = u} x y d f g s) = (
       d.is_public,
-      declared mutability t u d (λ e. subst₂ (λ i j. Alike (by_inferred i) (by_inferred j)) (sym f) (sym g) (ap inferred (tree_to r ok s)))
-          (λ e. subst₂ (λ i j. Alike (kept_value_seen a (Ident-span (declared_ident t)) i (VarDeclarator-init t)) (kept_value_seen b (Ident-span (declared_ident u)) j (VarDeclarator-init u))) (sym f) (sym g) refl),
+      declared mutability t u d (λ e. subst₂ (λ i j. Alike r ok (by_inferred i) (by_inferred j)) (sym f) (sym g) (ap inferred (tree_to r ok s)))
+          (λ e. subst₂ (λ i j. Alike r ok (kept_value_seen a (Ident-span (declared_ident t)) i (VarDeclarator-init t)) (kept_value_seen b (Ident-span (declared_ident u)) j (VarDeclarator-init u))) (sym f) (sym g) refl),
     )
     declarator_alike c mutability (h.SameDeclarator.same {t = t} {u = u} d s) = (
       d.is_public,
       declared mutability t u d (λ e. same_value mutability a.unresolved b.unresolved (VarDeclarator-init t) (VarDeclarator-init u) c s)
-          (λ e. kept_alike (Ident-span (declared_ident t)) (Ident-span (declared_ident u)) (shown_of a mutability t) (shown_of b mutability u) (VarDeclarator-init t) (VarDeclarator-init u)
+          (λ e. kept_alike c (Ident-span (declared_ident t)) (Ident-span (declared_ident u)) (shown_of a mutability t) (shown_of b mutability u) (VarDeclarator-init t) (VarDeclarator-init u)
           (same_shown mutability (VarDeclarator-init t) (VarDeclarator-init u) c s) (ident_place (declared_ident t) (declared_ident u) d.ident) (v.SameExpr.same s)),
     )
     declarator_alike c mutability (h.SameDeclarator.kept {t = t} {u = u} d f g s) = (
       d.is_public,
-      declared mutability t u d (λ e. subst₂ (λ i j. Alike (by_inferred i) (by_inferred j)) (sym f) (sym g) refl)
-          (λ e. kept_alike (Ident-span (declared_ident t)) (Ident-span (declared_ident u)) (shown_of a mutability t) (shown_of b mutability u) (VarDeclarator-init t) (VarDeclarator-init u)
+      declared mutability t u d (λ e. subst₂ (λ i j. Alike r ok (by_inferred i) (by_inferred j)) (sym f) (sym g) refl)
+          (λ e. kept_alike c (Ident-span (declared_ident t)) (Ident-span (declared_ident u)) (shown_of a mutability t) (shown_of b mutability u) (VarDeclarator-init t) (VarDeclarator-init u)
           (ap is_some f ∙ sym (ap is_some g)) (ident_place (declared_ident t) (declared_ident u) d.ident) s),
     )
     declarator_alike c mutability (h.SameDeclarator.destructured {t = t} {u = u} e n s) = (
       e,
-      subst₂ Alike (sym (of_pattern a mutability t n.left)) (sym (of_pattern b mutability u n.right)) (ap (faulty UnsupportedDestructuring) (range_to r ok _ _ s)),
+      subst₂ (Alike r ok) (sym (of_pattern a mutability t n.left)) (sym (of_pattern b mutability u n.right)) (ap (faulty UnsupportedDestructuring) (range_to r ok _ _ s)),
     )
 
     declarators_alike : (Same : Tree → Tree → Type 0) (s s' : Tree) →
-        ((t u : Tree) → Same t u → (is_public_declarator a t ≡ is_public_declarator b u) × Alike (declarator_in a s t) (declarator_in b s' u)) →
-        (ts us : List Tree) → SameDeclarators r a b Same ts us → AllAlike (flat_map (public_declarator a s) ts) (flat_map (public_declarator b s') us)
+        ((t u : Tree) → Same t u → (is_public_declarator a t ≡ is_public_declarator b u) × Alike r ok (declarator_in a s t) (declarator_in b s' u)) →
+        (ts us : List Tree) → SameDeclarators r a b Same ts us → AllAlike r ok (flat_map (public_declarator a s) ts) (flat_map (public_declarator b s') us)
     declarators_alike Same s s' f [] [] h.SameDeclarators.end = refl
     declarators_alike Same s s' f (t ∷ ts) us (h.SameDeclarators.left q rest) =
-        subst (λ xs. AllAlike (xs ++ flat_map (public_declarator a s) ts) (flat_map (public_declarator b s') us)) (sym (not_public a s t q)) (declarators_alike Same s s' f ts us rest)
+        subst (λ xs. AllAlike r ok (xs ++ flat_map (public_declarator a s) ts) (flat_map (public_declarator b s') us)) (sym (not_public a s t q)) (declarators_alike Same s s' f ts us rest)
     declarators_alike Same s s' f ts (u ∷ us) (h.SameDeclarators.right q rest) =
-        subst (λ xs. AllAlike (flat_map (public_declarator a s) ts) (xs ++ flat_map (public_declarator b s') us)) (sym (not_public b s' u q)) (declarators_alike Same s s' f ts us rest)
+        subst (λ xs. AllAlike r ok (flat_map (public_declarator a s) ts) (xs ++ flat_map (public_declarator b s') us)) (sym (not_public b s' u q)) (declarators_alike Same s s' f ts us rest)
     declarators_alike Same s s' f (t ∷ ts) (u ∷ us) (h.SameDeclarators.next x rest) =
-        append_alike (public_declarator a s t) (flat_map (public_declarator a s) ts) (public_declarator b s' u) (flat_map (public_declarator b s') us)
-        (all_alike_if (is_public_declarator a t) (is_public_declarator b u) (declarator_in a s t) (declarator_in b s' u) (f t u x).0 (f t u x).1)
+        append_alike r ok (public_declarator a s t) (flat_map (public_declarator a s) ts) (public_declarator b s' u) (flat_map (public_declarator b s') us)
+        (all_alike_if r ok (is_public_declarator a t) (is_public_declarator b u) (declarator_in a s t) (declarator_in b s' u) (f t u x).0 (f t u x).1)
         (declarators_alike Same s s' f ts us rest)
 
     -- ---- statements
 
-    statement_alike : (t u : Tree) (xs ys : List Seen) → SameStatement r a b t u → AllAlike xs ys → AllAlike (statement_seen t xs) (statement_seen u ys)
+    statement_alike : (t u : Tree) (xs ys : List Seen) → SameStatement r a b t u → AllAlike r ok xs ys → AllAlike r ok (statement_seen t xs) (statement_seen u ys)
     statement_alike t u [] [] d p = refl
     statement_alike t u (x ∷ xs) (y ∷ ys) d p =
-        λ i. form VarDecl (also (range_alike (VarDecl-span t) (VarDecl-span u) d.span i) (also (scope_alike (VarDecl-ctxt t) (VarDecl-ctxt u) d.ctxt i)
-        (also (written_alike d.kind i) (also (flag (d.declare i)) (also (form_alike List' (x ∷ xs) (y ∷ ys) p i) end))))) ∷ []
+        λ i. form VarDecl (also (range_alike r ok (VarDecl-span t) (VarDecl-span u) d.span i) (also (scope_alike r ok (VarDecl-ctxt t) (VarDecl-ctxt u) d.ctxt i)
+        (also (same_written r ok d.kind i) (also (flag (d.declare i)) (also (form_alike r ok List' (x ∷ xs) (y ∷ ys) p i) end))))) ∷ []
     statement_alike t u [] (y ∷ ys) d p = cc
     statement_alike t u (x ∷ xs) [] d p = cc
 
@@ -337,102 +309,103 @@ module _ (r : Renaming) (ok : IsRenaming r) where
     abbrev function_form : Surroundings → SourceRange → Tree → Seen
     function_form around p t = form FnDecl (seens (written (FnDecl-ident t) ∷ flag (FnDecl-declare t) ∷ signature_of around p t ∷ []))
 
-    declared_function : (p q : SourceRange) (t u : Tree) → a.is_declaration_file ≡ b.is_declaration_file → SameFunctionDecl r a b p q t u → Alike (signature_of a p t) (signature_of b q u) →
-        Alike (function_decl_seen a p t) (function_decl_seen b q u)
+    declared_function : (p q : SourceRange) (t u : Tree) → a.is_declaration_file ≡ b.is_declaration_file → SameFunctionDecl r a b p q t u → Alike r ok (signature_of a p t) (signature_of b q u) →
+        Alike r ok (function_decl_seen a p t) (function_decl_seen b q u)
     declared_function p q t u m d s =
-        let same : Alike (function_form a p t) (function_form b q u) = λ i. form FnDecl (also (written_alike d.ident i) (also (flag (d.declare i)) (also (s i) end))) in
-        subst₂ (λ x y. Alike (if x then written t else function_form a p t) (if y then written u else function_form b q u)) (sym d.is_declaration_file) (sym d.is_declaration_file ∙ m) same
+        let same : Alike r ok (function_form a p t) (function_form b q u) = λ i. form FnDecl (also (same_written r ok d.ident i) (also (flag (d.declare i)) (also (s i) end))) in
+        subst₂ (λ x y. Alike r ok (if x then written t else function_form a p t) (if y then written u else function_form b q u)) (sym d.is_declaration_file) (sym d.is_declaration_file ∙ m) same
 
-    public_alike : (p q : SourceRange) (t u : Tree) → Both FnDecl t u → a.is_public p ≡ b.is_public q → Alike (function_decl_seen a p t) (function_decl_seen b q u) → AllAlike (decl_seen a p t) (decl_seen b q u)
+    public_alike : (p q : SourceRange) (t u : Tree) → Both FnDecl t u → a.is_public p ≡ b.is_public q → Alike r ok (function_decl_seen a p t) (function_decl_seen b q u) → AllAlike r ok (decl_seen a p t) (decl_seen b q u)
     public_alike p q t u k e s =
-        subst₂ AllAlike (sym (function_of a p t k.left)) (sym (function_of b q u k.right)) (all_alike_if (a.is_public p) (b.is_public q) (function_decl_seen a p t) (function_decl_seen b q u) e s)
+        subst₂ (AllAlike r ok) (sym (function_of a p t k.left)) (sym (function_of b q u k.right)) (all_alike_if r ok (a.is_public p) (b.is_public q) (function_decl_seen a p t) (function_decl_seen b q u) e s)
 
     -- the kinds are not that of an export, and what is seen is alike
     abbrev DeclsAlike : SourceRange → SourceRange → Tree → Tree → Type 0
-    DeclsAlike p q t u = (kind_of t is ExportDecl ≡ false) × (kind_of u is ExportDecl ≡ false) × AllAlike (decl_seen a p t) (decl_seen b q u)
+    DeclsAlike p q t u = (kind_of t is ExportDecl ≡ false) × (kind_of u is ExportDecl ≡ false) × AllAlike r ok (decl_seen a p t) (decl_seen b q u)
 
     decl_alike : IsPair r.scopes a.unresolved.0 b.unresolved.0 → a.is_declaration_file ≡ b.is_declaration_file → (p q : SourceRange) (t u : Tree) → SameDecl r a b p q t u → DeclsAlike p q t u
     decl_alike c m p q t u (h.SameDecl.variable d n rest) = (
       ap (λ k. k is ExportDecl) d.kinds.left,
       ap (λ k. k is ExportDecl) d.kinds.right,
-      subst₂ AllAlike (sym (decl_of a p t d.kinds.left)) (sym (decl_of b q u d.kinds.right))
+      subst₂ (AllAlike r ok) (sym (decl_of a p t d.kinds.left)) (sym (decl_of b q u d.kinds.right))
           (statement_alike t u (public_declarators a t) (public_declarators b u) d
           (declarators_alike (SameDeclarator r a b (mutability_of (VarDecl-kind t))) t u go (parts (VarDecl-decls t)) (parts (VarDecl-decls u)) rest)),
     )
       where
-        go : (x y : Tree) → SameDeclarator r a b (mutability_of (VarDecl-kind t)) x y → (is_public_declarator a x ≡ is_public_declarator b y) × Alike (declarator_in a t x) (declarator_in b u y)
+        go : (x y : Tree) → SameDeclarator r a b (mutability_of (VarDecl-kind t)) x y → (is_public_declarator a x ≡ is_public_declarator b y) × Alike r ok (declarator_in a t x) (declarator_in b u y)
         go x y s =
             let e = declarator_alike c (mutability_of (VarDecl-kind t)) s in (
               e.0,
-              alike_if (is_ambient a t) (is_ambient b u) (written x) (declarator_seen a (mutability_of (VarDecl-kind t)) x) (written y) (declarator_seen b (mutability_of (VarDecl-kind u)) y)
-                  (ambient_alike t u m d.declare) (λ e. cc) (λ f. subst (λ k. Alike (declarator_seen a (mutability_of (VarDecl-kind t)) x) (declarator_seen b k y)) (mutability_alike (VarDecl-kind t) (VarDecl-kind u) d.kind) e.1),
+              alike_if r ok (is_ambient a t) (is_ambient b u) (written x) (declarator_seen a (mutability_of (VarDecl-kind t)) x) (written y) (declarator_seen b (mutability_of (VarDecl-kind u)) y)
+                  (ambient_alike t u m d.declare) (λ e. cc) (λ f. subst (λ k. Alike r ok (declarator_seen a (mutability_of (VarDecl-kind t)) x) (declarator_seen b k y)) (mutability_alike (VarDecl-kind t) (VarDecl-kind u) d.kind) e.1),
             )
     decl_alike c m p q t u (h.SameDecl.ambient d n rest) = (
       ap (λ k. k is ExportDecl) d.kinds.left,
       ap (λ k. k is ExportDecl) d.kinds.right,
-      subst₂ AllAlike (sym (decl_of a p t d.kinds.left)) (sym (decl_of b q u d.kinds.right))
+      subst₂ (AllAlike r ok) (sym (decl_of a p t d.kinds.left)) (sym (decl_of b q u d.kinds.right))
           (statement_alike t u (public_declarators a t) (public_declarators b u) d
           (declarators_alike (SameAmbient r a b) t u go (parts (VarDecl-decls t)) (parts (VarDecl-decls u)) rest)),
     )
       where
-        go : (x y : Tree) → SameAmbient r a b x y → (is_public_declarator a x ≡ is_public_declarator b y) × Alike (declarator_in a t x) (declarator_in b u y)
+        go : (x y : Tree) → SameAmbient r a b x y → (is_public_declarator a x ≡ is_public_declarator b y) × Alike r ok (declarator_in a t x) (declarator_in b u y)
         go x y s = (
           s.is_public,
-          alike_if (is_ambient a t) (is_ambient b u) (written x) (declarator_seen a (mutability_of (VarDecl-kind t)) x) (written y) (declarator_seen b (mutability_of (VarDecl-kind u)) y)
-              (ambient_alike t u m d.declare) (λ e. written_alike s.tree) (λ e. cc),
+          alike_if r ok (is_ambient a t) (is_ambient b u) (written x) (declarator_seen a (mutability_of (VarDecl-kind t)) x) (written y) (declarator_seen b (mutability_of (VarDecl-kind u)) y)
+              (ambient_alike t u m d.declare) (λ e. same_written r ok s.tree) (λ e. cc),
         )
     decl_alike c m p q t u (h.SameDecl.standing k d s e f) =
         let st = ap is_standing d.left ∙ s in
         let su = ap is_standing d.right ∙ s in (
           stands_apart (kind_of t) ExportDecl st refl,
           stands_apart (kind_of u) ExportDecl su refl,
-          subst₂ AllAlike (sym (standing_of a p t st)) (sym (standing_of b q u su)) (all_alike_if (a.is_public p) (b.is_public q) (written t) (written u) e (written_alike f)),
+          subst₂ (AllAlike r ok) (sym (standing_of a p t st)) (sym (standing_of b q u su)) (all_alike_if r ok (a.is_public p) (b.is_public q) (written t) (written u) e (same_written r ok f)),
         )
 
     decl_alike c m p q t u (h.SameDecl.function d e f g) = (
       ap (λ k. k is ExportDecl) d.kinds.left,
       ap (λ k. k is ExportDecl) d.kinds.right,
       public_alike p q t u d.kinds d.is_public (declared_function p q t u m d
-          (subst₂ (λ x y. Alike (signature_if a t x (here a t)) (signature_if b u y (here b u))) (sym e) (sym f)
-          (function_alike c g (Ident-span (FnDecl-ident t)) (Ident-span (FnDecl-ident u)) (ident_place (FnDecl-ident t) (FnDecl-ident u) d.ident)))),
+          (subst₂ (λ x y. Alike r ok (signature_if a t x (here a t)) (signature_if b u y (here b u))) (sym e) (sym f)
+          (function_alike r ok a.unresolved b.unresolved c g DeclarationLike (Ident-span (FnDecl-ident t)) (Ident-span (FnDecl-ident u))
+          (range_to r ok (Ident-span (FnDecl-ident t)) (Ident-span (FnDecl-ident u)) (ident_place (FnDecl-ident t) (FnDecl-ident u) d.ident))))),
     )
     decl_alike c m p q t u (h.SameDecl.implementation d e f g) = (
       ap (λ k. k is ExportDecl) d.kinds.left,
       ap (λ k. k is ExportDecl) d.kinds.right,
       public_alike p q t u d.kinds d.is_public (declared_function p q t u m d
-          (subst₂ (λ x y. Alike (signature_if a t x (here a t)) (signature_if b u y (here b u))) (sym e) (sym f) (implementation_alike g))),
+          (subst₂ (λ x y. Alike r ok (signature_if a t x (here a t)) (signature_if b u y (here b u))) (sym e) (sym f) (implementation_alike r ok a.unresolved b.unresolved (FnDecl-function t) (FnDecl-function u) g))),
     )
     decl_alike c m p q t u (h.SameDecl.ambient_function k e f s) = (
       ap (λ j. j is ExportDecl) k.left,
       ap (λ j. j is ExportDecl) k.right,
-      public_alike p q t u k e (subst₂ (λ x y. Alike (if x then written t else function_form a p t) (if y then written u else function_form b q u)) (sym f) (sym f ∙ m) (written_alike s)),
+      public_alike p q t u k e (subst₂ (λ x y. Alike r ok (if x then written t else function_form a p t) (if y then written u else function_form b q u)) (sym f) (sym f ∙ m) (same_written r ok s)),
     )
 
     -- ---- items
 
-    exported_alike : (t u : Tree) (xs ys : List Seen) → SameRange r (ExportDecl-span t) (ExportDecl-span u) → AllAlike xs ys → AllAlike (exported_seen t xs) (exported_seen u ys)
+    exported_alike : (t u : Tree) (xs ys : List Seen) → SameRange r (ExportDecl-span t) (ExportDecl-span u) → AllAlike r ok xs ys → AllAlike r ok (exported_seen t xs) (exported_seen u ys)
     exported_alike t u [] [] s p = refl
     exported_alike t u (x ∷ xs) (y ∷ ys) s p =
-        ap (λ f. f ∷ []) (form_alike ExportDecl (range (ExportDecl-span t) ∷ x ∷ xs) (range (ExportDecl-span u) ∷ y ∷ ys) (λ i. range_alike (ExportDecl-span t) (ExportDecl-span u) s i ∷ p i))
+        ap (λ f. f ∷ []) (form_alike r ok ExportDecl (range (ExportDecl-span t) ∷ x ∷ xs) (range (ExportDecl-span u) ∷ y ∷ ys) (λ i. range_alike r ok (ExportDecl-span t) (ExportDecl-span u) s i ∷ p i))
     exported_alike t u [] (y ∷ ys) s p = cc
     exported_alike t u (x ∷ xs) [] s p = cc
 
-    pub item_alike : IsPair r.scopes a.unresolved.0 b.unresolved.0 → a.is_declaration_file ≡ b.is_declaration_file → (t u : Tree) → SameItem r a b t u → AllAlike (item_seen a t) (item_seen b u)
+    pub item_alike : IsPair r.scopes a.unresolved.0 b.unresolved.0 → a.is_declaration_file ≡ b.is_declaration_file → (t u : Tree) → SameItem r a b t u → AllAlike r ok (item_seen a t) (item_seen b u)
     item_alike c m t u (h.SameItem.decl d) =
-        let e = decl_alike c m (own_range t) (own_range u) t u d in subst₂ AllAlike (sym (item_of a t e.0)) (sym (item_of b u e.1)) e.2
+        let e = decl_alike c m (own_range t) (own_range u) t u d in subst₂ (AllAlike r ok) (sym (item_of a t e.0)) (sym (item_of b u e.1)) e.2
     item_alike c m t u (h.SameItem.exported k s d) =
-        subst₂ AllAlike (sym (export_of a t k.left)) (sym (export_of b u k.right))
+        subst₂ (AllAlike r ok) (sym (export_of a t k.left)) (sym (export_of b u k.right))
         (exported_alike t u (decl_seen a (ExportDecl-span t) (ExportDecl-decl t)) (decl_seen b (ExportDecl-span u) (ExportDecl-decl u)) s
         (decl_alike c m (ExportDecl-span t) (ExportDecl-span u) (ExportDecl-decl t) (ExportDecl-decl u) d).2)
 
-    items_alike : IsPair r.scopes a.unresolved.0 b.unresolved.0 → a.is_declaration_file ≡ b.is_declaration_file → (ts us : List Tree) → SameItems r a b ts us → AllAlike (flat_map (item_seen a) ts) (flat_map (item_seen b) us)
+    items_alike : IsPair r.scopes a.unresolved.0 b.unresolved.0 → a.is_declaration_file ≡ b.is_declaration_file → (ts us : List Tree) → SameItems r a b ts us → AllAlike r ok (flat_map (item_seen a) ts) (flat_map (item_seen b) us)
     items_alike c m [] [] h.SameItems.end = refl
-    items_alike c m (t ∷ ts) us (h.SameItems.left q n rest) = subst (λ xs. AllAlike (xs ++ flat_map (item_seen a) ts) (flat_map (item_seen b) us)) (sym (silent_item a t q)) (items_alike c m ts us rest)
-    items_alike c m ts (u ∷ us) (h.SameItems.right q n rest) = subst (λ xs. AllAlike (flat_map (item_seen a) ts) (xs ++ flat_map (item_seen b) us)) (sym (silent_item b u q)) (items_alike c m ts us rest)
+    items_alike c m (t ∷ ts) us (h.SameItems.left q n rest) = subst (λ xs. AllAlike r ok (xs ++ flat_map (item_seen a) ts) (flat_map (item_seen b) us)) (sym (silent_item a t q)) (items_alike c m ts us rest)
+    items_alike c m ts (u ∷ us) (h.SameItems.right q n rest) = subst (λ xs. AllAlike r ok (flat_map (item_seen a) ts) (xs ++ flat_map (item_seen b) us)) (sym (silent_item b u q)) (items_alike c m ts us rest)
     items_alike c m (t ∷ ts) (u ∷ us) (h.SameItems.next s rest) =
-        append_alike (item_seen a t) (flat_map (item_seen a) ts) (item_seen b u) (flat_map (item_seen b) us) (item_alike c m t u s) (items_alike c m ts us rest)
+        append_alike r ok (item_seen a t) (flat_map (item_seen a) ts) (item_seen b u) (flat_map (item_seen b) us) (item_alike c m t u s) (items_alike c m ts us rest)
 
-    visible_alike : (t u : Tree) → AgreeHidden r a b t u → AllAlike (visible a t) (visible b u)
+    visible_alike : (t u : Tree) → AgreeHidden r a b t u → AllAlike r ok (visible a t) (visible b u)
     visible_alike t u g = items_alike g.unresolved g.is_declaration_file (items_of t) (items_of u) g.items
 
     -- ---- answers

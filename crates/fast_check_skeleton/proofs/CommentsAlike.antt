@@ -35,7 +35,8 @@ use Rattle.fast_check_skeleton.specs.Hidden as h
 use Rattle.fast_check_signatures.specs.SameValues.{Both}
 use Rattle.fast_check_signatures.specs.SameValues as v
 use Rattle.fast_check_skeleton.specs.Worlds.{SameAnswers, TwoWorlds}
-use Rattle.fast_check_skeleton.proofs.Agreeing.{stands_apart, silent_item, AllAlike, item_alike, same_trees}
+use Rattle.fast_check_signatures.proofs.AlikeSeen.{AllAlike}
+use Rattle.fast_check_skeleton.proofs.Agreeing.{stands_apart, silent_item, item_alike, same_trees}
 
 -- ---- what is left at a position
 

@@ -29,33 +29,16 @@ use Rattle.fast_check_signatures.specs.Answers.{Answer, joined, visited, before,
 use Rattle.fast_check_signatures.specs.Expressions.{expr_seen}
 use Rattle.fast_check_signatures.specs.Functions.{function_seen, implementation_seen}
 use Rattle.fast_check_signatures.specs.TypedGrammar.{IsLeavable, IsTypedFunction}
+use Rattle.fast_check_signatures.proofs.Staying.{no_left, no_right, leavable_where}
+use Rattle.fast_check_signatures.proofs.Typed.{leavable_stands, function_stands, implementation_stands}
 use Rattle.fast_check_skeleton.specs.Skeleton.{transformed, skeleton_of, faults_of}
 use Rattle.fast_check_skeleton.specs.Grammar.{HasTypedValue, IsTypedDeclarator, IsTypedStatement, IsTypedFunctionDecl, IsTypedDecl, IsTypedItem, IsSkeleton}
-
--- TEMPORARY
-leavable_stands : (unresolved : SyntaxContext) (t : Tree) (place : Option SourceRange) → (answer_to (expr_seen unresolved t place)).is_leavable ≡ true → (answer_to (expr_seen unresolved t place)).faults ≡ [] →
-    IsLeavable unresolved (first_or_absent (answer_to (expr_seen unresolved t place)).trees)
-leavable_stands = ?
-function_stands : (unresolved : SyntaxContext) (kind : FunctionKind) (place : SourceRange) (t : Tree) → (answer_to (function_seen unresolved (expr_seen unresolved) kind place t)).faults ≡ [] →
-    IsTypedFunction unresolved (first_or_absent (answer_to (function_seen unresolved (expr_seen unresolved) kind place t)).trees)
-function_stands = ?
-implementation_stands : (unresolved : SyntaxContext) (t : Tree) → IsTypedFunction unresolved (first_or_absent (answer_to (implementation_seen t)).trees)
-implementation_stands = ?
 
 -- ---- once
 
 pub answered_seens : (ss : List Seen) → map (λ (p : Part). p.answer) (answered (seens ss)) ≡ map answer_to ss
 answered_seens [] = refl
 answered_seens (s ∷ ss) = ap (λ xs. answer_to s ∷ xs) (answered_seens ss)
-
--- no faults of two lists, none of each
-no_left : {A : Type 0} (xs ys : List A) → xs ++ ys ≡ [] → xs ≡ []
-no_left [] ys e = refl
-no_left (x ∷ xs) ys e = cc
-
-no_right : {A : Type 0} (xs ys : List A) → xs ++ ys ≡ [] → ys ≡ []
-no_right [] ys e = e
-no_right (x ∷ xs) ys e = cc
 
 all_append : (P : Tree → Type 0) (xs ys : List Tree) → OfAll P xs → OfAll P ys → OfAll P (xs ++ ys)
 all_append P [] ys p q = q
@@ -131,13 +114,13 @@ no_fault false faults fault e = absurd (go (no_right faults (fault ∷ []) e))
     go e = cc
 
 module _ (around : Surroundings) (mutability : DeclMutabilityKind) (d : Tree) where
-  abbrev place : SourceRange
-  place = Ident-span (declared_ident d)
+  abbrev name_place : SourceRange
+  name_place = Ident-span (declared_ident d)
 
   abbrev seen_with : Bool → Option Tree → Seen
   seen_with absent shown =
       form VarDeclarator (seens (Seen.range (VarDeclarator-span d) ∷ written (declared_ident d) ∷ Seen.flag (VarDeclarator-definite d) ∷ (if absent then hidden else written (declared_type d)) ∷
-      (if absent then by_inferred shown else hidden) ∷ (if absent then kept_value_seen around place shown (VarDeclarator-init d) else hidden) ∷ []))
+      (if absent then by_inferred shown else hidden) ∷ (if absent then kept_value_seen around name_place shown (VarDeclarator-init d) else hidden) ∷ []))
 
   abbrev Typed : Tree → Type 0
   Typed = IsTypedDeclarator around.unresolved
@@ -145,19 +128,19 @@ module _ (around : Surroundings) (mutability : DeclMutabilityKind) (d : Tree) wh
   valued : (value : Seen) → ((answer_to value).is_leavable ≡ true → (answer_to value).faults ≡ [] → IsLeavable around.unresolved (first_or_absent (answer_to value).trees)) →
       Stands Typed (form VarDeclarator (seens (Seen.range (VarDeclarator-span d) ∷ written (declared_ident d) ∷ Seen.flag (VarDeclarator-definite d) ∷ hidden ∷ hidden ∷ value ∷ [])) ∷ [])
   valued value h e =
-      let f = no_fault (answer_to value).is_leavable (answer_to value).faults (record { kind = MissingExplicitType; range = place }) (no_left _ [] e) in
+      let f = no_fault (answer_to value).is_leavable (answer_to value).faults (record { kind = MissingExplicitType; range = name_place }) (no_left _ [] e) in
       (typed around.unresolved (VarDeclarator-span d) (declared_ident d) (VarDeclarator-definite d) Absent (first_or_absent (answer_to value).trees) (inr (h f.0 f.1)), tt)
 
-  kept_stands : (absent : Bool) → ((answer_to (if absent then refused else expr_seen around.unresolved (VarDeclarator-init d) (Some place))).is_leavable ≡ true →
-      (answer_to (if absent then refused else expr_seen around.unresolved (VarDeclarator-init d) (Some place))).faults ≡ [] →
-      IsLeavable around.unresolved (first_or_absent (answer_to (if absent then refused else expr_seen around.unresolved (VarDeclarator-init d) (Some place))).trees))
+  kept_stands : (absent : Bool) → ((answer_to (if absent then refused else expr_seen around.unresolved (VarDeclarator-init d) (Some name_place))).is_leavable ≡ true →
+      (answer_to (if absent then refused else expr_seen around.unresolved (VarDeclarator-init d) (Some name_place))).faults ≡ [] →
+      IsLeavable around.unresolved (first_or_absent (answer_to (if absent then refused else expr_seen around.unresolved (VarDeclarator-init d) (Some name_place))).trees))
   kept_stands true l f = cc
-  kept_stands false l f = leavable_stands around.unresolved (VarDeclarator-init d) (Some place) l f
+  kept_stands false l f = leavable_stands around.unresolved (VarDeclarator-init d) (Some name_place) l f
 
   by_value : (o : Option Tree) (t : Bool) → is_absent (declared_type d) ≡ t → Stands Typed (seen_with t o ∷ [])
   by_value (Some type) true e f =
       (typed around.unresolved (VarDeclarator-span d) (declared_ident d) (VarDeclarator-definite d) (type_ann type) never_value (inl (is_absent_node TsTypeAnn (tree.Range none_range ∷ type ∷ []), refl)), tt)
-  by_value None true e f = valued (if is_absent (VarDeclarator-init d) then refused else expr_seen around.unresolved (VarDeclarator-init d) (Some place)) (kept_stands (is_absent (VarDeclarator-init d))) f
+  by_value None true e f = valued (if is_absent (VarDeclarator-init d) then refused else expr_seen around.unresolved (VarDeclarator-init d) (Some name_place)) (kept_stands (is_absent (VarDeclarator-init d))) f
   by_value o false e f =
       (typed around.unresolved (VarDeclarator-span d) (declared_ident d) (VarDeclarator-definite d) (declared_type d) never_value (inl (e, refl)), tt)
 
