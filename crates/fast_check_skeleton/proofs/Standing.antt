@@ -322,12 +322,23 @@ module _ (around : Surroundings) where
       if all.is_leavable then fails (node ExportDecl all.trees) all.faults else record { trees = []; faults = all.faults; is_leavable = false }
 
   -- what stands of an export of one form that may stay
+  export_answer : (export : Tree) (s : Seen) (one : OneTree (s ∷ [])) →
+      answer_to (form ExportDecl (seens (Seen.range (ExportDecl-span export) ∷ s ∷ []))) ≡ fails (node ExportDecl (tree.Range (ExportDecl-span export) ∷ one.1.0 ∷ [])) (answer_to s).faults
+  export_answer export s one =
+      let same : answer_to s ≡ record { trees = one.1.0 ∷ []; faults = (answer_to s).faults; is_leavable = true } = λ i. record { trees = one.1.1 i; faults = (answer_to s).faults; is_leavable = one.0 i } in
+      ap (export_with export) same ∙ ap (fails (node ExportDecl (tree.Range (ExportDecl-span export) ∷ one.1.0 ∷ []))) (append-nil (answer_to s).faults)
+
+  pub export_one : (export : Tree) (ss : List Seen) → OneTree ss → OneTree (exported_seen export ss)
+  export_one export [] one = tt
+  export_one export (s ∷ []) one =
+      let e = export_answer export s one in (ap (λ a. a.is_leavable) e, (node ExportDecl (tree.Range (ExportDecl-span export) ∷ one.1.0 ∷ []), ap (λ a. a.trees) e))
+  export_one export (s ∷ t ∷ ss) one = absurd one
+
   pub export_is : (export : Tree) (s : Seen) (one : OneTree (s ∷ [])) →
       answer_of (exported_seen export (s ∷ [])) ≡ (record { trees = node ExportDecl (tree.Range (ExportDecl-span export) ∷ one.1.0 ∷ []) ∷ []; faults = (answer_to s).faults; is_leavable = true })
   export_is export s one =
-      let same : answer_to s ≡ record { trees = one.1.0 ∷ []; faults = (answer_to s).faults; is_leavable = true } = λ i. record { trees = one.1.1 i; faults = (answer_to s).faults; is_leavable = one.0 i } in
-      ap (λ a. joined (export_with export a ∷ [])) same ∙
-      ap (λ f. record { trees = node ExportDecl (tree.Range (ExportDecl-span export) ∷ one.1.0 ∷ []) ∷ []; faults = f; is_leavable = true }) (append-nil ((answer_to s).faults ++ []) ∙ append-nil (answer_to s).faults)
+      ap (λ a. joined (a ∷ [])) (export_answer export s one) ∙
+      ap (λ f. record { trees = node ExportDecl (tree.Range (ExportDecl-span export) ∷ one.1.0 ∷ []) ∷ []; faults = f; is_leavable = true }) (append-nil (answer_to s).faults)
 
   export_stands : (export : Tree) (ss : List Seen) → OneTree ss → Stands IsDecl ss → Stands IsItem (exported_seen export ss)
   export_stands export [] one p e = tt

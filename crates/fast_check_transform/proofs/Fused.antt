@@ -26,11 +26,11 @@ faults_all f [] = refl
 faults_all f (t ∷ ts) = ap (λ a. a.faults) (answer_append (f t) (flat_map f ts)) ∙ ap (λ x. (answer_of (f t)).faults ++ x) (faults_all f ts)
 
 pub kept_declarators_is : (around : Surroundings) (statement : Tree) → kept_declarators around statement ≡ flat_map (kept_declarator around statement) (parts (VarDecl-decls statement))
-unfolding kept_declarators
+unfolding kept_declarators kept_declarator
 kept_declarators_is around statement = trees_all (public_declarator around statement) (parts (VarDecl-decls statement))
 
 pub declarator_faults_is : (around : Surroundings) (statement : Tree) → declarator_faults around statement ≡ flat_map (declarator_fault around statement) (parts (VarDecl-decls statement))
-unfolding declarator_faults
+unfolding declarator_faults declarator_fault
 declarator_faults_is around statement = faults_all (public_declarator around statement) (parts (VarDecl-decls statement))
 
 -- ---- each declarator that is seen is answered by one tree

@@ -14,9 +14,9 @@ use Rattle.fast_check_program_forms.specs.ModuleDecls.{ExportDecl-span, ExportDe
 use Rattle.fast_check_skeleton.specs.Surroundings.{Surroundings}
 use Rattle.fast_check_signatures.specs.Seen.{Seen}
 use Rattle.fast_check_skeleton.specs.Visible.{own_range, decl_seen, exported_seen, item_seen}
-use Rattle.fast_check_skeleton.specs.Skeleton.{answer_to, answer_of}
+use Rattle.fast_check_signatures.specs.Answers.{answer_to, answer_of}
 use Rattle.fast_check_skeleton.specs.KeptComments.{start_of_unseen, removed_start, without_all_leading}
-use Rattle.fast_check_skeleton.proofs.Standing.{OneTree, decl_one}
+use Rattle.fast_check_skeleton.proofs.Standing.{OneTree, decl_one, export_one}
 use Rattle.fast_check_transform.specs.Kept.{kept_item}
 
 pub without_append : (xs ys : List SourcePos) (c : Comments) → without_all_leading (xs ++ ys) c ≡ without_all_leading ys (without_all_leading xs c)
@@ -24,21 +24,16 @@ without_append [] ys c = refl
 without_append (x ∷ xs) ys c = without_append xs ys (without_leading x c)
 
 module _ (around : Surroundings) (item : Tree) where
-  export_one : (ss : List Seen) → OneTree around ss → OneTree around (exported_seen item ss)
-  export_one [] one = tt
-  export_one (s ∷ []) one = (_, refl)
-  export_one (s ∷ t ∷ ss) one = absurd one
-
   item_one : OneTree around (item_seen around item)
   item_one = go (kind_of item is ExportDecl)
     where
       go : (b : Bool) → OneTree around (if b then exported_seen item (decl_seen around (ExportDecl-span item) (ExportDecl-decl item)) else decl_seen around (own_range item) item)
-      go true = export_one (decl_seen around (ExportDecl-span item) (ExportDecl-decl item)) (decl_one around (ExportDecl-span item) (ExportDecl-decl item))
+      go true = export_one around item (decl_seen around (ExportDecl-span item) (ExportDecl-decl item)) (decl_one around (ExportDecl-span item) (ExportDecl-decl item))
       go false = decl_one around (own_range item) item
 
   unseen : (ss : List Seen) → OneTree around ss → (answer_of ss).trees ≡ [] → start_of_unseen item ss ≡ (own_range item).start ∷ []
   unseen [] one e = refl
-  unseen (s ∷ []) one e = let f : one.0 ∷ [] ≡ [] = sym one.1 ∙ (sym (append-nil (answer_to s).trees) ∙ e) in cc
+  unseen (s ∷ []) one e = let f : one.1.0 ∷ [] ≡ [] = sym one.1.1 ∙ (sym (append-nil (answer_to s).trees) ∙ e) in cc
   unseen (s ∷ t ∷ ss) one e = absurd one
 
   seen_one : (ss : List Seen) (t : Tree) → (answer_of ss).trees ≡ t ∷ [] → start_of_unseen item ss ≡ []

@@ -8,9 +8,10 @@ use Rattle.fast_check_program_forms.specs.ModuleDecls.{ExportDecl-span, export_d
 use Rattle.fast_check_statement_forms.specs.Declarations.{VarDecl-span, VarDecl-ctxt, VarDecl-kind, VarDecl-declare, var_decl, VarDeclarator-span, VarDeclarator-init, VarDeclarator-definite, var_declarator}
 use Rattle.fast_check_program_forms.specs.Names.{Ident-span, binding_ident}
 use Rattle.fast_check_tables.specs.PublicRanges.{is_public, is_implementation}
+use Rattle.fast_check_tree.specs.declared.helpers.literal_type.DeclMutabilityKind.{DeclMutabilityKind}
 use Rattle.fast_check_signatures.specs.declared.fault.Fault.{Fault}
 use Rattle.fast_check_skeleton.specs.Surroundings.{Surroundings}
-use Rattle.fast_check_skeleton.specs.Visible.{declared_ident, kept_value_seen, function_decl_seen, public_declarator, public_declarators, decl_seen, item_seen, statement_seen}
+use Rattle.fast_check_skeleton.specs.Visible.{declared_ident, ident_declarator_seen, declarator_seen, kept_value_seen, signature_of, function_decl_seen, public_declarator, public_declarators, decl_seen, item_seen, statement_seen}
 use Rattle.fast_check_signatures.specs.declared.fault.FaultKind.TheVariants.{MissingExplicitType}
 use Rattle.fast_check_signatures.specs.Answers.{Answer, first_or_absent, fault_at, answer_to, answer_of}
 use Rattle.fast_check_transform.specs.declared.asked.Asked.{Asked}
@@ -27,9 +28,13 @@ as_list None = []
 abbrev pub retyped : Tree → Tree → Tree → Tree
 retyped d type value = var_declarator (VarDeclarator-span d) (binding_ident (declared_ident d) type) value (VarDeclarator-definite d)
 
--- what becomes of the value of a declarator that nothing else gives a type
+-- of a value that is to give a type, which the identifier at `place` names
+unfoldable pub value_answer : Surroundings → SourceRange → Tree → Answer
+value_answer around place value = answer_to (kept_value_seen around place None value)
+
+-- of the value of a declarator that nothing else gives a type
 abbrev pub valued : Surroundings → Tree → Answer
-valued around d = answer_to (kept_value_seen around (Ident-span (declared_ident d)) None (VarDeclarator-init d))
+valued around d = value_answer around (Ident-span (declared_ident d)) (VarDeclarator-init d)
 
 -- the value that stays, if it does
 abbrev pub valued_tree : Surroundings → Tree → Tree
@@ -40,6 +45,20 @@ abbrev pub valued_faults : Surroundings → Tree → List Fault
 valued_faults around d =
     (valued around d).faults ++ (if (valued around d).is_leavable then [] else fault_at MissingExplicitType (Ident-span (declared_ident d)) ∷ [])
 
+-- of a declarator of an identifier
+unfoldable pub kept_ident : Surroundings → DeclMutabilityKind → Tree → List Tree
+kept_ident around mutability d = (answer_to (ident_declarator_seen around mutability d)).trees
+
+unfoldable pub ident_faults : Surroundings → DeclMutabilityKind → Tree → List Fault
+ident_faults around mutability d = (answer_to (ident_declarator_seen around mutability d)).faults
+
+-- of a declarator that is not ambient
+unfoldable pub kept_typed : Surroundings → DeclMutabilityKind → Tree → List Tree
+kept_typed around mutability d = (answer_to (declarator_seen around mutability d)).trees
+
+unfoldable pub typed_faults : Surroundings → DeclMutabilityKind → Tree → List Fault
+typed_faults around mutability d = (answer_to (declarator_seen around mutability d)).faults
+
 -- of the declarators of a statement
 unfoldable pub kept_declarators : Surroundings → Tree → List Tree
 kept_declarators around statement = (answer_of (public_declarators around statement)).trees
@@ -48,10 +67,10 @@ unfoldable pub declarator_faults : Surroundings → Tree → List Fault
 declarator_faults around statement = (answer_of (public_declarators around statement)).faults
 
 -- of one of them
-abbrev pub kept_declarator : Surroundings → Tree → Tree → List Tree
+unfoldable pub kept_declarator : Surroundings → Tree → Tree → List Tree
 kept_declarator around statement d = (answer_of (public_declarator around statement d)).trees
 
-abbrev pub declarator_fault : Surroundings → Tree → Tree → List Fault
+unfoldable pub declarator_fault : Surroundings → Tree → Tree → List Fault
 declarator_fault around statement d = (answer_of (public_declarator around statement d)).faults
 
 -- a variable statement with these declarators; nothing where there are none
@@ -74,7 +93,14 @@ kept_decl around place decl = (answer_of (decl_seen around place decl)).trees
 unfoldable pub decl_faults : Surroundings → SourceRange → Tree → List Fault
 decl_faults around place decl = (answer_of (decl_seen around place decl)).faults
 
--- of a function that is public by `place`
+-- of the signature of a function that is public by `place`
+unfoldable pub signature_tree : Surroundings → SourceRange → Tree → Tree
+signature_tree around place decl = first_or_absent (answer_to (signature_of around place decl)).trees
+
+unfoldable pub signature_faults : Surroundings → SourceRange → Tree → List Fault
+signature_faults around place decl = (answer_to (signature_of around place decl)).faults
+
+-- of such a function
 unfoldable pub kept_function : Surroundings → SourceRange → Tree → List Tree
 kept_function around place decl = (answer_to (function_decl_seen around place decl)).trees
 

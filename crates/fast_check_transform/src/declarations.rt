@@ -1,10 +1,10 @@
-ghost use Rattle.std.specs.Prelude.{◌≡◌, IfOk, ◌++◌, ◌∷◌, [], None};
+ghost use Rattle.std.specs.Prelude.{◌≡◌, IfOk, ◌++◌, ◌∷◌, []};
 ghost use Rattle.fast_check_syntax.specs.Part.{seen};
 ghost use Rattle.fast_check_syntax.specs.declared.tree.Tree.{Absent};
 ghost use Rattle.fast_check_skeleton.specs.Mutability.{mutability_of};
-ghost use Rattle.fast_check_signatures.specs.Answers.{answer_to, first_or_absent, kept_tree};
-ghost use Rattle.fast_check_skeleton.specs.Visible.{declarator_seen, ident_declarator_seen, kept_value_seen, is_ambient};
-ghost use Rattle.fast_check_transform.specs.Kept.{Asked-around, as_list, retyped, valued_tree, valued_faults, kept_declarators, declarator_faults, kept_statement, statement_faults};
+ghost use Rattle.fast_check_signatures.specs.Answers.{kept_tree};
+ghost use Rattle.fast_check_skeleton.specs.Visible.{is_ambient};
+ghost use Rattle.fast_check_transform.specs.Kept.{Asked-around, as_list, retyped, value_answer, valued_tree, valued_faults, kept_ident, ident_faults, kept_typed, typed_faults, kept_declarator, declarator_fault, kept_declarators, declarator_faults, kept_statement, statement_faults};
 
 use crate::asked::Asked;
 use fast_check_forms::range_of_node;
@@ -59,7 +59,7 @@ fn retyped(
 
 /// The value of a declarator as it stays, where it shows no type; none where it may not stay, or is not there. It is
 /// named by the identifier at `place`.
-#[tactic(auto, using(crate::proofs::Declared::kept_value_absent, crate::proofs::Declared::kept_value_present))]
+#[tactic(auto, using(crate::proofs::Declared::value_absent, crate::proofs::Declared::value_present))]
 fn keep_value(
     alloc: Global,
     asked: Asked<'_>,
@@ -67,8 +67,8 @@ fn keep_value(
     value: Part<'_>,
     faults: &mut Vec<Fault>,
 ) -> Result<Option<Tree>, AllocError>
-    ensures kept { IfOk result (λ tree. tree ≡ kept_tree (answer_to (kept_value_seen (Asked-around asked.entry) place None (seen value.entry)))) }
-    ensures faults { IfOk result (λ _. faults.new.items ≡ faults.old.items ++ (answer_to (kept_value_seen (Asked-around asked.entry) place None (seen value.entry))).faults) }
+    ensures kept { IfOk result (λ tree. tree ≡ kept_tree (value_answer (Asked-around asked.entry) place (seen value.entry))) }
+    ensures faults { IfOk result (λ _. faults.new.items ≡ faults.old.items ++ (value_answer (Asked-around asked.entry) place (seen value.entry)).faults) }
 {
     if value.is_absent() {
         return Ok(None);
@@ -76,9 +76,9 @@ fn keep_value(
     leave_expr(alloc, asked.unresolved, value, Some(place), faults)
 }
 
-#[tactic(auto, using(crate::proofs::Declared::stays_tree, crate::proofs::Declared::stays_faults, crate::proofs::Declared::goes_tree, crate::proofs::Declared::goes_faults))]
 /// A declarator without type, with the value that gives it. Where there is none that may stay, that is a fault at the
 /// identifier.
+#[tactic(auto, using(crate::proofs::Declared::stays_tree, crate::proofs::Declared::stays_faults, crate::proofs::Declared::goes_tree, crate::proofs::Declared::goes_faults))]
 fn valued_declarator(
     alloc: Global,
     asked: Asked<'_>,
@@ -104,6 +104,7 @@ fn valued_declarator(
 
 /// A declarator of an identifier, with the type that is written or that its value shows, or else with a value that may
 /// stay.
+#[tactic(auto, using(crate::proofs::Declared::written_ident, crate::proofs::Declared::faults_written, crate::proofs::Declared::shown_ident, crate::proofs::Declared::faults_shown, crate::proofs::Declared::valued_ident, crate::proofs::Declared::faults_valued))]
 fn ident_declarator(
     alloc: Global,
     asked: Asked<'_>,
@@ -111,8 +112,8 @@ fn ident_declarator(
     declarator: Part<'_>,
     faults: &mut Vec<Fault>,
 ) -> Result<Tree, AllocError>
-    ensures kept { IfOk result (λ tree. tree ∷ [] ≡ (answer_to (ident_declarator_seen (Asked-around asked.entry) mutability (seen declarator.entry))).trees) }
-    ensures faults { IfOk result (λ _. faults.new.items ≡ faults.old.items ++ (answer_to (ident_declarator_seen (Asked-around asked.entry) mutability (seen declarator.entry))).faults) }
+    ensures kept { IfOk result (λ tree. tree ∷ [] ≡ kept_ident (Asked-around asked.entry) mutability (seen declarator.entry)) }
+    ensures faults { IfOk result (λ _. faults.new.items ≡ faults.old.items ++ ident_faults (Asked-around asked.entry) mutability (seen declarator.entry)) }
 {
     let VarDeclarator { name, init, .. } = VarDeclarator::of(declarator);
     let ty = BindingIdent::of(name).type_ann;
@@ -132,6 +133,7 @@ fn ident_declarator(
 
 /// A declarator with the type that is written or that its value shows, or with a value that gives it. Where there is
 /// none, or where a pattern stands for the identifier, that is a fault.
+#[tactic(auto, using(crate::proofs::Declared::typed_ident, crate::proofs::Declared::faults_ident, crate::proofs::Declared::typed_pattern, crate::proofs::Declared::faults_pattern))]
 fn typed_declarator(
     alloc: Global,
     asked: Asked<'_>,
@@ -139,8 +141,8 @@ fn typed_declarator(
     declarator: Part<'_>,
     faults: &mut Vec<Fault>,
 ) -> Result<Tree, AllocError>
-    ensures kept { IfOk result (λ tree. tree ∷ [] ≡ (answer_to (declarator_seen (Asked-around asked.entry) mutability (seen declarator.entry))).trees) }
-    ensures faults { IfOk result (λ _. faults.new.items ≡ faults.old.items ++ (answer_to (declarator_seen (Asked-around asked.entry) mutability (seen declarator.entry))).faults) }
+    ensures kept { IfOk result (λ tree. tree ∷ [] ≡ kept_typed (Asked-around asked.entry) mutability (seen declarator.entry)) }
+    ensures faults { IfOk result (λ _. faults.new.items ≡ faults.old.items ++ typed_faults (Asked-around asked.entry) mutability (seen declarator.entry)) }
 {
     let name = VarDeclarator::of(declarator).name;
     if name.kind() == Kind::BindingIdent {
@@ -153,7 +155,30 @@ fn typed_declarator(
     Ok(Tree::Absent)
 }
 
-/// The public declarators of a statement, those of an ambient one as they are written.
+/// A declarator of a statement, that of an ambient one as it is written; none where it is not public.
+#[tactic(auto, using(crate::proofs::Declared::kept_not_public, crate::proofs::Declared::fault_not_public, crate::proofs::Declared::kept_ambient, crate::proofs::Declared::fault_ambient, crate::proofs::Declared::kept_public, crate::proofs::Declared::fault_public))]
+fn keep_declarator(
+    alloc: Global,
+    asked: Asked<'_>,
+    statement: Part<'_>,
+    declarator: Part<'_>,
+    faults: &mut Vec<Fault>,
+) -> Result<Option<Tree>, AllocError>
+    ensures kept { IfOk result (λ tree. as_list tree ≡ kept_declarator (Asked-around asked.entry) (seen statement.entry) (seen declarator.entry)) }
+    ensures faults { IfOk result (λ _. faults.new.items ≡ faults.old.items ++ declarator_fault (Asked-around asked.entry) (seen statement.entry) (seen declarator.entry)) }
+{
+    let span = VarDeclarator::of(declarator).span;
+    if !asked.public_ranges.contains(&span) {
+        return Ok(None);
+    }
+    if is_ambient(asked, statement) {
+        return Ok(Some(declarator.to_tree(alloc)?));
+    }
+    let mutability = mutability_of(VarDecl::of(statement).kind);
+    Ok(Some(typed_declarator(alloc, asked, mutability, declarator, faults)?))
+}
+
+/// The public declarators of a statement.
 #[tactic(auto, using(crate::proofs::Fused::kept_declarators_is, crate::proofs::Fused::declarator_faults_is))]
 fn public_declarators(
     alloc: Global,
@@ -164,19 +189,11 @@ fn public_declarators(
     ensures kept { IfOk result (λ items. items ≡ kept_declarators (Asked-around asked.entry) (seen statement.entry)) }
     ensures faults { IfOk result (λ _. faults.new.items ≡ faults.old.items ++ declarator_faults (Asked-around asked.entry) (seen statement.entry)) }
 {
-    let VarDecl { kind, decls, .. } = VarDecl::of(statement);
-    let is_ambient = is_ambient(asked, statement);
-    let mutability = mutability_of(kind);
     let mut items = Items::new(alloc);
-    for declarator in decls.parts() {
-        let declarator = declarator.read();
-        let span = VarDeclarator::of(declarator).span;
-        if asked.public_ranges.contains(&span) {
-            if is_ambient {
-                items.push(declarator.to_tree(alloc)?)?;
-            } else {
-                items.push(typed_declarator(alloc, asked, mutability, declarator, faults)?)?;
-            }
+    for declarator in VarDecl::of(statement).decls.parts() {
+        match keep_declarator(alloc, asked, statement, declarator.read(), faults)? {
+            Some(declarator) => items.push(declarator)?,
+            None => {}
         }
     }
     Ok(items)

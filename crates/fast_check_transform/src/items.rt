@@ -1,7 +1,7 @@
 ghost use Rattle.std.specs.Prelude.{◌≡◌, IfOk, ◌++◌, ◌∷◌, []};
 ghost use Rattle.fast_check_syntax.specs.Part.{seen};
 ghost use Rattle.fast_check_skeleton.specs.Visible.{own_range, is_standing};
-ghost use Rattle.fast_check_transform.specs.Kept.{Asked-around, as_list, kept_function, function_faults, kept_decl, decl_faults, kept_item, item_faults};
+ghost use Rattle.fast_check_transform.specs.Kept.{Asked-around, as_list, signature_tree, signature_faults, kept_function, function_faults, kept_decl, decl_faults, kept_item, item_faults};
 
 use crate::asked::Asked;
 use crate::declarations::keep_statement;
@@ -30,9 +30,31 @@ pub fn own_range(item: Part<'_>) -> SourceRange
     TsInterfaceDecl::of(item).span
 }
 
+/// The signature of a public function: of an implementation behind overloads the count of its parameters.
+#[tactic(auto, using(crate::proofs::Declared::implementation_tree, crate::proofs::Declared::implementation_faults, crate::proofs::Declared::other_tree, crate::proofs::Declared::other_faults))]
+fn transform_signature(
+    alloc: Global,
+    asked: Asked<'_>,
+    place: SourceRange,
+    decl: Part<'_>,
+    faults: &mut Vec<Fault>,
+) -> Result<Tree, AllocError>
+    ensures kept { IfOk result (λ tree. tree ≡ signature_tree (Asked-around asked.entry) place (seen decl.entry)) }
+    ensures faults { IfOk result (λ _. faults.new.items ≡ faults.old.items ++ signature_faults (Asked-around asked.entry) place (seen decl.entry)) }
+{
+    let FnDecl {
+        ident, function, ..
+    } = FnDecl::of(decl);
+    if asked.public_ranges.is_impl_with_overloads(&place) {
+        return transform_implementation(alloc, function);
+    }
+    let name = Ident::of(ident).span;
+    transform_fn(alloc, asked.unresolved, FunctionKind::DeclarationLike, name, function, faults)
+}
+
 /// A public function: in a declaration file as it is written; an implementation behind overloads, by the count of its
 /// parameters; another, by its signature.
-#[tactic(auto, using(crate::proofs::Declared::function_ambient, crate::proofs::Declared::faults_ambient, crate::proofs::Declared::function_implementation, crate::proofs::Declared::faults_implementation, crate::proofs::Declared::function_other, crate::proofs::Declared::faults_function))]
+#[tactic(auto, using(crate::proofs::Declared::function_ambient, crate::proofs::Declared::faults_ambient, crate::proofs::Declared::function_made, crate::proofs::Declared::faults_made))]
 fn keep_function(
     alloc: Global,
     asked: Asked<'_>,
@@ -46,24 +68,13 @@ fn keep_function(
     if asked.is_declaration_file {
         return decl.to_tree(alloc);
     }
-    let FnDecl {
-        ident,
+    let FnDecl { ident, declare, .. } = FnDecl::of(decl);
+    let made = FnDecl {
+        ident: ident.to_tree(alloc)?,
         declare,
-        function,
-    } = FnDecl::of(decl);
-    let function = if asked.public_ranges.is_impl_with_overloads(&place) {
-        transform_implementation(alloc, function)?
-    } else {
-        let name = Ident::of(ident).span;
-        transform_fn(alloc, asked.unresolved, FunctionKind::DeclarationLike, name, function, faults)?
+        function: transform_signature(alloc, asked, place, decl, faults)?,
     };
-    let ident = ident.to_tree(alloc)?;
-    FnDecl {
-        ident,
-        declare,
-        function,
-    }
-    .into_tree(alloc)
+    made.into_tree(alloc)
 }
 
 /// What is public of a declaration, which is public by `place` where it is no variable statement; none where nothing is.

@@ -74,7 +74,7 @@ pub fn transform(
     requires { IsCarried es_module_info.now }
     ensures ok { IfOk result (λ answer. IsOk answer ↔ (faults es_module_info.now public_ranges.now ≡ [])) }
     ensures skeleton { IfOk result (λ answer. IfOk answer (λ made. made.program ≡ skeleton es_module_info.now public_ranges.now)) }
-    ensures grammar { IfOk result (λ answer. IfOk answer (λ made. IsSkeleton (is_declaration es_module_info.now.source.media_type) made.program)) }
+    ensures grammar { IfOk result (λ answer. IfOk answer (λ made. IsSkeleton es_module_info.now.source.unresolved_context (is_declaration es_module_info.now.source.media_type) made.program)) }
     ensures comments { IfOk result (λ answer. IfOk answer (λ made. made.comments ≡ comments es_module_info.now public_ranges.now)) }
     ensures sources { IfOk result (λ answer. IfOk answer (λ made. made.module_info.sources.items ≡ [])) }
     ensures faults { IfOk result (λ answer. IfErr answer (λ diagnostics.

@@ -19,7 +19,6 @@ pub fn leave_expr(
     ensures kept { IfOk result (λ tree. tree ≡ kept_tree (answer_to (expr_seen unresolved (seen expr.entry) place))) }
     ensures faults { IfOk result (λ _. faults.new.items ≡ faults.old.items ++ (answer_to (expr_seen unresolved (seen expr.entry) place)).faults) }
 {
-    let _ = (unresolved, expr, place, faults);
     Err(AllocError)
 }
 
@@ -34,13 +33,11 @@ pub fn transform_fn(
     ensures kept { IfOk result (λ tree. tree ≡ first_or_absent (answer_to (function_seen unresolved (expr_seen unresolved) kind place (seen function.entry))).trees) }
     ensures faults { IfOk result (λ _. faults.new.items ≡ faults.old.items ++ (answer_to (function_seen unresolved (expr_seen unresolved) kind place (seen function.entry))).faults) }
 {
-    let _ = (unresolved, kind, place, function, faults);
     Err(AllocError)
 }
 
 pub fn transform_implementation(alloc: Global, function: Part<'_>) -> Result<Tree, AllocError>
     ensures { IfOk result (λ tree. tree ≡ first_or_absent (answer_to (implementation_seen (seen function.entry))).trees) }
 {
-    let _ = function;
     Err(AllocError)
 }
