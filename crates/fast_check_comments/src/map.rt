@@ -131,6 +131,7 @@ impl CommentMap {
     }
 
     /// Takes away the comments at a position. It takes no memory.
+    #[tactic(auto, using(crate::proofs::Removed::removed_are_gone))]
     pub fn remove(&mut self, position: SourcePos)
         ensures { self.new ≡ without_comments position self.old }
     {

@@ -1,5 +1,5 @@
 -- The two modules of the example agree but for what is hidden.
-use Rattle.std.specs.Prelude.{◌≡◌, ℕ, Bool, false, List, [], ◌∷◌, refl, ◌↔◌}
+use Rattle.std.specs.Prelude.{◌≡◌, ℕ, Bool, false, List, [], ◌∷◌, refl, ◌↔◌, slice_get, unwrap_or}
 use Rattle.std.proofs.Common.{inl, inr, arith, ap, ◌∙◌, sym, subst, subst₂}
 use Rattle.fast_check_syntax.specs.declared.kind.Kind.{Kind}
 use Rattle.fast_check_syntax.specs.declared.kind.Kind.TheVariants.{Module, VarDecl, VarDeclarator, ExportDecl, BindingIdent, TsTypeAnn, TsKeywordType, List as List'}
@@ -29,7 +29,7 @@ use Rattle.fast_check_skeleton.specs.Hidden as h
 use Rattle.fast_check_skeleton.specs.KeptComments.{kept_comments}
 use Rattle.fast_check_skeleton.specs.SameComments.{all_comments_at, SameComment, SameComments}
 use Rattle.fast_check_skeleton.specs.Skeleton.{skeleton_of}
-use Rattle.fast_check_skeleton.specs.Example.{at, scope, name, annotation, declarator, statement, exported, documented, before_tokens, text_value, first, first_comments, hidden_function, name_value, second, second_comments, renaming, around, Example}
+use Rattle.fast_check_skeleton.specs.Example.{at, scope, name, annotation, declarator, statement, exported, documented, before_tokens, with_trailing, text_value, first, first_comments, hidden_function, name_value, second, second_comments, renaming, around, Example}
 use Rattle.fast_check_skeleton.proofs.CommentsAlike.{two_worlds}
 
 -- ---- the renaming
@@ -238,6 +238,12 @@ agree_leading x y (inr (inr (inr (inr (inr (inr (inr e))))))) = absurd e
 agree_comments : SameComments renaming (kept first_comments) (kept second_comments)
 agree_comments = record { leading = agree_leading; trailing = λ p q pair. tt }
 
+other_text : SameComments renaming (kept first_comments) (kept (before_tokens (documented 122 26 ∷ []))) → ⊥
+other_text s = let e : 120 ≡ 122 = ap (λ text. unwrap_or (slice_get text 2) 0) (s.leading 10 35 (inr (inr (inl (refl, refl))))).0.text in omega (arith, e)
+
+other_trailing : SameComments renaming (kept with_trailing) (kept second_comments) → ⊥
+other_trailing s = s.trailing 39 62 (inr (inr (inr (inr (inr (inl (refl, refl)))))))
+
 first_stay : kept_comments a first first_comments ≡ before_tokens (documented 120 1 ∷ [])
 first_stay = simp (parts_node, kind_of_node, range_of_range, flag_of_flag)
 
@@ -249,6 +255,8 @@ example = record {
   one_to_one = is_renaming;
   agree = agree;
   agree_comments = agree_comments;
+  other_text = other_text;
+  other_trailing = other_trailing;
   answers = two_worlds a first first_comments b second second_comments renaming is_renaming agree agree_comments;
   skeleton = skeleton_is;
   first_stay = first_stay;

@@ -57,13 +57,17 @@ statement start number value end = var_decl (at start (end + 1)) (scope 0) (tree
 abbrev pub exported : ℕ → ℕ → Tree → ℕ → Tree
 exported start number value end = export_decl (at start (end + 1)) (statement (start + 7) number value end)
 
--- `/** x */` at a place, before what begins 9 bytes further; the name is another in `/** g */`
+-- `/** x */` at a place, or another letter in place of x, before what begins 9 bytes further
 abbrev pub documented : ℕ → ℕ → SourcePos × List Comment
 documented letter start =
     (record { 0 = start + 9 }, record { kind = Block; span = at start (start + 8); text = 42 ∷ 32 ∷ letter ∷ 32 ∷ [] } ∷ [])
 
 abbrev pub before_tokens : List (SourcePos × List Comment) → Comments
 before_tokens places = record { leading = places; trailing = [] }
+
+-- `/** x */ export const x: string = "a"; /** z */`
+abbrev pub with_trailing : Comments
+with_trailing = record { leading = documented 120 1 ∷ []; trailing = (record { 0 = 39 }, record { kind = Block; span = at 40 48; text = 42 ∷ 32 ∷ 122 ∷ 32 ∷ [] } ∷ []) ∷ [] }
 
 -- `"a"` at 35
 abbrev pub text_value : Tree
@@ -108,6 +112,9 @@ pub record Example : Type 0 where
   pub one_to_one : IsRenaming renaming
   pub agree : AgreeHidden renaming (around 23) (around 48) first second
   pub agree_comments : SameComments renaming (kept first_comments) (kept second_comments)
+  -- another text would not agree, nor a comment behind the first statement alone
+  pub other_text : SameComments renaming (kept first_comments) (kept (before_tokens (documented 122 26 ∷ []))) → ⊥
+  pub other_trailing : SameComments renaming (kept with_trailing) (kept second_comments) → ⊥
   pub answers : SameAnswers renaming (around 23) first first_comments (around 48) second second_comments
   pub skeleton : skeleton_of (around 23) first ≡ module' (at 10 39) (list (exported 10 2 never_value 38 ∷ [])) Absent
   pub first_stay : kept_comments (around 23) first first_comments ≡ before_tokens (documented 120 1 ∷ [])

@@ -92,7 +92,7 @@ statement_seen statement (d ∷ ds) =
 abbrev pub is_standing : Kind → Bool
 is_standing kind = (kind is TsInterfaceDecl) || ((kind is TsTypeAliasDecl) || (kind is TsEnumDecl))
 
--- the range of an item: that of a function declaration is its function's, and the other forms begin with it alike
+-- the range of an item: that of a function declaration is its function's, and the other forms that are spoken of begin with it alike
 abbrev pub own_range : Tree → SourceRange
 own_range item = if kind_of item is FnDecl then Function-span (FnDecl-function item) else TsInterfaceDecl-span item
 

@@ -1,4 +1,4 @@
--- The law of two worlds: a hidden edit changes no skeleton, no fault and no comment that stays.
+-- The law of two worlds: a hidden edit changes no skeleton and no fault, and at renamed positions no comment that stays.
 use Rattle.std.specs.Prelude.{◌≡◌}
 use Rattle.fast_check_syntax.specs.declared.tree.Tree.{Tree}
 use Rattle.fast_check_syntax.specs.Moves.{Renaming, IsRenaming}
