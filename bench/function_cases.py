@@ -52,6 +52,11 @@ def if_(test, cons, alt=None):
     return stmt("If", test=test, cons=cons, alt=alt)
 
 
+def namespace(*stmts):
+    body = {"TsModuleBlock": form(body=[unexported(stmt) for stmt in stmts])}
+    return {"Decl": {"TsModule": form(declare=False, id={"Ident": ident("N")}, body=body, **{"global": False, "namespace": True})}}
+
+
 def yielded(value):
     return run(expr("Yield", arg=value, delegate=False))
 
@@ -88,6 +93,14 @@ def functions():
     hidden = unexported(fn_stmt("h", [name("a"), array_pattern(name("b"))], returned(unknown())))
     yield Case("functions_that_are_not_public_go", [hidden, func("f", [], run(call(ref("h")))), func("g", [name("a")], returned(ONE))], "export function f(): void {}", private=(0, 2))
     yield Case("function_that_is_not_exported", [unexported(fn_stmt("f", [name("a", "string")]))], "function f(a: string): void {}")
+    shown = "export function f(a?: number): string { return {} as never; }"
+    number, written = name("a", "number"), [name("x", "number")]
+    yield Case("a_body_before_a_hidden_edit", [
+        func("f", [default(number, ONE)], returned(call(ref("g"), ref("a"))), ret="string"), unexported(fn_stmt("g", written, returned(binary(lit('""'), "+", ref("x")))))],
+        shown, source='export function f(a: number = 1): string { return g(a); } function g(x: number) { return "" + x; }', private=(1,))
+    body = [var_stmt("Const", declarator("t", ONE)), returned(call(free("String"), ref("t")))]
+    yield Case("a_body_after_a_hidden_edit", [func("f", [default(number, lit("2"))], *body, ret="string")], shown,
+               source="export function f(a: number = 2): string { const t = 1; return String(t); }")
     yield Case("an_exported_function_by_its_own_range", [func("f")], "", own_ranges=True)
 
 
@@ -158,6 +171,9 @@ def arrows():
         const("d", arrow([name("x", T)], ref("x"), ret=T, generics=type_params("T")))],
         "export const a = (): string => ({} as never); export const b = (): void => {}; export const c = (): Promise<T> => ({} as never); "
         "export const d = <T>(x: T): T => ({} as never);")
+
+
+def arrow_bodies():
     symbol = call(free("Symbol"), lit('"x"'))
     bodies = [lit('"a"'), lit("true"), lit("null"), lit("1n"), lit("/a/g"), template("t"), template("t", ref("x"), "u"), symbol, as_(unknown(), named("N", "string")),
               angle("object", unknown()), paren(satisfies(ONE, "number"))]
@@ -176,12 +192,17 @@ def arrows():
         const("e", arrow([], arrow([], ONE))), const("g", arrow([], as_(unknown(), function_type("void")), is_async=True))],
         "export const a = () => x; export const b = async () => x; export const c = () => [1]; export const d = () => ({ x: 1 }); "
         "export const e = () => (): number => ({} as never); export const g = async () => ({} as never) as () => void;")
+
+
+def faults_within_values():
     yield Case("arrows_of_values_that_show_nothing", [const("a", arrow([], unknown())), const("b", arrow([], unknown(), is_async=True)), const("c", array(arrow([], unknown())))],
                ["return a", "return async b", "return () => f()"])
-    yield Case("faults_within_a_value_are_told_until_it_cannot_stay", [
+    within = [
         const("a", array(arrow([], unknown()), call(ref("g")))), const("b", array(call(ref("g")), arrow([], unknown()))),
-        const("c", arrow([name("x")], array(arrow([], block(THROW)), call(ref("g"))))), const("d", arrow([], arrow([], unknown())))],
-        ["return () => f()", "type a", "type b", "return definitely () => { throw 1; }", "return c", "type x", "return () => f()"])
+        const("c", arrow([name("x")], array(arrow([], block(THROW)), call(ref("g"))))), const("d", arrow([], arrow([], unknown())))]
+    yield Case("faults_within_a_value_are_told_until_it_cannot_stay", within,
+               ["return () => f()", "type a", "type b", "return definitely () => { throw 1; }", "return c", "type x", "return () => f()"])
+    yield Case("the_first_fault_within_a_value", within, ["return () => f()"], more={"first": True})
     yield Case("an_arrow_in_an_array_in_an_object", [
         const("o", object_(pair("list", array(arrow([default(name("a"), ONE)], ref("a")), function([name("b", "string")])))))],
         "export const o = { list: [(a?: number) => a, function (b: string): void {}] };")
@@ -189,20 +210,28 @@ def arrows():
                ["return definitely (a) => { throw 1; }", "type a"])
 
 
+def module(*lists):
+    """A function for each list of parameters."""
+    return [func(f"f{place}", params) for place, params in enumerate(lists)]
+
+
+def texts(*lists):
+    """The skeletons of such functions, by their parameters."""
+    return " ".join(f"export function f{place}({params}): void {{}}" for place, params in enumerate(lists))
+
+
 def parameters():
-    def module(*lists):
-        return [func(f"f{place}", params) for place, params in enumerate(lists)]
-
-    def texts(*lists):
-        return " ".join(f"export function f{place}({params}): void {{}}" for place, params in enumerate(lists))
-
-    a, b, typed = name("a"), ref("b"), name("a", "string")
+    a, typed = name("a"), name("a", "string")
     yield Case("parameters_with_types", module(
         [typed], [name("a", "string", optional=True)], [rest(a, array_of("string"))], [array_pattern(a, name("b"), written=T)], [object_pattern("a", "b", written=T)],
         [array_pattern(a, written=T, optional=True)], [object_pattern("a", written=T, optional=True)], [rest(array_pattern(a), T)], [rest(object_pattern("a"), T)]),
         texts("a: string", "a?: string", "...a: string[]", "[]: T", "{}: T", "[]?: T", "{}?: T", "...[]: T", "...{}: T"))
     yield Case("parameters_without_types", module([a], [name("a", optional=True)], [rest(a)], [array_pattern(a)], [object_pattern("a", "b")], [rest(array_pattern(a))], [typed, name("b"), name("c")]),
                ["type a", "type a", "type ...a", "type [a]", "type { a, b }", "type ...[a]", "type b", "type c"])
+
+
+def parameters_with_defaults():
+    a, b, typed = name("a"), ref("b"), name("a", "string")
     literals = [lit('"x"'), lit("true"), lit("null"), lit("1"), lit("1n"), lit("/x/"), template("x"), call(free("Symbol")), as_(unknown(), T), paren(ONE)]
     yield Case("defaults_that_show_a_type", module(*[[default(a, value)] for value in literals]),
                texts(*[f"a?: {type}" for type in ("string", "boolean", "null", "number", "bigint", "RegExp", "string", "unique symbol", "T", "number")]))
@@ -217,16 +246,29 @@ def parameters():
         [default(a, unknown())], [default(array_pattern(a), unknown())], [default(object_pattern("a"), unknown())], [default(a, arrow([], unknown()))], [default(array_pattern(a), arrow([], block(THROW)))],
         [default(a, array(arrow([], unknown())))]),
         ["type a", "type [a]", "type { a }", "return a", "return definitely () => { throw 1; }", "return () => f()"])
+
+
+def optional_parameters():
+    a, b = name("a"), ref("b")
     yield Case("a_default_before_a_required_parameter", [func("f", [default(name("a"), ONE), name("b", "string")], ret="void")],
                "export function f(a: number | undefined, b: string): void {}", source="export function f(a = 1, b: string): void {}")
     one, required, optional = default(a, ONE), name("b", "string"), name("b", "string", optional=True)
     yield Case("which_defaults_become_optional", module(
         [default(name("a", "string"), unknown()), required], [one, optional, rest(name("c"), array_of("string"))], [one, required, default(name("c"), ONE)], [name("a", "string", optional=True), required],
         [one, array_pattern(written=T, optional=True)], [one, array_pattern(written=T)], [one, default(object_pattern(written=T), b)], [default(a, b), required], [one, default(name("b"), ref("c")), optional],
-        [default(name("a", union("string", "null")), b), name("a", "string", optional=True), required, optional, one]),
+        [default(name("a", union("string", "null")), b), name("a", "string", optional=True), required, optional, one], [default(name("a", "string", optional=True), b), required]),
         texts("a: string | undefined, b: string", "a?: number, b?: string, ...c: string[]", "a: number | undefined, b: string, c?: number", "a?: string, b: string", "a?: number, []?: T",
               "a: number | undefined, []: T", "a?: number, {}: T = {} as never", "a = b, b: string", "a?: number, b = c, b?: string",
-              "a: string | null | undefined, a?: string, b: string, b?: string, a?: number"))
+              "a: string | null | undefined, a?: string, b: string, b?: string, a?: number", "a: string | undefined, b: string"))
+    many = [default(name(f"a{place}"), ONE) for place in range(1999)]
+    yield Case("two_thousand_parameters", [func("f", many + [rest(name("last"), array_of("string"))])],
+               f"export function f({', '.join(f'a{place}?: number' for place in range(1999))}, ...last: string[]): void {{}}")
+    yield Case("two_thousand_parameters_of_which_the_last_is_required", [func("f", many + [name("last", "string")])],
+               f"export function f({', '.join(f'a{place}: number | undefined' for place in range(1999))}, last: string): void {{}}")
+
+
+def other_parameters():
+    a, b, one, required = name("a"), ref("b"), default(name("a"), ONE), name("b", "string")
     inner, invalid, expression = name("b", T), {"Invalid": form()}, {"Expr": member(ref("a"), "b")}
     yield Case("parameters_that_are_no_parameters", module([default(rest(a, T), b)], [default(default(a, b), b)], [default(invalid, b)], [default(expression, b)], [invalid], [expression], [inner]),
                ["destructuring ...a: T = b", "destructuring a = b = b", "destructuring @ = b", "destructuring a.b = b", "destructuring @", "destructuring a.b"])
@@ -237,11 +279,6 @@ def parameters():
         "export const a = (a: number | undefined, {}: T, ...c: T) => a; export const g = function (a: number | undefined, b: string, [] = b): void {};")
     yield Case("the_faults_of_parameters_come_after_those_of_the_body", [func("g", [a, default(name("b"), arrow([name("c")], unknown())), rest(name("d"))], returned(ONE))],
                ["return g", "type a", "return b", "type c", "type ...d"])
-    many = [default(name(f"a{place}"), ONE) for place in range(1999)]
-    yield Case("two_thousand_parameters", [func("f", many + [rest(name("last"), array_of("string"))])],
-               f"export function f({', '.join(f'a{place}?: number' for place in range(1999))}, ...last: string[]): void {{}}")
-    yield Case("two_thousand_parameters_of_which_the_last_is_required", [func("f", many + [name("last", "string")])],
-               f"export function f({', '.join(f'a{place}: number | undefined' for place in range(1999))}, last: string): void {{}}")
 
 
 def values_that_stay():
@@ -249,8 +286,10 @@ def values_that_stay():
     yield Case("assertions_lose_what_they_assert", [const("r", array(as_(ONE, "number"), freeze(lit('"x"'))))],
                'export const r = [({} as never) as number, Object.freeze("x")];', source='export const r = [1 as number, Object.freeze("x")];')
     a, b = ref("a"), ref("b")
+    typed_freeze = freeze(a)
+    typed_freeze["Call"]["type_args"] = instantiation("string")
     values = [
-        (expr("This"), "this"), (a, "a"), (array(lit('"x"'), lit("true"), lit("null"), lit("1"), lit("1n"), lit("/x/g")), '["x", true, null, 1, 1n, /x/g]'),
+        (typed_freeze, "Object.freeze<string>(a)"), (expr("This"), "this"), (a, "a"), (array(lit('"x"'), lit("true"), lit("null"), lit("1"), lit("1n"), lit("/x/g")), '["x", true, null, 1, 1n, /x/g]'),
         (array(None, a, spread(b), array()), "[, a, ...b, []]"), (object_(), "{}"),
         (object_(shorthand("a"), pair("b", ONE), pair(key_literal('"c"'), ONE), pair(key_literal("1"), a), pair(key_literal("2n"), b)), '{ a, b: 1, "c": 1, 1: a, 2n: b }'),
         (object_(pair(computed(as_t(a)), as_t(b)), spread_of(as_t(a)), assigned("c", as_t(b))), "{ [({} as never) as T]: ({} as never) as T, ...({} as never) as T, c = ({} as never) as T }"),
@@ -315,7 +354,8 @@ def returns():
     others = [
         run(inner), run(call(paren(inner))), var_stmt("Const", declarator("x", inner)), fn_stmt("g", [], one), {"Decl": {"Class": {"ident": ident("C"), "declare": False, "class": class_(inner)}}}, thrown(inner),
         if_(inner, empty), stmt("While", test=inner, body=empty), stmt("Switch", discriminant=inner, cases=[form(test=inner, cons=[])]), stmt("ForOf", is_await=False, left=each, right=inner, body=empty),
-        run(arrow([], block(one))), run(object_(method("m", one))), run(object_(getter("g", one))), empty, stmt("Debugger"), stmt("Break", label=None), stmt("Continue", label=None)]
+        run(arrow([], block(one))), run(object_(method("m", one))), run(object_(getter("g", one))), empty, stmt("Debugger"), stmt("Break", label=None), stmt("Continue", label=None),
+        {"Decl": {"Using": form(is_await=False, decls=[declarator("x", inner)])}}, namespace(one)]
     count = range(len(others))
     yield Case("statements_that_no_return_is_found_in", [const(f"v{place}", function([], other)) for place, other in enumerate(others)], [f"return definitely v{place}" for place in count])
     yield Case("declared_functions_enter_no_others", [func(f"v{place}", [], other) for place, other in enumerate(others)], " ".join(f"export function v{place}(): void {{}}" for place in count))
@@ -346,7 +386,12 @@ GROUPS = [
     ("signatures stay, and implementations of overloads take and give anything", signatures),
     ("what is ambient stands as it is written, functions in it too", ambient),
     ("function expressions and arrows", arrows),
-    ("parameters", parameters),
+    ("what is behind an arrow shows its type, or stays", arrow_bodies),
+    ("functions within values are looked at until something cannot stay", faults_within_values),
+    ("parameters keep their types, and patterns are emptied", parameters),
+    ("defaults show types, or stay", parameters_with_defaults),
+    ("a parameter with a default becomes optional where none that has to be given follows", optional_parameters),
+    ("other patterns, and parameters of function expressions and arrows", other_parameters),
     ("values that show no type stay where nothing in them has to be run", values_that_stay),
     ("others are faults", values_that_do_not_stay),
     ("patterns have no skeleton", destructuring),
