@@ -85,6 +85,7 @@ def functions():
         func("early", [], returned(ONE), returned()), func("later", [], returned(ONE), is_async=True)],
         ["return one", "return more", "return late", "return early", "return async later"])
     yield Case("generator_without_type", [func("g", is_generator=True)], ["return 18-19"], source="export function* g() {}")
+    yield Case("generator_without_body", [func("g", body=False, is_generator=True)], ["return g"])
     yield Case("generators_whatever_they_return", [
         func("a", [], returned(), is_generator=True), func("b", [], returned(ONE), is_generator=True), func("c", [], THROW, is_generator=True, is_async=True)],
         ["return a", "return b", "return async c"])
@@ -166,6 +167,9 @@ def arrows():
         const("d", arrow([], block(returned()), ret="void")), const("e", arrow([], block(run(unknown())), ret=promise("void"), is_async=True))],
         "export const a = (): void => {}; export const b = (): Promise<void> => ({} as never); export const c = (): string => ({} as never); "
         "export const d = (): void => {}; export const e = (): Promise<void> => ({} as never);")
+    marked = arrow([], block())
+    marked["Arrow"]["is_generator"] = True
+    yield Case("a_generator_mark_on_an_arrow_plays_no_part", [const("a", marked)], "export const a = (): void => {};")
     yield Case("arrows_with_written_types", [
         const("a", arrow([], unknown(), ret="string")), const("b", arrow([], unknown(), ret="void")), const("c", arrow([], unknown(), ret=promise(T), is_async=True)),
         const("d", arrow([name("x", T)], ref("x"), ret=T, generics=type_params("T")))],
@@ -261,8 +265,7 @@ def optional_parameters():
               "a: number | undefined, []: T", "a?: number, {}: T = {} as never", "a = b, b: string", "a?: number, b = c, b?: string",
               "a: string | null | undefined, a?: string, b: string, b?: string, a?: number", "a: string | undefined, b: string"))
     many = [default(name(f"a{place}"), ONE) for place in range(1999)]
-    yield Case("two_thousand_parameters", [func("f", many + [rest(name("last"), array_of("string"))])],
-               f"export function f({', '.join(f'a{place}?: number' for place in range(1999))}, ...last: string[]): void {{}}")
+    yield Case("two_thousand_parameters_without_types", [func("f", [name(f"a{place}") for place in range(2000)])], ["type a0"], more={"first": True})
     yield Case("two_thousand_parameters_of_which_the_last_is_required", [func("f", many + [name("last", "string")])],
                f"export function f({', '.join(f'a{place}: number | undefined' for place in range(1999))}, last: string): void {{}}")
 
