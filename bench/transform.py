@@ -5,7 +5,7 @@ For each shape and size it prints the input's megabytes, the program's seconds a
 library of Python (orjson, or json where that isn't there) needs to load and dump the same file, and the ratio of both.
 The program has to be built: run `./fast-check transform examples/first.json` once.
 
-Usage: bench/transform.py [MEGABYTES ..]        (1 2 5 10 20 where none is given)
+Usage: bench/transform.py [--with-functions] [MEGABYTES ..]        (1 2 5 10 20 where none is given)
 """
 import json
 import os
@@ -14,6 +14,11 @@ import subprocess
 import sys
 import tempfile
 import time
+
+sys.dont_write_bytecode = True
+
+import function_cases as cases
+import trees
 
 try:
     import orjson
@@ -55,9 +60,43 @@ def statement(declarators, start, end):
     return {"ModuleDecl": {"ExportDecl": {"span": [start, end], "decl": {"Var": var}}}}
 
 
+def functions():
+    """Two functions and an arrow, laid out: types, defaults, patterns, a rest, bodies of some statements, an object."""
+    string, one, first = trees.name("first", "string"), trees.lit("1"), trees.ref("first")
+    call = trees.call(trees.ref("g"), first)
+    loop = trees.stmt("ForOf", is_await=False, left={"Pat": trees.name("each")}, right=trees.ref("others"), body=trees.run(call))
+    typed = cases.func("f", [string, trees.default(trees.name("second", "number"), one), trees.default(trees.object_pattern("a", "b", written=cases.T), trees.object_()),
+                             trees.rest(trees.name("others"), trees.array_of("string"))],
+                       trees.var_stmt("Const", trees.declarator("sum", trees.binary(first, "+", one))), cases.if_(first, trees.returned(call)), loop, trees.returned(first), ret="string")
+    untyped = cases.func("h", [trees.default(trees.name("a"), one), trees.default(trees.name("b"), trees.lit('"b"'))], trees.run(call), loop)
+    value = trees.object_(trees.pair("name", first), trees.pair("at", trees.array(one, one)), trees.pair("next", trees.arrow([string], call, ret="void")))
+    return trees.lay_items([typed, untyped, cases.const("v", trees.arrow([string, trees.default(trees.name("b"), one)], trees.paren(value)))])
+
+
+def moved(node, by):
+    """A tree that stands further on in the text."""
+    if isinstance(node, dict):
+        return {field: [place + by for place in part] if field in ("span", "dot3_token") else moved(part, by) for field, part in node.items()}
+    return [moved(part, by) for part in node] if isinstance(node, list) else node
+
+
+def module_of_functions(size):
+    """A module of about `size` bytes of functions and arrows, all of which are public."""
+    items, text = functions()
+    step, body, ranges = len(text) + 1, [], []
+    for number in range(max(1, size // len(json.dumps(items, separators=(",", ":"))))):
+        body += [moved(item, number * step) for item in items]
+    for item in body:
+        export = item["ModuleDecl"]["ExportDecl"]
+        ranges += [decl["span"] for decl in export["decl"]["Var"]["decls"]] if "Var" in export["decl"] else [export["span"]]
+    return request(body, body[-1]["ModuleDecl"]["ExportDecl"]["span"][1], ranges)
+
+
 def module(shape, size):
-    """A module of about `size` bytes: a statement for each declarator (`items`), one statement for all (`wide`), or
-    values nested deep behind written types (`deep`). Every second declarator is public."""
+    """A module of about `size` bytes: a statement for each declarator (`items`), one statement for all (`wide`), values
+    nested deep behind written types (`deep`), or `functions`. Every second declarator of the first three is public."""
+    if shape == "functions":
+        return module_of_functions(size)
     one = len(json.dumps(statement([declarator(100000, 5000000, shape)], 4999990, 5000030)))
     count = max(1, size // one)
     ranges, declarators, place = [], [], 1
@@ -70,7 +109,11 @@ def module(shape, size):
         body = [statement(declarators, 1, place)]
     else:
         body = [statement([d], d["span"][0] - 14, d["span"][1] + 1) for d in declarators]
-    source = {"media_type": "TypeScript", "text": "", "program": {"Module": {"span": [1, place], "body": body, "shebang": None}},
+    return request(body, place, ranges)
+
+
+def request(body, end, ranges):
+    source = {"media_type": "TypeScript", "text": "", "program": {"Module": {"span": [1, end], "body": body, "shebang": None}},
               "comments": {"leading": [], "trailing": []}, "unresolved_context": 1}
     return {"module": {"specifier": "file:///p/mod.ts", "source": source}, "ranges": ranges, "impls": [], "first": False}
 
@@ -98,9 +141,10 @@ def peak_of(path):
 
 
 def main():
-    sizes = [int(word) for word in sys.argv[1:]] or [1, 2, 5, 10, 20]
-    print(f"shape    MB in   seconds   MB peak   {NAME} load+dump   ratio")
-    for shape in ("items", "wide", "deep"):
+    with_functions = "--with-functions" in sys.argv[1:]
+    sizes = [int(word) for word in sys.argv[1:] if word != "--with-functions"] or [1, 2, 5, 10, 20]
+    print(f"shape       MB in   seconds   MB peak   {NAME} load+dump   ratio")
+    for shape in ("items", "wide", "deep") + ("functions",) * with_functions:
         for size in sizes:
             with tempfile.NamedTemporaryFile(suffix=".json") as file:
                 file.write(json.dumps(module(shape, size * 1000000), separators=(",", ":")).encode())
@@ -109,7 +153,7 @@ def main():
                 run = lambda: subprocess.run([PROGRAM, "transform", file.name], stdout=subprocess.DEVNULL, check=True)
                 program = best(3, run)
                 library = best(3, lambda: DUMP(LOAD(open(file.name, "rb").read())))
-                print(f"{shape:6} {len(text) / 1e6:7.2f} {program:9.3f} {peak_of(file.name):9.0f} {library:18.3f} {program / library:7.2f}", flush=True)
+                print(f"{shape:9} {len(text) / 1e6:7.2f} {program:9.3f} {peak_of(file.name):9.0f} {library:18.3f} {program / library:7.2f}", flush=True)
 
 
 main()

@@ -2,34 +2,28 @@
 """Writes the vectors of `crates/fast_check_vectors`: its inputs (`data/`), and what it must print (`stdout`).
 
 Each case stands here as TypeScript with what is public of it and what has to come out. The trees of the sources and of
-the skeletons are laid out by the rules of this script alone: the program's own output is nowhere taken for right.
+the skeletons are laid out by the rules of this script and its modules alone (`trees`, `skeletons`, `function_cases`): the
+program's own output is nowhere taken for right.
 
-Usage: bench/vectors.py
+Usage: bench/vectors.py [--with-functions]        (with functions, and with values and patterns of every form)
 """
 import json
 import os
 import shutil
+import sys
+
+sys.dont_write_bytecode = True
+
+import function_cases
+from skeletons import Skeleton, diagnostic
+from trees import DUMMY, Source, lay_items
 
 TOP = os.path.dirname(os.path.dirname(os.path.abspath(__file__)))
 CRATE = os.path.join(TOP, "crates/fast_check_vectors")
 DATA = os.path.join(CRATE, "data")
 SPECIFIER = "file:///p/mod.ts"
-DUMMY = [0, 0]
 
 # ---- sources: a text that grows, with the tree of what is written
-
-
-class Source:
-    def __init__(self):
-        self.text = ""
-
-    def here(self):
-        return len(self.text.encode()) + 1
-
-    def write(self, text):
-        start = self.here()
-        self.text += text
-        return [start, self.here()]
 
 
 def ident(span, name, ctxt=0):
@@ -177,6 +171,7 @@ with open(os.path.join(TOP, "crates/fast_check_tables/specs/Diagnostic.antt")) a
 # ---- the bench
 
 CASES, STDOUT = [], []
+WITH_FUNCTIONS = "--with-functions" in sys.argv[1:]
 
 
 def line(value):
@@ -212,6 +207,14 @@ def refused(name, content, word="bad-form"):
 def answered(name, content, answer):
     put(f"{name}.json", content)
     case(f"transform {name}.json", 1 if "Err" in answer else 0, line(answer))
+
+
+def answered_with_functions(name, content, answer):
+    """A module that is taken where functions and all values are, and refused where they are not yet."""
+    if WITH_FUNCTIONS:
+        answered(name, content, answer)
+    else:
+        refused(name, content)
 
 
 def first_module():
@@ -335,13 +338,17 @@ def values():
     answered("symbol", *valued("Const", symbol_call(1, TEXT), UNIQUE_SYMBOL))
     answered("symbol_without_text", *valued("Const", symbol_call(1), UNIQUE_SYMBOL))
     answered("symbol_for", *valued("Const", symbol_call(1, TEXT, member="for"), UNIQUE_SYMBOL))
-    refused("symbol_of_the_module", valued("Const", symbol_call(2, TEXT), None)[0])
-    refused("symbol_of_a_number", valued("Const", symbol_call(1, {"Lit": {"Num": {"span": [3, 4], "raw": "1"}}}), None)[0])
+    no_type = {"Err": [missing_type([1, 2])]}
+    answered_with_functions("symbol_of_the_module", valued("Const", symbol_call(2, TEXT), None)[0], no_type)
+    answered_with_functions("symbol_of_a_number", valued("Const", symbol_call(1, {"Lit": {"Num": {"span": [3, 4], "raw": "1"}}}), None)[0], no_type)
     number = keyword("TsNumberKeyword", [5, 9])
     asserted = lambda type_: {"TsAs": {"span": [1, 9], "expr": {"Ident": ident([1, 2], "x")}, "type_ann": type_}}
     answered("asserted_keyword", *valued("Const", asserted(number), number))
     answered("asserted_reference", *valued("Let", asserted(reference("Name")), reference("Name")))
-    refused("asserted_function", valued("Const", asserted(function_type()), None)[0])
+    emptied = {"TsAs": dict(asserted(function_type())["TsAs"], expr={"Paren": {"span": DUMMY, "expr": NEVER}})}
+    left, answer = valued("Const", asserted(function_type()), None, emptied)
+    answer["Ok"]["program"]["body"][0]["Stmt"]["Decl"]["Var"]["decls"][0]["name"]["Ident"]["type_ann"] = None
+    answered_with_functions("asserted_function", left, answer)
     answered("angle_brackets", *valued("Const", {"TsTypeAssertion": {"span": [1, 9], "expr": {"Ident": ident([1, 2], "x")}, "type_ann": number}}, number))
     satisfied = {"Paren": {"span": [1, 30], "expr": {"TsSatisfies": {"span": [2, 29], "expr": TEXT, "type_ann": keyword("TsStringKeyword", [20, 29])}}}}
     answered("satisfies_under_let", *valued("Let", satisfied, keyword("TsStringKeyword")))
@@ -487,16 +494,114 @@ def refusals():
     refused("a_fraction_anywhere", changed(("more",), [{"deep": 0.5}]))
     refused("an_exponent_anywhere", json.dumps(changed(("more",), 7)).replace(": 7}", ": 1e3}").encode())
     title("modules that are not carried yet")
-    empty = {"span": DUMMY, "stmts": [], "ctxt": 0}
-    refused("function", changed(BODY + (0,), {"Stmt": {"Decl": {"Fn": {"ident": ident(DUMMY, "f"), "function": {"params": [], "body": empty}}}}}))
-    refused("value_without_type", changed(FIRST_VAR + ("decls", 0, "init"), {"Ident": ident(DUMMY, "y")}))
-    refused("pattern", changed(FIRST_VAR + ("decls", 0, "name"), {"Array": {"elems": []}}))
+    not_carried_without_functions()
     assignment = {"Assign": {"op": "=", "left": {"Simple": {"Ident": ident(DUMMY, "a")}}, "right": {"Ident": ident(DUMMY, "b")}}}
     refused("assignment", changed(BODY + (0,), {"Stmt": {"Expr": {"expr": assignment}}}))
     refused("import", changed(BODY + (0,), {"ModuleDecl": {"Import": {"src": {"value": "./a"}, "phase": "evaluation"}}}))
     title("comments of another form")
     refused("a_comment_of_no_kind", changed(SOURCE + ("comments", "leading"), [[1, [{"span": [1, 5], "text": " a"}]]]))
     refused("comments_without_position", changed(SOURCE + ("comments", "leading"), [[{"kind": "Line", "text": " a"}]]))
+
+
+def not_carried_without_functions():
+    empty = {"span": DUMMY, "stmts": [], "ctxt": 0}
+    rest = first_module()
+    rest.skeleton = rest.skeleton[1:]
+    function = {"Stmt": {"Decl": {"Fn": {"ident": ident(DUMMY, "f"), "function": {"params": [], "body": empty}}}}}
+    answered_with_functions("function", changed(BODY + (0,), function), rest.answer())
+    value = {"Ident": ident(DUMMY, "y")}
+    left = first_module()
+    declarator = left.skeleton[0]["ModuleDecl"]["ExportDecl"]["decl"]["Var"]["decls"][0]
+    declarator["name"]["Ident"]["type_ann"], declarator["init"] = None, value
+    answered_with_functions("value_without_type", changed(FIRST_VAR + ("decls", 0, "init"), value), left.answer())
+    pattern = {"Err": [diagnostic(("unsupported-destructuring", DUMMY, None, None), SPECIFIER, DOCS)]}
+    answered_with_functions("pattern", changed(FIRST_VAR + ("decls", 0, "name"), {"Array": {"elems": []}}), pattern)
+    if WITH_FUNCTIONS:
+        refused("class", changed(BODY + (0,), {"Stmt": {"Decl": {"Class": {"ident": ident(DUMMY, "C"), "class": {"body": []}}}}}))
+
+
+# ---- functions and values of all forms: what is stated by hand has to agree with what the rules give
+
+# each group of cases with what it shows
+functions = function_cases.GROUPS
+
+
+def public_ranges(case, places, own_ranges=False):
+    """The ranges of the declarations of the items at these places."""
+    ranges = []
+    for place in places:
+        item = case.items[place]
+        export = item["ModuleDecl"]["ExportDecl"] if "ModuleDecl" in item else None
+        decl = export["decl"] if export else item["Stmt"]["Decl"]
+        if "Var" in decl:
+            ranges += [declarator["span"] for declarator in decl["Var"]["decls"]]
+        else:
+            ranges.append(decl["Fn"]["function"]["span"] if export is None or own_ranges else export["span"])
+    return ranges
+
+
+def stated(fault, text):
+    """A fault in words, with the text of its range and with its positions."""
+    code, (start, end), is_definitely, is_async = fault
+    words = {"missing-explicit-type": "type", "missing-explicit-return-type": "return", "unsupported-destructuring": "destructuring"}[code]
+    words += " definitely" * bool(is_definitely) + " async" * bool(is_async)
+    return {f"{words} {text.encode()[start - 1:end - 1].decode()}", f"{words} {start}-{end}"}
+
+
+def levels(value):
+    inner = value.values() if isinstance(value, dict) else value if isinstance(value, list) else None
+    return 0 if inner is None else 1 + max(map(levels, inner), default=0)
+
+
+def agree(name, what, stated_by_hand, given):
+    if stated_by_hand != given:
+        sys.exit(f"{name}: the {what} is stated as\n  {stated_by_hand}\nand given as\n  {given}")
+
+
+def function_case(case):
+    """Lays a case out, and writes its request and its answer."""
+    case.items, text = lay_items(case.items)
+    media_type, first = case.more.get("media_type", "TypeScript"), case.more.get("first", False)
+    agree(case.name, "source", case.source or text, text)
+    ranges = public_ranges(case, [place for place in range(len(case.items)) if place not in case.private], case.own_ranges)
+    impls = public_ranges(case, case.implementations)
+    made = Skeleton(case.items, ranges, impls, media_type)
+    faults = made.faults[:1] if first else made.faults
+    given = [stated(fault, text) for fault in faults] if faults else lay_items(made.items)[1]
+    if isinstance(case.expected, list) and faults and len(given) == len(case.expected):
+        given = [wanted if wanted in found else found for wanted, found in zip(case.expected, given)]
+    agree(case.name, "answer", case.expected, given)
+    content = request(text, case.items, ranges, media_type, impls=impls, first=first)
+    if case.more.get("is_script"):
+        content["module"]["source"]["program"] = {"Script": dict(program([item["Stmt"] for item in case.items], text))}
+    if "levels" in case.more:
+        agree(case.name, "depth", case.more["levels"], levels(content))
+    answer = {"Err": [diagnostic(fault, SPECIFIER, DOCS) for fault in faults]} if faults else {"Ok": module_answer(program(made.items, text))}
+    answered(case.name, content, answer)
+
+
+def comments_of_functions():
+    title("comments before functions that stay, and within them, stay")
+    hidden, shown = function_cases.func("h", [], function_cases.THROW), function_cases.func("f", [], function_cases.THROW)
+    (hidden, shown), text = lay_items([hidden, shown])
+    case = function_cases.Case("comments_of_functions", [hidden, shown], None)
+    start = lambda item: item["ModuleDecl"]["ExportDecl"]["span"][0]
+    inside = lambda item: item["ModuleDecl"]["ExportDecl"]["decl"]["Fn"]["function"]["body"]["stmts"][0]["Throw"]["span"][0]
+    doc = lambda place: [place, [{"kind": "Block", "span": [place, place + 9], "text": "* doc "}]]
+    ranges = public_ranges(case, [1])
+    content, answer = request(text, case.items, ranges), {"Ok": module_answer(program(Skeleton(case.items, ranges).items, text))}
+    places = [start(hidden), inside(hidden), start(shown), inside(shown)]
+    content["module"]["source"]["comments"] = {"leading": [doc(place) for place in places], "trailing": []}
+    answer["Ok"]["comments"]["leading"] = [doc(place) for place in places[1:]]
+    answered(case.name, content, answer)
+
+
+def all_functions():
+    for words, cases in functions:
+        title(words)
+        for case in cases():
+            function_case(case)
+    comments_of_functions()
 
 
 def words():
@@ -515,6 +620,8 @@ def main():
     values()
     types()
     comments()
+    if WITH_FUNCTIONS:
+        all_functions()
     defaults()
     refusals()
     words()
