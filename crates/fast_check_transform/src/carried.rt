@@ -36,7 +36,10 @@ fn is_program(kind: Kind) -> bool
 fn are_carried_items(items: Part<'_>) -> bool
     ensures { result ≡ list_all is_carried_item (parts (seen items.entry)) }
 {
-    items.parts().iter().all(|item| is_carried_item(item.read()))
+    items
+        .parts()
+        .iter()
+        .all(|item| is_carried_item(item.read()))
 }
 
 fn is_carried_item(item: Part<'_>) -> bool

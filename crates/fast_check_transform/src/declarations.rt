@@ -35,12 +35,7 @@ fn is_ambient(asked: Asked<'_>, statement: Part<'_>) -> bool
 }
 
 /// A declarator with this type and this value.
-fn retyped(
-    alloc: Global,
-    declarator: Part<'_>,
-    ty: Tree,
-    value: Tree,
-) -> Result<Tree, AllocError>
+fn retyped(alloc: Global, declarator: Part<'_>, ty: Tree, value: Tree) -> Result<Tree, AllocError>
     ensures { IfOk result (λ tree. tree ≡ retyped (seen declarator.entry) ty value) }
 {
     let declarator = VarDeclarator::of(declarator);
@@ -121,12 +116,7 @@ fn ident_declarator(
         return retyped(alloc, declarator, ty.to_tree(alloc)?, never_value(alloc)?);
     }
     match maybe_infer_type(alloc, init, mutability, asked.unresolved)? {
-        Some(ty) => retyped(
-            alloc,
-            declarator,
-            type_ann(alloc, ty)?,
-            never_value(alloc)?,
-        ),
+        Some(ty) => retyped(alloc, declarator, type_ann(alloc, ty)?, never_value(alloc)?),
         None => valued_declarator(alloc, asked, declarator, faults),
     }
 }

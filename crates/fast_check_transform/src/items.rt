@@ -43,13 +43,22 @@ fn transform_signature(
     ensures faults { IfOk result (λ _. faults.new.items ≡ faults.old.items ++ signature_faults (Asked-around asked.entry) place (seen decl.entry)) }
 {
     let FnDecl {
-        ident, function, ..
+        ident,
+        function,
+        ..
     } = FnDecl::of(decl);
     if asked.public_ranges.is_impl_with_overloads(&place) {
         return transform_implementation(alloc, function);
     }
     let name = Ident::of(ident).span;
-    transform_fn(alloc, asked.unresolved, FunctionKind::DeclarationLike, name, function, faults)
+    transform_fn(
+        alloc,
+        asked.unresolved,
+        FunctionKind::DeclarationLike,
+        name,
+        function,
+        faults,
+    )
 }
 
 /// A public function: in a declaration file as it is written; an implementation behind overloads, by the count of its
