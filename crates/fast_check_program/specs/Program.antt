@@ -1,14 +1,17 @@
 -- What the program does with its words and its file.
-use Rattle.std.specs.Prelude.{◌≡◌, ℕ, ◌<◌, List, [], ◌∷◌, Bool, true, false, Option, Some, None, codes, IsUtf8, ◌⊎◌}
+use Rattle.std.specs.Prelude.{◌≡◌, ℕ, ◌<◌, IsTrue, List, [], ◌∷◌, Bool, true, false, Option, Some, None, codes, IsUtf8, ◌⊎◌}
 use Rattle.std.specs.Str.{bytes_eq}
+use Rattle.std.specs.Io.KnownBytes.{Appends}
 use Rattle.serde_json.specs.Data.{Data}
 use Rattle.serde_json.specs.Read.{read}
 use Rattle.fast_check_tables.specs.EsModule.{EsModule}
 use Rattle.fast_check_tables.specs.PublicRanges.{PublicRanges}
 use Rattle.fast_check_transform.specs.Transform.{IsCarried}
+use Rattle.fast_check_program.specs.declared.ending.Ending.{Ending}
 use Rattle.fast_check_program.specs.declared.refusal.Refusal.{Refusal}
 use Rattle.fast_check_program.specs.declared.refusal.Refusal.TheVariants as refusals
 use Rattle.fast_check_program.specs.Answer.{IsAnswer}
+use Rattle.fast_check_program.specs.Refusal.{line_of, status_of}
 use Rattle.fast_check_program.specs.Request.{Request, request_of, IsModule, IsPublic}
 
 -- the words are a command that is there, and one file
@@ -60,10 +63,10 @@ RefusesBytes _ bytes = ⊥
 
 -- ---- the file: nothing where it does not open, else what is known of its bytes
 
--- it opens, and where its bytes are known, this holds of them
+-- it opens, and this holds of its bytes; of some bytes, where they are not known
 abbrev pub OfFile : (List ℕ → Type 0) → Option (Option (List ℕ)) → Type 0
 OfFile P None = ⊥
-OfFile P (Some None) = Unit {0}
+OfFile P (Some None) = (bytes : List ℕ) × P bytes
 OfFile P (Some (Some bytes)) = P bytes
 
 -- why it is not read: any reader may fail, and memory may run out once there is one
@@ -84,3 +87,13 @@ Answers words file line status = (is_call words ≡ true) × (status < 2) × OfF
 
 abbrev pub HasAnswer : List (List ℕ) → Option (Option (List ℕ)) → Type 0
 HasAnswer words file = (line : List ℕ) × (status : ℕ) × Answers words file line status
+
+-- ---- the streams: what is known of the bytes that one held and holds then
+
+-- the refusal gives the status, and its line is what is written, where that is taken
+abbrev pub IsTold : Refusal → Option (List ℕ) → Option (List ℕ) → Ending → Type 0
+IsTold refusal old new ending = (ending.status ≡ status_of refusal) × (IsTrue ending.is_told → Appends old new (line_of refusal))
+
+-- the line of an answer is what is written
+abbrev pub IsAnswered : List (List ℕ) → Option (Option (List ℕ)) → Option (List ℕ) → Option (List ℕ) → Ending → Type 0
+IsAnswered words file old new ending = IsTrue ending.is_told × ((line : List ℕ) × Appends old new line × Answers words file line ending.status)

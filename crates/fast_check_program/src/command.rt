@@ -1,10 +1,8 @@
-ghost use Rattle.std.specs.Prelude.{◌≡◌, ◌≢◌, ◌<◌, ◌≤◌, List, ℕ, map, option_map, IfOk, IfErr, IsTrue, false, ◌⊎◌};
-ghost use Rattle.std.specs.Io.KnownBytes.{Appends};
+ghost use Rattle.std.specs.Prelude.{◌≡◌, ◌<◌, ◌≤◌, map, option_map, IfOk, IfErr, false, ◌⊎◌};
 ghost use Rattle.std.specs.String.{string_bytes};
 ghost use Rattle.fast_check_transform.specs.Transform.{IsCarried};
 ghost use Rattle.fast_check_program.specs.Answer.{IsAnswer};
-ghost use Rattle.fast_check_program.specs.Program.{is_call, IsAnswerTo, RefusesBytes, OfFile, IsReadRefusal, Refuses, Answers, HasAnswer};
-ghost use Rattle.fast_check_program.specs.Refusal.{line_of, status_of};
+ghost use Rattle.fast_check_program.specs.Program.{is_call, IsAnswerTo, RefusesBytes, OfFile, IsReadRefusal, Refuses, Answers, HasAnswer, IsTold, IsAnswered};
 
 use crate::answer::print_line;
 use crate::ending::Ending;
@@ -34,13 +32,11 @@ pub fn run<R: Read + Drop, O: Write, E: Write>(
     out: &mut O,
     err: &mut E,
 ) -> Ending
-    ensures usage { is_call (map string_bytes words.now) ≡ false → (result.status ≡ 2) × (out.new ≡ out.old)
-        × (IsTrue result.is_told → Appends (E.contents err.old) (E.contents err.new) (line_of Refusal.Usage)) }
-    ensures answer { result.status < 2 → IsTrue result.is_told × (err.new ≡ err.old)
-        × ((line : List ℕ) × Appends (O.contents out.old) (O.contents out.new) line
-        × Answers (map string_bytes words.now) (option_map R.remaining input) line result.status) }
-    ensures refusal { 2 ≤ result.status → (refusal : Refusal) × (result.status ≡ status_of refusal)
-        × (IsTrue result.is_told → Appends (E.contents err.old) (E.contents err.new) (line_of refusal))
+    ensures usage { is_call (map string_bytes words.now) ≡ false →
+        IsTold Refusal.Usage (E.contents err.old) (E.contents err.new) result × (out.new ≡ out.old) }
+    ensures answer { result.status < 2 →
+        IsAnswered (map string_bytes words.now) (option_map R.remaining input) (O.contents out.old) (O.contents out.new) result × (err.new ≡ err.old) }
+    ensures refusal { 2 ≤ result.status → (refusal : Refusal) × IsTold refusal (E.contents err.old) (E.contents err.new) result
         × ((Refuses (map string_bytes words.now) (option_map R.remaining input) refusal × (out.new ≡ out.old))
         ⊎ ((refusal ≡ Refusal.Unwritable) × HasAnswer (map string_bytes words.now) (option_map R.remaining input))) }
 {

@@ -1,5 +1,5 @@
-ghost use Rattle.std.specs.Prelude.{◌≡◌, IsTrue};
-ghost use Rattle.std.specs.Io.KnownBytes.{Appends};
+ghost use Rattle.std.specs.Prelude.{◌≡◌};
+ghost use Rattle.fast_check_program.specs.Program.{IsTold};
 ghost use Rattle.fast_check_program.specs.Refusal.{line_of, status_of};
 
 use crate::ending::Ending;
@@ -50,8 +50,7 @@ impl Refusal {
 
     /// Writes the line, and answers the status, with whether the line was taken. A line that is not taken changes no status.
     pub fn told<E: Write>(self, err: &mut E) -> Ending
-        ensures status { result.status ≡ status_of self }
-        ensures line { IsTrue result.is_told → Appends (E.contents err.old) (E.contents err.new) (line_of self) }
+        ensures { IsTold self (E.contents err.old) (E.contents err.new) result }
     {
         let written = err.write_all(self.line().as_bytes());
         Ending {

@@ -5,4 +5,4 @@ use Rattle.fast_check_program.proofs.command.run.Goals as goal
 pub returns-in-Ok-clause-refusal : goal.returns-in-Ok-clause-refusal
 returns-in-Ok-clause-refusal g c =
     let answer = c.in-Ok.answer in
-    λ status. (refusals.Unwritable, c.told.ensures.status, c.told.ensures.line, inr (refl, (string_bytes answer.line, answer.status, c.in-Ok.ensures.answer)))
+    λ status. (refusals.Unwritable, c.told.ensures, inr (refl, (string_bytes answer.line, answer.status, c.in-Ok.ensures.answer)))
