@@ -22,11 +22,12 @@ fn main(rt: HostRuntime) -> ExitCode {
     let mut out = rt.stdout();
     let mut err = rt.stderr();
     let Ok(words) = words(&rt, rt.alloc()) else {
-        return ExitCode::from(Refusal::OutOfMemory.told(&mut err));
+        return ExitCode::from(Refusal::OutOfMemory.told(&mut err).status);
     };
     let file = match words.as_slice() {
         [_, path] => File::open(&rt, path.as_str()).ok(),
         _ => None,
     };
-    ExitCode::from(run(rt.alloc(), words.as_slice(), file, &mut out, &mut err))
+    let ending = run(rt.alloc(), words.as_slice(), file, &mut out, &mut err);
+    ExitCode::from(ending.status)
 }

@@ -1,10 +1,17 @@
-use crate::answer::print_answer;
+ghost use Rattle.std.specs.Prelude.{◌≡◌, ◌<◌, ◌≤◌, map, option_map, IfOk, IfErr, false, ◌⊎◌};
+ghost use Rattle.std.specs.String.{string_bytes};
+ghost use Rattle.fast_check_transform.specs.Transform.{IsCarried};
+ghost use Rattle.fast_check_program.specs.Answer.{IsAnswer};
+ghost use Rattle.fast_check_program.specs.Program.{is_call, IsAnswerTo, RefusesBytes, OfFile, IsReadRefusal, Refuses, Answers, HasAnswer, IsTold, IsAnswered};
+
+use crate::answer::print_line;
+use crate::ending::Ending;
 use crate::refusal::Refusal;
 use crate::request::{TransformRequest, read_transform_request};
 use fast_check_read::read_input;
 use fast_check_tables::ModuleGraph;
 use fast_check_transform::{TransformOptions, is_carried, transform};
-use std::alloc::Global;
+use std::alloc::{AllocError, Global};
 use std::io::{ErrorKind, Read, Write};
 
 /// A line for standard output, and the status that goes with it: 0 where all modules have trees, 1 where there are
@@ -24,32 +31,57 @@ pub fn run<R: Read + Drop, O: Write, E: Write>(
     input: Option<R>,
     out: &mut O,
     err: &mut E,
-) -> u8 {
+) -> Ending
+    ensures usage { is_call (map string_bytes words.now) ≡ false →
+        IsTold Refusal.Usage (E.contents err.old) (E.contents err.new) result × (out.new ≡ out.old) }
+    ensures answer { result.status < 2 →
+        IsAnswered (map string_bytes words.now) (option_map R.remaining input) (O.contents out.old) (O.contents out.new) result × (err.new ≡ err.old) }
+    ensures refusal { 2 ≤ result.status → (refusal : Refusal) × IsTold refusal (E.contents err.old) (E.contents err.new) result
+        × ((Refuses (map string_bytes words.now) (option_map R.remaining input) refusal × (out.new ≡ out.old))
+        ⊎ ((refusal ≡ Refusal.Unwritable) × HasAnswer (map string_bytes words.now) (option_map R.remaining input))) }
+{
     match respond(alloc, words, input) {
         Ok(answer) => match out.write_all(answer.line.as_bytes()) {
-            Ok(()) => answer.status,
+            Ok(()) => Ending {
+                status: answer.status,
+                is_told: true,
+            },
             Err(_) => Refusal::Unwritable.told(err),
         },
         Err(refusal) => refusal.told(err),
     }
 }
 
+/// The answer to the words and the file, or why they are refused.
 fn respond<R: Read + Drop>(
     alloc: Global,
     words: &[String],
     input: Option<R>,
-) -> Result<Answer, Refusal> {
-    let [command, _] = words else {
+) -> Result<Answer, Refusal>
+    ensures answer { IfOk result (λ answer. Answers (map string_bytes words.now) (option_map R.remaining input) (string_bytes answer.line) answer.status) }
+    ensures refusal { IfErr result (Refuses (map string_bytes words.now) (option_map R.remaining input)) }
+{
+    if !is_call(words) {
         return Err(Refusal::Usage);
-    };
-    match command.as_str() {
-        "transform" => answer_transform(alloc, read_bytes(alloc, input)?.as_slice()),
-        _ => Err(Refusal::Usage),
+    }
+    answer_transform(alloc, read_bytes(alloc, input)?.as_slice())
+}
+
+/// Whether the words are a command that is there, and one file.
+fn is_call(words: &[String]) -> bool
+    ensures { result ≡ is_call (map string_bytes words.now) }
+{
+    match words {
+        [command, _] => command.as_str() == "transform",
+        _ => false,
     }
 }
 
 /// The bytes of an input.
-fn read_bytes<R: Read + Drop>(alloc: Global, input: Option<R>) -> Result<Vec<u8>, Refusal> {
+fn read_bytes<R: Read + Drop>(alloc: Global, input: Option<R>) -> Result<Vec<u8>, Refusal>
+    ensures bytes { IfOk result (λ bytes. OfFile (λ known. bytes.items ≡ known) (option_map R.remaining input)) }
+    ensures refusal { IfErr result (λ refusal. IsReadRefusal (option_map R.remaining input) refusal) }
+{
     let Some(mut input) = input else {
         return Err(Refusal::Unreadable);
     };
@@ -61,25 +93,37 @@ fn read_bytes<R: Read + Drop>(alloc: Global, input: Option<R>) -> Result<Vec<u8>
     }
 }
 
-fn answer_transform(alloc: Global, bytes: &[u8]) -> Result<Answer, Refusal> {
-    let TransformRequest {
-        es_module_info,
-        public_ranges,
-        should_error_on_first_diagnostic,
-    } = read_transform_request(alloc, &read_input(alloc, bytes)?)?;
-    if !is_carried(&es_module_info) {
+/// The answer to the bytes of a file, or why they are refused.
+fn answer_transform(alloc: Global, bytes: &[u8]) -> Result<Answer, Refusal>
+    ensures answer { IfOk result (λ answer. IsAnswerTo bytes.now (string_bytes answer.line) answer.status) }
+    ensures refusal { IfErr result (λ refusal. RefusesBytes refusal bytes.now) }
+{
+    let request = read_transform_request(alloc, &read_input(alloc, bytes)?)?;
+    if !is_carried(&request.es_module_info) {
         return Err(Refusal::BadForm);
     }
+    Ok(answer_request(alloc, &request)?)
+}
+
+/// The answer to a request.
+fn answer_request(alloc: Global, request: &TransformRequest) -> Result<Answer, AllocError>
+    requires { IsCarried request.now.es_module_info }
+    ensures { IfOk result (λ answer. IsAnswer request.now.es_module_info request.now.public_ranges request.now.should_error_on_first_diagnostic (string_bytes answer.line) answer.status) }
+{
     let graph = ModuleGraph::from_parts(alloc)?;
     let options = TransformOptions {
         workspace_members: Vec::new(alloc),
-        should_error_on_first_diagnostic,
+        should_error_on_first_diagnostic: request.should_error_on_first_diagnostic,
     };
-    let answer = transform(alloc, &graph, &es_module_info, &public_ranges, &options)?;
-    let mut line = print_answer(alloc, &answer)?.to_string(alloc)?;
-    line.push('\n')?;
+    let answer = transform(
+        alloc,
+        &graph,
+        &request.es_module_info,
+        &request.public_ranges,
+        &options,
+    )?;
     Ok(Answer {
-        line,
+        line: print_line(alloc, &answer)?,
         status: if answer.is_ok() { 0 } else { 1 },
     })
 }

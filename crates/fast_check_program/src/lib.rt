@@ -3,10 +3,12 @@
 
 mod answer;
 mod command;
+mod ending;
 mod refusal;
 mod request;
 #[cfg(test)]
 mod tests;
 
 pub use command::run;
+pub use ending::Ending;
 pub use refusal::Refusal;

@@ -1,3 +1,8 @@
+ghost use Rattle.std.specs.Prelude.{◌≡◌};
+ghost use Rattle.fast_check_program.specs.Program.{IsTold};
+ghost use Rattle.fast_check_program.specs.Refusal.{line_of, status_of};
+
+use crate::ending::Ending;
 use fast_check_read::{InputFault, ReadError};
 use std::alloc::{AllocError, AllocFailed};
 use std::io::Write;
@@ -20,7 +25,9 @@ pub enum Refusal {
 
 impl Refusal {
     /// The line that is written to standard error.
-    pub fn line(self) -> &'static str {
+    pub fn line(self) -> &'static str
+        ensures { result.now ≡ line_of self }
+    {
         match self {
             Refusal::Usage => "usage: fast-check (build|transform|pair) FILE\n",
             Refusal::Unreadable => "error: input refused: unreadable\n",
@@ -32,21 +39,32 @@ impl Refusal {
     }
 
     /// The status that the program ends with.
-    pub fn status(self) -> u8 {
+    pub fn status(self) -> u8
+        ensures { result ≡ status_of self }
+    {
         match self {
             Refusal::OutOfMemory => 3,
             _ => 2,
         }
     }
 
-    /// Writes the line, and answers the status. A line that cannot be written changes no status.
-    pub fn told<E: Write>(self, err: &mut E) -> u8 {
-        let _ = err.write_all(self.line().as_bytes());
-        self.status()
+    /// Writes the line, and answers the status, with whether the line was taken. A line that is not taken changes no status.
+    pub fn told<E: Write>(self, err: &mut E) -> Ending
+        ensures { IsTold self (E.contents err.old) (E.contents err.new) result }
+    {
+        let written = err.write_all(self.line().as_bytes());
+        Ending {
+            status: self.status(),
+            is_told: written.is_ok(),
+        }
     }
 }
 
 impl From<InputFault> for Refusal {
+    ghost use Rattle.fast_check_program.specs.Refusal.{refusal_of_fault};
+
+    ghost from_gives = { λ fault refusal. refusal ≡ refusal_of_fault fault };
+
     fn from(fault: InputFault) -> Refusal {
         match fault {
             InputFault::NotJson => Refusal::NotJson,
@@ -56,6 +74,10 @@ impl From<InputFault> for Refusal {
 }
 
 impl From<ReadError> for Refusal {
+    ghost use Rattle.fast_check_program.specs.Refusal.{refusal_of_error};
+
+    ghost from_gives = { λ error refusal. refusal ≡ refusal_of_error error };
+
     fn from(error: ReadError) -> Refusal {
         match error {
             ReadError::BadForm => Refusal::BadForm,
@@ -65,12 +87,20 @@ impl From<ReadError> for Refusal {
 }
 
 impl From<AllocError> for Refusal {
+    ghost use Rattle.fast_check_program.specs.declared.refusal.Refusal.TheVariants.{OutOfMemory};
+
+    ghost from_gives = { λ _ refusal. refusal ≡ OutOfMemory };
+
     fn from(_error: AllocError) -> Refusal {
         Refusal::OutOfMemory
     }
 }
 
 impl<T: Drop> From<AllocFailed<T>> for Refusal {
+    ghost use Rattle.fast_check_program.specs.declared.refusal.Refusal.TheVariants.{OutOfMemory};
+
+    ghost from_gives = { λ _ refusal. refusal ≡ OutOfMemory };
+
     fn from(_error: AllocFailed<T>) -> Refusal {
         Refusal::OutOfMemory
     }

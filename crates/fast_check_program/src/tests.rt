@@ -50,15 +50,15 @@ fn a_reader_that_fails_is_unreadable(rt: HostRuntime) -> Result<(), Fail> {
     let words = words(rt.alloc())?;
     let mut out = Vec::new(rt.alloc());
     let mut err = Vec::new(rt.alloc());
-    let status = run(
+    let ending = run(
         rt.alloc(),
         words.as_slice(),
         Some(Broken { is_read: false }),
         &mut out,
         &mut err,
     );
-    assert_eq!(rt; status, 2);
-    assert!(rt; out.is_empty());
+    assert_eq!(rt; ending.status, 2);
+    assert!(rt; ending.is_told && out.is_empty());
     assert_eq!(rt;
         err.as_slice(),
         b"error: input refused: unreadable\n".as_slice()
@@ -71,14 +71,14 @@ fn an_answer_that_cannot_be_written_is_no_success(rt: HostRuntime) -> Result<(),
     let words = words(rt.alloc())?;
     let mut err = Vec::new(rt.alloc());
     let input = Some(EMPTY.as_bytes());
-    let status = run(
+    let ending = run(
         rt.alloc(),
         words.as_slice(),
         input,
         &mut Closed {},
         &mut err,
     );
-    assert_eq!(rt; status, 2);
+    assert_eq!(rt; ending.status, 2);
     assert_eq!(rt; err.as_slice(), b"error: output refused\n".as_slice());
     Ok(())
 }
@@ -88,16 +88,15 @@ fn a_refused_error_line_changes_no_status(rt: HostRuntime) -> Result<(), Fail> {
     let words = words(rt.alloc())?;
     let mut out = Vec::new(rt.alloc());
     let input = Some(b"[]".as_slice());
-    assert_eq!(rt;
-        run(
-            rt.alloc(),
-            words.as_slice(),
-            input,
-            &mut out,
-            &mut Closed {}
-        ),
-        2
+    let ending = run(
+        rt.alloc(),
+        words.as_slice(),
+        input,
+        &mut out,
+        &mut Closed {},
     );
+    assert_eq!(rt; ending.status, 2);
+    assert!(rt; !ending.is_told);
     assert!(rt; out.is_empty());
     Ok(())
 }
@@ -107,14 +106,14 @@ fn an_empty_module_has_an_empty_skeleton(rt: HostRuntime) -> Result<(), Fail> {
     let words = words(rt.alloc())?;
     let mut out = Vec::new(rt.alloc());
     let mut err = Vec::new(rt.alloc());
-    let status = run(
+    let ending = run(
         rt.alloc(),
         words.as_slice(),
         Some(EMPTY.as_bytes()),
         &mut out,
         &mut err,
     );
-    assert_eq!(rt; status, 0);
+    assert_eq!(rt; ending.status, 0);
     let line =
         r#"{"Ok":{"comments":{"leading":[],"trailing":[]},"module_info":{"sources":[]},"program":{"body":[],"shebang":null,"span":[0,0]}}}"#;
     assert_eq!(rt; out.len(), line.len() + 1);

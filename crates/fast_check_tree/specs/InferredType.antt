@@ -12,6 +12,7 @@ use Rattle.fast_check_tree.specs.declared.helpers.literal_type.DeclMutabilityKin
 use Rattle.fast_check_tree.specs.Builders.{unique_symbol}
 use Rattle.fast_check_tree.specs.GlobalCalls.{is_symbol_call}
 use Rattle.fast_check_tree.specs.LiteralType.{type_of_literal}
+use Rattle.fast_check_tree.specs.Places.{at-ParenExpr-expr, at-TsSatisfiesExpr-expr}
 use Rattle.fast_check_tree.specs.SimpleType.{is_simple_type}
 use Rattle.fast_check_tree.specs.TemplateType.{type_of_template}
 
@@ -32,8 +33,8 @@ inferred_form mutability unresolved value inside each =
     else (if kind is TsTypeAssertion then asserted_type (TsTypeAssertion-type_ann value)
     else (if kind is CallExpr then symbol_type unresolved (CallExpr-callee value) (CallExpr-args value)
     else (if kind is Tpl then Some (type_of_template mutability value)
-    else (if kind is ParenExpr then inside 1
-    else (if kind is TsSatisfiesExpr then inside 1
+    else (if kind is ParenExpr then inside at-ParenExpr-expr.place
+    else (if kind is TsSatisfiesExpr then inside at-TsSatisfiesExpr-expr.place
     else type_of_literal mutability value)))))
 
 unfoldable pub inferred_type : DeclMutabilityKind → SyntaxContext → Tree → Option Tree

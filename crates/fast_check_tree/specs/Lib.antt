@@ -1,4 +1,5 @@
 pub mod Builders
+pub mod Places
 pub mod LiteralType
 pub mod TemplateType
 pub mod GlobalCalls

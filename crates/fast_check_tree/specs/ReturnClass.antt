@@ -7,6 +7,7 @@ use Rattle.fast_check_syntax.specs.declared.tree.Tree.{Tree}
 use Rattle.fast_check_syntax.specs.Shape.{◌is◌, kind_of, parts, is_absent}
 use Rattle.fast_check_syntax.specs.Recursion.{by_form}
 use Rattle.fast_check_statement_forms.specs.Statements.{ReturnStmt-arg, BlockStmt-stmts}
+use Rattle.fast_check_tree.specs.Places.{at-BlockStmt-stmts, at-WithStmt-body, at-LabeledStmt-body, at-IfStmt-cons, at-IfStmt-alt, at-SwitchStmt-cases, at-SwitchCase-cons, at-TryStmt-block, at-TryStmt-handler, at-TryStmt-finalizer, at-CatchClause-body, at-WhileStmt-body, at-DoWhileStmt-body, at-ForStmt-body, at-ForInStmt-body, at-ForOfStmt-body}
 use Rattle.fast_check_tree.specs.declared.helpers.return_class.ReturnStatementAnalysis.{ReturnStatementAnalysis}
 use Rattle.fast_check_tree.specs.declared.helpers.return_class.ReturnStatementAnalysis.TheVariants as class
 
@@ -17,19 +18,19 @@ abbrev pub returns_form : Tree → (ℕ → List Bool) → List (List Bool) → 
 returns_form stmt inside each =
     let kind = kind_of stmt in
     if kind is ReturnStmt then not (is_absent (ReturnStmt-arg stmt)) ∷ []
-    else (if kind is BlockStmt then inside 2
-    else (if kind is WithStmt then inside 2
-    else (if kind is LabeledStmt then inside 2
-    else (if kind is IfStmt then inside 2 ++ inside 3
-    else (if kind is SwitchStmt then inside 2
-    else (if kind is SwitchCase then inside 2
-    else (if kind is TryStmt then (inside 1 ++ inside 2) ++ inside 3
-    else (if kind is CatchClause then inside 2
-    else (if kind is WhileStmt then inside 2
-    else (if kind is DoWhileStmt then inside 2
-    else (if kind is ForStmt then inside 4
-    else (if kind is ForInStmt then inside 3
-    else (if kind is ForOfStmt then inside 4
+    else (if kind is BlockStmt then inside at-BlockStmt-stmts.place
+    else (if kind is WithStmt then inside at-WithStmt-body.place
+    else (if kind is LabeledStmt then inside at-LabeledStmt-body.place
+    else (if kind is IfStmt then inside at-IfStmt-cons.place ++ inside at-IfStmt-alt.place
+    else (if kind is SwitchStmt then inside at-SwitchStmt-cases.place
+    else (if kind is SwitchCase then inside at-SwitchCase-cons.place
+    else (if kind is TryStmt then (inside at-TryStmt-block.place ++ inside at-TryStmt-handler.place) ++ inside at-TryStmt-finalizer.place
+    else (if kind is CatchClause then inside at-CatchClause-body.place
+    else (if kind is WhileStmt then inside at-WhileStmt-body.place
+    else (if kind is DoWhileStmt then inside at-DoWhileStmt-body.place
+    else (if kind is ForStmt then inside at-ForStmt-body.place
+    else (if kind is ForInStmt then inside at-ForInStmt-body.place
+    else (if kind is ForOfStmt then inside at-ForOfStmt-body.place
     else (if kind is kinds.List then flat_map (λ returns. returns) each
     else []))))))))))))))
 

@@ -7,6 +7,7 @@ use Rattle.fast_check_syntax.specs.declared.tree.Tree.{Tree}
 use Rattle.fast_check_syntax.specs.Shape.{◌is◌, kind_of, is_absent}
 use Rattle.fast_check_syntax.specs.Recursion.{by_form}
 use Rattle.fast_check_type_forms.specs.Types.{TsLitType-lit, TsTypeRef-type_params}
+use Rattle.fast_check_tree.specs.Places.{at-TsTypeRef-type_params, at-TsTypeParamInstantiation-params, at-TsTupleType-elem_types, at-TsTupleElement-ty, at-TsArrayType-elem_type, at-TsOptionalType-type_ann, at-TsRestType-type_ann, at-TsUnionType-types, at-TsIntersectionType-types, at-TsParenthesizedType-type_ann, at-TsTypeOperator-type_ann}
 
 -- A keyword, `this`, a type literal, and a literal but a template are simple.
 -- So are a reference to a type, a tuple, an array, an optional, rest, union, intersection or parenthesised type and an operator on a type, where the types in it are.
@@ -19,17 +20,17 @@ simple_form type inside each =
     else (if kind is TsThisType then true
     else (if kind is TsTypeLit then true
     else (if kind is TsLitType then not (kind_of (TsLitType-lit type) is TsTplLitType)
-    else (if kind is TsTypeRef then is_absent (TsTypeRef-type_params type) || inside 2
-    else (if kind is TsTypeParamInstantiation then inside 1
-    else (if kind is TsTupleType then inside 1
-    else (if kind is TsTupleElement then inside 2
-    else (if kind is TsArrayType then inside 1
-    else (if kind is TsOptionalType then inside 1
-    else (if kind is TsRestType then inside 1
-    else (if kind is TsUnionType then inside 1
-    else (if kind is TsIntersectionType then inside 1
-    else (if kind is TsParenthesizedType then inside 1
-    else (if kind is TsTypeOperator then inside 2
+    else (if kind is TsTypeRef then is_absent (TsTypeRef-type_params type) || inside at-TsTypeRef-type_params.place
+    else (if kind is TsTypeParamInstantiation then inside at-TsTypeParamInstantiation-params.place
+    else (if kind is TsTupleType then inside at-TsTupleType-elem_types.place
+    else (if kind is TsTupleElement then inside at-TsTupleElement-ty.place
+    else (if kind is TsArrayType then inside at-TsArrayType-elem_type.place
+    else (if kind is TsOptionalType then inside at-TsOptionalType-type_ann.place
+    else (if kind is TsRestType then inside at-TsRestType-type_ann.place
+    else (if kind is TsUnionType then inside at-TsUnionType-types.place
+    else (if kind is TsIntersectionType then inside at-TsIntersectionType-types.place
+    else (if kind is TsParenthesizedType then inside at-TsParenthesizedType-type_ann.place
+    else (if kind is TsTypeOperator then inside at-TsTypeOperator-type_ann.place
     else (if kind is kinds.List then list_all (λ simple. simple) each
     else false)))))))))))))))
 

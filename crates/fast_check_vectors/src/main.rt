@@ -34,8 +34,8 @@ fn run_line<W: Write>(rt: &HostRuntime, line: &str, out: &mut W) -> io::Result<u
     };
     let mut answer = Vec::new(rt.alloc());
     let mut errors = Vec::new(rt.alloc());
-    let status = run(rt.alloc(), words.as_slice(), file, &mut answer, &mut errors);
+    let ending = run(rt.alloc(), words.as_slice(), file, &mut answer, &mut errors);
     out.write_all(answer.as_slice())?;
     out.write_all(errors.as_slice())?;
-    Ok(status)
+    Ok(ending.status)
 }

@@ -1,0 +1,4 @@
+pub mod Refusal
+pub mod Request
+pub mod Answer
+pub mod Program

@@ -1,0 +1,99 @@
+-- What the program does with its words and its file.
+use Rattle.std.specs.Prelude.{◌≡◌, ℕ, ◌<◌, IsTrue, List, [], ◌∷◌, Bool, true, false, Option, Some, None, codes, IsUtf8, ◌⊎◌}
+use Rattle.std.specs.Str.{bytes_eq}
+use Rattle.std.specs.Io.KnownBytes.{Appends}
+use Rattle.serde_json.specs.Data.{Data}
+use Rattle.serde_json.specs.Read.{read}
+use Rattle.fast_check_tables.specs.EsModule.{EsModule}
+use Rattle.fast_check_tables.specs.PublicRanges.{PublicRanges}
+use Rattle.fast_check_transform.specs.Transform.{IsCarried}
+use Rattle.fast_check_program.specs.declared.ending.Ending.{Ending}
+use Rattle.fast_check_program.specs.declared.refusal.Refusal.{Refusal}
+use Rattle.fast_check_program.specs.declared.refusal.Refusal.TheVariants as refusals
+use Rattle.fast_check_program.specs.Answer.{IsAnswer}
+use Rattle.fast_check_program.specs.Refusal.{line_of, status_of}
+use Rattle.fast_check_program.specs.Request.{Request, request_of, IsModule, IsPublic}
+
+-- the words are a command that is there, and one file
+abbrev pub is_call : List (List ℕ) → Bool
+is_call (command ∷ file ∷ []) = bytes_eq command (codes "transform")
+is_call _ = false
+
+-- ---- the bytes of the file
+
+-- they are the JSON of a request, and the line is its answer
+pub record IsAnswerTo (bytes : List ℕ) (line : List ℕ) (status : ℕ) : Type 0 where
+  pub value : Data
+  pub request : Request
+  pub info : EsModule
+  pub public : PublicRanges
+  pub utf8 : IsUtf8 bytes
+  pub json : read bytes ≡ Some value
+  pub asked : request_of value ≡ Some request
+  pub is_module : IsModule request.es_module info
+  pub is_public : IsPublic request public
+  pub carried : IsCarried info
+  pub answer : IsAnswer info public request.first line status
+
+-- they are no JSON value
+abbrev pub IsNotJson : List ℕ → Type 0
+IsNotJson bytes = IsUtf8 bytes → read bytes ≡ None
+
+-- a request of a module that is not taken yet
+pub record IsNotCarried (value : Data) : Type 0 where
+  pub request : Request
+  pub info : EsModule
+  pub asked : request_of value ≡ Some request
+  pub is_module : IsModule request.es_module info
+  pub not_carried : ¬ IsCarried info
+
+-- they are the JSON of no request, or of one that is not taken yet
+pub record IsBadForm (bytes : List ℕ) : Type 0 where
+  pub value : Data
+  pub utf8 : IsUtf8 bytes
+  pub json : read bytes ≡ Some value
+  pub no_request : (request_of value ≡ None) ⊎ IsNotCarried value
+
+-- why they are refused; memory may run out at any bytes
+abbrev pub RefusesBytes : Refusal → List ℕ → Type 0
+RefusesBytes refusals.NotJson bytes = IsNotJson bytes
+RefusesBytes refusals.BadForm bytes = IsBadForm bytes
+RefusesBytes refusals.OutOfMemory bytes = Unit {0}
+RefusesBytes _ bytes = ⊥
+
+-- ---- the file: nothing where it does not open, else what is known of its bytes
+
+-- it opens, and this holds of its bytes; of some bytes, where they are not known
+abbrev pub OfFile : (List ℕ → Type 0) → Option (Option (List ℕ)) → Type 0
+OfFile P None = ⊥
+OfFile P (Some None) = (bytes : List ℕ) × P bytes
+OfFile P (Some (Some bytes)) = P bytes
+
+-- why it is not read: any reader may fail, and memory may run out once there is one
+abbrev pub IsReadRefusal : Option (Option (List ℕ)) → Refusal → Type 0
+IsReadRefusal file refusals.Unreadable = Unit {0}
+IsReadRefusal file refusals.OutOfMemory = OfFile (λ bytes. Unit {0}) file
+IsReadRefusal file _ = ⊥
+
+-- why the words or the file are refused: the words before all else
+abbrev pub Refuses : List (List ℕ) → Option (Option (List ℕ)) → Refusal → Type 0
+Refuses words file refusals.Usage = is_call words ≡ false
+Refuses words file refusals.Unreadable = is_call words ≡ true
+Refuses words file refusal = (is_call words ≡ true) × OfFile (RefusesBytes refusal) file
+
+-- the answer to them, a line with its status, which is 0 or 1
+abbrev pub Answers : List (List ℕ) → Option (Option (List ℕ)) → List ℕ → ℕ → Type 0
+Answers words file line status = (is_call words ≡ true) × (status < 2) × OfFile (λ bytes. IsAnswerTo bytes line status) file
+
+abbrev pub HasAnswer : List (List ℕ) → Option (Option (List ℕ)) → Type 0
+HasAnswer words file = (line : List ℕ) × (status : ℕ) × Answers words file line status
+
+-- ---- the streams: what is known of the bytes that one held and holds then
+
+-- the refusal gives the status, and its line is what is written, where that is taken
+abbrev pub IsTold : Refusal → Option (List ℕ) → Option (List ℕ) → Ending → Type 0
+IsTold refusal old new ending = (ending.status ≡ status_of refusal) × (IsTrue ending.is_told → Appends old new (line_of refusal))
+
+-- the line of an answer is what is written
+abbrev pub IsAnswered : List (List ℕ) → Option (Option (List ℕ)) → Option (List ℕ) → Option (List ℕ) → Ending → Type 0
+IsAnswered words file old new ending = IsTrue ending.is_told × ((line : List ℕ) × Appends old new line × Answers words file line ending.status)

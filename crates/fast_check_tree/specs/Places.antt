@@ -1,0 +1,113 @@
+-- The places of the parts that a definition by forms looks into, named by the fields that stand there.
+use Rattle.std.specs.Prelude.{◌≡◌, ℕ, refl}
+use Rattle.fast_check_syntax.specs.declared.tree.Tree.{Tree}
+use Rattle.fast_check_syntax.specs.Shape.{part}
+use Rattle.fast_check_expression_forms.specs.Assertions.{TsSatisfiesExpr-expr}
+use Rattle.fast_check_expression_forms.specs.Expressions.{ParenExpr-expr}
+use Rattle.fast_check_statement_forms.specs.Loops.{WhileStmt-body, DoWhileStmt-body, ForStmt-body, ForInStmt-body, ForOfStmt-body}
+use Rattle.fast_check_statement_forms.specs.Statements.{BlockStmt-stmts, WithStmt-body, LabeledStmt-body, IfStmt-cons, IfStmt-alt, SwitchStmt-cases, SwitchCase-cons, TryStmt-block, TryStmt-handler, TryStmt-finalizer, CatchClause-body}
+use Rattle.fast_check_type_forms.specs.TypeOperators.{TsTypeOperator-type_ann}
+use Rattle.fast_check_type_forms.specs.TypeParams.{TsTypeParamInstantiation-params}
+use Rattle.fast_check_type_forms.specs.Types.{TsTypeRef-type_params, TsTupleType-elem_types, TsTupleElement-ty, TsArrayType-elem_type, TsOptionalType-type_ann, TsRestType-type_ann, TsUnionType-types, TsIntersectionType-types, TsParenthesizedType-type_ann}
+
+-- the place of a field: the field is the part that stands there
+pub record PlaceOf (field : Tree → Tree) : Type 0 where
+  pub place : ℕ
+  pub reads : (t : Tree) → field t ≡ part place t
+
+-- the place of the first item of a list
+abbrev pub at_first : ℕ
+at_first = 0
+
+-- ---- in values
+
+abbrev pub at-ParenExpr-expr : PlaceOf ParenExpr-expr
+at-ParenExpr-expr = record { place = 1; reads = λ t. refl }
+
+abbrev pub at-TsSatisfiesExpr-expr : PlaceOf TsSatisfiesExpr-expr
+at-TsSatisfiesExpr-expr = record { place = 1; reads = λ t. refl }
+
+-- ---- in types
+
+abbrev pub at-TsTypeRef-type_params : PlaceOf TsTypeRef-type_params
+at-TsTypeRef-type_params = record { place = 2; reads = λ t. refl }
+
+abbrev pub at-TsTypeParamInstantiation-params : PlaceOf TsTypeParamInstantiation-params
+at-TsTypeParamInstantiation-params = record { place = 1; reads = λ t. refl }
+
+abbrev pub at-TsTupleType-elem_types : PlaceOf TsTupleType-elem_types
+at-TsTupleType-elem_types = record { place = 1; reads = λ t. refl }
+
+abbrev pub at-TsTupleElement-ty : PlaceOf TsTupleElement-ty
+at-TsTupleElement-ty = record { place = 2; reads = λ t. refl }
+
+abbrev pub at-TsArrayType-elem_type : PlaceOf TsArrayType-elem_type
+at-TsArrayType-elem_type = record { place = 1; reads = λ t. refl }
+
+abbrev pub at-TsOptionalType-type_ann : PlaceOf TsOptionalType-type_ann
+at-TsOptionalType-type_ann = record { place = 1; reads = λ t. refl }
+
+abbrev pub at-TsRestType-type_ann : PlaceOf TsRestType-type_ann
+at-TsRestType-type_ann = record { place = 1; reads = λ t. refl }
+
+abbrev pub at-TsUnionType-types : PlaceOf TsUnionType-types
+at-TsUnionType-types = record { place = 1; reads = λ t. refl }
+
+abbrev pub at-TsIntersectionType-types : PlaceOf TsIntersectionType-types
+at-TsIntersectionType-types = record { place = 1; reads = λ t. refl }
+
+abbrev pub at-TsParenthesizedType-type_ann : PlaceOf TsParenthesizedType-type_ann
+at-TsParenthesizedType-type_ann = record { place = 1; reads = λ t. refl }
+
+abbrev pub at-TsTypeOperator-type_ann : PlaceOf TsTypeOperator-type_ann
+at-TsTypeOperator-type_ann = record { place = 2; reads = λ t. refl }
+
+-- ---- in statements
+
+abbrev pub at-BlockStmt-stmts : PlaceOf BlockStmt-stmts
+at-BlockStmt-stmts = record { place = 2; reads = λ t. refl }
+
+abbrev pub at-WithStmt-body : PlaceOf WithStmt-body
+at-WithStmt-body = record { place = 2; reads = λ t. refl }
+
+abbrev pub at-LabeledStmt-body : PlaceOf LabeledStmt-body
+at-LabeledStmt-body = record { place = 2; reads = λ t. refl }
+
+abbrev pub at-IfStmt-cons : PlaceOf IfStmt-cons
+at-IfStmt-cons = record { place = 2; reads = λ t. refl }
+
+abbrev pub at-IfStmt-alt : PlaceOf IfStmt-alt
+at-IfStmt-alt = record { place = 3; reads = λ t. refl }
+
+abbrev pub at-SwitchStmt-cases : PlaceOf SwitchStmt-cases
+at-SwitchStmt-cases = record { place = 2; reads = λ t. refl }
+
+abbrev pub at-SwitchCase-cons : PlaceOf SwitchCase-cons
+at-SwitchCase-cons = record { place = 2; reads = λ t. refl }
+
+abbrev pub at-TryStmt-block : PlaceOf TryStmt-block
+at-TryStmt-block = record { place = 1; reads = λ t. refl }
+
+abbrev pub at-TryStmt-handler : PlaceOf TryStmt-handler
+at-TryStmt-handler = record { place = 2; reads = λ t. refl }
+
+abbrev pub at-TryStmt-finalizer : PlaceOf TryStmt-finalizer
+at-TryStmt-finalizer = record { place = 3; reads = λ t. refl }
+
+abbrev pub at-CatchClause-body : PlaceOf CatchClause-body
+at-CatchClause-body = record { place = 2; reads = λ t. refl }
+
+abbrev pub at-WhileStmt-body : PlaceOf WhileStmt-body
+at-WhileStmt-body = record { place = 2; reads = λ t. refl }
+
+abbrev pub at-DoWhileStmt-body : PlaceOf DoWhileStmt-body
+at-DoWhileStmt-body = record { place = 2; reads = λ t. refl }
+
+abbrev pub at-ForStmt-body : PlaceOf ForStmt-body
+at-ForStmt-body = record { place = 4; reads = λ t. refl }
+
+abbrev pub at-ForInStmt-body : PlaceOf ForInStmt-body
+at-ForInStmt-body = record { place = 3; reads = λ t. refl }
+
+abbrev pub at-ForOfStmt-body : PlaceOf ForOfStmt-body
+at-ForOfStmt-body = record { place = 4; reads = λ t. refl }
