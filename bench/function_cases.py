@@ -66,6 +66,11 @@ def awaited(value):
 
 
 def functions():
+    half = arrow([default(name("n"), ONE)], as_(ref("n"), "number"))
+    yield Case("functions_of_an_api", [
+        func("twice", [name("n", "number"), default(name("log"), lit("false"))], if_(ref("log"), run(call(ref("f"), ref("n")))), returned(binary(lit("2"), "*", ref("n"))), ret="number"),
+        const(name("api"), object_(shorthand("twice"), pair("half", half)))],
+        "export function twice(n: number, log?: boolean): number { return {} as never; } export const api = { twice, half: (n?: number): number => ({} as never) };")
     yield Case("function_without_value", [func("f")], "export function f(): void {}")
     yield Case("function_that_returns_nothing", [func("f", [], if_(ref("a"), returned()), run(unknown()))], "export function f(): void {}")
     yield Case("function_that_throws", [func("f", [], THROW)], "export function f(): void {}")

@@ -5,7 +5,7 @@ For each shape and size it prints the input's megabytes, the program's seconds a
 library of Python (orjson, or json where that isn't there) needs to load and dump the same file, and the ratio of both.
 The program has to be built: run `./fast-check transform examples/first.json` once.
 
-Usage: bench/transform.py [--with-functions] [MEGABYTES ..]        (1 2 5 10 20 where none is given)
+Usage: bench/transform.py [MEGABYTES ..]        (1 2 5 10 20 where none is given)
 """
 import json
 import os
@@ -141,10 +141,9 @@ def peak_of(path):
 
 
 def main():
-    with_functions = "--with-functions" in sys.argv[1:]
-    sizes = [int(word) for word in sys.argv[1:] if word != "--with-functions"] or [1, 2, 5, 10, 20]
+    sizes = [int(word) for word in sys.argv[1:]] or [1, 2, 5, 10, 20]
     print(f"shape       MB in   seconds   MB peak   {NAME} load+dump   ratio")
-    for shape in ("items", "wide", "deep") + ("functions",) * with_functions:
+    for shape in ("items", "wide", "deep", "functions"):
         for size in sizes:
             with tempfile.NamedTemporaryFile(suffix=".json") as file:
                 file.write(json.dumps(module(shape, size * 1000000), separators=(",", ":")).encode())

@@ -5,7 +5,7 @@ Each case stands here as TypeScript with what is public of it and what has to co
 the skeletons are laid out by the rules of this script and its modules alone (`trees`, `skeletons`, `function_cases`): the
 program's own output is nowhere taken for right.
 
-Usage: bench/vectors.py [--with-functions]        (with functions, and with values and patterns of every form)
+Usage: bench/vectors.py
 """
 import json
 import os
@@ -171,7 +171,6 @@ with open(os.path.join(TOP, "crates/fast_check_tables/specs/Diagnostic.antt")) a
 # ---- the bench
 
 CASES, STDOUT = [], []
-WITH_FUNCTIONS = "--with-functions" in sys.argv[1:]
 
 
 def line(value):
@@ -207,14 +206,6 @@ def refused(name, content, word="bad-form"):
 def answered(name, content, answer):
     put(f"{name}.json", content)
     case(f"transform {name}.json", 1 if "Err" in answer else 0, line(answer))
-
-
-def answered_with_functions(name, content, answer):
-    """A module that is taken where functions and all values are, and refused where they are not yet."""
-    if WITH_FUNCTIONS:
-        answered(name, content, answer)
-    else:
-        refused(name, content)
 
 
 def first_module():
@@ -339,8 +330,8 @@ def values():
     answered("symbol_without_text", *valued("Const", symbol_call(1), UNIQUE_SYMBOL))
     answered("symbol_for", *valued("Const", symbol_call(1, TEXT, member="for"), UNIQUE_SYMBOL))
     no_type = {"Err": [missing_type([1, 2])]}
-    answered_with_functions("symbol_of_the_module", valued("Const", symbol_call(2, TEXT), None)[0], no_type)
-    answered_with_functions("symbol_of_a_number", valued("Const", symbol_call(1, {"Lit": {"Num": {"span": [3, 4], "raw": "1"}}}), None)[0], no_type)
+    answered("symbol_of_the_module", valued("Const", symbol_call(2, TEXT), None)[0], no_type)
+    answered("symbol_of_a_number", valued("Const", symbol_call(1, {"Lit": {"Num": {"span": [3, 4], "raw": "1"}}}), None)[0], no_type)
     number = keyword("TsNumberKeyword", [5, 9])
     asserted = lambda type_: {"TsAs": {"span": [1, 9], "expr": {"Ident": ident([1, 2], "x")}, "type_ann": type_}}
     answered("asserted_keyword", *valued("Const", asserted(number), number))
@@ -348,7 +339,7 @@ def values():
     emptied = {"TsAs": dict(asserted(function_type())["TsAs"], expr={"Paren": {"span": DUMMY, "expr": NEVER}})}
     left, answer = valued("Const", asserted(function_type()), None, emptied)
     answer["Ok"]["program"]["body"][0]["Stmt"]["Decl"]["Var"]["decls"][0]["name"]["Ident"]["type_ann"] = None
-    answered_with_functions("asserted_function", left, answer)
+    answered("asserted_function", left, answer)
     answered("angle_brackets", *valued("Const", {"TsTypeAssertion": {"span": [1, 9], "expr": {"Ident": ident([1, 2], "x")}, "type_ann": number}}, number))
     satisfied = {"Paren": {"span": [1, 30], "expr": {"TsSatisfies": {"span": [2, 29], "expr": TEXT, "type_ann": keyword("TsStringKeyword", [20, 29])}}}}
     answered("satisfies_under_let", *valued("Let", satisfied, keyword("TsStringKeyword")))
@@ -494,7 +485,7 @@ def refusals():
     refused("a_fraction_anywhere", changed(("more",), [{"deep": 0.5}]))
     refused("an_exponent_anywhere", json.dumps(changed(("more",), 7)).replace(": 7}", ": 1e3}").encode())
     title("modules that are not carried yet")
-    not_carried_without_functions()
+    left_out()
     assignment = {"Assign": {"op": "=", "left": {"Simple": {"Ident": ident(DUMMY, "a")}}, "right": {"Ident": ident(DUMMY, "b")}}}
     refused("assignment", changed(BODY + (0,), {"Stmt": {"Expr": {"expr": assignment}}}))
     refused("import", changed(BODY + (0,), {"ModuleDecl": {"Import": {"src": {"value": "./a"}, "phase": "evaluation"}}}))
@@ -503,21 +494,20 @@ def refusals():
     refused("comments_without_position", changed(SOURCE + ("comments", "leading"), [[{"kind": "Line", "text": " a"}]]))
 
 
-def not_carried_without_functions():
+def left_out():
     empty = {"span": DUMMY, "stmts": [], "ctxt": 0}
     rest = first_module()
     rest.skeleton = rest.skeleton[1:]
     function = {"Stmt": {"Decl": {"Fn": {"ident": ident(DUMMY, "f"), "function": {"params": [], "body": empty}}}}}
-    answered_with_functions("function", changed(BODY + (0,), function), rest.answer())
+    answered("function", changed(BODY + (0,), function), rest.answer())
     value = {"Ident": ident(DUMMY, "y")}
     left = first_module()
     declarator = left.skeleton[0]["ModuleDecl"]["ExportDecl"]["decl"]["Var"]["decls"][0]
     declarator["name"]["Ident"]["type_ann"], declarator["init"] = None, value
-    answered_with_functions("value_without_type", changed(FIRST_VAR + ("decls", 0, "init"), value), left.answer())
+    answered("value_without_type", changed(FIRST_VAR + ("decls", 0, "init"), value), left.answer())
     pattern = {"Err": [diagnostic(("unsupported-destructuring", DUMMY, None, None), SPECIFIER, DOCS)]}
-    answered_with_functions("pattern", changed(FIRST_VAR + ("decls", 0, "name"), {"Array": {"elems": []}}), pattern)
-    if WITH_FUNCTIONS:
-        refused("class", changed(BODY + (0,), {"Stmt": {"Decl": {"Class": {"ident": ident(DUMMY, "C"), "class": {"body": []}}}}}))
+    answered("pattern", changed(FIRST_VAR + ("decls", 0, "name"), {"Array": {"elems": []}}), pattern)
+    refused("class", changed(BODY + (0,), {"Stmt": {"Decl": {"Class": {"ident": ident(DUMMY, "C"), "class": {"body": []}}}}}))
 
 
 # ---- functions and values of all forms: what is stated by hand has to agree with what the rules give
@@ -620,8 +610,7 @@ def main():
     values()
     types()
     comments()
-    if WITH_FUNCTIONS:
-        all_functions()
+    all_functions()
     defaults()
     refusals()
     words()
