@@ -61,32 +61,36 @@ RefusesBytes refusals.BadForm bytes = IsBadForm bytes
 RefusesBytes refusals.OutOfMemory bytes = Unit {0}
 RefusesBytes _ bytes = ⊥
 
--- ---- the file: nothing where it does not open, else what is known of its bytes
+-- ---- the file
+
+-- nothing where it does not open, else its bytes, where they are known
+abbrev pub File : Type 0
+File = Option (Option (List ℕ))
 
 -- it opens, and this holds of its bytes; of some bytes, where they are not known
-abbrev pub OfFile : (List ℕ → Type 0) → Option (Option (List ℕ)) → Type 0
+abbrev pub OfFile : (List ℕ → Type 0) → File → Type 0
 OfFile P None = ⊥
 OfFile P (Some None) = (bytes : List ℕ) × P bytes
 OfFile P (Some (Some bytes)) = P bytes
 
 -- why it is not read: any reader may fail, and memory may run out once there is one
-abbrev pub IsReadRefusal : Option (Option (List ℕ)) → Refusal → Type 0
+abbrev pub IsReadRefusal : File → Refusal → Type 0
 IsReadRefusal file refusals.Unreadable = Unit {0}
 IsReadRefusal file refusals.OutOfMemory = OfFile (λ bytes. Unit {0}) file
 IsReadRefusal file _ = ⊥
 
 -- why the words or the file are refused: the words before all else
-abbrev pub Refuses : List (List ℕ) → Option (Option (List ℕ)) → Refusal → Type 0
-Refuses words file refusals.Usage = is_call words ≡ false
-Refuses words file refusals.Unreadable = is_call words ≡ true
-Refuses words file refusal = (is_call words ≡ true) × OfFile (RefusesBytes refusal) file
+abbrev pub RefusesCall : List (List ℕ) → File → Refusal → Type 0
+RefusesCall words file refusals.Usage = is_call words ≡ false
+RefusesCall words file refusals.Unreadable = is_call words ≡ true
+RefusesCall words file refusal = (is_call words ≡ true) × OfFile (RefusesBytes refusal) file
 
 -- the answer to them, a line with its status, which is 0 or 1
-abbrev pub Answers : List (List ℕ) → Option (Option (List ℕ)) → List ℕ → ℕ → Type 0
-Answers words file line status = (is_call words ≡ true) × (status < 2) × OfFile (λ bytes. IsAnswerTo bytes line status) file
+abbrev pub AnswersCall : List (List ℕ) → File → List ℕ → ℕ → Type 0
+AnswersCall words file line status = (is_call words ≡ true) × (status < 2) × OfFile (λ bytes. IsAnswerTo bytes line status) file
 
-abbrev pub HasAnswer : List (List ℕ) → Option (Option (List ℕ)) → Type 0
-HasAnswer words file = (line : List ℕ) × (status : ℕ) × Answers words file line status
+abbrev pub HasAnswer : List (List ℕ) → File → Type 0
+HasAnswer words file = (line : List ℕ) × (status : ℕ) × AnswersCall words file line status
 
 -- ---- the streams: what is known of the bytes that one held and holds then
 
@@ -95,5 +99,5 @@ abbrev pub IsTold : Refusal → Option (List ℕ) → Option (List ℕ) → Endi
 IsTold refusal old new ending = (ending.status ≡ status_of refusal) × (IsTrue ending.is_told → Appends old new (line_of refusal))
 
 -- the line of an answer is what is written
-abbrev pub IsAnswered : List (List ℕ) → Option (Option (List ℕ)) → Option (List ℕ) → Option (List ℕ) → Ending → Type 0
-IsAnswered words file old new ending = IsTrue ending.is_told × ((line : List ℕ) × Appends old new line × Answers words file line ending.status)
+abbrev pub IsAnswered : List (List ℕ) → File → Option (List ℕ) → Option (List ℕ) → Ending → Type 0
+IsAnswered words file old new ending = IsTrue ending.is_told × ((line : List ℕ) × Appends old new line × AnswersCall words file line ending.status)

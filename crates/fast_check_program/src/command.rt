@@ -2,7 +2,7 @@ ghost use Rattle.std.specs.Prelude.{◌≡◌, ◌<◌, ◌≤◌, map, option_m
 ghost use Rattle.std.specs.String.{string_bytes};
 ghost use Rattle.fast_check_transform.specs.Transform.{IsCarried};
 ghost use Rattle.fast_check_program.specs.Answer.{IsAnswer};
-ghost use Rattle.fast_check_program.specs.Program.{is_call, IsAnswerTo, RefusesBytes, OfFile, IsReadRefusal, Refuses, Answers, HasAnswer, IsTold, IsAnswered};
+ghost use Rattle.fast_check_program.specs.Program.{is_call, IsAnswerTo, RefusesBytes, OfFile, IsReadRefusal, RefusesCall, AnswersCall, HasAnswer, IsTold, IsAnswered};
 
 use crate::answer::print_line;
 use crate::ending::Ending;
@@ -22,9 +22,9 @@ struct Answer {
     status: u8,
 }
 
-/// Runs the program with these words on an input, which is none where its file does not open. Answers the status: 0 where
-/// all modules have trees, 1 where there are diagnostics, each with one line of JSON to `out`; 2 where the words or the
-/// input are refused and 3 where memory ran out, each with one line to `err`.
+/// Runs the program with these words on an input, which is none where its file does not open. The status is 0 where all
+/// modules have trees, 1 where there are diagnostics, each with one line of JSON to `out`; 2 where the words or the input are
+/// refused, or `out` does not take its line, and 3 where memory ran out, each with one line to `err`.
 pub fn run<R: Read + Drop, O: Write, E: Write>(
     alloc: Global,
     words: &[String],
@@ -37,7 +37,7 @@ pub fn run<R: Read + Drop, O: Write, E: Write>(
     ensures answer { result.status < 2 →
         IsAnswered (map string_bytes words.now) (option_map R.remaining input) (O.contents out.old) (O.contents out.new) result × (err.new ≡ err.old) }
     ensures refusal { 2 ≤ result.status → (refusal : Refusal) × IsTold refusal (E.contents err.old) (E.contents err.new) result
-        × ((Refuses (map string_bytes words.now) (option_map R.remaining input) refusal × (out.new ≡ out.old))
+        × ((RefusesCall (map string_bytes words.now) (option_map R.remaining input) refusal × (out.new ≡ out.old))
         ⊎ ((refusal ≡ Refusal.Unwritable) × HasAnswer (map string_bytes words.now) (option_map R.remaining input))) }
 {
     match respond(alloc, words, input) {
@@ -58,8 +58,8 @@ fn respond<R: Read + Drop>(
     words: &[String],
     input: Option<R>,
 ) -> Result<Answer, Refusal>
-    ensures answer { IfOk result (λ answer. Answers (map string_bytes words.now) (option_map R.remaining input) (string_bytes answer.line) answer.status) }
-    ensures refusal { IfErr result (Refuses (map string_bytes words.now) (option_map R.remaining input)) }
+    ensures answer { IfOk result (λ answer. AnswersCall (map string_bytes words.now) (option_map R.remaining input) (string_bytes answer.line) answer.status) }
+    ensures refusal { IfErr result (RefusesCall (map string_bytes words.now) (option_map R.remaining input)) }
 {
     if !is_call(words) {
         return Err(Refusal::Usage);
