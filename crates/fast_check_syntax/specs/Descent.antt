@@ -1,13 +1,13 @@
 -- Functions of a tree that are defined over the lower trees inside of it, by whatever names these have there.
-use Rattle.std.specs.Prelude.{ℕ, zero, suc, Bool, true, false, ◌≡◌, ◌<◌, List, [], ◌∷◌, map, refl, if◌then◌else◌, Some, slice_get}
-use Rattle.std.proofs.Common.{arith, ap, ◌∙◌, sym, subst}
+use Rattle.std.specs.Prelude.{ℕ, zero, suc, Bool, true, false, ◌≡◌, ◌<◌, refl, if◌then◌else◌}
+use Rattle.std.proofs.Common.{arith, ap}
 use mathlib.Core.Path.{fun_ext}
 use Rattle.std.proofs.Math.Dec.{ltb}
 use Rattle.std.proofs.lemmas.Bool.{lt-ltb, ltb-true}
 use Rattle.fast_check_syntax.specs.declared.kind.Kind.TheVariants.{Leaf}
 use Rattle.fast_check_syntax.specs.declared.tree.Tree.{Tree}
-use Rattle.fast_check_syntax.specs.Shape.{kind_of, part, parts}
-use Rattle.fast_check_syntax.specs.Height.{height, height_part, height_inner, height_one}
+use Rattle.fast_check_syntax.specs.Shape.{kind_of, part}
+use Rattle.fast_check_syntax.specs.Height.{height, height_part, height_inner}
 
 -- whether a tree is lower than another
 abbrev pub is_lower : Tree → Tree → Bool

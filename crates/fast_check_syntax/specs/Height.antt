@@ -1,7 +1,7 @@
 -- How high a tree is: what falls in a recursion from a tree to its parts.
 use Rattle.std.specs.Prelude.{ℕ, zero, suc, max, ◌<◌, ◌≤◌, ◌≡◌, List, [], ◌∷◌, map, Some, slice_get, unwrap_or, refl, length}
 use lib.ListN.{get_or}
-use Rattle.std.proofs.Common.{arith, sym, subst}
+use Rattle.std.proofs.Common.{arith}
 use Rattle.fast_check_syntax.specs.declared.kind.Kind.TheVariants.{Leaf}
 use Rattle.fast_check_syntax.specs.declared.tree.Tree.{Tree, out-Tree, Absent}
 use Rattle.fast_check_syntax.specs.declared.tree.Tree.TheOpen.{Tree-F}

@@ -3,7 +3,7 @@ use Rattle.std.specs.Prelude.{ℕ, zero, suc, List, [], ◌∷◌, ◌≡◌, ma
 use mathlib.Core.Path.{fun_ext}
 use Rattle.fast_check_syntax.specs.declared.kind.Kind.{Kind}
 use Rattle.fast_check_syntax.specs.declared.kind.Kind.TheVariants.{Leaf}
-use Rattle.fast_check_syntax.specs.Shape.{kind_at, parts_at, kind_of, parts, part, is_absent, is_absent_at, not_absent}
+use Rattle.fast_check_syntax.specs.Shape.{parts_at, kind_of, parts, part, is_absent, is_absent_at, not_absent}
 use Rattle.std.proofs.Common.{sym, ap, ◌∙◌, subst}
 use Rattle.fast_check_syntax.specs.declared.tree.Tree.{Tree, out-Tree, roll-Tree, roll-out-Tree, Absent}
 use Rattle.fast_check_syntax.specs.declared.tree.Tree.TheOpen.{Tree-F}
