@@ -29,7 +29,7 @@ use Rattle.fast_check_signatures.specs.Answers.{Answer, fault_at, stands, fails,
 use Rattle.fast_check_values.specs.Kept.{stood, faults_of, expr_left, expr_faults, unless_left, default_type, pat_tree, pat_faults, assign_tree, assign_faults, pats_trees, pats_faults, patterns, params_trees, params_faults}
 use Rattle.fast_check_values.proofs.Answered.{taken, passed, answers_are, wrapped, HasShape, expr_shape, value_tree}
 
-unless_is : (a : Answer) (fault : Fault) → (if a.is_leavable then [] else fault ∷ []) ≡ unless_left (kept_tree a) fault
+pub unless_is : (a : Answer) (fault : Fault) → (if a.is_leavable then [] else fault ∷ []) ≡ unless_left (kept_tree a) fault
 unless_is a fault = go a.is_leavable
   where
     go : (b : Bool) → (if b then [] else fault ∷ []) ≡ unless_left (if b then Some (first_or_absent a.trees) else None) fault
