@@ -1,5 +1,5 @@
 -- What stays of an expression, kind by kind.
-use Rattle.std.specs.Prelude.{◌≡◌, ℕ, Bool, true, false, ◌||◌, ◌⊎◌, Option, Some, None, List, [], ◌∷◌, ◌++◌, map, is_some, option_map, unwrap_or, refl, if◌then◌else◌}
+use Rattle.std.specs.Prelude.{◌≡◌, Bool, true, false, ◌||◌, ◌⊎◌, Option, Some, None, List, [], ◌∷◌, ◌++◌, map, is_some, option_map, unwrap_or, refl, if◌then◌else◌}
 use Rattle.std.proofs.Common.{ap, ◌∙◌, sym, subst, append-nil, inl, inr}
 use Rattle.fast_check_syntax.specs.declared.kind.Kind.{Kind}
 use Rattle.fast_check_syntax.specs.declared.kind.Kind.TheVariants as kinds
@@ -18,16 +18,15 @@ use Rattle.fast_check_tree.specs.declared.helpers.literal_type.DeclMutabilityKin
 use Rattle.fast_check_tree.specs.InferredType.{inferred_type}
 use Rattle.fast_check_tree.specs.GlobalCalls.{object_freeze_call_arg, ReadsArgument}
 use Rattle.fast_check_signatures.specs.declared.fault.Fault.{Fault}
-use Rattle.fast_check_signatures.specs.declared.fault.FaultKind.{FaultKind}
 use Rattle.fast_check_signatures.specs.declared.function_kind.FunctionKind.TheVariants.{ExpressionLike}
-use Rattle.fast_check_signatures.specs.Seen.{Seen, written, range, scope, form, refused, seens}
+use Rattle.fast_check_signatures.specs.Seen.{Seen, written, range, form, refused, seens}
 use Rattle.fast_check_signatures.specs.NewNodes.{never_in_parens}
 use Rattle.fast_check_signatures.specs.Functions.{or_own, function_seen, fn_expr_seen, by_value, arrow_seen}
 use Rattle.fast_check_signatures.specs.Parameters.{pats_seen}
 use Rattle.fast_check_signatures.specs.Expressions.{is_among, is_plain, is_compound, compound_kinds, call_seen, expr_form, expr_seen}
-use Rattle.fast_check_signatures.specs.Answers.{Answer, fault_at, nothing, stands, fails, goes, before, visited, Part, first_or_absent, around, form_answer, answer_to, answered, kept_tree}
+use Rattle.fast_check_signatures.specs.Answers.{Answer, stands, fails, goes, before, visited, Part, first_or_absent, around, form_answer, answer_to, answered, kept_tree}
 use Rattle.fast_check_signatures.proofs.Looks.{expr_seen_is}
-use Rattle.fast_check_values.specs.Kept.{stood, faults_of, expr_left, expr_faults, with_first, parts_left, parts_faults, unless_left, fn_tree, fn_faults, arrow_tree, arrow_faults}
+use Rattle.fast_check_values.specs.Kept.{stood, faults_of, expr_left, expr_faults, with_first, parts_left, parts_faults, call_left, call_faults, fn_tree, fn_faults, arrow_tree, arrow_faults}
 
 -- ---- once
 
@@ -127,8 +126,8 @@ module _ (t : Tree) (a : Answer) (shape : HasShape a) where
     | inr h ↦ ap (λ a. kept_tree (call_round a)) h.1 ∙ sym (ap (λ a. option_map recalled (kept_tree a)) h.1)
   ]
 
-  call_faults : (call_round a).faults ≡ a.faults
-  call_faults = elim shape [
+  recalled_faults : (call_round a).faults ≡ a.faults
+  recalled_faults = elim shape [
     | inl h ↦ ap (λ a. (call_round a).faults) h.2 ∙ (append-nil h.1 ∙ sym (ap (λ a. a.faults) h.2))
     | inr h ↦ ap (λ a. (call_round a).faults) h.1 ∙ sym (ap (λ a. a.faults) h.1)
   ]
@@ -323,7 +322,7 @@ module _ (unresolved : SyntaxContext) where
 
     pub faults_call : kind_of t ≡ kinds.CallExpr → is_freeze ≡ true → expr_faults unresolved t place ≡ expr_faults unresolved (CallExpr-args t) None
     unfolding expr_faults
-    faults_call e f = ap faults_of (seen_call e ∙ taken _ _ _ f) ∙ call_faults t (answer_to (look (CallExpr-args t) None)) (expr_shape (CallExpr-args t) None)
+    faults_call e f = ap faults_of (seen_call e ∙ taken _ _ _ f) ∙ recalled_faults t (answer_to (look (CallExpr-args t) None)) (expr_shape (CallExpr-args t) None)
 
     pub left_other_call : kind_of t ≡ kinds.CallExpr → is_freeze ≡ false → expr_left unresolved t place ≡ None
     unfolding expr_left
@@ -368,3 +367,17 @@ module _ (unresolved : SyntaxContext) where
     pub faults_other : IsOtherExpr (kind_of t) → expr_faults unresolved t place ≡ []
     unfolding expr_faults
     faults_other o = ap faults_of (seen_other o)
+
+    if_call : (b : Bool) (x : Option Tree) → (b ≡ true → expr_left unresolved t place ≡ x) → (b ≡ false → expr_left unresolved t place ≡ None) → expr_left unresolved t place ≡ (if b then x else None)
+    if_call true x p q = p refl
+    if_call false x p q = q refl
+
+    if_call_faults : (b : Bool) (x : List Fault) → (b ≡ true → expr_faults unresolved t place ≡ x) → (b ≡ false → expr_faults unresolved t place ≡ []) → expr_faults unresolved t place ≡ (if b then x else [])
+    if_call_faults true x p q = p refl
+    if_call_faults false x p q = q refl
+
+    pub left_any_call : kind_of t ≡ kinds.CallExpr → expr_left unresolved t place ≡ call_left unresolved t
+    left_any_call e = if_call is_freeze _ (left_call e) (left_other_call e)
+
+    pub faults_any_call : kind_of t ≡ kinds.CallExpr → expr_faults unresolved t place ≡ call_faults unresolved t
+    faults_any_call e = if_call_faults is_freeze _ (faults_call e) (faults_other_call e)

@@ -1,10 +1,12 @@
 -- What falls from a node of whatever kind to its parts.
 use Rattle.std.specs.Prelude.{◌≡◌, ℕ, ◌<◌, ◌≤◌, ◌-◌, Option, Some, None, slice_get, unwrap_or, refl}
-use Rattle.std.proofs.Common.{arith}
+use Rattle.std.proofs.Common.{arith, sym, ◌∙◌}
+use Rattle.fast_check_syntax.specs.declared.kind.Kind.{Kind}
+use Rattle.fast_check_syntax.specs.declared.kind.Kind.TheVariants.{Leaf}
 use Rattle.fast_check_syntax.specs.declared.tree.Tree.{Tree, out-Tree, Absent}
 use Rattle.fast_check_syntax.specs.declared.tree.Tree.TheFolds.{fold_out-Tree}
-use Rattle.fast_check_syntax.specs.Shape.{parts, part}
-use Rattle.fast_check_syntax.specs.Height.{height, height_step, height_one}
+use Rattle.fast_check_syntax.specs.Shape.{kind_of, parts, part}
+use Rattle.fast_check_syntax.specs.Height.{height, height_step, height_part, height_one}
 
 absent-zero : height Absent ≡ 0
 unfolding height out-Tree denote.Hole.Carrier.out
@@ -17,3 +19,7 @@ height_less t i = go (slice_get (parts t) i) (height_one t i)
     go : (o : Option Tree) → ((u : Tree) → o ≡ Some u → height u < height t) → height (unwrap_or o Absent) ≤ height t - 1
     go (Some u) below = omega (arith, below u refl)
     go None below = omega (arith, absent-zero)
+
+-- a node of a kind that is none of a leaf has a height
+pub height_some : (t : Tree) (kind : Kind) → kind_of t ≡ kind → (kind ≡ Leaf → ⊥) → 0 < height t
+height_some t kind e n = omega (arith, height_part t 0 (λ leaf. n (sym e ∙ leaf)))

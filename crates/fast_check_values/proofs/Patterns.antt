@@ -1,33 +1,27 @@
 -- What stays of parameters, kind by kind, and of lists of them.
-use Rattle.std.specs.Prelude.{◌≡◌, ℕ, Bool, true, false, Option, Some, None, List, [], ◌∷◌, ◌++◌, map, option_map, unwrap_or, refl, if◌then◌else◌}
-use Rattle.std.specs.List.{list_all}
-use Rattle.std.proofs.Common.{ap, ◌∙◌, sym, append-nil}
+use Rattle.std.specs.Prelude.{◌≡◌, Bool, true, false, Option, Some, None, List, [], ◌∷◌, ◌++◌, option_map, unwrap_or, refl, if◌then◌else◌}
+use Rattle.std.proofs.Common.{ap, ◌∙◌}
 use Rattle.fast_check_syntax.specs.declared.kind.Kind.{Kind}
 use Rattle.fast_check_syntax.specs.declared.kind.Kind.TheVariants as kinds
 use Rattle.fast_check_syntax.specs.declared.source.SourceRange.{SourceRange}
 use Rattle.fast_check_syntax.specs.declared.source.SyntaxContext.{SyntaxContext}
-use Rattle.fast_check_syntax.specs.declared.tree.Tree as tree
 use Rattle.fast_check_syntax.specs.declared.tree.Tree.{Tree, Absent}
-use Rattle.fast_check_syntax.specs.Shape.{◌is◌, differs, kind_of, parts, is_absent, list}
-use Rattle.fast_check_class_forms.specs.Functions.{param, Param-span, Param-pat}
+use Rattle.fast_check_syntax.specs.Shape.{differs, kind_of, is_absent}
 use Rattle.fast_check_expression_forms.specs.Patterns.{ArrayPat-span, ArrayPat-type_ann, ObjectPat-span, ObjectPat-type_ann, AssignPat-span, AssignPat-left, AssignPat-right, assign_pat}
 use Rattle.fast_check_forms.specs.Ranges.{range_of_node}
 use Rattle.fast_check_program_forms.specs.Names.{Ident-span, BindingIdent-id, BindingIdent-type_ann}
 use Rattle.fast_check_tree.specs.declared.helpers.literal_type.DeclMutabilityKind.TheVariants.{Mutable}
 use Rattle.fast_check_tree.specs.Builders.{type_ann, never_value}
 use Rattle.fast_check_tree.specs.InferredType.{inferred_type}
-use Rattle.fast_check_tree.specs.OptionalParams.{is_optional_param}
 use Rattle.fast_check_signatures.specs.declared.fault.Fault.{Fault}
-use Rattle.fast_check_signatures.specs.declared.fault.FaultKind.{FaultKind}
 use Rattle.fast_check_signatures.specs.declared.fault.FaultKind.TheVariants.{MissingExplicitType, UnsupportedDestructuring}
-use Rattle.fast_check_signatures.specs.Seen.{Seen, written, faulty, form, seens}
+use Rattle.fast_check_signatures.specs.Seen.{Seen, written, faulty}
 use Rattle.fast_check_signatures.specs.NewNodes.{never_array}
-use Rattle.fast_check_signatures.specs.Parameters.{typed, emptied_array, emptied_object, rest_seen, without_default, default_seen, by_shown, ident_default_seen, pattern_default_seen, assign_seen, pat_seen, pats_seen}
-use Rattle.fast_check_signatures.specs.Functions.{param_seen, params_seen}
+use Rattle.fast_check_signatures.specs.Parameters.{typed, emptied_array, emptied_object, rest_seen, without_default, default_seen, by_shown, ident_default_seen, pattern_default_seen, assign_seen, pat_seen}
 use Rattle.fast_check_signatures.specs.Expressions.{expr_seen}
-use Rattle.fast_check_signatures.specs.Answers.{Answer, fault_at, stands, fails, before, goes, visited, joined, first_or_absent, answer_to, answer_of, kept_tree}
-use Rattle.fast_check_values.specs.Kept.{stood, faults_of, expr_left, expr_faults, unless_left, default_type, pat_tree, pat_faults, assign_tree, assign_faults, pats_trees, pats_faults, patterns, params_trees, params_faults}
-use Rattle.fast_check_values.proofs.Answered.{taken, passed, answers_are, wrapped, HasShape, expr_shape, value_tree}
+use Rattle.fast_check_signatures.specs.Answers.{Answer, fault_at, first_or_absent, answer_to, kept_tree}
+use Rattle.fast_check_values.specs.Kept.{stood, faults_of, expr_left, expr_faults, unless_left, default_type, pat_tree, pat_faults, assign_tree, assign_faults}
+use Rattle.fast_check_values.proofs.Answered.{taken, passed, HasShape, expr_shape, value_tree}
 
 pub unless_is : (a : Answer) (fault : Fault) → (if a.is_leavable then [] else fault ∷ []) ≡ unless_left (kept_tree a) fault
 unless_is a fault = go a.is_leavable

@@ -7,10 +7,10 @@ use Rattle.fast_check_syntax.specs.declared.source.SourceRange.{SourceRange}
 use Rattle.fast_check_syntax.specs.declared.source.SyntaxContext.{SyntaxContext}
 use Rattle.fast_check_syntax.specs.declared.tree.Tree as tree
 use Rattle.fast_check_syntax.specs.declared.tree.Tree.{Tree, Absent}
-use Rattle.fast_check_syntax.specs.Shape.{◌is◌, kind_of, parts, is_absent, list, node}
+use Rattle.fast_check_syntax.specs.Shape.{◌is◌, kind_of, parts, is_absent, list}
 use Rattle.fast_check_class_forms.specs.Functions.{Function-span, Function-params, Function-ctxt, Function-body, Function-type_params, function, param, Param-span, Param-pat}
 use Rattle.fast_check_expression_forms.specs.Expressions.{ArrowExpr-span, ArrowExpr-params, ArrowExpr-body, ArrowExpr-is_async, ArrowExpr-return_type, ArrowExpr-ctxt, ArrowExpr-is_generator, ArrowExpr-type_params, arrow_expr}
-use Rattle.fast_check_expression_forms.specs.Patterns.{ArrayPat-span, ArrayPat-type_ann, ObjectPat-span, ObjectPat-type_ann, AssignPat-left, AssignPat-right}
+use Rattle.fast_check_expression_forms.specs.Patterns.{ArrayPat-type_ann, ObjectPat-type_ann, AssignPat-left, AssignPat-right}
 use Rattle.fast_check_program_forms.specs.Names.{BindingIdent-type_ann}
 use Rattle.fast_check_tree.specs.declared.helpers.literal_type.DeclMutabilityKind.TheVariants.{Mutable}
 use Rattle.fast_check_tree.specs.Builders.{type_ann, any_type_ann}
@@ -22,12 +22,12 @@ use Rattle.fast_check_signatures.specs.declared.function_kind.FunctionKind.{Func
 use Rattle.fast_check_signatures.specs.declared.function_kind.FunctionKind.TheVariants.{ExpressionLike}
 use Rattle.fast_check_signatures.specs.Seen.{Seen, written, form, seens, tree_in}
 use Rattle.fast_check_signatures.specs.NewNodes.{promised, function_body, arrow_body}
-use Rattle.fast_check_signatures.specs.Parameters.{default_seen, by_shown, assign_seen, pat_seen, pats_seen}
-use Rattle.fast_check_signatures.specs.Functions.{class_seen, return_type_missing, return_type_seen, or_own, param_seen, params_seen, function_seen, typed_arrow_seen, valued_arrow_seen, by_value, arrow_seen, any_params_from}
+use Rattle.fast_check_signatures.specs.Parameters.{by_shown, assign_seen, pat_seen, pats_seen}
+use Rattle.fast_check_signatures.specs.Functions.{class_seen, return_type_missing, return_type_seen, or_own, param_seen, params_seen, typed_arrow_seen, valued_arrow_seen, by_value, arrow_seen, any_params_from}
 use Rattle.fast_check_signatures.specs.Expressions.{expr_seen}
-use Rattle.fast_check_signatures.specs.Answers.{Answer, fault_at, stands, fails, before, goes, visited, joined, first_or_absent, answer_to, answer_of, kept_tree}
+use Rattle.fast_check_signatures.specs.Answers.{fault_at, stands, fails, before, goes, visited, first_or_absent, answer_to, answer_of}
 use Rattle.fast_check_values.specs.Kept.{stood, faults_of, expr_left, expr_faults, unless_left, pat_tree, pat_faults, pats_trees, pats_faults, patterns, params_trees, params_faults, known_type, known_faults, fn_tree, fn_faults, signed, implementation_tree, arrow_tree, arrow_faults, typed_arrow, valued_arrow}
-use Rattle.fast_check_values.proofs.Answered.{taken, passed, answers_are, wrapped, HasShape, expr_shape, value_tree}
+use Rattle.fast_check_values.proofs.Answered.{taken, answers_are, wrapped, HasShape, expr_shape, value_tree}
 use Rattle.fast_check_values.proofs.Patterns.{unless_is}
 
 -- ---- lists of what stands as one tree

@@ -1,5 +1,5 @@
 -- What stays of expressions, functions and parameters, and what is wrong with them: the answers to what is seen of each.
-use Rattle.std.specs.Prelude.{Bool, false, Option, Some, None, List, [], ◌∷◌, ◌++◌, map, is_some, option_map, if◌then◌else◌}
+use Rattle.std.specs.Prelude.{◌≡◌, ℕ, ◌<◌, drop, length, Bool, false, Option, Some, None, List, [], ◌∷◌, ◌++◌, map, is_some, option_map, unwrap_or, if◌then◌else◌}
 use Rattle.std.specs.List.{list_all}
 use Rattle.fast_check_syntax.specs.declared.kind.Kind.TheVariants.{BlockStmt}
 use Rattle.fast_check_syntax.specs.declared.source.SourceRange.{SourceRange}
@@ -7,15 +7,19 @@ use Rattle.fast_check_syntax.specs.declared.source.SyntaxContext.{SyntaxContext}
 use Rattle.fast_check_syntax.specs.declared.tree.Tree.{Tree, Absent}
 use Rattle.fast_check_syntax.specs.Shape.{◌is◌, kind_of, is_absent, list}
 use Rattle.fast_check_class_forms.specs.Functions.{Function-span, Function-ctxt, Function-body, Function-type_params, function, param, Param-span, Param-pat}
+use Rattle.fast_check_expression_forms.specs.Assertions.{TsSatisfiesExpr-span, TsSatisfiesExpr-type_ann, ts_satisfies_expr}
+use Rattle.fast_check_expression_forms.specs.Calls.{CallExpr-span, CallExpr-ctxt, CallExpr-callee, CallExpr-args, CallExpr-type_args, call_expr}
 use Rattle.fast_check_expression_forms.specs.Expressions.{ArrowExpr-span, ArrowExpr-ctxt, ArrowExpr-body, ArrowExpr-is_async, ArrowExpr-is_generator, ArrowExpr-type_params, ArrowExpr-return_type, arrow_expr}
-use Rattle.fast_check_expression_forms.specs.Patterns.{AssignPat-left, AssignPat-right}
+use Rattle.fast_check_expression_forms.specs.Patterns.{AssignPat-span, AssignPat-left, AssignPat-right, assign_pat}
 use Rattle.fast_check_program_forms.specs.Names.{BindingIdent-type_ann}
 use Rattle.fast_check_tree.specs.declared.helpers.literal_type.DeclMutabilityKind.TheVariants.{Mutable}
 use Rattle.fast_check_tree.specs.Builders.{type_ann}
+use Rattle.fast_check_tree.specs.GlobalCalls.{object_freeze_call_arg}
 use Rattle.fast_check_tree.specs.InferredType.{inferred_type}
 use Rattle.fast_check_tree.specs.ReturnClass.{return_class}
-use Rattle.fast_check_tree.specs.OptionalParams.{is_optional_param}
+use Rattle.fast_check_tree.specs.OptionalParams.{is_optional_param, is_from}
 use Rattle.fast_check_signatures.specs.declared.fault.Fault.{Fault}
+use Rattle.fast_check_signatures.specs.declared.fault.FaultKind.TheVariants.{MissingExplicitType}
 use Rattle.fast_check_signatures.specs.declared.function_kind.FunctionKind.{FunctionKind}
 use Rattle.fast_check_signatures.specs.declared.function_kind.FunctionKind.TheVariants.{ExpressionLike}
 use Rattle.fast_check_signatures.specs.Seen.{Seen, written}
@@ -23,7 +27,7 @@ use Rattle.fast_check_signatures.specs.NewNodes.{function_body, arrow_body, prom
 use Rattle.fast_check_signatures.specs.Parameters.{assign_seen, pat_seen}
 use Rattle.fast_check_signatures.specs.Functions.{class_seen, function_seen, implementation_seen, arrow_seen}
 use Rattle.fast_check_signatures.specs.Expressions.{expr_seen}
-use Rattle.fast_check_signatures.specs.Answers.{answer_to, first_or_absent, kept_tree}
+use Rattle.fast_check_signatures.specs.Answers.{fault_at, answer_to, first_or_absent, kept_tree}
 
 -- the tree that stands for what is seen
 abbrev pub stood : Seen → Tree
@@ -62,6 +66,24 @@ abbrev pub unless_left : Option Tree → Fault → List Fault
 unless_left (Some t) fault = []
 unless_left None fault = fault ∷ []
 
+-- `value satisfies type` with another value
+abbrev pub with_value : Tree → Tree → Tree
+with_value t value = ts_satisfies_expr (TsSatisfiesExpr-span t) value (TsSatisfiesExpr-type_ann t)
+
+-- a call with other arguments
+abbrev pub with_args : Tree → Tree → Tree
+with_args t args = call_expr (CallExpr-span t) (CallExpr-ctxt t) (CallExpr-callee t) args (CallExpr-type_args t)
+
+-- a call, which stays where it is `Object.freeze(x)` and its arguments stay
+abbrev pub is_freeze_call : SyntaxContext → Tree → Bool
+is_freeze_call unresolved t = is_some (object_freeze_call_arg unresolved (CallExpr-callee t) (CallExpr-args t))
+
+abbrev pub call_left : SyntaxContext → Tree → Option Tree
+call_left unresolved t = if is_freeze_call unresolved t then option_map (with_args t) (expr_left unresolved (CallExpr-args t) None) else None
+
+abbrev pub call_faults : SyntaxContext → Tree → List Fault
+call_faults unresolved t = if is_freeze_call unresolved t then expr_faults unresolved (CallExpr-args t) None else []
+
 -- ---- parameters
 
 -- the type of an identifier with a default, as `: type`, where it is written, or shown by the default
@@ -69,6 +91,14 @@ abbrev pub default_type : SyntaxContext → Tree → Option Tree
 default_type unresolved pat =
     let type = BindingIdent-type_ann (AssignPat-left pat) in
     if is_absent type then option_map type_ann (inferred_type Mutable unresolved (AssignPat-right pat)) else Some type
+
+-- a pattern whose default has to stay, round what is left of it
+abbrev pub default_left : SyntaxContext → Tree → Tree → Option SourceRange → Tree
+default_left unresolved pat left parent = assign_pat (AssignPat-span pat) left (unwrap_or (expr_left unresolved (AssignPat-right pat) parent) Absent)
+
+abbrev pub default_faults : SyntaxContext → Tree → Option SourceRange → SourceRange → List Fault
+default_faults unresolved pat parent place =
+    expr_faults unresolved (AssignPat-right pat) parent ++ unless_left (expr_left unresolved (AssignPat-right pat) parent) (fault_at MissingExplicitType place)
 
 -- a parameter's pattern, and whether all parameters from it on may be left out
 unfoldable pub pat_tree : SyntaxContext → Bool → Tree → Tree
@@ -96,6 +126,10 @@ pats_faults unresolved (pat ∷ pats) = pat_faults unresolved (list_all is_optio
 -- the patterns of parameters
 abbrev pub patterns : List Tree → List Tree
 patterns params = map (λ p. Param-pat p) params
+
+-- a start says of the place of each parameter whether all from there on may be left out
+abbrev pub IsStartOfParams : Option ℕ → List Tree → Type 0
+IsStartOfParams start params = (place : ℕ) → place < length params → is_from start place ≡ list_all is_optional_param (patterns (drop place params))
 
 -- the parameters of a function, in order, without decorators
 abbrev pub params_trees : SyntaxContext → List Tree → List Tree

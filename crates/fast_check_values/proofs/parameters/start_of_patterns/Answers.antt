@@ -1,4 +1,4 @@
-use Rattle.std.proofs.Common.{rules, ◌≡◌, ap, ◌∙◌, subst, map, map-id}
+use Rattle.std.proofs.Common.{rules, ◌∙◌, subst, map-id}
 use Rattle.fast_check_syntax.specs.Part.{seen}
 use Rattle.fast_check_tree.specs.OptionalParams.{IsOptionalStart}
 use Rattle.fast_check_values.proofs.Chains.{mapped_slice}
