@@ -65,6 +65,9 @@ pub record ReadsTsSatisfiesExpr (form : TsSatisfiesExpr Part) (t : Tree) : Type 
   pub expr : seen form.expr ≡ TsSatisfiesExpr-expr t
   pub type_ann : seen form.type_ann ≡ TsSatisfiesExpr-type_ann t
 
+abbrev pub ts_satisfies_expr : SourceRange → Tree → Tree → Tree
+ts_satisfies_expr span expr type_ann = node kinds.TsSatisfiesExpr (Range span ∷ expr ∷ type_ann ∷ [])
+
 -- `expr as const`.
 abbrev pub TsConstAssertion-span : Tree → SourceRange
 TsConstAssertion-span t = range_of (part 0 t)

@@ -1,13 +1,14 @@
 -- Members and calls.
--- Each form has its fields by their names, and what it holds once it reads a node.
-use Rattle.std.specs.Prelude.{◌≡◌, Bool, ℕ, List}
+-- Each form has its fields by their names, and what it holds once it reads a node; where it is made, the node of its fields.
+use Rattle.std.specs.Prelude.{◌≡◌, Bool, ℕ, List, [], ◌∷◌}
 use Rattle.std.specs.Borrow.{Bor}
+use Rattle.fast_check_syntax.specs.declared.kind.Kind.TheVariants as kinds
 use Rattle.fast_check_syntax.specs.declared.part.Part.{Part}
 use Rattle.fast_check_syntax.specs.declared.source.SourceRange.{SourceRange}
 use Rattle.fast_check_syntax.specs.declared.source.SyntaxContext.{SyntaxContext}
-use Rattle.fast_check_syntax.specs.declared.tree.Tree.{Tree}
+use Rattle.fast_check_syntax.specs.declared.tree.Tree.{Tree, Range, Context}
 use Rattle.fast_check_syntax.specs.Part.{seen}
-use Rattle.fast_check_syntax.specs.Shape.{part, range_of, text_of, flag_of, context_of}
+use Rattle.fast_check_syntax.specs.Shape.{node, part, range_of, text_of, flag_of, context_of}
 use Rattle.fast_check_expression_forms.specs.declared.calls.MemberExpr.{MemberExpr}
 use Rattle.fast_check_expression_forms.specs.declared.calls.SuperPropExpr.{SuperPropExpr}
 use Rattle.fast_check_expression_forms.specs.declared.calls.CallExpr.{CallExpr}
@@ -65,6 +66,10 @@ pub record ReadsCallExpr (form : CallExpr Part) (t : Tree) : Type 0 where
   pub callee : seen form.callee ≡ CallExpr-callee t
   pub args : seen form.args ≡ CallExpr-args t
   pub type_args : seen form.type_args ≡ CallExpr-type_args t
+
+abbrev pub call_expr : SourceRange → SyntaxContext → Tree → Tree → Tree → Tree
+call_expr span ctxt callee args type_args =
+    node kinds.CallExpr (Range span ∷ Context ctxt ∷ callee ∷ args ∷ type_args ∷ [])
 
 -- `super`, as what is called.
 abbrev pub Super-span : Tree → SourceRange

@@ -6,6 +6,7 @@ ghost use Rattle.fast_check_expression_forms.specs.Assertions.{
   ReadsTsAsExpr,
   ts_as_expr,
   ReadsTsSatisfiesExpr,
+  ts_satisfies_expr,
   ReadsTsConstAssertion,
   ReadsTsNonNullExpr,
   ReadsTsInstantiation,
@@ -113,6 +114,25 @@ impl<'a> TsSatisfiesExpr<Part<'a>> {
             expr: node.part(1),
             type_ann: node.part(2),
         }
+    }
+}
+
+impl TsSatisfiesExpr<Tree> {
+    /// The node of these fields.
+    pub fn into_tree(self, alloc: Global) -> Result<Tree, AllocError>
+        ensures { IfOk result (λ tree. tree ≡
+            ts_satisfies_expr self.span self.expr self.type_ann) }
+    {
+        let TsSatisfiesExpr {
+            span,
+            expr,
+            type_ann,
+        } = self;
+        Tree::node(
+            alloc,
+            Kind::TsSatisfiesExpr,
+            [Tree::Range(span), expr, type_ann],
+        )
     }
 }
 

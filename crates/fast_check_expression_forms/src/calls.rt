@@ -1,8 +1,10 @@
+ghost use Rattle.std.specs.Prelude.{◌≡◌, IfOk};
 ghost use Rattle.fast_check_syntax.specs.Part.{seen};
 ghost use Rattle.fast_check_expression_forms.specs.Calls.{
   ReadsMemberExpr,
   ReadsSuperPropExpr,
   ReadsCallExpr,
+  call_expr,
   ReadsSuper,
   ReadsImport,
   ReadsNewExpr,
@@ -10,7 +12,8 @@ ghost use Rattle.fast_check_expression_forms.specs.Calls.{
   ReadsOptCall,
 };
 
-use fast_check_syntax::{Part, SourceRange, SyntaxContext};
+use fast_check_syntax::{Kind, Part, SourceRange, SyntaxContext, Tree};
+use std::alloc::{AllocError, Global};
 
 /// `obj.prop`, `obj.#prop` or `obj[prop]`.
 #[derive(Drop)]
@@ -80,6 +83,33 @@ impl<'a> CallExpr<Part<'a>> {
             args: node.part(3),
             type_args: node.part(4),
         }
+    }
+}
+
+impl CallExpr<Tree> {
+    /// The node of these fields.
+    pub fn into_tree(self, alloc: Global) -> Result<Tree, AllocError>
+        ensures { IfOk result (λ tree. tree ≡
+            call_expr self.span self.ctxt self.callee self.args self.type_args) }
+    {
+        let CallExpr {
+            span,
+            ctxt,
+            callee,
+            args,
+            type_args,
+        } = self;
+        Tree::node(
+            alloc,
+            Kind::CallExpr,
+            [
+                Tree::Range(span),
+                Tree::Context(ctxt),
+                callee,
+                args,
+                type_args,
+            ],
+        )
     }
 }
 

@@ -13,7 +13,7 @@ pub use builders::{
     IdentTypeRef, any_type_ann, is_void_type, never_value, new_ident, regex_type, ts_keyword_type,
     ts_lit_type, ts_readonly, ts_tuple_element, type_ann, type_ref,
 };
-pub use global_calls::object_freeze_call_arg;
+pub use global_calls::{is_global, object_freeze_call_arg};
 pub use infer_type::{maybe_infer_type, shows_type};
 pub use literal_type::{DeclMutabilityKind, maybe_lit_to_ts_type};
 pub use optional_params::ParamsOptionalStartIndex;

@@ -1,43 +1,15 @@
+//! What stands of values, functions and parameters where a type checker is to read them without inference.
 #![tactic(auto)]
-ghost use Rattle.std.specs.Prelude.{◌≡◌, IfOk, ◌++◌};
-ghost use Rattle.fast_check_syntax.specs.Part.{seen};
-ghost use Rattle.fast_check_signatures.specs.Answers.{answer_to, kept_tree, first_or_absent};
-ghost use Rattle.fast_check_signatures.specs.Expressions.{expr_seen};
-ghost use Rattle.fast_check_signatures.specs.Functions.{function_seen, implementation_seen};
 
-use fast_check_signatures::{Fault, FunctionKind};
-use fast_check_syntax::{Part, SourceRange, SyntaxContext, Tree};
-use std::alloc::{AllocError, Global};
+mod expressions;
+mod functions;
+mod new_nodes;
+mod parameters;
 
-pub fn leave_expr(
-    alloc: Global,
-    unresolved: SyntaxContext,
-    expr: Part<'_>,
-    place: Option<SourceRange>,
-    faults: &mut Vec<Fault>,
-) -> Result<Option<Tree>, AllocError>
-    ensures kept { IfOk result (λ tree. tree ≡ kept_tree (answer_to (expr_seen unresolved (seen expr.entry) place))) }
-    ensures faults { IfOk result (λ _. faults.new.items ≡ faults.old.items ++ (answer_to (expr_seen unresolved (seen expr.entry) place)).faults) }
-{
-    Err(AllocError)
-}
-
-pub fn transform_fn(
-    alloc: Global,
-    unresolved: SyntaxContext,
-    kind: FunctionKind,
-    place: SourceRange,
-    function: Part<'_>,
-    faults: &mut Vec<Fault>,
-) -> Result<Tree, AllocError>
-    ensures kept { IfOk result (λ tree. tree ≡ first_or_absent (answer_to (function_seen unresolved (expr_seen unresolved) kind place (seen function.entry))).trees) }
-    ensures faults { IfOk result (λ _. faults.new.items ≡ faults.old.items ++ (answer_to (function_seen unresolved (expr_seen unresolved) kind place (seen function.entry))).faults) }
-{
-    Err(AllocError)
-}
-
-pub fn transform_implementation(alloc: Global, function: Part<'_>) -> Result<Tree, AllocError>
-    ensures { IfOk result (λ tree. tree ≡ first_or_absent (answer_to (implementation_seen (seen function.entry))).trees) }
-{
-    Err(AllocError)
-}
+pub use expressions::{leave_expr, leave_value};
+pub use functions::{transform_arrow, transform_fn, transform_implementation};
+pub use new_nodes::{
+    any_param, arrow_body, empty_object_pat, function_body, never_array, never_in_parens,
+    or_undefined, promise_of, promised, void_or_promise_void,
+};
+pub use parameters::transform_param_pat;

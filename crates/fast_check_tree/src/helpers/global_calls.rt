@@ -6,8 +6,9 @@ use fast_check_expression_forms::{CallExpr, ExprOrSpread, MemberExpr};
 use fast_check_program_forms::{Ident, IdentName};
 use fast_check_syntax::{Kind, Part, SyntaxContext, Tree};
 
-/// Whether an expression is an identifier of this name that nothing in the module binds.
-fn is_global(name: &str, unresolved: SyntaxContext, expr: Part<'_>) -> bool
+/// Whether an expression, or the name of a type, is an identifier of this name that nothing in the module binds.
+/// `unresolved` is the scope number of such names. It takes no memory.
+pub fn is_global(name: &str, unresolved: SyntaxContext, expr: Part<'_>) -> bool
     ensures { result ≡ globals.is_global name.now unresolved (seen expr.entry) }
 {
     if expr.kind() != Kind::Ident {

@@ -1,0 +1,138 @@
+use Rattle.std.proofs.Common.{◌≡◌, true, false, None, option_map, [], ◌∷◌, ◌++◌, sym, ap, ◌∙◌, arith}
+use Rattle.fast_check_syntax.specs.declared.kind.Kind.TheVariants as kinds
+use Rattle.fast_check_syntax.specs.Part.{seen}
+use Rattle.fast_check_syntax.specs.Shape.{kind_of, parts, is_absent}
+use Rattle.fast_check_expression_forms.specs.Expressions.{ArrowExpr-span}
+use Rattle.fast_check_expression_forms.specs.Patterns.{AssignPat-left, ArrayPat-type_ann, ObjectPat-type_ann}
+use Rattle.fast_check_signatures.specs.declared.fault.FaultKind.TheVariants.{UnsupportedDestructuring}
+use Rattle.fast_check_signatures.specs.Seen.{tree_in}
+use Rattle.fast_check_signatures.specs.Answers.{fault_at}
+use Rattle.fast_check_signatures.specs.Functions.{return_type_seen, return_type_missing, or_own}
+use Rattle.fast_check_signatures.specs.Expressions.{is_plain, is_compound}
+use Rattle.fast_check_values.proofs.Answered.{IsOtherExpr, faults_plain, faults_as, faults_assertion, left_other, faults_other}
+use Rattle.fast_check_values.proofs.Chains.{unchanged, two_steps, three_steps, ok_all}
+use Rattle.fast_check_values.proofs.Heights.{height_some}
+use Rattle.fast_check_values.proofs.Patterns.{IsOtherPat, IsOtherLeft, assign_known_faults, assign_array_typed_faults, assign_object_typed_faults, assign_other, assign_other_faults, pat_other, pat_other_faults}
+use Rattle.fast_check_values.proofs.Signed.{fn_faults_are, arrow_known_faults, no_known_faults, arrow_valued_faults}
+use Rattle.fast_check_values.specs.Kept.{faults_of, expr_left, expr_faults, unless_left, known_type, known_faults, pats_faults, params_faults}
+use Rattle.fast_check_values.proofs.+leave.Goals as goal
+
+pub expressions::leave_expr-returns-then-is_plain-clause-faults : goal.expressions::leave_expr-returns-then-is_plain-clause-faults
+expressions::leave_expr-returns-then-is_plain-clause-faults t c =
+    let plain : is_plain (kind_of (seen c.args.expr)) ≡ true = sym (c.is_plain.ensures ∙ ap is_plain c.kind-kind.ensures) ∙ c.if-is_plain.true in
+    unchanged c.args.faults.now.items _ (faults_plain c.args.unresolved (seen c.args.expr) c.args.place plain)
+
+pub expressions::leave_expr-leave_satisfies-requires : goal.expressions::leave_expr-leave_satisfies-requires
+expressions::leave_expr-leave_satisfies-requires t c =
+    (omega (arith, c.decreases, height_some (seen c.args.expr) kinds.TsSatisfiesExpr (sym c.kind-kind.ensures ∙ c.in-TsSatisfiesExpr.is) (λ p. cc)), tt)
+
+pub expressions::leave_expr-leave_call-requires : goal.expressions::leave_expr-leave_call-requires
+expressions::leave_expr-leave_call-requires t c =
+    (omega (arith, c.decreases, height_some (seen c.args.expr) kinds.CallExpr (sym c.kind-kind.ensures ∙ c.in-CallExpr.is) (λ p. cc)), tt)
+
+pub expressions::leave_expr-transform_arrow-requires : goal.expressions::leave_expr-transform_arrow-requires
+expressions::leave_expr-transform_arrow-requires t c =
+    (omega (arith, c.decreases, height_some (seen c.args.expr) kinds.ArrowExpr (sym c.kind-kind.ensures ∙ c.in-ArrowExpr.is) (λ p. cc)), tt)
+
+pub expressions::leave_expr-returns-in_ok-never_as-in-TsAsExpr-clause-faults : goal.expressions::leave_expr-returns-in_ok-never_as-in-TsAsExpr-clause-faults
+expressions::leave_expr-returns-in_ok-never_as-in-TsAsExpr-clause-faults t c =
+    unchanged c.args.faults.now.items _ (faults_as c.args.unresolved (seen c.args.expr) c.args.place (sym c.kind-kind.ensures ∙ c.in-TsAsExpr.is))
+
+pub expressions::leave_expr-returns-in_ok-asserted_never-in-TsTypeAssertion-clause-faults : goal.expressions::leave_expr-returns-in_ok-asserted_never-in-TsTypeAssertion-clause-faults
+expressions::leave_expr-returns-in_ok-asserted_never-in-TsTypeAssertion-clause-faults t c =
+    unchanged c.args.faults.now.items _ (faults_assertion c.args.unresolved (seen c.args.expr) c.args.place (sym c.kind-kind.ensures ∙ c.in-TsTypeAssertion.is))
+
+pub expressions::leave_expr-returns-in_default : goal.expressions::leave_expr-returns-in_default
+expressions::leave_expr-returns-in_default t c =
+    let d = c.in_default in
+    let k = c.kind-kind.ensures in
+    let other : IsOtherExpr (kind_of (seen c.args.expr)) = record {
+      not_plain = sym (c.is_plain.ensures ∙ ap is_plain k) ∙ c.if-is_plain.false;
+      not_compound = sym (c.is_compound.ensures ∙ ap is_compound k) ∙ c.if-is_compound.false;
+      not-TsSatisfiesExpr = λ e. d.not-TsSatisfiesExpr (k ∙ e);
+      not-TsAsExpr = λ e. d.not-TsAsExpr (k ∙ e);
+      not-TsTypeAssertion = λ e. d.not-TsTypeAssertion (k ∙ e);
+      not-CallExpr = λ e. d.not-CallExpr (k ∙ e);
+      not-FnExpr = λ e. d.not-FnExpr (k ∙ e);
+      not-ArrowExpr = λ e. d.not-ArrowExpr (k ∙ e);
+    } in
+    record {
+      kept = sym (left_other c.args.unresolved (seen c.args.expr) c.args.place other);
+      faults = unchanged c.args.faults.now.items _ (faults_other c.args.unresolved (seen c.args.expr) c.args.place other);
+    }
+
+pub functions::transform_fn-returns-clause-faults : goal.functions::transform_fn-returns-clause-faults
+functions::transform_fn-returns-clause-faults t c =
+    let u = c.args.unresolved in
+    let f = seen c.args.function in
+    ok_all _ _ (two_steps _ _ _ _ _ _ c.in_ok-params.ensures.faults c.in_ok-return_type.ensures.faults
+    (fn_faults_are u c.args.kind c.args.place f ∙ ap (λ p. faults_of (return_type_seen c.args.kind c.args.place f) ++ params_faults u (parts p)) (sym c.of.ensures.params)))
+
+pub functions::transform_arrow-returns-in_ok-params-in-Some-clause-faults : goal.functions::transform_arrow-returns-in_ok-params-in-Some-clause-faults
+functions::transform_arrow-returns-in_ok-params-in-Some-clause-faults t c =
+    let u = c.args.unresolved in
+    let a = seen c.args.arrow in
+    let at : c.or_own-place.result ≡ or_own c.args.place (ArrowExpr-span a) = c.or_own-place.ensures ∙ ap (or_own c.args.place) c.of-form.ensures.span in
+    let known = sym (c.in_ok-return_type.ensures.kept ∙ ap (λ p. option_map tree_in (known_type u p a)) at) ∙ c.in-Some.is in
+    ok_all _ _ (two_steps _ _ _ _ _ _ c.in_ok-params-in-Some.ensures.faults c.in_ok-return_type.ensures.faults
+    (arrow_known_faults u c.args.place a c.in-Some.return_type known ∙ (λ i. known_faults (known_type u (sym at i) a) ++ pats_faults u (parts (sym c.of-form.ensures.params i)))))
+
+pub functions::transform_arrow-returns-in_ok-params-in-None-clause-faults : goal.functions::transform_arrow-returns-in_ok-params-in-None-clause-faults
+functions::transform_arrow-returns-in_ok-params-in-None-clause-faults t c =
+    let u = c.args.unresolved in
+    let a = seen c.args.arrow in
+    let at : c.or_own-place.result ≡ or_own c.args.place (ArrowExpr-span a) = c.or_own-place.ensures ∙ ap (or_own c.args.place) c.of-form.ensures.span in
+    let none = sym (c.in_ok-return_type.ensures.kept ∙ ap (λ p. option_map tree_in (known_type u p a)) at) ∙ c.in-None.is in
+    ok_all _ _ (three_steps _ _ _ _ _ _ _ _ _ c.in_ok-params-in-None.ensures.faults c.in_ok-value-in-None.ensures.faults c.in_ok-return_type.ensures.faults
+    (ap (λ p. known_faults (known_type u p a)) at ∙ no_known_faults u c.args.place a none)
+    (arrow_valued_faults u c.args.place a none ∙ (λ i. expr_faults u (sym c.of-form.ensures.body i) None ++
+    (unless_left (expr_left u (sym c.of-form.ensures.body i) None) (fault_at (return_type_missing false (sym c.of-form.ensures.is_async i)) (sym at i)) ++ pats_faults u (parts (sym c.of-form.ensures.params i))))))
+
+pub parameters::transform_assign_pat-returns-in-Some-clause-faults : goal.parameters::transform_assign_pat-returns-in-Some-clause-faults
+parameters::transform_assign_pat-returns-in-Some-clause-faults t c =
+    let kind = sym (c.kind.ensures ∙ ap kind_of c.of.ensures.left) ∙ c.in-BindingIdent.is in
+    ok_all _ _ (unchanged c.args.faults.now.items _ (assign_known_faults c.args.unresolved c.args.is_optional (seen c.args.pat) c.in-Some.ty kind (sym c.in_ok-ty-in-BindingIdent.ensures ∙ c.in-Some.is)))
+
+pub parameters::transform_assign_pat-returns-in_ok-never_array-in-ArrayPat-clause-faults : goal.parameters::transform_assign_pat-returns-in_ok-never_array-in-ArrayPat-clause-faults
+parameters::transform_assign_pat-returns-in_ok-never_array-in-ArrayPat-clause-faults t c =
+    let kind = sym (c.kind.ensures ∙ ap kind_of c.of.ensures.left) ∙ c.in-ArrayPat.is in
+    let typed = sym (c.is_absent.ensures ∙ ap is_absent (c.of-in-ArrayPat.ensures.type_ann ∙ ap (λ l. ArrayPat-type_ann l) c.of.ensures.left)) ∙ c.if-is_absent.false in
+    ok_all _ _ (unchanged c.args.faults.now.items _ (assign_array_typed_faults c.args.unresolved c.args.is_optional (seen c.args.pat) kind typed))
+
+pub parameters::transform_assign_pat-returns-in_ok-never_value-in-ObjectPat-clause-faults : goal.parameters::transform_assign_pat-returns-in_ok-never_value-in-ObjectPat-clause-faults
+parameters::transform_assign_pat-returns-in_ok-never_value-in-ObjectPat-clause-faults t c =
+    let kind = sym (c.kind.ensures ∙ ap kind_of c.of.ensures.left) ∙ c.in-ObjectPat.is in
+    let typed = sym (c.is_absent-in-ObjectPat.ensures ∙ ap is_absent (c.of-in-ObjectPat.ensures.type_ann ∙ ap (λ l. ObjectPat-type_ann l) c.of.ensures.left)) ∙ c.if-is_absent-2.false in
+    ok_all _ _ (unchanged c.args.faults.now.items _ (assign_object_typed_faults c.args.unresolved c.args.is_optional (seen c.args.pat) kind typed))
+
+pub parameters::transform_assign_pat-returns-in_ok-push-in_default : goal.parameters::transform_assign_pat-returns-in_ok-push-in_default
+parameters::transform_assign_pat-returns-in_ok-push-in_default t c =
+    let d = c.in_default in
+    let k = c.kind.ensures ∙ ap kind_of c.of.ensures.left in
+    let other : IsOtherLeft (kind_of (AssignPat-left (seen c.args.pat))) = record {
+      not-BindingIdent = λ e. d.not-BindingIdent (k ∙ e);
+      not-ArrayPat = λ e. d.not-ArrayPat (k ∙ e);
+      not-ObjectPat = λ e. d.not-ObjectPat (k ∙ e);
+    } in
+    record {
+      kept = sym (assign_other c.args.unresolved c.args.is_optional (seen c.args.pat) other);
+      faults = c.in_ok-push-in_default.ensures.items ∙ ap (λ fs. c.args.faults.now.items ++ fs)
+          (ap (λ s. fault_at UnsupportedDestructuring s ∷ []) c.of.ensures.span ∙ sym (assign_other_faults c.args.unresolved c.args.is_optional (seen c.args.pat) other));
+    }
+
+pub parameters::transform_param_pat-returns-in_ok-push-in_default : goal.parameters::transform_param_pat-returns-in_ok-push-in_default
+parameters::transform_param_pat-returns-in_ok-push-in_default t c =
+    let d = c.in_default in
+    let k = c.kind.ensures in
+    let other : IsOtherPat (kind_of (seen c.args.pat)) = record {
+      not-BindingIdent = λ e. d.not-BindingIdent (k ∙ e);
+      not-AssignPat = λ e. d.not-AssignPat (k ∙ e);
+      not-RestPat = λ e. d.not-RestPat (k ∙ e);
+      not-ArrayPat = λ e. d.not-ArrayPat (k ∙ e);
+      not-ObjectPat = λ e. d.not-ObjectPat (k ∙ e);
+    } in
+    record {
+      kept = sym (pat_other c.args.unresolved c.args.is_optional (seen c.args.pat) other);
+      faults = c.in_ok-push-in_default.ensures.items ∙ ap (λ fs. c.args.faults.now.items ++ fs)
+          (ap (λ s. fault_at UnsupportedDestructuring s ∷ []) c.range_of_node.ensures ∙ sym (pat_other_faults c.args.unresolved c.args.is_optional (seen c.args.pat) other));
+    }
