@@ -1,5 +1,5 @@
 -- What `retain` leaves of the places, where the closure prunes the comments of each and keeps those that have some left.
-use Rattle.std.proofs.Common.{◌≡◌, Bool, not, cond, List, [], ◌∷◌, refl, ◌∙◌, subst}
+use Rattle.std.proofs.Common.{◌≡◌, Bool, not, cond, List, [], ◌∷◌, ◌∙◌, subst}
 use Rattle.std.specs.Map.Calls.{RetainsPairs}
 use Rattle.std.specs.List.{filter}
 use Rattle.fast_check_syntax.specs.declared.source.SourcePos.{SourcePos}

@@ -15,13 +15,15 @@ use Rattle.fast_check_signatures.specs.declared.fault.Fault.{Fault}
 use Rattle.fast_check_signatures.specs.declared.fault.FaultKind.TheVariants.{MissingExplicitType, UnsupportedDestructuring}
 use Rattle.fast_check_signatures.specs.declared.function_kind.FunctionKind.TheVariants.{DeclarationLike}
 use Rattle.fast_check_signatures.specs.Seen.{Seen, refused, seens}
-use Rattle.fast_check_signatures.specs.Answers.{Answer, first_or_absent, fault_at, goes, kept_tree, answer_to, answer_of}
+use Rattle.fast_check_signatures.specs.Answers.{Answer, first_or_absent, fault_at, kept_tree, answer_to, answer_of}
 use Rattle.fast_check_signatures.specs.Expressions.{expr_seen}
 use Rattle.fast_check_signatures.specs.Functions.{function_seen, implementation_seen}
 use Rattle.fast_check_signatures.proofs.Gone.{gone}
 use Rattle.fast_check_signatures.proofs.TypedFunctions.{implementation_faultless}
 use Rattle.fast_check_tree.specs.declared.helpers.literal_type.DeclMutabilityKind.{DeclMutabilityKind}
 use Rattle.fast_check_forms.specs.Ranges.{range_of_node}
+use Rattle.fast_check_values.specs.Kept.{expr_left, expr_faults}
+use Rattle.fast_check_values.specs.Kept as v
 use Rattle.fast_check_skeleton.specs.Mutability.{mutability_of}
 use Rattle.fast_check_skeleton.specs.Surroundings.{Surroundings}
 use Rattle.fast_check_skeleton.specs.Visible.{declared_ident, declared_type, by_inferred, kept_value_seen, ident_declarator_seen, declarator_seen, is_ambient, is_public_declarator, signature_of, function_decl_seen}
@@ -31,13 +33,21 @@ module _ (around : Surroundings) (place : SourceRange) (value : Tree) where
   abbrev value_if : Bool → Seen
   value_if b = if b then refused else expr_seen around.unresolved value (Some place)
 
-  pub value_absent : is_absent value ≡ true → value_answer around place value ≡ goes []
+  pub absent_value : is_absent value ≡ true → kept_tree (value_answer around place value) ≡ None
   unfolding value_answer
-  value_absent e = ap (λ b. answer_to (value_if b)) e
+  absent_value e = ap (λ b. kept_tree (answer_to (value_if b))) e
 
-  pub value_present : is_absent value ≡ false → value_answer around place value ≡ answer_to (expr_seen around.unresolved value (Some place))
+  pub absent_faults : is_absent value ≡ true → (value_answer around place value).faults ≡ []
   unfolding value_answer
-  value_present e = ap (λ b. answer_to (value_if b)) e
+  absent_faults e = ap (λ b. (answer_to (value_if b)).faults) e
+
+  pub present_value : is_absent value ≡ false → kept_tree (value_answer around place value) ≡ expr_left around.unresolved value (Some place)
+  unfolding value_answer expr_left
+  present_value e = ap (λ b. kept_tree (answer_to (value_if b))) e
+
+  pub present_faults : is_absent value ≡ false → (value_answer around place value).faults ≡ expr_faults around.unresolved value (Some place)
+  unfolding value_answer expr_faults
+  present_faults e = ap (λ b. (answer_to (value_if b)).faults) e
 
 kept_of : (a : Answer) (b : Bool) (t : Tree) → a.is_leavable ≡ b → (if b then Some (first_or_absent a.trees) else None) ≡ Some t → (a.is_leavable ≡ true) × (first_or_absent a.trees ≡ t)
 kept_of a true t e f = (e, cc)
@@ -153,20 +163,20 @@ module _ (around : Surroundings) (place : SourceRange) (decl : Tree) where
   abbrev signature_if : Bool → Seen
   signature_if b = if b then implementation_seen (FnDecl-function decl) else here
 
-  pub implementation_tree : around.is_implementation place ≡ true → signature_tree around place decl ≡ first_or_absent (answer_to (implementation_seen (FnDecl-function decl))).trees
-  unfolding signature_tree
+  pub implementation_tree : around.is_implementation place ≡ true → signature_tree around place decl ≡ v.implementation_tree (FnDecl-function decl)
+  unfolding signature_tree v.implementation_tree
   implementation_tree e = ap (λ b. first_or_absent (answer_to (signature_if b)).trees) e
 
   pub implementation_faults : around.is_implementation place ≡ true → signature_faults around place decl ≡ []
   unfolding signature_faults
   implementation_faults e = ap (λ b. (answer_to (signature_if b)).faults) e ∙ implementation_faultless (FnDecl-function decl)
 
-  pub other_tree : around.is_implementation place ≡ false → signature_tree around place decl ≡ first_or_absent (answer_to here).trees
-  unfolding signature_tree
+  pub other_tree : around.is_implementation place ≡ false → signature_tree around place decl ≡ v.fn_tree around.unresolved DeclarationLike (Ident-span (FnDecl-ident decl)) (FnDecl-function decl)
+  unfolding signature_tree v.fn_tree
   other_tree e = ap (λ b. first_or_absent (answer_to (signature_if b)).trees) e
 
-  pub other_faults : around.is_implementation place ≡ false → signature_faults around place decl ≡ (answer_to here).faults
-  unfolding signature_faults
+  pub other_faults : around.is_implementation place ≡ false → signature_faults around place decl ≡ v.fn_faults around.unresolved DeclarationLike (Ident-span (FnDecl-ident decl)) (FnDecl-function decl)
+  unfolding signature_faults v.fn_faults
   other_faults e = ap (λ b. (answer_to (signature_if b)).faults) e
 
   abbrev decl_if : Bool → Seen

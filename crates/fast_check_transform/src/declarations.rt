@@ -54,7 +54,7 @@ fn retyped(alloc: Global, declarator: Part<'_>, ty: Tree, value: Tree) -> Result
 
 /// The value of a declarator as it stays, where it shows no type; none where it may not stay, or is not there. It is
 /// named by the identifier at `place`.
-#[tactic(auto, using(crate::proofs::Declared::value_absent, crate::proofs::Declared::value_present))]
+#[tactic(auto, using(crate::proofs::Declared::absent_value, crate::proofs::Declared::absent_faults, crate::proofs::Declared::present_value, crate::proofs::Declared::present_faults))]
 fn keep_value(
     alloc: Global,
     asked: Asked<'_>,

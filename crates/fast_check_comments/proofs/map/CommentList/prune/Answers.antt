@@ -1,5 +1,4 @@
-use Rattle.std.proofs.Common.{◌≡◌, rules, ◌∙◌, ap}
-use Rattle.std.specs.List.{filter}
+use Rattle.std.proofs.Common.{rules}
 use Rattle.std.proofs.lemmas.Fn.{filter_same}
 use Rattle.fast_check_comments.specs.Kept.{is_kept}
 use Rattle.fast_check_comments.proofs.map.CommentList.prune.Goals as goal

@@ -1,4 +1,4 @@
-use Rattle.std.proofs.Common.{◌≡◌, rules}
+use Rattle.std.proofs.Common.{rules}
 use Rattle.fast_check_comments.proofs.Pruned.{pruned_from_retain}
 use Rattle.fast_check_comments.proofs.map.CommentMap.prune.Goals as goal
 
