@@ -5,8 +5,8 @@ use Rattle.fast_check_syntax.specs.declared.kind.Kind.TheVariants.{VarDeclarator
 use Rattle.fast_check_syntax.specs.declared.source.SourceRange.{SourceRange}
 use Rattle.fast_check_syntax.specs.declared.tree.Tree.{Tree}
 use Rattle.fast_check_syntax.specs.Shape.{◌is◌, node}
-use Rattle.fast_check_signatures.specs.Seen.{Seen, written, range, scope, flag, form, inferred, faulty, refused, hidden}
-use Rattle.fast_check_signatures.specs.Answers.{Answer, Part, fails, goes, declarator_answer, declarator_form, default_form, function_form, arrow_form, around, form_answer, visited, answer_to, answered}
+use Rattle.fast_check_signatures.specs.Seen.{Seen, written, form, inferred, refused}
+use Rattle.fast_check_signatures.specs.Answers.{Answer, Part, fails, goes, declarator_answer, declarator_form, default_form, function_form, arrow_form, around, visited, answer_to, answered}
 
 abbrev Treeless : Answer → Type 0
 Treeless a = a.is_leavable ≡ false → a.trees ≡ []

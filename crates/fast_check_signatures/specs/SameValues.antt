@@ -1,7 +1,7 @@
 -- Agreement of values, functions and parameters but for what is hidden: one rule for each part that may differ. All else agrees under a renaming of positions and scope numbers.
-use Rattle.std.specs.Prelude.{◌≡◌, Bool, true, false, Option, Some, None, List, [], ◌∷◌, map, is_some, if◌then◌else◌}
+use Rattle.std.specs.Prelude.{◌≡◌, Bool, true, false, Some, None, List, [], ◌∷◌, map, if◌then◌else◌}
 use Rattle.fast_check_syntax.specs.declared.kind.Kind.{Kind}
-use Rattle.fast_check_syntax.specs.declared.kind.Kind.TheVariants.{AssignPat, ArrayPat, ObjectPat, RestPat, BindingIdent, BlockStmt, CallExpr, TsSatisfiesExpr, TsAsExpr, TsTypeAssertion, FnExpr, ArrowExpr}
+use Rattle.fast_check_syntax.specs.declared.kind.Kind.TheVariants.{AssignPat, ArrayPat, ObjectPat, RestPat, BindingIdent, BlockStmt, TsSatisfiesExpr, TsAsExpr, TsTypeAssertion, FnExpr, ArrowExpr}
 use Rattle.fast_check_syntax.specs.declared.source.SyntaxContext.{SyntaxContext}
 use Rattle.fast_check_syntax.specs.declared.tree.Tree.{Tree}
 use Rattle.fast_check_syntax.specs.Shape.{◌is◌, kind_of, parts, is_absent}

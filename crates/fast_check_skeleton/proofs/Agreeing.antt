@@ -10,17 +10,17 @@ use Rattle.fast_check_syntax.specs.declared.source.SyntaxContext.{SyntaxContext}
 use Rattle.fast_check_syntax.specs.declared.tree.Tree as tree
 use Rattle.fast_check_syntax.specs.declared.tree.Tree.{Tree}
 use Rattle.fast_check_syntax.specs.Shape.{◌is◌, is_kind, not_absent, kind_of, parts, is_absent, has_word, range_of, part, list}
-use Rattle.fast_check_syntax.specs.Moves.{Moves, Renaming, IsRenaming, IsPair, partners, twice, moved, moved_range}
+use Rattle.fast_check_syntax.specs.Moves.{Moves, Renaming, IsRenaming, IsPair, partners, twice, moved}
 use Rattle.fast_check_syntax.specs.Same.{SameTree, SameRange, Each}
-use Rattle.fast_check_syntax.proofs.Moved.{is_absent_moved, has_word_moved, node_moved, part_moved, range_of_moved}
+use Rattle.fast_check_syntax.proofs.Moved.{has_word_moved, node_moved, part_moved, range_of_moved}
 use Rattle.fast_check_syntax.proofs.Made.{part_node}
-use Rattle.fast_check_syntax.proofs.Partners.{partners-keep as partners_keep, twice-keeps as twice_keeps, to_partner}
+use Rattle.fast_check_syntax.proofs.Partners.{partners-keep as partners_keep, twice-keeps as twice_keeps}
 use Rattle.fast_check_syntax.proofs.Same.{tree_to, tree_from, range_to, range_from}
 use Rattle.fast_check_forms.specs.Ranges.{range_of_node}
 use Rattle.fast_check_program_forms.specs.Names.{Ident-span}
 use Rattle.fast_check_program_forms.specs.Programs.{Module-span, Module-shebang}
 use Rattle.fast_check_program_forms.specs.ModuleDecls.{ExportDecl-span, ExportDecl-decl}
-use Rattle.fast_check_statement_forms.specs.Declarations.{FnDecl-ident, FnDecl-declare, FnDecl-function, VarDecl-span, VarDecl-ctxt, VarDecl-kind, VarDecl-declare, VarDecl-decls, VarDeclarator-span, VarDeclarator-name, VarDeclarator-init, VarDeclarator-definite}
+use Rattle.fast_check_statement_forms.specs.Declarations.{FnDecl-ident, FnDecl-declare, FnDecl-function, VarDecl-span, VarDecl-ctxt, VarDecl-kind, VarDecl-declare, VarDecl-decls, VarDeclarator-span, VarDeclarator-name, VarDeclarator-init}
 use Rattle.fast_check_tree.specs.declared.helpers.literal_type.DeclMutabilityKind.{DeclMutabilityKind}
 use Rattle.fast_check_tree.specs.declared.helpers.literal_type.DeclMutabilityKind.TheVariants.{Const, Mutable}
 use Rattle.fast_check_statement_forms.specs.Statements.{ExprStmt-expr}
@@ -30,9 +30,9 @@ use Rattle.fast_check_signatures.specs.declared.function_kind.FunctionKind.TheVa
 use Rattle.fast_check_skeleton.specs.Surroundings.{Surroundings}
 use Rattle.fast_check_tree.specs.InferredType.{inferred_type}
 use Rattle.fast_check_skeleton.specs.Mutability.{mutability_of}
-use Rattle.fast_check_signatures.specs.Seen.{Seen, written, range, scope, flag, form, inferred, faulty, refused, hidden, end, also, seens, moved_seen, moved_seens}
-use Rattle.fast_check_skeleton.specs.Visible.{declared_ident, declared_type, standing, by_inferred, untyped, kept_value_seen, ident_declarator_seen, declarator_seen, is_ambient, is_public_declarator, declarator_in, public_declarator, public_declarators, statement_seen, is_standing, own_range, standing_seen, signature_of, function_decl_seen, public_function, decl_seen, exported_seen, item_seen, items_of, visible}
-use Rattle.fast_check_signatures.specs.Answers.{Answer, answer_of}
+use Rattle.fast_check_signatures.specs.Seen.{Seen, written, range, flag, form, inferred, faulty, refused, hidden, end, also, seens, moved_seen}
+use Rattle.fast_check_skeleton.specs.Visible.{declared_ident, declared_type, standing, by_inferred, kept_value_seen, ident_declarator_seen, declarator_seen, is_ambient, is_public_declarator, declarator_in, public_declarator, public_declarators, statement_seen, is_standing, own_range, standing_seen, signature_of, function_decl_seen, public_function, decl_seen, exported_seen, item_seen, items_of, visible}
+use Rattle.fast_check_signatures.specs.Answers.{answer_of}
 use Rattle.fast_check_signatures.specs.Expressions.{is_plain, is_compound, is_among, other_kinds, freezes, is_frozen, is_refused, expr_seen}
 use Rattle.fast_check_signatures.specs.Functions.{function_seen, implementation_seen}
 use Rattle.fast_check_signatures.specs.SameValues.{Both, Neither, SameExpr, SameFunction, SameImplementation}
@@ -46,9 +46,8 @@ use Rattle.fast_check_skeleton.specs.Skeleton.{transformed, skeleton_of, faults_
 use Rattle.fast_check_skeleton.specs.Hidden.{statement_kinds, is_plain_statement, IsSilentDecl, IsSilent, SameHead, SameDeclarator, SameAmbient, SameDeclarators, SameStatement, SameFunctionDecl, SameDecl, SameItem, SameItems, AgreeHidden}
 use Rattle.fast_check_skeleton.specs.Hidden as h
 use Rattle.fast_check_skeleton.specs.Worlds.{SameFault, SameSkeleton}
-use Rattle.fast_check_tree.proofs.GlobalCallsMoved.{moved_scope}
 use Rattle.fast_check_tree.proofs.InferredMoved.{inferred_type_moved}
-use Rattle.fast_check_signatures.proofs.AnswersMoved.{moved_fault, moved_answer, map_append, answer_of_moved}
+use Rattle.fast_check_signatures.proofs.AnswersMoved.{moved_fault, moved_answer, answer_of_moved}
 
 -- ---- what is silent is not seen
 
@@ -360,7 +359,6 @@ module _ (r : Renaming) (ok : IsRenaming r) where
           stands_apart (kind_of u) ExportDecl su refl,
           subst₂ (AllAlike r ok) (sym (standing_of a p t st)) (sym (standing_of b q u su)) (all_alike_if r ok (a.is_public p) (b.is_public q) (written t) (written u) e (same_written r ok f)),
         )
-
     decl_alike c m p q t u (h.SameDecl.function d e f g) = (
       ap (λ k. k is ExportDecl) d.kinds.left,
       ap (λ k. k is ExportDecl) d.kinds.right,

@@ -4,10 +4,9 @@ use Rattle.std.specs.Bool.{one_answer}
 use Rattle.std.specs.Cmp.{unsigned_ties, unsigned_Decides}
 use Rattle.std.specs.List.{list_any}
 use Rattle.std.specs.Ordering.{is_eq, nat_cmp}
-use Rattle.std.proofs.Common.{ap, ap₂, ◌∙◌, sym, subst, subst₂, arith, cond, eqb-true, eq-eqb, true≢false}
+use Rattle.std.proofs.Common.{ap, ap₂, ◌∙◌, sym, subst, subst₂, cond, eqb-true, eq-eqb}
 use Rattle.std.proofs.lemmas.List.Folds.{list_any-append}
-use Rattle.fast_check_syntax.specs.declared.kind.Kind.{Kind}
-use Rattle.fast_check_syntax.specs.declared.kind.Kind.TheVariants.{VarDecl, FnDecl, ExportDecl}
+use Rattle.fast_check_syntax.specs.declared.kind.Kind.TheVariants.{FnDecl}
 use Rattle.fast_check_syntax.specs.declared.source.SourcePos.{SourcePos}
 use Rattle.fast_check_syntax.specs.declared.source.SourceRange.{SourceRange}
 use Rattle.fast_check_syntax.specs.declared.tree.Tree.{Tree}
@@ -22,8 +21,7 @@ use Rattle.fast_check_comments.specs.declared.comments.Comments.{Comments}
 use Rattle.fast_check_comments.specs.Kept.{kept, without_leading}
 use Rattle.fast_check_comments.specs.Places.{Places, is_place_at, without_comments}
 use Rattle.fast_check_class_forms.specs.Functions.{Function-span}
-use Rattle.fast_check_program_forms.specs.ModuleDecls.{ExportDecl-span}
-use Rattle.fast_check_statement_forms.specs.Declarations.{FnDecl-function, VarDecl-span}
+use Rattle.fast_check_statement_forms.specs.Declarations.{FnDecl-function}
 use Rattle.fast_check_statement_forms.specs.TsDeclarations.{TsInterfaceDecl-span}
 use Rattle.fast_check_skeleton.specs.Surroundings.{Surroundings}
 use Rattle.fast_check_signatures.specs.Seen.{Seen}
@@ -34,7 +32,7 @@ use Rattle.fast_check_skeleton.specs.Hidden.{HasNoPartner, IsNoPartner, SameDecl
 use Rattle.fast_check_skeleton.specs.Hidden as h
 use Rattle.fast_check_signatures.specs.SameValues.{Both}
 use Rattle.fast_check_signatures.specs.SameValues as v
-use Rattle.fast_check_skeleton.specs.Worlds.{SameAnswers, TwoWorlds}
+use Rattle.fast_check_skeleton.specs.Worlds.{TwoWorlds}
 use Rattle.fast_check_signatures.proofs.AlikeSeen.{AllAlike}
 use Rattle.fast_check_skeleton.proofs.Agreeing.{stands_apart, silent_item, item_alike, same_trees}
 

@@ -1,7 +1,6 @@
 -- A skeleton stands in the grammar: where there is no fault, each declarator has its type.
 use Rattle.std.specs.Prelude.{◌≡◌, Bool, true, false, ◌||◌, IsTrue, ◌⊎◌, Option, Some, None, List, [], ◌∷◌, ◌++◌, map, flat_map, refl, if◌then◌else◌}
 use Rattle.std.proofs.Common.{ap, ◌∙◌, sym, subst, subst₂, inl, inr, append_assoc, append-nil}
-use Rattle.fast_check_syntax.specs.declared.kind.Kind.{Kind}
 use Rattle.fast_check_syntax.specs.declared.kind.Kind.TheVariants.{Module, VarDeclarator, VarDecl, FnDecl, ExportDecl, BindingIdent, TsTypeAnn, List as List'}
 use Rattle.fast_check_syntax.specs.declared.source.SourceRange.{SourceRange}
 use Rattle.fast_check_syntax.specs.declared.source.SyntaxContext.{SyntaxContext}
@@ -11,7 +10,7 @@ use Rattle.fast_check_syntax.specs.Shape.{◌is◌, is_kind, kind_of, parts, is_
 use Rattle.fast_check_syntax.proofs.Made.{kind_of_node, parts_node, part_node, is_absent_node, flag_of_flag}
 use Rattle.fast_check_program_forms.specs.Names.{Ident-span, BindingIdent-type_ann, binding_ident}
 use Rattle.fast_check_program_forms.specs.ModuleDecls.{ExportDecl-span, ExportDecl-decl}
-use Rattle.fast_check_program_forms.specs.Programs.{Module-span, Module-body, Module-shebang}
+use Rattle.fast_check_program_forms.specs.Programs.{Module-span, Module-shebang}
 use Rattle.fast_check_statement_forms.specs.Declarations.{FnDecl-ident, FnDecl-declare, FnDecl-function, fn_decl, VarDecl-span, VarDecl-ctxt, VarDecl-kind, VarDecl-declare, VarDecl-decls, VarDeclarator-span, VarDeclarator-name, VarDeclarator-init, VarDeclarator-definite, var_decl, var_declarator}
 use Rattle.fast_check_tree.specs.Builders.{type_ann, never_value}
 use Rattle.fast_check_tree.specs.declared.helpers.literal_type.DeclMutabilityKind.{DeclMutabilityKind}
@@ -22,14 +21,13 @@ use Rattle.fast_check_forms.specs.Ranges.{range_of_node}
 use Rattle.fast_check_signatures.specs.declared.fault.Fault.{Fault}
 use Rattle.fast_check_signatures.specs.declared.fault.FaultKind.TheVariants.{MissingExplicitType, UnsupportedDestructuring}
 use Rattle.fast_check_signatures.specs.declared.function_kind.FunctionKind.TheVariants.{DeclarationLike}
-use Rattle.fast_check_signatures.specs.declared.function_kind.FunctionKind.{FunctionKind}
-use Rattle.fast_check_signatures.specs.Seen.{Seen, written, form, inferred, faulty, refused, hidden, seens}
-use Rattle.fast_check_skeleton.specs.Visible.{declared_ident, declared_type, standing, by_inferred, untyped, kept_value_seen, ident_declarator_seen, declarator_seen, is_ambient, is_public_declarator, declarator_in, public_declarator, public_declarators, statement_seen, is_standing, own_range, standing_seen, signature_of, function_decl_seen, public_function, decl_seen, exported_seen, item_seen, items_of, visible}
-use Rattle.fast_check_signatures.specs.Answers.{Answer, joined, visited, before, fails, Part, first_or_absent, typed_declarator, answer_to, answered, answer_of}
+use Rattle.fast_check_signatures.specs.Seen.{Seen, written, form, faulty, refused, hidden, seens}
+use Rattle.fast_check_skeleton.specs.Visible.{declared_ident, declared_type, by_inferred, kept_value_seen, ident_declarator_seen, declarator_seen, is_ambient, is_public_declarator, declarator_in, public_declarator, public_declarators, statement_seen, is_standing, own_range, standing_seen, signature_of, function_decl_seen, public_function, decl_seen, exported_seen, item_seen, items_of}
+use Rattle.fast_check_signatures.specs.Answers.{Answer, joined, visited, before, fails, Part, first_or_absent, answer_to, answered, answer_of}
 use Rattle.fast_check_signatures.specs.Expressions.{expr_seen}
 use Rattle.fast_check_signatures.specs.Functions.{function_seen, implementation_seen}
 use Rattle.fast_check_signatures.specs.TypedGrammar.{IsLeavable, IsTypedFunction}
-use Rattle.fast_check_signatures.proofs.Staying.{no_left, no_right, leavable_where}
+use Rattle.fast_check_signatures.proofs.Staying.{no_left, no_right}
 use Rattle.fast_check_signatures.proofs.Typed.{leavable_stands, function_stands, implementation_stands}
 use Rattle.fast_check_skeleton.specs.Skeleton.{transformed, skeleton_of, faults_of}
 use Rattle.fast_check_skeleton.specs.Grammar.{HasTypedValue, IsTypedDeclarator, IsTypedStatement, IsTypedFunctionDecl, IsTypedDecl, IsTypedItem, IsSkeleton}

@@ -1,5 +1,5 @@
 -- Agreement of two sources but for what is hidden: one rule for each part that may differ. All else agrees node by node, under a renaming of positions and scope numbers.
-use Rattle.std.specs.Prelude.{◌≡◌, ℕ, Bool, true, false, not, ◌&&◌, ◌||◌, Option, Some, None, List, [], ◌∷◌}
+use Rattle.std.specs.Prelude.{◌≡◌, ℕ, Bool, true, false, not, ◌&&◌, ◌||◌, Some, None, List, [], ◌∷◌}
 use Rattle.std.specs.List.{list_all, list_any}
 use Rattle.fast_check_syntax.specs.declared.kind.Kind.{Kind}
 use Rattle.fast_check_syntax.specs.declared.kind.Kind.TheVariants.{BindingIdent, VarDecl, ExportDecl, FnDecl, BlockStmt, EmptyStmt, DebuggerStmt, WithStmt, ReturnStmt, LabeledStmt, BreakStmt, ContinueStmt, IfStmt, SwitchStmt, ThrowStmt, TryStmt, WhileStmt, DoWhileStmt, ForStmt, ForInStmt, ForOfStmt, ExprStmt, AssignExpr}

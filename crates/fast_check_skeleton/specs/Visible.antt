@@ -1,6 +1,6 @@
 -- Stage 1 of the meaning of a transform: what is seen of a module.
 -- All that is asked outside the tree is asked here. What follows sees nothing that is hidden.
-use Rattle.std.specs.Prelude.{Bool, true, false, ◌||◌, if◌then◌else◌, Option, Some, None, List, [], ◌∷◌}
+use Rattle.std.specs.Prelude.{Bool, ◌||◌, if◌then◌else◌, Option, Some, None, List, [], ◌∷◌}
 use Rattle.std.specs.List.{flat_map}
 use Rattle.fast_check_syntax.specs.declared.kind.Kind.TheVariants.{BindingIdent, VarDeclarator, VarDecl, FnDecl, ExportDecl, TsInterfaceDecl, TsTypeAliasDecl, TsEnumDecl, List as List'}
 use Rattle.fast_check_syntax.specs.declared.kind.Kind.{Kind}

@@ -1,17 +1,14 @@
 -- What is kept of a declaration and of an item, kind by kind.
-use Rattle.std.specs.Prelude.{◌≡◌, Bool, true, false, ◌&&◌, List, [], ◌∷◌, ◌++◌, refl, if◌then◌else◌}
+use Rattle.std.specs.Prelude.{◌≡◌, Bool, true, false, List, [], ◌∷◌, refl, if◌then◌else◌}
 use Rattle.std.proofs.Common.{ap, ◌∙◌, sym, append-nil}
-use Rattle.fast_check_syntax.specs.declared.kind.Kind.{Kind}
 use Rattle.fast_check_syntax.specs.declared.kind.Kind.TheVariants.{ExportDecl, VarDecl, FnDecl}
 use Rattle.fast_check_syntax.specs.declared.source.SourceRange.{SourceRange}
-use Rattle.fast_check_syntax.specs.declared.tree.Tree as tree
 use Rattle.fast_check_syntax.specs.declared.tree.Tree.{Tree}
-use Rattle.fast_check_syntax.specs.Shape.{◌is◌, differs, kind_of, node}
+use Rattle.fast_check_syntax.specs.Shape.{◌is◌, differs, kind_of}
 use Rattle.fast_check_program_forms.specs.ModuleDecls.{ExportDecl-span, ExportDecl-decl}
-use Rattle.fast_check_signatures.specs.declared.fault.Fault.{Fault}
 use Rattle.fast_check_skeleton.specs.Surroundings.{Surroundings}
 use Rattle.fast_check_signatures.specs.Seen.{Seen}
-use Rattle.fast_check_skeleton.specs.Visible.{public_declarators, statement_seen, is_standing, own_range, function_decl_seen, decl_seen, exported_seen, item_seen}
+use Rattle.fast_check_skeleton.specs.Visible.{public_declarators, statement_seen, is_standing, own_range, function_decl_seen, decl_seen, exported_seen}
 use Rattle.fast_check_signatures.specs.Answers.{answer_to, answer_of}
 use Rattle.fast_check_skeleton.proofs.Standing.{OneTree, decl_one, export_is}
 use Rattle.fast_check_transform.specs.Kept.{kept_statement, statement_faults, kept_function, function_faults, kept_decl, decl_faults, exported, kept_item, item_faults}

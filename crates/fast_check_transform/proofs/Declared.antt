@@ -1,12 +1,10 @@
 -- What becomes of the value of a declarator, and of a function.
-use Rattle.std.specs.Prelude.{◌≡◌, Bool, true, false, Option, Some, None, ℕ, suc, List, [], ◌∷◌, ◌++◌, refl, if◌then◌else◌}
-use Rattle.std.proofs.Common.{ap, ◌∙◌, sym, append-nil}
+use Rattle.std.specs.Prelude.{◌≡◌, Bool, true, false, Option, Some, None, List, [], ◌∷◌, ◌++◌, refl, if◌then◌else◌}
+use Rattle.std.proofs.Common.{ap, ◌∙◌, append-nil}
 use Rattle.fast_check_syntax.specs.declared.source.SourceRange.{SourceRange}
 use Rattle.fast_check_syntax.specs.declared.tree.Tree.{Tree, Absent}
 use Rattle.fast_check_syntax.specs.declared.kind.Kind.TheVariants.{FnDecl, BindingIdent, VarDeclarator}
-use Rattle.fast_check_syntax.specs.Shape.{is_absent, parts, ◌is◌, kind_of}
-use Rattle.fast_check_syntax.specs.declared.kind.Kind.TheVariants.{RestPat}
-use Rattle.fast_check_class_forms.specs.Functions.{Function-params, Param-pat}
+use Rattle.fast_check_syntax.specs.Shape.{is_absent, ◌is◌, kind_of}
 use Rattle.fast_check_program_forms.specs.Names.{Ident-span}
 use Rattle.fast_check_statement_forms.specs.Declarations.{FnDecl-ident, FnDecl-declare, FnDecl-function, fn_decl, VarDecl-kind, VarDeclarator-span, VarDeclarator-name, VarDeclarator-init, VarDeclarator-definite}
 use Rattle.fast_check_tree.specs.Builders.{type_ann, never_value}
@@ -26,7 +24,7 @@ use Rattle.fast_check_values.specs.Kept.{expr_left, expr_faults}
 use Rattle.fast_check_values.specs.Kept as v
 use Rattle.fast_check_skeleton.specs.Mutability.{mutability_of}
 use Rattle.fast_check_skeleton.specs.Surroundings.{Surroundings}
-use Rattle.fast_check_skeleton.specs.Visible.{declared_ident, declared_type, by_inferred, kept_value_seen, ident_declarator_seen, declarator_seen, is_ambient, is_public_declarator, signature_of, function_decl_seen}
+use Rattle.fast_check_skeleton.specs.Visible.{declared_ident, declared_type, by_inferred, kept_value_seen, ident_declarator_seen, declarator_seen, is_ambient, is_public_declarator, signature_of}
 use Rattle.fast_check_transform.specs.Kept.{valued, valued_tree, valued_faults, value_answer, retyped, kept_ident, ident_faults, signature_tree, signature_faults, kept_typed, typed_faults, kept_declarator, declarator_fault, kept_function, function_faults}
 
 module _ (around : Surroundings) (place : SourceRange) (value : Tree) where

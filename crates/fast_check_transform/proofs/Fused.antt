@@ -1,16 +1,13 @@
 -- The answer to what is seen of a list, part by part.
-use Rattle.std.specs.Prelude.{◌≡◌, Bool, true, false, Option, Some, None, List, [], ◌∷◌, ◌++◌, flat_map, refl, if◌then◌else◌}
+use Rattle.std.specs.Prelude.{◌≡◌, Bool, true, false, List, [], ◌∷◌, ◌++◌, flat_map, refl, if◌then◌else◌}
 use Rattle.std.proofs.Common.{ap, ◌∙◌, sym, append-nil}
 use Rattle.fast_check_syntax.specs.declared.tree.Tree.{Tree}
-use Rattle.fast_check_syntax.specs.declared.kind.Kind.TheVariants.{VarDeclarator}
-use Rattle.fast_check_syntax.specs.Shape.{parts, is_absent, list}
-use Rattle.fast_check_statement_forms.specs.Declarations.{VarDecl-span, VarDecl-ctxt, VarDecl-kind, VarDecl-declare, VarDecl-decls, var_decl, VarDeclarator-span, VarDeclarator-init, VarDeclarator-definite}
-use Rattle.fast_check_signatures.specs.declared.fault.Fault.{Fault}
+use Rattle.fast_check_syntax.specs.Shape.{parts, list}
+use Rattle.fast_check_statement_forms.specs.Declarations.{VarDecl-span, VarDecl-ctxt, VarDecl-kind, VarDecl-declare, VarDecl-decls, var_decl}
 use Rattle.fast_check_skeleton.specs.Surroundings.{Surroundings}
-use Rattle.fast_check_tree.specs.InferredType.{inferred_type}
 use Rattle.fast_check_skeleton.specs.Mutability.{mutability_of}
-use Rattle.fast_check_signatures.specs.Seen.{Seen, written, form, hidden, seens}
-use Rattle.fast_check_skeleton.specs.Visible.{declared_ident, declared_type, by_inferred, declarator_seen, is_ambient, is_public_declarator, declarator_in, public_declarator, public_declarators, statement_seen, item_seen}
+use Rattle.fast_check_signatures.specs.Seen.{Seen, written}
+use Rattle.fast_check_skeleton.specs.Visible.{declarator_seen, is_ambient, is_public_declarator, declarator_in, public_declarator, public_declarators, statement_seen, item_seen}
 use Rattle.fast_check_signatures.specs.Answers.{answer_to, answer_of}
 use Rattle.fast_check_skeleton.specs.Skeleton.{skeleton_of, faults_of}
 use Rattle.fast_check_program_forms.specs.Programs.{Module-span, Module-body, Module-shebang, module'}

@@ -1,5 +1,5 @@
 -- What a transform answers.
-use Rattle.std.specs.Prelude.{◌≡◌, ℕ, Bool, IsTrue, List, [], ◌∷◌, take, if◌then◌else◌}
+use Rattle.std.specs.Prelude.{◌≡◌, Bool, IsTrue, List, [], ◌∷◌, take, if◌then◌else◌}
 use Rattle.std.specs.Rc.{rc_str_bytes}
 use Rattle.fast_check_syntax.specs.declared.tree.Tree.{Tree}
 use Rattle.fast_check_tables.specs.EsModule.{EsModule}

@@ -1,4 +1,4 @@
-use Rattle.std.proofs.Common.{◌≡◌, ◌++◌, ◌∙◌, ap, sym, append-nil}
+use Rattle.std.proofs.Common.{◌++◌, ◌∙◌, ap, sym, append-nil}
 use Rattle.fast_check_syntax.specs.Part.{seen}
 use Rattle.fast_check_transform.specs.Kept.{Asked-around}
 use Rattle.fast_check_transform.proofs.Declared.{fault_not_public, fault_ambient}
