@@ -23,9 +23,9 @@ use Rattle.fast_check_signatures.specs.declared.function_kind.FunctionKind.TheVa
 use Rattle.fast_check_signatures.specs.Seen.{Seen, written, form, seens, tree_in}
 use Rattle.fast_check_signatures.specs.NewNodes.{promised, function_body, arrow_body}
 use Rattle.fast_check_signatures.specs.Parameters.{by_shown, assign_seen, pat_seen, pats_seen}
-use Rattle.fast_check_signatures.specs.Functions.{class_seen, return_type_missing, return_type_seen, or_own, param_seen, params_seen, typed_arrow_seen, valued_arrow_seen, by_value, arrow_seen, any_params_from}
+use Rattle.fast_check_signatures.specs.Functions.{class_seen, return_type_missing, return_type_seen, or_own, param_seen, params_seen, function_seen, typed_arrow_seen, valued_arrow_seen, by_value, arrow_seen, implementation_seen, any_params_from}
 use Rattle.fast_check_signatures.specs.Expressions.{expr_seen}
-use Rattle.fast_check_signatures.specs.Answers.{fault_at, stands, fails, before, goes, visited, first_or_absent, answer_to, answer_of}
+use Rattle.fast_check_signatures.specs.Answers.{fault_at, stands, fails, before, goes, visited, first_or_absent, answer_to, answer_of, kept_tree}
 use Rattle.fast_check_values.specs.Kept.{stood, faults_of, expr_left, expr_faults, unless_left, pat_tree, pat_faults, pats_trees, pats_faults, patterns, params_trees, params_faults, known_type, known_faults, fn_tree, fn_faults, signed, implementation_tree, arrow_tree, arrow_faults, typed_arrow, valued_arrow}
 use Rattle.fast_check_values.proofs.Answered.{taken, answers_are, wrapped, HasShape, expr_shape, value_tree}
 use Rattle.fast_check_values.proofs.Patterns.{unless_is}
@@ -222,3 +222,36 @@ module _ (unresolved : SyntaxContext) where
     unfolding arrow_faults expr_left expr_faults
     arrow_valued_faults e = ap faults_of (arrow_is ∙ ap by_known (none_of (known_type unresolved at t) e)) ∙
         (λ i. faults_of (look (ArrowExpr-body t) None) ++ (unless_is (answer_to (look (ArrowExpr-body t) None)) missing i ++ (pats_listed (parts (ArrowExpr-params t)) i).faults))
+
+-- ---- the words of the contracts, written out
+
+module _ (unresolved : SyntaxContext) where
+  pub expr_left_is : (t : Tree) (place : Option SourceRange) → expr_left unresolved t place ≡ kept_tree (answer_to (expr_seen unresolved t place))
+  unfolding expr_left
+  expr_left_is t place = refl
+
+  pub expr_faults_are : (t : Tree) (place : Option SourceRange) → expr_faults unresolved t place ≡ (answer_to (expr_seen unresolved t place)).faults
+  unfolding expr_faults
+  expr_faults_are t place = refl
+
+  pub fn_tree_out : (kind : FunctionKind) (place : SourceRange) (t : Tree) →
+      fn_tree unresolved kind place t ≡ first_or_absent (answer_to (function_seen unresolved (expr_seen unresolved) kind place t)).trees
+  unfolding fn_tree
+  fn_tree_out kind place t = refl
+
+  pub fn_faults_out : (kind : FunctionKind) (place : SourceRange) (t : Tree) →
+      fn_faults unresolved kind place t ≡ (answer_to (function_seen unresolved (expr_seen unresolved) kind place t)).faults
+  unfolding fn_faults
+  fn_faults_out kind place t = refl
+
+  pub arrow_tree_out : (place : Option SourceRange) (t : Tree) → arrow_tree unresolved place t ≡ first_or_absent (answer_to (arrow_seen unresolved (expr_seen unresolved) place t)).trees
+  unfolding arrow_tree
+  arrow_tree_out place t = refl
+
+  pub arrow_faults_out : (place : Option SourceRange) (t : Tree) → arrow_faults unresolved place t ≡ (answer_to (arrow_seen unresolved (expr_seen unresolved) place t)).faults
+  unfolding arrow_faults
+  arrow_faults_out place t = refl
+
+pub implementation_tree_out : (t : Tree) → implementation_tree t ≡ first_or_absent (answer_to (implementation_seen t)).trees
+unfolding implementation_tree
+implementation_tree_out t = refl

@@ -1,4 +1,4 @@
-ghost use Rattle.std.specs.Prelude.{◌≡◌, IfOk, ◌++◌, ◌∷◌, [], option_map};
+ghost use Rattle.std.specs.Prelude.{◌≡◌, IfOk, ◌++◌, option_map};
 ghost use Rattle.fast_check_syntax.specs.Part.{seen};
 ghost use Rattle.fast_check_signatures.specs.Seen.{tree_in};
 ghost use Rattle.fast_check_signatures.specs.Functions.{class_seen, return_type_seen, or_own, any_params_from};
