@@ -301,14 +301,11 @@ fn a_file_without_items_is_its_own_skeleton(rt: HostRuntime) -> Result<(), Fail>
 #[test]
 fn other_modules_are_not_carried(rt: HostRuntime) -> Result<(), Fail> {
     let alloc = rt.alloc();
-    let span = range(1, 2);
-    let item = Tree::node(alloc, Kind::FnDecl, [Tree::Absent, Tree::Flag(false)])?;
-    let program = module(alloc, vec![in alloc; item]?)?;
+    let class = Tree::node(alloc, Kind::ClassDecl, [Tree::Absent, Tree::Flag(false)])?;
+    let program = module(alloc, vec![in alloc; class]?)?;
     assert!(rt; !is_carried(&info(alloc, MediaType::TypeScript, program)?));
-    let name = declarator(alloc, span, span, Tree::Absent, Tree::Absent)?;
-    let x = declarator(alloc, span, span, Tree::Absent, name)?;
-    let x = statement(alloc, Word::Const, false, vec![in alloc; x]?)?;
-    let program = module(alloc, vec![in alloc; x]?)?;
+    let class = Tree::node(alloc, Kind::ClassDecl, [Tree::Absent, Tree::Flag(false)])?;
+    let program = module(alloc, vec![in alloc; exported(alloc, class)?]?)?;
     assert!(rt; !is_carried(&info(alloc, MediaType::TypeScript, program)?));
     Ok(())
 }
