@@ -18,3 +18,4 @@ pub mod TypedPatterns
 pub mod TypedFunctions
 pub mod TypedArrows
 pub mod Typed
+pub mod Present

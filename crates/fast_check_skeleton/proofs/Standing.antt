@@ -28,6 +28,7 @@ use Rattle.fast_check_signatures.specs.Expressions.{expr_seen}
 use Rattle.fast_check_signatures.specs.Functions.{function_seen, implementation_seen}
 use Rattle.fast_check_signatures.specs.TypedGrammar.{IsLeavable, IsTypedFunction}
 use Rattle.fast_check_signatures.proofs.Staying.{no_left, no_right}
+use Rattle.fast_check_signatures.proofs.Present.{stays_there}
 use Rattle.fast_check_signatures.proofs.Typed.{leavable_stands, function_stands, implementation_stands}
 use Rattle.fast_check_skeleton.specs.Skeleton.{transformed, skeleton_of, faults_of}
 use Rattle.fast_check_skeleton.specs.Grammar.{HasTypedValue, IsTypedDeclarator, IsTypedStatement, IsTypedFunctionDecl, IsTypedDecl, IsTypedItem, IsSkeleton}
@@ -123,22 +124,26 @@ module _ (around : Surroundings) (mutability : DeclMutabilityKind) (d : Tree) wh
   abbrev Typed : Tree → Type 0
   Typed = IsTypedDeclarator around.unresolved
 
-  valued : (value : Seen) → ((answer_to value).is_leavable ≡ true → (answer_to value).faults ≡ [] → IsLeavable around.unresolved (first_or_absent (answer_to value).trees)) →
+  valued : (value : Seen) → ((answer_to value).is_leavable ≡ true → (answer_to value).faults ≡ [] →
+      (is_absent (first_or_absent (answer_to value).trees) ≡ false) × IsLeavable around.unresolved (first_or_absent (answer_to value).trees)) →
       Stands Typed (form VarDeclarator (seens (Seen.range (VarDeclarator-span d) ∷ written (declared_ident d) ∷ Seen.flag (VarDeclarator-definite d) ∷ hidden ∷ hidden ∷ value ∷ [])) ∷ [])
   valued value h e =
       let f = no_fault (answer_to value).is_leavable (answer_to value).faults (record { kind = MissingExplicitType; range = name_place }) (no_left _ [] e) in
       (typed around.unresolved (VarDeclarator-span d) (declared_ident d) (VarDeclarator-definite d) Absent (first_or_absent (answer_to value).trees) (inr (h f.0 f.1)), tt)
 
-  kept_stands : (absent : Bool) → ((answer_to (if absent then refused else expr_seen around.unresolved (VarDeclarator-init d) (Some name_place))).is_leavable ≡ true →
-      (answer_to (if absent then refused else expr_seen around.unresolved (VarDeclarator-init d) (Some name_place))).faults ≡ [] →
-      IsLeavable around.unresolved (first_or_absent (answer_to (if absent then refused else expr_seen around.unresolved (VarDeclarator-init d) (Some name_place))).trees))
-  kept_stands true l f = cc
-  kept_stands false l f = leavable_stands around.unresolved (VarDeclarator-init d) (Some name_place) l f
+  abbrev kept_if : Bool → Seen
+  kept_if absent = if absent then refused else expr_seen around.unresolved (VarDeclarator-init d) (Some name_place)
+
+  kept_stands : (absent : Bool) → is_absent (VarDeclarator-init d) ≡ absent → (answer_to (kept_if absent)).is_leavable ≡ true → (answer_to (kept_if absent)).faults ≡ [] →
+      (is_absent (first_or_absent (answer_to (kept_if absent)).trees) ≡ false) × IsLeavable around.unresolved (first_or_absent (answer_to (kept_if absent)).trees)
+  kept_stands true q l f = cc
+  kept_stands false q l f =
+      (stays_there around.unresolved (VarDeclarator-init d) (Some name_place) q l, leavable_stands around.unresolved (VarDeclarator-init d) (Some name_place) l f)
 
   by_value : (o : Option Tree) (t : Bool) → is_absent (declared_type d) ≡ t → Stands Typed (seen_with t o ∷ [])
   by_value (Some type) true e f =
       (typed around.unresolved (VarDeclarator-span d) (declared_ident d) (VarDeclarator-definite d) (type_ann type) never_value (inl (is_absent_node TsTypeAnn (tree.Range none_range ∷ type ∷ []), refl)), tt)
-  by_value None true e f = valued (if is_absent (VarDeclarator-init d) then refused else expr_seen around.unresolved (VarDeclarator-init d) (Some name_place)) (kept_stands (is_absent (VarDeclarator-init d))) f
+  by_value None true e f = valued (if is_absent (VarDeclarator-init d) then refused else expr_seen around.unresolved (VarDeclarator-init d) (Some name_place)) (kept_stands (is_absent (VarDeclarator-init d)) refl) f
   by_value o false e f =
       (typed around.unresolved (VarDeclarator-span d) (declared_ident d) (VarDeclarator-definite d) (declared_type d) never_value (inl (e, refl)), tt)
 

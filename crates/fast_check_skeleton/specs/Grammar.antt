@@ -12,9 +12,9 @@ use Rattle.fast_check_signatures.specs.TypedGrammar.{IsLeavable, IsTypedFunction
 use Rattle.fast_check_skeleton.specs.Visible.{is_standing}
 use Rattle.fast_check_statement_forms.specs.Declarations.{FnDecl-function, VarDecl-declare, VarDecl-decls, VarDeclarator-name, VarDeclarator-init}
 
--- a value behind a written type is `{} as never`; another gives the type
+-- a value behind a written type is `{} as never`; else there is one that gives the type
 abbrev pub HasTypedValue : SyntaxContext → Tree → Tree → Type 0
-HasTypedValue unresolved type value = ((is_absent type ≡ false) × (value ≡ never_value)) ⊎ IsLeavable unresolved value
+HasTypedValue unresolved type value = ((is_absent type ≡ false) × (value ≡ never_value)) ⊎ ((is_absent value ≡ false) × IsLeavable unresolved value)
 
 -- `unresolved` is the scope number of the names that nothing in the module binds
 module _ (unresolved : SyntaxContext) where
