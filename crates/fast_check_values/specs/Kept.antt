@@ -172,14 +172,18 @@ signed t type params =
 unfoldable pub implementation_tree : Tree → Tree
 implementation_tree t = stood (implementation_seen t)
 
+-- an arrow with other parameters, another body, mark and return type
+abbrev pub retyped_arrow : Tree → List Tree → Tree → Bool → Tree → Tree
+retyped_arrow t pats body is_async type =
+    arrow_expr (ArrowExpr-span t) (ArrowExpr-ctxt t) (list pats) body is_async (ArrowExpr-is_generator t) (ArrowExpr-type_params t) type
+
 -- an arrow of this return type and these parameters, with a body that stands for its own
 abbrev pub typed_arrow : Tree → Tree → List Tree → Tree
-typed_arrow t type pats = arrow_expr (ArrowExpr-span t) (ArrowExpr-ctxt t) (list pats) (arrow_body type) false (ArrowExpr-is_generator t) (ArrowExpr-type_params t) type
+typed_arrow t type pats = retyped_arrow t pats (arrow_body type) false type
 
 -- an arrow with this value, which gives its return type
 abbrev pub valued_arrow : Tree → Tree → List Tree → Tree
-valued_arrow t value pats =
-    arrow_expr (ArrowExpr-span t) (ArrowExpr-ctxt t) (list pats) value (ArrowExpr-is_async t) (ArrowExpr-is_generator t) (ArrowExpr-type_params t) Absent
+valued_arrow t value pats = retyped_arrow t pats value (ArrowExpr-is_async t) Absent
 
 -- an arrow, with the place that its parent gives
 unfoldable pub arrow_tree : SyntaxContext → Option SourceRange → Tree → Tree

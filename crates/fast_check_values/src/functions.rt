@@ -2,7 +2,7 @@ ghost use Rattle.std.specs.Prelude.{◌≡◌, IfOk, ◌++◌, option_map};
 ghost use Rattle.fast_check_syntax.specs.Part.{seen};
 ghost use Rattle.fast_check_signatures.specs.Seen.{tree_in};
 ghost use Rattle.fast_check_signatures.specs.Functions.{class_seen, return_type_seen, or_own, any_params_from};
-ghost use Rattle.fast_check_values.specs.Kept.{faults_of, known_type, known_faults, implementation_tree, signed, typed_arrow, valued_arrow, fn_tree, fn_faults, arrow_tree, arrow_faults};
+ghost use Rattle.fast_check_values.specs.Kept.{faults_of, known_type, known_faults, implementation_tree, signed, retyped_arrow, typed_arrow, valued_arrow, fn_tree, fn_faults, arrow_tree, arrow_faults};
 ghost use Rattle.fast_check_signatures.specs.Answers.{answer_of};
 ghost use Rattle.fast_check_syntax.specs.Shape.{parts};
 
@@ -197,6 +197,31 @@ pub fn transform_fn(
     signed(alloc, function, return_type, params)
 }
 
+/// An arrow with other parameters, another body, mark and return type.
+fn retyped_arrow(
+    alloc: Global,
+    arrow: Part<'_>,
+    params: Items<Tree>,
+    body: Tree,
+    is_async: bool,
+    return_type: Tree,
+) -> Result<Tree, AllocError>
+    ensures { IfOk result (λ tree. tree ≡ retyped_arrow (seen arrow.entry) params body is_async return_type) }
+{
+    let arrow = ArrowExpr::of(arrow);
+    ArrowExpr {
+        span: arrow.span,
+        ctxt: arrow.ctxt,
+        params: Tree::list(params),
+        body,
+        is_async,
+        is_generator: arrow.is_generator,
+        type_params: arrow.type_params.to_tree(alloc)?,
+        return_type,
+    }
+    .into_tree(alloc)
+}
+
 /// An arrow of this return type and these parameters, with a body that stands for its own.
 fn typed_arrow(
     alloc: Global,
@@ -206,18 +231,8 @@ fn typed_arrow(
 ) -> Result<Tree, AllocError>
     ensures { IfOk result (λ tree. tree ≡ typed_arrow (seen arrow.entry) return_type params) }
 {
-    let arrow = ArrowExpr::of(arrow);
-    ArrowExpr {
-        span: arrow.span,
-        ctxt: arrow.ctxt,
-        params: Tree::list(params),
-        body: arrow_body(alloc, return_type.read())?,
-        is_async: false,
-        is_generator: arrow.is_generator,
-        type_params: arrow.type_params.to_tree(alloc)?,
-        return_type,
-    }
-    .into_tree(alloc)
+    let body = arrow_body(alloc, return_type.read())?;
+    retyped_arrow(alloc, arrow, params, body, false, return_type)
 }
 
 /// An arrow with this value, which gives its return type.
@@ -229,18 +244,8 @@ fn valued_arrow(
 ) -> Result<Tree, AllocError>
     ensures { IfOk result (λ tree. tree ≡ valued_arrow (seen arrow.entry) value params) }
 {
-    let arrow = ArrowExpr::of(arrow);
-    ArrowExpr {
-        span: arrow.span,
-        ctxt: arrow.ctxt,
-        params: Tree::list(params),
-        body: value,
-        is_async: arrow.is_async,
-        is_generator: arrow.is_generator,
-        type_params: arrow.type_params.to_tree(alloc)?,
-        return_type: Tree::Absent,
-    }
-    .into_tree(alloc)
+    let is_async = ArrowExpr::of(arrow).is_async;
+    retyped_arrow(alloc, arrow, params, value, is_async, Tree::Absent)
 }
 
 /// An arrow: its return type is the written one, or that its body shows; else its value gives it, if it may stay. A fault
