@@ -1,2 +1,4 @@
-mod Fields
-mod Lists
+mod Adding
+mod Items
+mod Members
+mod VariantNames
