@@ -1,4 +1,4 @@
-mod Adding
-mod Items
+pub mod Adding
+pub mod Items
 mod Members
 mod VariantNames
