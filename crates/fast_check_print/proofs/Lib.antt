@@ -1,2 +1,4 @@
-mod Fields
-mod Lists
+pub mod Adding
+pub mod Items
+mod Members
+mod VariantNames

@@ -1,3 +1,4 @@
 pub mod Comments
 pub mod Pieces
 pub mod Printing
+pub mod Writing

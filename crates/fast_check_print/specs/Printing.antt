@@ -1,5 +1,5 @@
 -- The JSON value of a tree that stands at a place of a form.
-use Rattle.std.specs.Prelude.{ℕ, zero, suc, List, [], ◌∷◌, map, if◌then◌else◌, Option, Some, None}
+use Rattle.std.specs.Prelude.{ℕ, zero, suc, List, [], ◌∷◌, map, length, if◌then◌else◌, slice_get, Option, Some, None}
 use Rattle.serde_json.specs.Data.{Data, null, boolean, string, array, object, Members, no_members, put}
 use Rattle.serde_json.specs.View.{items_of}
 use Rattle.fast_check_syntax.specs.Shape.{◌is◌}
@@ -14,17 +14,34 @@ use Rattle.fast_check_schema.specs.declared.form.Form.TheVariants as forms
 use Rattle.fast_check_schema.specs.Rows.{FieldRow, VariantRow}
 use Rattle.fast_check_schema.specs.Schema.{fields_of, variants_of}
 use Rattle.fast_check_schema.specs.Lookup.{variant_by_kind, marked_choice}
+use Rattle.fast_check_schema.specs.Order.{name_at}
 use Rattle.fast_check_print.specs.Pieces.{number_data, range_data, single, text_of_word}
 
 -- what a part prints as, wherever it stands
 abbrev pub Printed : Type 0
 Printed = Form → Data
 
--- the members with each part laid under its field's name; parts past the last field are left out
-abbrev pub with_fields : Members → List FieldRow → List Printed → Members
-with_fields ms [] parts = ms
-with_fields ms (f ∷ fs) [] = ms
-with_fields ms (f ∷ fs) (p ∷ ps) = with_fields (put f.name (p f.form) ms) fs ps
+-- a part where the form stands; null where there is none
+abbrev pub part_data : Option Printed → Form → Data
+part_data None form = null
+part_data (Some part) form = part form
+
+abbrev pub field_data : Option FieldRow → Option Printed → Data
+field_data None part = null
+field_data (Some field) part = part_data part field.form
+
+-- the part of the field at a place
+abbrev pub data_at : List FieldRow → List Printed → ℕ → Data
+data_at fields parts place = field_data (slice_get fields place) (slice_get parts place)
+
+-- the members of so many first fields, each with its part
+abbrev pub members_of_fields : List FieldRow → List Printed → ℕ → Members
+members_of_fields fields parts zero = no_members
+members_of_fields fields parts (suc place) = put (name_at fields place) (data_at fields parts place) (members_of_fields fields parts place)
+
+-- the object of a form's fields
+abbrev pub fields_data : List FieldRow → List Printed → Data
+fields_data fields parts = object (members_of_fields fields parts (length fields))
 
 -- a list prints as an array
 abbrev pub list_data : List Printed → Form → Data
@@ -37,25 +54,30 @@ first_data (p ∷ ps) choice = p (forms.Choice choice)
 
 -- a node without the names of its variants: the object of its fields, or what a mark stands round
 abbrev pub content_of : Option Choice → Kind → List Printed → Data
-content_of None kind parts = object (with_fields no_members (fields_of kind) parts)
+content_of None kind parts = fields_data (fields_of kind) parts
 content_of (Some choice) kind parts = first_data parts choice
 
 abbrev pub content_data : Kind → List Printed → Data
 content_data kind parts = content_of (marked_choice kind) kind parts
 
--- the content under the name of its variant, where there is one
-abbrev pub under : Option VariantRow → (Form → Data) → Data → Data
-under None inner content = content
-under (Some variant) inner content = single variant.name (inner variant.form)
+abbrev pub names_from : Option VariantRow → (Form → List (List ℕ)) → List (List ℕ)
+names_from None inner = []
+names_from (Some variant) inner = variant.name ∷ inner variant.form
 
--- the content where the form stands: under the name of its variant where that is a choice, and so on inwards; choices stand within choices at most three deep
-abbrev pub wrapped : ℕ → Kind → Form → Data → Data
-wrapped zero kind form content = content
-wrapped (suc levels) kind (forms.Choice choice) content = under (variant_by_kind kind (variants_of choice)) (λ form. wrapped levels kind form content) content
-wrapped (suc levels) kind _ content = content
+-- the names of the variants that a node is of where the form stands, outermost first, through at most so many choices
+abbrev pub variant_names : ℕ → Kind → Form → List (List ℕ)
+variant_names zero kind form = []
+variant_names (suc levels) kind (forms.Choice choice) = names_from (variant_by_kind kind (variants_of choice)) (variant_names levels kind)
+variant_names (suc levels) kind _ = []
 
+-- a value under names, the first outermost
+abbrev pub under : List (List ℕ) → Data → Data
+under [] value = value
+under (name ∷ names) value = single name (under names value)
+
+-- a node under the names of its variants: choices stand within choices at most three deep
 abbrev pub node_data : Kind → List Printed → Form → Data
-node_data kind parts form = if kind is kinds.List then list_data parts form else wrapped 3 kind form (content_data kind parts)
+node_data kind parts form = if kind is kinds.List then list_data parts form else under (variant_names 3 kind form) (content_data kind parts)
 
 -- one level of a tree, of what its parts print as: an empty option is null
 abbrev pub print_step : Tree-F Printed → Printed

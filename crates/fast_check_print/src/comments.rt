@@ -1,56 +1,70 @@
-ghost use Rattle.std.specs.Prelude.{◌≡◌, IfOk};
-ghost use Rattle.serde_json.specs.View.{view};
-ghost use Rattle.fast_check_print.specs.Comments.{comments_data, places_data, comment_list_data, comment_data, kind_text};
+ghost use Rattle.std.specs.Prelude.{◌≡◌, OnOk};
+ghost use Rattle.fast_check_print.specs.Comments.{comments_data, places_data, comment_list_data, entry_data, comment_data, kind_text};
+ghost use Rattle.fast_check_print.specs.Writing.{WritesData};
 
-use crate::pieces::{print_pair, print_position, print_range, print_text};
+use crate::pieces::{write_position, write_range};
 use fast_check_comments::{Comment, CommentKind, CommentMap, Comments};
-use serde_json::{Map, Value, put};
-use std::alloc::{AllocError, Global};
+use fast_check_syntax::SourcePos;
+use json::Writer;
+use std::alloc::AllocError;
 
 /// Comments as an object with the members `leading` and `trailing`, each an array of positions with their comments.
-pub fn print_comments(alloc: Global, comments: &Comments) -> Result<Value, AllocError>
-    ensures { IfOk result (λ value. view value ≡ comments_data comments.now) }
+pub fn write_comments(out: &mut Writer, comments: &Comments) -> Result<(), AllocError>
+    ensures { OnOk result (WritesData (comments_data comments.now) out.old out.new) }
 {
-    let mut members = Map::new(alloc);
-    let leading = print_places(alloc, &comments.leading)?;
-    put(&mut members, alloc, "leading", leading)?;
-    let trailing = print_places(alloc, &comments.trailing)?;
-    put(&mut members, alloc, "trailing", trailing)?;
-    Ok(Value::Object(members))
+    out.begin_object()?;
+    out.key("leading")?;
+    write_places(out, &comments.leading)?;
+    out.key("trailing")?;
+    write_places(out, &comments.trailing)?;
+    out.end_object()
 }
 
-fn print_places(alloc: Global, places: &CommentMap) -> Result<Value, AllocError>
-    ensures { IfOk result (λ value. view value ≡ places_data places.now) }
+fn write_places(out: &mut Writer, places: &CommentMap) -> Result<(), AllocError>
+    ensures { OnOk result (WritesData (places_data places.now) out.old out.new) }
 {
-    let mut entries = Vec::new(alloc);
+    out.begin_array()?;
     for (position, comments) in places.iter() {
-        let comments = print_comment_list(alloc, comments.as_slice())?;
-        entries.push(print_pair(alloc, print_position(*position), comments)?)?;
+        write_entry(out, *position, comments.as_slice())?;
     }
-    Ok(Value::Array(entries))
+    out.end_array()
 }
 
-fn print_comment_list(alloc: Global, comments: &[Comment]) -> Result<Value, AllocError>
-    ensures { IfOk result (λ value. view value ≡ comment_list_data comments.now) }
+/// A position with its comments, as an array of two.
+fn write_entry(
+    out: &mut Writer,
+    position: SourcePos,
+    comments: &[Comment],
+) -> Result<(), AllocError>
+    ensures { OnOk result (WritesData (entry_data (position, comments.now)) out.old out.new) }
 {
-    let mut values = Vec::with_capacity(alloc, comments.len())?;
+    out.begin_array()?;
+    write_position(out, position)?;
+    write_comment_list(out, comments)?;
+    out.end_array()
+}
+
+fn write_comment_list(out: &mut Writer, comments: &[Comment]) -> Result<(), AllocError>
+    ensures { OnOk result (WritesData (comment_list_data comments.now) out.old out.new) }
+{
+    out.begin_array()?;
     for comment in comments {
-        values.push(print_comment(alloc, comment)?)?;
+        write_comment(out, comment)?;
     }
-    Ok(Value::Array(values))
+    out.end_array()
 }
 
-fn print_comment(alloc: Global, comment: &Comment) -> Result<Value, AllocError>
-    ensures { IfOk result (λ value. view value ≡ comment_data comment.now) }
+fn write_comment(out: &mut Writer, comment: &Comment) -> Result<(), AllocError>
+    ensures { OnOk result (WritesData (comment_data comment.now) out.old out.new) }
 {
-    let mut members = Map::new(alloc);
-    let kind = print_text(alloc, comment_kind_text(comment.kind))?;
-    put(&mut members, alloc, "kind", kind)?;
-    let span = print_range(alloc, comment.span)?;
-    put(&mut members, alloc, "span", span)?;
-    let text = print_text(alloc, comment.text.as_str())?;
-    put(&mut members, alloc, "text", text)?;
-    Ok(Value::Object(members))
+    out.begin_object()?;
+    out.key("kind")?;
+    out.string(comment_kind_text(comment.kind))?;
+    out.key("span")?;
+    write_range(out, comment.span)?;
+    out.key("text")?;
+    out.string(comment.text.as_str())?;
+    out.end_object()
 }
 
 fn comment_kind_text(kind: CommentKind) -> &'static str

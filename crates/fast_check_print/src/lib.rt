@@ -1,10 +1,11 @@
-//! Printing trees, comments and their pieces as JSON.
+//! Writing trees, comments and their pieces as JSON, whose keys are sorted.
 #![tactic(auto)]
 
 mod comments;
 mod pieces;
 mod tree;
+mod variants;
 
-pub use comments::print_comments;
-pub use pieces::{print_position, print_range, print_text};
-pub use tree::print_tree;
+pub use comments::write_comments;
+pub use pieces::{write_position, write_range};
+pub use tree::write_tree;

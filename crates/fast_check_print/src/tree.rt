@@ -1,101 +1,108 @@
-ghost use Rattle.std.specs.Prelude.{◌≡◌, IfOk, map};
-ghost use Rattle.serde_json.specs.Data.{object, no_members};
-ghost use Rattle.serde_json.specs.View.{view};
-ghost use Rattle.fast_check_schema.specs.Rows.{field_row};
+ghost use Rattle.std.specs.Prelude.{◌≡◌, ◌∷◌, OnOk, map, slice_get};
+ghost use Rattle.json.specs.Token.{key};
+ghost use Rattle.fast_check_schema.specs.Schema.{fields_of};
 ghost use Rattle.fast_check_print.specs.Pieces.{text_of_word};
-ghost use Rattle.fast_check_print.specs.Printing.{json_of, list_data, content_data, first_data, with_fields, wrapped};
+ghost use Rattle.fast_check_print.specs.Printing.{json_of, node_data, list_data, content_data, first_data, fields_data, part_data};
+ghost use Rattle.fast_check_print.specs.Writing.{Adds, WritesData, tokens_of};
 
-use crate::pieces::{print_range, print_single, print_text};
-use fast_check_schema::{Choice, Field, Form, fields, marked, variant_of, word_text};
+use crate::pieces::write_range;
+use crate::variants::{close_variants, open_variants};
+use fast_check_schema::{Choice, Field, Form, fields, marked, word_text, written_order};
 use fast_check_syntax::{Kind, Tree, Word};
-use serde_json::{Map, Value, put};
-use std::alloc::{AllocError, Global};
+use json::Writer;
+use std::alloc::AllocError;
 
-/// The JSON value of a tree that stands where `form` does. An empty option is null.
-#[cycle(print)]
-pub fn print_tree(alloc: Global, tree: &Tree, form: Form) -> Result<Value, AllocError>
-    ensures { IfOk result (λ value. view value ≡ json_of tree.now form) }
+/// Writes a tree that stands where `form` does. An empty option is null; a node has its fields in the order of their names.
+#[cycle(write)]
+pub fn write_tree(out: &mut Writer, tree: &Tree, form: Form) -> Result<(), AllocError>
+    ensures { OnOk result (WritesData (json_of tree.now form) out.old out.new) }
 {
     match tree {
-        Tree::Absent => Ok(Value::Null),
-        Tree::Flag(flag) => Ok(Value::Bool(*flag)),
-        Tree::Context(context) => Ok(Value::from(context.0)),
-        Tree::Text(text) => print_text(alloc, text.as_str()),
-        Tree::Range(range) => print_range(alloc, *range),
-        Tree::Word(word) => print_text(alloc, name_of(*word, form)),
-        Tree::Node(Kind::List, items) => print_list(alloc, items.as_slice(), form),
-        Tree::Node(kind, parts) => {
-            let content = print_content(alloc, *kind, parts.as_slice())?;
-            wrap(alloc, content, *kind, form, 3)
-        }
+        Tree::Absent => out.null(),
+        Tree::Flag(flag) => out.boolean(*flag),
+        Tree::Context(context) => out.u64(u64::from(context.0)),
+        Tree::Text(text) => out.string(text.as_str()),
+        Tree::Range(range) => write_range(out, *range),
+        Tree::Word(word) => out.string(name_of(*word, form)),
+        Tree::Node(kind, parts) => write_node(out, *kind, parts.as_slice(), form),
     }
 }
 
-#[cycle(print)]
-fn print_list(alloc: Global, items: &[Tree], form: Form) -> Result<Value, AllocError>
-    ensures { IfOk result (λ value. view value ≡ list_data (map json_of items.now) form) }
+/// A list as an array, any other node under the names of its variants.
+#[cycle(write)]
+fn write_node(out: &mut Writer, kind: Kind, parts: &[Tree], form: Form) -> Result<(), AllocError>
+    ensures { OnOk result (WritesData (node_data kind (map json_of parts.now) form) out.old out.new) }
 {
-    let mut values = Vec::with_capacity(alloc, items.len())?;
-    for item in items {
-        values.push(print_tree(alloc, item, form)?)?;
+    if kind == Kind::List {
+        return write_list(out, parts, form);
     }
-    Ok(Value::Array(values))
+    let opened = open_variants(out, kind, form, 3)?;
+    write_content(out, kind, parts)?;
+    close_variants(out, opened)
+}
+
+#[cycle(write)]
+fn write_list(out: &mut Writer, items: &[Tree], form: Form) -> Result<(), AllocError>
+    ensures { OnOk result (WritesData (list_data (map json_of items.now) form) out.old out.new) }
+{
+    out.begin_array()?;
+    for item in items {
+        write_tree(out, item, form)?;
+    }
+    out.end_array()
 }
 
 /// A node without the names of its variants: the object of its fields, or what a mark stands round.
-#[cycle(print)]
-fn print_content(alloc: Global, kind: Kind, parts: &[Tree]) -> Result<Value, AllocError>
-    ensures { IfOk result (λ value. view value ≡ content_data kind (map json_of parts.now)) }
+#[cycle(write)]
+fn write_content(out: &mut Writer, kind: Kind, parts: &[Tree]) -> Result<(), AllocError>
+    ensures { OnOk result (WritesData (content_data kind (map json_of parts.now)) out.old out.new) }
 {
     match marked(kind) {
-        Some(choice) => print_first(alloc, parts, choice),
-        None => print_fields(alloc, fields(kind), parts),
+        Some(choice) => write_first(out, parts, choice),
+        None => write_fields(out, kind, parts),
     }
 }
 
 /// The first part, where the choice stands.
-#[cycle(print)]
-fn print_first(alloc: Global, parts: &[Tree], choice: Choice) -> Result<Value, AllocError>
-    ensures { IfOk result (λ value. view value ≡ first_data (map json_of parts.now) choice) }
+#[cycle(write)]
+fn write_first(out: &mut Writer, parts: &[Tree], choice: Choice) -> Result<(), AllocError>
+    ensures { OnOk result (WritesData (first_data (map json_of parts.now) choice) out.old out.new) }
 {
     match parts {
-        [part, ..] => print_tree(alloc, part, Form::Choice(choice)),
-        [] => Ok(Value::Null),
+        [part, ..] => write_tree(out, part, Form::Choice(choice)),
+        [] => out.null(),
     }
 }
 
-/// The object of a node's fields.
-#[cycle(print)]
-fn print_fields(alloc: Global, fields: &[Field], parts: &[Tree]) -> Result<Value, AllocError>
-    ensures { IfOk result (λ value. view value ≡ object (with_fields no_members (map field_row fields.now) (map json_of parts.now))) }
+/// The object of a node's fields, in the order of their names.
+#[cycle(write)]
+fn write_fields(out: &mut Writer, kind: Kind, parts: &[Tree]) -> Result<(), AllocError>
+    ensures { OnOk result (WritesData (fields_data (fields_of kind) (map json_of parts.now)) out.old out.new) }
 {
-    let mut members = Map::new(alloc);
-    for (part, field) in parts.iter().zip(fields) {
-        let value = print_tree(alloc, part, field.1)?;
-        put(&mut members, alloc, field.0, value)?;
+    let fields = fields(kind);
+    out.begin_object()?;
+    for place in written_order(kind) {
+        if let Some(field) = fields.get(*place) {
+            write_member(out, field, parts, *place)?;
+        }
     }
-    Ok(Value::Object(members))
+    out.end_object()
 }
 
-/// The content of a node under the names of the variants that it is of, where the form is a choice.
-fn wrap(
-    alloc: Global,
-    content: Value,
-    kind: Kind,
-    form: Form,
-    levels: u8,
-) -> Result<Value, AllocError>
-    ensures { IfOk result (λ value. view value ≡ wrapped levels kind form (view content)) }
+/// The part at a place, under the name of its field; null where there is none.
+#[cycle(write)]
+fn write_member(
+    out: &mut Writer,
+    field: &Field,
+    parts: &[Tree],
+    place: usize,
+) -> Result<(), AllocError>
+    ensures { OnOk result (Adds (key field.now.0.now ∷ tokens_of (part_data (slice_get (map json_of parts.now) place) field.now.1)) out.old out.new) }
 {
-    match form {
-        Form::Choice(choice) if levels > 0 => match variant_of(choice, kind) {
-            Some(variant) => {
-                let value = wrap(alloc, content, kind, variant.1, levels - 1)?;
-                print_single(alloc, variant.0, value)
-            }
-            None => Ok(content),
-        },
-        _ => Ok(content),
+    out.key(field.0)?;
+    match parts.get(place) {
+        Some(part) => write_tree(out, part, field.1),
+        None => out.null(),
     }
 }
 

@@ -4,7 +4,7 @@ use Rattle.std.specs.declared.alloc.Global.{Global}
 use Rattle.serde_json.specs.Data.{Data, null, boolean, string, array, object, no_members, member}
 use Rattle.serde_json.specs.View.{items_of}
 use Rattle.serde_json.specs.Written.{compact_text}
-use Rattle.url.specs.Parts.{serialize}
+use Rattle.url.specs.Parts.{Parts, serialize}
 use Rattle.fast_check_syntax.specs.declared.kind.Kind.TheVariants as kinds
 use Rattle.fast_check_syntax.specs.declared.tree.Tree.{Tree}
 use Rattle.fast_check_comments.specs.declared.comments.Comments.{Comments}
@@ -19,6 +19,7 @@ use Rattle.fast_check_tables.specs.declared.diagnostics.report.DiagnosticLevel.T
 use Rattle.fast_check_tables.specs.Diagnostic.{range_of, specifier_of, report_of}
 use Rattle.fast_check_tables.specs.EsModule.{EsModule}
 use Rattle.fast_check_tables.specs.PublicRanges.{PublicRanges}
+use Rattle.fast_check_tables.specs.Report.{Report}
 use Rattle.fast_check_transform.specs.declared.transformer.FastCheckModule.{FastCheckModule}
 use Rattle.fast_check_transform.specs.declared.transformer.StaticSource.{StaticSource}
 use Rattle.fast_check_transform.specs.Transform.{skeleton, comments, faults, told, AreDiagnosticsOf}
@@ -60,16 +61,19 @@ level_text levels.Error = codes "Error"
 level_text levels.Warning = codes "Warning"
 
 -- an object of what a reader is told of it
+abbrev pub report_data : Report → Option FastCheckDiagnosticRange → Parts → Data
+report_data report place specifier =
+    object (member (codes "code") (string report.code)
+    (member (codes "docs_url") (text_or_null report.docs_url)
+    (member (codes "hint") (text_or_null report.hint)
+    (member (codes "info") (array (items_of (map string report.info)))
+    (member (codes "level") (string (level_text report.level))
+    (member (codes "message") (string report.message)
+    (member (codes "range") (place_or_null place)
+    (member (codes "specifier") (string (serialize specifier)) no_members))))))))
+
 unfoldable pub diagnostic_data : FastCheckDiagnostic → Data
-diagnostic_data d =
-    object (member (codes "code") (string (report_of d).code)
-    (member (codes "docs_url") (text_or_null (report_of d).docs_url)
-    (member (codes "hint") (text_or_null (report_of d).hint)
-    (member (codes "info") (array (items_of (map string (report_of d).info)))
-    (member (codes "level") (string (level_text (report_of d).level))
-    (member (codes "message") (string (report_of d).message)
-    (member (codes "range") (place_or_null (range_of d))
-    (member (codes "specifier") (string (serialize (specifier_of d))) no_members))))))))
+diagnostic_data d = report_data (report_of d) (range_of d) (specifier_of d)
 
 -- ---- the answer
 

@@ -1,177 +1,90 @@
 //! The answers of the commands, as JSON.
 
-ghost use Rattle.std.specs.Prelude.{◌≡◌, IfOk, option_map, map};
-ghost use Rattle.std.specs.Option.{option_copied};
-ghost use Rattle.std.specs.String.{string_bytes};
-ghost use Rattle.serde_json.specs.Data.{string, array};
-ghost use Rattle.serde_json.specs.View.{view, items_of};
-ghost use Rattle.fast_check_print.specs.Pieces.{single};
-ghost use Rattle.fast_check_program.specs.Answer.{answer_data, line_of_data, module_data, sources_data, source_data, diagnostics_data, diagnostic_data, text_or_null, place_or_null, level_text};
+ghost use Rattle.std.specs.Prelude.{◌≡◌, IfOk, OnOk};
+ghost use Rattle.fast_check_print.specs.Writing.{WritesData};
+ghost use Rattle.fast_check_program.specs.Answer.{answer_data, line_of_data, module_data, sources_data, source_data};
 
-use fast_check_print::{print_comments, print_range, print_text, print_tree};
+use crate::diagnostic::write_diagnostics;
+use fast_check_print::{write_comments, write_range, write_tree};
 use fast_check_schema::Form;
 use fast_check_syntax::Kind;
-use fast_check_tables::{
-    Diagnostic, DiagnosticLevel, FastCheckDiagnostic, FastCheckDiagnosticRange,
-};
+use fast_check_tables::FastCheckDiagnostic;
 use fast_check_transform::{FastCheckModule, ModuleInfo, StaticSource};
-use serde_json::{Map, Value, put};
+use json::Writer;
 use std::alloc::{AllocError, Global};
 
 /// `{"Ok": module}`, or `{"Err": [diagnostic, ..]}`, as a line of compact JSON.
 pub fn print_line(
     alloc: Global,
     answer: &Result<FastCheckModule, Vec<FastCheckDiagnostic>>,
-) -> Result<String, AllocError>
-    ensures { IfOk result (λ line. string_bytes line ≡ line_of_data (answer_data answer.now)) }
+) -> Result<Vec<u8>, AllocError>
+    ensures { IfOk result (λ line. line.items ≡ line_of_data (answer_data answer.now)) }
 {
-    let mut line = print_answer(alloc, answer)?.to_string(alloc)?;
-    line.push('\n')?;
+    let mut out = Writer::new(Vec::new(alloc));
+    write_answer(alloc, &mut out, answer)?;
+    let mut line = out.into_inner();
+    line.push(b'\n')?;
     Ok(line)
 }
 
-fn print_answer(
+fn write_answer(
     alloc: Global,
+    out: &mut Writer,
     answer: &Result<FastCheckModule, Vec<FastCheckDiagnostic>>,
-) -> Result<Value, AllocError>
-    ensures { IfOk result (λ value. view value ≡ answer_data answer.now) }
+) -> Result<(), AllocError>
+    ensures { OnOk result (WritesData (answer_data answer.now) out.old out.new) }
 {
+    out.begin_object()?;
     match answer {
-        Ok(made) => print_single(alloc, "Ok", print_module(alloc, made)?),
+        Ok(made) => {
+            out.key("Ok")?;
+            write_module(out, made)?;
+        }
         Err(diagnostics) => {
-            let diagnostics = print_diagnostics(alloc, diagnostics.as_slice())?;
-            print_single(alloc, "Err", diagnostics)
+            out.key("Err")?;
+            write_diagnostics(alloc, out, diagnostics.as_slice())?;
         }
     }
+    out.end_object()
 }
 
-/// The object of one member.
-fn print_single(alloc: Global, name: &str, value: Value) -> Result<Value, AllocError>
-    ensures { IfOk result (λ object. view object ≡ single name.now (view value)) }
+fn write_module(out: &mut Writer, made: &FastCheckModule) -> Result<(), AllocError>
+    ensures { OnOk result (WritesData (module_data made.now.comments made.now.module_info.sources.items made.now.program) out.old out.new) }
 {
-    let mut members = Map::new(alloc);
-    put(&mut members, alloc, name, value)?;
-    Ok(Value::Object(members))
+    out.begin_object()?;
+    out.key("comments")?;
+    write_comments(out, &made.comments)?;
+    out.key("module_info")?;
+    write_module_info(out, &made.module_info)?;
+    out.key("program")?;
+    write_tree(out, &made.program, Form::Struct(Kind::Module))?;
+    out.end_object()
 }
 
-fn print_module(alloc: Global, made: &FastCheckModule) -> Result<Value, AllocError>
-    ensures { IfOk result (λ value. view value ≡ module_data made.now.comments made.now.module_info.sources.items made.now.program) }
+fn write_module_info(out: &mut Writer, info: &ModuleInfo) -> Result<(), AllocError>
+    ensures { OnOk result (WritesData (sources_data info.now.sources.items) out.old out.new) }
 {
-    let mut members = Map::new(alloc);
-    let comments = print_comments(alloc, &made.comments)?;
-    put(&mut members, alloc, "comments", comments)?;
-    let module_info = print_module_info(alloc, &made.module_info)?;
-    put(&mut members, alloc, "module_info", module_info)?;
-    let program = print_tree(alloc, &made.program, Form::Struct(Kind::Module))?;
-    put(&mut members, alloc, "program", program)?;
-    Ok(Value::Object(members))
-}
-
-fn print_module_info(alloc: Global, info: &ModuleInfo) -> Result<Value, AllocError>
-    ensures { IfOk result (λ value. view value ≡ sources_data info.now.sources.items) }
-{
-    let mut sources = Vec::new(alloc);
+    out.begin_object()?;
+    out.key("sources")?;
+    out.begin_array()?;
     for source in info.sources.as_slice() {
-        sources.push(print_static_source(alloc, source)?)?;
+        write_static_source(out, source)?;
     }
-    print_single(alloc, "sources", Value::Array(sources))
+    out.end_array()?;
+    out.end_object()
 }
 
-fn print_static_source(alloc: Global, source: &StaticSource) -> Result<Value, AllocError>
-    ensures { IfOk result (λ value. view value ≡ source_data source.now) }
+fn write_static_source(out: &mut Writer, source: &StaticSource) -> Result<(), AllocError>
+    ensures { OnOk result (WritesData (source_data source.now) out.old out.new) }
 {
-    let mut members = Map::new(alloc);
-    put(
-        &mut members,
-        alloc,
-        "is_export",
-        Value::Bool(source.is_export),
-    )?;
-    let range = print_range(alloc, source.range)?;
-    put(&mut members, alloc, "range", range)?;
-    let specifier = print_text(alloc, source.specifier.as_str())?;
-    put(&mut members, alloc, "specifier", specifier)?;
-    put(
-        &mut members,
-        alloc,
-        "type_only",
-        Value::Bool(source.type_only),
-    )?;
-    Ok(Value::Object(members))
-}
-
-fn print_diagnostics(
-    alloc: Global,
-    diagnostics: &[FastCheckDiagnostic],
-) -> Result<Value, AllocError>
-    ensures { IfOk result (λ value. view value ≡ array (items_of (map diagnostic_data diagnostics.now))) }
-{
-    let mut printed = Vec::new(alloc);
-    for diagnostic in diagnostics {
-        printed.push(print_diagnostic(alloc, diagnostic)?)?;
-    }
-    Ok(Value::Array(printed))
-}
-
-#[tactic(auto, unfolding(crate::specs::Answer::diagnostic_data))]
-fn print_diagnostic(alloc: Global, diagnostic: &FastCheckDiagnostic) -> Result<Value, AllocError>
-    ensures { IfOk result (λ value. view value ≡ diagnostic_data diagnostic.now) }
-{
-    let mut members = Map::new(alloc);
-    let code = print_text(alloc, diagnostic.code())?;
-    put(&mut members, alloc, "code", code)?;
-    let docs_url = print_optional(alloc, diagnostic.docs_url(alloc)?)?;
-    put(&mut members, alloc, "docs_url", docs_url)?;
-    let hint = print_optional(alloc, diagnostic.hint(alloc)?)?;
-    put(&mut members, alloc, "hint", hint)?;
-    let info = print_lines(alloc, diagnostic.info(alloc)?)?;
-    put(&mut members, alloc, "info", info)?;
-    let level = print_text(alloc, level_text(diagnostic.level()))?;
-    put(&mut members, alloc, "level", level)?;
-    let message = Value::String(diagnostic.message(alloc)?);
-    put(&mut members, alloc, "message", message)?;
-    let range = print_place(alloc, diagnostic.range())?;
-    put(&mut members, alloc, "range", range)?;
-    let specifier = print_text(alloc, diagnostic.specifier().as_str())?;
-    put(&mut members, alloc, "specifier", specifier)?;
-    Ok(Value::Object(members))
-}
-
-fn level_text(level: DiagnosticLevel) -> &'static str
-    ensures { result.now ≡ level_text level }
-{
-    match level {
-        DiagnosticLevel::Error => "Error",
-        DiagnosticLevel::Warning => "Warning",
-    }
-}
-
-/// The range of a place, or null where there is none.
-fn print_place(alloc: Global, place: Option<&FastCheckDiagnosticRange>) -> Result<Value, AllocError>
-    ensures { IfOk result (λ value. view value ≡ place_or_null (option_copied place.entry)) }
-{
-    match place {
-        Some(place) => print_range(alloc, place.range),
-        None => Ok(Value::Null),
-    }
-}
-
-/// A text, or null where there is none.
-fn print_optional(alloc: Global, text: Option<String>) -> Result<Value, AllocError>
-    ensures { IfOk result (λ value. view value ≡ text_or_null (option_map string_bytes text)) }
-{
-    match text {
-        Some(text) => print_text(alloc, text.as_str()),
-        None => Ok(Value::Null),
-    }
-}
-
-fn print_lines(alloc: Global, lines: Vec<String>) -> Result<Value, AllocError>
-    ensures { IfOk result (λ value. view value ≡ array (items_of (map string (map string_bytes lines.items)))) }
-{
-    let mut printed = Vec::with_capacity(alloc, lines.len())?;
-    for line in lines.as_slice() {
-        printed.push(print_text(alloc, line.as_str())?)?;
-    }
-    Ok(Value::Array(printed))
+    out.begin_object()?;
+    out.key("is_export")?;
+    out.boolean(source.is_export)?;
+    out.key("range")?;
+    write_range(out, source.range)?;
+    out.key("specifier")?;
+    out.string(source.specifier.as_str())?;
+    out.key("type_only")?;
+    out.boolean(source.type_only)?;
+    out.end_object()
 }

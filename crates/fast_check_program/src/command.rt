@@ -18,7 +18,7 @@ use std::io::{ErrorKind, Read, Write};
 /// diagnostics.
 #[derive(Drop)]
 struct Answer {
-    line: String,
+    line: Vec<u8>,
     status: u8,
 }
 
@@ -41,7 +41,7 @@ pub fn run<R: Read + Drop, O: Write, E: Write>(
         ⊎ ((refusal ≡ Refusal.Unwritable) × HasAnswer (map string_bytes words.now) (option_map R.remaining input))) }
 {
     match respond(alloc, words, input) {
-        Ok(answer) => match out.write_all(answer.line.as_bytes()) {
+        Ok(answer) => match out.write_all(answer.line.as_slice()) {
             Ok(()) => Ending {
                 status: answer.status,
                 is_told: true,
@@ -58,7 +58,7 @@ fn respond<R: Read + Drop>(
     words: &[String],
     input: Option<R>,
 ) -> Result<Answer, Refusal>
-    ensures answer { IfOk result (λ answer. AnswersCall (map string_bytes words.now) (option_map R.remaining input) (string_bytes answer.line) answer.status) }
+    ensures answer { IfOk result (λ answer. AnswersCall (map string_bytes words.now) (option_map R.remaining input) answer.line.items answer.status) }
     ensures refusal { IfErr result (RefusesCall (map string_bytes words.now) (option_map R.remaining input)) }
 {
     if !is_call(words) {
@@ -95,7 +95,7 @@ fn read_bytes<R: Read + Drop>(alloc: Global, input: Option<R>) -> Result<Vec<u8>
 
 /// The answer to the bytes of a file, or why they are refused.
 fn answer_transform(alloc: Global, bytes: &[u8]) -> Result<Answer, Refusal>
-    ensures answer { IfOk result (λ answer. IsAnswerTo bytes.now (string_bytes answer.line) answer.status) }
+    ensures answer { IfOk result (λ answer. IsAnswerTo bytes.now answer.line.items answer.status) }
     ensures refusal { IfErr result (λ refusal. RefusesBytes refusal bytes.now) }
 {
     let request = read_transform_request(alloc, &read_input(alloc, bytes)?)?;
@@ -108,7 +108,7 @@ fn answer_transform(alloc: Global, bytes: &[u8]) -> Result<Answer, Refusal>
 /// The answer to a request.
 fn answer_request(alloc: Global, request: &TransformRequest) -> Result<Answer, AllocError>
     requires { IsCarried request.now.es_module_info }
-    ensures { IfOk result (λ answer. IsAnswer request.now.es_module_info request.now.public_ranges request.now.should_error_on_first_diagnostic (string_bytes answer.line) answer.status) }
+    ensures { IfOk result (λ answer. IsAnswer request.now.es_module_info request.now.public_ranges request.now.should_error_on_first_diagnostic answer.line.items answer.status) }
 {
     let graph = ModuleGraph::from_parts(alloc)?;
     let options = TransformOptions {

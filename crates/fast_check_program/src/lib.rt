@@ -3,6 +3,7 @@
 
 mod answer;
 mod command;
+mod diagnostic;
 mod ending;
 mod refusal;
 mod request;

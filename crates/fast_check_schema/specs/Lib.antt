@@ -1,3 +1,4 @@
 pub mod Lookup
+pub mod Order
 pub mod Rows
 pub mod Schema

@@ -6,6 +6,7 @@ mod form;
 mod functions;
 mod lookup;
 mod names;
+mod order;
 mod patterns;
 mod program;
 mod statements;
@@ -14,4 +15,5 @@ mod types;
 
 pub use form::{Choice, Count, Field, Form, Named, Variant, Words};
 pub use lookup::{marked, variant_named, variant_of, word_named, word_text};
+pub use order::written_order;
 pub use tables::{fields, variants, words};

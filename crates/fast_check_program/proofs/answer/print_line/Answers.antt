@@ -1,12 +1,17 @@
-use Rattle.std.proofs.Common.{◌++◌, ap, ◌∙◌, arith, string_bytes}
-use Rattle.serde_json.specs.Written.{has_float, compact_text}
+use Rattle.std.proofs.Common.{◌++◌, ap, ◌∙◌}
+use Rattle.json.specs.Print.{print}
+use Rattle.serde_json.proofs.Texts.{print-outline}
+use Rattle.fast_check_print.specs.Writing.{tokens_of}
+use Rattle.fast_check_program.specs.Answer.{answer_data}
 use Rattle.fast_check_program.specs.Refusal.{line_end}
-use Rattle.fast_check_program.proofs.NoFloat.{answer_none}
 use Rattle.fast_check_program.proofs.answer.print_line.Goals as goal
 
 pub returns : goal.returns
 returns c =
-    let printed = c.in_ok-print_answer.ensures in
-    c.in_ok-push.ensures.bytes
-    ∙ (ap (λ end. string_bytes c.in_ok-line.line ++ end) (c.in_ok-push.ensures.ascii (omega arith))
-    ∙ ap (λ text. text ++ line_end) (c.in_ok-line.ensures.text (ap has_float printed ∙ answer_none c.args.answer.now) ∙ ap compact_text printed))
+    let value = answer_data c.args.answer.now in
+    let written = c.in_ok-write_answer.ensures in
+    let before = written.before ∙ (c.new-out.ensures.before ∙ c.new.ensures.items) in
+    let tokens = written.tokens_now ∙ ap (λ ts. ts ++ tokens_of value) c.new-out.ensures.tokens in
+    c.in_ok-push.ensures.items
+    ∙ ap (λ text. text ++ line_end)
+    (c.into_inner-line.ensures.items ∙ (ap (λ text. text ++ print c.write_answer.new.out.tokens) before ∙ (ap print tokens ∙ print-outline value)))

@@ -1,4 +1,4 @@
-use Rattle.std.proofs.Common.{rules, inr, string_bytes, subst}
+use Rattle.std.proofs.Common.{rules, inr, subst}
 use Rattle.serde_json.specs.View.{view}
 use Rattle.fast_check_program.specs.Answer.{IsAnswer}
 use Rattle.fast_check_program.proofs.command.answer_transform.Goals as goal
@@ -35,5 +35,5 @@ returns-clause-answer c =
       is_module = asked.2.es_module_info;
       is_public = asked.2.public_ranges;
       carried = search rules;
-      answer = subst (λ first. IsAnswer made.es_module_info made.public_ranges first (string_bytes answer.line) answer.status) asked.2.first c.in_ok-answer_request.ensures;
+      answer = subst (λ first. IsAnswer made.es_module_info made.public_ranges first answer.line.items answer.status) asked.2.first c.in_ok-answer_request.ensures;
     }

@@ -1,8 +1,8 @@
-use Rattle.std.proofs.Common.{refl, inr, string_bytes}
+use Rattle.std.proofs.Common.{refl, inr}
 use Rattle.fast_check_program.specs.declared.refusal.Refusal.TheVariants as refusals
 use Rattle.fast_check_program.proofs.command.run.Goals as goal
 
 pub returns-in-Ok-clause-refusal : goal.returns-in-Ok-clause-refusal
 returns-in-Ok-clause-refusal g c =
     let answer = c.in-Ok.answer in
-    λ status. (refusals.Unwritable, c.told.ensures, inr (refl, (string_bytes answer.line, answer.status, c.in-Ok.ensures.answer)))
+    λ status. (refusals.Unwritable, c.told.ensures, inr (refl, (answer.line.items, answer.status, c.in-Ok.ensures.answer)))

@@ -1,0 +1,13 @@
+use Rattle.std.proofs.Common.{drop, map}
+use Rattle.serde_json.specs.Data.{array}
+use Rattle.serde_json.specs.View.{items_of}
+use Rattle.fast_check_print.specs.Writing.{tokens_of}
+use Rattle.fast_check_print.proofs.Adding.{Remains}
+use Rattle.fast_check_print.proofs.Items.{rest_of_items}
+use Rattle.fast_check_program.specs.Answer.{diagnostic_data}
+use Rattle.fast_check_program.proofs.diagnostic.write_diagnostics.Given as goal
+
+-- the other diagnostics still have to come
+abbrev pub invariant-loop-diagnostic : goal.invariant-loop-diagnostic
+invariant-loop-diagnostic l =
+    Remains (tokens_of (array (items_of (map diagnostic_data l.fn.diagnostics)))) l.fn.out l.out (rest_of_items (map diagnostic_data (drop l.diagnostic-index l.diagnostics)))
