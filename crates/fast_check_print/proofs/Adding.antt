@@ -39,6 +39,3 @@ remains-next whole ts rest old a b h step = record {
   before = step.before ∙ h.before;
   tokens_whole = h.tokens_whole ∙ sym (ap (λ xs. xs ++ rest) step.tokens_now ∙ append_assoc a.tokens ts rest);
 }
-
-pub remains-last : {E : Type 0} (r : Result (Unit {0}) E) (whole rest : List Token) (old a b : Written) → Remains whole old a rest → OnOk r (Adds rest a b) → OnOk r (Adds whole old b)
-remains-last r whole rest old a b h last = on_ok_weaker r (λ step. record { before = step.before ∙ h.before; tokens_now = step.tokens_now ∙ sym h.tokens_whole }) last

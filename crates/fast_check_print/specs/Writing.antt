@@ -11,10 +11,11 @@ pub record Adds (tokens : List Token) (old new : Written) : Type 0 where
   pub before : new.before ≡ old.before
   pub tokens_now : new.tokens ≡ old.tokens ++ tokens
 
--- those of a value that has no float
+-- the tokens of a value that has no float
 abbrev pub tokens_of : Data → List Token
 tokens_of value = json_tokens (outline value)
 
+-- the value is written
 abbrev pub WritesData : Data → Written → Written → Type 0
 WritesData value = Adds (tokens_of value)
 

@@ -8,7 +8,7 @@ use fast_check_syntax::SourcePos;
 use json::Writer;
 use std::alloc::AllocError;
 
-/// Comments as an object with the members `leading` and `trailing`, each an array of positions with their comments.
+/// Writes comments as an object with the members `leading` and `trailing`, each an array of positions with their comments.
 pub fn write_comments(out: &mut Writer, comments: &Comments) -> Result<(), AllocError>
     ensures { OnOk result (WritesData (comments_data comments.now) out.old out.new) }
 {
@@ -20,6 +20,7 @@ pub fn write_comments(out: &mut Writer, comments: &Comments) -> Result<(), Alloc
     out.end_object()
 }
 
+/// The entries as an array, in the order of their positions.
 fn write_places(out: &mut Writer, places: &CommentMap) -> Result<(), AllocError>
     ensures { OnOk result (WritesData (places_data places.now) out.old out.new) }
 {

@@ -6,14 +6,14 @@ use fast_check_syntax::{SourcePos, SourceRange};
 use json::Writer;
 use std::alloc::AllocError;
 
-/// A position, as its number.
+/// Writes a position as its number.
 pub fn write_position(out: &mut Writer, position: SourcePos) -> Result<(), AllocError>
     ensures { OnOk result (WritesData (number_data position.0) out.old out.new) }
 {
     out.u64(u64::from(position.0))
 }
 
-/// A range, as an array of its start and its end.
+/// Writes a range as an array of its start and its end.
 pub fn write_range(out: &mut Writer, range: SourceRange) -> Result<(), AllocError>
     ensures { OnOk result (WritesData (range_data range) out.old out.new) }
 {

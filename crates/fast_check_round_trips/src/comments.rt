@@ -1,6 +1,6 @@
 //! Comments, read and printed.
 
-use fast_check_print::print_comments;
+use crate::printed::printed_comments;
 use fast_check_read::{ReadError, read_comments};
 use serde_json::Value;
 use std::test::Fail;
@@ -10,10 +10,9 @@ fn of_entries_at_one_position_the_last_counts(rt: HostRuntime) -> Result<(), Fai
     let text =
         r#"{"leading":[[9,[{"kind":"Line","text":" b"}]],[1,[]],[9,[{"kind":"Block","span":[9,16],"text":" c "},{"kind":"Line","text":""}]]]}"#;
     let comments = read_comments(rt.alloc(), &Value::from_str(rt.alloc(), text)?)?;
-    let printed = print_comments(rt.alloc(), &comments)?;
-    let printed = printed.to_string(rt.alloc())?;
+    let again = printed_comments(rt.alloc(), &comments)?;
     assert_eq!(rt;
-        printed.as_str(),
+        again.as_str(),
         r#"{"leading":[[1,[]],[9,[{"kind":"Block","span":[9,16],"text":" c "},{"kind":"Line","span":[0,0],"text":""}]]],"trailing":[]}"#
     );
     Ok(())

@@ -1,7 +1,7 @@
 //! Each form and each variant, read and printed.
 
+use crate::printed::printed;
 use crate::sample::{Filling, sample_node, sample_variant};
-use fast_check_print::print_tree;
 use fast_check_read::read_tree;
 use fast_check_schema::{Choice, Form, variants};
 use fast_check_syntax::Kind;
@@ -220,18 +220,17 @@ static CHOICES: [Choice; 39] = [
     Choice::TsTypeElement,
 ];
 
-/// Reads `given` where the form stands, and asserts that it prints as `printed`.
+/// Reads `given` where the form stands, and asserts that it prints as the text of `wanted`, whose keys are sorted.
 fn comes_back(
     rt: &(impl Abort + AllocGlobal),
     form: Form,
     given: &Value,
-    printed: &Value,
+    wanted: &Value,
 ) -> Result<(), Fail> {
     let tree = read_tree(rt.alloc(), given, form)?;
-    let again = print_tree(rt.alloc(), &tree, form)?;
-    let again = again.to_string(rt.alloc())?;
-    let printed = printed.to_string(rt.alloc())?;
-    assert_eq!(rt; again.as_str(), printed.as_str());
+    let again = printed(rt.alloc(), &tree, form)?;
+    let wanted = wanted.to_string(rt.alloc())?;
+    assert_eq!(rt; again.as_str(), wanted.as_str());
     Ok(())
 }
 
@@ -239,8 +238,8 @@ fn comes_back(
 fn a_form_without_its_defaults_prints_with_them(rt: HostRuntime) -> Result<(), Fail> {
     for kind in &KINDS {
         let given = sample_node(rt.alloc(), *kind, Filling::Least)?;
-        let printed = sample_node(rt.alloc(), *kind, Filling::Defaults)?;
-        comes_back(&rt, Form::Struct(*kind), &given, &printed)?;
+        let wanted = sample_node(rt.alloc(), *kind, Filling::Defaults)?;
+        comes_back(&rt, Form::Struct(*kind), &given, &wanted)?;
     }
     Ok(())
 }

@@ -6,6 +6,10 @@ mod comments;
 #[cfg(test)]
 mod forms;
 #[cfg(test)]
+mod other_trees;
+#[cfg(test)]
+mod printed;
+#[cfg(test)]
 mod refusals;
 #[cfg(test)]
 mod sample;

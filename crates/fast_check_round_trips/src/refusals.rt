@@ -1,6 +1,6 @@
 //! What is refused, and what is passed over.
 
-use fast_check_print::print_tree;
+use crate::printed::printed;
 use fast_check_read::{
     ReadError, has_float, read_comments, read_flag, read_optional_flag, read_range, read_ranges,
     read_text, read_tree, read_u32, read_u64,
@@ -57,9 +57,8 @@ fn what_is_no_form_is_refused(rt: HostRuntime) -> Result<(), Fail> {
 fn other_members_are_passed_over(rt: HostRuntime) -> Result<(), Fail> {
     let value = Value::from_str(rt.alloc(), r#"{"span":[1,5],"extra":{"a":[2]}}"#)?;
     let tree = read_tree(rt.alloc(), &value, Form::Struct(Kind::ThisExpr))?;
-    let printed = print_tree(rt.alloc(), &tree, Form::Struct(Kind::ThisExpr))?;
-    let printed = printed.to_string(rt.alloc())?;
-    assert_eq!(rt; printed.as_str(), r#"{"span":[1,5]}"#);
+    let again = printed(rt.alloc(), &tree, Form::Struct(Kind::ThisExpr))?;
+    assert_eq!(rt; again.as_str(), r#"{"span":[1,5]}"#);
     Ok(())
 }
 

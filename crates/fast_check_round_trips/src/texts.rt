@@ -1,6 +1,6 @@
 //! Texts that come back byte for byte.
 
-use fast_check_print::print_tree;
+use crate::printed::printed;
 use fast_check_read::read_tree;
 use fast_check_schema::{Choice, Form};
 use fast_check_syntax::Kind;
@@ -12,8 +12,7 @@ use std::test::Fail;
 fn comes_back(rt: &(impl Abort + AllocGlobal), form: Form, text: &str) -> Result<(), Fail> {
     let value = Value::from_str(rt.alloc(), text)?;
     let tree = read_tree(rt.alloc(), &value, form)?;
-    let again = print_tree(rt.alloc(), &tree, form)?;
-    let again = again.to_string(rt.alloc())?;
+    let again = printed(rt.alloc(), &tree, form)?;
     assert_eq!(rt; again.as_str(), text);
     Ok(())
 }
