@@ -54,7 +54,6 @@ fn retyped(alloc: Global, declarator: Part<'_>, ty: Tree, value: Tree) -> Result
 
 /// The value of a declarator as it stays, where it shows no type; none where it may not stay, or is not there. It is
 /// named by the identifier at `place`.
-#[tactic(auto, using(crate::proofs::Declared::absent_value, crate::proofs::Declared::absent_faults, crate::proofs::Declared::present_value, crate::proofs::Declared::present_faults))]
 fn keep_value(
     alloc: Global,
     asked: Asked<'_>,
@@ -73,7 +72,6 @@ fn keep_value(
 
 /// A declarator without type, with the value that gives it. Where there is none that may stay, that is a fault at the
 /// identifier.
-#[tactic(auto, using(crate::proofs::Declared::stays_tree, crate::proofs::Declared::stays_faults, crate::proofs::Declared::goes_tree, crate::proofs::Declared::goes_faults))]
 fn valued_declarator(
     alloc: Global,
     asked: Asked<'_>,
@@ -99,7 +97,6 @@ fn valued_declarator(
 
 /// A declarator of an identifier, with the type that is written or that its value shows, or else with a value that may
 /// stay.
-#[tactic(auto, using(crate::proofs::Declared::written_ident, crate::proofs::Declared::faults_written, crate::proofs::Declared::shown_ident, crate::proofs::Declared::faults_shown, crate::proofs::Declared::valued_ident, crate::proofs::Declared::faults_valued))]
 fn ident_declarator(
     alloc: Global,
     asked: Asked<'_>,
@@ -123,7 +120,6 @@ fn ident_declarator(
 
 /// A declarator with the type that is written or that its value shows, or with a value that gives it. Where there is
 /// none, or where a pattern stands for the identifier, that is a fault.
-#[tactic(auto, using(crate::proofs::Declared::typed_ident, crate::proofs::Declared::faults_ident, crate::proofs::Declared::typed_pattern, crate::proofs::Declared::faults_pattern))]
 fn typed_declarator(
     alloc: Global,
     asked: Asked<'_>,
@@ -146,7 +142,6 @@ fn typed_declarator(
 }
 
 /// A declarator of a statement, that of an ambient one as it is written; none where it is not public.
-#[tactic(auto, using(crate::proofs::Declared::kept_not_public, crate::proofs::Declared::fault_not_public, crate::proofs::Declared::kept_ambient, crate::proofs::Declared::fault_ambient, crate::proofs::Declared::kept_public, crate::proofs::Declared::fault_public))]
 fn keep_declarator(
     alloc: Global,
     asked: Asked<'_>,
@@ -169,7 +164,6 @@ fn keep_declarator(
 }
 
 /// The public declarators of a statement.
-#[tactic(auto, using(crate::proofs::Fused::kept_declarators_is, crate::proofs::Fused::declarator_faults_is))]
 fn public_declarators(
     alloc: Global,
     asked: Asked<'_>,
@@ -189,7 +183,6 @@ fn public_declarators(
     Ok(items)
 }
 
-#[tactic(auto, using(crate::proofs::Fused::kept_statement_is, crate::proofs::Fused::statement_faults_is, crate::proofs::Fused::with_declarators_none, crate::proofs::Fused::with_declarators_some))]
 /// A variable statement with its public declarators; none where it has none.
 pub fn keep_statement(
     alloc: Global,

@@ -31,7 +31,6 @@ pub fn own_range(item: Part<'_>) -> SourceRange
 }
 
 /// The signature of a public function: of an implementation behind overloads the count of its parameters.
-#[tactic(auto, using(crate::proofs::Declared::implementation_tree, crate::proofs::Declared::implementation_faults, crate::proofs::Declared::other_tree, crate::proofs::Declared::other_faults))]
 fn transform_signature(
     alloc: Global,
     asked: Asked<'_>,
@@ -63,7 +62,6 @@ fn transform_signature(
 
 /// A public function: in a declaration file as it is written; an implementation behind overloads, by the count of its
 /// parameters; another, by its signature.
-#[tactic(auto, using(crate::proofs::Declared::function_ambient, crate::proofs::Declared::faults_ambient, crate::proofs::Declared::function_made, crate::proofs::Declared::faults_made))]
 fn keep_function(
     alloc: Global,
     asked: Asked<'_>,
@@ -87,7 +85,6 @@ fn keep_function(
 }
 
 /// What is public of a declaration, which is public by `place` where it is no variable statement; none where nothing is.
-#[tactic(auto, using(crate::proofs::ByKind::kept_VarDecl, crate::proofs::ByKind::faults_VarDecl, crate::proofs::ByKind::kept_private, crate::proofs::ByKind::faults_private, crate::proofs::ByKind::kept_FnDecl, crate::proofs::ByKind::faults_FnDecl, crate::proofs::ByKind::kept_standing, crate::proofs::ByKind::kept_other, crate::proofs::ByKind::faults_other))]
 fn keep_decl(
     alloc: Global,
     asked: Asked<'_>,
@@ -115,7 +112,6 @@ fn keep_decl(
 }
 
 /// What is public of an item of a module; none where nothing is.
-#[tactic(auto, using(crate::proofs::ByKind::kept_ExportDecl, crate::proofs::ByKind::faults_ExportDecl, crate::proofs::ByKind::kept_item_other, crate::proofs::ByKind::item_faults_other))]
 pub fn keep_item(
     alloc: Global,
     asked: Asked<'_>,

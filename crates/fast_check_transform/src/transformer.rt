@@ -106,7 +106,6 @@ pub fn transform(
 }
 
 /// A module with what is public of its items. The comments before the others go.
-#[tactic(auto, using(crate::proofs::Fused::skeleton_of_is, crate::proofs::Fused::faults_of_is))]
 fn keep_program(
     alloc: Global,
     asked: Asked<'_>,
@@ -133,7 +132,6 @@ fn keep_program(
 }
 
 /// What is public of the items of a module. The comments before the others go.
-#[tactic(auto, using(crate::proofs::Fused::kept_items_is, crate::proofs::Fused::faults_of_items_is))]
 fn keep_items(
     alloc: Global,
     asked: Asked<'_>,

@@ -38,3 +38,6 @@ loop-item-preserved c =
           c.loop-item-test.true (search rules) (removed_if_some (Asked-around c.args.asked) item c.in-Some.tree some));
       faults = grind (arith, common_steps);
     }
+
+pub returns-clause-comments : goal.returns-clause-comments
+returns-clause-comments c = grind (arith, common_steps)

@@ -5,3 +5,36 @@ use Rattle.fast_check_transform.proofs.transformer.transform.Goals as goal
 
 pub returns-clause-grammar : goal.returns-clause-grammar
 returns-clause-grammar c = skeleton_in_grammar c.args.es_module_info.now c.args.public_ranges.now c.in_ok-program.program (search rules) (grind (arith, common_steps))
+
+pub returns-then-not-is_empty-clause-ok : goal.returns-then-not-is_empty-clause-ok
+returns-then-not-is_empty-clause-ok c = search rules
+
+pub returns-then-not-is_empty-clause-skeleton : goal.returns-then-not-is_empty-clause-skeleton
+returns-then-not-is_empty-clause-skeleton c = search rules
+
+pub returns-then-not-is_empty-clause-grammar : goal.returns-then-not-is_empty-clause-grammar
+returns-then-not-is_empty-clause-grammar c = search rules
+
+pub returns-then-not-is_empty-clause-comments : goal.returns-then-not-is_empty-clause-comments
+returns-then-not-is_empty-clause-comments c = search rules
+
+pub returns-then-not-is_empty-clause-sources : goal.returns-then-not-is_empty-clause-sources
+returns-then-not-is_empty-clause-sources c = search rules
+
+pub returns-then-not-is_empty-clause-faults : goal.returns-then-not-is_empty-clause-faults
+returns-then-not-is_empty-clause-faults c = search rules
+
+pub returns-clause-ok : goal.returns-clause-ok
+returns-clause-ok c = grind (arith, common_steps)
+
+pub returns-clause-skeleton : goal.returns-clause-skeleton
+returns-clause-skeleton c = search rules
+
+pub returns-clause-comments : goal.returns-clause-comments
+returns-clause-comments c = search rules
+
+pub returns-clause-sources : goal.returns-clause-sources
+returns-clause-sources c = search rules
+
+pub returns-clause-faults : goal.returns-clause-faults
+returns-clause-faults c = search rules
