@@ -1,9 +1,13 @@
-ghost use Rattle.std.specs.Prelude.{◌≡◌, IfOk, ◌++◌, []};
+ghost use Rattle.std.specs.Prelude.{◌≡◌, IfOk, ◌++◌, ◌∷◌, []};
 ghost use Rattle.fast_check_syntax.specs.Part.{seen};
+ghost use Rattle.fast_check_syntax.specs.declared.tree.Tree.{Absent};
 ghost use Rattle.fast_check_syntax.specs.Shape.{parts, list};
 ghost use Rattle.fast_check_class_forms.specs.Functions.{param, Param-span};
 ghost use Rattle.fast_check_expression_forms.specs.Patterns.{AssignPat-span, assign_pat};
+ghost use Rattle.fast_check_program_forms.specs.Names.{BindingIdent-id};
 ghost use Rattle.fast_check_tree.specs.OptionalParams.{IsOptionalStart};
+ghost use Rattle.fast_check_signatures.specs.Answers.{fault_at};
+ghost use Rattle.fast_check_signatures.specs.declared.fault.FaultKind.TheVariants.{UnsupportedDestructuring};
 ghost use Rattle.fast_check_signatures.specs.Parameters.{typed, emptied_array, emptied_object, rest_arg, rest_seen, without_default};
 ghost use Rattle.fast_check_values.specs.Kept.{stood, faults_of, default_type, pat_tree, pat_faults, assign_tree, assign_faults, pats_trees, pats_faults, IsStartOfParams, params_trees, params_faults, default_left, default_faults};
 
@@ -38,6 +42,18 @@ fn typed(
         return Ok(Tree::Absent);
     }
     Ok(pat)
+}
+
+/// A pattern that can't stand: an empty option, and a fault at this place.
+fn unsupported(place: SourceRange, faults: &mut Vec<Fault>) -> Result<Tree, AllocError>
+    ensures kept { IfOk result (λ tree. tree ≡ Absent) }
+    ensures faults { IfOk result (λ _. faults.new.items ≡ faults.old.items ++ fault_at UnsupportedDestructuring place ∷ []) }
+{
+    faults.push(Fault {
+        kind: FaultKind::UnsupportedDestructuring,
+        range: place,
+    })?;
+    Ok(Tree::Absent)
 }
 
 /// An array pattern, emptied.
@@ -104,17 +120,17 @@ fn transform_rest(alloc: Global, pat: Part<'_>, faults: &mut Vec<Fault>) -> Resu
 fn without_default(
     alloc: Global,
     is_optional: bool,
-    id: Part<'_>,
+    name: Part<'_>,
     ty: Tree,
 ) -> Result<Tree, AllocError>
-    ensures { IfOk result (λ tree. tree ≡ without_default is_optional (seen id.entry) ty) }
+    ensures { IfOk result (λ tree. tree ≡ without_default is_optional (BindingIdent-id (seen name.entry)) ty) }
 {
     let Ident {
         span,
         ctxt,
         sym,
         ..
-    } = Ident::of(id);
+    } = Ident::of(BindingIdent::of(name).id);
     let id = Ident {
         span,
         ctxt,
@@ -254,13 +270,7 @@ pub fn transform_param_pat(
             let ObjectPat { span, type_ann, .. } = ObjectPat::of(pat);
             typed(type_ann, span, emptied_object(alloc, pat)?, faults)
         }
-        _ => {
-            faults.push(Fault {
-                kind: FaultKind::UnsupportedDestructuring,
-                range: range_of_node(pat),
-            })?;
-            Ok(Tree::Absent)
-        }
+        _ => unsupported(range_of_node(pat), faults),
     }
 }
 
@@ -280,15 +290,12 @@ fn transform_assign_pat(
     let AssignPat { span, left, .. } = AssignPat::of(pat);
     match left.kind() {
         Kind::BindingIdent => {
-            let id = BindingIdent::of(left).id;
-            match default_type(alloc, unresolved, pat)? {
-                Some(ty) => without_default(alloc, is_optional, id, ty),
-                None => {
-                    let place = Ident::of(id).span;
-                    let left = left.to_tree(alloc)?;
-                    leave_default(alloc, unresolved, pat, left, Some(place), place, faults)
-                }
+            if let Some(ty) = default_type(alloc, unresolved, pat)? {
+                return without_default(alloc, is_optional, left, ty);
             }
+            let place = Ident::of(BindingIdent::of(left).id).span;
+            let left = left.to_tree(alloc)?;
+            leave_default(alloc, unresolved, pat, left, Some(place), place, faults)
         }
         Kind::ArrayPat => {
             let ArrayPat { span, type_ann, .. } = ArrayPat::of(left);
@@ -306,13 +313,7 @@ fn transform_assign_pat(
             }
             with_default(alloc, pat, left, never_value(alloc)?)
         }
-        _ => {
-            faults.push(Fault {
-                kind: FaultKind::UnsupportedDestructuring,
-                range: span,
-            })?;
-            Ok(Tree::Absent)
-        }
+        _ => unsupported(span, faults),
     }
 }
 

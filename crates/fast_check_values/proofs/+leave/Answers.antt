@@ -1,4 +1,4 @@
-use Rattle.std.proofs.Common.{◌≡◌, true, false, None, option_map, [], ◌∷◌, ◌++◌, sym, ap, ◌∙◌, arith}
+use Rattle.std.proofs.Common.{rules, arith, ◌≡◌, true, false, None, option_map, [], ◌∷◌, ◌++◌, sym, ap, ◌∙◌}
 use Rattle.fast_check_syntax.specs.declared.kind.Kind.TheVariants as kinds
 use Rattle.fast_check_syntax.specs.Part.{seen}
 use Rattle.fast_check_syntax.specs.Shape.{kind_of, parts, is_absent}
@@ -9,12 +9,14 @@ use Rattle.fast_check_signatures.specs.Seen.{tree_in}
 use Rattle.fast_check_signatures.specs.Answers.{fault_at}
 use Rattle.fast_check_signatures.specs.Functions.{return_type_seen, return_type_missing, or_own}
 use Rattle.fast_check_signatures.specs.Expressions.{is_plain, is_compound}
-use Rattle.fast_check_values.proofs.Answered.{IsOtherExpr, faults_plain, faults_as, faults_assertion, left_other, faults_other}
+use Rattle.fast_check_values.proofs.Answered.{IsOtherExpr, faults_plain, faults_as, faults_assertion, left_other, faults_other, left_fn, faults_fn}
 use Rattle.fast_check_values.proofs.Chains.{unchanged, two_steps, three_steps, ok_all}
 use Rattle.fast_check_values.proofs.Heights.{height_some}
-use Rattle.fast_check_values.proofs.Patterns.{IsOtherPat, IsOtherLeft, assign_known_faults, assign_array_typed_faults, assign_object_typed_faults, assign_other, assign_other_faults, pat_other, pat_other_faults}
-use Rattle.fast_check_values.proofs.Signed.{fn_faults_are, arrow_known_faults, no_known_faults, arrow_valued_faults}
+use Rattle.fast_check_values.proofs.Patterns.{IsOtherPat, IsOtherLeft, assign_known_faults, assign_array_typed_faults, assign_object_typed_faults, assign_other, assign_other_faults, pat_other, pat_other_faults, pat_rest, pat_rest_faults}
+use Rattle.fast_check_values.proofs.Signed.{fn_faults_are, arrow_known_faults, no_known_faults, arrow_valued_faults, fn_tree_is}
 use Rattle.fast_check_values.specs.Kept.{faults_of, expr_left, expr_faults, unless_left, known_type, known_faults, pats_faults, params_faults}
+use Rattle.std.proofs.lemmas.Grind.{common_steps}
+use Rattle.std.proofs.lemmas.Result.{IfOk-weaker}
 use Rattle.fast_check_values.proofs.+leave.Goals as goal
 
 pub expressions::leave_expr-returns-then-is_plain-clause-faults : goal.expressions::leave_expr-returns-then-is_plain-clause-faults
@@ -105,8 +107,8 @@ parameters::transform_assign_pat-returns-in_ok-never_value-in-ObjectPat-clause-f
     let typed = sym (c.is_absent-in-ObjectPat.ensures ∙ ap is_absent (c.of-in-ObjectPat.ensures.type_ann ∙ ap (λ l. ObjectPat-type_ann l) c.of.ensures.left)) ∙ c.if-is_absent-2.false in
     ok_all _ _ (unchanged c.args.faults.now.items _ (assign_object_typed_faults c.args.unresolved c.args.is_optional (seen c.args.pat) kind typed))
 
-pub parameters::transform_assign_pat-returns-in_ok-push-in_default : goal.parameters::transform_assign_pat-returns-in_ok-push-in_default
-parameters::transform_assign_pat-returns-in_ok-push-in_default t c =
+pub parameters::transform_assign_pat-returns-in_default : goal.parameters::transform_assign_pat-returns-in_default
+parameters::transform_assign_pat-returns-in_default t c =
     let d = c.in_default in
     let k = c.kind.ensures ∙ ap kind_of c.of.ensures.left in
     let other : IsOtherLeft (kind_of (AssignPat-left (seen c.args.pat))) = record {
@@ -115,13 +117,13 @@ parameters::transform_assign_pat-returns-in_ok-push-in_default t c =
       not-ObjectPat = λ e. d.not-ObjectPat (k ∙ e);
     } in
     record {
-      kept = sym (assign_other c.args.unresolved c.args.is_optional (seen c.args.pat) other);
-      faults = c.in_ok-push-in_default.ensures.items ∙ ap (λ fs. c.args.faults.now.items ++ fs)
-          (ap (λ s. fault_at UnsupportedDestructuring s ∷ []) c.of.ensures.span ∙ sym (assign_other_faults c.args.unresolved c.args.is_optional (seen c.args.pat) other));
+      kept = IfOk-weaker c.unsupported.result _ _ (λ t e. e ∙ sym (assign_other c.args.unresolved c.args.is_optional (seen c.args.pat) other)) c.unsupported.ensures.kept;
+      faults = IfOk-weaker c.unsupported.result _ _ (λ t e. e ∙ ap (λ fs. c.args.faults.now.items ++ fs)
+          (ap (λ s. fault_at UnsupportedDestructuring s ∷ []) c.of.ensures.span ∙ sym (assign_other_faults c.args.unresolved c.args.is_optional (seen c.args.pat) other))) c.unsupported.ensures.faults;
     }
 
-pub parameters::transform_param_pat-returns-in_ok-push-in_default : goal.parameters::transform_param_pat-returns-in_ok-push-in_default
-parameters::transform_param_pat-returns-in_ok-push-in_default t c =
+pub parameters::transform_param_pat-returns-in_default : goal.parameters::transform_param_pat-returns-in_default
+parameters::transform_param_pat-returns-in_default t c =
     let d = c.in_default in
     let k = c.kind.ensures in
     let other : IsOtherPat (kind_of (seen c.args.pat)) = record {
@@ -132,7 +134,46 @@ parameters::transform_param_pat-returns-in_ok-push-in_default t c =
       not-ObjectPat = λ e. d.not-ObjectPat (k ∙ e);
     } in
     record {
-      kept = sym (pat_other c.args.unresolved c.args.is_optional (seen c.args.pat) other);
-      faults = c.in_ok-push-in_default.ensures.items ∙ ap (λ fs. c.args.faults.now.items ++ fs)
-          (ap (λ s. fault_at UnsupportedDestructuring s ∷ []) c.range_of_node.ensures ∙ sym (pat_other_faults c.args.unresolved c.args.is_optional (seen c.args.pat) other));
+      kept = IfOk-weaker c.unsupported.result _ _ (λ t e. e ∙ sym (pat_other c.args.unresolved c.args.is_optional (seen c.args.pat) other)) c.unsupported.ensures.kept;
+      faults = IfOk-weaker c.unsupported.result _ _ (λ t e. e ∙ ap (λ fs. c.args.faults.now.items ++ fs)
+          (ap (λ s. fault_at UnsupportedDestructuring s ∷ []) c.range_of_node.ensures ∙ sym (pat_other_faults c.args.unresolved c.args.is_optional (seen c.args.pat) other))) c.unsupported.ensures.faults;
     }
+
+pub expressions::leave_parts-returns-in-None-clause-kept : goal.expressions::leave_parts-returns-in-None-clause-kept
+expressions::leave_parts-returns-in-None-clause-kept t c = grind (arith, common_steps)
+
+pub expressions::leave_parts-returns-in-None-clause-faults : goal.expressions::leave_parts-returns-in-None-clause-faults
+expressions::leave_parts-returns-in-None-clause-faults t c = grind (arith, common_steps)
+
+pub expressions::leave_parts-returns-clause-kept : goal.expressions::leave_parts-returns-clause-kept
+expressions::leave_parts-returns-clause-kept t c = grind (arith, common_steps)
+
+pub expressions::leave_parts-returns-clause-faults : goal.expressions::leave_parts-returns-clause-faults
+expressions::leave_parts-returns-clause-faults t c = grind (arith, common_steps)
+
+pub expressions::leave_value-returns-in-Some-clause-kept : goal.expressions::leave_value-returns-in-Some-clause-kept
+expressions::leave_value-returns-in-Some-clause-kept t c = search rules
+
+pub expressions::leave_value-returns-in-Some-clause-faults : goal.expressions::leave_value-returns-in-Some-clause-faults
+expressions::leave_value-returns-in-Some-clause-faults t c = search rules
+
+pub expressions::leave_value-returns-in_ok-push-in-None-clause-kept : goal.expressions::leave_value-returns-in_ok-push-in-None-clause-kept
+expressions::leave_value-returns-in_ok-push-in-None-clause-kept t c = search rules
+
+pub expressions::leave_value-returns-in_ok-push-in-None-clause-faults : goal.expressions::leave_value-returns-in_ok-push-in-None-clause-faults
+expressions::leave_value-returns-in_ok-push-in-None-clause-faults t c = grind (arith, common_steps)
+
+pub functions::transform_fn-returns-clause-kept : goal.functions::transform_fn-returns-clause-kept
+functions::transform_fn-returns-clause-kept t c = grind (arith, fn_tree_is)
+
+pub expressions::leave_expr-returns-in_ok-into_tree-in-FnExpr-clause-kept : goal.expressions::leave_expr-returns-in_ok-into_tree-in-FnExpr-clause-kept
+expressions::leave_expr-returns-in_ok-into_tree-in-FnExpr-clause-kept t c = grind (arith, left_fn)
+
+pub expressions::leave_expr-returns-in_ok-into_tree-in-FnExpr-clause-faults : goal.expressions::leave_expr-returns-in_ok-into_tree-in-FnExpr-clause-faults
+expressions::leave_expr-returns-in_ok-into_tree-in-FnExpr-clause-faults t c = grind (arith, faults_fn)
+
+pub parameters::transform_param_pat-returns-in-RestPat-clause-kept : goal.parameters::transform_param_pat-returns-in-RestPat-clause-kept
+parameters::transform_param_pat-returns-in-RestPat-clause-kept t c = grind (arith, pat_rest)
+
+pub parameters::transform_param_pat-returns-in-RestPat-clause-faults : goal.parameters::transform_param_pat-returns-in-RestPat-clause-faults
+parameters::transform_param_pat-returns-in-RestPat-clause-faults t c = grind (arith, pat_rest_faults)
