@@ -1,3 +1,4 @@
+pub mod Apart
 pub mod Looks
 pub mod NewNodesMoved
 pub mod AnswersMoved
@@ -6,16 +7,3 @@ pub mod MovedParts
 pub mod ParametersMoved
 pub mod FunctionsMoved
 pub mod SeenMoved
-pub mod AlikeTrees
-pub mod AlikeSeen
-pub mod AlikeParameters
-pub mod AlikeFunctions
-pub mod AlikeExpressions
-pub mod Alike
-pub mod Descending
-pub mod Staying
-pub mod TypedPatterns
-pub mod TypedFunctions
-pub mod TypedArrows
-pub mod Typed
-pub mod Present

@@ -4,5 +4,3 @@ pub mod Parameters
 pub mod Functions
 pub mod Expressions
 pub mod Answers
-pub mod SameValues
-pub mod TypedGrammar

@@ -35,13 +35,13 @@ use Rattle.fast_check_skeleton.specs.Visible.{declared_ident, declared_type, sta
 use Rattle.fast_check_signatures.specs.Answers.{answer_of}
 use Rattle.fast_check_signatures.specs.Expressions.{is_plain, is_compound, is_among, other_kinds, freezes, is_frozen, is_refused, expr_seen}
 use Rattle.fast_check_signatures.specs.Functions.{function_seen, implementation_seen}
-use Rattle.fast_check_signatures.specs.SameValues.{Both, Neither, SameExpr, SameFunction, SameImplementation}
-use Rattle.fast_check_signatures.specs.SameValues as v
-use Rattle.fast_check_signatures.proofs.AlikeTrees.{scope_to, absent_alike}
-use Rattle.fast_check_signatures.proofs.AlikeSeen.{Alike, AllAlike, same_written, range_alike, scope_alike, alike_if, all_alike_if, form_alike, append_alike}
-use Rattle.fast_check_signatures.proofs.AlikeExpressions.{both_true, apart}
-use Rattle.fast_check_signatures.proofs.Alike.{expr_alike, function_alike}
-use Rattle.fast_check_signatures.proofs.AlikeFunctions.{implementation_alike}
+use Rattle.fast_check_same_values.specs.SameValues.{Both, Neither, SameExpr, SameFunction, SameImplementation}
+use Rattle.fast_check_same_values.specs.SameValues as v
+use Rattle.fast_check_same_values.proofs.AlikeTrees.{scope_to, absent_alike}
+use Rattle.fast_check_same_values.proofs.AlikeSeen.{Alike, AllAlike, same_written, range_alike, scope_alike, alike_if, all_alike_if, form_alike, append_alike}
+use Rattle.fast_check_same_values.proofs.AlikeExpressions.{both_true, apart}
+use Rattle.fast_check_same_values.proofs.Alike.{expr_alike, function_alike}
+use Rattle.fast_check_same_values.proofs.AlikeFunctions.{implementation_alike}
 use Rattle.fast_check_skeleton.specs.Skeleton.{transformed, skeleton_of, faults_of}
 use Rattle.fast_check_skeleton.specs.Hidden.{statement_kinds, is_plain_statement, IsSilentDecl, IsSilent, SameHead, SameDeclarator, SameAmbient, SameDeclarators, SameStatement, SameFunctionDecl, SameDecl, SameItem, SameItems, AgreeHidden}
 use Rattle.fast_check_skeleton.specs.Hidden as h

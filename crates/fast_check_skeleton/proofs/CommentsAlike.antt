@@ -30,10 +30,10 @@ use Rattle.fast_check_skeleton.specs.KeptComments.{start_of_unseen, removed_star
 use Rattle.fast_check_skeleton.specs.SameComments.{all_comments_at, SameComment, SameAtPairs, SameComments}
 use Rattle.fast_check_skeleton.specs.Hidden.{HasNoPartner, IsNoPartner, SameDecl, SameItem, SameItems, AgreeHidden}
 use Rattle.fast_check_skeleton.specs.Hidden as h
-use Rattle.fast_check_signatures.specs.SameValues.{Both}
-use Rattle.fast_check_signatures.specs.SameValues as v
+use Rattle.fast_check_same_values.specs.SameValues.{Both}
+use Rattle.fast_check_same_values.specs.SameValues as v
 use Rattle.fast_check_skeleton.specs.Worlds.{TwoWorlds}
-use Rattle.fast_check_signatures.proofs.AlikeSeen.{AllAlike}
+use Rattle.fast_check_same_values.proofs.AlikeSeen.{AllAlike}
 use Rattle.fast_check_skeleton.proofs.Agreeing.{stands_apart, silent_item, item_alike, same_trees}
 
 -- ---- what is left at a position

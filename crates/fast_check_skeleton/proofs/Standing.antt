@@ -26,10 +26,10 @@ use Rattle.fast_check_skeleton.specs.Visible.{declared_ident, declared_type, by_
 use Rattle.fast_check_signatures.specs.Answers.{Answer, joined, visited, before, fails, Part, first_or_absent, answer_to, answered, answer_of}
 use Rattle.fast_check_signatures.specs.Expressions.{expr_seen}
 use Rattle.fast_check_signatures.specs.Functions.{function_seen, implementation_seen}
-use Rattle.fast_check_signatures.specs.TypedGrammar.{IsLeavable, IsTypedFunction}
-use Rattle.fast_check_signatures.proofs.Staying.{no_left, no_right}
-use Rattle.fast_check_signatures.proofs.Present.{stays_there}
-use Rattle.fast_check_signatures.proofs.Typed.{leavable_stands, function_stands, implementation_stands}
+use Rattle.fast_check_typed_grammar.specs.TypedGrammar.{IsLeavable, IsTypedFunction}
+use Rattle.fast_check_typed_grammar.proofs.Staying.{no_left, no_right}
+use Rattle.fast_check_typed_grammar.proofs.Present.{stays_there}
+use Rattle.fast_check_typed_grammar.proofs.Typed.{leavable_stands, function_stands, implementation_stands}
 use Rattle.fast_check_skeleton.specs.Skeleton.{transformed, skeleton_of, faults_of}
 use Rattle.fast_check_skeleton.specs.Grammar.{HasTypedValue, IsTypedDeclarator, IsTypedStatement, IsTypedFunctionDecl, IsTypedDecl, IsTypedItem, IsSkeleton}
 

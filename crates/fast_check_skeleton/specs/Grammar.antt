@@ -8,7 +8,7 @@ use Rattle.fast_check_tree.specs.Builders.{never_value}
 use Rattle.fast_check_program_forms.specs.Names.{BindingIdent-type_ann}
 use Rattle.fast_check_program_forms.specs.Programs.{Module-body}
 use Rattle.fast_check_program_forms.specs.ModuleDecls.{ExportDecl-decl}
-use Rattle.fast_check_signatures.specs.TypedGrammar.{IsLeavable, IsTypedFunction}
+use Rattle.fast_check_typed_grammar.specs.TypedGrammar.{IsLeavable, IsTypedFunction}
 use Rattle.fast_check_skeleton.specs.Visible.{is_standing}
 use Rattle.fast_check_statement_forms.specs.Declarations.{FnDecl-function, VarDecl-declare, VarDecl-decls, VarDeclarator-name, VarDeclarator-init}
 

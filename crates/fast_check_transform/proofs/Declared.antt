@@ -17,7 +17,7 @@ use Rattle.fast_check_signatures.specs.Answers.{Answer, first_or_absent, fault_a
 use Rattle.fast_check_signatures.specs.Expressions.{expr_seen}
 use Rattle.fast_check_signatures.specs.Functions.{function_seen, implementation_seen}
 use Rattle.fast_check_signatures.proofs.Gone.{gone}
-use Rattle.fast_check_signatures.proofs.TypedFunctions.{implementation_faultless}
+use Rattle.fast_check_typed_grammar.proofs.TypedFunctions.{implementation_faultless}
 use Rattle.fast_check_tree.specs.declared.helpers.literal_type.DeclMutabilityKind.{DeclMutabilityKind}
 use Rattle.fast_check_forms.specs.Ranges.{range_of_node}
 use Rattle.fast_check_values.specs.Kept.{expr_left, expr_faults}

@@ -24,12 +24,12 @@ use Rattle.fast_check_signatures.specs.Parameters.{Look, pat_seen, pats_seen}
 use Rattle.fast_check_signatures.specs.Functions.{or_own, function_seen, fn_expr_seen, implementation_seen, arrow_seen}
 use Rattle.fast_check_signatures.specs.Expressions.{is_plain, is_compound, freezes, call_seen, expr_form, expr_seen}
 use Rattle.fast_check_signatures.specs.Answers.{Part, visited, around, default_form, declarator_form, function_form, arrow_form, form_answer, first_or_absent, answer_to, answered, answer_of, kept_tree}
-use Rattle.fast_check_signatures.specs.TypedGrammar.{IsLeavable, AllLeavable, IsTypedFunction, IsTypedPat, AllTypedPats}
-use Rattle.fast_check_signatures.proofs.Descending.{by_descent_holds}
-use Rattle.fast_check_signatures.proofs.Staying.{of_choice, no_left, no_right, One, one_first, one_is_first, one_before, Stays, visited_next, around_stays, around_one}
-use Rattle.fast_check_signatures.proofs.TypedPatterns.{pat_is_typed}
-use Rattle.fast_check_signatures.proofs.TypedFunctions.{function_is_typed, implementation_is_typed, implementation_faultless}
-use Rattle.fast_check_signatures.proofs.TypedArrows.{arrow_is_typed}
+use Rattle.fast_check_typed_grammar.specs.TypedGrammar.{IsLeavable, AllLeavable, IsTypedFunction, IsTypedPat, AllTypedPats}
+use Rattle.fast_check_typed_grammar.proofs.Descending.{by_descent_holds}
+use Rattle.fast_check_typed_grammar.proofs.Staying.{of_choice, no_left, no_right, One, one_first, one_is_first, one_before, Stays, visited_next, around_stays, around_one}
+use Rattle.fast_check_typed_grammar.proofs.TypedPatterns.{pat_is_typed}
+use Rattle.fast_check_typed_grammar.proofs.TypedFunctions.{function_is_typed, implementation_is_typed, implementation_faultless}
+use Rattle.fast_check_typed_grammar.proofs.TypedArrows.{arrow_is_typed}
 
 -- ---- kinds
 

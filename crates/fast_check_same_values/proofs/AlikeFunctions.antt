@@ -26,11 +26,11 @@ use Rattle.fast_check_signatures.specs.Seen.{Seen, written, range, scope, flag, 
 use Rattle.fast_check_signatures.specs.NewNodes.{function_body, arrow_body, promised, void_or_promise_void, any_param}
 use Rattle.fast_check_signatures.specs.Parameters.{Look}
 use Rattle.fast_check_signatures.specs.Functions.{return_type_missing, void_seen, class_seen, return_type_seen, body_behind, signature_seen, any_params_from, implementation_seen, param_seen, typed_arrow_seen, valued_arrow_seen, or_own, by_value, untyped_arrow_seen, arrow_by_type}
-use Rattle.fast_check_signatures.specs.SameValues.{Both, Neither, SameShown, NoneShown, SameFunctionHead, SameReturn, SameImplementation, SameArrowHead}
+use Rattle.fast_check_same_values.specs.SameValues.{Both, Neither, SameShown, NoneShown, SameFunctionHead, SameReturn, SameImplementation, SameArrowHead}
 use Rattle.fast_check_signatures.proofs.NewNodesMoved.{function_body_moved, arrow_body_moved, promised_moved, void_or_promise_void_moved, any_param_moved}
-use Rattle.fast_check_signatures.proofs.AlikeTrees.{TreeAlike, RangeAlike, scope_to, image_alike, new_alike, absent_alike}
-use Rattle.fast_check_signatures.proofs.AlikeSeen.{Alike, AllAlike, written_alike, same_written, range_alike, scope_alike, faulty_alike, alike_if, form_alike, tree_in_alike}
-use Rattle.fast_check_signatures.proofs.AlikeParameters.{PlaceAlike}
+use Rattle.fast_check_same_values.proofs.AlikeTrees.{TreeAlike, RangeAlike, scope_to, image_alike, new_alike, absent_alike}
+use Rattle.fast_check_same_values.proofs.AlikeSeen.{Alike, AllAlike, written_alike, same_written, range_alike, scope_alike, faulty_alike, alike_if, form_alike, tree_in_alike}
+use Rattle.fast_check_same_values.proofs.AlikeParameters.{PlaceAlike}
 
 module _ (r : Renaming) (ok : IsRenaming r) where
   -- the place that is given, or one's own

@@ -19,10 +19,10 @@ use Rattle.fast_check_signatures.specs.NewNodes.{arrow_body, promised}
 use Rattle.fast_check_signatures.specs.Parameters.{Look, pats_seen}
 use Rattle.fast_check_signatures.specs.Functions.{return_type_missing, class_seen, typed_arrow_seen, valued_arrow_seen, or_own, by_value, arrow_by_type, arrow_seen}
 use Rattle.fast_check_signatures.specs.Answers.{visited, first_or_absent, unless_leavable, answer_to}
-use Rattle.fast_check_signatures.specs.TypedGrammar.{IsLeavable, AllTypedPats}
-use Rattle.fast_check_signatures.proofs.Staying.{of_choice, no_left, no_right, One, one_first, Stays, Stands, around_stands, leavable_where}
-use Rattle.fast_check_signatures.proofs.TypedPatterns.{pats_are_typed}
-use Rattle.fast_check_signatures.proofs.TypedFunctions.{IsType, class_shows}
+use Rattle.fast_check_typed_grammar.specs.TypedGrammar.{IsLeavable, AllTypedPats}
+use Rattle.fast_check_typed_grammar.proofs.Staying.{of_choice, no_left, no_right, One, one_first, Stays, Stands, around_stands, leavable_where}
+use Rattle.fast_check_typed_grammar.proofs.TypedPatterns.{pats_are_typed}
+use Rattle.fast_check_typed_grammar.proofs.TypedFunctions.{IsType, class_shows}
 
 module _ (unresolved : SyntaxContext) where
   abbrev Leavable : Tree → Type 0

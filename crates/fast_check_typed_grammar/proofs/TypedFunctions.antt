@@ -24,9 +24,9 @@ use Rattle.fast_check_signatures.specs.NewNodes.{function_body, param_ident, any
 use Rattle.fast_check_signatures.specs.Parameters.{Look, pat_seen, pats_seen}
 use Rattle.fast_check_signatures.specs.Functions.{class_seen, return_type_seen, body_behind, signature_seen, any_params_from, implementation_seen, param_seen, params_seen, function_seen}
 use Rattle.fast_check_signatures.specs.Answers.{visited, first_or_absent, answer_to}
-use Rattle.fast_check_signatures.specs.TypedGrammar.{IsLeavable, IsTypedFunction, IsTypedPat, AllTypedParams}
-use Rattle.fast_check_signatures.proofs.Staying.{of_choice, no_left, no_right, not_empty, One, one_first, Stays, Stands, stands_next, around_faults, around_stands, around_one_stands}
-use Rattle.fast_check_signatures.proofs.TypedPatterns.{pat_is_typed, typed_ident, typed_rest, ident_gathered}
+use Rattle.fast_check_typed_grammar.specs.TypedGrammar.{IsLeavable, IsTypedFunction, IsTypedPat, AllTypedParams}
+use Rattle.fast_check_typed_grammar.proofs.Staying.{of_choice, no_left, no_right, not_empty, One, one_first, Stays, Stands, stands_next, around_faults, around_stands, around_one_stands}
+use Rattle.fast_check_typed_grammar.proofs.TypedPatterns.{pat_is_typed, typed_ident, typed_rest, ident_gathered}
 
 -- ---- return types
 

@@ -1,7 +1,7 @@
 -- Expressions that agree but for what is hidden are seen alike, where what is seen of the parts is.
 use Rattle.std.specs.Prelude.{◌≡◌, Bool, true, false, not, ◌&&◌, ◌||◌, Option, None, List, [], ◌∷◌, map, refl, if◌then◌else◌}
 use Rattle.std.specs.List.{list_any}
-use Rattle.std.proofs.Common.{ap, ap₂, ◌∙◌, sym, subst₂, true≢false}
+use Rattle.std.proofs.Common.{ap, ap₂, ◌∙◌, sym, subst₂}
 use Rattle.fast_check_syntax.specs.declared.kind.Kind.{Kind}
 use Rattle.fast_check_syntax.specs.declared.kind.Kind.TheVariants as kinds
 use Rattle.fast_check_syntax.specs.declared.source.SourceRange.{SourceRange}
@@ -22,10 +22,11 @@ use Rattle.fast_check_signatures.specs.NewNodes.{never_in_parens}
 use Rattle.fast_check_signatures.specs.Parameters.{Look}
 use Rattle.fast_check_signatures.specs.Functions.{or_own, function_seen, fn_expr_seen, arrow_seen}
 use Rattle.fast_check_signatures.specs.Expressions.{plain_kinds, is_plain, is_compound, is_among, freezes, is_frozen, is_refused, expr_form}
-use Rattle.fast_check_signatures.specs.SameValues.{Both}
+use Rattle.fast_check_same_values.specs.SameValues.{Both}
+use Rattle.fast_check_signatures.proofs.Apart.{apart}
 use Rattle.fast_check_signatures.proofs.NewNodesMoved.{never_in_parens_moved}
-use Rattle.fast_check_signatures.proofs.AlikeTrees.{TreeAlike, new_alike, range_leaf_alike, node_alike}
-use Rattle.fast_check_signatures.proofs.AlikeSeen.{Alike, AllAlike, written_alike, same_written, range_alike, scope_alike, form_alike}
+use Rattle.fast_check_same_values.proofs.AlikeTrees.{TreeAlike, new_alike, range_leaf_alike, node_alike}
+use Rattle.fast_check_same_values.proofs.AlikeSeen.{Alike, AllAlike, written_alike, same_written, range_alike, scope_alike, form_alike}
 
 -- ---- kinds
 
@@ -36,14 +37,6 @@ both_false true b e = cc
 pub both_true : (a b : Bool) → (a && b) ≡ true → (a ≡ true) × (b ≡ true)
 both_true true b e = (refl, e)
 both_true false b e = cc
-
--- a kind of which a fact is true is none of those of which it is false
-pub apart : (f : Kind → Bool) (k j : Kind) → f k ≡ true → f j ≡ false → k is j ≡ false
-apart f k j e n = go (k is j) refl
-  where
-    go : (b : Bool) → k is j ≡ b → b ≡ false
-    go false p = refl
-    go true p = absurd (true≢false (sym e ∙ (ap f (is_kind k j p) ∙ n)))
 
 none_among : (f : Kind → Bool) (k : Kind) → f k ≡ true → (js : List Kind) → list_any f js ≡ false → is_among js k ≡ false
 none_among f k e [] n = refl

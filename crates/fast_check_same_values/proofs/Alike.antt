@@ -19,15 +19,15 @@ use Rattle.fast_check_signatures.specs.Seen.{Seen}
 use Rattle.fast_check_signatures.specs.Parameters.{pat_seen, pats_seen}
 use Rattle.fast_check_signatures.specs.Functions.{or_own, function_seen, params_seen, arrow_by_type, arrow_seen}
 use Rattle.fast_check_signatures.specs.Expressions.{expr_form, expr_seen}
-use Rattle.fast_check_signatures.specs.SameValues.{SameFunctionHead, SameImplementation, SameArrowHead, SameExpr, SameExprs, SameArrowBody, SameFunction, SameParams, SamePats, SamePat}
-use Rattle.fast_check_signatures.specs.SameValues as s
+use Rattle.fast_check_same_values.specs.SameValues.{SameFunctionHead, SameImplementation, SameArrowHead, SameExpr, SameExprs, SameArrowBody, SameFunction, SameParams, SamePats, SamePat}
+use Rattle.fast_check_same_values.specs.SameValues as s
 use Rattle.fast_check_signatures.proofs.Looks.{expr_seen_is}
 use Rattle.fast_check_signatures.proofs.SeenMoved.{expr_seen_moved, pat_seen_moved}
-use Rattle.fast_check_signatures.proofs.AlikeTrees.{RangeAlike, scope_to}
-use Rattle.fast_check_signatures.proofs.AlikeSeen.{Alike, AllAlike}
-use Rattle.fast_check_signatures.proofs.AlikeParameters.{PlaceAlike, same_optional, emptied_optional, rest_optional, assign_optional, emptied_alike, rest_alike, typed_default_alike, shown_default_alike, kept_default_alike, typed_pattern_alike, kept_pattern_alike}
-use Rattle.fast_check_signatures.proofs.AlikeFunctions.{or_own_alike, signature_of_alike, param_alike, typed_alike, classed_alike, shown_value_alike, kept_value_alike}
-use Rattle.fast_check_signatures.proofs.AlikeExpressions.{refused_alike, compound_alike, satisfies_alike, as_type_alike, assertion_alike, frozen_alike, fn_expr_alike, arrow_expr_alike}
+use Rattle.fast_check_same_values.proofs.AlikeTrees.{RangeAlike, scope_to}
+use Rattle.fast_check_same_values.proofs.AlikeSeen.{Alike, AllAlike}
+use Rattle.fast_check_same_values.proofs.AlikeParameters.{PlaceAlike, same_optional, emptied_optional, rest_optional, assign_optional, emptied_alike, rest_alike, typed_default_alike, shown_default_alike, kept_default_alike, typed_pattern_alike, kept_pattern_alike}
+use Rattle.fast_check_same_values.proofs.AlikeFunctions.{or_own_alike, signature_of_alike, param_alike, typed_alike, classed_alike, shown_value_alike, kept_value_alike}
+use Rattle.fast_check_same_values.proofs.AlikeExpressions.{refused_alike, compound_alike, satisfies_alike, as_type_alike, assertion_alike, frozen_alike, fn_expr_alike, arrow_expr_alike}
 
 module _ (r : Renaming) (ok : IsRenaming r) (c d : SyntaxContext) (pair : IsPair r.scopes c.0 d.0) where
   -- ---- which parameters may be left out

@@ -23,8 +23,8 @@ use Rattle.fast_check_signatures.specs.Seen.{Seen, written, faulty}
 use Rattle.fast_check_signatures.specs.NewNodes.{never_array, empty_object_pat, or_undefined}
 use Rattle.fast_check_signatures.specs.Parameters.{Look, emptied_array, emptied_object, typed, rest_arg, rest_seen, with_optional, without_default, default_seen, by_shown, ident_default_seen, pattern_default_seen, assign_seen, pat_seen, pats_seen}
 use Rattle.fast_check_signatures.specs.Answers.{visited, first_or_absent, answer_to}
-use Rattle.fast_check_signatures.specs.TypedGrammar.{IsEmptiedArray, IsEmptiedObject, IsLeavable, IsTypedPat, AllTypedPats}
-use Rattle.fast_check_signatures.proofs.Staying.{of_choice, no_left, no_right, not_empty, One, one_first, Stays, Stands, stands_next, leavable_where}
+use Rattle.fast_check_typed_grammar.specs.TypedGrammar.{IsEmptiedArray, IsEmptiedObject, IsLeavable, IsTypedPat, AllTypedPats}
+use Rattle.fast_check_typed_grammar.proofs.Staying.{of_choice, no_left, no_right, not_empty, One, one_first, Stays, Stands, stands_next, leavable_where}
 
 -- ---- emptied patterns
 

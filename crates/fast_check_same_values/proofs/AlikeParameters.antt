@@ -25,12 +25,12 @@ use Rattle.fast_check_signatures.specs.declared.fault.FaultKind.TheVariants.{Mis
 use Rattle.fast_check_signatures.specs.Seen.{Seen, written, range, faulty}
 use Rattle.fast_check_signatures.specs.NewNodes.{never_array, empty_object_pat}
 use Rattle.fast_check_signatures.specs.Parameters.{Look, emptied_array, emptied_object, typed, rest_arg, rest_seen, without_default, default_seen, by_shown, ident_default_seen, pattern_default_seen, assign_seen, pat_seen}
-use Rattle.fast_check_signatures.specs.SameValues.{Both, SameShown, NoneShown, SameEmptied, pattern_type}
-use Rattle.fast_check_signatures.specs.SameValues as s
+use Rattle.fast_check_same_values.specs.SameValues.{Both, SameShown, NoneShown, SameEmptied, pattern_type}
+use Rattle.fast_check_same_values.specs.SameValues as s
 use Rattle.fast_check_signatures.proofs.NewNodesMoved.{never_array_moved}
 use Rattle.fast_check_signatures.proofs.ParametersMoved.{without_default_moved}
-use Rattle.fast_check_signatures.proofs.AlikeTrees.{TreeAlike, RangeAlike, image_alike, same_read, new_alike, part_alike, absent_alike, range_of_alike, range_leaf_alike, flag_leaf_alike, node_alike, empty_list_alike}
-use Rattle.fast_check_signatures.proofs.AlikeSeen.{Alike, written_alike, range_alike, faulty_alike, alike_if, form_alike}
+use Rattle.fast_check_same_values.proofs.AlikeTrees.{TreeAlike, RangeAlike, image_alike, same_read, new_alike, part_alike, absent_alike, range_of_alike, range_leaf_alike, flag_leaf_alike, node_alike, empty_list_alike}
+use Rattle.fast_check_same_values.proofs.AlikeSeen.{Alike, written_alike, range_alike, faulty_alike, alike_if, form_alike}
 
 -- ---- what a parameter of each kind is seen as
 

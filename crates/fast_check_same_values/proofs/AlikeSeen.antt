@@ -13,7 +13,7 @@ use Rattle.fast_check_signatures.specs.declared.fault.FaultKind.{FaultKind}
 use Rattle.fast_check_signatures.specs.Seen.{Seen, written, range, scope, form, faulty, seens, moved_seen, tree_in}
 use Rattle.fast_check_signatures.proofs.AnswersMoved.{map_append, tree_in_moved}
 use Rattle.fast_check_signatures.proofs.MovedParts.{seens_moved}
-use Rattle.fast_check_signatures.proofs.AlikeTrees.{TreeAlike, RangeAlike}
+use Rattle.fast_check_same_values.proofs.AlikeTrees.{TreeAlike, RangeAlike}
 
 module _ (r : Renaming) (ok : IsRenaming r) where
   abbrev pub Alike : Seen → Seen → Type 0

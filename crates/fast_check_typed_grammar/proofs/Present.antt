@@ -1,6 +1,6 @@
 -- What stays of an expression that is there is there too.
 use Rattle.std.specs.Prelude.{◌≡◌, Bool, true, false, Option, Some, None, List, [], ◌∷◌, map, refl, if◌then◌else◌}
-use Rattle.std.proofs.Common.{ap, ◌∙◌, sym, subst}
+use Rattle.std.proofs.Common.{sym, subst}
 use Rattle.fast_check_syntax.specs.declared.kind.Kind.{Kind}
 use Rattle.fast_check_syntax.specs.declared.kind.Kind.TheVariants as kinds
 use Rattle.fast_check_syntax.specs.declared.source.SourceRange.{SourceRange}
@@ -18,11 +18,11 @@ use Rattle.fast_check_tree.specs.InferredType.{inferred_type}
 use Rattle.fast_check_signatures.specs.Seen.{Seen, written, form, refused, Seens, seens}
 use Rattle.fast_check_signatures.specs.Answers.{Answer, Part, visited, fails, goes, first_or_absent, around, form_answer, declarator_form, default_form, function_form, arrow_form, answer_to, answered}
 use Rattle.fast_check_signatures.specs.Parameters.{Look, pats_seen}
-use Rattle.fast_check_signatures.specs.Functions.{or_own, function_seen, typed_arrow_seen, by_value, untyped_arrow_seen, arrow_by_type, arrow_seen, fn_expr_seen}
-use Rattle.fast_check_signatures.specs.Expressions.{is_plain, is_compound, freezes, call_seen, expr_form, expr_seen}
-use Rattle.fast_check_signatures.proofs.AlikeExpressions.{apart}
+use Rattle.fast_check_signatures.specs.Functions.{or_own, function_seen, by_value, arrow_by_type}
+use Rattle.fast_check_signatures.specs.Expressions.{is_plain, is_compound, freezes, expr_form, expr_seen}
+use Rattle.fast_check_signatures.proofs.Apart.{apart}
 use Rattle.fast_check_signatures.proofs.Looks.{expr_seen_is}
-use Rattle.fast_check_signatures.proofs.Staying.{of_choice}
+use Rattle.fast_check_typed_grammar.proofs.Staying.{of_choice}
 
 -- if it may stay, its tree is there
 abbrev There : Answer → Type 0
