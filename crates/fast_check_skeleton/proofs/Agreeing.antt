@@ -39,7 +39,8 @@ use Rattle.fast_check_same_values.specs.SameValues.{Both, Neither, SameExpr, Sam
 use Rattle.fast_check_same_values.specs.SameValues as v
 use Rattle.fast_check_same_values.proofs.AlikeTrees.{scope_to, absent_alike}
 use Rattle.fast_check_same_values.proofs.AlikeSeen.{Alike, AllAlike, same_written, range_alike, scope_alike, alike_if, all_alike_if, form_alike, append_alike}
-use Rattle.fast_check_same_values.proofs.AlikeExpressions.{both_true, apart}
+use Rattle.fast_check_signatures.proofs.Apart.{apart}
+use Rattle.fast_check_same_values.proofs.AlikeExpressions.{both_true}
 use Rattle.fast_check_same_values.proofs.Alike.{expr_alike, function_alike}
 use Rattle.fast_check_same_values.proofs.AlikeFunctions.{implementation_alike}
 use Rattle.fast_check_skeleton.specs.Skeleton.{transformed, skeleton_of, faults_of}
