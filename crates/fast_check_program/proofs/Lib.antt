@@ -1,2 +1,3 @@
 pub mod Given
 mod Reports
+mod Words

@@ -37,3 +37,24 @@ returns-clause-answer c =
       carried = search rules;
       answer = subst (λ first. IsAnswer made.es_module_info made.public_ranges first answer.line.items answer.status) asked.2.first c.in_ok-answer_request.ensures;
     }
+
+pub returns-in_err-read_input-clause-answer : goal.returns-in_err-read_input-clause-answer
+returns-in_err-read_input-clause-answer c = search rules
+
+pub returns-in_err-read_input-clause-refusal : goal.returns-in_err-read_input-clause-refusal
+returns-in_err-read_input-clause-refusal c = search rules
+
+pub returns-in_err-request-clause-answer : goal.returns-in_err-request-clause-answer
+returns-in_err-request-clause-answer c = search rules
+
+pub returns-in_err-request-clause-refusal : goal.returns-in_err-request-clause-refusal
+returns-in_err-request-clause-refusal c = search rules
+
+pub answer_request-requires : goal.answer_request-requires
+answer_request-requires c = search rules
+
+pub returns-in_err-answer_request-clause-answer : goal.returns-in_err-answer_request-clause-answer
+returns-in_err-answer_request-clause-answer c = search rules
+
+pub returns-in_err-answer_request-clause-refusal : goal.returns-in_err-answer_request-clause-refusal
+returns-in_err-answer_request-clause-refusal c = search rules
