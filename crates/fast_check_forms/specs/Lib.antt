@@ -6,4 +6,3 @@ pub mod ClassChoices
 pub mod TypeChoices
 pub mod StatementChoices
 pub mod ProgramChoices
-pub mod Ranges

@@ -13,7 +13,7 @@ use Rattle.fast_check_syntax.specs.Same.{SameTree, SameRange}
 use Rattle.fast_check_syntax.proofs.Partners.{partners-keep as partners_keep, twice-keeps as twice_keeps}
 use Rattle.fast_check_syntax.proofs.Same.{tree_to, range_to}
 use Rattle.fast_check_expression_forms.specs.Patterns.{ArrayPat-span, ArrayPat-optional, ArrayPat-type_ann, ObjectPat-span, ObjectPat-optional, ObjectPat-type_ann, RestPat-span, RestPat-dot3_token, RestPat-arg, RestPat-type_ann, rest_pat, AssignPat-span, AssignPat-left, AssignPat-right, assign_pat}
-use Rattle.fast_check_forms.specs.Ranges.{range_of_node}
+use Rattle.fast_check_ranges.specs.Ranges.{range_of_node}
 use Rattle.fast_check_program_forms.specs.Names.{Ident-span, Ident-optional, BindingIdent-id, BindingIdent-type_ann}
 use Rattle.fast_check_tree.specs.declared.helpers.literal_type.DeclMutabilityKind.TheVariants.{Mutable}
 use Rattle.fast_check_tree.specs.Builders.{type_ann, never_value}

@@ -12,7 +12,7 @@ use Rattle.fast_check_syntax.specs.Moves.{Moves, Keeps, moved, moved_range}
 use Rattle.fast_check_syntax.proofs.Moved.{node_moved, range_moved, flag_moved, text_moved, context_moved, kind_of_moved, part_moved, is_absent_moved, flag_of_moved, text_of_moved, range_of_moved}
 use Rattle.fast_check_expression_forms.specs.Patterns.{ArrayPat-span, ArrayPat-type_ann, ObjectPat-span, ObjectPat-type_ann, RestPat-span, RestPat-dot3_token, RestPat-arg, RestPat-type_ann, rest_pat, AssignPat-span, AssignPat-left, AssignPat-right, assign_pat}
 use Rattle.fast_check_program_forms.specs.Names.{Ident-span, BindingIdent-id, BindingIdent-type_ann}
-use Rattle.fast_check_forms.proofs.RangesMoved.{range_of_node_moved}
+use Rattle.fast_check_ranges.proofs.RangesMoved.{range_of_node_moved}
 use Rattle.fast_check_tree.specs.declared.helpers.literal_type.DeclMutabilityKind.TheVariants.{Mutable}
 use Rattle.fast_check_tree.specs.Builders.{type_ann, never_value}
 use Rattle.fast_check_tree.specs.InferredType.{inferred_type}

@@ -17,7 +17,7 @@ use Rattle.fast_check_tree.specs.declared.helpers.literal_type.DeclMutabilityKin
 use Rattle.fast_check_skeleton.specs.Surroundings.{Surroundings}
 use Rattle.fast_check_tree.specs.InferredType.{inferred_type}
 use Rattle.fast_check_skeleton.specs.Mutability.{mutability_of}
-use Rattle.fast_check_forms.specs.Ranges.{range_of_node}
+use Rattle.fast_check_ranges.specs.Ranges.{range_of_node}
 use Rattle.fast_check_signatures.specs.declared.fault.Fault.{Fault}
 use Rattle.fast_check_signatures.specs.declared.fault.FaultKind.TheVariants.{MissingExplicitType, UnsupportedDestructuring}
 use Rattle.fast_check_signatures.specs.declared.function_kind.FunctionKind.TheVariants.{DeclarationLike}

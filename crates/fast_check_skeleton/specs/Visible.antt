@@ -9,7 +9,7 @@ use Rattle.fast_check_syntax.specs.declared.tree.Tree.{Tree}
 use Rattle.fast_check_syntax.specs.Shape.{◌is◌, kind_of, parts, is_absent}
 use Rattle.fast_check_tree.specs.declared.helpers.literal_type.DeclMutabilityKind.{DeclMutabilityKind}
 use Rattle.fast_check_class_forms.specs.Functions.{Function-span}
-use Rattle.fast_check_forms.specs.Ranges.{range_of_node}
+use Rattle.fast_check_ranges.specs.Ranges.{range_of_node}
 use Rattle.fast_check_program_forms.specs.Names.{Ident-span, BindingIdent-id, BindingIdent-type_ann}
 use Rattle.fast_check_program_forms.specs.Programs.{Module-body}
 use Rattle.fast_check_program_forms.specs.ModuleDecls.{ExportDecl-span, ExportDecl-decl}

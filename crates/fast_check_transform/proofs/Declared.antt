@@ -19,7 +19,7 @@ use Rattle.fast_check_signatures.specs.Functions.{function_seen, implementation_
 use Rattle.fast_check_signatures.proofs.Gone.{gone}
 use Rattle.fast_check_typed_grammar.proofs.TypedFunctions.{implementation_faultless}
 use Rattle.fast_check_tree.specs.declared.helpers.literal_type.DeclMutabilityKind.{DeclMutabilityKind}
-use Rattle.fast_check_forms.specs.Ranges.{range_of_node}
+use Rattle.fast_check_ranges.specs.Ranges.{range_of_node}
 use Rattle.fast_check_values.specs.Kept.{expr_left, expr_faults}
 use Rattle.fast_check_values.specs.Kept as v
 use Rattle.fast_check_skeleton.specs.Mutability.{mutability_of}

@@ -7,8 +7,8 @@ ghost use Rattle.fast_check_skeleton.specs.Visible.{is_ambient};
 ghost use Rattle.fast_check_transform.specs.Kept.{Asked-around, as_list, retyped, value_answer, valued_tree, valued_faults, kept_ident, ident_faults, kept_typed, typed_faults, kept_declarator, declarator_fault, kept_declarators, declarator_faults, kept_statement, statement_faults};
 
 use crate::asked::Asked;
-use fast_check_forms::range_of_node;
 use fast_check_program_forms::{BindingIdent, Ident};
+use fast_check_ranges::range_of_node;
 use fast_check_signatures::{Fault, FaultKind};
 use fast_check_statement_forms::{VarDecl, VarDeclarator};
 use fast_check_syntax::{Items, Kind, Part, SourceRange, Tree, Word};

@@ -15,8 +15,8 @@ use crate::expressions::leave_value;
 use crate::new_nodes::{empty_object_pat, never_array, or_undefined};
 use fast_check_class_forms::Param;
 use fast_check_expression_forms::{ArrayPat, AssignPat, ObjectPat, RestPat};
-use fast_check_forms::range_of_node;
 use fast_check_program_forms::{BindingIdent, Ident};
+use fast_check_ranges::range_of_node;
 use fast_check_signatures::{Fault, FaultKind};
 use fast_check_syntax::{Atom, Items, Kind, Part, SourceRange, SyntaxContext, Tree};
 use fast_check_tree::helpers::{

@@ -8,7 +8,7 @@ use Rattle.fast_check_syntax.specs.Shape.{◌is◌, kind_of, part, range_of}
 use Rattle.fast_check_syntax.specs.Moves.{Moves, Keeps, moved, moved_range}
 use Rattle.fast_check_syntax.proofs.Moved.{kind_of_moved, part_moved, range_of_moved}
 use Rattle.fast_check_expression_forms.specs.Patterns.{PatExpr-expr}
-use Rattle.fast_check_forms.specs.Ranges.{without_target, without_marks, range_of_form, range_of_node}
+use Rattle.fast_check_ranges.specs.Ranges.{without_target, without_marks, range_of_form, range_of_node}
 
 -- a choice by the kind of a node, which a move leaves
 by_kind : {A : Type 0} (move : A → A) (m : Moves) (t : Tree) (kind : Kind) (x x' y y' : A) → x ≡ move x' → y ≡ move y' →
