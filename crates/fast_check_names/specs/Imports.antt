@@ -4,8 +4,8 @@ use Rattle.std.specs.Str.{bytes_eq}
 use Rattle.fast_check_names.specs.declared.lattice.named_subset.NamedSubset.{NamedSubset}
 use Rattle.fast_check_names.specs.declared.lattice.imported_exports.ImportedExports.{ImportedExports}
 use Rattle.fast_check_names.specs.declared.lattice.imported_exports.ImportedExports.TheVariants.{Star, StarWithDefault, Subset}
-use Rattle.fast_check_names.specs.declared.package.FileDepName.{FileDepName}
-use Rattle.fast_check_names.specs.declared.package.FileDepName.TheVariants.{Star as StarDep, Name as NameDep}
+use Rattle.fast_check_names.specs.declared.lattice.file_dep_name.FileDepName.{FileDepName}
+use Rattle.fast_check_names.specs.declared.lattice.file_dep_name.FileDepName.TheVariants.{Star as StarDep, Name as NameDep}
 use Rattle.fast_check_names.specs.Names.{Name, Path, Touched, NameSet, paths, nothing, whole, has_subset, has_whole, IsSame, IsBelow, IsJoin, HasMore, IsDifference}
 
 abbrev pub default_name : Name

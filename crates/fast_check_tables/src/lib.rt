@@ -11,9 +11,9 @@ pub use diagnostics::{
     Diagnostic, DiagnosticLevel, DiagnosticLocation, DiagnosticSnippet, FastCheckDiagnostic,
     FastCheckDiagnosticRange,
 };
-pub use fast_check_names::{
-    Exports, FileDepName, HandledExports, ImportedExports, NamedSubset, PackageNv, PendingTrace,
-    PendingTraces, WorkspaceMember,
+pub use fast_check_names::{Exports, FileDepName, ImportedExports, NamedSubset};
+pub use fast_check_packages::{
+    HandledExports, PackageNv, PendingTrace, PendingTraces, WorkspaceMember,
 };
 pub use public_ranges::ModulePublicRanges;
 pub use tables::{EsModuleInfo, MediaType, ModuleGraph, ModuleSpecifier, ParsedSource};

@@ -1,0 +1,62 @@
+//! Runs the calls of the file `cases` on sets of demanded names, and prints what each answers and leaves.
+//!
+//! A line is a call: its name, and its words. A set is written by its paths, as `a b.b1 c.`: the name `a` whole, `b1` whole below `b`, and a
+//! subset without names below `c`. What is demanded of a module is a set, `*` for all names but `default`, or `**` for all names.
+#![tactic(auto)]
+
+mod demands;
+mod packages;
+mod pairs;
+mod sets;
+
+use crate::demands::DemandCase;
+use crate::sets::SetCase;
+use anyhow::{Result, bail};
+use std::alloc::Global;
+use std::fs;
+
+/// The values that the calls go to.
+#[derive(Drop)]
+struct Case {
+    sets: SetCase,
+    demands: DemandCase,
+}
+
+/// What the call of a line answers and leaves.
+fn call(alloc: Global, case: &mut Case, command: &str, words: &[String]) -> Result<String> {
+    if let Some(said) = case.sets.call(alloc, command, words)? {
+        return Ok(said);
+    }
+    if let Some(said) = case.demands.call(alloc, command, words)? {
+        return Ok(said);
+    }
+    if let Some(said) = packages::call(alloc, command, words)? {
+        return Ok(said);
+    }
+    if command == "each_pair" {
+        return pairs::each_pair(alloc);
+    }
+    bail!("no call: {command}")
+}
+
+fn main(rt: HostRuntime) -> Result<()> {
+    let alloc = rt.alloc();
+    let cases = fs::read_to_string(&rt, "cases")?;
+    let mut case = Case {
+        sets: SetCase::new(alloc),
+        demands: DemandCase::new(alloc),
+    };
+    for line in cases.as_str().lines() {
+        println!(rt; "{line}")?;
+        let mut words = Vec::new(alloc);
+        for word in line.split_whitespace() {
+            words.push(String::from_str(alloc, word)?)?;
+        }
+        if let Some((command, words)) = words.as_slice().split_first() {
+            if command.as_str() != "#" {
+                println!(rt; "    {}", call(alloc, &mut case, command.as_str(), words)?)?;
+            }
+        }
+    }
+    Ok(())
+}
