@@ -35,7 +35,8 @@ returns-clause-answer c =
       is_module = asked.2.es_module_info;
       is_public = asked.2.public_ranges;
       carried = search rules;
-      answer = subst (λ first. IsAnswer made.es_module_info made.public_ranges first answer.line.items answer.status) asked.2.first c.in_ok-answer_request.ensures;
+      answer = subst (λ first. IsAnswer made.es_module_info made.public_ranges first answer.line.items answer.status) asked.2.first
+          c.in_ok-answer_request.ensures;
     }
 
 pub returns-in_err-read_input-clause-answer : goal.returns-in_err-read_input-clause-answer

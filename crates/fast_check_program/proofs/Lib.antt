@@ -1,3 +1,0 @@
-pub mod Given
-mod Reports
-mod Words
