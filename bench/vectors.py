@@ -278,6 +278,10 @@ def variables():
     text = body.source.text
     request["module"]["source"]["program"] = {"Script": {"span": [1, len(text) + 1], "body": [item["Stmt"] for item in body.body], "shebang": None}}
     answered("script", request, body.answer())
+    empty = Module()
+    request = empty.request()
+    request["module"]["source"]["program"] = {"Script": program([], "")}
+    answered("empty_script", request, empty.answer())
 
 
 # ---- values and types beyond literals: each node as it is written, with what stands for it
@@ -528,7 +532,9 @@ def left_out():
     answered("value_without_type", changed(FIRST_VAR + ("decls", 0, "init"), value), left.answer())
     pattern = {"Err": [diagnostic(("unsupported-destructuring", DUMMY, None, None), SPECIFIER, DOCS)]}
     answered("pattern", changed(FIRST_VAR + ("decls", 0, "name"), {"Array": {"elems": []}}), pattern)
-    refused("class", changed(BODY + (0,), {"Stmt": {"Decl": {"Class": {"ident": ident(DUMMY, "C"), "class": {"body": []}}}}}))
+    declared_class = {"Class": {"ident": ident(DUMMY, "C"), "class": {"body": []}}}
+    refused("class", changed(BODY + (0,), {"Stmt": {"Decl": declared_class}}))
+    refused("exported_class", changed(BODY + (0,), {"ModuleDecl": {"ExportDecl": {"decl": declared_class}}}))
 
 
 # ---- functions and values of all forms: what is stated by hand has to agree with what the rules give
