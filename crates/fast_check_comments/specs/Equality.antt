@@ -86,7 +86,8 @@ comments-decides a b = (
       let before = (places-decides a.leading b.leading).0 s.0 in
       let after = (places-decides a.trailing b.trailing).0 s.1 in
       λ i. record { leading = before i; trailing = after i },
-  λ e. joined (same_places a.leading b.leading) (same_places a.trailing b.trailing) ((places-decides a.leading b.leading).1 (ap (λ x. x.leading) e)) ((places-decides a.trailing b.trailing).1 (ap (λ x. x.trailing) e)),
+  λ e. joined (same_places a.leading b.leading) (same_places a.trailing b.trailing) ((places-decides a.leading b.leading).1 (ap (λ x. x.leading) e))
+      ((places-decides a.trailing b.trailing).1 (ap (λ x. x.trailing) e)),
 )
 
 pub comment-equiv : IsEquivalence same_comment

@@ -1,7 +1,7 @@
 //! Calls on what is demanded of a module, and on the modules that were followed or wait to be.
 
 use crate::packages::package_of;
-use crate::sets::{set_of, shown};
+use crate::sets::{name_and_rest, set_of, shown};
 use anyhow::Result;
 use fast_check_names::{FileDepName, ImportedExports};
 use fast_check_packages::{HandledExports, PendingTraces};
@@ -32,72 +32,79 @@ fn shown_answer(alloc: Global, answer: &Option<ImportedExports>) -> Result<Strin
     }
 }
 
-/// What is demanded of one module, and the two maps of modules.
-#[derive(Drop)]
-pub struct DemandCase {
-    imported: ImportedExports,
-    handled: HandledExports,
-    pending: PendingTraces,
+fn leaves(alloc: Global, demand: &ImportedExports) -> Result<String, AllocError> {
+    let demand = shown_demand(alloc, demand)?;
+    format!(in alloc; "leaves {demand}")
 }
 
-impl DemandCase {
-    /// A module of which all names but `default` are demanded, and maps of no modules.
-    pub fn new(alloc: Global) -> DemandCase {
-        DemandCase {
-            imported: ImportedExports::star(),
-            handled: HandledExports::default(alloc),
-            pending: PendingTraces::default(alloc),
-        }
+fn file_dep_name(alloc: Global, words: &[String]) -> Result<FileDepName, AllocError> {
+    let (name, _) = name_and_rest(words);
+    if name == "*" {
+        return Ok(FileDepName::Star);
     }
+    Ok(FileDepName::Name(String::from_str(alloc, name)?))
+}
 
-    /// What a call answers and leaves; None where it is no call on demands.
-    pub fn call(
-        &mut self,
-        alloc: Global,
-        command: &str,
-        words: &[String],
-    ) -> Result<Option<String>> {
-        match (command, words) {
-            ("demand", _) => self.imported = demand_of(alloc, words)?,
-            ("from_file_dep_name", [name]) => {
-                let name = match name.as_str() {
-                    "*" => FileDepName::Star,
-                    name => FileDepName::Name(String::from_str(alloc, name)?),
-                };
-                self.imported = ImportedExports::from_file_dep_name(alloc, &name)?;
-            }
-            ("add_demand", _) => {
-                let answer = self.imported.add(alloc, demand_of(alloc, words)?)?;
-                let answer = shown_answer(alloc, &answer)?;
-                let state = shown_demand(alloc, &self.imported)?;
-                return Ok(Some(format!(in alloc; "answers {answer}, leaves {state}")?));
-            }
-            ("handle", [module, demand @ ..]) => {
-                let module = Url::parse(alloc, module.as_str())?;
-                let answer = self.handled.add(alloc, &module, demand_of(alloc, demand)?)?;
-                return Ok(Some(format!(in alloc; "answers {}", shown_answer(alloc, &answer)?)?));
-            }
-            ("wait", [name, major, module, demand @ ..]) => {
-                let package = package_of(alloc, name.as_str(), major.as_str())?;
-                let module = Url::parse(alloc, module.as_str())?;
-                self.pending
-                    .add(alloc, package, module, demand_of(alloc, demand)?)?;
-                return Ok(Some(String::from_str(alloc, "waits")?));
-            }
-            ("pop", []) => return Ok(Some(self.pop(alloc)?)),
-            _ => return Ok(None),
+fn add(
+    alloc: Global,
+    demand: &mut ImportedExports,
+    words: &[String],
+) -> Result<String, AllocError> {
+    let answer = demand.add(alloc, demand_of(alloc, words)?)?;
+    let answer = shown_answer(alloc, &answer)?;
+    let state = leaves(alloc, demand)?;
+    format!(in alloc; "answers {answer}, {state}")
+}
+
+/// What a call on what is demanded of a module answers and leaves; None where it is none.
+pub fn call(
+    alloc: Global,
+    demand: &mut ImportedExports,
+    command: &str,
+    words: &[String],
+) -> Result<Option<String>, AllocError> {
+    let said = match command {
+        "demand" => {
+            *demand = demand_of(alloc, words)?;
+            leaves(alloc, demand)?
         }
-        Ok(Some(format!(in alloc; "leaves {}", shown_demand(alloc, &self.imported)?)?))
-    }
+        "from_file_dep_name" => {
+            *demand = ImportedExports::from_file_dep_name(alloc, &file_dep_name(alloc, words)?)?;
+            leaves(alloc, demand)?
+        }
+        "add_demand" => add(alloc, demand, words)?,
+        _ => return Ok(None),
+    };
+    Ok(Some(said))
+}
 
-    /// The package, the module and the demand that are taken.
-    fn pop(&mut self, alloc: Global) -> Result<String, AllocError> {
-        match self.pending.pop() {
-            None => String::from_str(alloc, "answers nothing"),
-            Some(trace) => {
-                let demand = shown_demand(alloc, &trace.exports_to_trace)?;
-                format!(in alloc; "answers {} {} {demand}", trace.package_nv, trace.specifier)
-            }
+/// Follows a module: its URL, and what is demanded of it.
+pub fn handle(alloc: Global, handled: &mut HandledExports, words: &[String]) -> Result<String> {
+    let (module, demand) = name_and_rest(words);
+    let module = Url::parse(alloc, module)?;
+    let answer = handled.add(alloc, &module, demand_of(alloc, demand)?)?;
+    let answer = shown_answer(alloc, &answer)?;
+    Ok(format!(in alloc; "answers {answer}")?)
+}
+
+/// Lets a module wait: the package by name and major number, its URL, and what is demanded of it.
+pub fn wait(alloc: Global, pending: &mut PendingTraces, words: &[String]) -> Result<String> {
+    let (name, words) = name_and_rest(words);
+    let (major, words) = name_and_rest(words);
+    let (module, demand) = name_and_rest(words);
+    let package = package_of(alloc, name, major)?;
+    let module = Url::parse(alloc, module)?;
+    pending.add(alloc, package, module, demand_of(alloc, demand)?)?;
+    Ok(String::from_str(alloc, "waits")?)
+}
+
+/// The package, the module and the demand that are taken.
+pub fn pop(alloc: Global, pending: &mut PendingTraces) -> Result<String, AllocError> {
+    match pending.pop() {
+        None => String::from_str(alloc, "answers nothing"),
+        Some(trace) => {
+            let demand = shown_demand(alloc, &trace.exports_to_trace)?;
+            format!(in alloc; "answers {} {} {demand}", trace.package_nv, trace.specifier)
         }
     }
 }

@@ -9,42 +9,53 @@ mod packages;
 mod pairs;
 mod sets;
 
-use crate::demands::DemandCase;
-use crate::sets::SetCase;
 use anyhow::{Result, bail};
+use fast_check_names::{Exports, ImportedExports, NamedSubset};
+use fast_check_packages::{HandledExports, PendingTraces};
 use std::alloc::Global;
 use std::fs;
 
 /// The values that the calls go to.
 #[derive(Drop)]
 struct Case {
-    sets: SetCase,
-    demands: DemandCase,
+    set: NamedSubset,
+    below: Exports,
+    demand: ImportedExports,
+    handled: HandledExports,
+    pending: PendingTraces,
 }
 
 /// What the call of a line answers and leaves.
 fn call(alloc: Global, case: &mut Case, command: &str, words: &[String]) -> Result<String> {
-    if let Some(said) = case.sets.call(alloc, command, words)? {
+    if let Some(said) = sets::call(alloc, &mut case.set, command, words)? {
         return Ok(said);
     }
-    if let Some(said) = case.demands.call(alloc, command, words)? {
+    if let Some(said) = sets::call_below(alloc, &mut case.below, command, words)? {
         return Ok(said);
     }
-    if let Some(said) = packages::call(alloc, command, words)? {
+    if let Some(said) = demands::call(alloc, &mut case.demand, command, words)? {
         return Ok(said);
     }
-    if command == "each_pair" {
-        return pairs::each_pair(alloc);
+    match command {
+        "handle" => demands::handle(alloc, &mut case.handled, words),
+        "wait" => demands::wait(alloc, &mut case.pending, words),
+        "pop" => Ok(demands::pop(alloc, &mut case.pending)?),
+        "compare" => packages::compare(alloc, words),
+        "as_nv" => packages::as_nv(alloc, words),
+        "each_pair" => pairs::each_pair(alloc),
+        _ => bail!("no call: {command}"),
     }
-    bail!("no call: {command}")
 }
 
 fn main(rt: HostRuntime) -> Result<()> {
     let alloc = rt.alloc();
     let cases = fs::read_to_string(&rt, "cases")?;
     let mut case = Case {
-        sets: SetCase::new(alloc),
-        demands: DemandCase::new(alloc),
+        set: NamedSubset::default(alloc),
+        below: Exports::subset(alloc),
+        demand: ImportedExports::star(),
+        handled: HandledExports::default(alloc),
+        pending: PendingTraces::default(alloc),
     };
     for line in cases.as_str().lines() {
         println!(rt; "{line}")?;

@@ -1,6 +1,5 @@
 //! Calls on sets of names, and on what stands below a name.
 
-use anyhow::Result;
 use fast_check_names::{Exports, NamedSubset};
 use std::alloc::{AllocError, Global};
 
@@ -92,92 +91,135 @@ fn shown_below(alloc: Global, exports: &Exports) -> Result<String, AllocError> {
     }
 }
 
-/// A set of names, and what is demanded below some name.
-#[derive(Drop)]
-pub struct SetCase {
-    set: NamedSubset,
-    below: Exports,
+/// The first word, and those behind it.
+pub fn name_and_rest(words: &[String]) -> (&str, &[String]) {
+    match words.split_first() {
+        Some((name, rest)) => (name.as_str(), rest),
+        None => ("", words),
+    }
 }
 
-impl SetCase {
-    /// No names, and no names below a name.
-    pub fn new(alloc: Global) -> SetCase {
-        SetCase {
-            set: NamedSubset::default(alloc),
-            below: Exports::subset(alloc),
-        }
-    }
+/// Says what a call leaves.
+fn leaves(alloc: Global, set: &NamedSubset) -> Result<String, AllocError> {
+    let paths = shown(alloc, set)?;
+    format!(in alloc; "leaves {paths}")
+}
 
-    /// What a call answers and leaves; None where it is no call on sets.
-    pub fn call(
-        &mut self,
-        alloc: Global,
-        command: &str,
-        words: &[String],
-    ) -> Result<Option<String>, AllocError> {
-        if let Some(below) = command.strip_prefix("below_") {
-            return self.call_below(alloc, below, words);
-        }
-        match (command, words) {
-            ("set", _) => self.set = set_of(alloc, words)?,
-            ("from_parts", _) => self.set = NamedSubset::from_parts(alloc, words)?,
-            ("add", [name]) => self.set.add(alloc, name.clone()?)?,
-            ("add_qualified", [name, qualified @ ..]) => {
-                self.set.add_qualified(alloc, name.clone()?, qualified)?;
-            }
-            ("add_named", [name, below @ ..]) => {
-                self.set
-                    .add_named(alloc, name.clone()?, below_of(alloc, below)?)?;
-            }
-            ("extend", _) => {
-                let answer = self.set.extend(alloc, set_of(alloc, words)?)?;
-                let answer = shown(alloc, &answer)?;
-                let state = shown(alloc, &self.set)?;
-                return Ok(Some(format!(in alloc; "answers {answer}, leaves {state}")?));
-            }
-            ("contains_name", [name]) => {
-                let found = self.set.contains_name(name.as_str());
-                return Ok(Some(format!(in alloc; "{found}")?));
-            }
-            ("is_empty", _) => {
-                let empty = self.set.is_empty();
-                return Ok(Some(format!(in alloc; "{empty}")?));
-            }
-            ("equals", _) => {
-                let equal = self.set == set_of(alloc, words)?;
-                return Ok(Some(format!(in alloc; "{equal}")?));
-            }
-            _ => return Ok(None),
-        }
-        Ok(Some(format!(in alloc; "leaves {}", shown(alloc, &self.set)?)?))
-    }
+fn leaves_below(alloc: Global, exports: &Exports) -> Result<String, AllocError> {
+    let paths = shown_below(alloc, exports)?;
+    format!(in alloc; "leaves {paths}")
+}
 
-    /// The same of what is demanded below a name.
-    fn call_below(
-        &mut self,
-        alloc: Global,
-        command: &str,
-        words: &[String],
-    ) -> Result<Option<String>, AllocError> {
-        match (command, words) {
-            ("set", _) => self.below = below_of(alloc, words)?,
-            ("add_qualified", [name, qualified @ ..]) => {
-                self.below.add_qualified(alloc, name.as_str(), qualified)?;
-            }
-            ("extend", _) => {
-                let answer = match self.below.extend(alloc, below_of(alloc, words)?)? {
-                    None => String::from_str(alloc, "nothing")?,
-                    Some(exports) => shown_below(alloc, &exports)?,
-                };
-                let state = shown_below(alloc, &self.below)?;
-                return Ok(Some(format!(in alloc; "answers {answer}, leaves {state}")?));
-            }
-            ("equals", _) => {
-                let equal = self.below == below_of(alloc, words)?;
-                return Ok(Some(format!(in alloc; "{equal}")?));
-            }
-            _ => return Ok(None),
+fn add_qualified(
+    alloc: Global,
+    set: &mut NamedSubset,
+    words: &[String],
+) -> Result<String, AllocError> {
+    let (name, qualified) = name_and_rest(words);
+    set.add_qualified(alloc, String::from_str(alloc, name)?, qualified)?;
+    leaves(alloc, set)
+}
+
+fn add_named(alloc: Global, set: &mut NamedSubset, words: &[String]) -> Result<String, AllocError> {
+    let (name, below) = name_and_rest(words);
+    set.add_named(
+        alloc,
+        String::from_str(alloc, name)?,
+        below_of(alloc, below)?,
+    )?;
+    leaves(alloc, set)
+}
+
+fn add(alloc: Global, set: &mut NamedSubset, words: &[String]) -> Result<String, AllocError> {
+    let (name, _) = name_and_rest(words);
+    set.add(alloc, String::from_str(alloc, name)?)?;
+    leaves(alloc, set)
+}
+
+fn extend(alloc: Global, set: &mut NamedSubset, words: &[String]) -> Result<String, AllocError> {
+    let answer = set.extend(alloc, set_of(alloc, words)?)?;
+    let answer = shown(alloc, &answer)?;
+    let state = leaves(alloc, set)?;
+    format!(in alloc; "answers {answer}, {state}")
+}
+
+fn equals(alloc: Global, set: &NamedSubset, words: &[String]) -> Result<String, AllocError> {
+    let equal = *set == set_of(alloc, words)?;
+    format!(in alloc; "{equal}")
+}
+
+/// What a call on a set answers and leaves; None where it is none.
+pub fn call(
+    alloc: Global,
+    set: &mut NamedSubset,
+    command: &str,
+    words: &[String],
+) -> Result<Option<String>, AllocError> {
+    let said = match command {
+        "set" => {
+            *set = set_of(alloc, words)?;
+            leaves(alloc, set)?
         }
-        Ok(Some(format!(in alloc; "leaves {}", shown_below(alloc, &self.below)?)?))
-    }
+        "from_parts" => {
+            *set = NamedSubset::from_parts(alloc, words)?;
+            leaves(alloc, set)?
+        }
+        "add" => add(alloc, set, words)?,
+        "add_qualified" => add_qualified(alloc, set, words)?,
+        "add_named" => add_named(alloc, set, words)?,
+        "extend" => extend(alloc, set, words)?,
+        "equals" => equals(alloc, set, words)?,
+        "contains_name" => format!(in alloc; "{}", set.contains_name(name_and_rest(words).0))?,
+        "is_empty" => format!(in alloc; "{}", set.is_empty())?,
+        _ => return Ok(None),
+    };
+    Ok(Some(said))
+}
+
+fn extend_below(
+    alloc: Global,
+    exports: &mut Exports,
+    words: &[String],
+) -> Result<String, AllocError> {
+    let answer = match exports.extend(alloc, below_of(alloc, words)?)? {
+        None => String::from_str(alloc, "nothing")?,
+        Some(exports) => shown_below(alloc, &exports)?,
+    };
+    let state = leaves_below(alloc, exports)?;
+    format!(in alloc; "answers {answer}, {state}")
+}
+
+fn add_qualified_below(
+    alloc: Global,
+    exports: &mut Exports,
+    words: &[String],
+) -> Result<String, AllocError> {
+    let (name, qualified) = name_and_rest(words);
+    exports.add_qualified(alloc, name, qualified)?;
+    leaves_below(alloc, exports)
+}
+
+fn equals_below(alloc: Global, exports: &Exports, words: &[String]) -> Result<String, AllocError> {
+    let equal = *exports == below_of(alloc, words)?;
+    format!(in alloc; "{equal}")
+}
+
+/// What a call on what is demanded below a name answers and leaves; None where it is none.
+pub fn call_below(
+    alloc: Global,
+    exports: &mut Exports,
+    command: &str,
+    words: &[String],
+) -> Result<Option<String>, AllocError> {
+    let said = match command {
+        "below_set" => {
+            *exports = below_of(alloc, words)?;
+            leaves_below(alloc, exports)?
+        }
+        "below_add_qualified" => add_qualified_below(alloc, exports, words)?,
+        "below_extend" => extend_below(alloc, exports, words)?,
+        "below_equals" => equals_below(alloc, exports, words)?,
+        _ => return Ok(None),
+    };
+    Ok(Some(said))
 }

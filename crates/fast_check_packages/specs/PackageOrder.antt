@@ -12,7 +12,9 @@ use Rattle.fast_check_packages.specs.contracts.package.PackageNvPartialEq.TheImp
 use Rattle.fast_check_packages.specs.Package.{nv_of, nv_cmp, version_cmp}
 
 version_total : IsTotalOrder version_cmp
-version_total = then_total (on_total (λ v. v.0) nat_cmp_total) (then_total (on_total (λ v. v.1) nat_cmp_total) (then_total (on_total (λ v. v.2) nat_cmp_total) (then_total (on_total (λ v. v.3) pre_total) (on_total (λ v. v.4) build_total))))
+version_total = then_total (on_total (λ v. v.0) nat_cmp_total)
+    (then_total (on_total (λ v. v.1) nat_cmp_total)
+    (then_total (on_total (λ v. v.2) nat_cmp_total) (then_total (on_total (λ v. v.3) pre_total) (on_total (λ v. v.4) build_total))))
 
 pub nv_total : IsTotalOrder nv_cmp
 nv_total = then_total (on_total (λ p. p.0) nat_list_cmp_total) (on_total (λ p. p.1) version_total)
@@ -32,7 +34,8 @@ nv_ties a b =
     (tie _ _ (nat_cmp x.1.0 y.1.0) _ (unsigned_ties x.1.0 y.1.0)
     (tie _ _ (nat_cmp x.1.1 y.1.1) _ (unsigned_ties x.1.1 y.1.1)
     (tie _ _ (nat_cmp x.1.2 y.1.2) _ (unsigned_ties x.1.2 y.1.2)
-    (tie _ _ (pre_cmp x.1.3 y.1.3) (build_cmp x.1.4 y.1.4) (order_ties pre_cmp pre_total pre-anti x.1.3 y.1.3) (order_ties build_cmp build_total build-anti x.1.4 y.1.4)))))
+    (tie _ _ (pre_cmp x.1.3 y.1.3) (build_cmp x.1.4 y.1.4) (order_ties pre_cmp pre_total pre-anti x.1.3 y.1.3)
+    (order_ties build_cmp build_total build-anti x.1.4 y.1.4)))))
 
 pub nv_po : IsPartialOrder nv_eq.eq-value.it (λ a b. Some (nv_cmp (nv_of a) (nv_of b)))
 nv_po = po (on_total nv_of nv_total) nv_ties

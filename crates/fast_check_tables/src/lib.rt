@@ -4,8 +4,6 @@
 mod diagnostics;
 mod public_ranges;
 mod tables;
-#[cfg(test)]
-mod tests;
 
 pub use diagnostics::{
     Diagnostic, DiagnosticLevel, DiagnosticLocation, DiagnosticSnippet, FastCheckDiagnostic,
