@@ -10,6 +10,7 @@ use Rattle.fast_check_requests.specs.declared.ending.Ending.{Ending}
 use Rattle.fast_check_requests.specs.declared.refusal.Refusal.{Refusal}
 use Rattle.fast_check_requests.specs.declared.refusal.Refusal.TheVariants as refusals
 use Rattle.fast_check_requests.specs.Call.{is_call, File, OfFile}
+use Rattle.fast_check_requests.specs.Input.{IsNotJson}
 use Rattle.fast_check_requests.specs.Request.{Request, request_of, IsModule, IsPublic}
 use Rattle.fast_check_program.specs.Answer.{IsAnswer}
 
@@ -28,10 +29,6 @@ pub record IsAnswerTo (bytes : List ℕ) (line : List ℕ) (status : ℕ) : Type
   pub is_public : IsPublic request public
   pub carried : IsCarried info
   pub answer : IsAnswer info public request.first line status
-
--- they are no JSON value
-abbrev pub IsNotJson : List ℕ → Type 0
-IsNotJson bytes = IsUtf8 bytes → read bytes ≡ None
 
 -- a request of a module that is not taken yet
 pub record IsNotCarried (value : Data) : Type 0 where

@@ -7,10 +7,7 @@ ghost use Rattle.fast_check_program.specs.Answer.{IsAnswer};
 ghost use Rattle.fast_check_program.specs.Program.{IsAnswerTo, RefusesBytes, RefusesCall, AnswersCall, HasAnswer, IsAnswered};
 
 use crate::answer::print_line;
-use fast_check_read::read_input;
-use fast_check_requests::{
-    Ending, Refusal, TransformRequest, is_call, read_bytes, read_transform_request,
-};
+use fast_check_requests::{Ending, Refusal, TransformRequest, is_call, read_bytes, read_request};
 use fast_check_tables::ModuleGraph;
 use fast_check_transform::{TransformOptions, is_carried, transform};
 use std::alloc::{AllocError, Global};
@@ -74,7 +71,7 @@ fn answer_transform(alloc: Global, bytes: &[u8]) -> Result<Answer, Refusal>
     ensures answer { IfOk result (λ answer. IsAnswerTo bytes.now answer.line.items answer.status) }
     ensures refusal { IfErr result (λ refusal. RefusesBytes refusal bytes.now) }
 {
-    let request = read_transform_request(alloc, &read_input(alloc, bytes)?)?;
+    let request = read_request(alloc, bytes)?;
     if !is_carried(&request.es_module_info) {
         return Err(Refusal::BadForm);
     }

@@ -8,7 +8,7 @@ mod request;
 mod words;
 
 pub use ending::Ending;
-pub use input::read_bytes;
+pub use input::{read_bytes, read_request};
 pub use refusal::Refusal;
 pub use request::{TransformRequest, read_transform_request};
 pub use words::is_call;
