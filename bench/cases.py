@@ -102,13 +102,13 @@ def literals():
             return {"TsLitType": form(lit={"Number" if kind == "Num" else kind: node})}
 
         for called, tree in (("maybe_infer_type", lit(source)), ("maybe_lit_to_ts_type", lit(source)["Lit"])):
-            tree_case(f"a constant {word} by {called}", called, tree, of_itself, mutability="const")
-            tree_case(f"another {word} by {called}", called, tree, keyword(word), mutability="mutable")
+            tree_case(f"a constant {word} by {called}", called, tree, of_itself, const=True)
+            tree_case(f"another {word} by {called}", called, tree, keyword(word))
     shown = [("null", "null", keyword("null")), ("a regular expression", "/a/", reference("RegExp")), ("a JSX text", "<a>", None)]
     for mutability in ("const", "mutable"):
         for title, source, answer in shown:
             for called, tree in (("maybe_infer_type", lit(source)), ("maybe_lit_to_ts_type", lit(source)["Lit"])):
-                tree_case(f"{title}, {mutability}, by {called}", called, tree, answer, mutability=mutability)
+                tree_case(f"{title}, {mutability}, by {called}", called, tree, answer, const=mutability == "const")
 
 
 def templates():
@@ -116,10 +116,10 @@ def templates():
     unread = template("t")
     unread["Tpl"]["quasis"][0]["cooked"] = None
     for called in ("maybe_infer_type", "tpl_to_ts_type"):
-        tree_case(f"a constant template by {called}", called, template("t"), text, mutability="const")
-        tree_case(f"another template by {called}", called, template("t"), keyword("string"), mutability="mutable")
-        tree_case(f"a template without a cooked text by {called}", called, unread, keyword("string"), mutability="const")
-        tree_case(f"a template with a substitution by {called}", called, template("t", free("a"), "u"), keyword("string"), mutability="const")
+        tree_case(f"a constant template by {called}", called, template("t"), text, const=True)
+        tree_case(f"another template by {called}", called, template("t"), keyword("string"))
+        tree_case(f"a template without a cooked text by {called}", called, unread, keyword("string"), const=True)
+        tree_case(f"a template with a substitution by {called}", called, template("t", free("a"), "u"), keyword("string"), const=True)
 
 
 def symbols():
@@ -128,19 +128,19 @@ def symbols():
               ("a bound Symbol", call(ref("Symbol"), text), False), ("Symbol of nothing", call(free("Symbol")), True)]
     for title, value, is_symbol in values:
         for mutability in ("const", "mutable"):
-            tree_case(f"{title}, {mutability}", "maybe_infer_type", value, UNIQUE_SYMBOL if is_symbol else None, mutability=mutability)
+            tree_case(f"{title}, {mutability}", "maybe_infer_type", value, UNIQUE_SYMBOL if is_symbol else None, const=mutability == "const")
         tree_case(f"whether {title} shows a type", "shows_type", value, is_symbol)
 
 
 def assertions():
     text, functions = lit('"x"'), {"TsTupleType": form(elem_types=[form(label=None, ty=function_type("void"))])}
     angle = {"TsTypeAssertion": form(expr=text, type_ann=functions)}
-    tree_case("an assertion to an array", "maybe_infer_type", as_(text, array_of("string")), lambda tree: tree["TsAs"]["type_ann"], mutability="const")
-    tree_case("an assertion to a tuple of functions", "maybe_infer_type", angle, None, mutability="const")
+    tree_case("an assertion to an array", "maybe_infer_type", as_(text, array_of("string")), lambda tree: tree["TsAs"]["type_ann"], const=True)
+    tree_case("an assertion to a tuple of functions", "maybe_infer_type", angle, None, const=True)
     tree_case("whether an assertion to an array shows it", "shows_type", as_(text, array_of("string")), True)
     tree_case("whether an assertion to a tuple of functions shows it", "shows_type", angle, False)
     checked = paren(satisfies(text, "string"))
-    tree_case("parentheses and satisfies", "maybe_infer_type", checked, keyword("string"), mutability="mutable")
+    tree_case("parentheses and satisfies", "maybe_infer_type", checked, keyword("string"))
     tree_case("whether parentheses and satisfies show a type", "shows_type", checked, True)
     tree_case("an array of a keyword is simple", "is_simple_type", array_of("string"), True)
     tree_case("a tuple of functions is not simple", "is_simple_type", functions, False)
@@ -156,12 +156,12 @@ def frozen():
 
 
 def nodes():
-    case("a new identifier", "new_ident", new_name("a"), name="a")
-    case("a reference to a type", "type_ref", reference("A"), name="A")
-    case("the type of regular expressions", "regex_type", reference("RegExp"))
-    case("a keyword", "ts_keyword_type", keyword("void"))
-    case("an annotation of any", "any_type_ann", annotation("any"))
-    case("the value of what has a type", "never_value", NEVER)
+    case("a new identifier", "new_ident", new_name("a"), tree="a")
+    case("a reference to a type", "type_ref", reference("A"), tree="A")
+    case("the type of regular expressions", "regex_type", reference("RegExp"), tree=False)
+    case("a keyword", "ts_keyword_type", keyword("void"), tree=False)
+    case("an annotation of any", "any_type_ann", annotation("any"), tree=False)
+    case("the value of what has a type", "never_value", NEVER, tree=False)
     tree_case("the type of a literal", "ts_lit_type", lit('"a"')["Lit"], lambda tree: {"TsLitType": form(lit=tree)})
     tree_case("an annotation", "type_ann", named("A"), lambda tree: form(type_ann=tree))
     tree_case("a readonly type", "ts_readonly", named("A"), lambda tree: {"TsTypeOperator": form(op="ReadOnly", type_ann=tree)})
