@@ -7,5 +7,4 @@ ghost use Rattle.fast_check_places.specs.Places.{FieldsStandInPlace};
 /// definitions, and so of what is read and printed and of what `of` reads; it does nothing when it is called.
 pub fn places()
     ensures { FieldsStandInPlace }
-{
-}
+{}
