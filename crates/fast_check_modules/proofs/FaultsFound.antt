@@ -20,7 +20,7 @@ use Rattle.fast_check_modules.specs.Expandos.{expandos}
 use Rattle.fast_check_modules.specs.Faults.{is_missing, lacks_declaration}
 use Rattle.fast_check_modules.specs.Tables.{Tables, same_id, symbol_of_swc, table_ranges}
 use Rattle.fast_check_modules.specs.WellFormed.{mentioned, MissesSymbol, LacksDeclaration, HasUnboundExpando, bound_symbol, AreMadeOf}
-use Rattle.fast_check_modules.specs.EsModule.{EsModule, Admits, is_ranged_unbound, is_public_unbound}
+use Rattle.fast_check_modules.specs.EsModule.{EsModule, Admits, BindsOwnRanges, AreOwnRanges, is_ranged_unbound, is_public_unbound}
 use Rattle.fast_check_modules.proofs.Witness.{witness, none_of, is_none_of, none_is, nil_of, nil_is, and_left, and_right, and_both}
 
 pub misses : (t : ModuleTables) → list_any (is_missing t.symbols.items) (mentioned t) ≡ true → MissesSymbol t
@@ -110,3 +110,14 @@ misses_is t symbols ids b e f h =
 
 pub lacks_is : (t : ModuleTables) (symbols : List Symbol) (b : Bool) → symbols ≡ t.symbols.items → b ≡ list_any (lacks_declaration t.module_symbol) symbols → b ≡ list_any (lacks_declaration t.module_symbol) t.symbols.items
 lacks_is t symbols b e h = h ∙ ap (λ (ss : List Symbol). list_any (lacks_declaration t.module_symbol) ss) e
+
+pub own_admitted : (m : EsModule) (p : PublicRanges) (b : Bool) → b ≡ list_any (is_public_unbound m.tables p) (expandos m.source.program) → BindsOwnRanges m.tables m.source.program → AreOwnRanges m.tables p → IsTrue (not b)
+own_admitted m p b e bound own = (admits_when m p b e).1 (λ x among shown. bound x among (own x.range shown))
+
+-- no expando statement without symbol has a range of the tables
+pub binds_own : (t : Tables) (program : Tree) → list_any (is_ranged_unbound t) (expandos program) ≡ false → BindsOwnRanges t program
+binds_own t program none e among ranged = go (is_some (symbol_of_swc t e.object)) refl
+  where
+    go : (b : Bool) → is_some (symbol_of_swc t e.object) ≡ b → IsSome (symbol_of_swc t e.object)
+    go true h = h
+    go false h = absurd (none_of (is_ranged_unbound t) (expandos program) e none among (and_both _ _ (list_any-from_Contains range_equiv e.range (table_ranges t.symbols t.re_exports) ranged) (ap not h)))

@@ -24,11 +24,9 @@ pub struct EsModuleInfo {
 }
 
 impl Model for EsModuleInfo {
-    ghost use Rattle.std.specs.Prelude.{◌≡◌};
     ghost use Rattle.std.specs.Coded.{codes};
     ghost use Rattle.fast_check_syntax.specs.contracts.tree.Tree as tree;
-    ghost use Rattle.fast_check_modules.specs.Expandos.{expandos};
-    ghost use Rattle.fast_check_modules.specs.EsModule.{EsModule};
+    ghost use Rattle.fast_check_modules.specs.EsModule.{EsModule, AreRead};
 
     ghost Value = { EsModule };
 
@@ -36,13 +34,13 @@ impl Model for EsModuleInfo {
 
     ghost view = { λ m. record { specifier = m.specifier; source = m.source; tables = m.tables } };
 
-    ghost invariant = { λ m. m.expando_statements.items ≡ expandos m.source.program };
+    ghost invariant = { λ m. AreRead m.tables m.source.program m.expando_statements.items };
 }
 
 impl EsModuleInfo {
     ghost use Rattle.fast_check_modules.specs.Tables.{symbol_of_swc, resolved_export};
     ghost use Rattle.fast_check_modules.specs.WellFormed.{AreMadeOf, FitProgram, IsModuleFault};
-    ghost use Rattle.fast_check_modules.specs.EsModule.{Admits};
+    ghost use Rattle.fast_check_modules.specs.EsModule.{Admits, AreOwnRanges};
     ghost use Rattle.fast_check_symbols.specs.Symbols.{symbol_of, place_of};
 
     /// The module of this name, source and tables. Of several faults the first is answered, and what was handed in is dropped.
@@ -136,7 +134,10 @@ impl EsModuleInfo {
 
     /// Whether each expando statement with a public range has an object with a symbol.
     pub fn admits(&self, public_ranges: &ModulePublicRanges) -> bool
-        ensures { IsTrue result ↔ Admits self.now public_ranges.now }
+        ensures exactly { IsTrue result ↔ Admits self.now public_ranges.now }
+
+        // Ranges of the tables themselves are admitted.
+        ensures own { AreOwnRanges self.now.tables public_ranges.now → IsTrue result }
     {
         !any_public_unbound(&self.tables, public_ranges, &self.expando_statements)
     }
