@@ -13,9 +13,9 @@ import sys
 
 sys.dont_write_bytecode = True
 
-from trees import (DUMMY, FREE, MODULE, Source, array, array_of, arrow, as_, block, call, class_, default, expr, fn, fn_stmt, form, free, freeze, function, function_type,
-                   getter, ident, lay_as, literal_type, lit, member, name, named, object_, pair, paren, ref, rest, returned, run, satisfies, stmt, template, thrown, type_,
-                   unshared, var_stmt, declarator)
+from trees import (DUMMY, Source, array, array_of, arrow, as_, block, call, class_, declarator, default, expr, fn_stmt, form, free, freeze, function,
+                   function_type, getter, ident, lay_as, lit, literal_type, member, name, named, object_, pair, paren, ref, rest, returned, run,
+                   satisfies, stmt, template, thrown, type_, unshared, var_stmt)
 
 TOP = os.path.dirname(os.path.dirname(os.path.abspath(__file__)))
 CRATE = os.path.join(TOP, "crates/fast_check_cases")
@@ -50,7 +50,8 @@ def case(title, called, answer, faults=None, **given):
 
 
 # what each call is given: the layout of its tree, and the variant that the tree stands under where it is no choice
-GIVEN = {"leave_expr": ("expr", None), "transform_arrow": ("expr", "Arrow"), "analyze_return_stmts_in_function_body": ("block", None), "maybe_infer_type": ("expr", None),
+GIVEN = {"leave_expr": ("expr", None), "transform_arrow": ("expr", "Arrow"), "analyze_return_stmts_in_function_body": ("block", None),
+         "maybe_infer_type": ("expr", None),
          "shows_type": ("expr", None), "maybe_lit_to_ts_type": ("literal", None), "tpl_to_ts_type": ("expr", "Tpl"), "object_freeze_call_arg": ("expr", "Call"),
          "ParamsOptionalStartIndex": ("expr", "Arrow"), "is_simple_type": ("type", None), "is_void_type": ("type", None), "type_ann": ("type", None),
          "ts_readonly": ("type", None), "ts_tuple_element": ("type", None), "ts_lit_type": ("literal", None)}
@@ -192,13 +193,15 @@ def bodies():
     returns("two returns of nothing", "void", bare, bare)
     returns("the last return has a value", "single", bare, one)
     returns("the first return has a value", "multiple", one, bare)
-    tried = lambda first, handler, last: stmt("Try", block=block(*first), handler=None if handler is None else form(param=None, body=block(*handler)), finalizer=None if last is None else block(*last))
+    caught = lambda handler: None if handler is None else form(param=None, body=block(*handler))
+    tried = lambda first, handler, last: stmt("Try", block=block(*first), handler=caught(handler), finalizer=None if last is None else block(*last))
     each = {"Pat": name("x")}
     inside = scope(one)
     for title, holder in [
             ("a block", inside), ("with", stmt("With", obj=a, body=inside)), ("a label", stmt("Labeled", label=ident("l"), body=inside)),
             ("the first branch", stmt("If", test=a, cons=inside, alt=None)), ("the other branch", stmt("If", test=a, cons=empty, alt=inside)),
-            ("a case of a switch", stmt("Switch", discriminant=a, cases=[form(test=a, cons=[inside])])), ("try", tried([one], [], None)), ("catch", tried([], [one], None)),
+            ("a case of a switch", stmt("Switch", discriminant=a, cases=[form(test=a, cons=[inside])])),
+            ("try", tried([one], [], None)), ("catch", tried([], [one], None)),
             ("finally", tried([], None, [one])), ("while", stmt("While", test=a, body=inside)), ("do", stmt("DoWhile", test=a, body=inside)),
             ("for", stmt("For", init=None, test=None, update=None, body=inside)), ("for in", stmt("ForIn", left=each, right=a, body=inside)),
             ("for of", stmt("ForOf", is_await=False, left=each, right=a, body=inside))]:
@@ -207,7 +210,8 @@ def bodies():
     for title, other in [
             ("an empty statement", empty), ("debugger", stmt("Debugger")), ("break", stmt("Break", label=None)), ("continue", stmt("Continue", label=None)),
             ("a thrown function", thrown(inner)), ("a function expression", run(paren(inner))), ("a function declaration", fn_stmt("g", [], one)),
-            ("a variable", var_stmt("Const", declarator("x", inner))), ("a class", {"Decl": {"Class": {"ident": ident("C"), "declare": False, "class": class_(inner)}}})]:
+            ("a variable", var_stmt("Const", declarator("x", inner))),
+            ("a class", {"Decl": {"Class": {"ident": ident("C"), "declare": False, "class": class_(inner)}}})]:
         returns(f"no return in {title}", "none", other)
 
 
@@ -235,7 +239,8 @@ def arrows():
 
     tree_case("a default before a parameter takes undefined", "transform_arrow", written_last, with_undefined, [])
     tree_case("an async arrow gives a promise", "transform_arrow", arrow([], ONE, is_async=True),
-              lambda tree: {**tree, "is_async": False, "body": {"Expr": paren(NEVER)}, "return_type": annotation(reference("Promise", "number"))}, [], place=PARENT)
+              lambda tree: {**tree, "is_async": False, "body": {"Expr": paren(NEVER)}, "return_type": annotation(reference("Promise", "number"))},
+              [], place=PARENT)
 
     throwing = arrow([name("a")], block(thrown(ONE)))
     tree_case("faults of the return type come first", "transform_arrow", throwing, True, [["return definitely", PARENT], ["type", [2, 3]]], place=PARENT)
@@ -247,7 +252,8 @@ def implementations():
     first = form(decorators=[], pat={"Ident": {"id": new_name("param0", True), "type_ann": annotation("any")}})
     others = form(decorators=[], pat={"Rest": form(dot3_token=None, arg={"Ident": {"id": new_name("param1"), "type_ann": None}}, type_ann=annotation("any"))})
     body = form(ctxt=0, stmts=[returned(NEVER)])
-    case("an implementation takes and gives any", "transform_implementation", {**implementation, "params": [first, others], "body": body, "return_type": annotation("any")},
+    case("an implementation takes and gives any", "transform_implementation",
+         {**implementation, "params": [first, others], "body": body, "return_type": annotation("any")},
          source=source, tree=implementation)
 
 

@@ -1,11 +1,13 @@
 use Rattle.std.proofs.Common.{refl, sym, subst, ap, ◌∙◌}
 use Rattle.std.specs.List.{fold}
 use Rattle.fast_check_syntax.specs.Part.{seen}
-use Rattle.fast_check_tree.specs.Places.{at-BlockStmt-stmts, at-WithStmt-body, at-LabeledStmt-body, at-SwitchStmt-cases, at-SwitchCase-cons, at-CatchClause-body, at-WhileStmt-body, at-DoWhileStmt-body, at-ForStmt-body, at-ForInStmt-body, at-ForOfStmt-body}
+use Rattle.fast_check_tree.specs.Places.{at-BlockStmt-stmts, at-WithStmt-body, at-LabeledStmt-body, at-SwitchStmt-cases, at-SwitchCase-cons}
+use Rattle.fast_check_tree.specs.Places.{at-CatchClause-body, at-WhileStmt-body, at-DoWhileStmt-body, at-ForStmt-body, at-ForInStmt-body, at-ForOfStmt-body}
 use Rattle.fast_check_tree.specs.ReturnClass.{returns}
 use Rattle.fast_check_tree.specs.ReturnStep.{after_return}
 use Rattle.fast_check_tree.proofs.Lower.{lower_odd}
-use Rattle.fast_check_tree.proofs.Returns.{IsOtherStmt, then_BlockStmt, then_WithStmt, then_LabeledStmt, then_SwitchStmt, then_SwitchCase, then_CatchClause, then_WhileStmt, then_DoWhileStmt, then_ForStmt, then_ForInStmt, then_ForOfStmt, then_List, then_other}
+use Rattle.fast_check_tree.proofs.Returns.{IsOtherStmt, then_BlockStmt, then_WithStmt, then_LabeledStmt, then_SwitchStmt, then_SwitchCase, then_CatchClause}
+use Rattle.fast_check_tree.proofs.Returns.{then_WhileStmt, then_DoWhileStmt, then_ForStmt, then_ForInStmt, then_ForOfStmt, then_List, then_other}
 use Rattle.fast_check_tree.proofs.helpers.return_class.+returns.Goals as goal
 
 pub analyze_return_stmts-analyze_return_stmts-requires : goal.analyze_return_stmts-analyze_return_stmts-requires
