@@ -47,27 +47,37 @@ fn call(alloc: Global, case: &mut Case, command: &str, words: &[String]) -> Resu
     }
 }
 
-fn main(rt: HostRuntime) -> Result<()> {
-    let alloc = rt.alloc();
-    let cases = fs::read_to_string(&rt, "cases")?;
-    let mut case = Case {
+/// No name, no demand and no module.
+fn start(alloc: Global) -> Case {
+    Case {
         set: NamedSubset::default(alloc),
         below: Exports::subset(alloc),
         demand: ImportedExports::star(),
         handled: HandledExports::default(alloc),
         pending: PendingTraces::default(alloc),
-    };
+    }
+}
+
+/// Prints a line, and what its call answers and leaves.
+fn run_line(rt: &HostRuntime, case: &mut Case, line: &str) -> Result<()> {
+    let alloc = rt.alloc();
+    println!(rt; "{line}")?;
+    let mut words = Vec::new(alloc);
+    for word in line.split_whitespace() {
+        words.push(String::from_str(alloc, word)?)?;
+    }
+    let (command, words) = sets::name_and_rest(words.as_slice());
+    if !command.is_empty() && command != "#" {
+        println!(rt; "    {}", call(alloc, case, command, words)?)?;
+    }
+    Ok(())
+}
+
+fn main(rt: HostRuntime) -> Result<()> {
+    let cases = fs::read_to_string(&rt, "cases")?;
+    let mut case = start(rt.alloc());
     for line in cases.as_str().lines() {
-        println!(rt; "{line}")?;
-        let mut words = Vec::new(alloc);
-        for word in line.split_whitespace() {
-            words.push(String::from_str(alloc, word)?)?;
-        }
-        if let Some((command, words)) = words.as_slice().split_first() {
-            if command.as_str() != "#" {
-                println!(rt; "    {}", call(alloc, &mut case, command.as_str(), words)?)?;
-            }
-        }
+        run_line(&rt, &mut case, line)?;
     }
     Ok(())
 }

@@ -1,0 +1,162 @@
+//! Runs the calls of the file `cases` on comments, diagnostics and tables, and prints what each answers.
+//!
+//! A line is a call: its name and its words, and behind the first `|` texts, which are parted by `|`.
+#![tactic(auto)]
+
+mod comments;
+mod diagnostics;
+mod tables;
+
+use anyhow::{Result, bail};
+use fast_check_comments::Comments;
+use fast_check_syntax::{DUMMY_SP, SourcePos, SourceRange};
+use fast_check_tables::{FastCheckDiagnosticRange, ModulePublicRanges};
+use std::alloc::{AllocError, Global};
+use std::fs;
+use std::rc::RcStr;
+use url::Url;
+
+/// The values that the calls go to.
+#[derive(Drop)]
+struct Case {
+    comments: Comments,
+    place: FastCheckDiagnosticRange,
+    public: ModulePublicRanges,
+}
+
+/// A line: its words, and its texts.
+#[derive(Drop)]
+pub struct Call {
+    words: Vec<String>,
+    texts: Vec<String>,
+}
+
+impl Call {
+    fn of(alloc: Global, line: &str) -> Result<Call, AllocError> {
+        let (words, written) = line.split_once('|').unwrap_or((line, ""));
+        let mut texts = Vec::new(alloc);
+        for text in written.split('|') {
+            texts.push(String::from_str(alloc, text)?)?;
+        }
+        Ok(Call {
+            words: words_of(alloc, words)?,
+            texts,
+        })
+    }
+
+    /// The word at a place, empty where there is none; the call's name is at 0.
+    pub fn word(&self, place: usize) -> &str {
+        match self.words.get(place) {
+            Some(word) => word.as_str(),
+            None => "",
+        }
+    }
+
+    /// Whether a word stands anywhere.
+    pub fn has_word(&self, word: &str) -> bool {
+        self.words.iter().any(|own| own.as_str() == word)
+    }
+
+    /// The number at a place, 0 where there is none.
+    pub fn number(&self, place: usize) -> u32 {
+        self.word(place).parse::<u32>().unwrap_or(0)
+    }
+
+    /// The range at a place: its start and its end.
+    pub fn range(&self, place: usize) -> SourceRange {
+        SourceRange {
+            start: SourcePos(self.number(place)),
+            end: SourcePos(self.number(place.saturating_add(1))),
+        }
+    }
+
+    /// How many words there are, the name included.
+    pub fn length(&self) -> usize {
+        self.words.len()
+    }
+
+    /// The texts.
+    pub fn texts(&self) -> &[String] {
+        self.texts.as_slice()
+    }
+
+    /// The first text, empty where there is none.
+    pub fn text(&self) -> &str {
+        match self.texts.first() {
+            Some(text) => text.as_str(),
+            None => "",
+        }
+    }
+}
+
+fn words_of(alloc: Global, text: &str) -> Result<Vec<String>, AllocError> {
+    let mut words = Vec::new(alloc);
+    for word in text.split_whitespace() {
+        words.push(String::from_str(alloc, word)?)?;
+    }
+    Ok(words)
+}
+
+/// What a call answers.
+fn answer(alloc: Global, case: &mut Case, call: &Call) -> Result<String> {
+    if let Some(said) = comments::call(alloc, &mut case.comments, call)? {
+        return Ok(said);
+    }
+    match call.word(0) {
+        "tell" => diagnostics::tell_call(alloc, call),
+        "place" => diagnostics::take(alloc, &mut case.place, call),
+        "compare" => diagnostics::compare(alloc, &case.place, call),
+        "public" => {
+            case.public = tables::public(alloc, call)?;
+            Ok(String::from_str(alloc, "taken")?)
+        }
+        "contains" => Ok(format!(in alloc; "{}", case.public.contains(&call.range(1)))?),
+        "is_impl_with_overloads" => {
+            Ok(format!(in alloc; "{}", case.public.is_impl_with_overloads(&call.range(1)))?)
+        }
+        "module" => tables::module(alloc, call),
+        "media_type" => tables::media_type(alloc, call),
+        other => bail!("no call: {other}"),
+    }
+}
+
+/// No comments, a place that is none, and nothing public.
+fn start(alloc: Global) -> Result<Case> {
+    Ok(Case {
+        comments: Comments::new(alloc),
+        place: FastCheckDiagnosticRange {
+            specifier: Url::parse(alloc, "file:///")?,
+            range: DUMMY_SP,
+            text_info: RcStr::from_str(alloc, "")?,
+        },
+        public: ModulePublicRanges::from_parts(
+            alloc,
+            Vec::new(alloc),
+            Vec::new(alloc),
+            Vec::new(alloc),
+        )?,
+    })
+}
+
+/// Prints a line, and what its call answers.
+fn run_line(rt: &HostRuntime, case: &mut Case, line: &str) -> Result<()> {
+    println!(rt; "{line}")?;
+    if line.is_empty() || line.starts_with('#') {
+        return Ok(());
+    }
+    let call = Call::of(rt.alloc(), line)?;
+    let said = answer(rt.alloc(), case, &call)?;
+    for line in said.as_str().lines() {
+        println!(rt; "    {line}")?;
+    }
+    Ok(())
+}
+
+fn main(rt: HostRuntime) -> Result<()> {
+    let cases = fs::read_to_string(&rt, "cases")?;
+    let mut case = start(rt.alloc())?;
+    for line in cases.as_str().lines() {
+        run_line(&rt, &mut case, line)?;
+    }
+    Ok(())
+}
