@@ -1,82 +1,87 @@
--- What is kept of a declaration and of an item, kind by kind.
+-- What is kept of a declaration and of an item, by what is done with it.
 use Rattle.std.specs.Prelude.{◌≡◌, Bool, true, false, List, [], ◌∷◌, refl, if◌then◌else◌}
 use Rattle.std.proofs.Common.{ap, ◌∙◌, sym, append-nil}
-use Rattle.fast_check_syntax.specs.declared.kind.Kind.TheVariants.{ExportDecl, VarDecl, FnDecl}
 use Rattle.fast_check_syntax.specs.declared.source.SourceRange.{SourceRange}
 use Rattle.fast_check_syntax.specs.declared.tree.Tree.{Tree}
-use Rattle.fast_check_syntax.specs.Shape.{◌is◌, differs, kind_of}
 use Rattle.fast_check_program_forms.specs.ModuleDecls.{ExportDecl-span, ExportDecl-decl}
-use Rattle.fast_check_skeleton.specs.Surroundings.{Surroundings}
-use Rattle.fast_check_signatures.specs.Seen.{Seen}
-use Rattle.fast_check_skeleton.specs.Visible.{public_declarators, statement_seen, is_standing, own_range, function_decl_seen, decl_seen, exported_seen}
+use Rattle.fast_check_ranges.specs.Ranges.{range_of_node}
 use Rattle.fast_check_signatures.specs.Answers.{answer_to, answer_of}
+use Rattle.fast_check_signatures.specs.Seen.{Seen, written}
+use Rattle.fast_check_skeleton.specs.declared.rules.DeclRule.{DeclRule}
+use Rattle.fast_check_skeleton.specs.declared.rules.DeclRule.TheVariants.{Variables, Function, Standing, Untaken}
+use Rattle.fast_check_skeleton.specs.declared.rules.ItemRule.TheVariants.{Declared, Exported, Silent}
+use Rattle.fast_check_skeleton.specs.Rules.{item_rule}
+use Rattle.fast_check_skeleton.specs.Surroundings.{Surroundings}
+use Rattle.fast_check_skeleton.specs.Visible.{function_decl_seen, decl_seen, exported_seen, seen_by_rule}
 use Rattle.fast_check_skeleton.proofs.Standing.{OneTree, decl_one, export_is}
-use Rattle.fast_check_transform.specs.Kept.{kept_statement, statement_faults, kept_function, function_faults, kept_decl, decl_faults, exported, kept_item, item_faults}
+use Rattle.fast_check_transform.specs.PartAnswers.{kept_statement, statement_faults, kept_function, function_faults, kept_decl, decl_faults, exported}
+use Rattle.fast_check_transform.specs.PartAnswers.{kept_item, item_faults}
 
-module _ (around : Surroundings) (place : SourceRange) (decl : Tree) where
-  abbrev seen_if : Bool → Bool → Bool → Bool → List Seen
-  seen_if b f s p =
-      if b then statement_seen decl (public_declarators around decl)
-      else (if f then (if p then function_decl_seen around place decl ∷ [] else []) else (if s then (if p then Seen.written decl ∷ [] else []) else []))
-
-  pub kept_VarDecl : kind_of decl is VarDecl ≡ true → kept_decl around place decl ≡ kept_statement around decl
+module _ (around : Surroundings) (place : SourceRange) (decl : Tree) (rule : DeclRule) where
+  pub kept_variables : rule ≡ Variables → kept_decl around place decl rule ≡ kept_statement around decl
   unfolding kept_decl kept_statement
-  kept_VarDecl e = ap (λ b. (answer_of (seen_if b (kind_of decl is FnDecl) (is_standing (kind_of decl)) (around.is_public place))).trees) e
+  kept_variables r = ap (λ x. (answer_of (decl_seen around place decl x)).trees) r
 
-  pub faults_VarDecl : kind_of decl is VarDecl ≡ true → decl_faults around place decl ≡ statement_faults around decl
+  pub faults_variables : rule ≡ Variables → decl_faults around place decl rule ≡ statement_faults around decl
   unfolding decl_faults statement_faults
-  faults_VarDecl e = ap (λ b. (answer_of (seen_if b (kind_of decl is FnDecl) (is_standing (kind_of decl)) (around.is_public place))).faults) e
+  faults_variables r = ap (λ x. (answer_of (decl_seen around place decl x)).faults) r
 
-  -- what is not public goes without a word
-  pub kept_private : kind_of decl is VarDecl ≡ false → around.is_public place ≡ false → kept_decl around place decl ≡ []
-  unfolding kept_decl
-  kept_private e p = (λ i. (answer_of (seen_if (e i) (kind_of decl is FnDecl) (is_standing (kind_of decl)) (p i))).trees) ∙ go (kind_of decl is FnDecl) (is_standing (kind_of decl))
-    where
-      go : (f s : Bool) → (answer_of (seen_if false f s false)).trees ≡ []
-      go true s = refl
-      go false true = refl
-      go false false = refl
+  abbrev if_public : Bool → Seen → List Seen
+  if_public p seen = if p then seen ∷ [] else []
 
-  pub faults_private : kind_of decl is VarDecl ≡ false → around.is_public place ≡ false → decl_faults around place decl ≡ []
-  unfolding decl_faults
-  faults_private e p = (λ i. (answer_of (seen_if (e i) (kind_of decl is FnDecl) (is_standing (kind_of decl)) (p i))).faults) ∙ go (kind_of decl is FnDecl) (is_standing (kind_of decl))
-    where
-      go : (f s : Bool) → (answer_of (seen_if false f s false)).faults ≡ []
-      go true s = refl
-      go false true = refl
-      go false false = refl
-
-  pub kept_FnDecl : kind_of decl is VarDecl ≡ false → kind_of decl is FnDecl ≡ true → around.is_public place ≡ true → kept_decl around place decl ≡ kept_function around place decl
+  pub kept_public : rule ≡ Function → around.is_public place ≡ true → kept_decl around place decl rule ≡ kept_function around place decl
   unfolding kept_decl kept_function
-  kept_FnDecl e f p = (λ i. (answer_of (seen_if (e i) (f i) (is_standing (kind_of decl)) (p i))).trees) ∙ append-nil _
+  kept_public r e =
+      ap (λ x. (answer_of (decl_seen around place decl x)).trees) r
+      ∙ (ap (λ p. (answer_of (if_public p (function_decl_seen around place decl))).trees) e ∙ append-nil _)
 
-  pub faults_FnDecl : kind_of decl is VarDecl ≡ false → kind_of decl is FnDecl ≡ true → around.is_public place ≡ true → decl_faults around place decl ≡ function_faults around place decl
+  pub faults_public : rule ≡ Function → around.is_public place ≡ true → decl_faults around place decl rule ≡ function_faults around place decl
   unfolding decl_faults function_faults
-  faults_FnDecl e f p = (λ i. (answer_of (seen_if (e i) (f i) (is_standing (kind_of decl)) (p i))).faults) ∙ append-nil _
+  faults_public r e =
+      ap (λ x. (answer_of (decl_seen around place decl x)).faults) r
+      ∙ (ap (λ p. (answer_of (if_public p (function_decl_seen around place decl))).faults) e ∙ append-nil _)
 
-  pub kept_standing : kind_of decl is VarDecl ≡ false → kind_of decl is FnDecl ≡ false → is_standing (kind_of decl) ≡ true → around.is_public place ≡ true → kept_decl around place decl ≡ decl ∷ []
+  pub kept_private : rule ≡ Function → around.is_public place ≡ false → kept_decl around place decl rule ≡ []
   unfolding kept_decl
-  kept_standing e f s p = λ i. (answer_of (seen_if (e i) (f i) (s i) (p i))).trees
+  kept_private r e =
+      ap (λ x. (answer_of (decl_seen around place decl x)).trees) r ∙ ap (λ p. (answer_of (if_public p (function_decl_seen around place decl))).trees) e
 
-  pub kept_other : kind_of decl is VarDecl ≡ false → kind_of decl is FnDecl ≡ false → is_standing (kind_of decl) ≡ false → kept_decl around place decl ≡ []
-  unfolding kept_decl
-  kept_other e f s = λ i. (answer_of (seen_if (e i) (f i) (s i) (around.is_public place))).trees
-
-  -- no declaration but a variable statement or a function is at fault
-  pub faults_other : kind_of decl is VarDecl ≡ false → kind_of decl is FnDecl ≡ false → decl_faults around place decl ≡ []
+  pub faults_private : rule ≡ Function → around.is_public place ≡ false → decl_faults around place decl rule ≡ []
   unfolding decl_faults
-  faults_other e f = (λ i. (answer_of (seen_if (e i) (f i) (is_standing (kind_of decl)) (around.is_public place))).faults) ∙ go (is_standing (kind_of decl)) (around.is_public place)
+  faults_private r e =
+      ap (λ x. (answer_of (decl_seen around place decl x)).faults) r ∙ ap (λ p. (answer_of (if_public p (function_decl_seen around place decl))).faults) e
+
+  pub kept_standing : rule ≡ Standing → around.is_public place ≡ true → kept_decl around place decl rule ≡ decl ∷ []
+  unfolding kept_decl
+  kept_standing r e = ap (λ x. (answer_of (decl_seen around place decl x)).trees) r ∙ ap (λ p. (answer_of (if_public p (written decl))).trees) e
+
+  pub kept_private_standing : rule ≡ Standing → around.is_public place ≡ false → kept_decl around place decl rule ≡ []
+  unfolding kept_decl
+  kept_private_standing r e = ap (λ x. (answer_of (decl_seen around place decl x)).trees) r ∙ ap (λ p. (answer_of (if_public p (written decl))).trees) e
+
+  -- what stands as it is written is at no fault
+  pub faults_standing : rule ≡ Standing → decl_faults around place decl rule ≡ []
+  unfolding decl_faults
+  faults_standing r = ap (λ x. (answer_of (decl_seen around place decl x)).faults) r ∙ go (around.is_public place)
     where
-      go : (s p : Bool) → (answer_of (seen_if false false s p)).faults ≡ []
-      go true true = refl
-      go true false = refl
-      go false p = refl
+      go : (p : Bool) → (answer_of (if_public p (written decl))).faults ≡ []
+      go true = refl
+      go false = refl
+
+  pub kept_untaken : rule ≡ Untaken → kept_decl around place decl rule ≡ []
+  unfolding kept_decl
+  kept_untaken r = ap (λ x. (answer_of (decl_seen around place decl x)).trees) r
+
+  pub faults_untaken : rule ≡ Untaken → decl_faults around place decl rule ≡ []
+  unfolding decl_faults
+  faults_untaken r = ap (λ x. (answer_of (decl_seen around place decl x)).faults) r
 
 module _ (around : Surroundings) (item : Tree) where
   -- what is seen of a declaration is one form at most
   export_trees : (ss : List Seen) → OneTree around ss → (answer_of (exported_seen item ss)).trees ≡ exported item (answer_of ss).trees
   export_trees [] one = refl
-  export_trees (s ∷ []) one = ap (λ a. a.trees) (export_is around item s one) ∙ sym (ap (exported item) (append-nil (answer_to s).trees ∙ one.1.1))
+  export_trees (s ∷ []) one =
+      ap (λ a. a.trees) (export_is around item s one) ∙ sym (ap (exported item) (append-nil (answer_to s).trees ∙ one.1.1))
   export_trees (s ∷ t ∷ ss) one = absurd one
 
   export_faults : (ss : List Seen) → OneTree around ss → (answer_of (exported_seen item ss)).faults ≡ (answer_of ss).faults
@@ -84,23 +89,30 @@ module _ (around : Surroundings) (item : Tree) where
   export_faults (s ∷ []) one = ap (λ a. a.faults) (export_is around item s one) ∙ sym (append-nil (answer_to s).faults)
   export_faults (s ∷ t ∷ ss) one = absurd one
 
-  abbrev item_if : Bool → List Seen
-  item_if b = if b then exported_seen item (decl_seen around (ExportDecl-span item) (ExportDecl-decl item)) else decl_seen around (own_range item) item
-
-  pub kept_ExportDecl : kind_of item ≡ ExportDecl → kept_item around item ≡ exported item (kept_decl around (ExportDecl-span item) (ExportDecl-decl item))
+  pub kept_exported : (rule : DeclRule) → item_rule item ≡ Exported rule →
+      kept_item around item ≡ exported item (kept_decl around (ExportDecl-span item) (ExportDecl-decl item) rule)
   unfolding kept_item kept_decl
-  kept_ExportDecl e = ap (λ k. (answer_of (item_if (k is ExportDecl))).trees) e ∙
-      export_trees (decl_seen around (ExportDecl-span item) (ExportDecl-decl item)) (decl_one around (ExportDecl-span item) (ExportDecl-decl item))
+  kept_exported rule e = ap (λ r. (answer_of (seen_by_rule around item r)).trees) e ∙
+      export_trees (decl_seen around (ExportDecl-span item) (ExportDecl-decl item) rule) (decl_one around (ExportDecl-span item) (ExportDecl-decl item) rule)
 
-  pub faults_ExportDecl : kind_of item ≡ ExportDecl → item_faults around item ≡ decl_faults around (ExportDecl-span item) (ExportDecl-decl item)
+  pub faults_exported : (rule : DeclRule) → item_rule item ≡ Exported rule →
+      item_faults around item ≡ decl_faults around (ExportDecl-span item) (ExportDecl-decl item) rule
   unfolding item_faults decl_faults
-  faults_ExportDecl e = ap (λ k. (answer_of (item_if (k is ExportDecl))).faults) e ∙
-      export_faults (decl_seen around (ExportDecl-span item) (ExportDecl-decl item)) (decl_one around (ExportDecl-span item) (ExportDecl-decl item))
+  faults_exported rule e = ap (λ r. (answer_of (seen_by_rule around item r)).faults) e ∙
+      export_faults (decl_seen around (ExportDecl-span item) (ExportDecl-decl item) rule) (decl_one around (ExportDecl-span item) (ExportDecl-decl item) rule)
 
-  pub kept_item_other : (kind_of item ≡ ExportDecl → ⊥) → kept_item around item ≡ kept_decl around (own_range item) item
+  pub kept_declared : (rule : DeclRule) → item_rule item ≡ Declared rule → kept_item around item ≡ kept_decl around (range_of_node item) item rule
   unfolding kept_item kept_decl
-  kept_item_other n = ap (λ b. (answer_of (item_if b)).trees) (differs (kind_of item) ExportDecl n)
+  kept_declared rule e = ap (λ r. (answer_of (seen_by_rule around item r)).trees) e
 
-  pub item_faults_other : (kind_of item ≡ ExportDecl → ⊥) → item_faults around item ≡ decl_faults around (own_range item) item
+  pub faults_declared : (rule : DeclRule) → item_rule item ≡ Declared rule → item_faults around item ≡ decl_faults around (range_of_node item) item rule
   unfolding item_faults decl_faults
-  item_faults_other n = ap (λ b. (answer_of (item_if b)).faults) (differs (kind_of item) ExportDecl n)
+  faults_declared rule e = ap (λ r. (answer_of (seen_by_rule around item r)).faults) e
+
+  pub kept_silent : item_rule item ≡ Silent → kept_item around item ≡ []
+  unfolding kept_item
+  kept_silent e = ap (λ r. (answer_of (seen_by_rule around item r)).trees) e
+
+  pub faults_silent : item_rule item ≡ Silent → item_faults around item ≡ []
+  unfolding item_faults
+  faults_silent e = ap (λ r. (answer_of (seen_by_rule around item r)).faults) e

@@ -25,7 +25,7 @@ use Rattle.fast_check_values.specs.Kept as v
 use Rattle.fast_check_skeleton.specs.Mutability.{mutability_of}
 use Rattle.fast_check_skeleton.specs.Surroundings.{Surroundings}
 use Rattle.fast_check_skeleton.specs.Visible.{declared_ident, declared_type, by_inferred, kept_value_seen, ident_declarator_seen, declarator_seen, is_ambient, is_public_declarator, signature_of}
-use Rattle.fast_check_transform.specs.Kept.{valued, valued_tree, valued_faults, value_answer, retyped, kept_ident, ident_faults, signature_tree, signature_faults, kept_typed, typed_faults, kept_declarator, declarator_fault, kept_function, function_faults}
+use Rattle.fast_check_transform.specs.PartAnswers.{valued, valued_tree, valued_faults, value_answer, retyped, kept_ident, ident_faults, signature_tree, signature_faults, kept_typed, typed_faults, kept_declarator, declarator_fault, kept_function, function_faults}
 
 module _ (around : Surroundings) (place : SourceRange) (value : Tree) where
   abbrev value_if : Bool → Seen

@@ -12,7 +12,7 @@ use Rattle.fast_check_signatures.specs.Answers.{answer_to, answer_of}
 use Rattle.fast_check_skeleton.specs.Skeleton.{skeleton_of, faults_of}
 use Rattle.fast_check_program_forms.specs.Programs.{Module-span, Module-body, Module-shebang, module'}
 use Rattle.fast_check_skeleton.proofs.Standing.{AllStay, answer_append, declarator_one, declarators_stay, statement_is}
-use Rattle.fast_check_transform.specs.Kept.{kept_declarators, kept_declarator, declarator_faults, declarator_fault, with_declarators, kept_statement, statement_faults, kept_item, item_faults, kept_items, faults_of_items}
+use Rattle.fast_check_transform.specs.PartAnswers.{kept_declarators, kept_declarator, declarator_faults, declarator_fault, with_declarators, kept_statement, statement_faults, kept_item, item_faults, kept_items, faults_of_items}
 
 pub trees_all : (f : Tree → List Seen) (ts : List Tree) → (answer_of (flat_map f ts)).trees ≡ flat_map (λ t. (answer_of (f t)).trees) ts
 trees_all f [] = refl

@@ -1,37 +1,29 @@
 -- The starts of the items that go, item by item.
-use Rattle.std.specs.Prelude.{◌≡◌, ℕ, ◌+◌, ◌<◌, Bool, true, false, List, [], ◌∷◌, ◌++◌, flat_map, length, take, refl, if◌then◌else◌}
+use Rattle.std.specs.Prelude.{◌≡◌, ℕ, ◌+◌, ◌<◌, List, [], ◌∷◌, ◌++◌, flat_map, length, take, refl}
 use lib.ListN.{get_or}
 use Rattle.std.proofs.Common.{ap, ◌∙◌, sym, append-nil}
 use Rattle.std.proofs.lemmas.List.{take_more}
 use Rattle.std.proofs.lemmas.List.Concat.{flat_map-append}
-use Rattle.fast_check_syntax.specs.declared.kind.Kind.TheVariants.{ExportDecl}
 use Rattle.fast_check_syntax.specs.declared.source.SourcePos.{SourcePos}
 use Rattle.fast_check_syntax.specs.declared.tree.Tree.{Tree}
-use Rattle.fast_check_syntax.specs.Shape.{◌is◌, kind_of}
 use Rattle.fast_check_comments.specs.declared.comments.Comments.{Comments}
 use Rattle.fast_check_comments.specs.Kept.{without_leading}
-use Rattle.fast_check_program_forms.specs.ModuleDecls.{ExportDecl-span, ExportDecl-decl}
 use Rattle.fast_check_skeleton.specs.Surroundings.{Surroundings}
 use Rattle.fast_check_signatures.specs.Seen.{Seen}
-use Rattle.fast_check_skeleton.specs.Visible.{own_range, decl_seen, exported_seen, item_seen}
+use Rattle.fast_check_ranges.specs.Ranges.{range_of_node}
+use Rattle.fast_check_skeleton.specs.Rules.{item_rule}
+use Rattle.fast_check_skeleton.specs.Visible.{item_seen}
 use Rattle.fast_check_signatures.specs.Answers.{answer_to, answer_of}
 use Rattle.fast_check_skeleton.specs.KeptComments.{start_of_unseen, removed_start, without_all_leading}
-use Rattle.fast_check_skeleton.proofs.Standing.{OneTree, decl_one, export_one}
-use Rattle.fast_check_transform.specs.Kept.{kept_item}
+use Rattle.fast_check_skeleton.proofs.Standing.{OneTree, item_one}
+use Rattle.fast_check_transform.specs.PartAnswers.{kept_item}
 
 pub without_append : (xs ys : List SourcePos) (c : Comments) → without_all_leading (xs ++ ys) c ≡ without_all_leading ys (without_all_leading xs c)
 without_append [] ys c = refl
 without_append (x ∷ xs) ys c = without_append xs ys (without_leading x c)
 
 module _ (around : Surroundings) (item : Tree) where
-  item_one : OneTree around (item_seen around item)
-  item_one = go (kind_of item is ExportDecl)
-    where
-      go : (b : Bool) → OneTree around (if b then exported_seen item (decl_seen around (ExportDecl-span item) (ExportDecl-decl item)) else decl_seen around (own_range item) item)
-      go true = export_one around item (decl_seen around (ExportDecl-span item) (ExportDecl-decl item)) (decl_one around (ExportDecl-span item) (ExportDecl-decl item))
-      go false = decl_one around (own_range item) item
-
-  unseen : (ss : List Seen) → OneTree around ss → (answer_of ss).trees ≡ [] → start_of_unseen item ss ≡ (own_range item).start ∷ []
+  unseen : (ss : List Seen) → OneTree around ss → (answer_of ss).trees ≡ [] → start_of_unseen item ss ≡ (range_of_node item).start ∷ []
   unseen [] one e = refl
   unseen (s ∷ []) one e = let f : one.1.0 ∷ [] ≡ [] = sym one.1.1 ∙ (sym (append-nil (answer_to s).trees) ∙ e) in cc
   unseen (s ∷ t ∷ ss) one e = absurd one
@@ -40,9 +32,9 @@ module _ (around : Surroundings) (item : Tree) where
   seen_one [] t e = cc
   seen_one (s ∷ ss) t e = refl
 
-  pub removed_if_none : kept_item around item ≡ [] → removed_start around item ≡ (own_range item).start ∷ []
+  pub removed_if_none : kept_item around item ≡ [] → removed_start around item ≡ (range_of_node item).start ∷ []
   unfolding kept_item
-  removed_if_none e = unseen (item_seen around item) item_one e
+  removed_if_none e = unseen (item_seen around item) (item_one around item (item_rule item)) e
 
   pub removed_if_some : (t : Tree) → kept_item around item ≡ t ∷ [] → removed_start around item ≡ []
   unfolding kept_item

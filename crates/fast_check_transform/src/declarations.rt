@@ -4,7 +4,7 @@ ghost use Rattle.fast_check_syntax.specs.declared.tree.Tree.{Absent};
 ghost use Rattle.fast_check_skeleton.specs.Mutability.{mutability_of};
 ghost use Rattle.fast_check_signatures.specs.Answers.{kept_tree};
 ghost use Rattle.fast_check_skeleton.specs.Visible.{is_ambient};
-ghost use Rattle.fast_check_transform.specs.Kept.{Asked-around, as_list, retyped, value_answer, valued_tree, valued_faults, kept_ident, ident_faults, kept_typed, typed_faults, kept_declarator, declarator_fault, kept_declarators, declarator_faults, kept_statement, statement_faults};
+ghost use Rattle.fast_check_transform.specs.PartAnswers.{Asked-around, as_list, retyped, value_answer, valued_tree, valued_faults, kept_ident, ident_faults, kept_typed, typed_faults, kept_declarator, declarator_fault, kept_declarators, declarator_faults, kept_statement, statement_faults};
 
 use crate::asked::Asked;
 use fast_check_program_forms::{BindingIdent, Ident};

@@ -6,14 +6,15 @@ ghost use Rattle.fast_check_skeleton.specs.Grammar.{IsSkeleton};
 ghost use Rattle.fast_check_skeleton.specs.KeptComments.{removed_start, removed_starts, without_all_leading};
 ghost use Rattle.fast_check_skeleton.specs.Skeleton.{skeleton_of, faults_of};
 ghost use Rattle.fast_check_tables.specs.MediaType.{is_declaration};
-ghost use Rattle.fast_check_transform.specs.Kept.{Asked-around, kept_items, faults_of_items};
+ghost use Rattle.fast_check_transform.specs.PartAnswers.{Asked-around, kept_items, faults_of_items};
 ghost use Rattle.fast_check_transform.specs.Transform.{IsCarried, skeleton, comments, faults, told, IsDiagnosticOf, AreDiagnosticsOf};
 
 use crate::asked::Asked;
-use crate::items::{keep_item, own_range};
+use crate::items::keep_item;
 use fast_check_comments::{Comments, CommentsMut};
 use fast_check_names::WorkspaceMember;
 use fast_check_program_forms::Module;
+use fast_check_ranges::range_of_node;
 use fast_check_signatures::{Fault, FaultKind};
 use fast_check_syntax::{Atom, Items, Part, SourceRange, Tree};
 use fast_check_tables::{
@@ -148,7 +149,7 @@ fn keep_items(
         let item = item.read();
         match keep_item(alloc, asked, item, faults)? {
             None => {
-                comments.remove_leading(own_range(item).start);
+                comments.remove_leading(range_of_node(item).start);
                 continue;
             }
             Some(tree) => items.push(tree)?,

@@ -2,7 +2,7 @@ use Rattle.std.proofs.Common.{◌++◌, ◌∙◌, ap, sym, append-nil, arith}
 use Rattle.std.proofs.lemmas.Result.{IfOk-weaker}
 use Rattle.fast_check_syntax.specs.Part.{seen}
 use Rattle.fast_check_tree.specs.InferredType.{inferred_type}
-use Rattle.fast_check_transform.specs.Kept.{Asked-around}
+use Rattle.fast_check_transform.specs.PartAnswers.{Asked-around}
 use Rattle.fast_check_transform.proofs.Declared.{faults_written, faults_shown, written_ident, shown_ident, valued_ident, faults_valued}
 use Rattle.fast_check_transform.proofs.declarations.ident_declarator.Goals as goal
 

@@ -1,6 +1,6 @@
 use Rattle.std.proofs.Common.{◌++◌, ◌∙◌, ap, sym, append-nil, arith}
 use Rattle.fast_check_syntax.specs.Part.{seen}
-use Rattle.fast_check_transform.specs.Kept.{Asked-around}
+use Rattle.fast_check_transform.specs.PartAnswers.{Asked-around}
 use Rattle.fast_check_transform.proofs.Declared.{fault_not_public, fault_ambient, kept_not_public, kept_ambient, kept_public, fault_public}
 use Rattle.fast_check_transform.proofs.declarations.keep_declarator.Goals as goal
 

@@ -1,6 +1,6 @@
 use Rattle.std.proofs.Common.{◌++◌, ◌∙◌, ap, sym, append-nil, arith}
 use Rattle.fast_check_syntax.specs.Part.{seen}
-use Rattle.fast_check_transform.specs.Kept.{Asked-around}
+use Rattle.fast_check_transform.specs.PartAnswers.{Asked-around}
 use Rattle.fast_check_transform.proofs.Declared.{absent_faults, absent_value, present_value, present_faults}
 use Rattle.fast_check_transform.proofs.declarations.keep_value.Goals as goal
 

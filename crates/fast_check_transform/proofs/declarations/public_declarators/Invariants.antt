@@ -1,7 +1,7 @@
 use Rattle.std.proofs.Common.{◌≡◌, ◌++◌, take}
 use Rattle.std.specs.List.{flat_map}
 use Rattle.fast_check_syntax.specs.Part.{seen}
-use Rattle.fast_check_transform.specs.Kept.{Asked-around, kept_declarator, declarator_fault}
+use Rattle.fast_check_transform.specs.PartAnswers.{Asked-around, kept_declarator, declarator_fault}
 use Rattle.fast_check_transform.proofs.declarations.public_declarators.Given as goal
 
 abbrev pub invariant-loop-declarator : goal.invariant-loop-declarator

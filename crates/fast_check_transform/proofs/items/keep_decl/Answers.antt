@@ -1,38 +1,50 @@
-use Rattle.std.proofs.Common.{◌++◌, ◌∙◌, ap, sym, append-nil, arith}
+use Rattle.std.proofs.Common.{◌≡◌, ◌++◌, [], List, ◌∙◌, ap, sym, append-nil, arith}
+use Rattle.fast_check_signatures.specs.declared.fault.Fault.{Fault}
 use Rattle.fast_check_syntax.specs.Part.{seen}
-use Rattle.fast_check_transform.specs.Kept.{Asked-around}
-use Rattle.fast_check_transform.proofs.ByKind.{faults_private, faults_other, kept_VarDecl, faults_VarDecl, kept_private, kept_FnDecl, faults_FnDecl, kept_standing, kept_other}
+use Rattle.fast_check_transform.specs.PartAnswers.{Asked-around}
+use Rattle.fast_check_transform.proofs.ByKind.{kept_variables, faults_variables, kept_public, faults_public, kept_private, faults_private}
+use Rattle.fast_check_transform.proofs.ByKind.{kept_standing, kept_private_standing, faults_standing, kept_untaken, faults_untaken}
 use Rattle.fast_check_transform.proofs.items.keep_decl.Goals as goal
 
-pub returns-then-not-contains-clause-faults : goal.returns-then-not-contains-clause-faults
-returns-then-not-contains-clause-faults c =
-    sym (append-nil c.args.faults.now.items) ∙ ap (λ f. c.args.faults.now.items ++ f) (sym (faults_private (Asked-around c.args.asked) c.args.place (seen c.args.decl) (cc) (cc)))
-
-pub returns-then-is_standing-clause-faults : goal.returns-then-is_standing-clause-faults
-returns-then-is_standing-clause-faults c =
-    sym (append-nil c.args.faults.now.items) ∙ ap (λ f. c.args.faults.now.items ++ f) (sym (faults_other (Asked-around c.args.asked) c.args.place (seen c.args.decl) (cc) (cc)))
-
-pub returns-clause-faults : goal.returns-clause-faults
-returns-clause-faults c =
-    sym (append-nil c.args.faults.now.items) ∙ ap (λ f. c.args.faults.now.items ++ f) (sym (faults_other (Asked-around c.args.asked) c.args.place (seen c.args.decl) (cc) (cc)))
-
-pub returns-then-eq-clause-kept : goal.returns-then-eq-clause-kept
-returns-then-eq-clause-kept c = grind (arith, kept_VarDecl)
-
-pub returns-then-eq-clause-faults : goal.returns-then-eq-clause-faults
-returns-then-eq-clause-faults c = grind (arith, faults_VarDecl)
+none : (old added : List Fault) → added ≡ [] → old ≡ old ++ added
+none old added e = sym (append-nil old) ∙ ap (λ f. old ++ f) (sym e)
 
 pub returns-then-not-contains-clause-kept : goal.returns-then-not-contains-clause-kept
 returns-then-not-contains-clause-kept c = grind (arith, kept_private)
 
-pub returns-then-eq-2-clause-kept : goal.returns-then-eq-2-clause-kept
-returns-then-eq-2-clause-kept c = grind (arith, kept_FnDecl)
+pub returns-then-not-contains-clause-faults : goal.returns-then-not-contains-clause-faults
+returns-then-not-contains-clause-faults c =
+    none c.args.faults.now.items _ (faults_private (Asked-around c.args.asked) c.args.place (seen c.args.decl) c.args.rule (cc) (cc))
 
-pub returns-then-eq-2-clause-faults : goal.returns-then-eq-2-clause-faults
-returns-then-eq-2-clause-faults c = grind (arith, faults_FnDecl)
+pub returns-then-not-contains-2-clause-kept : goal.returns-then-not-contains-2-clause-kept
+returns-then-not-contains-2-clause-kept c = grind (arith, kept_private_standing)
 
-pub returns-then-is_standing-clause-kept : goal.returns-then-is_standing-clause-kept
-returns-then-is_standing-clause-kept c = grind (arith, kept_standing)
+pub returns-then-not-contains-2-clause-faults : goal.returns-then-not-contains-2-clause-faults
+returns-then-not-contains-2-clause-faults c =
+    none c.args.faults.now.items _ (faults_standing (Asked-around c.args.asked) c.args.place (seen c.args.decl) c.args.rule (cc))
 
-pub returns-clause-kept : goal.returns-clause-kept
-returns-clause-kept c = grind (arith, kept_other)
+pub returns-in-Variables-clause-kept : goal.returns-in-Variables-clause-kept
+returns-in-Variables-clause-kept c = grind (arith, kept_variables)
+
+pub returns-in-Variables-clause-faults : goal.returns-in-Variables-clause-faults
+returns-in-Variables-clause-faults c = grind (arith, faults_variables)
+
+pub returns-in_ok-keep_function-in-Function-clause-kept : goal.returns-in_ok-keep_function-in-Function-clause-kept
+returns-in_ok-keep_function-in-Function-clause-kept c = grind (arith, kept_public)
+
+pub returns-in_ok-keep_function-in-Function-clause-faults : goal.returns-in_ok-keep_function-in-Function-clause-faults
+returns-in_ok-keep_function-in-Function-clause-faults c = grind (arith, faults_public)
+
+pub returns-in_ok-to_tree-in-Standing-clause-kept : goal.returns-in_ok-to_tree-in-Standing-clause-kept
+returns-in_ok-to_tree-in-Standing-clause-kept c = grind (arith, kept_standing)
+
+pub returns-in_ok-to_tree-in-Standing-clause-faults : goal.returns-in_ok-to_tree-in-Standing-clause-faults
+returns-in_ok-to_tree-in-Standing-clause-faults c =
+    none c.args.faults.now.items _ (faults_standing (Asked-around c.args.asked) c.args.place (seen c.args.decl) c.args.rule (cc))
+
+pub returns-in-Untaken-clause-kept : goal.returns-in-Untaken-clause-kept
+returns-in-Untaken-clause-kept c = grind (arith, kept_untaken)
+
+pub returns-in-Untaken-clause-faults : goal.returns-in-Untaken-clause-faults
+returns-in-Untaken-clause-faults c =
+    none c.args.faults.now.items _ (faults_untaken (Asked-around c.args.asked) c.args.place (seen c.args.decl) c.args.rule (cc))

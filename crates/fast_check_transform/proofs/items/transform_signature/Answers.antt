@@ -1,7 +1,7 @@
 use Rattle.std.proofs.Common.{◌++◌, ◌∙◌, ap, sym, append-nil, arith}
 use Rattle.std.proofs.lemmas.Result.{IfOk-weaker}
 use Rattle.fast_check_syntax.specs.Part.{seen}
-use Rattle.fast_check_transform.specs.Kept.{Asked-around}
+use Rattle.fast_check_transform.specs.PartAnswers.{Asked-around}
 use Rattle.fast_check_transform.proofs.Declared.{implementation_faults, implementation_tree, other_tree, other_faults}
 use Rattle.fast_check_transform.proofs.items.transform_signature.Goals as goal
 

@@ -1,9 +1,9 @@
 use Rattle.std.proofs.Common.{rules, arith, ap, sym, ◌∙◌, ◌∷◌, []}
 use Rattle.fast_check_comments.specs.Kept.{without_leading}
-use Rattle.fast_check_skeleton.specs.Visible.{own_range}
+use Rattle.fast_check_ranges.specs.Ranges.{range_of_node}
 use Rattle.std.proofs.lemmas.Grind.{common_steps}
 use Rattle.fast_check_syntax.specs.Part.{seen}
-use Rattle.fast_check_transform.specs.Kept.{Asked-around, as_list}
+use Rattle.fast_check_transform.specs.PartAnswers.{Asked-around, as_list}
 use Rattle.fast_check_transform.proofs.Fused.{kept_items_is, faults_of_items_is}
 use Rattle.fast_check_transform.proofs.Removed.{removed_if_none, removed_if_some, one_more}
 use Rattle.fast_check_transform.proofs.transformer.keep_items.Goals as goal
@@ -18,11 +18,11 @@ pub loop-item-preserved-in-None : goal.loop-item-preserved-in-None
 loop-item-preserved-in-None c =
     let item = seen c.read-item.result in
     let none = sym c.in_ok-keep_item.ensures.kept ∙ ap as_list c.in-None.is in
-    let start = ap (λ r. r.start) c.own_range.ensures in
+    let start = ap (λ r. r.start) c.range_of_node.ensures in
     record {
       items = grind (arith, common_steps);
       comments = c.remove_leading.ensures ∙ ((λ i. without_leading (start i) (c.loop-item.invariant.comments i))
-          ∙ sym (one_more (Asked-around c.args.asked) c.parts-item-items.result.now c.loop-item.item-index item ((own_range item).start ∷ []) c.args.comments.now
+          ∙ sym (one_more (Asked-around c.args.asked) c.parts-item-items.result.now c.loop-item.item-index item ((range_of_node item).start ∷ []) c.args.comments.now
           c.loop-item-test.true (search rules) (removed_if_none (Asked-around c.args.asked) item none)));
       faults = grind (arith, common_steps);
     }

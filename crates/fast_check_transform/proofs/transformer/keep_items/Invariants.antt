@@ -1,7 +1,7 @@
 use Rattle.std.proofs.Common.{◌≡◌, ◌++◌, take}
 use Rattle.std.specs.List.{flat_map}
 use Rattle.fast_check_skeleton.specs.KeptComments.{removed_start, without_all_leading}
-use Rattle.fast_check_transform.specs.Kept.{Asked-around, kept_item, item_faults}
+use Rattle.fast_check_transform.specs.PartAnswers.{Asked-around, kept_item, item_faults}
 use Rattle.fast_check_transform.proofs.transformer.keep_items.Given as goal
 
 abbrev pub invariant-loop-item : goal.invariant-loop-item

@@ -1,17 +1,20 @@
--- What the parts of a transform keep: the answer to what is seen of each part of a module.
+-- The answers to what is seen of the parts of a module.
 use Rattle.std.specs.Prelude.{Option, Some, None, List, [], ◌∷◌, ◌++◌, if◌then◌else◌}
 use Rattle.std.specs.List.{flat_map}
 use Rattle.fast_check_syntax.specs.declared.source.SourceRange.{SourceRange}
 use Rattle.fast_check_syntax.specs.declared.tree.Tree.{Tree}
 use Rattle.fast_check_syntax.specs.Shape.{list, parts}
 use Rattle.fast_check_program_forms.specs.ModuleDecls.{ExportDecl-span, export_decl}
-use Rattle.fast_check_statement_forms.specs.Declarations.{VarDecl-span, VarDecl-ctxt, VarDecl-kind, VarDecl-declare, var_decl, VarDeclarator-span, VarDeclarator-init, VarDeclarator-definite, var_declarator}
+use Rattle.fast_check_statement_forms.specs.Declarations.{VarDecl-span, VarDecl-ctxt, VarDecl-kind, VarDecl-declare, var_decl}
+use Rattle.fast_check_statement_forms.specs.Declarations.{VarDeclarator-span, VarDeclarator-init, VarDeclarator-definite, var_declarator}
 use Rattle.fast_check_program_forms.specs.Names.{Ident-span, binding_ident}
 use Rattle.fast_check_tables.specs.PublicRanges.{is_public, is_implementation}
 use Rattle.fast_check_tree.specs.declared.helpers.literal_type.DeclMutabilityKind.{DeclMutabilityKind}
 use Rattle.fast_check_signatures.specs.declared.fault.Fault.{Fault}
+use Rattle.fast_check_skeleton.specs.declared.rules.DeclRule.{DeclRule}
 use Rattle.fast_check_skeleton.specs.Surroundings.{Surroundings}
-use Rattle.fast_check_skeleton.specs.Visible.{declared_ident, ident_declarator_seen, declarator_seen, kept_value_seen, signature_of, function_decl_seen, public_declarator, public_declarators, decl_seen, item_seen, statement_seen}
+use Rattle.fast_check_skeleton.specs.Visible.{declared_ident, ident_declarator_seen, declarator_seen, kept_value_seen, signature_of, function_decl_seen}
+use Rattle.fast_check_skeleton.specs.Visible.{public_declarator, public_declarators, decl_seen, item_seen, statement_seen}
 use Rattle.fast_check_signatures.specs.declared.fault.FaultKind.TheVariants.{MissingExplicitType}
 use Rattle.fast_check_signatures.specs.Answers.{Answer, first_or_absent, fault_at, answer_to, answer_of}
 use Rattle.fast_check_transform.specs.declared.asked.Asked.{Asked}
@@ -86,12 +89,12 @@ kept_statement around statement = (answer_of (statement_seen statement (public_d
 unfoldable pub statement_faults : Surroundings → Tree → List Fault
 statement_faults around statement = (answer_of (statement_seen statement (public_declarators around statement))).faults
 
--- of a declaration, which is public by the range of its export, or else by its own
-unfoldable pub kept_decl : Surroundings → SourceRange → Tree → List Tree
-kept_decl around place decl = (answer_of (decl_seen around place decl)).trees
+-- of a declaration, by what is done with it; it is public by the range of its export, or else by its own
+unfoldable pub kept_decl : Surroundings → SourceRange → Tree → DeclRule → List Tree
+kept_decl around place decl rule = (answer_of (decl_seen around place decl rule)).trees
 
-unfoldable pub decl_faults : Surroundings → SourceRange → Tree → List Fault
-decl_faults around place decl = (answer_of (decl_seen around place decl)).faults
+unfoldable pub decl_faults : Surroundings → SourceRange → Tree → DeclRule → List Fault
+decl_faults around place decl rule = (answer_of (decl_seen around place decl rule)).faults
 
 -- of the signature of a function that is public by `place`
 unfoldable pub signature_tree : Surroundings → SourceRange → Tree → Tree
