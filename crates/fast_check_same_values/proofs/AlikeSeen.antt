@@ -10,9 +10,9 @@ use Rattle.fast_check_syntax.specs.Moves.{Renaming, IsRenaming, IsPair, partners
 use Rattle.fast_check_syntax.specs.Same.{SameTree, SameRange}
 use Rattle.fast_check_syntax.proofs.Same.{tree_to, range_to}
 use Rattle.fast_check_signatures.specs.declared.fault.FaultKind.{FaultKind}
-use Rattle.fast_check_signatures.specs.Seen.{Seen, written, range, scope, round, faulty, seens}
+use Rattle.fast_check_signatures.specs.Seen.{Seen, written, range, scope, flag, round, listed, faulty, seens}
 use Rattle.fast_check_signatures.proofs.MovedParts.{moved_seen, moved_seens, seens_moved}
-use Rattle.fast_check_same_values.proofs.AlikeTrees.{TreeAlike, RangeAlike, range_leaf_alike, scope_leaf_alike}
+use Rattle.fast_check_same_values.proofs.AlikeTrees.{TreeAlike, RangeAlike, range_leaf_alike, scope_leaf_alike, flag_leaf_alike}
 
 module _ (r : Renaming) (ok : IsRenaming r) where
   abbrev pub Alike : Seen → Seen → Type 0
@@ -32,6 +32,9 @@ module _ (r : Renaming) (ok : IsRenaming r) where
 
   pub scope_alike : (a b : SyntaxContext) → IsPair r.scopes a.0 b.0 → Alike (scope a) (scope b)
   scope_alike a b p = ap written (scope_leaf_alike r ok a b p)
+
+  pub flag_alike : (x y : Bool) → x ≡ y → Alike (flag x) (flag y)
+  flag_alike x y e = ap written (flag_leaf_alike r ok x y e)
 
   pub faulty_alike : (kind : FaultKind) (a b : SourceRange) → RangeAlike r ok a b → Alike (faulty kind a) (faulty kind b)
   faulty_alike kind a b e = ap (faulty kind) e
@@ -56,3 +59,6 @@ module _ (r : Renaming) (ok : IsRenaming r) where
 
   pub round_alike : (k : Kind) (ss ts : List Seen) → AllAlike ss ts → Alike (round k (seens ss)) (round k (seens ts))
   round_alike k ss ts p = ap (round k) (seens_alike ss ts p)
+
+  pub listed_alike : (ss ts : List Seen) → AllAlike ss ts → Alike (listed (seens ss)) (listed (seens ts))
+  listed_alike ss ts p = ap listed (seens_alike ss ts p)

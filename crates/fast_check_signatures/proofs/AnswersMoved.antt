@@ -20,11 +20,11 @@ use Rattle.fast_check_signatures.specs.declared.fault.FaultKind.TheVariants.{Mis
 use Rattle.fast_check_signatures.specs.Functions.{return_type_missing}
 use Rattle.fast_check_signatures.specs.NewNodes.{function_body, arrow_body}
 use Rattle.fast_check_signatures.specs.Seen.{DeclaratorHead, DefaultHead, FunctionHead, ArrowHead}
-use Rattle.fast_check_signatures.specs.Seen.{Seen, written, round, declarator, default, function, typed_arrow, valued_arrow, faulty, refused}
+use Rattle.fast_check_signatures.specs.Seen.{Seen, written, round, listed, declarator, default, function, typed_arrow, valued_arrow, faulty, refused}
 use Rattle.fast_check_signatures.specs.Seen.{Seens, end, also, seens}
 use Rattle.fast_check_signatures.specs.Answers.{Answer, fault_at, faultless, made, joined, settled, unless_stays, demanded, before, visited, with_tree}
 use Rattle.fast_check_signatures.specs.Answers.{valued_declarator, signed_function, signed_arrow, kept_arrow}
-use Rattle.fast_check_signatures.specs.Answers.{round_answer, declarator_answer, default_answer, function_answer, typed_arrow_answer, valued_arrow_answer}
+use Rattle.fast_check_signatures.specs.Answers.{round_answer, list_answer, declarator_answer, default_answer, function_answer, typed_arrow_answer, valued_arrow_answer}
 use Rattle.fast_check_signatures.specs.Answers.{answer_to, parts_answer, items_answer, answer_of}
 use Rattle.fast_check_signatures.proofs.NewNodesMoved.{function_body_moved, arrow_body_moved}
 use Rattle.fast_check_signatures.proofs.MovedParts.{moved_declarator, moved_default, moved_function, moved_arrow, moved_seen, moved_seens}
@@ -136,6 +136,11 @@ module _ (m : Moves) (ok : Keeps m) where
   round_answer_moved : (kind : Kind) (a : Answer (Option (List Tree))) → round_answer kind (moved_parts m a) ≡ moved_answer m (round_answer kind a)
   round_answer_moved kind a = made_moved m (option_map (node kind)) (option_map (node kind)) (option_map (map (moved m))) (option_map (moved m)) a (round_moved m kind a.stays)
 
+  list_answer_moved : (a : Answer (List Tree)) → list_answer (moved_items m a) ≡ moved_answer m (list_answer a)
+  list_answer_moved a =
+      let make : List Tree → Option Tree = λ ts. Some (list ts) in
+      made_moved m make make (map (moved m)) (option_map (moved m)) a (ap Some (sym (node_moved m List' a.stays)))
+
   declarator_answer_moved : (d : DeclaratorHead) (a : Answer (Option Tree)) → declarator_answer (moved_declarator m d) (moved_answer m a) ≡ moved_answer m (declarator_answer d a)
   declarator_answer_moved d a =
       let fault = fault_at MissingExplicitType (Ident-span d.ident) in
@@ -184,6 +189,7 @@ module _ (m : Moves) (ok : Keeps m) where
     pub answer_to_moved : (s : Seen) → answer_to (moved_seen m s) ≡ moved_answer m (answer_to s)
     answer_to_moved (written t) = refl
     answer_to_moved (round kind ss) = ap (round_answer kind) (parts_moved ss) ∙ round_answer_moved kind (parts_answer ss)
+    answer_to_moved (listed ss) = ap list_answer (items_moved ss) ∙ list_answer_moved (items_answer ss)
     answer_to_moved (declarator d value) = ap (declarator_answer (moved_declarator m d)) (answer_to_moved value) ∙ declarator_answer_moved d (answer_to value)
     answer_to_moved (default d value) = ap (default_answer (moved_default m d)) (answer_to_moved value) ∙ default_answer_moved d (answer_to value)
     answer_to_moved (function f type params) =

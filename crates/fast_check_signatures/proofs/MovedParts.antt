@@ -10,7 +10,7 @@ use Rattle.fast_check_syntax.specs.Moves.{Moves, Keeps, moved, moved_range}
 use Rattle.fast_check_syntax.proofs.Moved.{range_moved, context_moved, kind_of_moved, part_moved, parts_moved, is_absent_moved, flag_of_moved, range_of_moved}
 use Rattle.fast_check_tree.proofs.GlobalCallsMoved.{moved_scope, context_of_moved}
 use Rattle.fast_check_signatures.specs.Seen.{DeclaratorHead, DefaultHead, FunctionHead, ArrowHead}
-use Rattle.fast_check_signatures.specs.Seen.{Seen, written, round, declarator, default, function, typed_arrow, valued_arrow, faulty, refused, Seens, end, also, seens, range, scope}
+use Rattle.fast_check_signatures.specs.Seen.{Seen, written, round, listed, declarator, default, function, typed_arrow, valued_arrow, faulty, refused, Seens, end, also, seens, range, scope}
 
 abbrev pub moved_declarator : Moves → DeclaratorHead → DeclaratorHead
 moved_declarator m d = record { span = moved_range m d.span; ident = moved m d.ident; definite = d.definite }
@@ -30,6 +30,7 @@ abbrev mutual
   pub moved_seen : Moves → Seen → Seen
   moved_seen m (written t) = written (moved m t)
   moved_seen m (round kind ss) = round kind (moved_seens m ss)
+  moved_seen m (listed ss) = listed (moved_seens m ss)
   moved_seen m (declarator d value) = declarator (moved_declarator m d) (moved_seen m value)
   moved_seen m (default d value) = default (moved_default m d) (moved_seen m value)
   moved_seen m (function f type params) = function (moved_function m f) (moved_seen m type) (moved_seens m params)

@@ -16,7 +16,7 @@ use Rattle.fast_check_signatures.specs.declared.fault.FaultKind.TheVariants.{Mis
 use Rattle.fast_check_signatures.specs.NewNodes.{function_body, arrow_body}
 use Rattle.fast_check_signatures.specs.Functions.{return_type_missing}
 use Rattle.fast_check_signatures.specs.Seen.{DeclaratorHead, DefaultHead, FunctionHead, ArrowHead}
-use Rattle.fast_check_signatures.specs.Seen.{Seen, written, round, declarator, default, function, typed_arrow, valued_arrow, faulty, refused, Seens, end, also, seens}
+use Rattle.fast_check_signatures.specs.Seen.{Seen, written, round, listed, declarator, default, function, typed_arrow, valued_arrow, faulty, refused, Seens, end, also, seens}
 
 -- ---- answers
 
@@ -95,6 +95,10 @@ kept_arrow a is_async value params = arrow_expr a.span a.ctxt (list params) valu
 abbrev pub round_answer : Kind → Answer (Option (List Tree)) → Answer (Option Tree)
 round_answer kind = made (option_map (node kind))
 
+-- a list of items
+abbrev pub list_answer : Answer (List Tree) → Answer (Option Tree)
+list_answer = made (λ ts. Some (list ts))
+
 abbrev pub declarator_answer : DeclaratorHead → Answer (Option Tree) → Answer (Option Tree)
 declarator_answer d value = made (λ v. Some (valued_declarator d v)) (demanded (fault_at MissingExplicitType (Ident-span d.ident)) value)
 
@@ -116,6 +120,7 @@ abbrev mutual
   pub answer_to : Seen → Answer (Option Tree)
   answer_to (written t) = faultless (Some t)
   answer_to (round kind ss) = round_answer kind (parts_answer ss)
+  answer_to (listed ss) = list_answer (items_answer ss)
   answer_to (declarator d value) = declarator_answer d (answer_to value)
   answer_to (default d value) = default_answer d (answer_to value)
   answer_to (function f type params) = function_answer f (answer_to type) (items_answer params)

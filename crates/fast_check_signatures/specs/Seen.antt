@@ -39,6 +39,8 @@ mutual
     written : Tree → Seen
     -- a node of a kind round its parts, which stays where they all do
     round : Kind → Seens → Seen
+    -- a list, whose items stay each for itself
+    listed : Seens → Seen
     -- a declarator whose value gives its type
     declarator : DeclaratorHead → (value : Seen) → Seen
     -- a parameter whose default gives its type

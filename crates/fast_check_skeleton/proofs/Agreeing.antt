@@ -1,5 +1,5 @@
 -- Modules that agree but for what is hidden are seen alike, so that their skeletons and faults are the same.
-use Rattle.std.specs.Prelude.{◌≡◌, Bool, true, false, not, ◌||◌, Option, Some, None, is_some, option_map, List, [], ◌∷◌, ◌++◌, map, flat_map, refl}
+use Rattle.std.specs.Prelude.{◌≡◌, Bool, true, false, not, ◌||◌, Option, Some, None, unwrap_or, option_map, List, [], ◌∷◌, ◌++◌, map, flat_map, refl}
 use Rattle.std.specs.Prelude.{if◌then◌else◌}
 use Rattle.std.specs.List.{list_all}
 use Rattle.std.proofs.Common.{ap, ap₂, ◌∙◌, sym, subst, subst₂, true≢false}
@@ -11,30 +11,32 @@ use Rattle.fast_check_syntax.specs.declared.source.SourceRange.{SourceRange}
 use Rattle.fast_check_syntax.specs.declared.source.SyntaxContext.{SyntaxContext}
 use Rattle.fast_check_syntax.specs.declared.tree.Tree as tree
 use Rattle.fast_check_syntax.specs.declared.tree.Tree.{Tree}
-use Rattle.fast_check_syntax.specs.Shape.{◌is◌, is_kind, not_absent, kind_of, parts, is_absent, has_word, range_of, part, list}
-use Rattle.fast_check_syntax.specs.Moves.{Moves, Renaming, IsRenaming, IsPair, partners, twice, moved}
+use Rattle.fast_check_syntax.specs.Shape.{◌is◌, is_kind, not_absent, kind_of, parts, is_absent, has_word, list}
+use Rattle.fast_check_syntax.specs.Moves.{Renaming, IsRenaming, IsPair, partners, twice, moved}
 use Rattle.fast_check_syntax.specs.Same.{SameTree, SameRange, Each}
-use Rattle.fast_check_syntax.proofs.Moved.{has_word_moved, node_moved, part_moved, range_of_moved}
+use Rattle.fast_check_syntax.proofs.Moved.{has_word_moved, node_moved}
 use Rattle.fast_check_syntax.proofs.Made.{part_node}
 use Rattle.fast_check_syntax.proofs.Partners.{partners-keep as partners_keep, twice-keeps as twice_keeps}
 use Rattle.fast_check_syntax.proofs.Same.{tree_to, tree_from, range_to, range_from}
 use Rattle.fast_check_ranges.specs.Ranges.{range_of_node}
-use Rattle.fast_check_program_forms.specs.Names.{Ident-span}
+use Rattle.fast_check_program_forms.specs.Names.{Ident-span, binding_ident}
 use Rattle.fast_check_program_forms.specs.Programs.{Module-span, Module-shebang}
 use Rattle.fast_check_program_forms.specs.ModuleDecls.{ExportDecl-span, ExportDecl-decl}
 use Rattle.fast_check_statement_forms.specs.Declarations.{FnDecl-ident, FnDecl-declare, FnDecl-function}
 use Rattle.fast_check_statement_forms.specs.Declarations.{VarDecl-span, VarDecl-ctxt, VarDecl-kind, VarDecl-declare, VarDecl-decls}
-use Rattle.fast_check_statement_forms.specs.Declarations.{VarDeclarator-span, VarDeclarator-name, VarDeclarator-init}
+use Rattle.fast_check_statement_forms.specs.Declarations.{VarDeclarator-span, VarDeclarator-name, VarDeclarator-init, VarDeclarator-definite}
 use Rattle.fast_check_tree.specs.declared.helpers.literal_type.DeclMutabilityKind.{DeclMutabilityKind}
 use Rattle.fast_check_tree.specs.declared.helpers.literal_type.DeclMutabilityKind.TheVariants.{Const, Mutable}
 use Rattle.fast_check_signatures.specs.declared.fault.Fault.{Fault}
 use Rattle.fast_check_signatures.specs.declared.fault.FaultKind.TheVariants.{UnsupportedDestructuring}
 use Rattle.fast_check_signatures.specs.declared.function_kind.FunctionKind.TheVariants.{DeclarationLike}
 use Rattle.fast_check_skeleton.specs.Surroundings.{Surroundings}
+use Rattle.fast_check_tree.specs.Builders.{type_ann, never_value}
 use Rattle.fast_check_tree.specs.InferredType.{inferred_type}
+use Rattle.fast_check_tree.proofs.BuildersMoved.{type_ann_moved, never_value_moved}
 use Rattle.fast_check_skeleton.specs.Mutability.{mutability_of}
-use Rattle.fast_check_signatures.specs.Seen.{Seen, written, range, flag, form, inferred, faulty, refused, hidden, end, also, seens, moved_seen}
-use Rattle.fast_check_skeleton.specs.Visible.{declared_ident, declared_type, standing, by_inferred, kept_value_seen, ident_declarator_seen}
+use Rattle.fast_check_signatures.specs.Seen.{Seen, written, range, scope, flag, round, listed, declarator, faulty, refused, seens}
+use Rattle.fast_check_skeleton.specs.Visible.{declared_ident, declared_type, declarator_head, typed_declarator, value_seen, untyped_seen, ident_declarator_seen}
 use Rattle.fast_check_skeleton.specs.Visible.{declarator_seen, is_ambient, is_public_declarator, declarator_in, public_declarator, public_declarators}
 use Rattle.fast_check_skeleton.specs.Visible.{statement_seen, signature_of, function_decl_seen, public_function, decl_seen, exported_seen}
 use Rattle.fast_check_skeleton.specs.Visible.{seen_by_rule, item_seen, items_of, visible}
@@ -43,9 +45,11 @@ use Rattle.fast_check_signatures.specs.Expressions.{is_plain, is_compound, is_am
 use Rattle.fast_check_signatures.specs.Functions.{function_seen, implementation_seen}
 use Rattle.fast_check_same_values.specs.SameValues.{Both, Neither, SameExpr, SameFunction, SameImplementation}
 use Rattle.fast_check_same_values.specs.SameValues as v
-use Rattle.fast_check_same_values.proofs.AlikeTrees.{scope_to, absent_alike}
-use Rattle.fast_check_same_values.proofs.AlikeSeen.{Alike, AllAlike, same_written, range_alike, scope_alike, alike_if, all_alike_if, form_alike, append_alike}
-use Rattle.fast_check_same_values.proofs.AlikeExpressions.{both_true}
+use Rattle.fast_check_same_values.proofs.AlikeTrees.{TreeAlike, scope_to, image_alike, new_alike, absent_alike, range_leaf_alike, flag_leaf_alike, node_alike, range_field_alike}
+use Rattle.fast_check_same_values.proofs.AlikeSeen.{Alike, AllAlike, written_alike, same_written, range_alike, scope_alike, flag_alike}
+use Rattle.fast_check_same_values.proofs.AlikeSeen.{alike_if, all_alike_if, listed_alike, round_alike, append_alike}
+use Rattle.fast_check_signatures.proofs.Choices.{both_true}
+use Rattle.fast_check_signatures.proofs.MovedParts.{moved_declarator}
 use Rattle.fast_check_same_values.proofs.Alike.{expr_alike, function_alike}
 use Rattle.fast_check_same_values.proofs.AlikeFunctions.{implementation_alike}
 use Rattle.fast_check_skeleton.specs.Skeleton.{transformed, skeleton_of, faults_of}
@@ -59,7 +63,7 @@ use Rattle.fast_check_skeleton.proofs.Ruled.{standing_rule, declared_rule, silen
 use Rattle.fast_check_skeleton.specs.Hidden as h
 use Rattle.fast_check_skeleton.specs.Worlds.{SameFault, SameSkeleton}
 use Rattle.fast_check_tree.proofs.InferredMoved.{inferred_type_moved}
-use Rattle.fast_check_signatures.proofs.AnswersMoved.{moved_fault, moved_answer, answer_of_moved}
+use Rattle.fast_check_signatures.proofs.AnswersMoved.{moved_fault, moved_items, answer_of_moved}
 
 -- ---- what is silent is not seen
 
@@ -131,35 +135,11 @@ module _ (r : Renaming) (ok : IsRenaming r) where
   absent_same : (t u : Tree) → SameTree r t u → is_absent t ≡ is_absent u
   absent_same t u s = absent_alike r ok t u (tree_to r ok s)
 
-  standing_alike : {t u : Tree} → SameTree r t u → Alike r ok (standing t) (standing u)
-  standing_alike {t} {u} s = alike_if r ok (is_absent t) (is_absent u) hidden (written t) hidden (written u) (absent_same t u s) (λ e. refl)
-      (λ e. same_written r ok s)
-
-  -- ---- values
-
-  by_inferred_moved : (m : Moves) (o : Option Tree) → by_inferred (option_map (moved m) o) ≡ moved_seen m (by_inferred o)
-  by_inferred_moved m (Some t) = refl
-  by_inferred_moved m None = refl
-
-  same_value : (mutability : DeclMutabilityKind) (c d : SyntaxContext) (v w : Tree) → IsPair r.scopes c.0 d.0 → SameTree r v w →
-      Alike r ok (by_inferred (inferred_type mutability c v)) (by_inferred (inferred_type mutability d w))
-  same_value mutability c d v w p s =
-      sym (ap by_inferred (inferred_type_moved (partners r) (partners_keep r ok) mutability c v)
-      ∙ by_inferred_moved (partners r) (inferred_type mutability c v)) ∙
-      (ap₂ (λ u t. by_inferred (inferred_type mutability u t)) (scope_to r ok c d p) (tree_to r ok s) ∙
-      (ap by_inferred (inferred_type_moved twice twice_keeps mutability d w) ∙ by_inferred_moved twice (inferred_type mutability d w)))
-
   module _ (a b : Surroundings) where
     -- ---- declarators
 
     abbrev shown_of : Surroundings → DeclMutabilityKind → Tree → Option Tree
     shown_of around mutability d = inferred_type mutability around.unresolved (VarDeclarator-init d)
-
-    abbrev value_of : Surroundings → DeclMutabilityKind → Tree → Seen
-    value_of around mutability d = by_inferred (shown_of around mutability d)
-
-    abbrev kept_of : Surroundings → DeclMutabilityKind → Tree → Seen
-    kept_of around mutability d = kept_value_seen around (Ident-span (declared_ident d)) (shown_of around mutability d) (VarDeclarator-init d)
 
     of_ident : (around : Surroundings) (mutability : DeclMutabilityKind) (d : Tree) → kind_of (VarDeclarator-name d) ≡ BindingIdent →
         declarator_seen around mutability d ≡ ident_declarator_seen around mutability d
@@ -172,21 +152,40 @@ module _ (r : Renaming) (ok : IsRenaming r) where
     of_pattern around mutability d e =
         ap (λ b. if b then ident_declarator_seen around mutability d else faulty UnsupportedDestructuring (range_of_node (VarDeclarator-name d))) e
 
+    head_alike : (t u : Tree) → SameHead r a b t u → moved_declarator (partners r) (declarator_head t) ≡ moved_declarator twice (declarator_head u)
+    head_alike t u d = λ i. record {
+      span = range_to r ok (VarDeclarator-span t) (VarDeclarator-span u) d.span i;
+      ident = tree_to r ok d.ident i;
+      definite = d.definite i;
+    }
+
+    typed_alike : (t u x y : Tree) → SameHead r a b t u → TreeAlike r ok x y →
+        Alike r ok (written (typed_declarator (declarator_head t) x)) (written (typed_declarator (declarator_head u) y))
+    typed_alike t u x y d e =
+        let parts_of : Tree → Tree → List Tree =
+        λ v type. tree.Range (VarDeclarator-span v) ∷ binding_ident (declared_ident v) type ∷ never_value ∷ tree.Flag (VarDeclarator-definite v) ∷ [] in
+        written_alike r ok _ _ (node_alike r ok VarDeclarator (parts_of t x) (parts_of u y)
+        (λ i. range_leaf_alike r ok (VarDeclarator-span t) (VarDeclarator-span u) (range_to r ok (VarDeclarator-span t) (VarDeclarator-span u) d.span) i ∷
+        node_alike r ok BindingIdent (declared_ident t ∷ x ∷ []) (declared_ident u ∷ y ∷ []) (λ j. tree_to r ok d.ident j ∷ e j ∷ []) i ∷
+        new_alike r ok never_value never_value_moved i ∷ flag_leaf_alike r ok (VarDeclarator-definite t) (VarDeclarator-definite u) d.definite i ∷ []))
+
+    abbrev UntypedAlike : Tree → Tree → Option Tree → Option Tree → Type 0
+    UntypedAlike t u o o' = Alike r ok (untyped_seen a t o) (untyped_seen b u o')
+
+    -- where no type is written, as the values are seen
     declared : (mutability : DeclMutabilityKind) (t u : Tree) → SameHead r a b t u →
-        (is_absent (declared_type t) ≡ true → Alike r ok (value_of a mutability t) (value_of b mutability u)) →
-        (is_absent (declared_type t) ≡ true → Alike r ok (kept_of a mutability t) (kept_of b mutability u)) →
+        (is_absent (declared_type t) ≡ true → UntypedAlike t u (shown_of a mutability t) (shown_of b mutability u)) →
         Alike r ok (declarator_seen a mutability t) (declarator_seen b mutability u)
-    declared mutability t u d v k =
-        let e = absent_same (declared_type t) (declared_type u) d.type in
-        let w = alike_if r ok (is_absent (declared_type t)) (is_absent (declared_type u)) (value_of a mutability t) hidden (value_of b mutability u) hidden e v
-        (λ e. refl) in
-        let x = alike_if r ok (is_absent (declared_type t)) (is_absent (declared_type u)) (kept_of a mutability t) hidden (kept_of b mutability u) hidden e k
-        (λ e. refl) in
-        let same : Alike r ok (ident_declarator_seen a mutability t) (ident_declarator_seen b mutability u) =
-        λ i. form VarDeclarator (also (range_alike r ok (VarDeclarator-span t) (VarDeclarator-span u) d.span i)
-        (also (same_written r ok d.ident i) (also (flag (d.definite i))
-        (also (standing_alike d.type i) (also (w i) (also (x i) end)))))) in
-        subst₂ (Alike r ok) (sym (of_ident a mutability t d.names.left)) (sym (of_ident b mutability u d.names.right)) same
+    declared mutability t u d v =
+        subst₂ (Alike r ok) (sym (of_ident a mutability t d.names.left)) (sym (of_ident b mutability u d.names.right))
+        (alike_if r ok (is_absent (declared_type t)) (is_absent (declared_type u))
+        (untyped_seen a t (shown_of a mutability t)) (written (typed_declarator (declarator_head t) (declared_type t)))
+        (untyped_seen b u (shown_of b mutability u)) (written (typed_declarator (declarator_head u) (declared_type u)))
+        (absent_same (declared_type t) (declared_type u) d.type) v (λ e. typed_alike t u (declared_type t) (declared_type u) d (tree_to r ok d.type)))
+
+    shown_alike : (t u x y : Tree) → SameHead r a b t u → TreeAlike r ok x y → UntypedAlike t u (Some x) (Some y)
+    shown_alike t u x y d e =
+        typed_alike t u (type_ann x) (type_ann y) d (image_alike r ok type_ann (λ m keeps t. sym (type_ann_moved m keeps t)) x y e)
 
     -- neither is absent, or both are
     expr_absent : {t u : Tree} → SameExpr r a.unresolved b.unresolved t u → is_absent t ≡ is_absent u
@@ -200,61 +199,51 @@ module _ (r : Renaming) (ok : IsRenaming r) where
     expr_absent (v.SameExpr.function {t = t} {u = u} d x y) = both_there FnExpr t u d (λ l. cc)
     expr_absent (v.SameExpr.arrow {t = t} {u = u} d x y z) = both_there ArrowExpr t u d (λ l. cc)
 
-    -- values that show no type on either side, or a type on both
-    kept_alike : IsPair r.scopes a.unresolved.0 b.unresolved.0 → (p q : SourceRange) (o o' : Option Tree) (v w : Tree) → is_some o ≡ is_some o' →
-        SameRange r p q → SameExpr r a.unresolved b.unresolved v w →
-        Alike r ok (kept_value_seen a p o v) (kept_value_seen b q o' w)
-    kept_alike c p q (Some x) (Some y) v w e s f = refl
-    kept_alike c p q (Some x) None v w e s f = cc
-    kept_alike c p q None (Some y) v w e s f = cc
-    kept_alike c p q None None v w e s f =
-        alike_if r ok (is_absent v) (is_absent w) refused (expr_seen a.unresolved v (Some p)) refused (expr_seen b.unresolved w (Some q)) (expr_absent f)
-        (λ e. refl)
-        (λ e. expr_alike r ok a.unresolved b.unresolved c f (Some p) (Some q) (ap Some (range_to r ok p q s)))
+    ident_place : (t u : Tree) → SameTree r t u → SameRange r (Ident-span t) (Ident-span u)
+    ident_place t u s = range_from r ok (Ident-span t) (Ident-span u) (range_field_alike r ok Ident-span _ (λ t. refl) t u (tree_to r ok s))
 
-    both_shown : (m n : Moves) (o o' : Option Tree) → option_map (moved m) o ≡ option_map (moved n) o' → is_some o ≡ is_some o'
-    both_shown m n (Some x) (Some y) e = refl
-    both_shown m n None None e = refl
-    both_shown m n (Some x) None e = cc
-    both_shown m n None (Some y) e = cc
+    -- values that show no type
+    kept_alike : IsPair r.scopes a.unresolved.0 b.unresolved.0 → (t u : Tree) → SameHead r a b t u →
+        SameExpr r a.unresolved b.unresolved (VarDeclarator-init t) (VarDeclarator-init u) → UntypedAlike t u None None
+    kept_alike c t u d f =
+        let place = Ident-span (declared_ident t) in
+        let place' = Ident-span (declared_ident u) in
+        let value = VarDeclarator-init t in
+        let value' = VarDeclarator-init u in
+        let same : Alike r ok (value_seen a place value) (value_seen b place' value') =
+        alike_if r ok (is_absent value) (is_absent value') refused (expr_seen a.unresolved value (Some place)) refused (expr_seen b.unresolved value' (Some place'))
+        (expr_absent f) (λ e. refl)
+        (λ e. expr_alike r ok a.unresolved b.unresolved c f (Some place) (Some place')
+        (ap Some (range_to r ok place place' (ident_place (declared_ident t) (declared_ident u) d.ident)))) in
+        λ i. declarator (head_alike t u d i) (same i)
+
+    -- equal values
+    same_alike : IsPair r.scopes a.unresolved.0 b.unresolved.0 → (t u : Tree) → SameHead r a b t u → SameTree r (VarDeclarator-init t) (VarDeclarator-init u) →
+        (o o' : Option Tree) → option_map (moved (partners r)) o ≡ option_map (moved twice) o' → UntypedAlike t u o o'
+    same_alike c t u d s (Some x) (Some y) e = shown_alike t u x y d (ap (λ o. unwrap_or o (moved twice y)) e)
+    same_alike c t u d s None None e = kept_alike c t u d (v.SameExpr.same s)
+    same_alike c t u d s (Some x) None e = cc
+    same_alike c t u d s None (Some y) e = cc
 
     same_shown : (mutability : DeclMutabilityKind) (v w : Tree) → IsPair r.scopes a.unresolved.0 b.unresolved.0 → SameTree r v w →
-        is_some (inferred_type mutability a.unresolved v) ≡ is_some (inferred_type mutability b.unresolved w)
+        option_map (moved (partners r)) (inferred_type mutability a.unresolved v) ≡ option_map (moved twice) (inferred_type mutability b.unresolved w)
     same_shown mutability v w c s =
-        both_shown (partners r) twice (inferred_type mutability a.unresolved v) (inferred_type mutability b.unresolved w)
-        (sym (inferred_type_moved (partners r) (partners_keep r ok) mutability a.unresolved v)
+        sym (inferred_type_moved (partners r) (partners_keep r ok) mutability a.unresolved v)
         ∙ (ap₂ (inferred_type mutability) (scope_to r ok a.unresolved b.unresolved c) (tree_to r ok s) ∙
-        inferred_type_moved twice twice_keeps mutability b.unresolved w))
-
-    ident_place : (t u : Tree) → SameTree r t u → SameRange r (Ident-span t) (Ident-span u)
-    ident_place t u s = range_from r ok (Ident-span t) (Ident-span u)
-        (sym (ap range_of (part_moved (partners r) 0 t) ∙ range_of_moved (partners r) (partners_keep r ok) (part 0 t)) ∙
-        (ap Ident-span (tree_to r ok s) ∙ (ap range_of (part_moved twice 0 u) ∙ range_of_moved twice twice_keeps (part 0 u))))
+        inferred_type_moved twice twice_keeps mutability b.unresolved w)
 
     declarator_alike : IsPair r.scopes a.unresolved.0 b.unresolved.0 → (mutability : DeclMutabilityKind) {t u : Tree} → SameDeclarator r a b mutability t u →
         (is_public_declarator a t ≡ is_public_declarator b u) × Alike r ok (declarator_seen a mutability t) (declarator_seen b mutability u)
-    declarator_alike c mutability (h.SameDeclarator.typed {t = t} {u = u} d w) = (d.is_public, declared mutability t u d (λ e. cc) (λ e. cc))
-    declarator_alike c mutability (h.SameDeclarator.inferred {t = t} {u = u} x y d f g s) = (
-      d.is_public,
-      declared mutability t u d (λ e. subst₂ (λ i j. Alike r ok (by_inferred i) (by_inferred j)) (sym f) (sym g) (ap inferred (tree_to r ok s)))
-          (λ e. subst₂ (λ i j. Alike r ok (kept_value_seen a (Ident-span (declared_ident t)) i (VarDeclarator-init t))
-          (kept_value_seen b (Ident-span (declared_ident u)) j (VarDeclarator-init u))) (sym f) (sym g) refl),
-    )
+    declarator_alike c mutability (h.SameDeclarator.typed {t = t} {u = u} d w) = (d.is_public, declared mutability t u d (λ e. cc))
+    declarator_alike c mutability (h.SameDeclarator.inferred {t = t} {u = u} x y d f g s) =
+        (d.is_public, declared mutability t u d (λ e. subst₂ (UntypedAlike t u) (sym f) (sym g) (shown_alike t u x y d (tree_to r ok s))))
     declarator_alike c mutability (h.SameDeclarator.same {t = t} {u = u} d s) = (
       d.is_public,
-      declared mutability t u d (λ e. same_value mutability a.unresolved b.unresolved (VarDeclarator-init t) (VarDeclarator-init u) c s)
-          (λ e. kept_alike c (Ident-span (declared_ident t)) (Ident-span (declared_ident u)) (shown_of a mutability t) (shown_of b mutability u)
-          (VarDeclarator-init t) (VarDeclarator-init u)
-          (same_shown mutability (VarDeclarator-init t) (VarDeclarator-init u) c s) (ident_place (declared_ident t) (declared_ident u) d.ident)
-          (v.SameExpr.same s)),
+      declared mutability t u d (λ e. same_alike c t u d s (shown_of a mutability t) (shown_of b mutability u)
+          (same_shown mutability (VarDeclarator-init t) (VarDeclarator-init u) c s)),
     )
-    declarator_alike c mutability (h.SameDeclarator.kept {t = t} {u = u} d f g s) = (
-      d.is_public,
-      declared mutability t u d (λ e. subst₂ (λ i j. Alike r ok (by_inferred i) (by_inferred j)) (sym f) (sym g) refl)
-          (λ e. kept_alike c (Ident-span (declared_ident t)) (Ident-span (declared_ident u)) (shown_of a mutability t) (shown_of b mutability u)
-          (VarDeclarator-init t) (VarDeclarator-init u)
-          (ap is_some f ∙ sym (ap is_some g)) (ident_place (declared_ident t) (declared_ident u) d.ident) s),
-    )
+    declarator_alike c mutability (h.SameDeclarator.kept {t = t} {u = u} d f g s) =
+        (d.is_public, declared mutability t u d (λ e. subst₂ (UntypedAlike t u) (sym f) (sym g) (kept_alike c t u d s)))
     declarator_alike c mutability (h.SameDeclarator.destructured {t = t} {u = u} e n s) = (
       e,
       subst₂ (Alike r ok) (sym (of_pattern a mutability t n.left)) (sym (of_pattern b mutability u n.right))
@@ -282,9 +271,11 @@ module _ (r : Renaming) (ok : IsRenaming r) where
         AllAlike r ok (statement_seen t xs) (statement_seen u ys)
     statement_alike t u [] [] d p = refl
     statement_alike t u (x ∷ xs) (y ∷ ys) d p =
-        λ i. form VarDecl (also (range_alike r ok (VarDecl-span t) (VarDecl-span u) d.span i)
-        (also (scope_alike r ok (VarDecl-ctxt t) (VarDecl-ctxt u) d.ctxt i)
-        (also (same_written r ok d.kind i) (also (flag (d.declare i)) (also (form_alike r ok List' (x ∷ xs) (y ∷ ys) p i) end))))) ∷ []
+        ap (λ s. s ∷ []) (round_alike r ok VarDecl
+        (range (VarDecl-span t) ∷ scope (VarDecl-ctxt t) ∷ written (VarDecl-kind t) ∷ flag (VarDecl-declare t) ∷ listed (seens (x ∷ xs)) ∷ [])
+        (range (VarDecl-span u) ∷ scope (VarDecl-ctxt u) ∷ written (VarDecl-kind u) ∷ flag (VarDecl-declare u) ∷ listed (seens (y ∷ ys)) ∷ [])
+        (λ i. range_alike r ok (VarDecl-span t) (VarDecl-span u) d.span i ∷ scope_alike r ok (VarDecl-ctxt t) (VarDecl-ctxt u) d.ctxt i ∷
+        same_written r ok d.kind i ∷ flag_alike r ok (VarDecl-declare t) (VarDecl-declare u) d.declare i ∷ listed_alike r ok (x ∷ xs) (y ∷ ys) p i ∷ []))
     statement_alike t u [] (y ∷ ys) d p = cc
     statement_alike t u (x ∷ xs) [] d p = cc
 
@@ -307,14 +298,16 @@ module _ (r : Renaming) (ok : IsRenaming r) where
     signature_if around t is_implementation seen = if is_implementation then implementation_seen (FnDecl-function t) else seen
 
     abbrev function_form : Surroundings → SourceRange → Tree → Seen
-    function_form around p t = form FnDecl (seens (written (FnDecl-ident t) ∷ flag (FnDecl-declare t) ∷ signature_of around p t ∷ []))
+    function_form around p t = round FnDecl (seens (written (FnDecl-ident t) ∷ flag (FnDecl-declare t) ∷ signature_of around p t ∷ []))
 
     declared_function : (p q : SourceRange) (t u : Tree) → a.is_declaration_file ≡ b.is_declaration_file → SameFunctionDecl r a b p q t u →
         Alike r ok (signature_of a p t) (signature_of b q u) →
         Alike r ok (function_decl_seen a p t) (function_decl_seen b q u)
     declared_function p q t u m d s =
         let same : Alike r ok (function_form a p t) (function_form b q u) =
-        λ i. form FnDecl (also (same_written r ok d.ident i) (also (flag (d.declare i)) (also (s i) end))) in
+        round_alike r ok FnDecl (written (FnDecl-ident t) ∷ flag (FnDecl-declare t) ∷ signature_of a p t ∷ [])
+        (written (FnDecl-ident u) ∷ flag (FnDecl-declare u) ∷ signature_of b q u ∷ [])
+        (λ i. same_written r ok d.ident i ∷ flag_alike r ok (FnDecl-declare t) (FnDecl-declare u) d.declare i ∷ s i ∷ []) in
         subst₂ (λ x y. Alike r ok (if x then written t else function_form a p t) (if y then written u else function_form b q u)) (sym d.is_declaration_file)
         (sym d.is_declaration_file ∙ m) same
 
@@ -398,7 +391,7 @@ module _ (r : Renaming) (ok : IsRenaming r) where
         AllAlike r ok (exported_seen t xs) (exported_seen u ys)
     exported_alike t u [] [] s p = refl
     exported_alike t u (x ∷ xs) (y ∷ ys) s p =
-        ap (λ f. f ∷ []) (form_alike r ok ExportDecl (range (ExportDecl-span t) ∷ x ∷ xs) (range (ExportDecl-span u) ∷ y ∷ ys)
+        ap (λ f. f ∷ []) (round_alike r ok ExportDecl (range (ExportDecl-span t) ∷ x ∷ xs) (range (ExportDecl-span u) ∷ y ∷ ys)
         (λ i. range_alike r ok (ExportDecl-span t) (ExportDecl-span u) s i ∷ p i))
     exported_alike t u [] (y ∷ ys) s p = cc
     exported_alike t u (x ∷ xs) [] s p = cc
@@ -440,18 +433,18 @@ module _ (r : Renaming) (ok : IsRenaming r) where
     faults_from (x ∷ xs) [] e = cc
 
     abbrev module_parts : Surroundings → Tree → List Tree
-    module_parts around t = tree.Range (Module-span t) ∷ list (transformed around t).trees ∷ Module-shebang t ∷ []
+    module_parts around t = tree.Range (Module-span t) ∷ list (transformed around t).stays ∷ Module-shebang t ∷ []
 
     pub same_trees : (t u : Tree) → AgreeHidden r a b t u → SameSkeleton r (skeleton_of a t) (skeleton_of b u) ×
         Each (SameFault r) (faults_of a t) (faults_of b u)
     same_trees t u g =
-        let e : moved_answer (partners r) (transformed a t) ≡ moved_answer twice (transformed b u) =
+        let e : moved_items (partners r) (transformed a t) ≡ moved_items twice (transformed b u) =
         sym (answer_of_moved (partners r) (partners_keep r ok) (visible a t))
         ∙ (ap answer_of (visible_alike t u g) ∙ answer_of_moved twice twice_keeps (visible b u)) in (
           record {
             body = subst₂ (SameTree r) (sym (part_node 1 Module (module_parts a t))) (sym (part_node 1 Module (module_parts b u)))
-                (tree_from r ok (list (transformed a t).trees) (list (transformed b u).trees)
-                (node_moved (partners r) List' (transformed a t).trees ∙ (ap (λ x. list x.trees) e ∙ sym (node_moved twice List' (transformed b u).trees))));
+                (tree_from r ok (list (transformed a t).stays) (list (transformed b u).stays)
+                (node_moved (partners r) List' (transformed a t).stays ∙ (ap (λ x. list x.stays) e ∙ sym (node_moved twice List' (transformed b u).stays))));
             shebang = subst₂ (SameTree r) (sym (part_node 2 Module (module_parts a t))) (sym (part_node 2 Module (module_parts b u))) g.shebang;
           },
           faults_from (transformed a t).faults (transformed b u).faults (ap (λ x. x.faults) e),
