@@ -13,32 +13,35 @@ use Rattle.fast_check_signatures.specs.Seen.{Seen}
 use Rattle.fast_check_ranges.specs.Ranges.{range_of_node}
 use Rattle.fast_check_skeleton.specs.Rules.{item_rule}
 use Rattle.fast_check_skeleton.specs.Visible.{item_seen}
-use Rattle.fast_check_signatures.specs.Answers.{answer_to, answer_of}
+use Rattle.fast_check_signatures.specs.declared.fault.Fault.{Fault}
+use Rattle.fast_check_signatures.specs.Answers.{Adds, with_tree, answer_to, answer_of}
 use Rattle.fast_check_skeleton.specs.KeptComments.{start_of_unseen, removed_start, without_all_leading}
 use Rattle.fast_check_skeleton.proofs.Standing.{OneTree, item_one}
-use Rattle.fast_check_transform.specs.PartAnswers.{kept_item}
+use Rattle.fast_check_transform.specs.PartAnswers.{item_answer}
 
 pub without_append : (xs ys : List SourcePos) (c : Comments) → without_all_leading (xs ++ ys) c ≡ without_all_leading ys (without_all_leading xs c)
 without_append [] ys c = refl
 without_append (x ∷ xs) ys c = without_append xs ys (without_leading x c)
 
 module _ (around : Surroundings) (item : Tree) where
-  unseen : (ss : List Seen) → OneTree around ss → (answer_of ss).trees ≡ [] → start_of_unseen item ss ≡ (range_of_node item).start ∷ []
+  unseen : (ss : List Seen) → OneTree around ss → (answer_of ss).stays ≡ [] → start_of_unseen item ss ≡ (range_of_node item).start ∷ []
   unseen [] one e = refl
-  unseen (s ∷ []) one e = let f : one.1.0 ∷ [] ≡ [] = sym one.1.1 ∙ (sym (append-nil (answer_to s).trees) ∙ e) in cc
+  unseen (s ∷ []) one e = let f : one.0 ∷ [] ≡ [] = sym (ap (λ o. with_tree o []) one.1) ∙ e in cc
   unseen (s ∷ t ∷ ss) one e = absurd one
 
-  seen_one : (ss : List Seen) (t : Tree) → (answer_of ss).trees ≡ t ∷ [] → start_of_unseen item ss ≡ []
+  seen_one : (ss : List Seen) (t : Tree) → (answer_of ss).stays ≡ t ∷ [] → start_of_unseen item ss ≡ []
   seen_one [] t e = cc
   seen_one (s ∷ ss) t e = refl
 
-  pub removed_if_none : kept_item around item ≡ [] → removed_start around item ≡ (range_of_node item).start ∷ []
-  unfolding kept_item
-  removed_if_none e = unseen (item_seen around item) (item_one around item (item_rule item)) e
+  pub removed_if_none : {xs : List Tree} {old new : List Fault} → Adds (item_answer around item) xs old new → xs ≡ [] →
+      removed_start around item ≡ (range_of_node item).start ∷ []
+  unfolding item_answer
+  removed_if_none h e = unseen (item_seen around item) (item_one around item (item_rule item)) (ap (λ a. a.stays) h.is ∙ e)
 
-  pub removed_if_some : (t : Tree) → kept_item around item ≡ t ∷ [] → removed_start around item ≡ []
-  unfolding kept_item
-  removed_if_some t e = seen_one (item_seen around item) t e
+  pub removed_if_some : {t : Tree} {xs : List Tree} {old new : List Fault} → Adds (item_answer around item) xs old new → xs ≡ t ∷ [] →
+      removed_start around item ≡ []
+  unfolding item_answer
+  removed_if_some {t} h e = seen_one (item_seen around item) t (ap (λ a. a.stays) h.is ∙ e)
 
 -- the comments without those before one more item
 pub one_more : (around : Surroundings) (items : List Tree) (i : ℕ) (item : Tree) (starts : List SourcePos) (c : Comments) → i < length items → item ≡ get_or items i item →

@@ -1,6 +1,7 @@
-ghost use Rattle.std.specs.Prelude.{◌≡◌, IfOk, ◌++◌, ◌∷◌, []};
+ghost use Rattle.std.specs.Prelude.{IfOk, Some};
 ghost use Rattle.fast_check_syntax.specs.Part.{seen};
-ghost use Rattle.fast_check_transform.specs.PartAnswers.{Asked-around, as_list, signature_tree, signature_faults, kept_function, function_faults, kept_decl, decl_faults, kept_item, item_faults};
+ghost use Rattle.fast_check_signatures.specs.Answers.{Adds};
+ghost use Rattle.fast_check_transform.specs.PartAnswers.{Asked-around, as_list, signature_answer, function_answer, decl_answer, item_answer};
 
 use crate::asked::Asked;
 use crate::declarations::keep_statement;
@@ -21,8 +22,7 @@ fn transform_signature(
     decl: Part<'_>,
     faults: &mut Vec<Fault>,
 ) -> Result<Tree, AllocError>
-    ensures kept { IfOk result (λ tree. tree ≡ signature_tree (Asked-around asked.entry) place (seen decl.entry)) }
-    ensures faults { IfOk result (λ _. faults.new.items ≡ faults.old.items ++ signature_faults (Asked-around asked.entry) place (seen decl.entry)) }
+    ensures { IfOk result (λ tree. Adds (signature_answer (Asked-around asked.entry) place (seen decl.entry)) (Some tree) faults.old.items faults.new.items) }
 {
     let FnDecl {
         ident,
@@ -52,8 +52,7 @@ fn keep_function(
     decl: Part<'_>,
     faults: &mut Vec<Fault>,
 ) -> Result<Tree, AllocError>
-    ensures kept { IfOk result (λ tree. tree ∷ [] ≡ kept_function (Asked-around asked.entry) place (seen decl.entry)) }
-    ensures faults { IfOk result (λ _. faults.new.items ≡ faults.old.items ++ function_faults (Asked-around asked.entry) place (seen decl.entry)) }
+    ensures { IfOk result (λ tree. Adds (function_answer (Asked-around asked.entry) place (seen decl.entry)) (Some tree) faults.old.items faults.new.items) }
 {
     if asked.is_declaration_file {
         return decl.to_tree(alloc);
@@ -77,8 +76,8 @@ fn keep_decl(
     rule: DeclRule,
     faults: &mut Vec<Fault>,
 ) -> Result<Option<Tree>, AllocError>
-    ensures kept { IfOk result (λ tree. as_list tree ≡ kept_decl (Asked-around asked.entry) place (seen decl.entry) rule) }
-    ensures faults { IfOk result (λ _. faults.new.items ≡ faults.old.items ++ decl_faults (Asked-around asked.entry) place (seen decl.entry) rule) }
+    ensures { IfOk result (λ tree.
+        Adds (decl_answer (Asked-around asked.entry) place (seen decl.entry) rule) (as_list tree) faults.old.items faults.new.items) }
 {
     match rule {
         DeclRule::Variables => keep_statement(alloc, asked, decl, faults),
@@ -105,8 +104,7 @@ pub fn keep_item(
     item: Part<'_>,
     faults: &mut Vec<Fault>,
 ) -> Result<Option<Tree>, AllocError>
-    ensures kept { IfOk result (λ tree. as_list tree ≡ kept_item (Asked-around asked.entry) (seen item.entry)) }
-    ensures faults { IfOk result (λ _. faults.new.items ≡ faults.old.items ++ item_faults (Asked-around asked.entry) (seen item.entry)) }
+    ensures { IfOk result (λ tree. Adds (item_answer (Asked-around asked.entry) (seen item.entry)) (as_list tree) faults.old.items faults.new.items) }
 {
     match item_rule(item) {
         ItemRule::Declared(rule) => keep_decl(

@@ -1,50 +1,25 @@
-use Rattle.std.proofs.Common.{◌≡◌, ◌++◌, [], List, ◌∙◌, ap, sym, append-nil, arith}
-use Rattle.fast_check_signatures.specs.declared.fault.Fault.{Fault}
+use Rattle.std.proofs.lemmas.Result.{IfOk-weaker}
 use Rattle.fast_check_syntax.specs.Part.{seen}
 use Rattle.fast_check_transform.specs.PartAnswers.{Asked-around}
-use Rattle.fast_check_transform.proofs.ByKind.{kept_variables, faults_variables, kept_public, faults_public, kept_private, faults_private}
-use Rattle.fast_check_transform.proofs.ByKind.{kept_standing, kept_private_standing, faults_standing, kept_untaken, faults_untaken}
+use Rattle.fast_check_transform.proofs.ByRule.{variables, public_function_stays, private_function, public_standing, private_standing, untaken}
 use Rattle.fast_check_transform.proofs.items.keep_decl.Goals as goal
 
-none : (old added : List Fault) → added ≡ [] → old ≡ old ++ added
-none old added e = sym (append-nil old) ∙ ap (λ f. old ++ f) (sym e)
+pub returns-then-not-contains : goal.returns-then-not-contains
+returns-then-not-contains c = private_function (Asked-around c.args.asked) c.args.place (seen c.args.decl) c.in-Function.is (cc) c.args.faults.now.items
 
-pub returns-then-not-contains-clause-kept : goal.returns-then-not-contains-clause-kept
-returns-then-not-contains-clause-kept c = grind (arith, kept_private)
+pub returns-then-not-contains-2 : goal.returns-then-not-contains-2
+returns-then-not-contains-2 c = private_standing (Asked-around c.args.asked) c.args.place (seen c.args.decl) c.in-Standing.is (cc) c.args.faults.now.items
 
-pub returns-then-not-contains-clause-faults : goal.returns-then-not-contains-clause-faults
-returns-then-not-contains-clause-faults c =
-    none c.args.faults.now.items _ (faults_private (Asked-around c.args.asked) c.args.place (seen c.args.decl) c.args.rule (cc) (cc))
+pub returns-in-Variables : goal.returns-in-Variables
+returns-in-Variables c =
+    IfOk-weaker c.keep_statement.result _ _
+    (λ tree h. variables (Asked-around c.args.asked) c.args.place (seen c.args.decl) c.in-Variables.is h) c.keep_statement.ensures
 
-pub returns-then-not-contains-2-clause-kept : goal.returns-then-not-contains-2-clause-kept
-returns-then-not-contains-2-clause-kept c = grind (arith, kept_private_standing)
+pub returns-in_ok-keep_function-in-Function : goal.returns-in_ok-keep_function-in-Function
+returns-in_ok-keep_function-in-Function c = public_function_stays (Asked-around c.args.asked) c.args.place (seen c.args.decl) c.in-Function.is (cc) c.in_ok-keep_function-in-Function.ensures
 
-pub returns-then-not-contains-2-clause-faults : goal.returns-then-not-contains-2-clause-faults
-returns-then-not-contains-2-clause-faults c =
-    none c.args.faults.now.items _ (faults_standing (Asked-around c.args.asked) c.args.place (seen c.args.decl) c.args.rule (cc))
+pub returns-in_ok-to_tree-in-Standing : goal.returns-in_ok-to_tree-in-Standing
+returns-in_ok-to_tree-in-Standing c = public_standing (Asked-around c.args.asked) c.args.place (seen c.args.decl) c.in-Standing.is (cc) c.in_ok-to_tree-in-Standing.ensures c.args.faults.now.items
 
-pub returns-in-Variables-clause-kept : goal.returns-in-Variables-clause-kept
-returns-in-Variables-clause-kept c = grind (arith, kept_variables)
-
-pub returns-in-Variables-clause-faults : goal.returns-in-Variables-clause-faults
-returns-in-Variables-clause-faults c = grind (arith, faults_variables)
-
-pub returns-in_ok-keep_function-in-Function-clause-kept : goal.returns-in_ok-keep_function-in-Function-clause-kept
-returns-in_ok-keep_function-in-Function-clause-kept c = grind (arith, kept_public)
-
-pub returns-in_ok-keep_function-in-Function-clause-faults : goal.returns-in_ok-keep_function-in-Function-clause-faults
-returns-in_ok-keep_function-in-Function-clause-faults c = grind (arith, faults_public)
-
-pub returns-in_ok-to_tree-in-Standing-clause-kept : goal.returns-in_ok-to_tree-in-Standing-clause-kept
-returns-in_ok-to_tree-in-Standing-clause-kept c = grind (arith, kept_standing)
-
-pub returns-in_ok-to_tree-in-Standing-clause-faults : goal.returns-in_ok-to_tree-in-Standing-clause-faults
-returns-in_ok-to_tree-in-Standing-clause-faults c =
-    none c.args.faults.now.items _ (faults_standing (Asked-around c.args.asked) c.args.place (seen c.args.decl) c.args.rule (cc))
-
-pub returns-in-Untaken-clause-kept : goal.returns-in-Untaken-clause-kept
-returns-in-Untaken-clause-kept c = grind (arith, kept_untaken)
-
-pub returns-in-Untaken-clause-faults : goal.returns-in-Untaken-clause-faults
-returns-in-Untaken-clause-faults c =
-    none c.args.faults.now.items _ (faults_untaken (Asked-around c.args.asked) c.args.place (seen c.args.decl) c.args.rule (cc))
+pub returns-in-Untaken : goal.returns-in-Untaken
+returns-in-Untaken c = untaken (Asked-around c.args.asked) c.args.place (seen c.args.decl) c.in-Untaken.is c.args.faults.now.items

@@ -1,33 +1,26 @@
-use Rattle.std.proofs.Common.{◌++◌, ◌∙◌, ap, sym, append-nil, arith}
+use Rattle.std.proofs.lemmas.Result.{IfOk-weaker}
+use Rattle.std.proofs.Common.{ap, sym, ◌∙◌}
+use Rattle.fast_check_program_forms.specs.ModuleDecls.{export_decl}
 use Rattle.fast_check_syntax.specs.Part.{seen}
-use Rattle.fast_check_transform.specs.PartAnswers.{Asked-around}
-use Rattle.fast_check_transform.proofs.ByKind.{kept_exported, faults_exported, kept_declared, faults_declared, kept_silent, faults_silent}
+use Rattle.fast_check_transform.specs.PartAnswers.{Asked-around, as_list}
+use Rattle.fast_check_transform.proofs.ByRule.{declared, no_export, made_export, silent}
 use Rattle.fast_check_transform.proofs.items.keep_item.Goals as goal
 
-pub returns-in-Declared-clause-kept : goal.returns-in-Declared-clause-kept
-returns-in-Declared-clause-kept c = grind (arith, kept_declared)
+pub returns-in-Declared : goal.returns-in-Declared
+returns-in-Declared c =
+    IfOk-weaker c.keep_decl.result _ _
+    (λ tree h. declared (Asked-around c.args.asked) (seen c.args.item) (sym c.item_rule.ensures ∙ c.in-Declared.is) h c.range_of_node.ensures) c.keep_decl.ensures
 
-pub returns-in-Declared-clause-faults : goal.returns-in-Declared-clause-faults
-returns-in-Declared-clause-faults c = grind (arith, faults_declared)
+pub returns-in_ok-into_tree-in-Some : goal.returns-in_ok-into_tree-in-Some
+returns-in_ok-into_tree-in-Some c =
+    made_export (Asked-around c.args.asked) (seen c.args.item) (sym c.item_rule.ensures ∙ c.in-Exported.is) c.in_ok-decl-in-Exported.ensures
+    c.of.ensures.span c.of.ensures.decl (ap as_list c.in-Some.is)
+    (c.in_ok-into_tree-in-Some.ensures ∙ ap (λ s. export_decl s c.in-Some.decl) c.of.ensures.span)
 
-pub returns-in_ok-into_tree-in-Some-clause-kept : goal.returns-in_ok-into_tree-in-Some-clause-kept
-returns-in_ok-into_tree-in-Some-clause-kept c =
-    let e = kept_exported (Asked-around c.args.asked) (seen c.args.item) c.in-Exported.rule (cc) in grind arith
+pub returns-in-None : goal.returns-in-None
+returns-in-None c =
+    no_export (Asked-around c.args.asked) (seen c.args.item) (sym c.item_rule.ensures ∙ c.in-Exported.is) c.in_ok-decl-in-Exported.ensures
+    c.of.ensures.span c.of.ensures.decl (ap as_list c.in-None.is)
 
-pub returns-in_ok-into_tree-in-Some-clause-faults : goal.returns-in_ok-into_tree-in-Some-clause-faults
-returns-in_ok-into_tree-in-Some-clause-faults c = grind (arith, faults_exported)
-
-pub returns-in-None-clause-kept : goal.returns-in-None-clause-kept
-returns-in-None-clause-kept c =
-    let e = kept_exported (Asked-around c.args.asked) (seen c.args.item) c.in-Exported.rule (cc) in grind arith
-
-pub returns-in-None-clause-faults : goal.returns-in-None-clause-faults
-returns-in-None-clause-faults c = grind (arith, faults_exported)
-
-pub returns-in-Silent-clause-kept : goal.returns-in-Silent-clause-kept
-returns-in-Silent-clause-kept c = grind (arith, kept_silent)
-
-pub returns-in-Silent-clause-faults : goal.returns-in-Silent-clause-faults
-returns-in-Silent-clause-faults c =
-    sym (append-nil c.args.faults.now.items)
-    ∙ ap (λ f. c.args.faults.now.items ++ f) (sym (faults_silent (Asked-around c.args.asked) (seen c.args.item) (cc)))
+pub returns-in-Silent : goal.returns-in-Silent
+returns-in-Silent c = silent (Asked-around c.args.asked) (seen c.args.item) (sym c.item_rule.ensures ∙ c.in-Silent.is) c.args.faults.now.items
