@@ -1,5 +1,5 @@
 -- Expressions that agree but for what is hidden are seen alike, where what is seen of the parts is.
-use Rattle.std.specs.Prelude.{◌≡◌, ℕ, suc, Bool, true, false, ◌&&◌, Option, None, List, [], ◌∷◌, map, refl, if◌then◌else◌}
+use Rattle.std.specs.Prelude.{◌≡◌, ℕ, suc, Bool, true, Option, None, List, [], ◌∷◌, map, refl, if◌then◌else◌}
 use Rattle.std.proofs.Common.{ap, ap₂, ◌∙◌, sym, subst₂}
 use Rattle.fast_check_syntax.specs.declared.kind.Kind.{Kind}
 use Rattle.fast_check_syntax.specs.declared.kind.Kind.TheVariants as kinds
@@ -13,7 +13,8 @@ use Rattle.fast_check_signatures.specs.declared.rules.TheConstants.{FREEZE}
 use Rattle.fast_check_signatures.specs.declared.rules.Slot.{Slot}
 use Rattle.fast_check_signatures.specs.Parameters.{Look}
 use Rattle.fast_check_signatures.specs.Functions.{arrow_seen}
-use Rattle.fast_check_signatures.specs.Expressions.{is_plain, is_compound, freezes, is_frozen, Rule, whole, parted, slotted, arrow, not_at_all, other_rule, rule, is_refused, slot_seen, slots_seen, by_rule, expr_form}
+use Rattle.fast_check_signatures.specs.Expressions.{is_plain, is_compound, freezes, is_frozen, Rule, whole, parted, slotted, arrow, not_at_all, other_rule}
+use Rattle.fast_check_signatures.specs.Expressions.{rule, is_refused, slot_seen, slots_seen, by_rule, expr_form}
 use Rattle.fast_check_signatures.proofs.Choices.{both_true}
 use Rattle.fast_check_signatures.proofs.Refused.{refused_rule}
 use Rattle.fast_check_same_values.specs.SameValues.{Both}
@@ -28,7 +29,8 @@ module _ (r : Renaming) (ok : IsRenaming r) (c d : SyntaxContext) (look look' : 
 
   pub refused_alike : is_refused c t ≡ true → is_refused d u ≡ true → FormAlike
   refused_alike e f =
-      subst₂ (λ x y. Alike r ok (by_rule c x (kind_of t) t look p) (by_rule d y (kind_of u) u look' q)) (sym (refused_rule c t e)) (sym (refused_rule d u f)) refl
+      subst₂ (λ x y. Alike r ok (by_rule c x (kind_of t) t look p) (by_rule d y (kind_of u) u look' q)) (sym (refused_rule c t e))
+      (sym (refused_rule d u f)) refl
 
   -- what has to be alike of the parts from a place on, and of two expressions of one rule
   abbrev pub SlotsAlike : List Slot → ℕ → Type 0
@@ -54,7 +56,8 @@ module _ (r : Renaming) (ok : IsRenaming r) (c d : SyntaxContext) (look look' : 
 
   pub kind_alike : (k : Kind) (x : Rule) → Both k t u → rule k (freezes c t) ≡ x → rule k (freezes d u) ≡ x → RuleAlike x → FormAlike
   kind_alike k x b e f alike =
-      subst₂ (Alike r ok) (sym (λ i. by_rule c ((ap (λ k. rule k (freezes c t)) b.left ∙ e) i) (b.left i) t look p)) (sym (λ i. by_rule d ((ap (λ k. rule k (freezes d u)) b.right ∙ f) i) (b.right i) u look' q)) (rule_alike x k alike)
+      subst₂ (Alike r ok) (sym (λ i. by_rule c ((ap (λ k. rule k (freezes c t)) b.left ∙ e) i) (b.left i) t look p))
+      (sym (λ i. by_rule d ((ap (λ k. rule k (freezes d u)) b.right ∙ f) i) (b.right i) u look' q)) (rule_alike x k alike)
 
   pub compound_alike : (k : Kind) → Both k t u → is_compound k ≡ true → RuleAlike parted → FormAlike
   compound_alike k b e alike = kind_alike k parted b (compound_rule k (freezes c t) e) (compound_rule k (freezes d u) e) alike
@@ -63,4 +66,5 @@ module _ (r : Renaming) (ok : IsRenaming r) (c d : SyntaxContext) (look look' : 
   frozen_alike e f alike =
       let x = both_true (kind_of t is kinds.CallExpr) (freezes c t) e in
       let y = both_true (kind_of u is kinds.CallExpr) (freezes d u) f in
-      kind_alike kinds.CallExpr (slotted FREEZE) (record { left = is_kind _ _ x.0; right = is_kind _ _ y.0 }) (ap (rule kinds.CallExpr) x.1) (ap (rule kinds.CallExpr) y.1) alike
+      kind_alike kinds.CallExpr (slotted FREEZE) (record { left = is_kind _ _ x.0; right = is_kind _ _ y.0 }) (ap (rule kinds.CallExpr) x.1)
+      (ap (rule kinds.CallExpr) y.1) alike

@@ -11,8 +11,10 @@ use Rattle.fast_check_syntax.specs.Same.{SameRange}
 use Rattle.fast_check_syntax.proofs.Moved.{absent_moved}
 use Rattle.fast_check_syntax.proofs.Partners.{partners-keep as partners_keep, twice-keeps as twice_keeps}
 use Rattle.fast_check_syntax.proofs.Same.{tree_to, range_to}
-use Rattle.fast_check_class_forms.specs.Functions.{Function-span, Function-params, Function-ctxt, Function-body, Function-is_generator, Function-is_async, Function-type_params, Function-return_type, Param-span, Param-pat}
-use Rattle.fast_check_expression_forms.specs.Expressions.{ArrowExpr-span, ArrowExpr-ctxt, ArrowExpr-body, ArrowExpr-is_async, ArrowExpr-is_generator, ArrowExpr-type_params, ArrowExpr-return_type}
+use Rattle.fast_check_class_forms.specs.Functions.{Function-span, Function-params, Function-ctxt, Function-body, Function-is_generator, Function-is_async}
+use Rattle.fast_check_class_forms.specs.Functions.{Function-return_type, Param-span, Param-pat}
+use Rattle.fast_check_expression_forms.specs.Expressions.{ArrowExpr-span, ArrowExpr-ctxt, ArrowExpr-body, ArrowExpr-is_async}
+use Rattle.fast_check_expression_forms.specs.Expressions.{ArrowExpr-return_type}
 use Rattle.fast_check_tree.specs.declared.helpers.literal_type.DeclMutabilityKind.TheVariants.{Mutable}
 use Rattle.fast_check_tree.specs.declared.helpers.return_class.ReturnStatementAnalysis.{ReturnStatementAnalysis}
 use Rattle.fast_check_tree.specs.declared.helpers.return_class.ReturnStatementAnalysis.TheVariants as class
@@ -22,11 +24,12 @@ use Rattle.fast_check_tree.specs.ReturnClass.{return_class}
 use Rattle.fast_check_tree.proofs.BuildersMoved.{type_ann_moved, any_type_ann_moved}
 use Rattle.fast_check_signatures.specs.declared.function_kind.FunctionKind.{FunctionKind}
 use Rattle.fast_check_signatures.specs.declared.function_kind.FunctionKind.TheVariants.{DeclarationLike, ExpressionLike}
-use Rattle.fast_check_signatures.specs.Seen.{Seen, written, range, round, function, typed_arrow, valued_arrow, faulty, seens}
+use Rattle.fast_check_signatures.specs.Seen.{Seen, written, range, function, typed_arrow, valued_arrow, faulty}
 use Rattle.fast_check_signatures.specs.NewNodes.{promised, void_or_promise_void, any_param}
 use Rattle.fast_check_signatures.specs.Parameters.{Look}
 use Rattle.fast_check_signatures.specs.Functions.{return_type_missing, void_seen, class_seen, return_type_seen, function_head, signature_seen, any_params_from}
-use Rattle.fast_check_signatures.specs.Functions.{implementation_seen, param_seen, arrow_head, typed_arrow_seen, valued_arrow_seen, or_own, by_value, untyped_arrow_seen}
+use Rattle.fast_check_signatures.specs.Functions.{implementation_seen, param_seen, arrow_head, typed_arrow_seen, valued_arrow_seen, or_own, by_value}
+use Rattle.fast_check_signatures.specs.Functions.{untyped_arrow_seen}
 use Rattle.fast_check_signatures.specs.Functions.{arrow_by_type}
 use Rattle.fast_check_same_values.specs.SameValues.{Both, Neither, SameShown, NoneShown, SameFunctionHead, SameReturn, SameImplementation, SameArrowHead}
 use Rattle.fast_check_signatures.proofs.NewNodesMoved.{promised_moved, void_or_promise_void_moved, any_param_moved}
@@ -48,9 +51,11 @@ module _ (r : Renaming) (ok : IsRenaming r) where
   void_alike : (is_async : Bool) → Alike r ok (void_seen is_async) (void_seen is_async)
   void_alike is_async =
       let type = type_ann (void_or_promise_void is_async) in
-      written_alike r ok type type (new_alike r ok type (λ m keeps. type_ann_moved m keeps (void_or_promise_void is_async) ∙ ap type_ann (void_or_promise_void_moved m keeps is_async)))
+      written_alike r ok type type (new_alike r ok type (λ m keeps. type_ann_moved m keeps (void_or_promise_void is_async)
+      ∙ ap type_ann (void_or_promise_void_moved m keeps is_async)))
 
-  class_alike : (kind : FunctionKind) (is_async : Bool) (p q : SourceRange) (c : ReturnStatementAnalysis) → RangeAlike r ok p q → Alike r ok (class_seen kind is_async p c) (class_seen kind is_async q c)
+  class_alike : (kind : FunctionKind) (is_async : Bool) (p q : SourceRange) (c : ReturnStatementAnalysis) → RangeAlike r ok p q →
+      Alike r ok (class_seen kind is_async p c) (class_seen kind is_async q c)
   class_alike kind is_async p q class.Void e = void_alike is_async
   class_alike DeclarationLike is_async p q class.None e = void_alike is_async
   class_alike ExpressionLike is_async p q class.None e = faulty_alike r ok (return_type_missing true is_async) p q e
@@ -73,7 +78,8 @@ module _ (r : Renaming) (ok : IsRenaming r) where
     signature_alike t u type type' params params' h e ps = λ i. function (function_head_alike t u h i) (e i) (seens_alike r ok params params' ps i)
 
     return_type_alike : (kind : FunctionKind) (p q : SourceRange) (t u : Tree) → RangeAlike r ok p q → SameFunctionHead r c d t u → SameReturn r c d t u →
-        (is_absent (Function-return_type t) ≡ true → return_class (Function-body t) ≡ return_class (Function-body u)) → Alike r ok (return_type_seen kind p t) (return_type_seen kind q u)
+        (is_absent (Function-return_type t) ≡ true → return_class (Function-body t) ≡ return_class (Function-body u)) →
+        Alike r ok (return_type_seen kind p t) (return_type_seen kind q u)
     return_type_alike kind p q t u e h s classes =
         let missing = return_type_missing false (Function-is_async t) in
         let missing' = return_type_missing false (Function-is_async u) in
@@ -94,7 +100,8 @@ module _ (r : Renaming) (ok : IsRenaming r) where
         (λ w. same_written r ok s.return_type)
 
     -- a function, by its parameters, where its body has the class of the other's if no type is written
-    pub signature_of_alike : (kind : FunctionKind) (p q : SourceRange) (t u : Tree) (params params' : List Seen) → RangeAlike r ok p q → SameFunctionHead r c d t u → SameReturn r c d t u →
+    pub signature_of_alike : (kind : FunctionKind) (p q : SourceRange) (t u : Tree) (params params' : List Seen) → RangeAlike r ok p q →
+        SameFunctionHead r c d t u → SameReturn r c d t u →
         (is_absent (Function-return_type t) ≡ true → return_class (Function-body t) ≡ return_class (Function-body u)) → AllAlike r ok params params' →
         Alike r ok (signature_seen t (return_type_seen kind p t) params) (signature_seen u (return_type_seen kind q u) params')
     signature_of_alike kind p q t u params params' e h s classes ps =
@@ -102,14 +109,16 @@ module _ (r : Renaming) (ok : IsRenaming r) where
 
     -- ---- parameters
 
-    pub param_alike : (t u : Tree) (pat pat' : Seen) → SameRange r (Param-span t) (Param-span u) → Alike r ok pat pat' → Alike r ok (param_seen t pat) (param_seen u pat')
+    pub param_alike : (t u : Tree) (pat pat' : Seen) → SameRange r (Param-span t) (Param-span u) → Alike r ok pat pat' →
+        Alike r ok (param_seen t pat) (param_seen u pat')
     param_alike t u pat pat' s e =
         round_alike r ok Param (range (Param-span t) ∷ written (list []) ∷ pat ∷ []) (range (Param-span u) ∷ written (list []) ∷ pat' ∷ [])
         (λ i. range_alike r ok (Param-span t) (Param-span u) s i ∷ written (empty_list_alike r ok i) ∷ e i ∷ [])
 
     any_alike : (n : ℕ) (a b : Bool) → a ≡ b → Alike r ok (written (any_param n a)) (written (any_param n b))
     any_alike n a b e =
-        ap (λ x. written (moved (partners r) (any_param n x))) e ∙ written_alike r ok (any_param n b) (any_param n b) (new_alike r ok (any_param n b) (λ m keeps. any_param_moved m keeps n b))
+        ap (λ x. written (moved (partners r) (any_param n x))) e ∙ written_alike r ok (any_param n b) (any_param n b)
+        (new_alike r ok (any_param n b) (λ m keeps. any_param_moved m keeps n b))
 
     any_params_alike : (n : ℕ) (ts us : List Tree) → map (λ p. kind_of (Param-pat p) is RestPat) ts ≡ map (λ p. kind_of (Param-pat p) is RestPat) us →
         AllAlike r ok (any_params_from n ts) (any_params_from n us)
@@ -123,7 +132,8 @@ module _ (r : Renaming) (ok : IsRenaming r) where
 
     pub implementation_alike : (t u : Tree) → SameImplementation r c d t u → Alike r ok (implementation_seen t) (implementation_seen u)
     implementation_alike t u s =
-        signature_alike t u (written any_type_ann) (written any_type_ann) (any_params_from 0 (parts (Function-params t))) (any_params_from 0 (parts (Function-params u))) s.head
+        signature_alike t u (written any_type_ann) (written any_type_ann) (any_params_from 0 (parts (Function-params t)))
+        (any_params_from 0 (parts (Function-params u))) s.head
         (written_alike r ok any_type_ann any_type_ann (new_alike r ok any_type_ann any_type_ann_moved))
         (any_params_alike 0 (parts (Function-params t)) (parts (Function-params u)) s.rests)
 
@@ -147,11 +157,13 @@ module _ (r : Renaming) (ok : IsRenaming r) where
         λ i. valued_arrow (arrow_head_alike t u h i) (h.is_async i) (e i) (f i) (seens_alike r ok pats pats' ps i)
 
     -- two arrows by their parameters, where what is seen of them without a written type is given
-    module _ (look look' : Look) (t u : Tree) (p q : SourceRange) (pats pats' : List Seen) (h : SameArrowHead r c d t u) (e : RangeAlike r ok p q) (ps : AllAlike r ok pats pats') where
+    module _ (look look' : Look) (t u : Tree) (p q : SourceRange) (pats pats' : List Seen) (h : SameArrowHead r c d t u) (e : RangeAlike r ok p q)
+        (ps : AllAlike r ok pats pats') where
       abbrev pub ArrowAlike : Type 0
       ArrowAlike = Alike r ok (arrow_by_type c look t p pats) (arrow_by_type d look' u q pats')
 
-      by_type_alike : (is_absent (ArrowExpr-return_type t) ≡ true → Alike r ok (untyped_arrow_seen c look t p pats) (untyped_arrow_seen d look' u q pats')) → ArrowAlike
+      by_type_alike : (is_absent (ArrowExpr-return_type t) ≡ true → Alike r ok (untyped_arrow_seen c look t p pats) (untyped_arrow_seen d look' u q pats')) →
+          ArrowAlike
       by_type_alike f =
           let type = ArrowExpr-return_type t in
           let type' = ArrowExpr-return_type u in
@@ -175,28 +187,34 @@ module _ (r : Renaming) (ok : IsRenaming r) where
           let classed = class_seen ExpressionLike (ArrowExpr-is_async t) p (return_class (ArrowExpr-body t)) in
           let classed' = class_seen ExpressionLike (ArrowExpr-is_async u) q (return_class (ArrowExpr-body u)) in
           by_type_alike (λ a.
-          subst₂ (Alike r ok) (sym (ap (λ j. untyped_at c look t p pats (j is BlockStmt)) k.left)) (sym (ap (λ j. untyped_at d look' u q pats' (j is BlockStmt)) k.right))
+          subst₂ (Alike r ok) (sym (ap (λ j. untyped_at c look t p pats (j is BlockStmt)) k.left))
+          (sym (ap (λ j. untyped_at d look' u q pats' (j is BlockStmt)) k.right))
           (typed_arrow_alike t u pats pats' classed classed' h ps
           (subst₂ (λ x y. Alike r ok classed (class_seen ExpressionLike x q y)) h.is_async classes
           (class_alike ExpressionLike (ArrowExpr-is_async t) p q (return_class (ArrowExpr-body t)) e))))
 
       -- the body is a value
       valued_alike : Neither BlockStmt (ArrowExpr-body t) (ArrowExpr-body u) →
-          Alike r ok (by_value c look t p pats (inferred_type Mutable c (ArrowExpr-body t))) (by_value d look' u q pats' (inferred_type Mutable d (ArrowExpr-body u))) → ArrowAlike
-      valued_alike n f = by_type_alike (λ a. subst₂ (Alike r ok) (sym (ap (untyped_at c look t p pats) n.left)) (sym (ap (untyped_at d look' u q pats') n.right)) f)
+          Alike r ok (by_value c look t p pats (inferred_type Mutable c (ArrowExpr-body t)))
+          (by_value d look' u q pats' (inferred_type Mutable d (ArrowExpr-body u))) → ArrowAlike
+      valued_alike n f = by_type_alike (λ a. subst₂ (Alike r ok) (sym (ap (untyped_at c look t p pats) n.left))
+          (sym (ap (untyped_at d look' u q pats') n.right)) f)
 
-      pub shown_value_alike : IsPair r.scopes c.0 d.0 → Neither BlockStmt (ArrowExpr-body t) (ArrowExpr-body u) → SameShown r c d (ArrowExpr-body t) (ArrowExpr-body u) → ArrowAlike
+      pub shown_value_alike : IsPair r.scopes c.0 d.0 → Neither BlockStmt (ArrowExpr-body t) (ArrowExpr-body u) →
+          SameShown r c d (ArrowExpr-body t) (ArrowExpr-body u) → ArrowAlike
       shown_value_alike pair n s =
           let type = type_ann (promised c (ArrowExpr-is_async t) s.left) in
           let type' = type_ann (promised d (ArrowExpr-is_async u) s.right) in
           valued_alike n (subst₂ (λ x y. Alike r ok (by_value c look t p pats x) (by_value d look' u q pats' y)) (sym s.left_is) (sym s.right_is)
           (typed_arrow_alike t u pats pats' (written type) (written type') h ps
-          (written_alike r ok type type' (image_alike r ok type_ann (λ m keeps t. sym (type_ann_moved m keeps t)) (promised c (ArrowExpr-is_async t) s.left) (promised d (ArrowExpr-is_async u) s.right)
+          (written_alike r ok type type' (image_alike r ok type_ann (λ m keeps t. sym (type_ann_moved m keeps t)) (promised c (ArrowExpr-is_async t) s.left)
+          (promised d (ArrowExpr-is_async u) s.right)
           (promised_alike pair (ArrowExpr-is_async t) (ArrowExpr-is_async u) s.left s.right h.is_async (tree_to r ok s.types))))))
         where
           promised_alike : IsPair r.scopes c.0 d.0 → (a b : Bool) (x y : Tree) → a ≡ b → TreeAlike r ok x y → TreeAlike r ok (promised c a x) (promised d b y)
           promised_alike pair a b x y f g =
-              sym (promised_moved (partners r) (partners_keep r ok) c a x) ∙ ((λ i. promised (scope_to r ok c d pair i) (f i) (g i)) ∙ promised_moved twice twice_keeps d b y)
+              sym (promised_moved (partners r) (partners_keep r ok) c a x)
+              ∙ ((λ i. promised (scope_to r ok c d pair i) (f i) (g i)) ∙ promised_moved twice twice_keeps d b y)
 
       pub kept_value_alike : Neither BlockStmt (ArrowExpr-body t) (ArrowExpr-body u) → NoneShown r c d (ArrowExpr-body t) (ArrowExpr-body u) →
           Alike r ok (look (ArrowExpr-body t) None) (look' (ArrowExpr-body u) None) → ArrowAlike

@@ -12,7 +12,9 @@ use Rattle.fast_check_syntax.specs.Moves.{Renaming, IsRenaming, partners, twice,
 use Rattle.fast_check_syntax.specs.Same.{SameTree, SameRange}
 use Rattle.fast_check_syntax.proofs.Partners.{partners-keep as partners_keep, twice-keeps as twice_keeps}
 use Rattle.fast_check_syntax.proofs.Same.{tree_to, range_to}
-use Rattle.fast_check_expression_forms.specs.Patterns.{ArrayPat-span, ArrayPat-optional, ArrayPat-type_ann, ObjectPat-span, ObjectPat-optional, ObjectPat-type_ann, RestPat-span, RestPat-dot3_token, RestPat-arg, RestPat-type_ann, rest_pat, AssignPat-span, AssignPat-left, AssignPat-right, assign_pat}
+use Rattle.fast_check_expression_forms.specs.Patterns.{ArrayPat-span, ArrayPat-optional, ArrayPat-type_ann, ObjectPat-span, ObjectPat-optional}
+use Rattle.fast_check_expression_forms.specs.Patterns.{ObjectPat-type_ann, RestPat-span, RestPat-dot3_token, RestPat-arg, RestPat-type_ann, rest_pat}
+use Rattle.fast_check_expression_forms.specs.Patterns.{AssignPat-span, AssignPat-left, AssignPat-right, assign_pat}
 use Rattle.fast_check_program_forms.specs.Names.{Ident-span, Ident-optional, BindingIdent-id, BindingIdent-type_ann}
 use Rattle.fast_check_tree.specs.declared.helpers.literal_type.DeclMutabilityKind.TheVariants.{Mutable}
 use Rattle.fast_check_tree.specs.Builders.{type_ann, never_value}
@@ -23,12 +25,14 @@ use Rattle.fast_check_tree.proofs.ReturnsMoved.{is_optional_param_moved}
 use Rattle.fast_check_signatures.specs.declared.fault.FaultKind.TheVariants.{MissingExplicitType}
 use Rattle.fast_check_signatures.specs.Seen.{Seen, written, default, faulty}
 use Rattle.fast_check_signatures.specs.NewNodes.{never_array}
-use Rattle.fast_check_signatures.specs.Parameters.{Look, emptied_array, emptied_object, typed, arg_by_kind, rest_arg, without_default, default_seen, by_shown, ident_default_seen, pattern_default_seen, assign_by_left, pat_by_kind, pat_seen}
+use Rattle.fast_check_signatures.specs.Parameters.{Look, emptied_array, emptied_object, typed, arg_by_kind, rest_arg, without_default, default_seen, by_shown}
+use Rattle.fast_check_signatures.specs.Parameters.{pattern_default_seen, assign_by_left, pat_by_kind, pat_seen}
 use Rattle.fast_check_same_values.specs.SameValues.{Both, SameShown, NoneShown, SameEmptied, pattern_type}
 use Rattle.fast_check_same_values.specs.SameValues as s
 use Rattle.fast_check_signatures.proofs.NewNodesMoved.{never_array_moved}
 use Rattle.fast_check_signatures.proofs.ParametersMoved.{without_default_moved}
-use Rattle.fast_check_same_values.proofs.AlikeTrees.{TreeAlike, RangeAlike, image_alike, same_read, new_alike, field_alike, range_field_alike, absent_alike, range_leaf_alike, flag_leaf_alike, node_alike, empty_list_alike}
+use Rattle.fast_check_same_values.proofs.AlikeTrees.{TreeAlike, RangeAlike, image_alike, same_read, new_alike, field_alike, range_field_alike, absent_alike}
+use Rattle.fast_check_same_values.proofs.AlikeTrees.{range_leaf_alike, flag_leaf_alike, node_alike, empty_list_alike}
 use Rattle.fast_check_same_values.proofs.AlikeSeen.{Alike, written_alike, faulty_alike, alike_if}
 
 -- ---- what a parameter of each kind is seen as
@@ -61,7 +65,8 @@ module _ (r : Renaming) (ok : IsRenaming r) where
   abbrev pub PlaceAlike : Option SourceRange → Option SourceRange → Type 0
   PlaceAlike p q = option_map (moved_range (partners r)) p ≡ option_map (moved_range twice) q
 
-  typed_alike : (type type' : Tree) (a b : SourceRange) (t u : Tree) → TreeAlike r ok type type' → RangeAlike r ok a b → TreeAlike r ok t u → Alike r ok (typed type a t) (typed type' b u)
+  typed_alike : (type type' : Tree) (a b : SourceRange) (t u : Tree) → TreeAlike r ok type type' → RangeAlike r ok a b → TreeAlike r ok t u →
+      Alike r ok (typed type a t) (typed type' b u)
   typed_alike type type' a b t u e f g =
       alike_if r ok (is_absent type) (is_absent type') (faulty MissingExplicitType a) (written t) (faulty MissingExplicitType b) (written u)
       (absent_alike r ok type type' e) (λ q. faulty_alike r ok MissingExplicitType a b f) (λ q. written_alike r ok t u g)
@@ -72,7 +77,8 @@ module _ (r : Renaming) (ok : IsRenaming r) where
       sym (without_default_moved (partners r) (partners_keep r ok) optional id type) ∙
       (ap₂ (without_default optional) e f ∙ without_default_moved twice twice_keeps optional id' type')
 
-  array_emptied : (t u : Tree) → SameRange r (ArrayPat-span t) (ArrayPat-span u) → ArrayPat-optional t ≡ ArrayPat-optional u → SameTree r (ArrayPat-type_ann t) (ArrayPat-type_ann u) →
+  array_emptied : (t u : Tree) → SameRange r (ArrayPat-span t) (ArrayPat-span u) → ArrayPat-optional t ≡ ArrayPat-optional u →
+      SameTree r (ArrayPat-type_ann t) (ArrayPat-type_ann u) →
       TreeAlike r ok (emptied_array t) (emptied_array u)
   array_emptied t u a o e =
       node_alike r ok kinds.ArrayPat (tree.Range (ArrayPat-span t) ∷ list [] ∷ tree.Flag (ArrayPat-optional t) ∷ ArrayPat-type_ann t ∷ [])
@@ -80,7 +86,8 @@ module _ (r : Renaming) (ok : IsRenaming r) where
       (λ i. range_leaf_alike r ok (ArrayPat-span t) (ArrayPat-span u) (range_to r ok (ArrayPat-span t) (ArrayPat-span u) a) i ∷
       empty_list_alike r ok i ∷ flag_leaf_alike r ok (ArrayPat-optional t) (ArrayPat-optional u) o i ∷ tree_to r ok e i ∷ [])
 
-  object_emptied : (t u : Tree) → SameRange r (ObjectPat-span t) (ObjectPat-span u) → ObjectPat-optional t ≡ ObjectPat-optional u → SameTree r (ObjectPat-type_ann t) (ObjectPat-type_ann u) →
+  object_emptied : (t u : Tree) → SameRange r (ObjectPat-span t) (ObjectPat-span u) → ObjectPat-optional t ≡ ObjectPat-optional u →
+      SameTree r (ObjectPat-type_ann t) (ObjectPat-type_ann u) →
       TreeAlike r ok (emptied_object t) (emptied_object u)
   object_emptied t u a o e =
       node_alike r ok kinds.ObjectPat (tree.Range (ObjectPat-span t) ∷ list [] ∷ tree.Flag (ObjectPat-optional t) ∷ ObjectPat-type_ann t ∷ [])
@@ -88,20 +95,24 @@ module _ (r : Renaming) (ok : IsRenaming r) where
       (λ i. range_leaf_alike r ok (ObjectPat-span t) (ObjectPat-span u) (range_to r ok (ObjectPat-span t) (ObjectPat-span u) a) i ∷
       empty_list_alike r ok i ∷ flag_leaf_alike r ok (ObjectPat-optional t) (ObjectPat-optional u) o i ∷ tree_to r ok e i ∷ [])
 
-  assign_pat_alike : (a b : SourceRange) (t u never : Tree) → SameRange r a b → TreeAlike r ok t u → TreeAlike r ok never never → TreeAlike r ok (assign_pat a t never) (assign_pat b u never)
+  assign_pat_alike : (a b : SourceRange) (t u never : Tree) → SameRange r a b → TreeAlike r ok t u → TreeAlike r ok never never →
+      TreeAlike r ok (assign_pat a t never) (assign_pat b u never)
   assign_pat_alike a b t u never s e f =
       node_alike r ok kinds.AssignPat (tree.Range a ∷ t ∷ never ∷ []) (tree.Range b ∷ u ∷ never ∷ [])
       (λ i. range_leaf_alike r ok a b (range_to r ok a b s) i ∷ e i ∷ f i ∷ [])
 
-  default_alike : (a b p q : SourceRange) (left left' : Tree) (value value' : Seen) → SameRange r a b → RangeAlike r ok p q → TreeAlike r ok left left' → Alike r ok value value' →
+  default_alike : (a b p q : SourceRange) (left left' : Tree) (value value' : Seen) → SameRange r a b → RangeAlike r ok p q → TreeAlike r ok left left' →
+      Alike r ok value value' →
       Alike r ok (default_seen a p left value) (default_seen b q left' value')
   default_alike a b p q left left' value value' s e f g =
       λ i. default (record { span = range_to r ok a b s i; left = f i; place = e i }) (g i)
 
   module _ (c d : SyntaxContext) where
     rest_arg_alike : (t u : Tree) → SameEmptied r c d t u → TreeAlike r ok (rest_arg t) (rest_arg u)
-    rest_arg_alike t u (s.array k a o e) = subst₂ (TreeAlike r ok) (sym (ap (λ k. arg_by_kind k t) k.left)) (sym (ap (λ k. arg_by_kind k u) k.right)) (array_emptied t u a o e)
-    rest_arg_alike t u (s.object k a o e) = subst₂ (TreeAlike r ok) (sym (ap (λ k. arg_by_kind k t) k.left)) (sym (ap (λ k. arg_by_kind k u) k.right)) (object_emptied t u a o e)
+    rest_arg_alike t u (s.array k a o e) = subst₂ (TreeAlike r ok) (sym (ap (λ k. arg_by_kind k t) k.left)) (sym (ap (λ k. arg_by_kind k u) k.right))
+        (array_emptied t u a o e)
+    rest_arg_alike t u (s.object k a o e) = subst₂ (TreeAlike r ok) (sym (ap (λ k. arg_by_kind k t) k.left)) (sym (ap (λ k. arg_by_kind k u) k.right))
+        (object_emptied t u a o e)
 
     -- ---- which may be left out
 
@@ -139,7 +150,8 @@ module _ (r : Renaming) (ok : IsRenaming r) where
           (typed_alike (ObjectPat-type_ann t) (ObjectPat-type_ann u) (ObjectPat-span t) (ObjectPat-span u) (emptied_object t) (emptied_object u)
           (tree_to r ok e) (range_to r ok (ObjectPat-span t) (ObjectPat-span u) a) (object_emptied t u a o e))
 
-      pub rest_alike : (t u : Tree) → Both kinds.RestPat t u → SameRange r (RestPat-span t) (RestPat-span u) → SameRange r (RestPat-dot3_token t) (RestPat-dot3_token u) →
+      pub rest_alike : (t u : Tree) → Both kinds.RestPat t u → SameRange r (RestPat-span t) (RestPat-span u) →
+          SameRange r (RestPat-dot3_token t) (RestPat-dot3_token u) →
           SameEmptied r c d (RestPat-arg t) (RestPat-arg u) → SameTree r (RestPat-type_ann t) (RestPat-type_ann u) → PatAlike t u
       rest_alike t u k a dots arg e =
           subst₂ (Alike r ok) (sym (pat_of c look b t kinds.RestPat k.left)) (sym (pat_of d look' b u kinds.RestPat k.right))
@@ -159,7 +171,8 @@ module _ (r : Renaming) (ok : IsRenaming r) where
       shown unresolved f pat = by_shown unresolved f b pat
 
       -- by the written type, or else as `by_shown` says
-      ident_default_alike : (t u : Tree) → Both kinds.AssignPat t u → Both kinds.BindingIdent (AssignPat-left t) (AssignPat-left u) → SameTree r (AssignPat-left t) (AssignPat-left u) →
+      ident_default_alike : (t u : Tree) → Both kinds.AssignPat t u → Both kinds.BindingIdent (AssignPat-left t) (AssignPat-left u) →
+          SameTree r (AssignPat-left t) (AssignPat-left u) →
           (is_absent (BindingIdent-type_ann (AssignPat-left t)) ≡ true →
           Alike r ok (shown c look t (inferred_type Mutable c (AssignPat-right t))) (shown d look' u (inferred_type Mutable d (AssignPat-right u)))) →
           PatAlike t u
@@ -174,25 +187,30 @@ module _ (r : Renaming) (ok : IsRenaming r) where
           (alike_if r ok (is_absent type) (is_absent type')
           (shown c look t (inferred_type Mutable c (AssignPat-right t))) (written (without_default b id type))
           (shown d look' u (inferred_type Mutable d (AssignPat-right u))) (written (without_default b id' type'))
-          (absent_alike r ok type type' g) s (λ q. written_alike r ok (without_default b id type) (without_default b id' type') (without_default_alike b id id' type type' f g)))
+          (absent_alike r ok type type' g) s (λ q. written_alike r ok (without_default b id type) (without_default b id' type')
+          (without_default_alike b id id' type type' f g)))
 
-      pub typed_default_alike : (t u : Tree) → Both kinds.AssignPat t u → Both kinds.BindingIdent (AssignPat-left t) (AssignPat-left u) → SameTree r (AssignPat-left t) (AssignPat-left u) →
+      pub typed_default_alike : (t u : Tree) → Both kinds.AssignPat t u → Both kinds.BindingIdent (AssignPat-left t) (AssignPat-left u) →
+          SameTree r (AssignPat-left t) (AssignPat-left u) →
           is_absent (BindingIdent-type_ann (AssignPat-left t)) ≡ false → PatAlike t u
       typed_default_alike t u k j e w = ident_default_alike t u k j e (λ q. absurd (true≢false (sym q ∙ w)))
 
-      pub shown_default_alike : (t u : Tree) → Both kinds.AssignPat t u → Both kinds.BindingIdent (AssignPat-left t) (AssignPat-left u) → SameTree r (AssignPat-left t) (AssignPat-left u) →
+      pub shown_default_alike : (t u : Tree) → Both kinds.AssignPat t u → Both kinds.BindingIdent (AssignPat-left t) (AssignPat-left u) →
+          SameTree r (AssignPat-left t) (AssignPat-left u) →
           SameShown r c d (AssignPat-right t) (AssignPat-right u) → PatAlike t u
       shown_default_alike t u k j e h =
           let id = BindingIdent-id (AssignPat-left t) in
           let id' = BindingIdent-id (AssignPat-left u) in
           let f : TreeAlike r ok id id' = field_alike r ok BindingIdent-id _ (λ t. refl) (AssignPat-left t) (AssignPat-left u) (tree_to r ok e) in
-          let g : TreeAlike r ok (type_ann h.left) (type_ann h.right) = image_alike r ok type_ann (λ m keeps t. sym (type_ann_moved m keeps t)) h.left h.right (tree_to r ok h.types) in
+          let g : TreeAlike r ok (type_ann h.left) (type_ann h.right) =
+          image_alike r ok type_ann (λ m keeps t. sym (type_ann_moved m keeps t)) h.left h.right (tree_to r ok h.types) in
           ident_default_alike t u k j e (λ q.
           subst₂ (λ x y. Alike r ok (shown c look t x) (shown d look' u y)) (sym h.left_is) (sym h.right_is)
           (written_alike r ok (without_default b id (type_ann h.left)) (without_default b id' (type_ann h.right))
           (without_default_alike b id id' (type_ann h.left) (type_ann h.right) f g)))
 
-      pub kept_default_alike : (t u : Tree) → Both kinds.AssignPat t u → Both kinds.BindingIdent (AssignPat-left t) (AssignPat-left u) → SameRange r (AssignPat-span t) (AssignPat-span u) →
+      pub kept_default_alike : (t u : Tree) → Both kinds.AssignPat t u → Both kinds.BindingIdent (AssignPat-left t) (AssignPat-left u) →
+          SameRange r (AssignPat-span t) (AssignPat-span u) →
           SameTree r (AssignPat-left t) (AssignPat-left u) → NoneShown r c d (AssignPat-right t) (AssignPat-right u) → DefaultAlike t u → PatAlike t u
       kept_default_alike t u k j a e h v =
           let place = Ident-span (BindingIdent-id (AssignPat-left t)) in
@@ -217,30 +235,38 @@ module _ (r : Renaming) (ok : IsRenaming r) where
           (default_seen (AssignPat-span u) q y (look' (AssignPat-right u) None)) (written (assign_pat (AssignPat-span u) y never))
           (absent_alike r ok type type' e)
           (λ w. default_alike (AssignPat-span t) (AssignPat-span u) p q x y (look (AssignPat-right t) None) (look' (AssignPat-right u) None) a f g (v w))
-          (λ w. written_alike r ok (assign_pat (AssignPat-span t) x never) (assign_pat (AssignPat-span u) y never) (assign_pat_alike (AssignPat-span t) (AssignPat-span u) x y never a g n))
+          (λ w. written_alike r ok (assign_pat (AssignPat-span t) x never) (assign_pat (AssignPat-span u) y never)
+          (assign_pat_alike (AssignPat-span t) (AssignPat-span u) x y never a g n))
 
       -- by the written type, or else by the default
-      emptied_default_alike : (t u : Tree) → Both kinds.AssignPat t u → SameRange r (AssignPat-span t) (AssignPat-span u) → SameEmptied r c d (AssignPat-left t) (AssignPat-left u) →
+      emptied_default_alike : (t u : Tree) → Both kinds.AssignPat t u → SameRange r (AssignPat-span t) (AssignPat-span u) →
+          SameEmptied r c d (AssignPat-left t) (AssignPat-left u) →
           (is_absent (pattern_type (AssignPat-left t)) ≡ true → Alike r ok (look (AssignPat-right t) None) (look' (AssignPat-right u) None)) → PatAlike t u
       emptied_default_alike t u k a (s.array j o f e) v =
           let left = AssignPat-left t in
           let left' = AssignPat-left u in
           subst₂ (Alike r ok) (sym (default_of c look b t kinds.ArrayPat k.left j.left)) (sym (default_of d look' b u kinds.ArrayPat k.right j.right))
-          (pattern_default_alike t u (ArrayPat-type_ann left) (ArrayPat-type_ann left') (ArrayPat-span left) (ArrayPat-span left') (emptied_array left) (emptied_array left') never_array
-          a (tree_to r ok e) (range_to r ok (ArrayPat-span left) (ArrayPat-span left') o) (array_emptied left left' o f e) (new_alike r ok never_array never_array_moved)
+          (pattern_default_alike t u (ArrayPat-type_ann left) (ArrayPat-type_ann left') (ArrayPat-span left) (ArrayPat-span left') (emptied_array left)
+          (emptied_array left') never_array
+          a (tree_to r ok e) (range_to r ok (ArrayPat-span left) (ArrayPat-span left') o) (array_emptied left left' o f e)
+          (new_alike r ok never_array never_array_moved)
           (λ q. v (ap (no_type_at left) j.left ∙ q)))
       emptied_default_alike t u k a (s.object j o f e) v =
           let left = AssignPat-left t in
           let left' = AssignPat-left u in
           subst₂ (Alike r ok) (sym (default_of c look b t kinds.ObjectPat k.left j.left)) (sym (default_of d look' b u kinds.ObjectPat k.right j.right))
-          (pattern_default_alike t u (ObjectPat-type_ann left) (ObjectPat-type_ann left') (ObjectPat-span left) (ObjectPat-span left') (emptied_object left) (emptied_object left') never_value
-          a (tree_to r ok e) (range_to r ok (ObjectPat-span left) (ObjectPat-span left') o) (object_emptied left left' o f e) (new_alike r ok never_value never_value_moved)
+          (pattern_default_alike t u (ObjectPat-type_ann left) (ObjectPat-type_ann left') (ObjectPat-span left) (ObjectPat-span left') (emptied_object left)
+          (emptied_object left') never_value
+          a (tree_to r ok e) (range_to r ok (ObjectPat-span left) (ObjectPat-span left') o) (object_emptied left left' o f e)
+          (new_alike r ok never_value never_value_moved)
           (λ q. v (ap (no_type_at left) j.left ∙ q)))
 
-      pub typed_pattern_alike : (t u : Tree) → Both kinds.AssignPat t u → SameRange r (AssignPat-span t) (AssignPat-span u) → SameEmptied r c d (AssignPat-left t) (AssignPat-left u) →
+      pub typed_pattern_alike : (t u : Tree) → Both kinds.AssignPat t u → SameRange r (AssignPat-span t) (AssignPat-span u) →
+          SameEmptied r c d (AssignPat-left t) (AssignPat-left u) →
           is_absent (pattern_type (AssignPat-left t)) ≡ false → PatAlike t u
       typed_pattern_alike t u k a e w = emptied_default_alike t u k a e (λ q. absurd (true≢false (sym q ∙ w)))
 
-      pub kept_pattern_alike : (t u : Tree) → Both kinds.AssignPat t u → SameRange r (AssignPat-span t) (AssignPat-span u) → SameEmptied r c d (AssignPat-left t) (AssignPat-left u) →
+      pub kept_pattern_alike : (t u : Tree) → Both kinds.AssignPat t u → SameRange r (AssignPat-span t) (AssignPat-span u) →
+          SameEmptied r c d (AssignPat-left t) (AssignPat-left u) →
           DefaultAlike t u → PatAlike t u
       kept_pattern_alike t u k a e v = emptied_default_alike t u k a e (λ q. v None None refl)

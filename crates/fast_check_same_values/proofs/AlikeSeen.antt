@@ -39,7 +39,8 @@ module _ (r : Renaming) (ok : IsRenaming r) where
   pub faulty_alike : (kind : FaultKind) (a b : SourceRange) → RangeAlike r ok a b → Alike (faulty kind a) (faulty kind b)
   faulty_alike kind a b e = ap (faulty kind) e
 
-  pub alike_if : (a b : Bool) (s s' t t' : Seen) → a ≡ b → (a ≡ true → Alike s t) → (a ≡ false → Alike s' t') → Alike (if a then s else s') (if b then t else t')
+  pub alike_if : (a b : Bool) (s s' t t' : Seen) → a ≡ b → (a ≡ true → Alike s t) → (a ≡ false → Alike s' t') →
+      Alike (if a then s else s') (if b then t else t')
   alike_if true true s s' t t' e p q = p refl
   alike_if false false s s' t t' e p q = q refl
   alike_if true false s s' t t' e p q = cc

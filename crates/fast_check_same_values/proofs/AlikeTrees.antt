@@ -26,7 +26,8 @@ module _ (r : Renaming) (ok : IsRenaming r) where
   scope_to c d p = λ i. record { 0 = to_partner r.scopes ok.scopes c.0 d.0 p i }
 
   -- what becomes of trees in a way that commutes with moves
-  pub image_alike : (f : Tree → Tree) → ((m : Moves) → Keeps m → (t : Tree) → f (moved m t) ≡ moved m (f t)) → (t u : Tree) → TreeAlike t u → TreeAlike (f t) (f u)
+  pub image_alike : (f : Tree → Tree) → ((m : Moves) → Keeps m → (t : Tree) → f (moved m t) ≡ moved m (f t)) → (t u : Tree) → TreeAlike t u →
+      TreeAlike (f t) (f u)
   image_alike f moves t u e = sym (moves (partners r) (partners_keep r ok) t) ∙ (ap f e ∙ moves twice twice_keeps u)
 
   -- what is read of trees, and stays under moves

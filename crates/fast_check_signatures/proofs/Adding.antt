@@ -1,17 +1,19 @@
 -- What calls add, one after the other: each lemma makes of the clauses of smaller calls that of a larger one.
-use Rattle.std.specs.Prelude.{◌≡◌, Bool, true, false, Option, Some, None, List, [], ◌∷◌, ◌++◌, refl, unwrap_or, option_map}
-use Rattle.std.proofs.Common.{ap, ap₂, ◌∙◌, sym, subst}
+use Rattle.std.specs.Prelude.{◌≡◌, Option, Some, None, List, [], ◌∷◌, ◌++◌, refl, unwrap_or, option_map}
+use Rattle.std.proofs.Common.{ap, ap₂, ◌∙◌, sym}
 use Rattle.std.proofs.lemmas.List.{append-nil, append_assoc}
 use Rattle.fast_check_syntax.specs.declared.tree.Tree.{Tree, Absent}
 use Rattle.fast_check_signatures.specs.declared.fault.Fault.{Fault}
-use Rattle.fast_check_signatures.specs.Answers.{Answer, Adds, faultless, made, joined, settled, demanded, visited, with_tree}
+use Rattle.fast_check_signatures.specs.Seen.{Seen}
+use Rattle.fast_check_signatures.specs.Answers.{Answer, Adds, faultless, made, joined, settled, demanded, visited, with_tree, answer_to, answer_of}
 
 -- nothing is added
 pub adds_nothing : {A : Type 0} (given : A) (old : List Fault) → Adds (faultless given) given old old
 adds_nothing given old = record { added = []; is = refl; faults = sym (append-nil old) }
 
 -- one fault is
-pub adds_fault : {A : Type 0} (given : A) (fault : Fault) (old : List Fault) → Adds (record { stays = given; faults = fault ∷ [] }) given old (old ++ fault ∷ [])
+pub adds_fault : {A : Type 0} (given : A) (fault : Fault) (old : List Fault) →
+    Adds (record { stays = given; faults = fault ∷ [] }) given old (old ++ fault ∷ [])
 adds_fault given fault old = record { added = fault ∷ []; is = refl; faults = refl }
 
 -- an answer that is another one
@@ -43,7 +45,8 @@ adds_demanded fault {t = t} h = record {
   faults = h.faults;
 }
 
-pub adds_missing : (fault : Fault) {a : Answer (Option Tree)} {old mid : List Fault} → Adds a None old mid → Adds (demanded fault a) Absent old (mid ++ fault ∷ [])
+pub adds_missing : (fault : Fault) {a : Answer (Option Tree)} {old mid : List Fault} → Adds a None old mid →
+    Adds (demanded fault a) Absent old (mid ++ fault ∷ [])
 adds_missing fault {old = old} h = record {
   added = h.added ++ fault ∷ [];
   is = ap (demanded fault) h.is;
@@ -60,5 +63,21 @@ adds_visited {old = old} g h = record {
 }
 
 -- one that may not stay: the others are not visited
-pub adds_refused : {a : Answer (Option Tree)} (rest : Answer (Option (List Tree))) {old new : List Fault} → Adds a None old new → Adds (visited a rest) None old new
+pub adds_refused : {a : Answer (Option Tree)} (rest : Answer (Option (List Tree))) {old new : List Fault} → Adds a None old new →
+    Adds (visited a rest) None old new
 adds_refused rest h = record { added = h.added; is = ap (λ x. visited x rest) h.is; faults = h.faults }
+
+-- ---- items, one list before another
+
+with_tree_append : (o : Option Tree) (ts us : List Tree) → with_tree o (ts ++ us) ≡ with_tree o ts ++ us
+with_tree_append None ts us = refl
+with_tree_append (Some t) ts us = refl
+
+pub answer_append : (xs ys : List Seen) → answer_of (xs ++ ys) ≡ joined (λ ts us. ts ++ us) (answer_of xs) (answer_of ys)
+answer_append [] ys = refl
+answer_append (x ∷ xs) ys = λ i. record {
+  stays = (ap (λ a. with_tree (answer_to x).stays a.stays) (answer_append xs ys)
+      ∙ with_tree_append (answer_to x).stays (answer_of xs).stays (answer_of ys).stays) i;
+  faults = (ap (λ a. (answer_to x).faults ++ a.faults) (answer_append xs ys)
+      ∙ sym (append_assoc (answer_to x).faults (answer_of xs).faults (answer_of ys).faults)) i;
+}

@@ -1,5 +1,5 @@
 -- Stage 2 and moves: what becomes of what is seen, moved, is what becomes of it, moved.
-use Rattle.std.specs.Prelude.{◌≡◌, Bool, true, false, Option, Some, None, List, [], ◌∷◌, ◌++◌, map, refl, unwrap_or, option_map, if◌then◌else◌}
+use Rattle.std.specs.Prelude.{◌≡◌, Bool, false, Option, Some, None, List, [], ◌∷◌, ◌++◌, map, refl, unwrap_or, option_map, if◌then◌else◌}
 use Rattle.std.proofs.Common.{ap, ◌∙◌, sym}
 use Rattle.std.proofs.lemmas.List.{map-append}
 use Rattle.fast_check_syntax.specs.declared.kind.Kind.{Kind}
@@ -22,9 +22,10 @@ use Rattle.fast_check_signatures.specs.NewNodes.{function_body, arrow_body}
 use Rattle.fast_check_signatures.specs.Seen.{DeclaratorHead, DefaultHead, FunctionHead, ArrowHead}
 use Rattle.fast_check_signatures.specs.Seen.{Seen, written, round, listed, declarator, default, function, typed_arrow, valued_arrow, faulty, refused}
 use Rattle.fast_check_signatures.specs.Seen.{Seens, end, also, seens}
-use Rattle.fast_check_signatures.specs.Answers.{Answer, fault_at, faultless, made, joined, settled, unless_stays, demanded, before, visited, with_tree}
+use Rattle.fast_check_signatures.specs.Answers.{Answer, fault_at, made, joined, settled, unless_stays, demanded, before, visited, with_tree}
 use Rattle.fast_check_signatures.specs.Answers.{valued_declarator, signed_function, signed_arrow, kept_arrow}
-use Rattle.fast_check_signatures.specs.Answers.{round_answer, list_answer, declarator_answer, default_answer, function_answer, typed_arrow_answer, valued_arrow_answer}
+use Rattle.fast_check_signatures.specs.Answers.{round_answer, list_answer, declarator_answer, default_answer, function_answer, typed_arrow_answer}
+use Rattle.fast_check_signatures.specs.Answers.{valued_arrow_answer}
 use Rattle.fast_check_signatures.specs.Answers.{answer_to, parts_answer, items_answer, answer_of}
 use Rattle.fast_check_signatures.proofs.NewNodesMoved.{function_body_moved, arrow_body_moved}
 use Rattle.fast_check_signatures.proofs.MovedParts.{moved_declarator, moved_default, moved_function, moved_arrow, moved_seen, moved_seens}
@@ -72,7 +73,8 @@ module _ (m : Moves) where
   demanded_moved : (fault : Fault) (a : Answer (Option Tree)) → demanded (moved_fault m fault) (moved_answer m a) ≡ moved_by (moved m) m (demanded fault a)
   demanded_moved fault a = λ i. record {
     stays = or_absent_moved a.stays i;
-    faults = (ap (λ fs. map (moved_fault m) a.faults ++ fs) (unless_moved a.stays fault) ∙ sym (map-append (moved_fault m) a.faults (unless_stays a.stays fault))) i;
+    faults = (ap (λ fs. map (moved_fault m) a.faults ++ fs) (unless_moved a.stays fault)
+        ∙ sym (map-append (moved_fault m) a.faults (unless_stays a.stays fault))) i;
   }
 
   next_moved : (t : Tree) (o : Option (List Tree)) →
@@ -99,24 +101,29 @@ module _ (m : Moves) (ok : Keeps m) where
   valued_declarator_moved : (d : DeclaratorHead) (value : Tree) → moved m (valued_declarator d value) ≡ valued_declarator (moved_declarator m d) (moved m value)
   valued_declarator_moved d value = simp (node_moved, range_moved, flag_moved, absent_moved)
 
-  assign_pat_moved : (span : SourceRange) (left right : Tree) → moved m (assign_pat span left right) ≡ assign_pat (moved_range m span) (moved m left) (moved m right)
+  assign_pat_moved : (span : SourceRange) (left right : Tree) → moved m (assign_pat span left right) ≡
+      assign_pat (moved_range m span) (moved m left) (moved m right)
   assign_pat_moved span left right = simp (node_moved, range_moved)
 
   function_node_moved : (span : SourceRange) (params : List Tree) (ctxt : SyntaxContext) (body type_params type : Tree) →
       moved m (function_node span (list params) (list []) ctxt body false false type_params type) ≡
-      function_node (moved_range m span) (list (map (moved m) params)) (list []) (moved_scope m ctxt) (moved m body) false false (moved m type_params) (moved m type)
+      function_node (moved_range m span) (list (map (moved m) params)) (list []) (moved_scope m ctxt) (moved m body) false false (moved m type_params)
+      (moved m type)
   function_node_moved span params ctxt body type_params type = simp (node_moved, range_moved, context_moved, flag_moved)
 
   signed_function_moved : (f : FunctionHead) (type : Tree) (params : List Tree) →
       signed_function (moved_function m f) (moved m type) (map (moved m) params) ≡ moved m (signed_function f type params)
   signed_function_moved f type params =
-      let body = tree_chosen m f.lacks_body f.lacks_body Absent Absent (function_body (moved m type)) (function_body type) refl (sym (absent_moved m)) (function_body_moved m ok type) in
-      (λ i. function_node (moved_range m f.span) (list (map (moved m) params)) (list []) (moved_scope m f.ctxt) (body i) false false (moved m f.type_params) (moved m type))
+      let body = tree_chosen m f.lacks_body f.lacks_body Absent Absent (function_body (moved m type)) (function_body type) refl (sym (absent_moved m))
+      (function_body_moved m ok type) in
+      (λ i. function_node (moved_range m f.span) (list (map (moved m) params)) (list []) (moved_scope m f.ctxt) (body i) false false (moved m f.type_params)
+      (moved m type))
       ∙ sym (function_node_moved f.span params f.ctxt (if f.lacks_body then Absent else function_body type) f.type_params type)
 
   arrow_expr_moved : (a : ArrowHead) (params : List Tree) (body : Tree) (is_async : Bool) (type : Tree) →
       moved m (arrow_expr a.span a.ctxt (list params) body is_async a.is_generator a.type_params type) ≡
-      arrow_expr (moved_range m a.span) (moved_scope m a.ctxt) (list (map (moved m) params)) (moved m body) is_async a.is_generator (moved m a.type_params) (moved m type)
+      arrow_expr (moved_range m a.span) (moved_scope m a.ctxt) (list (map (moved m) params)) (moved m body) is_async a.is_generator (moved m a.type_params)
+      (moved m type)
   arrow_expr_moved a params body is_async type = simp (node_moved, range_moved, context_moved, flag_moved)
 
   signed_arrow_moved : (a : ArrowHead) (type : Tree) (params : List Tree) →
@@ -134,14 +141,16 @@ module _ (m : Moves) (ok : Keeps m) where
   -- ---- answers
 
   round_answer_moved : (kind : Kind) (a : Answer (Option (List Tree))) → round_answer kind (moved_parts m a) ≡ moved_answer m (round_answer kind a)
-  round_answer_moved kind a = made_moved m (option_map (node kind)) (option_map (node kind)) (option_map (map (moved m))) (option_map (moved m)) a (round_moved m kind a.stays)
+  round_answer_moved kind a = made_moved m (option_map (node kind)) (option_map (node kind)) (option_map (map (moved m)))
+      (option_map (moved m)) a (round_moved m kind a.stays)
 
   list_answer_moved : (a : Answer (List Tree)) → list_answer (moved_items m a) ≡ moved_answer m (list_answer a)
   list_answer_moved a =
       let make : List Tree → Option Tree = λ ts. Some (list ts) in
       made_moved m make make (map (moved m)) (option_map (moved m)) a (ap Some (sym (node_moved m List' a.stays)))
 
-  declarator_answer_moved : (d : DeclaratorHead) (a : Answer (Option Tree)) → declarator_answer (moved_declarator m d) (moved_answer m a) ≡ moved_answer m (declarator_answer d a)
+  declarator_answer_moved : (d : DeclaratorHead) (a : Answer (Option Tree)) →
+      declarator_answer (moved_declarator m d) (moved_answer m a) ≡ moved_answer m (declarator_answer d a)
   declarator_answer_moved d a =
       let fault = fault_at MissingExplicitType (Ident-span d.ident) in
       let make : Tree → Option Tree = λ v. Some (valued_declarator d v) in
@@ -150,7 +159,8 @@ module _ (m : Moves) (ok : Keeps m) where
       (λ i. made make' ((ap (λ p. demanded (fault_at MissingExplicitType p) (moved_answer m a)) place ∙ demanded_moved m fault a) i))
       ∙ made_moved m make make' (moved m) (option_map (moved m)) (demanded fault a) (ap Some (sym (valued_declarator_moved d (demanded fault a).stays)))
 
-  default_answer_moved : (d : DefaultHead) (a : Answer (Option Tree)) → default_answer (moved_default m d) (moved_answer m a) ≡ moved_answer m (default_answer d a)
+  default_answer_moved : (d : DefaultHead) (a : Answer (Option Tree)) →
+      default_answer (moved_default m d) (moved_answer m a) ≡ moved_answer m (default_answer d a)
   default_answer_moved d a =
       let fault = fault_at MissingExplicitType d.place in
       let make : Tree → Option Tree = λ v. Some (assign_pat d.span d.left v) in
@@ -175,13 +185,15 @@ module _ (m : Moves) (ok : Keeps m) where
       ∙ joined_moved m make make' (moved m) (map (moved m)) (option_map (moved m)) (settled a) b (ap Some (signed_arrow_moved h (settled a).stays b.stays))
 
   valued_arrow_answer_moved : (h : ArrowHead) (is_async : Bool) (place : SourceRange) (a : Answer (Option Tree)) (b : Answer (List Tree)) →
-      valued_arrow_answer (moved_arrow m h) is_async (moved_range m place) (moved_answer m a) (moved_items m b) ≡ moved_answer m (valued_arrow_answer h is_async place a b)
+      valued_arrow_answer (moved_arrow m h) is_async (moved_range m place) (moved_answer m a) (moved_items m b) ≡
+      moved_answer m (valued_arrow_answer h is_async place a b)
   valued_arrow_answer_moved h is_async place a b =
       let fault = fault_at (return_type_missing false is_async) place in
       let make : Tree → List Tree → Option Tree = λ v ps. Some (kept_arrow h is_async v ps) in
       let make' : Tree → List Tree → Option Tree = λ v ps. Some (kept_arrow (moved_arrow m h) is_async v ps) in
       ap (λ value. joined make' value (moved_items m b)) (demanded_moved m fault a)
-      ∙ joined_moved m make make' (moved m) (map (moved m)) (option_map (moved m)) (demanded fault a) b (ap Some (kept_arrow_moved h is_async (demanded fault a).stays b.stays))
+      ∙ joined_moved m make make' (moved m) (map (moved m)) (option_map (moved m))
+      (demanded fault a) b (ap Some (kept_arrow_moved h is_async (demanded fault a).stays b.stays))
 
   -- ---- all
 
@@ -193,9 +205,11 @@ module _ (m : Moves) (ok : Keeps m) where
     answer_to_moved (declarator d value) = ap (declarator_answer (moved_declarator m d)) (answer_to_moved value) ∙ declarator_answer_moved d (answer_to value)
     answer_to_moved (default d value) = ap (default_answer (moved_default m d)) (answer_to_moved value) ∙ default_answer_moved d (answer_to value)
     answer_to_moved (function f type params) =
-        (λ i. function_answer (moved_function m f) (answer_to_moved type i) (items_moved params i)) ∙ function_answer_moved f (answer_to type) (items_answer params)
+        (λ i. function_answer (moved_function m f) (answer_to_moved type i) (items_moved params i))
+        ∙ function_answer_moved f (answer_to type) (items_answer params)
     answer_to_moved (typed_arrow a type params) =
-        (λ i. typed_arrow_answer (moved_arrow m a) (answer_to_moved type i) (items_moved params i)) ∙ typed_arrow_answer_moved a (answer_to type) (items_answer params)
+        (λ i. typed_arrow_answer (moved_arrow m a) (answer_to_moved type i) (items_moved params i))
+        ∙ typed_arrow_answer_moved a (answer_to type) (items_answer params)
     answer_to_moved (valued_arrow a is_async place value params) =
         (λ i. valued_arrow_answer (moved_arrow m a) is_async (moved_range m place) (answer_to_moved value i) (items_moved params i))
         ∙ valued_arrow_answer_moved a is_async place (answer_to value) (items_answer params)

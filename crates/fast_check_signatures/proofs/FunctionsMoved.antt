@@ -9,8 +9,10 @@ use Rattle.fast_check_syntax.specs.declared.tree.Tree.{Tree}
 use Rattle.fast_check_syntax.specs.Shape.{◌is◌, kind_of, parts, is_absent}
 use Rattle.fast_check_syntax.specs.Moves.{Moves, Keeps, moved, moved_range}
 use Rattle.fast_check_syntax.proofs.Moved.{node_moved, absent_moved}
-use Rattle.fast_check_class_forms.specs.Functions.{Function-span, Function-params, Function-body, Function-ctxt, Function-is_generator, Function-is_async, Function-type_params, Function-return_type, Param-span, Param-pat}
-use Rattle.fast_check_expression_forms.specs.Expressions.{ArrowExpr-span, ArrowExpr-ctxt, ArrowExpr-params, ArrowExpr-body, ArrowExpr-is_async, ArrowExpr-is_generator, ArrowExpr-type_params, ArrowExpr-return_type}
+use Rattle.fast_check_class_forms.specs.Functions.{Function-span, Function-params, Function-body, Function-ctxt, Function-is_generator, Function-is_async}
+use Rattle.fast_check_class_forms.specs.Functions.{Function-type_params, Function-return_type, Param-span, Param-pat}
+use Rattle.fast_check_expression_forms.specs.Expressions.{ArrowExpr-span, ArrowExpr-ctxt, ArrowExpr-params, ArrowExpr-body, ArrowExpr-is_async}
+use Rattle.fast_check_expression_forms.specs.Expressions.{ArrowExpr-is_generator, ArrowExpr-type_params, ArrowExpr-return_type}
 use Rattle.fast_check_tree.specs.declared.helpers.literal_type.DeclMutabilityKind.TheVariants.{Mutable}
 use Rattle.fast_check_tree.specs.declared.helpers.return_class.ReturnStatementAnalysis.{ReturnStatementAnalysis}
 use Rattle.fast_check_tree.specs.declared.helpers.return_class.ReturnStatementAnalysis.TheVariants as class
@@ -27,10 +29,12 @@ use Rattle.fast_check_signatures.specs.Seen.{Seen, written, range, round, functi
 use Rattle.fast_check_signatures.specs.NewNodes.{promised, void_or_promise_void, any_param}
 use Rattle.fast_check_signatures.specs.Parameters.{Look, pats_seen}
 use Rattle.fast_check_signatures.specs.Functions.{return_type_missing, void_seen, class_seen, return_type_seen, function_head, signature_seen, any_params_from}
-use Rattle.fast_check_signatures.specs.Functions.{implementation_seen, param_seen, params_seen, arrow_head, typed_arrow_seen, valued_arrow_seen, or_own, function_seen}
+use Rattle.fast_check_signatures.specs.Functions.{implementation_seen, param_seen, params_seen, arrow_head, typed_arrow_seen, valued_arrow_seen, or_own}
+use Rattle.fast_check_signatures.specs.Functions.{function_seen}
 use Rattle.fast_check_signatures.specs.Functions.{by_value, untyped_arrow_seen, arrow_by_type, arrow_seen}
 use Rattle.fast_check_signatures.proofs.NewNodesMoved.{promised_moved, void_or_promise_void_moved, any_param_moved}
-use Rattle.fast_check_signatures.proofs.MovedParts.{moved_seen, moved_function, moved_arrow, seens_moved, range_seen_moved, field_moved, absent_moved_at, kind_moved_at, items_moved_at}
+use Rattle.fast_check_signatures.proofs.MovedParts.{moved_seen, moved_function, moved_arrow, seens_moved, range_seen_moved, field_moved, absent_moved_at}
+use Rattle.fast_check_signatures.proofs.MovedParts.{kind_moved_at, items_moved_at}
 use Rattle.fast_check_signatures.proofs.MovedParts.{flag_field_moved, range_field_moved, scope_field_moved, seen_chosen}
 use Rattle.fast_check_signatures.proofs.ParametersMoved.{LooksMoved, pats_seen_moved}
 
@@ -38,7 +42,8 @@ patterns_moved : (m : Moves) (ps : List Tree) → map (λ p. Param-pat p) (map (
 patterns_moved m [] = refl
 patterns_moved m (p ∷ ps) = ap₂ (λ q qs. q ∷ qs) (field_moved m Param-pat _ (λ t. refl) p) (patterns_moved m ps)
 
-or_own_moved : (m : Moves) (place : Option SourceRange) (own : SourceRange) → or_own (option_map (moved_range m) place) (moved_range m own) ≡ moved_range m (or_own place own)
+or_own_moved : (m : Moves) (place : Option SourceRange) (own : SourceRange) →
+    or_own (option_map (moved_range m) place) (moved_range m own) ≡ moved_range m (or_own place own)
 or_own_moved m (Some place) own = refl
 or_own_moved m None own = refl
 
@@ -158,11 +163,13 @@ module _ (m : Moves) (ok : Keeps m) where
         function_seen unresolved' look' ExpressionLike (or_own (option_map (moved_range m) place) (Function-span t')) t' ≡
         moved_seen m (function_seen unresolved look ExpressionLike (or_own place (Function-span t)) t)
     part_function_moved place t t' e =
-        let own = ap (or_own (option_map (moved_range m) place)) (ap Function-span e ∙ range_field_moved m ok Function-span _ (λ t. refl) t) ∙ or_own_moved m place (Function-span t) in
+        let own = ap (or_own (option_map (moved_range m) place)) (ap Function-span e ∙ range_field_moved m ok Function-span _ (λ t. refl) t)
+        ∙ or_own_moved m place (Function-span t) in
         (λ i. function_seen unresolved' look' ExpressionLike (own i) (e i)) ∙ function_seen_moved ExpressionLike (or_own place (Function-span t)) t
 
     by_value_moved : (t : Tree) (place : SourceRange) (pats : List Seen) (shown : Option Tree) →
-        by_value unresolved' look' (moved m t) (moved_range m place) (map (moved_seen m) pats) (option_map (moved m) shown) ≡ moved_seen m (by_value unresolved look t place pats shown)
+        by_value unresolved' look' (moved m t) (moved_range m place) (map (moved_seen m) pats) (option_map (moved m) shown) ≡
+        moved_seen m (by_value unresolved look t place pats shown)
     by_value_moved t place pats (Some type) =
         let is_async = ArrowExpr-is_async t in
         ap (λ s. typed_arrow_seen (moved m t) (map (moved_seen m) pats) (written s))
@@ -174,7 +181,8 @@ module _ (m : Moves) (ok : Keeps m) where
         ∙ valued_arrow_moved t place pats (look (ArrowExpr-body t) None)
 
     untyped_arrow_moved : (t : Tree) (place : SourceRange) (pats : List Seen) →
-        untyped_arrow_seen unresolved' look' (moved m t) (moved_range m place) (map (moved_seen m) pats) ≡ moved_seen m (untyped_arrow_seen unresolved look t place pats)
+        untyped_arrow_seen unresolved' look' (moved m t) (moved_range m place) (map (moved_seen m) pats) ≡
+        moved_seen m (untyped_arrow_seen unresolved look t place pats)
     untyped_arrow_moved t place pats =
         let body = ArrowExpr-body t in
         let is_async = ArrowExpr-is_async t in
@@ -196,7 +204,8 @@ module _ (m : Moves) (ok : Keeps m) where
     arrow_by_type_moved : (t : Tree) (place : SourceRange) (pats : List Seen) →
         arrow_by_type unresolved' look' (moved m t) (moved_range m place) (map (moved_seen m) pats) ≡ moved_seen m (arrow_by_type unresolved look t place pats)
     arrow_by_type_moved t place pats =
-        (seen_chosen m _ (is_absent (ArrowExpr-return_type t)) _ _ _ _ (absent_moved_at m ArrowExpr-return_type _ (λ t. refl) t) (record { path = untyped_arrow_moved t place pats })
+        (seen_chosen m _ (is_absent (ArrowExpr-return_type t)) _ _ _ _ (absent_moved_at m ArrowExpr-return_type _ (λ t. refl) t)
+        (record { path = untyped_arrow_moved t place pats })
         (record {
           path =
               ap (λ s. typed_arrow_seen (moved m t) (map (moved_seen m) pats) (written s)) (field_moved m ArrowExpr-return_type _ (λ t. refl) t)
@@ -206,7 +215,9 @@ module _ (m : Moves) (ok : Keeps m) where
     pub arrow_seen_moved : (place : Option SourceRange) (t : Tree) →
         arrow_seen unresolved' look' (option_map (moved_range m) place) (moved m t) ≡ moved_seen m (arrow_seen unresolved look place t)
     arrow_seen_moved place t =
-        let own = ap (or_own (option_map (moved_range m) place)) (range_field_moved m ok ArrowExpr-span _ (λ t. refl) t) ∙ or_own_moved m place (ArrowExpr-span t) in
-        let pats = ap (pats_seen unresolved' look') (items_moved_at m ArrowExpr-params _ (λ t. refl) t) ∙ pats_seen_moved m ok unresolved look look' at (parts (ArrowExpr-params t)) in
+        let own = ap (or_own (option_map (moved_range m) place)) (range_field_moved m ok ArrowExpr-span _ (λ t. refl) t)
+        ∙ or_own_moved m place (ArrowExpr-span t) in
+        let pats = ap (pats_seen unresolved' look') (items_moved_at m ArrowExpr-params _ (λ t. refl) t)
+        ∙ pats_seen_moved m ok unresolved look look' at (parts (ArrowExpr-params t)) in
         ap₂ (arrow_by_type unresolved' look' (moved m t)) own pats
         ∙ arrow_by_type_moved t (or_own place (ArrowExpr-span t)) (pats_seen unresolved look (parts (ArrowExpr-params t)))

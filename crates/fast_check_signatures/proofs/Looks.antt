@@ -13,7 +13,8 @@ use Rattle.fast_check_syntax.specs.Descent.{by_descent_is, given, given_lower}
 use Rattle.fast_check_syntax.specs.Height.{height, height_part, height_at_most, height_one}
 use Rattle.fast_check_class_forms.specs.Functions.{Function-span, Function-params, Param-pat}
 use Rattle.fast_check_expression_forms.specs.Expressions.{ArrowExpr-span, ArrowExpr-params, ArrowExpr-body, ArrowExpr-return_type}
-use Rattle.fast_check_expression_forms.specs.Patterns.{ArrayPat-span, ArrayPat-type_ann, ObjectPat-span, ObjectPat-type_ann, AssignPat-span, AssignPat-left, AssignPat-right}
+use Rattle.fast_check_expression_forms.specs.Patterns.{ArrayPat-span, ArrayPat-type_ann, ObjectPat-span, ObjectPat-type_ann, AssignPat-span, AssignPat-left}
+use Rattle.fast_check_expression_forms.specs.Patterns.{AssignPat-right}
 use Rattle.fast_check_program_forms.specs.Names.{Ident-span, BindingIdent-id, BindingIdent-type_ann}
 use Rattle.fast_check_tree.specs.declared.helpers.literal_type.DeclMutabilityKind.TheVariants.{Mutable}
 use Rattle.fast_check_tree.specs.Builders.{never_value}
@@ -26,9 +27,11 @@ use Rattle.fast_check_signatures.specs.declared.rules.Slot.TheVariants as slots
 use Rattle.fast_check_signatures.specs.Seen.{Seen, round, refused, seens}
 use Rattle.fast_check_signatures.specs.NewNodes.{never_array}
 use Rattle.fast_check_signatures.specs.Parameters.{Look, default_seen, emptied_array, emptied_object, by_shown, ident_default_seen, pattern_default_seen}
-use Rattle.fast_check_signatures.specs.Parameters.{assign_by_left, assign_seen, pat_by_kind, pat_seen, pats_seen}
-use Rattle.fast_check_signatures.specs.Functions.{or_own, signature_seen, return_type_seen, params_seen, function_seen, valued_arrow_seen, by_value, arrow_by_type, arrow_seen}
-use Rattle.fast_check_signatures.specs.Expressions.{freezes, Rule, whole, parted, slotted, arrow, rule, expr_rule, slot_seen, slots_seen, by_rule, expr_form, expr_seen}
+use Rattle.fast_check_signatures.specs.Parameters.{assign_by_left, pat_by_kind, pat_seen, pats_seen}
+use Rattle.fast_check_signatures.specs.Functions.{or_own, signature_seen, return_type_seen, params_seen, function_seen, valued_arrow_seen, by_value}
+use Rattle.fast_check_signatures.specs.Functions.{arrow_by_type, arrow_seen}
+use Rattle.fast_check_signatures.specs.Expressions.{freezes, Rule, whole, parted, slotted, arrow, rule, expr_rule, slot_seen, slots_seen, by_rule, expr_form}
+use Rattle.fast_check_signatures.specs.Expressions.{expr_seen}
 
 -- ---- trees that are lower than a number says
 
@@ -60,7 +63,8 @@ module _ (unresolved : SyntaxContext) (look other : Look) (limit : ℕ) (same : 
   default_same : (pat : Tree) → height pat < limit → look (AssignPat-right pat) ≡ other (AssignPat-right pat)
   default_same pat h = same (AssignPat-right pat) (field_below AssignPat-right _ (λ t. refl) limit pat h)
 
-  by_shown_same : (b : Bool) (pat : Tree) → height pat < limit → (shown : Option Tree) → by_shown unresolved look b pat shown ≡ by_shown unresolved other b pat shown
+  by_shown_same : (b : Bool) (pat : Tree) → height pat < limit → (shown : Option Tree) →
+      by_shown unresolved look b pat shown ≡ by_shown unresolved other b pat shown
   by_shown_same b pat h (Some type) = refl
   by_shown_same b pat h None = let place = Ident-span (BindingIdent-id (AssignPat-left pat)) in
       ap (λ f. default_seen (AssignPat-span pat) place (AssignPat-left pat) (f (Some place))) (default_same pat h)
@@ -72,9 +76,11 @@ module _ (unresolved : SyntaxContext) (look other : Look) (limit : ℕ) (same : 
 
   ident_default_same : (b : Bool) (pat : Tree) → height pat < limit → ident_default_seen unresolved look b pat ≡ ident_default_seen unresolved other b pat
   ident_default_same b pat h =
-      choose (is_absent (BindingIdent-type_ann (AssignPat-left pat))) _ _ _ _ (λ e. by_shown_same b pat h (inferred_type Mutable unresolved (AssignPat-right pat))) refl
+      choose (is_absent (BindingIdent-type_ann (AssignPat-left pat))) _ _ _ _
+      (λ e. by_shown_same b pat h (inferred_type Mutable unresolved (AssignPat-right pat))) refl
 
-  by_left_same : (kind : Kind) (b : Bool) (pat : Tree) → height pat < limit → assign_by_left unresolved look kind b pat ≡ assign_by_left unresolved other kind b pat
+  by_left_same : (kind : Kind) (b : Bool) (pat : Tree) → height pat < limit →
+      assign_by_left unresolved look kind b pat ≡ assign_by_left unresolved other kind b pat
   by_left_same kinds.BindingIdent b pat h = ident_default_same b pat h
   by_left_same kinds.ArrayPat b pat h =
       let left = AssignPat-left pat in pattern_default_same (ArrayPat-type_ann left) (ArrayPat-span left) (emptied_array left) never_array pat h
@@ -93,10 +99,12 @@ module _ (unresolved : SyntaxContext) (look other : Look) (limit : ℕ) (same : 
   pats_same [] below = refl
   pats_same (pat ∷ pats) below = λ i. pat_same (list_all is_optional_param (pat ∷ pats)) pat below.0 i ∷ pats_same pats below.1 i
 
-  pub function_same : (kind : FunctionKind) (place : SourceRange) (t : Tree) → height t < suc limit → function_seen unresolved look kind place t ≡ function_seen unresolved other kind place t
+  pub function_same : (kind : FunctionKind) (place : SourceRange) (t : Tree) → height t < suc limit →
+      function_seen unresolved look kind place t ≡ function_seen unresolved other kind place t
   function_same kind place t h = let params = parts (Function-params t) in
       let below : Below limit params = parts_below limit (Function-params t) (field_below Function-params _ (λ t. refl) (suc limit) t h) in
-      ap (λ pats. signature_seen t (return_type_seen kind place t) (params_seen params pats)) (pats_same (map (λ p. Param-pat p) params) (patterns_below limit params below))
+      ap (λ pats. signature_seen t (return_type_seen kind place t) (params_seen params pats))
+      (pats_same (map (λ p. Param-pat p) params) (patterns_below limit params below))
 
   by_value_same : (t : Tree) (place : SourceRange) (pats : List Seen) → look (ArrowExpr-body t) ≡ other (ArrowExpr-body t) → (shown : Option Tree) →
       by_value unresolved look t place pats shown ≡ by_value unresolved other t place pats shown
@@ -107,12 +115,14 @@ module _ (unresolved : SyntaxContext) (look other : Look) (limit : ℕ) (same : 
       arrow_by_type unresolved look t place pats ≡ arrow_by_type unresolved other t place pats
   arrow_by_type_same t place pats e =
       choose (is_absent (ArrowExpr-return_type t)) _ _ _ _ (λ absent.
-      choose (kind_of (ArrowExpr-body t) is kinds.BlockStmt) _ _ _ _ (λ block. refl) (by_value_same t place pats e (inferred_type Mutable unresolved (ArrowExpr-body t)))) refl
+      choose (kind_of (ArrowExpr-body t) is kinds.BlockStmt) _ _ _ _ (λ block. refl)
+      (by_value_same t place pats e (inferred_type Mutable unresolved (ArrowExpr-body t)))) refl
 
   arrow_same : (place : Option SourceRange) (t : Tree) → height t < suc limit → look (ArrowExpr-body t) ≡ other (ArrowExpr-body t) →
       arrow_seen unresolved look place t ≡ arrow_seen unresolved other place t
   arrow_same place t h e = let own = or_own place (ArrowExpr-span t) in
-      let below : Below limit (parts (ArrowExpr-params t)) = parts_below limit (ArrowExpr-params t) (field_below ArrowExpr-params _ (λ t. refl) (suc limit) t h) in
+      let below : Below limit (parts (ArrowExpr-params t)) = parts_below limit (ArrowExpr-params t)
+      (field_below ArrowExpr-params _ (λ t. refl) (suc limit) t h) in
       ap (λ pats. arrow_by_type unresolved look t own pats) (pats_same (parts (ArrowExpr-params t)) below)
       ∙ arrow_by_type_same t own (pats_seen unresolved other (parts (ArrowExpr-params t))) e
 
@@ -147,7 +157,8 @@ module _ (unresolved : SyntaxContext) (t : Tree) where
       slot_seen unresolved s (part n t) look place ≡ slot_seen unresolved s (part n t) seen place
   slot_same not_leaf slots.Value n place = ap (λ f. f None) (in_part n not_leaf)
   slot_same not_leaf slots.Function n place =
-      function_same unresolved look seen (height t) lower ExpressionLike (or_own place (Function-span (part n t))) (part n t) (omega (arith, height_at_most t n))
+      function_same unresolved look seen (height t) lower ExpressionLike (or_own place (Function-span (part n t))) (part n t)
+      (omega (arith, height_at_most t n))
   slot_same not_leaf _ n place = refl
 
   slots_same : (kind_of t ≡ Leaf → ⊥) → (row : List Slot) (n : ℕ) (place : Option SourceRange) →
@@ -164,7 +175,8 @@ module _ (unresolved : SyntaxContext) (t : Tree) where
       arrow_same unresolved look seen (height t) lower place t (omega arith) (in_field ArrowExpr-body _ (λ t. refl) (no_leaf arrow (λ p. cc) e))
   rule_same _ kind place e = refl
 
-pub expr_seen_is : (unresolved : SyntaxContext) (t : Tree) (place : Option SourceRange) → expr_seen unresolved t place ≡ expr_form unresolved t (expr_seen unresolved) place
+pub expr_seen_is : (unresolved : SyntaxContext) (t : Tree) (place : Option SourceRange) →
+    expr_seen unresolved t place ≡ expr_form unresolved t (expr_seen unresolved) place
 unfolding expr_seen
 expr_seen_is unresolved t place =
     ap (λ f. f place) (by_descent_is (λ place. refused) (expr_form unresolved) t) ∙ rule_same unresolved t (expr_rule unresolved t) (kind_of t) place refl

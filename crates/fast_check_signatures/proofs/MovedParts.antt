@@ -1,7 +1,6 @@
 -- What is seen, moved; what the fields of a moved node read as; and choices between moved things.
-use Rattle.std.specs.Prelude.{◌≡◌, ℕ, Bool, true, false, List, [], ◌∷◌, ◌++◌, map, refl, if◌then◌else◌}
+use Rattle.std.specs.Prelude.{◌≡◌, ℕ, Bool, true, false, List, [], ◌∷◌, map, refl, if◌then◌else◌}
 use Rattle.std.proofs.Common.{ap, ◌∙◌, sym}
-use Rattle.fast_check_syntax.specs.declared.kind.Kind.{Kind}
 use Rattle.fast_check_syntax.specs.declared.source.SourceRange.{SourceRange}
 use Rattle.fast_check_syntax.specs.declared.source.SyntaxContext.{SyntaxContext}
 use Rattle.fast_check_syntax.specs.declared.tree.Tree.{Tree}
@@ -10,7 +9,8 @@ use Rattle.fast_check_syntax.specs.Moves.{Moves, Keeps, moved, moved_range}
 use Rattle.fast_check_syntax.proofs.Moved.{range_moved, context_moved, kind_of_moved, part_moved, parts_moved, is_absent_moved, flag_of_moved, range_of_moved}
 use Rattle.fast_check_tree.proofs.GlobalCallsMoved.{moved_scope, context_of_moved}
 use Rattle.fast_check_signatures.specs.Seen.{DeclaratorHead, DefaultHead, FunctionHead, ArrowHead}
-use Rattle.fast_check_signatures.specs.Seen.{Seen, written, round, listed, declarator, default, function, typed_arrow, valued_arrow, faulty, refused, Seens, end, also, seens, range, scope}
+use Rattle.fast_check_signatures.specs.Seen.{Seen, written, round, listed, declarator, default, function, typed_arrow, valued_arrow, faulty, refused, Seens}
+use Rattle.fast_check_signatures.specs.Seen.{end, also, seens, range, scope}
 
 abbrev pub moved_declarator : Moves → DeclaratorHead → DeclaratorHead
 moved_declarator m d = record { span = moved_range m d.span; ident = moved m d.ident; definite = d.definite }
@@ -67,7 +67,8 @@ module _ (m : Moves) where
   pub kind_moved_at : (field : Tree → Tree) (n : ℕ) → ((t : Tree) → field t ≡ part n t) → (t : Tree) → kind_of (field (moved m t)) ≡ kind_of (field t)
   kind_moved_at field n reads t = ap kind_of (field_moved field n reads t) ∙ kind_of_moved m (field t)
 
-  pub items_moved_at : (field : Tree → Tree) (n : ℕ) → ((t : Tree) → field t ≡ part n t) → (t : Tree) → parts (field (moved m t)) ≡ map (moved m) (parts (field t))
+  pub items_moved_at : (field : Tree → Tree) (n : ℕ) → ((t : Tree) → field t ≡ part n t) → (t : Tree) →
+      parts (field (moved m t)) ≡ map (moved m) (parts (field t))
   items_moved_at field n reads t = ap parts (field_moved field n reads t) ∙ parts_moved m (field t)
 
   pub flag_field_moved : (field : Tree → Bool) (n : ℕ) → ((t : Tree) → field t ≡ flag_of (part n t)) → (t : Tree) → field (moved m t) ≡ field t
@@ -89,10 +90,12 @@ module _ (m : Moves) where
 pub record IsMoved (m : Moves) (after before : Seen) : Type 0 where
   pub path : after ≡ moved_seen m before
 
-pub tree_chosen : (m : Moves) (b' b : Bool) (x x' y y' : Tree) → b' ≡ b → x ≡ moved m x' → y ≡ moved m y' → (if b' then x else y) ≡ moved m (if b then x' else y')
+pub tree_chosen : (m : Moves) (b' b : Bool) (x x' y y' : Tree) → b' ≡ b → x ≡ moved m x' → y ≡ moved m y' →
+    (if b' then x else y) ≡ moved m (if b then x' else y')
 tree_chosen m b' true x x' y y' e p q = ap (λ b. if b then x else y) e ∙ p
 tree_chosen m b' false x x' y y' e p q = ap (λ b. if b then x else y) e ∙ q
 
-pub seen_chosen : (m : Moves) (b' b : Bool) (x x' y y' : Seen) → b' ≡ b → IsMoved m x x' → IsMoved m y y' → IsMoved m (if b' then x else y) (if b then x' else y')
+pub seen_chosen : (m : Moves) (b' b : Bool) (x x' y y' : Seen) → b' ≡ b → IsMoved m x x' → IsMoved m y y' →
+    IsMoved m (if b' then x else y) (if b then x' else y')
 seen_chosen m b' true x x' y y' e p q = record { path = ap (λ b. if b then x else y) e ∙ p.path }
 seen_chosen m b' false x x' y y' e p q = record { path = ap (λ b. if b then x else y) e ∙ q.path }

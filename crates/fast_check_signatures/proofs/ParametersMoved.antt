@@ -10,8 +10,10 @@ use Rattle.fast_check_syntax.specs.declared.source.SyntaxContext.{SyntaxContext}
 use Rattle.fast_check_syntax.specs.declared.tree.Tree.{Tree}
 use Rattle.fast_check_syntax.specs.Shape.{kind_of, is_absent}
 use Rattle.fast_check_syntax.specs.Moves.{Moves, Keeps, moved, moved_range}
-use Rattle.fast_check_syntax.proofs.Moved.{node_moved, range_moved, flag_moved, text_moved, context_moved, kind_of_moved, part_moved, is_absent_moved, flag_of_moved, text_of_moved, range_of_moved}
-use Rattle.fast_check_expression_forms.specs.Patterns.{ArrayPat-span, ArrayPat-type_ann, ObjectPat-span, ObjectPat-type_ann, RestPat-span, RestPat-dot3_token, RestPat-arg, RestPat-type_ann, rest_pat, AssignPat-span, AssignPat-left, AssignPat-right, assign_pat}
+use Rattle.fast_check_syntax.proofs.Moved.{node_moved, range_moved, flag_moved, text_moved, context_moved, kind_of_moved, part_moved, is_absent_moved}
+use Rattle.fast_check_syntax.proofs.Moved.{flag_of_moved, text_of_moved, range_of_moved}
+use Rattle.fast_check_expression_forms.specs.Patterns.{ArrayPat-span, ArrayPat-type_ann, ObjectPat-span, ObjectPat-type_ann, RestPat-span, RestPat-dot3_token}
+use Rattle.fast_check_expression_forms.specs.Patterns.{RestPat-arg, RestPat-type_ann, rest_pat, AssignPat-span, AssignPat-left, AssignPat-right, assign_pat}
 use Rattle.fast_check_program_forms.specs.Names.{Ident-span, BindingIdent-id, BindingIdent-type_ann}
 use Rattle.fast_check_ranges.proofs.RangesMoved.{range_of_node_moved}
 use Rattle.fast_check_tree.specs.declared.helpers.literal_type.DeclMutabilityKind.TheVariants.{Mutable}
@@ -25,7 +27,9 @@ use Rattle.fast_check_tree.proofs.ReturnsMoved.{is_optional_param_moved}
 use Rattle.fast_check_signatures.specs.declared.fault.FaultKind.TheVariants.{UnsupportedDestructuring}
 use Rattle.fast_check_signatures.specs.Seen.{written, faulty}
 use Rattle.fast_check_signatures.specs.NewNodes.{never_array}
-use Rattle.fast_check_signatures.specs.Parameters.{Look, emptied_array, emptied_object, typed, arg_by_kind, rest_arg, rest_seen, with_optional, without_default, default_seen, by_shown, ident_default_seen, pattern_default_seen, assign_by_left, assign_seen, pat_by_kind, pat_seen, pats_seen}
+use Rattle.fast_check_signatures.specs.Parameters.{Look, emptied_array, emptied_object, typed, arg_by_kind, rest_arg, rest_seen, with_optional}
+use Rattle.fast_check_signatures.specs.Parameters.{without_default, default_seen, by_shown, ident_default_seen, pattern_default_seen, assign_by_left}
+use Rattle.fast_check_signatures.specs.Parameters.{assign_seen, pat_by_kind, pat_seen, pats_seen}
 use Rattle.fast_check_signatures.proofs.NewNodesMoved.{never_array_moved, empty_object_pat_moved, or_undefined_moved}
 use Rattle.fast_check_signatures.proofs.MovedParts.{moved_seen, field_moved, kind_moved_at, range_field_moved, seen_chosen}
 
@@ -40,7 +44,8 @@ module _ (m : Moves) (ok : Keeps m) where
   emptied_object_moved : (pat : Tree) → emptied_object (moved m pat) ≡ moved m (emptied_object pat)
   emptied_object_moved pat = simp (node_moved, range_moved, flag_moved, part_moved, range_of_moved m ok, flag_of_moved)
 
-  typed_moved : (type : Tree) (place : SourceRange) (pat : Tree) → typed (moved m type) (moved_range m place) (moved m pat) ≡ moved_seen m (typed type place pat)
+  typed_moved : (type : Tree) (place : SourceRange) (pat : Tree) → typed (moved m type) (moved_range m place) (moved m pat) ≡
+      moved_seen m (typed type place pat)
   typed_moved type place pat = (seen_chosen m _ (is_absent type) _ _ _ _ (is_absent_moved m type) (record { path = refl }) (record { path = refl })).path
 
   -- ---- rests
@@ -67,19 +72,23 @@ module _ (m : Moves) (ok : Keeps m) where
       let type = field_moved m RestPat-type_ann _ (λ t. refl) pat in
       let arg = ap rest_arg (field_moved m RestPat-arg _ (λ t. refl) pat) ∙ rest_arg_moved (RestPat-arg pat) in
       let rest = rest_pat (RestPat-span pat) (RestPat-dot3_token pat) (rest_arg (RestPat-arg pat)) (RestPat-type_ann pat) in
-      let same = (λ i. rest_pat (span i) (dots i) (arg i) (type i)) ∙ sym (rest_pat_moved (RestPat-span pat) (RestPat-dot3_token pat) (rest_arg (RestPat-arg pat)) (RestPat-type_ann pat)) in
+      let same = (λ i. rest_pat (span i) (dots i) (arg i) (type i))
+      ∙ sym (rest_pat_moved (RestPat-span pat) (RestPat-dot3_token pat) (rest_arg (RestPat-arg pat)) (RestPat-type_ann pat)) in
       (λ i. typed (type i) (span i) (same i)) ∙ typed_moved (RestPat-type_ann pat) (RestPat-span pat) rest
 
   -- ---- defaults
 
   with_optional_moved : (optional : Bool) (id : Tree) → with_optional optional (moved m id) ≡ moved m (with_optional optional id)
-  with_optional_moved optional id = simp (node_moved, range_moved, context_moved, text_moved, flag_moved, part_moved, range_of_moved m ok, context_of_moved m ok, text_of_moved)
+  with_optional_moved optional id =
+      simp (node_moved, range_moved, context_moved, text_moved, flag_moved, part_moved, range_of_moved m ok, context_of_moved m ok, text_of_moved)
 
-  pub without_default_moved : (is_optional : Bool) (id type : Tree) → without_default is_optional (moved m id) (moved m type) ≡ moved m (without_default is_optional id type)
+  pub without_default_moved : (is_optional : Bool) (id type : Tree) →
+      without_default is_optional (moved m id) (moved m type) ≡ moved m (without_default is_optional id type)
   without_default_moved true id type = simp (with_optional_moved, node_moved)
   without_default_moved false id type = simp (with_optional_moved, or_undefined_moved m ok, node_moved)
 
-  assign_pat_moved : (span : SourceRange) (left right : Tree) → moved m (assign_pat span left right) ≡ assign_pat (moved_range m span) (moved m left) (moved m right)
+  assign_pat_moved : (span : SourceRange) (left right : Tree) → moved m (assign_pat span left right) ≡
+      assign_pat (moved_range m span) (moved m left) (moved m right)
   assign_pat_moved span left right = simp (node_moved, range_moved)
 
   module _ (unresolved : SyntaxContext) (look look' : Look) (at : LooksMoved m look look') where
@@ -146,7 +155,8 @@ module _ (m : Moves) (ok : Keeps m) where
           path = ap written ((λ i. assign_pat (span_moved pat i) (moved m emptied) (sym stays i)) ∙ sym (assign_pat_moved (AssignPat-span pat) emptied never));
         })).path
 
-    array_default_moved : (pat : Tree) → assign_by_left unresolved' look' kinds.ArrayPat false (moved m pat) ≡ moved_seen m (assign_by_left unresolved look kinds.ArrayPat false pat)
+    array_default_moved : (pat : Tree) → assign_by_left unresolved' look' kinds.ArrayPat false (moved m pat) ≡
+        moved_seen m (assign_by_left unresolved look kinds.ArrayPat false pat)
     array_default_moved pat =
         let left = AssignPat-left pat in
         let type = ap ArrayPat-type_ann (left_moved pat) ∙ field_moved m ArrayPat-type_ann _ (λ t. refl) left in
@@ -155,7 +165,8 @@ module _ (m : Moves) (ok : Keeps m) where
         (λ i. pattern_default_seen unresolved' look' (type i) (span i) (emptied i) never_array (moved m pat))
         ∙ pattern_default_moved (ArrayPat-type_ann left) (ArrayPat-span left) (emptied_array left) never_array pat (never_array_moved m ok)
 
-    object_default_moved : (pat : Tree) → assign_by_left unresolved' look' kinds.ObjectPat false (moved m pat) ≡ moved_seen m (assign_by_left unresolved look kinds.ObjectPat false pat)
+    object_default_moved : (pat : Tree) → assign_by_left unresolved' look' kinds.ObjectPat false (moved m pat) ≡
+        moved_seen m (assign_by_left unresolved look kinds.ObjectPat false pat)
     object_default_moved pat =
         let left = AssignPat-left pat in
         let type = ap ObjectPat-type_ann (left_moved pat) ∙ field_moved m ObjectPat-type_ann _ (λ t. refl) left in
@@ -171,27 +182,31 @@ module _ (m : Moves) (ok : Keeps m) where
     by_left_moved kinds.ObjectPat is_optional pat = object_default_moved pat
     by_left_moved _ is_optional pat = ap (faulty UnsupportedDestructuring) (span_moved pat)
 
-    assign_moved : (is_optional : Bool) (pat : Tree) → assign_seen unresolved' look' is_optional (moved m pat) ≡ moved_seen m (assign_seen unresolved look is_optional pat)
+    assign_moved : (is_optional : Bool) (pat : Tree) → assign_seen unresolved' look' is_optional (moved m pat) ≡
+        moved_seen m (assign_seen unresolved look is_optional pat)
     assign_moved is_optional pat =
         ap (λ k. assign_by_left unresolved' look' k is_optional (moved m pat)) (kind_moved_at m AssignPat-left _ (λ t. refl) pat)
         ∙ by_left_moved (kind_of (AssignPat-left pat)) is_optional pat
 
     -- ---- parameters
 
-    ident_moved : (pat : Tree) → pat_by_kind unresolved' look' kinds.BindingIdent false (moved m pat) ≡ moved_seen m (pat_by_kind unresolved look kinds.BindingIdent false pat)
+    ident_moved : (pat : Tree) → pat_by_kind unresolved' look' kinds.BindingIdent false (moved m pat) ≡
+        moved_seen m (pat_by_kind unresolved look kinds.BindingIdent false pat)
     ident_moved pat =
         let id = field_moved m BindingIdent-id _ (λ t. refl) pat in
         let place = ap Ident-span id ∙ range_field_moved m ok Ident-span _ (λ t. refl) (BindingIdent-id pat) in
         (λ i. typed (field_moved m BindingIdent-type_ann _ (λ t. refl) pat i) (place i) (moved m pat))
         ∙ typed_moved (BindingIdent-type_ann pat) (Ident-span (BindingIdent-id pat)) pat
 
-    array_moved : (pat : Tree) → pat_by_kind unresolved' look' kinds.ArrayPat false (moved m pat) ≡ moved_seen m (pat_by_kind unresolved look kinds.ArrayPat false pat)
+    array_moved : (pat : Tree) → pat_by_kind unresolved' look' kinds.ArrayPat false (moved m pat) ≡
+        moved_seen m (pat_by_kind unresolved look kinds.ArrayPat false pat)
     array_moved pat =
         let span = range_field_moved m ok ArrayPat-span _ (λ t. refl) pat in
         (λ i. typed (field_moved m ArrayPat-type_ann _ (λ t. refl) pat i) (span i) (emptied_array_moved pat i))
         ∙ typed_moved (ArrayPat-type_ann pat) (ArrayPat-span pat) (emptied_array pat)
 
-    object_moved : (pat : Tree) → pat_by_kind unresolved' look' kinds.ObjectPat false (moved m pat) ≡ moved_seen m (pat_by_kind unresolved look kinds.ObjectPat false pat)
+    object_moved : (pat : Tree) → pat_by_kind unresolved' look' kinds.ObjectPat false (moved m pat) ≡
+        moved_seen m (pat_by_kind unresolved look kinds.ObjectPat false pat)
     object_moved pat =
         let span = range_field_moved m ok ObjectPat-span _ (λ t. refl) pat in
         (λ i. typed (field_moved m ObjectPat-type_ann _ (λ t. refl) pat i) (span i) (emptied_object_moved pat i))
@@ -206,8 +221,10 @@ module _ (m : Moves) (ok : Keeps m) where
     by_kind_moved kinds.ObjectPat is_optional pat = object_moved pat
     by_kind_moved _ is_optional pat = ap (faulty UnsupportedDestructuring) (range_of_node_moved m ok pat)
 
-    pub pat_seen_moved : (is_optional : Bool) (pat : Tree) → pat_seen unresolved' look' is_optional (moved m pat) ≡ moved_seen m (pat_seen unresolved look is_optional pat)
-    pat_seen_moved is_optional pat = ap (λ k. pat_by_kind unresolved' look' k is_optional (moved m pat)) (kind_of_moved m pat) ∙ by_kind_moved (kind_of pat) is_optional pat
+    pub pat_seen_moved : (is_optional : Bool) (pat : Tree) → pat_seen unresolved' look' is_optional (moved m pat) ≡
+        moved_seen m (pat_seen unresolved look is_optional pat)
+    pat_seen_moved is_optional pat = ap (λ k. pat_by_kind unresolved' look' k is_optional (moved m pat)) (kind_of_moved m pat)
+        ∙ by_kind_moved (kind_of pat) is_optional pat
 
     all_optional_moved : (pats : List Tree) → list_all is_optional_param (map (moved m) pats) ≡ list_all is_optional_param pats
     all_optional_moved [] = refl

@@ -68,7 +68,8 @@ module _ (m : Moves) (ok : Keeps m) where
         by_rule unresolved' r kind (moved m t) look' (option_map (moved_range m) place) ≡ moved_seen m (by_rule unresolved r kind t look place)
     by_rule_moved whole kind t place = refl
     by_rule_moved parted kind t place =
-        ap (λ ss. round kind (seens ss)) (ap (map (λ p. look' p None)) (parts_moved m t) ∙ all_moved (parts t)) ∙ ap (round kind) (seens_moved m (map (λ p. look p None) (parts t)))
+        ap (λ ss. round kind (seens ss)) (ap (map (λ p. look' p None)) (parts_moved m t) ∙ all_moved (parts t))
+        ∙ ap (round kind) (seens_moved m (map (λ p. look p None) (parts t)))
     by_rule_moved (slotted row) kind t place =
         ap (λ ss. round kind (seens ss)) (slots_moved row 0 t place) ∙ ap (round kind) (seens_moved m (slots_seen unresolved row 0 t look place))
     by_rule_moved arrow kind t place = functions.arrow_seen_moved m ok unresolved look look' at place t
@@ -92,7 +93,8 @@ module _ (m : Moves) (ok : Keeps m) where
         expr_seen (moved_scope m unresolved) (moved m t) (option_map (moved_range m) place) ≡ moved_seen m (expr_seen unresolved t place)
     unfolding expr_seen
     expr_seen_moved =
-        by_descent_moved m (λ f f'. (place : Option SourceRange) → f' (option_map (moved_range m) place) ≡ moved_seen m (f place)) (λ place. refused) (λ place. refused) (λ place. refl)
+        by_descent_moved m (λ f f'. (place : Option SourceRange) → f' (option_map (moved_range m) place) ≡ moved_seen m (f place)) (λ place. refused)
+        (λ place. refused) (λ place. refl)
         (expr_form unresolved) (expr_form (moved_scope m unresolved)) (λ t look look' at. expr_form_moved unresolved look look' at t)
 
     -- a function, an arrow and parameters, by what is seen of the expressions in them

@@ -1,6 +1,6 @@
 -- What becomes of what is seen: what stays of it, and the faults, by cases on what is seen. Nothing is asked outside, and nothing that is hidden is there to
 -- be read.
-use Rattle.std.specs.Prelude.{◌≡◌, Bool, true, false, Option, Some, None, List, [], ◌∷◌, ◌++◌, is_some, unwrap_or, option_map, if◌then◌else◌}
+use Rattle.std.specs.Prelude.{◌≡◌, Bool, false, Option, Some, None, List, [], ◌∷◌, ◌++◌, is_some, unwrap_or, option_map, if◌then◌else◌}
 use Rattle.fast_check_syntax.specs.declared.kind.Kind.{Kind}
 use Rattle.fast_check_syntax.specs.declared.source.SourceRange.{SourceRange}
 use Rattle.fast_check_syntax.specs.declared.tree.Tree.{Tree, Absent}
@@ -16,7 +16,8 @@ use Rattle.fast_check_signatures.specs.declared.fault.FaultKind.TheVariants.{Mis
 use Rattle.fast_check_signatures.specs.NewNodes.{function_body, arrow_body}
 use Rattle.fast_check_signatures.specs.Functions.{return_type_missing}
 use Rattle.fast_check_signatures.specs.Seen.{DeclaratorHead, DefaultHead, FunctionHead, ArrowHead}
-use Rattle.fast_check_signatures.specs.Seen.{Seen, written, round, listed, declarator, default, function, typed_arrow, valued_arrow, faulty, refused, Seens, end, also, seens}
+use Rattle.fast_check_signatures.specs.Seen.{Seen, written, round, listed, declarator, default, function, typed_arrow, valued_arrow, faulty, refused, Seens}
+use Rattle.fast_check_signatures.specs.Seen.{end, also, seens}
 
 -- ---- answers
 
@@ -50,10 +51,11 @@ joined f a b = record { stays = f a.stays b.stays; faults = a.faults ++ b.faults
 abbrev pub settled : Answer (Option Tree) → Answer Tree
 settled = made (λ o. unwrap_or o Absent)
 
--- what has to stay: where it may not, this is wrong besides
+-- what is wrong besides where that may not stay which has to
 abbrev pub unless_stays : Option Tree → Fault → List Fault
 unless_stays o fault = if is_some o then [] else fault ∷ []
 
+-- the tree of what has to stay, or an empty option, and this fault
 abbrev pub demanded : Fault → Answer (Option Tree) → Answer Tree
 demanded fault a = record { stays = unwrap_or a.stays Absent; faults = a.faults ++ unless_stays a.stays fault }
 

@@ -1,12 +1,15 @@
--- What is seen of functions and arrows: their parameters and their return type. A body is seen where it shows the return type, by its return class or its value.
+-- What is seen of functions and arrows: their parameters and their return type. A body is seen where it shows the return type, by its return class or its
+-- value.
 use Rattle.std.specs.Prelude.{ℕ, suc, Bool, true, false, Option, Some, None, List, [], ◌∷◌, map, if◌then◌else◌}
 use Rattle.fast_check_syntax.specs.declared.kind.Kind.TheVariants.{Param, BlockStmt, RestPat}
 use Rattle.fast_check_syntax.specs.declared.source.SourceRange.{SourceRange}
 use Rattle.fast_check_syntax.specs.declared.source.SyntaxContext.{SyntaxContext}
 use Rattle.fast_check_syntax.specs.declared.tree.Tree.{Tree, Absent}
 use Rattle.fast_check_syntax.specs.Shape.{◌is◌, kind_of, parts, is_absent, list}
-use Rattle.fast_check_class_forms.specs.Functions.{Function-span, Function-params, Function-ctxt, Function-body, Function-is_generator, Function-is_async, Function-type_params, Function-return_type, Param-span, Param-pat}
-use Rattle.fast_check_expression_forms.specs.Expressions.{ArrowExpr-span, ArrowExpr-ctxt, ArrowExpr-params, ArrowExpr-body, ArrowExpr-is_async, ArrowExpr-is_generator, ArrowExpr-type_params, ArrowExpr-return_type}
+use Rattle.fast_check_class_forms.specs.Functions.{Function-span, Function-params, Function-ctxt, Function-body, Function-is_generator, Function-is_async}
+use Rattle.fast_check_class_forms.specs.Functions.{Function-type_params, Function-return_type, Param-span, Param-pat}
+use Rattle.fast_check_expression_forms.specs.Expressions.{ArrowExpr-span, ArrowExpr-ctxt, ArrowExpr-params, ArrowExpr-body, ArrowExpr-is_async}
+use Rattle.fast_check_expression_forms.specs.Expressions.{ArrowExpr-is_generator, ArrowExpr-type_params, ArrowExpr-return_type}
 use Rattle.fast_check_tree.specs.declared.helpers.literal_type.DeclMutabilityKind.TheVariants.{Mutable}
 use Rattle.fast_check_tree.specs.declared.helpers.return_class.ReturnStatementAnalysis.{ReturnStatementAnalysis}
 use Rattle.fast_check_tree.specs.declared.helpers.return_class.ReturnStatementAnalysis.TheVariants as class

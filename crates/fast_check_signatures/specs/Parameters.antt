@@ -7,7 +7,9 @@ use Rattle.fast_check_syntax.specs.declared.source.SourceRange.{SourceRange}
 use Rattle.fast_check_syntax.specs.declared.source.SyntaxContext.{SyntaxContext}
 use Rattle.fast_check_syntax.specs.declared.tree.Tree.{Tree}
 use Rattle.fast_check_syntax.specs.Shape.{kind_of, is_absent, list}
-use Rattle.fast_check_expression_forms.specs.Patterns.{ArrayPat-span, ArrayPat-optional, ArrayPat-type_ann, array_pat, ObjectPat-span, ObjectPat-optional, ObjectPat-type_ann, object_pat, RestPat-span, RestPat-dot3_token, RestPat-arg, RestPat-type_ann, rest_pat, AssignPat-span, AssignPat-left, AssignPat-right, assign_pat}
+use Rattle.fast_check_expression_forms.specs.Patterns.{ArrayPat-span, ArrayPat-optional, ArrayPat-type_ann, array_pat, ObjectPat-span, ObjectPat-optional}
+use Rattle.fast_check_expression_forms.specs.Patterns.{ObjectPat-type_ann, object_pat, RestPat-span, RestPat-dot3_token, RestPat-arg, RestPat-type_ann}
+use Rattle.fast_check_expression_forms.specs.Patterns.{rest_pat, AssignPat-span, AssignPat-left, AssignPat-right, assign_pat}
 use Rattle.fast_check_ranges.specs.Ranges.{range_of_node}
 use Rattle.fast_check_program_forms.specs.Names.{Ident-span, Ident-ctxt, Ident-sym, ident, BindingIdent-id, BindingIdent-type_ann, binding_ident}
 use Rattle.fast_check_tree.specs.declared.helpers.literal_type.DeclMutabilityKind.TheVariants.{Mutable}
@@ -46,7 +48,8 @@ abbrev pub rest_arg : Tree → Tree
 rest_arg arg = arg_by_kind (kind_of arg) arg
 
 abbrev pub rest_seen : Tree → Seen
-rest_seen pat = typed (RestPat-type_ann pat) (RestPat-span pat) (rest_pat (RestPat-span pat) (RestPat-dot3_token pat) (rest_arg (RestPat-arg pat)) (RestPat-type_ann pat))
+rest_seen pat = typed (RestPat-type_ann pat) (RestPat-span pat) (rest_pat (RestPat-span pat) (RestPat-dot3_token pat) (rest_arg (RestPat-arg pat))
+    (RestPat-type_ann pat))
 
 -- an identifier with this mark
 abbrev pub with_optional : Bool → Tree → Tree

@@ -43,9 +43,10 @@ use Rattle.fast_check_skeleton.specs.Visible.{seen_by_rule, item_seen, items_of,
 use Rattle.fast_check_signatures.specs.Answers.{answer_of}
 use Rattle.fast_check_signatures.specs.Expressions.{is_plain, is_compound, is_among, other_kinds, freezes, is_frozen, is_refused, expr_seen}
 use Rattle.fast_check_signatures.specs.Functions.{function_seen, implementation_seen}
-use Rattle.fast_check_same_values.specs.SameValues.{Both, Neither, SameExpr, SameFunction, SameImplementation}
+use Rattle.fast_check_same_values.specs.SameValues.{Both, SameExpr}
 use Rattle.fast_check_same_values.specs.SameValues as v
-use Rattle.fast_check_same_values.proofs.AlikeTrees.{TreeAlike, scope_to, image_alike, new_alike, absent_alike, range_leaf_alike, flag_leaf_alike, node_alike, range_field_alike}
+use Rattle.fast_check_same_values.proofs.AlikeTrees.{TreeAlike, scope_to, image_alike, new_alike, absent_alike, range_leaf_alike, flag_leaf_alike, node_alike}
+use Rattle.fast_check_same_values.proofs.AlikeTrees.{range_field_alike}
 use Rattle.fast_check_same_values.proofs.AlikeSeen.{Alike, AllAlike, written_alike, same_written, range_alike, scope_alike, flag_alike}
 use Rattle.fast_check_same_values.proofs.AlikeSeen.{alike_if, all_alike_if, listed_alike, round_alike, append_alike}
 use Rattle.fast_check_signatures.proofs.Choices.{both_true}
@@ -211,7 +212,8 @@ module _ (r : Renaming) (ok : IsRenaming r) where
         let value = VarDeclarator-init t in
         let value' = VarDeclarator-init u in
         let same : Alike r ok (value_seen a place value) (value_seen b place' value') =
-        alike_if r ok (is_absent value) (is_absent value') refused (expr_seen a.unresolved value (Some place)) refused (expr_seen b.unresolved value' (Some place'))
+        alike_if r ok (is_absent value) (is_absent value') refused (expr_seen a.unresolved value (Some place)) refused
+        (expr_seen b.unresolved value' (Some place'))
         (expr_absent f) (λ e. refl)
         (λ e. expr_alike r ok a.unresolved b.unresolved c f (Some place) (Some place')
         (ap Some (range_to r ok place place' (ident_place (declared_ident t) (declared_ident u) d.ident)))) in

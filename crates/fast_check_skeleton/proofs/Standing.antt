@@ -4,7 +4,7 @@ use Rattle.std.specs.Prelude.{if◌then◌else◌}
 use Rattle.std.proofs.Common.{ap, ◌∙◌, sym, subst, subst₂, inl, inr, append-nil}
 use Rattle.fast_check_syntax.specs.declared.kind.Kind.{Kind}
 use Rattle.fast_check_syntax.specs.declared.kind.Kind.TheVariants as kinds
-use Rattle.fast_check_syntax.specs.declared.kind.Kind.TheVariants.{Module, VarDeclarator, VarDecl, FnDecl, ExportDecl, BindingIdent, List as List'}
+use Rattle.fast_check_syntax.specs.declared.kind.Kind.TheVariants.{Module, VarDecl, FnDecl, ExportDecl, BindingIdent, List as List'}
 use Rattle.fast_check_syntax.specs.declared.source.SourceRange.{SourceRange}
 use Rattle.fast_check_syntax.specs.declared.source.SyntaxContext.{SyntaxContext}
 use Rattle.fast_check_syntax.specs.declared.tree.Tree as tree
@@ -36,11 +36,10 @@ use Rattle.fast_check_skeleton.specs.declared.rules.DeclRule.{DeclRule}
 use Rattle.fast_check_skeleton.specs.declared.rules.DeclRule.TheVariants.{Variables, Function, Standing, Untaken}
 use Rattle.fast_check_skeleton.specs.declared.rules.ItemRule.{ItemRule}
 use Rattle.fast_check_skeleton.specs.declared.rules.ItemRule.TheVariants.{Declared, Exported, Silent}
-use Rattle.fast_check_skeleton.specs.Kinds.{is_standing}
 use Rattle.fast_check_skeleton.specs.Mutability.{mutability_of}
 use Rattle.fast_check_skeleton.specs.Rules.{decl_rule, expr_stmt_rule, rule_of_kind}
 use Rattle.fast_check_skeleton.specs.Surroundings.{Surroundings}
-use Rattle.fast_check_skeleton.specs.Visible.{declared_ident, declared_type, declarator_head, typed_declarator, value_seen, untyped_seen, ident_declarator_seen}
+use Rattle.fast_check_skeleton.specs.Visible.{declared_ident, declared_type, value_seen, untyped_seen}
 use Rattle.fast_check_skeleton.specs.Visible.{declarator_seen, is_ambient, is_public_declarator, declarator_in, public_declarator, public_declarators}
 use Rattle.fast_check_skeleton.specs.Visible.{statement_seen, signature_of, function_decl_seen, public_function, decl_seen, exported_seen}
 use Rattle.fast_check_skeleton.specs.Visible.{seen_by_rule, item_seen, items_of}
@@ -295,7 +294,8 @@ module _ (around : Surroundings) where
 
   -- what stands of an export of one form
   export_answer : (export : Tree) (s : Seen) (one : OneTree (s ∷ [])) →
-      answer_to (round ExportDecl (seens (range (ExportDecl-span export) ∷ s ∷ []))) ≡ (record { stays = Some (exported export one.0); faults = (answer_to s).faults })
+      answer_to (round ExportDecl (seens (range (ExportDecl-span export) ∷ s ∷ []))) ≡
+      (record { stays = Some (exported export one.0); faults = (answer_to s).faults })
   export_answer export s one =
       let same : answer_to s ≡ record { stays = Some one.0; faults = (answer_to s).faults } = λ i. record { stays = one.1 i; faults = (answer_to s).faults } in
       ap (export_with export) same ∙ (λ i. record { stays = Some (exported export one.0); faults = append-nil (answer_to s).faults i })

@@ -1,5 +1,5 @@
 -- What stays of an expression that is there is there too.
-use Rattle.std.specs.Prelude.{◌≡◌, Bool, true, false, Option, Some, None, List, IfSome, map, option_map}
+use Rattle.std.specs.Prelude.{◌≡◌, false, Option, Some, None, List, IfSome, map, option_map}
 use Rattle.std.proofs.Common.{sym, subst}
 use Rattle.fast_check_syntax.specs.declared.kind.Kind.{Kind}
 use Rattle.fast_check_syntax.specs.declared.kind.Kind.TheVariants as kinds

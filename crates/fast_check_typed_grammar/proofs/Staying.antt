@@ -1,11 +1,11 @@
 -- What stays without a fault: each lemma makes of what holds of the parts what holds of the whole.
-use Rattle.std.specs.Prelude.{◌≡◌, Bool, Option, Some, None, List, [], ◌∷◌, ◌++◌, IfSome, option_map, unwrap_or, refl}
+use Rattle.std.specs.Prelude.{◌≡◌, Option, Some, None, List, [], ◌∷◌, ◌++◌, IfSome, option_map, unwrap_or, refl}
 use Rattle.std.proofs.Common.{sym, subst}
 use Rattle.fast_check_syntax.specs.declared.kind.Kind.{Kind}
 use Rattle.fast_check_syntax.specs.declared.tree.Tree.{Tree, Absent}
 use Rattle.fast_check_syntax.specs.Shape.{node}
 use Rattle.fast_check_signatures.specs.declared.fault.Fault.{Fault}
-use Rattle.fast_check_signatures.specs.Answers.{Answer, faultless, joined, settled, unless_stays, demanded, before, visited, with_tree, round_answer}
+use Rattle.fast_check_signatures.specs.Answers.{Answer, faultless, joined, unless_stays, demanded, before, visited, with_tree, round_answer}
 use Rattle.fast_check_signatures.proofs.Choices.{no_left, no_right, not_empty}
 
 -- what stays has a property, if nothing is at fault
@@ -60,7 +60,8 @@ pub joined_stays : {A B : Type 0} (P : A → Type 0) (Q : B → Type 0) (R : Tre
 joined_stays P Q R f made a b p q e = made a.stays b.stays (p (no_left a.faults b.faults e)) (q (no_right a.faults b.faults e))
 
 -- a tree that stands as it is, before other parts, and the last part
-pub written_before : (Q : List Tree → Type 0) (t : Tree) (rest : Answer (Option (List Tree))) → Stays (λ ts. Q (t ∷ ts)) rest → Stays Q (visited (faultless (Some t)) rest)
+pub written_before : (Q : List Tree → Type 0) (t : Tree) (rest : Answer (Option (List Tree))) → Stays (λ ts. Q (t ∷ ts)) rest →
+    Stays Q (visited (faultless (Some t)) rest)
 written_before Q t rest q f = mapped (λ ts. Q (t ∷ ts)) Q (λ ts. t ∷ ts) (λ ts h. h) rest.stays (q f)
 
 pub last_stays : (P : Tree → Type 0) (Q : List Tree → Type 0) → ((t : Tree) → P t → Q (t ∷ [])) → (a : Answer (Option Tree)) → Stays P a →

@@ -1,5 +1,5 @@
 -- What stands without a fault is in the grammar: expressions that may stay, functions, arrows and parameters.
-use Rattle.std.specs.Prelude.{◌≡◌, ℕ, suc, Bool, true, false, is_some, IfSome, Option, Some, None, List, [], ◌∷◌, map, slice_get, unwrap_or, refl, codes}
+use Rattle.std.specs.Prelude.{◌≡◌, ℕ, suc, Bool, true, false, is_some, IfSome, Option, None, List, [], ◌∷◌, map, slice_get, unwrap_or, refl, codes}
 use Rattle.std.specs.Prelude.{if◌then◌else◌}
 use Rattle.std.proofs.Common.{ap, ◌∙◌, sym, subst}
 use Rattle.fast_check_syntax.specs.declared.kind.Kind.{Kind}
@@ -22,7 +22,8 @@ use Rattle.fast_check_signatures.specs.Seen.{Seen, round, refused, seens}
 use Rattle.fast_check_signatures.specs.NewNodes.{never_in_parens}
 use Rattle.fast_check_signatures.specs.Parameters.{Look, pat_seen, pats_seen}
 use Rattle.fast_check_signatures.specs.Functions.{or_own, function_seen, implementation_seen, arrow_seen}
-use Rattle.fast_check_signatures.specs.Expressions.{is_plain, is_compound, freezes, Rule, slotted, other_rule, slot_seen, slots_seen, by_rule, expr_form, expr_seen}
+use Rattle.fast_check_signatures.specs.Expressions.{is_plain, is_compound, freezes, Rule, slotted, other_rule, slot_seen, slots_seen, by_rule, expr_form}
+use Rattle.fast_check_signatures.specs.Expressions.{expr_seen}
 use Rattle.fast_check_signatures.specs.Answers.{answer_to, parts_answer, answer_of}
 use Rattle.fast_check_signatures.proofs.Choices.{of_choice}
 use Rattle.fast_check_typed_grammar.specs.TypedGrammar.{IsLeavable, AllLeavable, IsTypedFunction, IsTypedPat, AllTypedPats}
@@ -33,7 +34,8 @@ use Rattle.fast_check_typed_grammar.proofs.TypedFunctions.{function_stays, imple
 use Rattle.fast_check_typed_grammar.proofs.TypedArrows.{arrow_stays}
 
 -- what is frozen is called by its global name
-is_freeze : (unresolved : SyntaxContext) (t : Tree) → freezes unresolved t ≡ true → is_global_member (codes "Object") (codes "freeze") unresolved (CallExpr-callee t) ≡ true
+is_freeze : (unresolved : SyntaxContext) (t : Tree) → freezes unresolved t ≡ true →
+    is_global_member (codes "Object") (codes "freeze") unresolved (CallExpr-callee t) ≡ true
 is_freeze unresolved t = go (is_global_member (codes "Object") (codes "freeze") unresolved (CallExpr-callee t))
   where
     go : (b : Bool) → is_some (if b then sole_argument (parts (CallExpr-args t)) else None) ≡ true → b ≡ true
@@ -98,7 +100,8 @@ module _ (unresolved : SyntaxContext) where
         (λ us fit. made (tree.Node kind us) (kind_of_node kind us) (subst (λ us. AllFit t row 0 (at us)) (sym (parts_node kind us)) fit))
         (parts_answer (seens (slots_seen unresolved row 0 t look place))) (slots_stay place t row 0)
 
-    kind_stays : (kind : Kind) (b : Bool) (t : Tree) (place : Option SourceRange) → freezes unresolved t ≡ b → StaysLeavable (by_rule unresolved (other_rule kind b) kind t look place)
+    kind_stays : (kind : Kind) (b : Bool) (t : Tree) (place : Option SourceRange) → freezes unresolved t ≡ b →
+        StaysLeavable (by_rule unresolved (other_rule kind b) kind t look place)
     kind_stays kinds.TsSatisfiesExpr b t place f = slotted_stays SATISFIES kinds.TsSatisfiesExpr t place (λ u e h. IsLeavable.satisfies e h.1.0)
     kind_stays kinds.TsAsExpr b t place f = slotted_stays ASSERTION kinds.TsAsExpr t place (λ u e h. IsLeavable.as_type e h.1.0)
     kind_stays kinds.TsTypeAssertion b t place f = slotted_stays ASSERTION kinds.TsTypeAssertion t place (λ u e h. IsLeavable.assertion e h.1.0)
@@ -125,7 +128,8 @@ module _ (unresolved : SyntaxContext) where
       (λ t given stays. form_stays given stays t)
 
   -- what stays of a function, an arrow or a parameter is typed, if nothing in it is at fault
-  pub function_is_typed : (kind : FunctionKind) (place : SourceRange) (t : Tree) → Stays (IsTypedFunction unresolved) (answer_to (function_seen unresolved look kind place t))
+  pub function_is_typed : (kind : FunctionKind) (place : SourceRange) (t : Tree) →
+      Stays (IsTypedFunction unresolved) (answer_to (function_seen unresolved look kind place t))
   function_is_typed = function_stays unresolved look expr_stays
 
   pub implementation_is_typed : (t : Tree) → IfSome (answer_to (implementation_seen t)).stays (IsTypedFunction unresolved)

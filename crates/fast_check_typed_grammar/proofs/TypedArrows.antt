@@ -1,5 +1,5 @@
 -- Each arrow that stands without a fault is typed, where values that may stay give their types.
-use Rattle.std.specs.Prelude.{◌≡◌, Bool, false, Option, Some, None, List, map, refl}
+use Rattle.std.specs.Prelude.{◌≡◌, Bool, false, Option, Some, None, List}
 use Rattle.std.proofs.Common.{ap, ◌∙◌, sym, subst}
 use Rattle.fast_check_syntax.specs.declared.kind.Kind.TheVariants.{BlockStmt}
 use Rattle.fast_check_syntax.specs.declared.source.SourceRange.{SourceRange}
@@ -16,7 +16,8 @@ use Rattle.fast_check_signatures.specs.declared.function_kind.FunctionKind.TheVa
 use Rattle.fast_check_signatures.specs.Seen.{ArrowHead, Seen, written}
 use Rattle.fast_check_signatures.specs.NewNodes.{arrow_body, promised}
 use Rattle.fast_check_signatures.specs.Parameters.{Look, pats_seen}
-use Rattle.fast_check_signatures.specs.Functions.{return_type_missing, class_seen, arrow_head, typed_arrow_seen, valued_arrow_seen, or_own, by_value, arrow_by_type}
+use Rattle.fast_check_signatures.specs.Functions.{return_type_missing, class_seen, arrow_head, typed_arrow_seen, valued_arrow_seen, or_own, by_value}
+use Rattle.fast_check_signatures.specs.Functions.{arrow_by_type}
 use Rattle.fast_check_signatures.specs.Functions.{arrow_seen}
 use Rattle.fast_check_signatures.specs.Answers.{fault_at, settled, demanded, signed_arrow, kept_arrow, answer_to, answer_of}
 use Rattle.fast_check_signatures.proofs.Choices.{of_choice}
@@ -52,12 +53,14 @@ module _ (unresolved : SyntaxContext) where
       let made = kept_arrow a is_async value params in
       let same_params : ArrowExpr-params made ≡ list params = part_node _ _ _ in
       let same_body : ArrowExpr-body made ≡ value = part_node _ _ _ in
-      IsLeavable.valued_arrow (kind_of_node _ _) (subst (AllTypedPats unresolved) (sym (ap parts same_params ∙ parts_node _ _)) pats) (subst Leavable (sym same_body) leavable)
+      IsLeavable.valued_arrow (kind_of_node _ _) (subst (AllTypedPats unresolved) (sym (ap parts same_params ∙ parts_node _ _)) pats)
+      (subst Leavable (sym same_body) leavable)
 
   -- an arrow whose return type is known
   typed_stays : (t : Tree) (pats : List Seen) (type : Seen) → PatsHold pats → IsType type → StaysLeavable (typed_arrow_seen t pats type)
   typed_stays t pats type hold shows =
-      joined_stays (λ u. is_absent u ≡ false) (AllTypedPats unresolved) Leavable (signed_arrow (arrow_head t)) (typed (arrow_head t)) (settled (answer_to type)) (answer_of pats) shows hold
+      joined_stays (λ u. is_absent u ≡ false) (AllTypedPats unresolved) Leavable (signed_arrow (arrow_head t)) (typed (arrow_head t))
+      (settled (answer_to type)) (answer_of pats) shows hold
 
   -- an arrow whose value gives the return type
   valued_stays : (t : Tree) (place : SourceRange) (pats : List Seen) (value : Seen) → PatsHold pats → Stays Leavable (answer_to value) →
@@ -65,11 +68,13 @@ module _ (unresolved : SyntaxContext) where
   valued_stays t place pats value hold stays =
       let is_async = ArrowExpr-is_async t in
       let fault = fault_at (return_type_missing false is_async) place in
-      joined_stays Leavable (AllTypedPats unresolved) Leavable (kept_arrow (arrow_head t) is_async) (valued (arrow_head t) is_async) (demanded fault (answer_to value)) (answer_of pats)
+      joined_stays Leavable (AllTypedPats unresolved) Leavable (kept_arrow (arrow_head t) is_async) (valued (arrow_head t) is_async)
+      (demanded fault (answer_to value)) (answer_of pats)
       (demanded_holds Leavable fault (answer_to value) stays) hold
 
   module _ (look : Look) (stays : LookStays unresolved look) where
-    by_value_stays : (t : Tree) (place : SourceRange) (pats : List Seen) → PatsHold pats → (shown : Option Tree) → StaysLeavable (by_value unresolved look t place pats shown)
+    by_value_stays : (t : Tree) (place : SourceRange) (pats : List Seen) → PatsHold pats → (shown : Option Tree) →
+        StaysLeavable (by_value unresolved look t place pats shown)
     by_value_stays t place pats hold (Some type) =
         typed_stays t pats (written (type_ann (promised unresolved (ArrowExpr-is_async t) type))) hold (λ f. is_absent_node _ _)
     by_value_stays t place pats hold None = valued_stays t place pats (look (ArrowExpr-body t) None) hold (stays (ArrowExpr-body t) None)

@@ -1,5 +1,5 @@
 -- Each function that stands without a fault is typed, where values that may stay give the types of its parameters.
-use Rattle.std.specs.Prelude.{◌≡◌, ℕ, suc, Bool, true, false, ◌⊎◌, Option, Some, List, [], ◌∷◌, map, refl, if◌then◌else◌}
+use Rattle.std.specs.Prelude.{◌≡◌, ℕ, suc, Bool, true, false, ◌⊎◌, Some, List, [], ◌∷◌, map, refl, if◌then◌else◌}
 use Rattle.std.specs.List.{list_all}
 use Rattle.std.proofs.Common.{ap, ◌∙◌, sym, subst, inl, inr}
 use Rattle.fast_check_syntax.specs.declared.kind.Kind.TheVariants.{Param, RestPat}
@@ -10,8 +10,9 @@ use Rattle.fast_check_syntax.specs.declared.tree.Tree.{Tree, Absent, roll-Tree, 
 use Rattle.fast_check_syntax.specs.declared.tree.Tree.TheOpen.{Tree-F}
 use Rattle.fast_check_syntax.specs.Shape.{◌is◌, kind_of, parts, flag_of, is_absent, is_absent_at, none_range, node, list}
 use Rattle.fast_check_syntax.proofs.Made.{kind_of_node, parts_node, part_node, is_absent_node, flag_of_flag}
-use Rattle.fast_check_class_forms.specs.Functions.{Function-span, Function-params, Function-ctxt, Function-body, Function-decorators, Function-is_generator}
-use Rattle.fast_check_class_forms.specs.Functions.{Function-is_async, Function-type_params, Function-return_type, Param-span, Param-decorators, Param-pat, param}
+use Rattle.fast_check_class_forms.specs.Functions.{Function-params, Function-body, Function-decorators, Function-is_generator}
+use Rattle.fast_check_class_forms.specs.Functions.{Function-is_async, Function-return_type, Param-span, Param-decorators, Param-pat}
+use Rattle.fast_check_class_forms.specs.Functions.{param}
 use Rattle.fast_check_program_forms.specs.Names.{binding_ident}
 use Rattle.fast_check_tree.specs.declared.helpers.return_class.ReturnStatementAnalysis.{ReturnStatementAnalysis}
 use Rattle.fast_check_tree.specs.declared.helpers.return_class.ReturnStatementAnalysis.TheVariants as class
@@ -27,7 +28,7 @@ use Rattle.fast_check_signatures.specs.Functions.{class_seen, return_type_seen, 
 use Rattle.fast_check_signatures.specs.Functions.{params_seen, function_seen}
 use Rattle.fast_check_signatures.specs.Answers.{settled, visited, faultless, signed_function, answer_to, parts_answer, answer_of}
 use Rattle.fast_check_signatures.proofs.Choices.{of_choice, not_empty}
-use Rattle.fast_check_typed_grammar.specs.TypedGrammar.{IsLeavable, IsTypedFunction, IsTypedPat, AllTypedParams}
+use Rattle.fast_check_typed_grammar.specs.TypedGrammar.{IsTypedFunction, IsTypedPat, AllTypedParams}
 use Rattle.fast_check_typed_grammar.proofs.Staying.{Holds, Stays, round_stays, written_before, last_stays, items_hold, joined_stays}
 use Rattle.fast_check_typed_grammar.proofs.TypedPatterns.{LookStays, pat_stays, typed_ident, typed_rest, ident_gathered}
 
@@ -129,7 +130,8 @@ module _ (unresolved : SyntaxContext) where
   abbrev StaysFunction : Seen → Type 0
   StaysFunction s = Stays (IsTypedFunction unresolved) (answer_to s)
 
-  signature_stays : (t : Tree) (type : Seen) (params : List Seen) → IsTypeOrBodiless (Function-body t) type → ParamsHold params → StaysFunction (signature_seen t type params)
+  signature_stays : (t : Tree) (type : Seen) (params : List Seen) → IsTypeOrBodiless (Function-body t) type → ParamsHold params →
+      StaysFunction (signature_seen t type params)
   signature_stays t type params shows hold =
       joined_stays (Shows (is_absent (Function-body t))) (AllTypedParams unresolved) (IsTypedFunction unresolved) (signed_function (function_head t))
       (typed_signature (function_head t)) (settled (answer_to type)) (answer_of params) shows hold
@@ -139,7 +141,8 @@ module _ (unresolved : SyntaxContext) where
   any_param_typed : (place : ℕ) (is_rest : Bool) → IsTypedParam (any_param place is_rest)
   any_param_typed place true =
       let arg = binding_ident (param_ident place false) Absent in
-      typed_param none_range _ (typed_rest unresolved none_range none_range arg any_type_ann (ident_gathered (param_ident place false) Absent) (is_absent_node _ _))
+      typed_param none_range _ (typed_rest unresolved none_range none_range arg any_type_ann (ident_gathered (param_ident place false) Absent)
+      (is_absent_node _ _))
   any_param_typed place false = typed_param none_range _ (typed_ident unresolved (param_ident place true) any_type_ann (is_absent_node _ _))
 
   any_params_hold : (place : ℕ) (params : List Tree) → ParamsHold (any_params_from place params)
@@ -159,10 +162,12 @@ module _ (unresolved : SyntaxContext) where
     params_hold (p ∷ ps) [] = λ f. AllTypedParams.no_params
     params_hold (p ∷ ps) (pat ∷ pats) =
         let is_optional = list_all is_optional_param (pat ∷ pats) in let seen = pat_seen unresolved look is_optional pat in
-        next_holds (param_seen p seen) (params_seen ps (pats_seen unresolved look pats)) (param_stays p seen (pat_stays unresolved look stays is_optional pat)) (params_hold ps pats)
+        next_holds (param_seen p seen) (params_seen ps (pats_seen unresolved look pats))
+        (param_stays p seen (pat_stays unresolved look stays is_optional pat)) (params_hold ps pats)
 
     pub function_stays : (kind : FunctionKind) (place : SourceRange) (t : Tree) → StaysFunction (function_seen unresolved look kind place t)
     function_stays kind place t =
         let params = parts (Function-params t) in
         let pats = map (λ p. Param-pat p) params in
-        signature_stays t (return_type_seen kind place t) (params_seen params (pats_seen unresolved look pats)) (return_type_shows kind place t) (params_hold params pats)
+        signature_stays t (return_type_seen kind place t) (params_seen params (pats_seen unresolved look pats)) (return_type_shows kind place t)
+        (params_hold params pats)

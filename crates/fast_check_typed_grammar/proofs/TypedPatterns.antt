@@ -9,7 +9,9 @@ use Rattle.fast_check_syntax.specs.declared.source.SyntaxContext.{SyntaxContext}
 use Rattle.fast_check_syntax.specs.declared.tree.Tree.{Tree}
 use Rattle.fast_check_syntax.specs.Shape.{kind_of, is_absent, list, flag_of, range_of}
 use Rattle.fast_check_syntax.proofs.Made.{kind_of_node, part_node, is_absent_node, flag_of_flag, range_of_range}
-use Rattle.fast_check_expression_forms.specs.Patterns.{ArrayPat-span, ArrayPat-optional, ArrayPat-type_ann, array_pat, ObjectPat-span, ObjectPat-optional, ObjectPat-type_ann, object_pat, RestPat-span, RestPat-dot3_token, RestPat-arg, RestPat-type_ann, rest_pat, AssignPat-span, AssignPat-left, AssignPat-right, assign_pat}
+use Rattle.fast_check_expression_forms.specs.Patterns.{ArrayPat-span, ArrayPat-optional, ArrayPat-type_ann, array_pat, ObjectPat-span, ObjectPat-optional}
+use Rattle.fast_check_expression_forms.specs.Patterns.{ObjectPat-type_ann, object_pat, RestPat-span, RestPat-dot3_token, RestPat-arg, RestPat-type_ann}
+use Rattle.fast_check_expression_forms.specs.Patterns.{rest_pat, AssignPat-span, AssignPat-left, AssignPat-right, assign_pat}
 use Rattle.fast_check_program_forms.specs.Names.{Ident-span, BindingIdent-id, BindingIdent-type_ann, binding_ident}
 use Rattle.fast_check_tree.specs.declared.helpers.literal_type.DeclMutabilityKind.TheVariants.{Mutable}
 use Rattle.fast_check_tree.specs.Builders.{type_ann, never_value}
@@ -19,7 +21,8 @@ use Rattle.fast_check_signatures.specs.declared.fault.FaultKind.TheVariants.{Mis
 use Rattle.fast_check_signatures.specs.Seen.{Seen}
 use Rattle.fast_check_signatures.specs.NewNodes.{never_array, empty_object_pat, or_undefined}
 use Rattle.fast_check_signatures.specs.Parameters.{Look, emptied_array, emptied_object, typed, arg_by_kind, rest_arg, rest_seen, with_optional, without_default}
-use Rattle.fast_check_signatures.specs.Parameters.{default_seen, by_shown, ident_default_seen, pattern_default_seen, assign_by_left, pat_by_kind, pat_seen, pats_seen}
+use Rattle.fast_check_signatures.specs.Parameters.{default_seen, by_shown, ident_default_seen, pattern_default_seen, assign_by_left, pat_by_kind, pat_seen}
+use Rattle.fast_check_signatures.specs.Parameters.{pats_seen}
 use Rattle.fast_check_signatures.specs.Answers.{fault_at, answer_to, answer_of}
 use Rattle.fast_check_signatures.proofs.Choices.{of_choice, not_empty}
 use Rattle.fast_check_typed_grammar.specs.TypedGrammar.{IsEmptiedArray, IsEmptiedObject, IsLeavable, IsTypedPat, AllTypedPats}
@@ -71,7 +74,8 @@ ident_gathered id type = ap (λ k. arg_by_kind k (binding_ident id type)) (kind_
 -- ---- what stays
 
 -- a pattern of a written type
-typed_stays : (P : Tree → Type 0) (type : Tree) (place : SourceRange) (pat : Tree) → (is_absent type ≡ false → P pat) → Stays P (answer_to (typed type place pat))
+typed_stays : (P : Tree → Type 0) (type : Tree) (place : SourceRange) (pat : Tree) → (is_absent type ≡ false → P pat) →
+    Stays P (answer_to (typed type place pat))
 typed_stays P type place pat p = of_choice (λ s. Stays P (answer_to s)) (is_absent type) _ _ (λ e f. not_empty f) (λ e f. p e)
 
 module _ (unresolved : SyntaxContext) where
@@ -116,7 +120,8 @@ module _ (unresolved : SyntaxContext) where
   -- ---- defaults
 
   -- a pattern emptied behind a written type, with `never` for its default
-  never_array_typed : (span : SourceRange) (left : Tree) → is_absent (ArrayPat-type_ann left) ≡ false → TypedPat (assign_pat span (emptied_array left) never_array)
+  never_array_typed : (span : SourceRange) (left : Tree) → is_absent (ArrayPat-type_ann left) ≡ false →
+      TypedPat (assign_pat span (emptied_array left) never_array)
   never_array_typed span left e =
       let made = assign_pat span (emptied_array left) never_array in
       let same : AssignPat-left made ≡ emptied_array left = part_node _ _ _ in
@@ -124,7 +129,8 @@ module _ (unresolved : SyntaxContext) where
       IsTypedPat.array_never (kind_of_node _ _) (subst IsEmptiedArray (sym same) (emptied_array_is left))
       (ap (λ l. is_absent (ArrayPat-type_ann l)) same ∙ (ap is_absent type ∙ e)) (part_node _ _ _)
 
-  never_object_typed : (span : SourceRange) (left : Tree) → is_absent (ObjectPat-type_ann left) ≡ false → TypedPat (assign_pat span (emptied_object left) never_value)
+  never_object_typed : (span : SourceRange) (left : Tree) → is_absent (ObjectPat-type_ann left) ≡ false →
+      TypedPat (assign_pat span (emptied_object left) never_value)
   never_object_typed span left e =
       let made = assign_pat span (emptied_object left) never_value in
       let same : AssignPat-left made ≡ emptied_object left = part_node _ _ _ in
@@ -165,7 +171,8 @@ module _ (unresolved : SyntaxContext) (look : Look) (stays : LookStays unresolve
   abbrev Typed : Seen → Type 0
   Typed s = StaysTyped unresolved s
 
-  by_shown_stays : (b : Bool) (pat : Tree) → kind_of (AssignPat-left pat) ≡ kinds.BindingIdent → (shown : Option Tree) → Typed (by_shown unresolved look b pat shown)
+  by_shown_stays : (b : Bool) (pat : Tree) → kind_of (AssignPat-left pat) ≡ kinds.BindingIdent → (shown : Option Tree) →
+      Typed (by_shown unresolved look b pat shown)
   by_shown_stays b pat kind (Some type) = λ f. typed_without_default unresolved b (BindingIdent-id (AssignPat-left pat)) (type_ann type) (is_absent_node _ _)
   by_shown_stays b pat kind None = let place = Ident-span (BindingIdent-id (AssignPat-left pat)) in
       default_stays unresolved (AssignPat-span pat) place (AssignPat-left pat) (look (AssignPat-right pat) (Some place))
