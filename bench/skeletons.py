@@ -41,7 +41,8 @@ def variant(node):
 
 # ---- types that values show
 
-SIMPLE_PARTS = {"TsArrayType": ["elem_type"], "TsOptionalType": ["type_ann"], "TsRestType": ["type_ann"], "TsParenthesizedType": ["type_ann"], "TsTypeOperator": ["type_ann"]}
+SIMPLE_PARTS = {"TsArrayType": ["elem_type"], "TsOptionalType": ["type_ann"], "TsRestType": ["type_ann"], "TsParenthesizedType": ["type_ann"],
+    "TsTypeOperator": ["type_ann"]}
 
 
 def is_simple(written):
@@ -141,7 +142,8 @@ def return_class(body):
 
 # ---- skeletons
 
-ALL_PARTS = {"Unary": ["arg"], "Update": ["arg"], "Await": ["arg"], "Paren": ["expr"], "TsNonNull": ["expr"], "TsConstAssertion": ["expr"], "TsSatisfies": ["expr"],
+ALL_PARTS = {"Unary": ["arg"], "Update": ["arg"], "Await": ["arg"], "Paren": ["expr"], "TsNonNull": ["expr"], "TsConstAssertion": ["expr"],
+    "TsSatisfies": ["expr"],
              "Bin": ["left", "right"], "Cond": ["test", "cons", "alt"]}
 NEW_BLOCK = {"span": DUMMY, "ctxt": 0, "stmts": []}
 
@@ -447,7 +449,8 @@ NO_RETURNS = "this function has no return statements, so a return type could not
 def texts(code, is_definitely, is_async):
     """The message, the hint and the lines that say more."""
     if code == "missing-explicit-type":
-        return "missing explicit type in the public API", "add an explicit type annotation to the symbol", ["all symbols in the public API must have an explicit type"]
+        return "missing explicit type in the public API", "add an explicit type annotation to the symbol", \
+            ["all symbols in the public API must have an explicit type"]
     if code == "unsupported-destructuring":
         return ("found destructuring, which is not supported in the public API", "separate each destructured symbol into its own export statement",
                 ["destructuring can not be inferred by fast check"])

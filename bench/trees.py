@@ -206,6 +206,18 @@ def call(callee, *args):
     return expr("Call", ctxt=0, callee={"Expr": callee}, args=[element(arg) for arg in args], type_args=None)
 
 
+def optional_call(callee, *args):
+    return chain(Call=form(ctxt=0, callee={"Expr": callee}, args=[element(arg) for arg in args], type_args=None))
+
+
+def optional_member(obj, name):
+    return chain(Member=form(obj=obj, prop={"Ident": ident_name(name)}))
+
+
+def chain(**base):
+    return expr("OptChain", optional=True, base=base)
+
+
 def freeze(*args, obj=None):
     return call(member(obj or free("Object"), "freeze"), *args)
 
@@ -257,7 +269,8 @@ def arrow(params, body, ret=None, is_async=False, generics=None):
 def fn(params, *stmts, ret=None, is_async=False, is_generator=False, generics=None, body=True):
     """A function as a part of what declares it."""
     params = [param if "decorators" in param else form(decorators=[], pat=param) for param in params]
-    return form(params=params, decorators=[], ctxt=FUNCTION, body=block(*stmts) if body else None, is_generator=is_generator, is_async=is_async, type_params=generics, return_type=ann(ret))
+    return form(params=params, decorators=[], ctxt=FUNCTION, body=block(*stmts) if body else None, is_generator=is_generator, is_async=is_async,
+        type_params=generics, return_type=ann(ret))
 
 
 def function(params, *stmts, name=None, **more):
@@ -469,9 +482,14 @@ def after_dot(kind):
     return layout
 
 
+OPTIONAL = {
+    "Member": [one("obj", "expr"), "?", one("prop", "property")],
+    "Call": [one("callee", "callee"), "?.", one("type_args", "instantiation"), "(", many("args", "element"), ")"]}
+
+
 def lay_chain(source, node):
-    base = node["base"]["Member"]
-    lay(source, [one("obj", "expr"), "?", one("prop", "property")], base)
+    (variant, base), = node["base"].items()
+    lay(source, OPTIONAL[variant], base)
 
 
 SIGNATURE = [one("type_params", "type_params"), "(", many("params", "param"), ")", one("return_type", "ann"),
@@ -487,8 +505,10 @@ LAYOUTS = {
     "ann": [": ", one("type_ann", "type")],
     "result": [one("type_ann", "type")],
     "type": {"TsKeywordType": [keyword_text], "TsTypeRef": [one("type_name", "entity"), one("type_params", "instantiation")],
-             "TsArrayType": [one("elem_type", "type"), "[]"], "TsUnionOrIntersectionType": "union", "TsFnOrConstructorType": "function_type",
+             "TsArrayType": [one("elem_type", "type"), "[]"], "TsTupleType": ["[", many("elem_types", "tuple_element"), "]"],
+             "TsUnionOrIntersectionType": "union", "TsFnOrConstructorType": "function_type",
              "TsLitType": [one("lit", "literal")], "TsTypeOperator": ["unique ", one("type_ann", "type")]},
+    "tuple_element": [one("ty", "type")],
     "union": {"TsUnionType": [many("types", "type", " | ")]},
     "function_type": {"TsFnType": ["(", many("params", "pattern"), ") => ", one("type_ann", "result")]},
     "entity": {"Ident": "ident"},
@@ -504,12 +524,15 @@ LAYOUTS = {
         "Call": [one("callee", "callee"), one("type_args", "instantiation"), "(", many("args", "element"), ")"],
         "New": ["new ", one("callee", "expr"), one("type_args", "instantiation"), "(", many("args", "element"), ")"],
         "Seq": [many("exprs", "expr")], "Ident": "ident", "Lit": "literal", "Tpl": [lay_template], "TaggedTpl": [one("tag", "expr"), one("tpl", "tpl")],
-        "Arrow": [when("is_async", "async "), one("type_params", "type_params"), "(", many("params", "pattern"), ")", one("return_type", "ann"), " => ", one("body", "body")],
-        "Class": [one("class", "class")], "Yield": ["yield", when("delegate", "*"), " ", one("arg", "expr")], "MetaProp": [word("kind")], "Await": ["await ", one("arg", "expr")],
+        "Arrow": [when("is_async", "async "), one("type_params", "type_params"), "(", many("params", "pattern"), ")", one("return_type", "ann"), " => ",
+            one("body", "body")],
+        "Class": [one("class", "class")], "Yield": ["yield", when("delegate", "*"), " ", one("arg", "expr")], "MetaProp": [word("kind")],
+        "Await": ["await ", one("arg", "expr")],
         "Paren": ["(", one("expr", "expr"), ")"], "JSXMember": JSX, "JSXNamespacedName": JSX, "JSXEmpty": JSX, "JSXElement": JSX, "JSXFragment": JSX,
         "TsTypeAssertion": ["<", one("type_ann", "type"), ">", one("expr", "expr")], "TsConstAssertion": [one("expr", "expr"), " as const"],
         "TsNonNull": [one("expr", "expr"), "!"], "TsAs": [one("expr", "expr"), " as ", one("type_ann", "type")],
-        "TsInstantiation": [one("expr", "expr"), one("type_args", "instantiation")], "TsSatisfies": [one("expr", "expr"), " satisfies ", one("type_ann", "type")],
+        "TsInstantiation": [one("expr", "expr"), one("type_args", "instantiation")],
+        "TsSatisfies": [one("expr", "expr"), " satisfies ", one("type_ann", "type")],
         "PrivateName": "hash_name", "OptChain": [lay_chain], "Invalid": ["@"]},
     "class": ["class", *HERITAGE],
     "tpl": [lay_template],
@@ -519,12 +542,15 @@ LAYOUTS = {
     "property": {"Ident": after_dot("ident_name"), "PrivateName": after_dot("hash_name"), "Computed": ["[", one("expr", "expr"), "]"]},
     "key": {"Ident": "ident_name", "Str": [word("raw")], "Num": [word("raw")], "BigInt": [word("raw")], "Computed": ["[", one("expr", "expr"), "]"]},
     "prop": {"Prop": "own_prop", "Spread": [dots, one("expr", "expr")]},
-    "own_prop": {"Shorthand": "ident", "KeyValue": [one("key", "key"), ": ", one("value", "expr")], "Assign": [one("key", "ident"), " = ", one("value", "expr")],
-                 "Getter": ["get ", one("key", "key"), "() ", one("body", "block")], "Setter": ["set ", one("key", "key"), "(", one("param", "pattern"), ") ", one("body", "block")],
+    "own_prop": {"Shorthand": "ident", "KeyValue": [one("key", "key"), ": ", one("value", "expr")],
+        "Assign": [one("key", "ident"), " = ", one("value", "expr")],
+                 "Getter": ["get ", one("key", "key"), "() ", one("body", "block")],
+                 "Setter": ["set ", one("key", "key"), "(", one("param", "pattern"), ") ", one("body", "block")],
                  "Method": [lay_method]},
     "body": {"BlockStmt": "block", "Expr": "expr"},
     "pattern": {"Ident": "binding", "Array": ["[", many("elems", "pattern"), "]", when("optional", "?"), one("type_ann", "ann")],
-                "Rest": [dots, one("arg", "pattern"), one("type_ann", "ann")], "Object": [braces("props", "pattern_prop", ", "), when("optional", "?"), one("type_ann", "ann")],
+                "Rest": [dots, one("arg", "pattern"), one("type_ann", "ann")],
+                "Object": [braces("props", "pattern_prop", ", "), when("optional", "?"), one("type_ann", "ann")],
                 "Assign": [one("left", "pattern"), " = ", one("right", "expr")], "Invalid": ["@"], "Expr": "expr"},
     "binding": [one("id", "ident"), lambda source, node: source.write("?" if node["id"]["optional"] else ""), one("type_ann", "ann")],
     "pattern_prop": {"Assign": [one("key", "binding")]},

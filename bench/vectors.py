@@ -182,9 +182,10 @@ def title(text):
     STDOUT.append(f"# {text}\n")
 
 
-def case(words, status, output):
+def case(words, status, output, is_told=True):
     CASES.append(words + "\n")
-    STDOUT.append(f"$ fast-check {words}\n{output}status {status}\n")
+    told = "" if is_told else "the line was not taken\n"
+    STDOUT.append(f"$ fast-check {words}\n{output}status {status}\n{told}")
 
 
 def put(name, content):
@@ -247,13 +248,16 @@ def variables():
     transforms("let_values", Module().statement("let", *[(f"l{i}", None, v, True) for i, v in enumerate(values)]))
     transforms("var_values", Module().statement("var", *[(f"v{i}", None, v, True) for i, v in enumerate(values)]))
     title("a written type stays, and the value behind it goes")
-    transforms("written_types", Module().statement("const", ("a", "string", '"x"', True)).statement("let", ("b", "number", None, True), ("c!", "any", None, True)))
+    transforms("written_types", Module().statement("const", ("a", "string", '"x"', True)).statement("let", ("b", "number", None, True),
+        ("c!", "any", None, True)))
     title("what is not public goes, declarator by declarator")
-    transforms("mixed", Module().statement("const", ("a", None, "1", False), ("b", None, '"b"', True), ("c", None, None, False), ("d", "unknown", "null", True)))
+    transforms("mixed", Module().statement("const", ("a", None, "1", False), ("b", None, '"b"', True), ("c", None, None, False),
+        ("d", "unknown", "null", True)))
     transforms("not_exported", Module().statement("const", ("a", None, "true", True), export=False).statement("let", ("b", None, "1", False), export=False))
     title("a public variable without type and value is a fault at its name")
     transforms("no_type", Module().statement("let", ("z", None, None, True)))
-    three = Module().statement("let", ("a", None, None, True), ("b", None, "1", True), ("c", None, None, True)).statement("var", ("d", None, None, False), ("e", None, None, True))
+    three = Module().statement("let", ("a", None, None, True), ("b", None, "1", True), ("c", None, None, True)).statement("var", ("d", None, None, False),
+        ("e", None, None, True))
     transforms("all_faults", three)
     transforms("first_fault", three, first=True)
     transforms("first_of_no_faults", first_module(), first=True)
@@ -274,6 +278,10 @@ def variables():
     text = body.source.text
     request["module"]["source"]["program"] = {"Script": {"span": [1, len(text) + 1], "body": [item["Stmt"] for item in body.body], "shebang": None}}
     answered("script", request, body.answer())
+    empty = Module()
+    request = empty.request()
+    request["module"]["source"]["program"] = {"Script": program([], "")}
+    answered("empty_script", request, empty.answer())
 
 
 # ---- values and types beyond literals: each node as it is written, with what stands for it
@@ -299,7 +307,8 @@ def symbol_call(ctxt, *args, member=None):
     return {"Call": {"span": [1, 12], "ctxt": 0, "callee": {"Expr": callee}, "args": [{"spread": None, "expr": arg} for arg in args], "type_args": None}}
 
 
-UNIQUE_SYMBOL = {"TsTypeOperator": {"span": DUMMY, "op": "Unique", "type_ann": {"TsTypeRef": {"span": DUMMY, "type_name": {"Ident": ident(DUMMY, "symbol")}, "type_params": None}}}}
+UNIQUE_SYMBOL = {"TsTypeOperator": {"span": DUMMY, "op": "Unique",
+    "type_ann": {"TsTypeRef": {"span": DUMMY, "type_name": {"Ident": ident(DUMMY, "symbol")}, "type_params": None}}}}
 TEXT = {"Lit": {"Str": {"span": [3, 6], "value": "x", "raw": '"x"'}}}
 
 
@@ -308,7 +317,8 @@ def reference(name):
 
 
 def function_type():
-    return {"TsFnOrConstructorType": {"TsFnType": {"span": [5, 9], "params": [], "type_params": None, "type_ann": {"span": [7, 9], "type_ann": keyword("TsVoidKeyword", [7, 9])}, "is_abstract": False}}}
+    return {"TsFnOrConstructorType": {"TsFnType": {"span": [5, 9], "params": [], "type_params": None,
+        "type_ann": {"span": [7, 9], "type_ann": keyword("TsVoidKeyword", [7, 9])}, "is_abstract": False}}}
 
 
 def valued(kind, value, ann=None, init=NEVER):
@@ -361,7 +371,8 @@ def type_ann(type_, span):
 
 
 def signature(name, **more):
-    return dict({"span": [30, 40], "key": {"Ident": ident([30, 31], name)}, "computed": False, "optional": False, "params": [], "type_ann": type_ann(keyword("TsStringKeyword", [33, 39]), [32, 39]), "type_params": None}, **more)
+    return dict({"span": [30, 40], "key": {"Ident": ident([30, 31], name)}, "computed": False, "optional": False, "params": [],
+        "type_ann": type_ann(keyword("TsStringKeyword", [33, 39]), [32, 39]), "type_params": None}, **more)
 
 
 def parameter(name, type_):
@@ -371,7 +382,8 @@ def parameter(name, type_):
 def types_module():
     """Declarations of types of many forms, as the items of a module."""
     string, number = keyword("TsStringKeyword", [50, 56]), keyword("TsNumberKeyword", [50, 56])
-    params = {"span": [20, 40], "params": [{"span": [21, 39], "name": ident([21, 22], "T", 3), "is_in": False, "is_out": True, "is_const": False, "constraint": string, "default": {"TsLitType": {"span": [36, 39], "lit": {"Str": {"span": [36, 39], "value": "d", "raw": '"d"'}}}}}]}
+    params = {"span": [20, 40], "params": [{"span": [21, 39], "name": ident([21, 22], "T", 3), "is_in": False, "is_out": True, "is_const": False,
+        "constraint": string, "default": {"TsLitType": {"span": [36, 39], "lit": {"Str": {"span": [36, 39], "value": "d", "raw": '"d"'}}}}}]}
     t = {"TsTypeRef": {"span": [50, 51], "type_name": {"Ident": ident([50, 51], "T", 3)}, "type_params": None}}
     bare = {"span": [30, 40], "params": [parameter("x", string)], "type_ann": type_ann(number, [35, 40]), "type_params": None}
     method = signature("m", params=[parameter("x", number)])
@@ -379,17 +391,26 @@ def types_module():
     index = {"span": [30, 44], "params": [parameter("k", string)], "type_ann": type_ann(number, [40, 44]), "readonly": False, "is_static": False}
     interface = {"span": [10, 60], "id": ident([20, 25], "Shape"), "declare": False, "type_params": params,
                  "extends": [{"span": [26, 30], "expr": {"Ident": ident([26, 30], "Base")}, "type_args": {"span": [29, 32], "params": [t]}}],
-                 "body": {"span": [30, 60], "body": [{"TsCallSignatureDecl": bare}, {"TsConstructSignatureDecl": bare}, {"TsIndexSignature": index}, {"TsMethodSignature": method}, {"TsPropertySignature": prop}]}}
+                 "body": {"span": [30, 60], "body": [{"TsCallSignatureDecl": bare}, {"TsConstructSignatureDecl": bare}, {"TsIndexSignature": index},
+                     {"TsMethodSignature": method}, {"TsPropertySignature": prop}]}}
     mapped = {"TsMappedType": {"span": [50, 80], "readonly": "+", "type_param": params["params"][0], "name_type": None, "optional": "true", "type_ann": t}}
-    conditional = {"TsConditionalType": {"span": [50, 90], "check_type": t, "extends_type": {"TsInferType": {"span": [60, 70], "type_param": params["params"][0]}}, "true_type": string, "false_type": keyword("TsNeverKeyword", [80, 85])}}
-    tuple_ = {"TsTupleType": {"span": [50, 70], "elem_types": [{"span": [51, 60], "label": {"Ident": {"id": ident([51, 52], "a"), "type_ann": None}}, "ty": string}, {"span": [61, 69], "label": None, "ty": {"TsRestType": {"span": [61, 69], "type_ann": {"TsArrayType": {"span": [64, 69], "elem_type": number}}}}}]}}
+    conditional = {"TsConditionalType": {"span": [50, 90], "check_type": t,
+        "extends_type": {"TsInferType": {"span": [60, 70], "type_param": params["params"][0]}}, "true_type": string,
+        "false_type": keyword("TsNeverKeyword", [80, 85])}}
+    tuple_ = {"TsTupleType": {"span": [50, 70], "elem_types": [{"span": [51, 60], "label": {"Ident": {"id": ident([51, 52], "a"), "type_ann": None}},
+        "ty": string}, {"span": [61, 69], "label": None, "ty": {"TsRestType": {"span": [61, 69],
+            "type_ann": {"TsArrayType": {"span": [64, 69], "elem_type": number}}}}}]}}
     text = {"TsLitType": {"span": [50, 70], "lit": {"Tpl": {"span": [50, 70], "types": [string], "quasis": [quasi("a", False), quasi("")]}}}}
-    imported = {"TsImportType": {"span": [50, 80], "arg": {"span": [57, 62], "value": "./b", "raw": '"./b"'}, "qualifier": {"TsQualifiedName": {"span": [64, 70], "left": {"Ident": ident([64, 65], "n")}, "right": {"span": [66, 70], "sym": "Name"}}}, "type_args": None}}
+    imported = {"TsImportType": {"span": [50, 80], "arg": {"span": [57, 62], "value": "./b", "raw": '"./b"'},
+        "qualifier": {"TsQualifiedName": {"span": [64, 70], "left": {"Ident": ident([64, 65], "n")}, "right": {"span": [66, 70], "sym": "Name"}}},
+        "type_args": None}}
     union = {"TsUnionOrIntersectionType": {"TsUnionType": {"span": [50, 99], "types": [mapped, conditional, tuple_, text, imported]}}}
     alias = {"span": [110, 160], "declare": False, "id": ident([115, 120], "All"), "type_params": params, "type_ann": union}
     enum = {"span": [170, 200], "declare": False, "is_const": True, "id": ident([181, 185], "Size"),
-            "members": [{"span": [187, 192], "id": {"Ident": ident([187, 188], "S")}, "init": TEXT}, {"span": [193, 198], "id": {"Str": {"span": [193, 196], "value": "L", "raw": '"L"'}}, "init": None}]}
-    items = [{"ModuleDecl": {"ExportDecl": {"span": [1, 60], "decl": {"TsInterface": interface}}}}, {"Stmt": {"Decl": {"TsTypeAlias": alias}}}, {"Stmt": {"Decl": {"TsEnum": enum}}}]
+            "members": [{"span": [187, 192], "id": {"Ident": ident([187, 188], "S")}, "init": TEXT},
+                {"span": [193, 198], "id": {"Str": {"span": [193, 196], "value": "L", "raw": '"L"'}}, "init": None}]}
+    items = [{"ModuleDecl": {"ExportDecl": {"span": [1, 60], "decl": {"TsInterface": interface}}}}, {"Stmt": {"Decl": {"TsTypeAlias": alias}}},
+        {"Stmt": {"Decl": {"TsEnum": enum}}}]
     return items, [[1, 60], [110, 160], [170, 200]]
 
 
@@ -402,7 +423,8 @@ def types():
     title("statements that declare and assign nothing go")
     call = {"Call": {"callee": {"Expr": {"Ident": ident(DUMMY, "f")}}, "args": []}}
     plain = [{"Stmt": {"Empty": {}}}, {"Stmt": {"Debugger": {}}}, {"Stmt": {"Block": {}}}, {"Stmt": {"Expr": {"expr": call}}},
-             {"Stmt": {"If": {"test": call, "cons": {"Return": {}}}}}, {"Stmt": {"While": {"test": call, "body": {"Break": {}}}}}, {"Stmt": {"Throw": {"arg": call}}}]
+             {"Stmt": {"If": {"test": call, "cons": {"Return": {}}}}}, {"Stmt": {"While": {"test": call, "body": {"Break": {}}}}},
+             {"Stmt": {"Throw": {"arg": call}}}]
     answered("plain_statements", request("", plain + items[2:], ranges), {"Ok": module_answer(program(items[2:], ""))})
 
 
@@ -428,11 +450,14 @@ def defaults():
     title("what may be left out: options, flags, lists, spans and scope numbers; other members are passed over")
     module = Module().statement("let", ("a", None, "1", True))
     request = {"more": {"deep": [1, -2, "x"]}, "module": {"specifier": SPECIFIER, "more": None, "source": {"media_type": "TypeScript", "text": "", "more": [],
-               "program": {"Module": {"body": [{"Stmt": {"Decl": {"Var": {"kind": "Let", "decls": [{"more": 1, "name": {"Ident": {"id": {"sym": "a"}}}, "init": {"Lit": {"Num": {"raw": "1"}}}}]}}}}]}}}}, "ranges": [[0, 0]]}
+               "program": {"Module": {"body": [{"Stmt": {"Decl": {"Var": {"kind": "Let",
+                   "decls": [{"more": 1, "name": {"Ident": {"id": {"sym": "a"}}}, "init": {"Lit": {"Num": {"raw": "1"}}}}]}}}}]}}}}, "ranges": [[0, 0]]}
     ann = {"span": DUMMY, "type_ann": keyword("TsNumberKeyword")}
     decl = {"span": DUMMY, "name": {"Ident": {"id": ident(DUMMY, "a"), "type_ann": ann}}, "init": NEVER, "definite": False}
     var = {"Stmt": {"Decl": {"Var": {"span": DUMMY, "ctxt": 0, "kind": "Let", "declare": False, "decls": [decl]}}}}
     answered("defaults", request, {"Ok": module_answer({"span": DUMMY, "body": [var], "shebang": None})})
+    source = {"media_type": "TypeScript", "text": "", "program": {"Module": {}}}
+    answered("a_module_of_nothing", {"module": {"specifier": SPECIFIER, "source": source}}, {"Ok": module_answer({"span": DUMMY, "body": [], "shebang": None})})
     text = json.dumps(first_module().request())
     doubled = text[:-1] + ', "ranges": [[34, 39]]}'
     only = first_module()
@@ -507,7 +532,9 @@ def left_out():
     answered("value_without_type", changed(FIRST_VAR + ("decls", 0, "init"), value), left.answer())
     pattern = {"Err": [diagnostic(("unsupported-destructuring", DUMMY, None, None), SPECIFIER, DOCS)]}
     answered("pattern", changed(FIRST_VAR + ("decls", 0, "name"), {"Array": {"elems": []}}), pattern)
-    refused("class", changed(BODY + (0,), {"Stmt": {"Decl": {"Class": {"ident": ident(DUMMY, "C"), "class": {"body": []}}}}}))
+    declared_class = {"Class": {"ident": ident(DUMMY, "C"), "class": {"body": []}}}
+    refused("class", changed(BODY + (0,), {"Stmt": {"Decl": declared_class}}))
+    refused("exported_class", changed(BODY + (0,), {"ModuleDecl": {"ExportDecl": {"decl": declared_class}}}))
 
 
 # ---- functions and values of all forms: what is stated by hand has to agree with what the rules give
@@ -603,6 +630,17 @@ def words():
     case("transform missing.json", 2, "error: input refused: unreadable\n")
 
 
+def streams():
+    title("an input that fails behind its last byte, and outputs that take nothing")
+    case("transform both_public.json <broken", 2, "error: input refused: unreadable\n")
+    case("check both_public.json <broken", 2, "usage: fast-check (build|transform|pair) FILE\n")
+    case("transform empty_module.json >closed", 4, "error: output refused\n")
+    case("transform no_type.json >closed", 4, "error: output refused\n")
+    case("transform empty_module.json >closed 2>closed", 4, "", is_told=False)
+    case("transform array.json >closed", 2, "error: input refused: bad-form\n")
+    case("transform array.json 2>closed", 2, "", is_told=False)
+
+
 def main():
     shutil.rmtree(DATA, ignore_errors=True)
     os.makedirs(DATA)
@@ -614,6 +652,7 @@ def main():
     defaults()
     refusals()
     words()
+    streams()
     put("cases", "".join(CASES).encode())
     with open(os.path.join(CRATE, "stdout"), "w") as file:
         file.write("".join(STDOUT))

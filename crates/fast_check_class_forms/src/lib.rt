@@ -2,15 +2,14 @@
 //!
 //! A form reads a node where its `N` is a `Part` and its `T` a `&str`, and makes one where they are a `Tree` and an `Atom`.
 //!
-//! `of` reads a node by the places of its fields, whatever its kind is. A field that is not there is absent, false, empty or `DUMMY_SP`. `into_tree` fails only for want of memory.
+//! `of` reads a node by the places of its fields, whatever its kind is. A field that is not there is absent, false, empty or
+//! `DUMMY_SP`. `into_tree` fails only for want of memory.
 #![tactic(auto)]
 
 mod classes;
 mod fields;
 mod functions;
 mod methods;
-#[cfg(test)]
-mod tests;
 
 pub use classes::{Class, Constructor, StaticBlock, TsIndexSignature, TsParamProp};
 pub use fields::{AutoAccessor, ClassProp, PrivateProp};

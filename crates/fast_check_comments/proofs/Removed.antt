@@ -22,11 +22,13 @@ module _ {K X : Type 0} (test : K → Bool) where
   removed_are_others [] h = refl
   removed_are_others (e ∷ es) h = go (test e.0) refl h (removed_are_others es)
     where
-      go : (b : Bool) → test e.0 ≡ b → lookup test (cond b es (e ∷ remove_entry test es)) ≡ None → (lookup test (remove_entry test es) ≡ None → remove_entry test es ≡ others es) →
+      go : (b : Bool) → test e.0 ≡ b → lookup test (cond b es (e ∷ remove_entry test es)) ≡ None →
+          (lookup test (remove_entry test es) ≡ None → remove_entry test es ≡ others es) →
           cond b es (e ∷ remove_entry test es) ≡ cond (not b) (e ∷ others es) (others es)
       go true q h more = all_are_others es h
       go false q h more = ap (λ xs. e ∷ xs) (more (sym (ap (λ c. cond c (Some e.1) (lookup test (remove_entry test es))) q) ∙ h))
 
-pub removed_are_gone : (position : SourcePos) (old new : Places) → new ≡ remove_entry (is_at (by_number position)) old → lookup (is_at (by_number position)) new ≡ None → new ≡ without_comments position old
+pub removed_are_gone : (position : SourcePos) (old new : Places) → new ≡ remove_entry (is_at (by_number position)) old →
+    lookup (is_at (by_number position)) new ≡ None → new ≡ without_comments position old
 removed_are_gone position old new e h =
     e ∙ removed_are_others (is_at (by_number position)) old (subst (λ es. lookup (is_at (by_number position)) es ≡ None) e h)

@@ -47,3 +47,30 @@ impl Clone for Comment {
         })
     }
 }
+
+/// Comments are equal where kind, place and text are.
+impl PartialEq for Comment {
+    ghost use Rattle.fast_check_comments.specs.Equality.{same_comment, comment-equiv};
+    ghost use Rattle.std.specs.Cmp.{partial_equiv_from_equiv};
+    ghost use Rattle.std.specs.Prelude.{◌≡◌, ◌↔◌, IsTrue};
+
+    ghost eq = { same_comment };
+
+    ghost laws = { partial_equiv_from_equiv comment-equiv };
+
+    fn eq(&self, other: &Comment) -> bool
+        ensures value { result ≡ same_comment self.now other.now }
+        ensures same { IsTrue result ↔ (self.now ≡ other.now) }
+    {
+        self.kind == other.kind
+            && self.span.start == other.span.start
+            && self.span.end == other.span.end
+            && self.text == other.text
+    }
+}
+
+impl Eq for Comment {
+    ghost use Rattle.fast_check_comments.specs.Equality.{comment-equiv};
+
+    ghost laws = { comment-equiv };
+}

@@ -42,3 +42,27 @@ impl Clone for Comments {
         })
     }
 }
+
+/// Comments of a module are equal where the same comments stand at the same places.
+impl PartialEq for Comments {
+    ghost use Rattle.fast_check_comments.specs.Equality.{same_comments, comments-equiv};
+    ghost use Rattle.std.specs.Cmp.{partial_equiv_from_equiv};
+    ghost use Rattle.std.specs.Prelude.{◌≡◌, ◌↔◌, IsTrue};
+
+    ghost eq = { same_comments };
+
+    ghost laws = { partial_equiv_from_equiv comments-equiv };
+
+    fn eq(&self, other: &Comments) -> bool
+        ensures value { result ≡ same_comments self.now other.now }
+        ensures same { IsTrue result ↔ (self.now ≡ other.now) }
+    {
+        self.leading == other.leading && self.trailing == other.trailing
+    }
+}
+
+impl Eq for Comments {
+    ghost use Rattle.fast_check_comments.specs.Equality.{comments-equiv};
+
+    ghost laws = { comments-equiv };
+}

@@ -10,6 +10,3 @@ pub use comment::{Comment, CommentKind};
 pub use comments::Comments;
 pub use comments_mut::CommentsMut;
 pub use map::{CommentList, CommentMap};
-
-#[cfg(test)]
-mod tests;

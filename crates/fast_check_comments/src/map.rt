@@ -65,6 +65,30 @@ impl Clone for CommentList {
     }
 }
 
+/// Lists are equal where they have the same comments in the same order.
+impl PartialEq for CommentList {
+    ghost use Rattle.fast_check_comments.specs.Equality.{same_list, list-equiv};
+    ghost use Rattle.std.specs.Cmp.{partial_equiv_from_equiv};
+    ghost use Rattle.std.specs.Prelude.{◌≡◌, ◌↔◌, IsTrue};
+
+    ghost eq = { same_list };
+
+    ghost laws = { partial_equiv_from_equiv list-equiv };
+
+    fn eq(&self, other: &CommentList) -> bool
+        ensures value { result ≡ same_list self.now other.now }
+        ensures same { IsTrue result ↔ (self.now ≡ other.now) }
+    {
+        self.as_slice() == other.as_slice()
+    }
+}
+
+impl Eq for CommentList {
+    ghost use Rattle.fast_check_comments.specs.Equality.{list-equiv};
+
+    ghost laws = { list-equiv };
+}
+
 /// Comments by the position that they stand at. Contracts see the entries, in the order of their positions.
 #[derive(Debug, Drop)]
 pub struct CommentMap {
@@ -157,4 +181,28 @@ impl Clone for CommentMap {
             entries: self.entries.clone()?,
         })
     }
+}
+
+/// Maps are equal where they have the same comments at the same positions.
+impl PartialEq for CommentMap {
+    ghost use Rattle.fast_check_comments.specs.Equality.{same_places, places-equiv};
+    ghost use Rattle.std.specs.Cmp.{partial_equiv_from_equiv};
+    ghost use Rattle.std.specs.Prelude.{◌≡◌, ◌↔◌, IsTrue};
+
+    ghost eq = { same_places };
+
+    ghost laws = { partial_equiv_from_equiv places-equiv };
+
+    fn eq(&self, other: &CommentMap) -> bool
+        ensures value { result ≡ same_places self.now other.now }
+        ensures same { IsTrue result ↔ (self.now ≡ other.now) }
+    {
+        self.entries == other.entries
+    }
+}
+
+impl Eq for CommentMap {
+    ghost use Rattle.fast_check_comments.specs.Equality.{places-equiv};
+
+    ghost laws = { places-equiv };
 }

@@ -206,7 +206,7 @@ impl<'a> OptChainExpr<Part<'a>> {
 pub struct OptCall<N> {
     pub span: SourceRange,
     pub ctxt: SyntaxContext,
-    /// An `Expr`.
+    /// A `Callee`.
     pub callee: N,
     /// A list of `ExprOrSpread`.
     pub args: N,

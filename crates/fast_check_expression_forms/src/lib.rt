@@ -2,7 +2,8 @@
 //!
 //! A form reads a node where its `N` is a `Part` and its `T` a `&str`, and makes one where they are a `Tree` and an `Atom`.
 //!
-//! `of` reads a node by the places of its fields, whatever its kind is. A field that is not there is absent, false, empty or `DUMMY_SP`. `into_tree` fails only for want of memory.
+//! `of` reads a node by the places of its fields, whatever its kind is. A field that is not there is absent, false, empty or
+//! `DUMMY_SP`. `into_tree` fails only for want of memory.
 #![tactic(auto)]
 
 mod assertions;
@@ -13,8 +14,6 @@ mod operators;
 mod patterns;
 mod properties;
 mod templates;
-#[cfg(test)]
-mod tests;
 
 pub use assertions::{
     TsAsExpr, TsConstAssertion, TsInstantiation, TsNonNullExpr, TsSatisfiesExpr, TsTypeAssertion,

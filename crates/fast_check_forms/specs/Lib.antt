@@ -1,4 +1,3 @@
-pub mod Kinds
 pub mod NameChoices
 pub mod ExpressionChoices
 pub mod PatternChoices

@@ -1,14 +1,9 @@
--- Which file, item, import or export a node is.
--- Each choice has the kinds of its nodes, and what it holds once it reads a node: one of its forms with that form's fields, or, as `Other`, a node of none of these kinds.
-use Rattle.std.specs.Prelude.{◌≡◌, List, [], ◌∷◌, ◌++◌}
+-- Which item of a module a node is, and which form stands in an import or export.
+-- Each choice goes by the kind of the node: `Other` stands for a kind of none of its forms.
 use Rattle.fast_check_syntax.specs.declared.kind.Kind.{Kind}
 use Rattle.fast_check_syntax.specs.declared.kind.Kind.TheVariants as kinds
-use Rattle.fast_check_syntax.specs.declared.tree.Tree.{Tree}
-use Rattle.fast_check_syntax.specs.Part.{seen}
-use Rattle.fast_check_syntax.specs.Shape.{kind_of}
-use Rattle.fast_check_forms.specs.Kinds.{IsNoneOf}
-use Rattle.fast_check_forms.specs.StatementChoices.{IsStmt, ReadsStmt, stmt_kinds}
-use Rattle.fast_check_forms.specs.TypeChoices.{IsTsEntityName, ReadsTsEntityName, ts_entity_name_kinds}
+use Rattle.fast_check_forms.specs.StatementChoices.{stmt_of, if_stmt}
+use Rattle.fast_check_forms.specs.TypeChoices.{ts_entity_name_of, if_ts_entity_name}
 use Rattle.fast_check_forms.specs.declared.program_choices.Program.{Program}
 use Rattle.fast_check_forms.specs.declared.program_choices.ModuleDecl.{ModuleDecl}
 use Rattle.fast_check_forms.specs.declared.program_choices.ModuleItem.{ModuleItem}
@@ -16,89 +11,57 @@ use Rattle.fast_check_forms.specs.declared.program_choices.ImportSpecifier.{Impo
 use Rattle.fast_check_forms.specs.declared.program_choices.ExportSpecifier.{ExportSpecifier}
 use Rattle.fast_check_forms.specs.declared.program_choices.DefaultDecl.{DefaultDecl}
 use Rattle.fast_check_forms.specs.declared.program_choices.TsModuleRef.{TsModuleRef}
-use Rattle.fast_check_expression_forms.specs.Expressions.{ReadsClassExpr, ReadsFnExpr}
-use Rattle.fast_check_program_forms.specs.ModuleDecls.{ReadsImportDecl, ReadsExportDecl, ReadsNamedExport, ReadsExportDefaultDecl, ReadsExportDefaultExpr, ReadsExportAll, ReadsTsImportEqualsDecl, ReadsTsExportAssignment, ReadsTsNamespaceExportDecl, ReadsImportNamedSpecifier, ReadsImportDefaultSpecifier, ReadsImportStarAsSpecifier, ReadsExportNamespaceSpecifier, ReadsExportDefaultSpecifier, ReadsExportNamedSpecifier, ReadsTsExternalModuleRef}
-use Rattle.fast_check_program_forms.specs.Programs.{ReadsModule, ReadsScript}
-use Rattle.fast_check_statement_forms.specs.TsDeclarations.{ReadsTsInterfaceDecl}
 
 -- A whole file.
-abbrev pub program_kinds : List Kind
-program_kinds = kinds.Module ∷ kinds.Script ∷ []
-
-abbrev pub ReadsProgram : Program → Tree → Type 0
-ReadsProgram (Program.Module form) t = (kind_of t ≡ kinds.Module) × ReadsModule form t
-ReadsProgram (Program.Script form) t = (kind_of t ≡ kinds.Script) × ReadsScript form t
-ReadsProgram (Program.Other node) t = (seen node ≡ t) × IsNoneOf program_kinds (kind_of t)
+abbrev pub program_of : Kind → Program
+program_of kinds.Module = Program.Module
+program_of kinds.Script = Program.Script
+program_of _ = Program.Other
 
 -- An import or an export.
-abbrev pub module_decl_kinds : List Kind
-module_decl_kinds = kinds.ImportDecl ∷ kinds.ExportDecl ∷ kinds.NamedExport ∷ kinds.ExportDefaultDecl ∷
-    kinds.ExportDefaultExpr ∷ kinds.ExportAll ∷ kinds.TsImportEqualsDecl ∷ kinds.TsExportAssignment ∷
-    kinds.TsNamespaceExportDecl ∷ []
+abbrev pub module_decl_of : Kind → ModuleDecl
+module_decl_of kinds.ImportDecl = ModuleDecl.Import
+module_decl_of kinds.ExportDecl = ModuleDecl.ExportDecl
+module_decl_of kinds.NamedExport = ModuleDecl.ExportNamed
+module_decl_of kinds.ExportDefaultDecl = ModuleDecl.ExportDefaultDecl
+module_decl_of kinds.ExportDefaultExpr = ModuleDecl.ExportDefaultExpr
+module_decl_of kinds.ExportAll = ModuleDecl.ExportAll
+module_decl_of kinds.TsImportEqualsDecl = ModuleDecl.TsImportEquals
+module_decl_of kinds.TsExportAssignment = ModuleDecl.TsExportAssignment
+module_decl_of kinds.TsNamespaceExportDecl = ModuleDecl.TsNamespaceExport
+module_decl_of _ = ModuleDecl.Other
 
-abbrev pub ReadsModuleDecl : ModuleDecl → Tree → Type 0
-ReadsModuleDecl (ModuleDecl.Import form) t = (kind_of t ≡ kinds.ImportDecl) × ReadsImportDecl form t
-ReadsModuleDecl (ModuleDecl.ExportDecl form) t = (kind_of t ≡ kinds.ExportDecl) × ReadsExportDecl form t
-ReadsModuleDecl (ModuleDecl.ExportNamed form) t = (kind_of t ≡ kinds.NamedExport) × ReadsNamedExport form t
-ReadsModuleDecl (ModuleDecl.ExportDefaultDecl form) t = (kind_of t ≡ kinds.ExportDefaultDecl) × ReadsExportDefaultDecl form t
-ReadsModuleDecl (ModuleDecl.ExportDefaultExpr form) t = (kind_of t ≡ kinds.ExportDefaultExpr) × ReadsExportDefaultExpr form t
-ReadsModuleDecl (ModuleDecl.ExportAll form) t = (kind_of t ≡ kinds.ExportAll) × ReadsExportAll form t
-ReadsModuleDecl (ModuleDecl.TsImportEquals form) t = (kind_of t ≡ kinds.TsImportEqualsDecl) × ReadsTsImportEqualsDecl form t
-ReadsModuleDecl (ModuleDecl.TsExportAssignment form) t = (kind_of t ≡ kinds.TsExportAssignment) × ReadsTsExportAssignment form t
-ReadsModuleDecl (ModuleDecl.TsNamespaceExport form) t = (kind_of t ≡ kinds.TsNamespaceExportDecl) × ReadsTsNamespaceExportDecl form t
-ReadsModuleDecl (ModuleDecl.Other node) t = (seen node ≡ t) × IsNoneOf module_decl_kinds (kind_of t)
-
--- it is one of these
-abbrev pub IsModuleDecl : ModuleDecl → Type 0
-IsModuleDecl (ModuleDecl.Other node) = ⊥
-IsModuleDecl _ = Unit {0}
+-- the first where it is one of these, else the second
+abbrev pub if_module_decl : {A : Type 0} → ModuleDecl → A → A → A
+if_module_decl ModuleDecl.Other one other = other
+if_module_decl _ one other = one
 
 -- What stands at the top of a module.
-abbrev pub module_item_kinds : List Kind
-module_item_kinds = module_decl_kinds ++ stmt_kinds
-
-abbrev pub ReadsModuleItem : ModuleItem → Tree → Type 0
-ReadsModuleItem (ModuleItem.ModuleDecl module_decl) t = IsModuleDecl module_decl × ReadsModuleDecl module_decl t
-ReadsModuleItem (ModuleItem.Stmt stmt) t = IsStmt stmt × ReadsStmt stmt t
-ReadsModuleItem (ModuleItem.Other node) t = (seen node ≡ t) × IsNoneOf module_item_kinds (kind_of t)
+abbrev pub module_item_of : Kind → ModuleItem
+module_item_of kind = if_module_decl (module_decl_of kind) ModuleItem.ModuleDecl (if_stmt (stmt_of kind) ModuleItem.Stmt ModuleItem.Other)
 
 -- A name that an import brings.
-abbrev pub import_specifier_kinds : List Kind
-import_specifier_kinds = kinds.ImportNamedSpecifier ∷ kinds.ImportDefaultSpecifier ∷
-    kinds.ImportStarAsSpecifier ∷ []
-
-abbrev pub ReadsImportSpecifier : ImportSpecifier → Tree → Type 0
-ReadsImportSpecifier (ImportSpecifier.Named form) t = (kind_of t ≡ kinds.ImportNamedSpecifier) × ReadsImportNamedSpecifier form t
-ReadsImportSpecifier (ImportSpecifier.Default form) t = (kind_of t ≡ kinds.ImportDefaultSpecifier) × ReadsImportDefaultSpecifier form t
-ReadsImportSpecifier (ImportSpecifier.Namespace form) t = (kind_of t ≡ kinds.ImportStarAsSpecifier) × ReadsImportStarAsSpecifier form t
-ReadsImportSpecifier (ImportSpecifier.Other node) t = (seen node ≡ t) × IsNoneOf import_specifier_kinds (kind_of t)
+abbrev pub import_specifier_of : Kind → ImportSpecifier
+import_specifier_of kinds.ImportNamedSpecifier = ImportSpecifier.Named
+import_specifier_of kinds.ImportDefaultSpecifier = ImportSpecifier.Default
+import_specifier_of kinds.ImportStarAsSpecifier = ImportSpecifier.Namespace
+import_specifier_of _ = ImportSpecifier.Other
 
 -- A name that an export gives.
-abbrev pub export_specifier_kinds : List Kind
-export_specifier_kinds = kinds.ExportNamespaceSpecifier ∷ kinds.ExportDefaultSpecifier ∷
-    kinds.ExportNamedSpecifier ∷ []
-
-abbrev pub ReadsExportSpecifier : ExportSpecifier → Tree → Type 0
-ReadsExportSpecifier (ExportSpecifier.Namespace form) t = (kind_of t ≡ kinds.ExportNamespaceSpecifier) × ReadsExportNamespaceSpecifier form t
-ReadsExportSpecifier (ExportSpecifier.Default form) t = (kind_of t ≡ kinds.ExportDefaultSpecifier) × ReadsExportDefaultSpecifier form t
-ReadsExportSpecifier (ExportSpecifier.Named form) t = (kind_of t ≡ kinds.ExportNamedSpecifier) × ReadsExportNamedSpecifier form t
-ReadsExportSpecifier (ExportSpecifier.Other node) t = (seen node ≡ t) × IsNoneOf export_specifier_kinds (kind_of t)
+abbrev pub export_specifier_of : Kind → ExportSpecifier
+export_specifier_of kinds.ExportNamespaceSpecifier = ExportSpecifier.Namespace
+export_specifier_of kinds.ExportDefaultSpecifier = ExportSpecifier.Default
+export_specifier_of kinds.ExportNamedSpecifier = ExportSpecifier.Named
+export_specifier_of _ = ExportSpecifier.Other
 
 -- A declaration behind `export default`.
-abbrev pub default_decl_kinds : List Kind
-default_decl_kinds = kinds.ClassExpr ∷ kinds.FnExpr ∷ kinds.TsInterfaceDecl ∷ []
-
-abbrev pub ReadsDefaultDecl : DefaultDecl → Tree → Type 0
-ReadsDefaultDecl (DefaultDecl.Class form) t = (kind_of t ≡ kinds.ClassExpr) × ReadsClassExpr form t
-ReadsDefaultDecl (DefaultDecl.Fn form) t = (kind_of t ≡ kinds.FnExpr) × ReadsFnExpr form t
-ReadsDefaultDecl (DefaultDecl.TsInterfaceDecl form) t = (kind_of t ≡ kinds.TsInterfaceDecl) × ReadsTsInterfaceDecl form t
-ReadsDefaultDecl (DefaultDecl.Other node) t = (seen node ≡ t) × IsNoneOf default_decl_kinds (kind_of t)
+abbrev pub default_decl_of : Kind → DefaultDecl
+default_decl_of kinds.ClassExpr = DefaultDecl.Class
+default_decl_of kinds.FnExpr = DefaultDecl.Fn
+default_decl_of kinds.TsInterfaceDecl = DefaultDecl.TsInterfaceDecl
+default_decl_of _ = DefaultDecl.Other
 
 -- What stands behind `import id =`.
-abbrev pub ts_module_ref_kinds : List Kind
-ts_module_ref_kinds = kinds.TsExternalModuleRef ∷ ts_entity_name_kinds
-
-abbrev pub ReadsTsModuleRef : TsModuleRef → Tree → Type 0
-ReadsTsModuleRef (TsModuleRef.TsEntityName ts_entity_name) t = IsTsEntityName ts_entity_name × ReadsTsEntityName ts_entity_name t
-ReadsTsModuleRef (TsModuleRef.TsExternalModuleRef form) t = (kind_of t ≡ kinds.TsExternalModuleRef) × ReadsTsExternalModuleRef form t
-ReadsTsModuleRef (TsModuleRef.Other node) t = (seen node ≡ t) × IsNoneOf ts_module_ref_kinds (kind_of t)
+abbrev pub ts_module_ref_of : Kind → TsModuleRef
+ts_module_ref_of kinds.TsExternalModuleRef = TsModuleRef.TsExternalModuleRef
+ts_module_ref_of kind = if_ts_entity_name (ts_entity_name_of kind) TsModuleRef.TsEntityName TsModuleRef.Other

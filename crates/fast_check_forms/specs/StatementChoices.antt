@@ -1,103 +1,72 @@
 -- Which statement or declaration a node is, and which form stands in a part of one.
--- Each choice has the kinds of its nodes, and what it holds once it reads a node: one of its forms with that form's fields, or, as `Other`, a node of none of these kinds.
-use Rattle.std.specs.Prelude.{◌≡◌, List, [], ◌∷◌}
+-- Each choice goes by the kind of the node: `Other` stands for a kind of none of its forms.
 use Rattle.fast_check_syntax.specs.declared.kind.Kind.{Kind}
 use Rattle.fast_check_syntax.specs.declared.kind.Kind.TheVariants as kinds
-use Rattle.fast_check_syntax.specs.declared.tree.Tree.{Tree}
-use Rattle.fast_check_syntax.specs.Part.{seen}
-use Rattle.fast_check_syntax.specs.Shape.{kind_of}
-use Rattle.fast_check_forms.specs.Kinds.{IsNoneOf}
-use Rattle.fast_check_forms.specs.ExpressionChoices.{IsExpr, ReadsExpr, expr_kinds}
-use Rattle.fast_check_forms.specs.PatternChoices.{IsPat, ReadsPat, pat_kinds}
+use Rattle.fast_check_forms.specs.ExpressionChoices.{expr_of, if_expr}
+use Rattle.fast_check_forms.specs.PatternChoices.{pat_of, if_pat}
 use Rattle.fast_check_forms.specs.declared.statement_choices.Decl.{Decl}
 use Rattle.fast_check_forms.specs.declared.statement_choices.Stmt.{Stmt}
 use Rattle.fast_check_forms.specs.declared.statement_choices.VarDeclOrExpr.{VarDeclOrExpr}
 use Rattle.fast_check_forms.specs.declared.statement_choices.ForHead.{ForHead}
 use Rattle.fast_check_forms.specs.declared.statement_choices.TsNamespaceBody.{TsNamespaceBody}
-use Rattle.fast_check_statement_forms.specs.Declarations.{ReadsClassDecl, ReadsFnDecl, ReadsVarDecl, ReadsUsingDecl}
-use Rattle.fast_check_statement_forms.specs.Loops.{ReadsWhileStmt, ReadsDoWhileStmt, ReadsForStmt, ReadsForInStmt, ReadsForOfStmt}
-use Rattle.fast_check_statement_forms.specs.Statements.{ReadsBlockStmt, ReadsEmptyStmt, ReadsDebuggerStmt, ReadsWithStmt, ReadsReturnStmt, ReadsLabeledStmt, ReadsBreakStmt, ReadsContinueStmt, ReadsIfStmt, ReadsSwitchStmt, ReadsThrowStmt, ReadsTryStmt, ReadsExprStmt}
-use Rattle.fast_check_statement_forms.specs.TsDeclarations.{ReadsTsInterfaceDecl, ReadsTsTypeAliasDecl, ReadsTsEnumDecl, ReadsTsModuleDecl, ReadsTsModuleBlock, ReadsTsNamespaceDecl}
 
 -- A declaration.
-abbrev pub decl_kinds : List Kind
-decl_kinds = kinds.ClassDecl ∷ kinds.FnDecl ∷ kinds.VarDecl ∷ kinds.UsingDecl ∷ kinds.TsInterfaceDecl ∷
-    kinds.TsTypeAliasDecl ∷ kinds.TsEnumDecl ∷ kinds.TsModuleDecl ∷ []
+abbrev pub decl_of : Kind → Decl
+decl_of kinds.ClassDecl = Decl.Class
+decl_of kinds.FnDecl = Decl.Fn
+decl_of kinds.VarDecl = Decl.Var
+decl_of kinds.UsingDecl = Decl.Using
+decl_of kinds.TsInterfaceDecl = Decl.TsInterface
+decl_of kinds.TsTypeAliasDecl = Decl.TsTypeAlias
+decl_of kinds.TsEnumDecl = Decl.TsEnum
+decl_of kinds.TsModuleDecl = Decl.TsModule
+decl_of _ = Decl.Other
 
-abbrev pub ReadsDecl : Decl → Tree → Type 0
-ReadsDecl (Decl.Class form) t = (kind_of t ≡ kinds.ClassDecl) × ReadsClassDecl form t
-ReadsDecl (Decl.Fn form) t = (kind_of t ≡ kinds.FnDecl) × ReadsFnDecl form t
-ReadsDecl (Decl.Var form) t = (kind_of t ≡ kinds.VarDecl) × ReadsVarDecl form t
-ReadsDecl (Decl.Using form) t = (kind_of t ≡ kinds.UsingDecl) × ReadsUsingDecl form t
-ReadsDecl (Decl.TsInterface form) t = (kind_of t ≡ kinds.TsInterfaceDecl) × ReadsTsInterfaceDecl form t
-ReadsDecl (Decl.TsTypeAlias form) t = (kind_of t ≡ kinds.TsTypeAliasDecl) × ReadsTsTypeAliasDecl form t
-ReadsDecl (Decl.TsEnum form) t = (kind_of t ≡ kinds.TsEnumDecl) × ReadsTsEnumDecl form t
-ReadsDecl (Decl.TsModule form) t = (kind_of t ≡ kinds.TsModuleDecl) × ReadsTsModuleDecl form t
-ReadsDecl (Decl.Other node) t = (seen node ≡ t) × IsNoneOf decl_kinds (kind_of t)
-
--- it is one of these
-abbrev pub IsDecl : Decl → Type 0
-IsDecl (Decl.Other node) = ⊥
-IsDecl _ = Unit {0}
+-- the first where it is one of these, else the second
+abbrev pub if_decl : {A : Type 0} → Decl → A → A → A
+if_decl Decl.Other one other = other
+if_decl _ one other = one
 
 -- A statement.
-abbrev pub stmt_kinds : List Kind
-stmt_kinds = kinds.BlockStmt ∷ kinds.EmptyStmt ∷ kinds.DebuggerStmt ∷ kinds.WithStmt ∷ kinds.ReturnStmt ∷
-    kinds.LabeledStmt ∷ kinds.BreakStmt ∷ kinds.ContinueStmt ∷ kinds.IfStmt ∷ kinds.SwitchStmt ∷
-    kinds.ThrowStmt ∷ kinds.TryStmt ∷ kinds.WhileStmt ∷ kinds.DoWhileStmt ∷ kinds.ForStmt ∷ kinds.ForInStmt ∷
-    kinds.ForOfStmt ∷ kinds.ExprStmt ∷ decl_kinds
+abbrev pub stmt_of : Kind → Stmt
+stmt_of kinds.BlockStmt = Stmt.Block
+stmt_of kinds.EmptyStmt = Stmt.Empty
+stmt_of kinds.DebuggerStmt = Stmt.Debugger
+stmt_of kinds.WithStmt = Stmt.With
+stmt_of kinds.ReturnStmt = Stmt.Return
+stmt_of kinds.LabeledStmt = Stmt.Labeled
+stmt_of kinds.BreakStmt = Stmt.Break
+stmt_of kinds.ContinueStmt = Stmt.Continue
+stmt_of kinds.IfStmt = Stmt.If
+stmt_of kinds.SwitchStmt = Stmt.Switch
+stmt_of kinds.ThrowStmt = Stmt.Throw
+stmt_of kinds.TryStmt = Stmt.Try
+stmt_of kinds.WhileStmt = Stmt.While
+stmt_of kinds.DoWhileStmt = Stmt.DoWhile
+stmt_of kinds.ForStmt = Stmt.For
+stmt_of kinds.ForInStmt = Stmt.ForIn
+stmt_of kinds.ForOfStmt = Stmt.ForOf
+stmt_of kinds.ExprStmt = Stmt.Expr
+stmt_of kind = if_decl (decl_of kind) Stmt.Decl Stmt.Other
 
-abbrev pub ReadsStmt : Stmt → Tree → Type 0
-ReadsStmt (Stmt.Block form) t = (kind_of t ≡ kinds.BlockStmt) × ReadsBlockStmt form t
-ReadsStmt (Stmt.Empty form) t = (kind_of t ≡ kinds.EmptyStmt) × ReadsEmptyStmt form t
-ReadsStmt (Stmt.Debugger form) t = (kind_of t ≡ kinds.DebuggerStmt) × ReadsDebuggerStmt form t
-ReadsStmt (Stmt.With form) t = (kind_of t ≡ kinds.WithStmt) × ReadsWithStmt form t
-ReadsStmt (Stmt.Return form) t = (kind_of t ≡ kinds.ReturnStmt) × ReadsReturnStmt form t
-ReadsStmt (Stmt.Labeled form) t = (kind_of t ≡ kinds.LabeledStmt) × ReadsLabeledStmt form t
-ReadsStmt (Stmt.Break form) t = (kind_of t ≡ kinds.BreakStmt) × ReadsBreakStmt form t
-ReadsStmt (Stmt.Continue form) t = (kind_of t ≡ kinds.ContinueStmt) × ReadsContinueStmt form t
-ReadsStmt (Stmt.If form) t = (kind_of t ≡ kinds.IfStmt) × ReadsIfStmt form t
-ReadsStmt (Stmt.Switch form) t = (kind_of t ≡ kinds.SwitchStmt) × ReadsSwitchStmt form t
-ReadsStmt (Stmt.Throw form) t = (kind_of t ≡ kinds.ThrowStmt) × ReadsThrowStmt form t
-ReadsStmt (Stmt.Try form) t = (kind_of t ≡ kinds.TryStmt) × ReadsTryStmt form t
-ReadsStmt (Stmt.While form) t = (kind_of t ≡ kinds.WhileStmt) × ReadsWhileStmt form t
-ReadsStmt (Stmt.DoWhile form) t = (kind_of t ≡ kinds.DoWhileStmt) × ReadsDoWhileStmt form t
-ReadsStmt (Stmt.For form) t = (kind_of t ≡ kinds.ForStmt) × ReadsForStmt form t
-ReadsStmt (Stmt.ForIn form) t = (kind_of t ≡ kinds.ForInStmt) × ReadsForInStmt form t
-ReadsStmt (Stmt.ForOf form) t = (kind_of t ≡ kinds.ForOfStmt) × ReadsForOfStmt form t
-ReadsStmt (Stmt.Decl decl) t = IsDecl decl × ReadsDecl decl t
-ReadsStmt (Stmt.Expr form) t = (kind_of t ≡ kinds.ExprStmt) × ReadsExprStmt form t
-ReadsStmt (Stmt.Other node) t = (seen node ≡ t) × IsNoneOf stmt_kinds (kind_of t)
-
--- it is one of these
-abbrev pub IsStmt : Stmt → Type 0
-IsStmt (Stmt.Other node) = ⊥
-IsStmt _ = Unit {0}
+-- the first where it is one of these, else the second
+abbrev pub if_stmt : {A : Type 0} → Stmt → A → A → A
+if_stmt Stmt.Other one other = other
+if_stmt _ one other = one
 
 -- What stands first in the head of a `for`.
-abbrev pub var_decl_or_expr_kinds : List Kind
-var_decl_or_expr_kinds = kinds.VarDecl ∷ expr_kinds
-
-abbrev pub ReadsVarDeclOrExpr : VarDeclOrExpr → Tree → Type 0
-ReadsVarDeclOrExpr (VarDeclOrExpr.VarDecl form) t = (kind_of t ≡ kinds.VarDecl) × ReadsVarDecl form t
-ReadsVarDeclOrExpr (VarDeclOrExpr.Expr expr) t = IsExpr expr × ReadsExpr expr t
-ReadsVarDeclOrExpr (VarDeclOrExpr.Other node) t = (seen node ≡ t) × IsNoneOf var_decl_or_expr_kinds (kind_of t)
+abbrev pub var_decl_or_expr_of : Kind → VarDeclOrExpr
+var_decl_or_expr_of kinds.VarDecl = VarDeclOrExpr.VarDecl
+var_decl_or_expr_of kind = if_expr (expr_of kind) VarDeclOrExpr.Expr VarDeclOrExpr.Other
 
 -- What stands before `in` or `of` in the head of a `for`.
-abbrev pub for_head_kinds : List Kind
-for_head_kinds = kinds.VarDecl ∷ kinds.UsingDecl ∷ pat_kinds
-
-abbrev pub ReadsForHead : ForHead → Tree → Type 0
-ReadsForHead (ForHead.VarDecl form) t = (kind_of t ≡ kinds.VarDecl) × ReadsVarDecl form t
-ReadsForHead (ForHead.UsingDecl form) t = (kind_of t ≡ kinds.UsingDecl) × ReadsUsingDecl form t
-ReadsForHead (ForHead.Pat pat) t = IsPat pat × ReadsPat pat t
-ReadsForHead (ForHead.Other node) t = (seen node ≡ t) × IsNoneOf for_head_kinds (kind_of t)
+abbrev pub for_head_of : Kind → ForHead
+for_head_of kinds.VarDecl = ForHead.VarDecl
+for_head_of kinds.UsingDecl = ForHead.UsingDecl
+for_head_of kind = if_pat (pat_of kind) ForHead.Pat ForHead.Other
 
 -- The body of a namespace.
-abbrev pub ts_namespace_body_kinds : List Kind
-ts_namespace_body_kinds = kinds.TsModuleBlock ∷ kinds.TsNamespaceDecl ∷ []
-
-abbrev pub ReadsTsNamespaceBody : TsNamespaceBody → Tree → Type 0
-ReadsTsNamespaceBody (TsNamespaceBody.TsModuleBlock form) t = (kind_of t ≡ kinds.TsModuleBlock) × ReadsTsModuleBlock form t
-ReadsTsNamespaceBody (TsNamespaceBody.TsNamespaceDecl form) t = (kind_of t ≡ kinds.TsNamespaceDecl) × ReadsTsNamespaceDecl form t
-ReadsTsNamespaceBody (TsNamespaceBody.Other node) t = (seen node ≡ t) × IsNoneOf ts_namespace_body_kinds (kind_of t)
+abbrev pub ts_namespace_body_of : Kind → TsNamespaceBody
+ts_namespace_body_of kinds.TsModuleBlock = TsNamespaceBody.TsModuleBlock
+ts_namespace_body_of kinds.TsNamespaceDecl = TsNamespaceBody.TsNamespaceDecl
+ts_namespace_body_of _ = TsNamespaceBody.Other

@@ -1,95 +1,90 @@
+ghost use Rattle.std.specs.Prelude.{◌≡◌};
 ghost use Rattle.fast_check_syntax.specs.Part.{seen};
+ghost use Rattle.fast_check_syntax.specs.Shape.{kind_of};
 ghost use Rattle.fast_check_forms.specs.ClassChoices.{
-  ReadsClassMember,
-  ReadsParamOrTsParamProp,
-  ReadsTsParamPropParam,
+  class_member_of,
+  param_or_ts_param_prop_of,
+  ts_param_prop_param_of,
 };
 
-use fast_check_class_forms::{
-    AutoAccessor, ClassMethod, ClassProp, Constructor, Param, PrivateMethod, PrivateProp,
-    StaticBlock, TsIndexSignature, TsParamProp,
-};
-use fast_check_expression_forms::AssignPat;
-use fast_check_program_forms::BindingIdent;
-use fast_check_statement_forms::EmptyStmt;
 use fast_check_syntax::{Kind, Part};
 
 /// A member of a class.
-#[derive(Drop)]
-pub enum ClassMember<'a> {
-    Constructor(Constructor<Part<'a>>),
-    Method(ClassMethod<Part<'a>>),
-    PrivateMethod(PrivateMethod<Part<'a>>),
-    ClassProp(ClassProp<Part<'a>>),
-    PrivateProp(PrivateProp<Part<'a>>),
-    TsIndexSignature(TsIndexSignature<Part<'a>>),
-    Empty(EmptyStmt),
-    StaticBlock(StaticBlock<Part<'a>>),
-    AutoAccessor(AutoAccessor<Part<'a>>),
+#[derive(Clone, Copy, Debug)]
+pub enum ClassMember {
+    Constructor,
+    Method,
+    PrivateMethod,
+    ClassProp,
+    PrivateProp,
+    TsIndexSignature,
+    Empty,
+    StaticBlock,
+    AutoAccessor,
     /// A node of none of these forms.
-    Other(Part<'a>),
+    Other,
 }
 
-impl<'a> ClassMember<'a> {
-    /// Which of the forms a node has, with its fields.
-    pub fn of(node: Part<'a>) -> Self
-        ensures { ReadsClassMember result (seen node.entry) }
+impl ClassMember {
+    /// Which of the forms a node has.
+    pub fn of(node: Part) -> Self
+        ensures { result ≡ class_member_of (kind_of (seen node.entry)) }
     {
         match node.kind() {
-            Kind::Constructor => ClassMember::Constructor(Constructor::of(node)),
-            Kind::ClassMethod => ClassMember::Method(ClassMethod::of(node)),
-            Kind::PrivateMethod => ClassMember::PrivateMethod(PrivateMethod::of(node)),
-            Kind::ClassProp => ClassMember::ClassProp(ClassProp::of(node)),
-            Kind::PrivateProp => ClassMember::PrivateProp(PrivateProp::of(node)),
-            Kind::TsIndexSignature => ClassMember::TsIndexSignature(TsIndexSignature::of(node)),
-            Kind::EmptyStmt => ClassMember::Empty(EmptyStmt::of(node)),
-            Kind::StaticBlock => ClassMember::StaticBlock(StaticBlock::of(node)),
-            Kind::AutoAccessor => ClassMember::AutoAccessor(AutoAccessor::of(node)),
-            _ => ClassMember::Other(node),
+            Kind::Constructor => ClassMember::Constructor,
+            Kind::ClassMethod => ClassMember::Method,
+            Kind::PrivateMethod => ClassMember::PrivateMethod,
+            Kind::ClassProp => ClassMember::ClassProp,
+            Kind::PrivateProp => ClassMember::PrivateProp,
+            Kind::TsIndexSignature => ClassMember::TsIndexSignature,
+            Kind::EmptyStmt => ClassMember::Empty,
+            Kind::StaticBlock => ClassMember::StaticBlock,
+            Kind::AutoAccessor => ClassMember::AutoAccessor,
+            _ => ClassMember::Other,
         }
     }
 }
 
 /// A parameter of a constructor.
-#[derive(Drop)]
-pub enum ParamOrTsParamProp<'a> {
-    Param(Param<Part<'a>>),
-    TsParamProp(TsParamProp<Part<'a>>),
+#[derive(Clone, Copy, Debug)]
+pub enum ParamOrTsParamProp {
+    Param,
+    TsParamProp,
     /// A node of none of these forms.
-    Other(Part<'a>),
+    Other,
 }
 
-impl<'a> ParamOrTsParamProp<'a> {
-    /// Which of the forms a node has, with its fields.
-    pub fn of(node: Part<'a>) -> Self
-        ensures { ReadsParamOrTsParamProp result (seen node.entry) }
+impl ParamOrTsParamProp {
+    /// Which of the forms a node has.
+    pub fn of(node: Part) -> Self
+        ensures { result ≡ param_or_ts_param_prop_of (kind_of (seen node.entry)) }
     {
         match node.kind() {
-            Kind::Param => ParamOrTsParamProp::Param(Param::of(node)),
-            Kind::TsParamProp => ParamOrTsParamProp::TsParamProp(TsParamProp::of(node)),
-            _ => ParamOrTsParamProp::Other(node),
+            Kind::Param => ParamOrTsParamProp::Param,
+            Kind::TsParamProp => ParamOrTsParamProp::TsParamProp,
+            _ => ParamOrTsParamProp::Other,
         }
     }
 }
 
 /// The parameter that is a property too.
-#[derive(Drop)]
-pub enum TsParamPropParam<'a> {
-    Ident(BindingIdent<Part<'a>>),
-    Assign(AssignPat<Part<'a>>),
+#[derive(Clone, Copy, Debug)]
+pub enum TsParamPropParam {
+    Ident,
+    Assign,
     /// A node of none of these forms.
-    Other(Part<'a>),
+    Other,
 }
 
-impl<'a> TsParamPropParam<'a> {
-    /// Which of the forms a node has, with its fields.
-    pub fn of(node: Part<'a>) -> Self
-        ensures { ReadsTsParamPropParam result (seen node.entry) }
+impl TsParamPropParam {
+    /// Which of the forms a node has.
+    pub fn of(node: Part) -> Self
+        ensures { result ≡ ts_param_prop_param_of (kind_of (seen node.entry)) }
     {
         match node.kind() {
-            Kind::BindingIdent => TsParamPropParam::Ident(BindingIdent::of(node)),
-            Kind::AssignPat => TsParamPropParam::Assign(AssignPat::of(node)),
-            _ => TsParamPropParam::Other(node),
+            Kind::BindingIdent => TsParamPropParam::Ident,
+            Kind::AssignPat => TsParamPropParam::Assign,
+            _ => TsParamPropParam::Other,
         }
     }
 }

@@ -2,7 +2,22 @@
 //!
 //! A form reads a node where its `N` is a `Part` and its `T` a `&str`, and makes one where they are a `Tree` and an `Atom`.
 //!
-//! `of` reads a node by the places of its fields, whatever its kind is. A field that is not there is absent, false, empty or `DUMMY_SP`. `into_tree` fails only for want of memory. The `of` of a choice goes by the node's kind, and is `Other` for a kind that the choice has not.
+//! `of` of a form reads a node by the places of its fields, whatever its kind is. A field that is not there is absent, false, empty or
+//! `DUMMY_SP`. `into_tree` fails only for want of memory.
+//!
+//! `of` of a choice says which of its forms a node has. It goes by the node's kind, and is `Other` for a kind that the choice has not:
+//!
+//! ```ignore
+//! match Expr::of(node) {
+//!     Expr::Bin => walk_operands(BinExpr::of(node)),
+//!     Expr::Lit => literal(Lit::of(node)),
+//!     _ => {}
+//! }
+//! ```
+//!
+//! A choice holds no fields: the form's `of` reads them, and where a choice stands within a choice, as `Lit` within `Expr`, its `of` is asked
+//! next. Two variants are marks, nodes of their own round what they hold: `Pat::Expr` stands round `PatExpr::of(node).expr`, and
+//! `AssignTarget::Pat` round `TargetPat::of(node).pat`.
 #![tactic(auto)]
 
 mod class_choices;
@@ -11,8 +26,6 @@ mod name_choices;
 mod pattern_choices;
 mod program_choices;
 mod statement_choices;
-#[cfg(test)]
-mod tests;
 mod type_choices;
 
 pub use class_choices::ClassMember;

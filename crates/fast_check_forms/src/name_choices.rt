@@ -1,190 +1,188 @@
+ghost use Rattle.std.specs.Prelude.{◌≡◌};
 ghost use Rattle.fast_check_syntax.specs.Part.{seen};
+ghost use Rattle.fast_check_syntax.specs.Shape.{kind_of};
 ghost use Rattle.fast_check_forms.specs.NameChoices.{
-  ReadsLit,
-  ReadsPropName,
-  ReadsMemberProp,
-  ReadsKey,
-  ReadsModuleExportName,
-  ReadsTsModuleName,
-  ReadsTsEnumMemberId,
+  lit_of,
+  prop_name_of,
+  member_prop_of,
+  key_of,
+  module_export_name_of,
+  ts_module_name_of,
+  ts_enum_member_id_of,
 };
 
-use fast_check_expression_forms::ComputedPropName;
-use fast_check_program_forms::{
-    BigInt, Bool, Ident, IdentName, JSXText, Null, Number, PrivateName, Regex, Str,
-};
 use fast_check_syntax::{Kind, Part};
 
 /// A literal.
-#[derive(Drop)]
-pub enum Lit<'a> {
-    Str(Str<Part<'a>, &'a str>),
-    Bool(Bool),
-    Null(Null),
-    Num(Number<&'a str>),
-    BigInt(BigInt<&'a str>),
-    Regex(Regex<&'a str>),
-    JSXText(JSXText<&'a str>),
+#[derive(Clone, Copy, Debug)]
+pub enum Lit {
+    Str,
+    Bool,
+    Null,
+    Num,
+    BigInt,
+    Regex,
+    JSXText,
     /// A node of none of these forms.
-    Other(Part<'a>),
+    Other,
 }
 
-impl<'a> Lit<'a> {
-    /// Which of the forms a node has, with its fields.
-    pub fn of(node: Part<'a>) -> Self
-        ensures { ReadsLit result (seen node.entry) }
+impl Lit {
+    /// Which of the forms a node has.
+    pub fn of(node: Part) -> Self
+        ensures { result ≡ lit_of (kind_of (seen node.entry)) }
     {
         match node.kind() {
-            Kind::Str => Lit::Str(Str::of(node)),
-            Kind::Bool => Lit::Bool(Bool::of(node)),
-            Kind::Null => Lit::Null(Null::of(node)),
-            Kind::Number => Lit::Num(Number::of(node)),
-            Kind::BigInt => Lit::BigInt(BigInt::of(node)),
-            Kind::Regex => Lit::Regex(Regex::of(node)),
-            Kind::JSXText => Lit::JSXText(JSXText::of(node)),
-            _ => Lit::Other(node),
+            Kind::Str => Lit::Str,
+            Kind::Bool => Lit::Bool,
+            Kind::Null => Lit::Null,
+            Kind::Number => Lit::Num,
+            Kind::BigInt => Lit::BigInt,
+            Kind::Regex => Lit::Regex,
+            Kind::JSXText => Lit::JSXText,
+            _ => Lit::Other,
         }
     }
 }
 
 /// The name of a property or method.
-#[derive(Drop)]
-pub enum PropName<'a> {
-    Ident(IdentName<&'a str>),
-    Str(Str<Part<'a>, &'a str>),
-    Num(Number<&'a str>),
-    Computed(ComputedPropName<Part<'a>>),
-    BigInt(BigInt<&'a str>),
+#[derive(Clone, Copy, Debug)]
+pub enum PropName {
+    Ident,
+    Str,
+    Num,
+    Computed,
+    BigInt,
     /// A node of none of these forms.
-    Other(Part<'a>),
+    Other,
 }
 
-impl<'a> PropName<'a> {
-    /// Which of the forms a node has, with its fields.
-    pub fn of(node: Part<'a>) -> Self
-        ensures { ReadsPropName result (seen node.entry) }
+impl PropName {
+    /// Which of the forms a node has.
+    pub fn of(node: Part) -> Self
+        ensures { result ≡ prop_name_of (kind_of (seen node.entry)) }
     {
         match node.kind() {
-            Kind::IdentName => PropName::Ident(IdentName::of(node)),
-            Kind::Str => PropName::Str(Str::of(node)),
-            Kind::Number => PropName::Num(Number::of(node)),
-            Kind::ComputedPropName => PropName::Computed(ComputedPropName::of(node)),
-            Kind::BigInt => PropName::BigInt(BigInt::of(node)),
-            _ => PropName::Other(node),
+            Kind::IdentName => PropName::Ident,
+            Kind::Str => PropName::Str,
+            Kind::Number => PropName::Num,
+            Kind::ComputedPropName => PropName::Computed,
+            Kind::BigInt => PropName::BigInt,
+            _ => PropName::Other,
         }
     }
 }
 
 /// What stands behind the dot of a member, or in its brackets.
-#[derive(Drop)]
-pub enum MemberProp<'a> {
-    Ident(IdentName<&'a str>),
-    PrivateName(PrivateName<&'a str>),
-    Computed(ComputedPropName<Part<'a>>),
+#[derive(Clone, Copy, Debug)]
+pub enum MemberProp {
+    Ident,
+    PrivateName,
+    Computed,
     /// A node of none of these forms.
-    Other(Part<'a>),
+    Other,
 }
 
-impl<'a> MemberProp<'a> {
-    /// Which of the forms a node has, with its fields.
-    pub fn of(node: Part<'a>) -> Self
-        ensures { ReadsMemberProp result (seen node.entry) }
+impl MemberProp {
+    /// Which of the forms a node has.
+    pub fn of(node: Part) -> Self
+        ensures { result ≡ member_prop_of (kind_of (seen node.entry)) }
     {
         match node.kind() {
-            Kind::IdentName => MemberProp::Ident(IdentName::of(node)),
-            Kind::PrivateName => MemberProp::PrivateName(PrivateName::of(node)),
-            Kind::ComputedPropName => MemberProp::Computed(ComputedPropName::of(node)),
-            _ => MemberProp::Other(node),
+            Kind::IdentName => MemberProp::Ident,
+            Kind::PrivateName => MemberProp::PrivateName,
+            Kind::ComputedPropName => MemberProp::Computed,
+            _ => MemberProp::Other,
         }
     }
 }
 
 /// The name of an accessor of a class.
-#[derive(Drop)]
-pub enum Key<'a> {
-    Private(PrivateName<&'a str>),
-    Public(PropName<'a>),
+#[derive(Clone, Copy, Debug)]
+pub enum Key {
+    Private,
+    Public,
     /// A node of none of these forms.
-    Other(Part<'a>),
+    Other,
 }
 
-impl<'a> Key<'a> {
-    /// Which of the forms a node has, with its fields.
-    pub fn of(node: Part<'a>) -> Self
-        ensures { ReadsKey result (seen node.entry) }
+impl Key {
+    /// Which of the forms a node has.
+    pub fn of(node: Part) -> Self
+        ensures { result ≡ key_of (kind_of (seen node.entry)) }
     {
         match node.kind() {
-            Kind::PrivateName => Key::Private(PrivateName::of(node)),
+            Kind::PrivateName => Key::Private,
             _ => match PropName::of(node) {
-                PropName::Other(node) => Key::Other(node),
-                prop_name => Key::Public(prop_name),
+                PropName::Other => Key::Other,
+                _ => Key::Public,
             },
         }
     }
 }
 
 /// A name by which a module exports.
-#[derive(Drop)]
-pub enum ModuleExportName<'a> {
-    Ident(Ident<&'a str>),
-    Str(Str<Part<'a>, &'a str>),
+#[derive(Clone, Copy, Debug)]
+pub enum ModuleExportName {
+    Ident,
+    Str,
     /// A node of none of these forms.
-    Other(Part<'a>),
+    Other,
 }
 
-impl<'a> ModuleExportName<'a> {
-    /// Which of the forms a node has, with its fields.
-    pub fn of(node: Part<'a>) -> Self
-        ensures { ReadsModuleExportName result (seen node.entry) }
+impl ModuleExportName {
+    /// Which of the forms a node has.
+    pub fn of(node: Part) -> Self
+        ensures { result ≡ module_export_name_of (kind_of (seen node.entry)) }
     {
         match node.kind() {
-            Kind::Ident => ModuleExportName::Ident(Ident::of(node)),
-            Kind::Str => ModuleExportName::Str(Str::of(node)),
-            _ => ModuleExportName::Other(node),
+            Kind::Ident => ModuleExportName::Ident,
+            Kind::Str => ModuleExportName::Str,
+            _ => ModuleExportName::Other,
         }
     }
 }
 
 /// The name of a namespace, or the text of an ambient module.
-#[derive(Drop)]
-pub enum TsModuleName<'a> {
-    Ident(Ident<&'a str>),
-    Str(Str<Part<'a>, &'a str>),
+#[derive(Clone, Copy, Debug)]
+pub enum TsModuleName {
+    Ident,
+    Str,
     /// A node of none of these forms.
-    Other(Part<'a>),
+    Other,
 }
 
-impl<'a> TsModuleName<'a> {
-    /// Which of the forms a node has, with its fields.
-    pub fn of(node: Part<'a>) -> Self
-        ensures { ReadsTsModuleName result (seen node.entry) }
+impl TsModuleName {
+    /// Which of the forms a node has.
+    pub fn of(node: Part) -> Self
+        ensures { result ≡ ts_module_name_of (kind_of (seen node.entry)) }
     {
         match node.kind() {
-            Kind::Ident => TsModuleName::Ident(Ident::of(node)),
-            Kind::Str => TsModuleName::Str(Str::of(node)),
-            _ => TsModuleName::Other(node),
+            Kind::Ident => TsModuleName::Ident,
+            Kind::Str => TsModuleName::Str,
+            _ => TsModuleName::Other,
         }
     }
 }
 
 /// The name of a member of an enum.
-#[derive(Drop)]
-pub enum TsEnumMemberId<'a> {
-    Ident(Ident<&'a str>),
-    Str(Str<Part<'a>, &'a str>),
+#[derive(Clone, Copy, Debug)]
+pub enum TsEnumMemberId {
+    Ident,
+    Str,
     /// A node of none of these forms.
-    Other(Part<'a>),
+    Other,
 }
 
-impl<'a> TsEnumMemberId<'a> {
-    /// Which of the forms a node has, with its fields.
-    pub fn of(node: Part<'a>) -> Self
-        ensures { ReadsTsEnumMemberId result (seen node.entry) }
+impl TsEnumMemberId {
+    /// Which of the forms a node has.
+    pub fn of(node: Part) -> Self
+        ensures { result ≡ ts_enum_member_id_of (kind_of (seen node.entry)) }
     {
         match node.kind() {
-            Kind::Ident => TsEnumMemberId::Ident(Ident::of(node)),
-            Kind::Str => TsEnumMemberId::Str(Str::of(node)),
-            _ => TsEnumMemberId::Other(node),
+            Kind::Ident => TsEnumMemberId::Ident,
+            Kind::Str => TsEnumMemberId::Str,
+            _ => TsEnumMemberId::Other,
         }
     }
 }

@@ -1,149 +1,146 @@
+ghost use Rattle.std.specs.Prelude.{◌≡◌};
 ghost use Rattle.fast_check_syntax.specs.Part.{seen};
+ghost use Rattle.fast_check_syntax.specs.Shape.{kind_of};
 ghost use Rattle.fast_check_forms.specs.PatternChoices.{
-  ReadsPat,
-  ReadsObjectPatProp,
-  ReadsAssignTarget,
-  ReadsProp,
-  ReadsPropOrSpread,
+  pat_of,
+  object_pat_prop_of,
+  assign_target_of,
+  prop_of,
+  prop_or_spread_of,
 };
 
 use crate::expression_choices::Expr;
-use fast_check_expression_forms::{
-    ArrayPat, AssignPat, AssignPatProp, AssignProp, GetterProp, Invalid, KeyValuePatProp,
-    KeyValueProp, MethodProp, ObjectPat, PatExpr, RestPat, SetterProp, SpreadElement, TargetPat,
-};
-use fast_check_program_forms::{BindingIdent, Ident};
 use fast_check_syntax::{Kind, Part};
 
 /// A pattern.
-#[derive(Drop)]
-pub enum Pat<'a> {
-    Ident(BindingIdent<Part<'a>>),
-    Array(ArrayPat<Part<'a>>),
-    Rest(RestPat<Part<'a>>),
-    Object(ObjectPat<Part<'a>>),
-    Assign(AssignPat<Part<'a>>),
-    Invalid(Invalid),
-    Expr(Expr<'a>),
+#[derive(Clone, Copy, Debug)]
+pub enum Pat {
+    Ident,
+    Array,
+    Rest,
+    Object,
+    Assign,
+    Invalid,
+    Expr,
     /// A node of none of these forms.
-    Other(Part<'a>),
+    Other,
 }
 
-impl<'a> Pat<'a> {
-    /// Which of the forms a node has, with its fields.
-    pub fn of(node: Part<'a>) -> Self
-        ensures { ReadsPat result (seen node.entry) }
+impl Pat {
+    /// Which of the forms a node has.
+    pub fn of(node: Part) -> Self
+        ensures { result ≡ pat_of (kind_of (seen node.entry)) }
     {
         match node.kind() {
-            Kind::BindingIdent => Pat::Ident(BindingIdent::of(node)),
-            Kind::ArrayPat => Pat::Array(ArrayPat::of(node)),
-            Kind::RestPat => Pat::Rest(RestPat::of(node)),
-            Kind::ObjectPat => Pat::Object(ObjectPat::of(node)),
-            Kind::AssignPat => Pat::Assign(AssignPat::of(node)),
-            Kind::Invalid => Pat::Invalid(Invalid::of(node)),
-            Kind::PatExpr => Pat::Expr(Expr::of(PatExpr::of(node).expr)),
-            _ => Pat::Other(node),
+            Kind::BindingIdent => Pat::Ident,
+            Kind::ArrayPat => Pat::Array,
+            Kind::RestPat => Pat::Rest,
+            Kind::ObjectPat => Pat::Object,
+            Kind::AssignPat => Pat::Assign,
+            Kind::Invalid => Pat::Invalid,
+            Kind::PatExpr => Pat::Expr,
+            _ => Pat::Other,
         }
     }
 }
 
 /// What stands in the braces of an object pattern.
-#[derive(Drop)]
-pub enum ObjectPatProp<'a> {
-    KeyValue(KeyValuePatProp<Part<'a>>),
-    Assign(AssignPatProp<Part<'a>>),
-    Rest(RestPat<Part<'a>>),
+#[derive(Clone, Copy, Debug)]
+pub enum ObjectPatProp {
+    KeyValue,
+    Assign,
+    Rest,
     /// A node of none of these forms.
-    Other(Part<'a>),
+    Other,
 }
 
-impl<'a> ObjectPatProp<'a> {
-    /// Which of the forms a node has, with its fields.
-    pub fn of(node: Part<'a>) -> Self
-        ensures { ReadsObjectPatProp result (seen node.entry) }
+impl ObjectPatProp {
+    /// Which of the forms a node has.
+    pub fn of(node: Part) -> Self
+        ensures { result ≡ object_pat_prop_of (kind_of (seen node.entry)) }
     {
         match node.kind() {
-            Kind::KeyValuePatProp => ObjectPatProp::KeyValue(KeyValuePatProp::of(node)),
-            Kind::AssignPatProp => ObjectPatProp::Assign(AssignPatProp::of(node)),
-            Kind::RestPat => ObjectPatProp::Rest(RestPat::of(node)),
-            _ => ObjectPatProp::Other(node),
+            Kind::KeyValuePatProp => ObjectPatProp::KeyValue,
+            Kind::AssignPatProp => ObjectPatProp::Assign,
+            Kind::RestPat => ObjectPatProp::Rest,
+            _ => ObjectPatProp::Other,
         }
     }
 }
 
 /// What is assigned to: an expression, or a pattern.
-#[derive(Drop)]
-pub enum AssignTarget<'a> {
-    Simple(Expr<'a>),
-    Pat(Pat<'a>),
+#[derive(Clone, Copy, Debug)]
+pub enum AssignTarget {
+    Simple,
+    Pat,
     /// A node of none of these forms.
-    Other(Part<'a>),
+    Other,
 }
 
-impl<'a> AssignTarget<'a> {
-    /// Which of the forms a node has, with its fields.
-    pub fn of(node: Part<'a>) -> Self
-        ensures { ReadsAssignTarget result (seen node.entry) }
+impl AssignTarget {
+    /// Which of the forms a node has.
+    pub fn of(node: Part) -> Self
+        ensures { result ≡ assign_target_of (kind_of (seen node.entry)) }
     {
         match node.kind() {
-            Kind::TargetPat => AssignTarget::Pat(Pat::of(TargetPat::of(node).pat)),
+            Kind::TargetPat => AssignTarget::Pat,
             _ => match Expr::of(node) {
-                Expr::Other(node) => AssignTarget::Other(node),
-                expr => AssignTarget::Simple(expr),
+                Expr::Other => AssignTarget::Other,
+                _ => AssignTarget::Simple,
             },
         }
     }
 }
 
 /// A property of an object.
-#[derive(Drop)]
-pub enum Prop<'a> {
-    Shorthand(Ident<&'a str>),
-    KeyValue(KeyValueProp<Part<'a>>),
-    Assign(AssignProp<Part<'a>>),
-    Getter(GetterProp<Part<'a>>),
-    Setter(SetterProp<Part<'a>>),
-    Method(MethodProp<Part<'a>>),
+#[derive(Clone, Copy, Debug)]
+pub enum Prop {
+    Shorthand,
+    KeyValue,
+    Assign,
+    Getter,
+    Setter,
+    Method,
     /// A node of none of these forms.
-    Other(Part<'a>),
+    Other,
 }
 
-impl<'a> Prop<'a> {
-    /// Which of the forms a node has, with its fields.
-    pub fn of(node: Part<'a>) -> Self
-        ensures { ReadsProp result (seen node.entry) }
+impl Prop {
+    /// Which of the forms a node has.
+    pub fn of(node: Part) -> Self
+        ensures { result ≡ prop_of (kind_of (seen node.entry)) }
     {
         match node.kind() {
-            Kind::Ident => Prop::Shorthand(Ident::of(node)),
-            Kind::KeyValueProp => Prop::KeyValue(KeyValueProp::of(node)),
-            Kind::AssignProp => Prop::Assign(AssignProp::of(node)),
-            Kind::GetterProp => Prop::Getter(GetterProp::of(node)),
-            Kind::SetterProp => Prop::Setter(SetterProp::of(node)),
-            Kind::MethodProp => Prop::Method(MethodProp::of(node)),
-            _ => Prop::Other(node),
+            Kind::Ident => Prop::Shorthand,
+            Kind::KeyValueProp => Prop::KeyValue,
+            Kind::AssignProp => Prop::Assign,
+            Kind::GetterProp => Prop::Getter,
+            Kind::SetterProp => Prop::Setter,
+            Kind::MethodProp => Prop::Method,
+            _ => Prop::Other,
         }
     }
 }
 
 /// What stands in the braces of an object.
-#[derive(Drop)]
-pub enum PropOrSpread<'a> {
-    Spread(SpreadElement<Part<'a>>),
-    Prop(Prop<'a>),
+#[derive(Clone, Copy, Debug)]
+pub enum PropOrSpread {
+    Spread,
+    Prop,
     /// A node of none of these forms.
-    Other(Part<'a>),
+    Other,
 }
 
-impl<'a> PropOrSpread<'a> {
-    /// Which of the forms a node has, with its fields.
-    pub fn of(node: Part<'a>) -> Self
-        ensures { ReadsPropOrSpread result (seen node.entry) }
+impl PropOrSpread {
+    /// Which of the forms a node has.
+    pub fn of(node: Part) -> Self
+        ensures { result ≡ prop_or_spread_of (kind_of (seen node.entry)) }
     {
         match node.kind() {
-            Kind::SpreadElement => PropOrSpread::Spread(SpreadElement::of(node)),
+            Kind::SpreadElement => PropOrSpread::Spread,
             _ => match Prop::of(node) {
-                Prop::Other(node) => PropOrSpread::Other(node),
-                prop => PropOrSpread::Prop(prop),
+                Prop::Other => PropOrSpread::Other,
+                _ => PropOrSpread::Prop,
             },
         }
     }

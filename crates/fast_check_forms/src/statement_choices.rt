@@ -1,182 +1,178 @@
+ghost use Rattle.std.specs.Prelude.{◌≡◌};
 ghost use Rattle.fast_check_syntax.specs.Part.{seen};
+ghost use Rattle.fast_check_syntax.specs.Shape.{kind_of};
 ghost use Rattle.fast_check_forms.specs.StatementChoices.{
-  ReadsDecl,
-  ReadsStmt,
-  ReadsVarDeclOrExpr,
-  ReadsForHead,
-  ReadsTsNamespaceBody,
+  decl_of,
+  stmt_of,
+  var_decl_or_expr_of,
+  for_head_of,
+  ts_namespace_body_of,
 };
 
 use crate::expression_choices::Expr;
 use crate::pattern_choices::Pat;
-use fast_check_statement_forms::{
-    BlockStmt, BreakStmt, ClassDecl, ContinueStmt, DebuggerStmt, DoWhileStmt, EmptyStmt, ExprStmt,
-    FnDecl, ForInStmt, ForOfStmt, ForStmt, IfStmt, LabeledStmt, ReturnStmt, SwitchStmt, ThrowStmt,
-    TryStmt, TsEnumDecl, TsInterfaceDecl, TsModuleBlock, TsModuleDecl, TsNamespaceDecl,
-    TsTypeAliasDecl, UsingDecl, VarDecl, WhileStmt, WithStmt,
-};
 use fast_check_syntax::{Kind, Part};
 
 /// A declaration.
-#[derive(Drop)]
-pub enum Decl<'a> {
-    Class(ClassDecl<Part<'a>>),
-    Fn(FnDecl<Part<'a>>),
-    Var(VarDecl<Part<'a>>),
-    Using(UsingDecl<Part<'a>>),
-    TsInterface(TsInterfaceDecl<Part<'a>>),
-    TsTypeAlias(TsTypeAliasDecl<Part<'a>>),
-    TsEnum(TsEnumDecl<Part<'a>>),
-    TsModule(TsModuleDecl<Part<'a>>),
+#[derive(Clone, Copy, Debug)]
+pub enum Decl {
+    Class,
+    Fn,
+    Var,
+    Using,
+    TsInterface,
+    TsTypeAlias,
+    TsEnum,
+    TsModule,
     /// A node of none of these forms.
-    Other(Part<'a>),
+    Other,
 }
 
-impl<'a> Decl<'a> {
-    /// Which of the forms a node has, with its fields.
-    pub fn of(node: Part<'a>) -> Self
-        ensures { ReadsDecl result (seen node.entry) }
+impl Decl {
+    /// Which of the forms a node has.
+    pub fn of(node: Part) -> Self
+        ensures { result ≡ decl_of (kind_of (seen node.entry)) }
     {
         match node.kind() {
-            Kind::ClassDecl => Decl::Class(ClassDecl::of(node)),
-            Kind::FnDecl => Decl::Fn(FnDecl::of(node)),
-            Kind::VarDecl => Decl::Var(VarDecl::of(node)),
-            Kind::UsingDecl => Decl::Using(UsingDecl::of(node)),
-            Kind::TsInterfaceDecl => Decl::TsInterface(TsInterfaceDecl::of(node)),
-            Kind::TsTypeAliasDecl => Decl::TsTypeAlias(TsTypeAliasDecl::of(node)),
-            Kind::TsEnumDecl => Decl::TsEnum(TsEnumDecl::of(node)),
-            Kind::TsModuleDecl => Decl::TsModule(TsModuleDecl::of(node)),
-            _ => Decl::Other(node),
+            Kind::ClassDecl => Decl::Class,
+            Kind::FnDecl => Decl::Fn,
+            Kind::VarDecl => Decl::Var,
+            Kind::UsingDecl => Decl::Using,
+            Kind::TsInterfaceDecl => Decl::TsInterface,
+            Kind::TsTypeAliasDecl => Decl::TsTypeAlias,
+            Kind::TsEnumDecl => Decl::TsEnum,
+            Kind::TsModuleDecl => Decl::TsModule,
+            _ => Decl::Other,
         }
     }
 }
 
 /// A statement.
-#[derive(Drop)]
-pub enum Stmt<'a> {
-    Block(BlockStmt<Part<'a>>),
-    Empty(EmptyStmt),
-    Debugger(DebuggerStmt),
-    With(WithStmt<Part<'a>>),
-    Return(ReturnStmt<Part<'a>>),
-    Labeled(LabeledStmt<Part<'a>>),
-    Break(BreakStmt<Part<'a>>),
-    Continue(ContinueStmt<Part<'a>>),
-    If(IfStmt<Part<'a>>),
-    Switch(SwitchStmt<Part<'a>>),
-    Throw(ThrowStmt<Part<'a>>),
-    Try(TryStmt<Part<'a>>),
-    While(WhileStmt<Part<'a>>),
-    DoWhile(DoWhileStmt<Part<'a>>),
-    For(ForStmt<Part<'a>>),
-    ForIn(ForInStmt<Part<'a>>),
-    ForOf(ForOfStmt<Part<'a>>),
-    Decl(Decl<'a>),
-    Expr(ExprStmt<Part<'a>>),
+#[derive(Clone, Copy, Debug)]
+pub enum Stmt {
+    Block,
+    Empty,
+    Debugger,
+    With,
+    Return,
+    Labeled,
+    Break,
+    Continue,
+    If,
+    Switch,
+    Throw,
+    Try,
+    While,
+    DoWhile,
+    For,
+    ForIn,
+    ForOf,
+    Decl,
+    Expr,
     /// A node of none of these forms.
-    Other(Part<'a>),
+    Other,
 }
 
-impl<'a> Stmt<'a> {
-    /// Which of the forms a node has, with its fields.
-    pub fn of(node: Part<'a>) -> Self
-        ensures { ReadsStmt result (seen node.entry) }
+impl Stmt {
+    /// Which of the forms a node has.
+    pub fn of(node: Part) -> Self
+        ensures { result ≡ stmt_of (kind_of (seen node.entry)) }
     {
         match node.kind() {
-            Kind::BlockStmt => Stmt::Block(BlockStmt::of(node)),
-            Kind::EmptyStmt => Stmt::Empty(EmptyStmt::of(node)),
-            Kind::DebuggerStmt => Stmt::Debugger(DebuggerStmt::of(node)),
-            Kind::WithStmt => Stmt::With(WithStmt::of(node)),
-            Kind::ReturnStmt => Stmt::Return(ReturnStmt::of(node)),
-            Kind::LabeledStmt => Stmt::Labeled(LabeledStmt::of(node)),
-            Kind::BreakStmt => Stmt::Break(BreakStmt::of(node)),
-            Kind::ContinueStmt => Stmt::Continue(ContinueStmt::of(node)),
-            Kind::IfStmt => Stmt::If(IfStmt::of(node)),
-            Kind::SwitchStmt => Stmt::Switch(SwitchStmt::of(node)),
-            Kind::ThrowStmt => Stmt::Throw(ThrowStmt::of(node)),
-            Kind::TryStmt => Stmt::Try(TryStmt::of(node)),
-            Kind::WhileStmt => Stmt::While(WhileStmt::of(node)),
-            Kind::DoWhileStmt => Stmt::DoWhile(DoWhileStmt::of(node)),
-            Kind::ForStmt => Stmt::For(ForStmt::of(node)),
-            Kind::ForInStmt => Stmt::ForIn(ForInStmt::of(node)),
-            Kind::ForOfStmt => Stmt::ForOf(ForOfStmt::of(node)),
-            Kind::ExprStmt => Stmt::Expr(ExprStmt::of(node)),
+            Kind::BlockStmt => Stmt::Block,
+            Kind::EmptyStmt => Stmt::Empty,
+            Kind::DebuggerStmt => Stmt::Debugger,
+            Kind::WithStmt => Stmt::With,
+            Kind::ReturnStmt => Stmt::Return,
+            Kind::LabeledStmt => Stmt::Labeled,
+            Kind::BreakStmt => Stmt::Break,
+            Kind::ContinueStmt => Stmt::Continue,
+            Kind::IfStmt => Stmt::If,
+            Kind::SwitchStmt => Stmt::Switch,
+            Kind::ThrowStmt => Stmt::Throw,
+            Kind::TryStmt => Stmt::Try,
+            Kind::WhileStmt => Stmt::While,
+            Kind::DoWhileStmt => Stmt::DoWhile,
+            Kind::ForStmt => Stmt::For,
+            Kind::ForInStmt => Stmt::ForIn,
+            Kind::ForOfStmt => Stmt::ForOf,
+            Kind::ExprStmt => Stmt::Expr,
             _ => match Decl::of(node) {
-                Decl::Other(node) => Stmt::Other(node),
-                decl => Stmt::Decl(decl),
+                Decl::Other => Stmt::Other,
+                _ => Stmt::Decl,
             },
         }
     }
 }
 
 /// What stands first in the head of a `for`.
-#[derive(Drop)]
-pub enum VarDeclOrExpr<'a> {
-    VarDecl(VarDecl<Part<'a>>),
-    Expr(Expr<'a>),
+#[derive(Clone, Copy, Debug)]
+pub enum VarDeclOrExpr {
+    VarDecl,
+    Expr,
     /// A node of none of these forms.
-    Other(Part<'a>),
+    Other,
 }
 
-impl<'a> VarDeclOrExpr<'a> {
-    /// Which of the forms a node has, with its fields.
-    pub fn of(node: Part<'a>) -> Self
-        ensures { ReadsVarDeclOrExpr result (seen node.entry) }
+impl VarDeclOrExpr {
+    /// Which of the forms a node has.
+    pub fn of(node: Part) -> Self
+        ensures { result ≡ var_decl_or_expr_of (kind_of (seen node.entry)) }
     {
         match node.kind() {
-            Kind::VarDecl => VarDeclOrExpr::VarDecl(VarDecl::of(node)),
+            Kind::VarDecl => VarDeclOrExpr::VarDecl,
             _ => match Expr::of(node) {
-                Expr::Other(node) => VarDeclOrExpr::Other(node),
-                expr => VarDeclOrExpr::Expr(expr),
+                Expr::Other => VarDeclOrExpr::Other,
+                _ => VarDeclOrExpr::Expr,
             },
         }
     }
 }
 
 /// What stands before `in` or `of` in the head of a `for`.
-#[derive(Drop)]
-pub enum ForHead<'a> {
-    VarDecl(VarDecl<Part<'a>>),
-    UsingDecl(UsingDecl<Part<'a>>),
-    Pat(Pat<'a>),
+#[derive(Clone, Copy, Debug)]
+pub enum ForHead {
+    VarDecl,
+    UsingDecl,
+    Pat,
     /// A node of none of these forms.
-    Other(Part<'a>),
+    Other,
 }
 
-impl<'a> ForHead<'a> {
-    /// Which of the forms a node has, with its fields.
-    pub fn of(node: Part<'a>) -> Self
-        ensures { ReadsForHead result (seen node.entry) }
+impl ForHead {
+    /// Which of the forms a node has.
+    pub fn of(node: Part) -> Self
+        ensures { result ≡ for_head_of (kind_of (seen node.entry)) }
     {
         match node.kind() {
-            Kind::VarDecl => ForHead::VarDecl(VarDecl::of(node)),
-            Kind::UsingDecl => ForHead::UsingDecl(UsingDecl::of(node)),
+            Kind::VarDecl => ForHead::VarDecl,
+            Kind::UsingDecl => ForHead::UsingDecl,
             _ => match Pat::of(node) {
-                Pat::Other(node) => ForHead::Other(node),
-                pat => ForHead::Pat(pat),
+                Pat::Other => ForHead::Other,
+                _ => ForHead::Pat,
             },
         }
     }
 }
 
 /// The body of a namespace.
-#[derive(Drop)]
-pub enum TsNamespaceBody<'a> {
-    TsModuleBlock(TsModuleBlock<Part<'a>>),
-    TsNamespaceDecl(TsNamespaceDecl<Part<'a>>),
+#[derive(Clone, Copy, Debug)]
+pub enum TsNamespaceBody {
+    TsModuleBlock,
+    TsNamespaceDecl,
     /// A node of none of these forms.
-    Other(Part<'a>),
+    Other,
 }
 
-impl<'a> TsNamespaceBody<'a> {
-    /// Which of the forms a node has, with its fields.
-    pub fn of(node: Part<'a>) -> Self
-        ensures { ReadsTsNamespaceBody result (seen node.entry) }
+impl TsNamespaceBody {
+    /// Which of the forms a node has.
+    pub fn of(node: Part) -> Self
+        ensures { result ≡ ts_namespace_body_of (kind_of (seen node.entry)) }
     {
         match node.kind() {
-            Kind::TsModuleBlock => TsNamespaceBody::TsModuleBlock(TsModuleBlock::of(node)),
-            Kind::TsNamespaceDecl => TsNamespaceBody::TsNamespaceDecl(TsNamespaceDecl::of(node)),
-            _ => TsNamespaceBody::Other(node),
+            Kind::TsModuleBlock => TsNamespaceBody::TsModuleBlock,
+            Kind::TsNamespaceDecl => TsNamespaceBody::TsNamespaceDecl,
+            _ => TsNamespaceBody::Other,
         }
     }
 }

@@ -17,11 +17,13 @@ IsAlike (Some x) o = IsSame (paths_below x) (paths_at o)
 abbrev pub AreHeld : Option Exports → Option Exports → Type 0
 AreHeld x o = is_some x ≡ true → is_some o ≡ true
 
-same_each : (a b : NamedSubset) → ((n : Name) → IsSame (paths_at (get_by_text (out-NamedSubset a).names n)) (paths_at (get_by_text (out-NamedSubset b).names n))) → IsSame (paths a) (paths b)
+same_each : (a b : NamedSubset) → ((n : Name) →
+    IsSame (paths_at (get_by_text (out-NamedSubset a).names n)) (paths_at (get_by_text (out-NamedSubset b).names n))) → IsSame (paths a) (paths b)
 same_each a b h part [] = paths_opened_nil a part ∙ sym (paths_opened_nil b part)
 same_each a b h part (n ∷ q) = paths_opened a n part q ∙ (h n part q ∙ sym (paths_opened b n part q))
 
-pub at_each : (a b : NamedSubset) → IsSame (paths a) (paths b) → (n : Name) → IsSame (paths_at (get_by_text (out-NamedSubset a).names n)) (paths_at (get_by_text (out-NamedSubset b).names n))
+pub at_each : (a b : NamedSubset) → IsSame (paths a) (paths b) → (n : Name) →
+    IsSame (paths_at (get_by_text (out-NamedSubset a).names n)) (paths_at (get_by_text (out-NamedSubset b).names n))
 at_each a b h n part q = sym (paths_opened a n part q) ∙ (h part (n ∷ q) ∙ paths_opened b n part q)
 
 alike_held : (x o : Option Exports) → IsAlike x o → AreHeld o x → IsSame (paths_at x) (paths_at o)
@@ -29,18 +31,23 @@ alike_held None None h k = λ part q. refl
 alike_held None (Some y) h k = absurd (false≢true (k refl))
 alike_held (Some x) o h k = h
 
-pub held_same : (a b : NamedSubset) → IsSame (paths a) (paths b) → (n : Name) → AreHeld (get_by_text (out-NamedSubset b).names n) (get_by_text (out-NamedSubset a).names n)
+pub held_same : (a b : NamedSubset) → IsSame (paths a) (paths b) → (n : Name) →
+    AreHeld (get_by_text (out-NamedSubset b).names n) (get_by_text (out-NamedSubset a).names n)
 held_same a b h n t = touched_name a n ∙ (h Touched (n ∷ []) ∙ (sym (touched_name b n) ∙ t))
 
-pub alike_same : (a b : NamedSubset) → ((n : Name) → IsAlike (get_by_text (out-NamedSubset a).names n) (get_by_text (out-NamedSubset b).names n)) → ((n : Name) → AreHeld (get_by_text (out-NamedSubset b).names n) (get_by_text (out-NamedSubset a).names n)) → IsSame (paths a) (paths b)
+pub alike_same : (a b : NamedSubset) → ((n : Name) → IsAlike (get_by_text (out-NamedSubset a).names n) (get_by_text (out-NamedSubset b).names n)) →
+    ((n : Name) → AreHeld (get_by_text (out-NamedSubset b).names n) (get_by_text (out-NamedSubset a).names n)) → IsSame (paths a) (paths b)
 alike_same a b h k = same_each a b (λ n. alike_held (get_by_text (out-NamedSubset a).names n) (get_by_text (out-NamedSubset b).names n) (h n) (k n))
 
 -- a name that the other lacks
-pub lacks_one : (a b : NamedSubset) (n : Name) (x : Exports) → get_by_text (out-NamedSubset a).names n ≡ Some x → get_by_text (out-NamedSubset b).names n ≡ None → IsSame (paths a) (paths b) → false ≡ true
-lacks_one a b n x is none h = sym (ap (λ o. paths_at o Touched []) none) ∙ (sym (at_each a b h n Touched []) ∙ (ap (λ o. paths_at o Touched []) is ∙ touched_below x))
+pub lacks_one : (a b : NamedSubset) (n : Name) (x : Exports) → get_by_text (out-NamedSubset a).names n ≡ Some x →
+    get_by_text (out-NamedSubset b).names n ≡ None → IsSame (paths a) (paths b) → false ≡ true
+lacks_one a b n x is none h = sym (ap (λ o. paths_at o Touched []) none) ∙
+    (sym (at_each a b h n Touched []) ∙ (ap (λ o. paths_at o Touched []) is ∙ touched_below x))
 
 -- what both have under a name is the same
-pub found_same : (a b : NamedSubset) (n : Name) (x y : Exports) → get_by_text (out-NamedSubset a).names n ≡ Some x → get_by_text (out-NamedSubset b).names n ≡ Some y → IsSame (paths a) (paths b) → IsSame (paths_below x) (paths_below y)
+pub found_same : (a b : NamedSubset) (n : Name) (x y : Exports) → get_by_text (out-NamedSubset a).names n ≡ Some x →
+    get_by_text (out-NamedSubset b).names n ≡ Some y → IsSame (paths a) (paths b) → IsSame (paths_below x) (paths_below y)
 found_same a b n x y is found h part q = sym (ap (λ o. paths_at o part q) is) ∙ (at_each a b h n part q ∙ ap (λ o. paths_at o part q) found)
 
 -- below a name: subsets, and all against a subset

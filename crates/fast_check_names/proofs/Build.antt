@@ -1,5 +1,6 @@
 -- A loop over the names of a set that builds another, name by name.
-use Rattle.std.proofs.Common.{◌≡◌, ◌∙◌, sym, ap, refl, subst, Bool, true, false, cond, ◌||◌, List, [], ◌∷◌, ◌++◌, Option, Some, None, ⊎_elim, inl, inr, ◌⊎◌, String, string_bytes, append_assoc, append-nil}
+use Rattle.std.proofs.Common.{◌≡◌, ◌∙◌, sym, ap, refl, subst, Bool, true, false, cond, ◌||◌, List, [], ◌∷◌, ◌++◌, Option, Some, None, ⊎_elim, inl}
+use Rattle.std.proofs.Common.{inr, ◌⊎◌, String, string_bytes, append_assoc, append-nil}
 use Rattle.std.specs.List.{All, Contains}
 use Rattle.std.proofs.Common.{arith, length, ℕ}
 use Rattle.std.proofs.lemmas.List.Elements.{All-contains, Contains-append_right}
@@ -30,7 +31,8 @@ abbrev pub is_in : Name → List Entry → Bool
 is_in n es = is_some (lookup (is_name n) es)
 
 -- of the names that came, what is built stands in the relation R; of the others, what stood there first
-pub record IsBuilt (L : Name → Option Exports → Type 0) (R : Name → Option Exports → Option Exports → Type 0) (source : Names) (rest : List Entry) (built : Names) : Type 0 where
+pub record IsBuilt (L : Name → Option Exports → Type 0) (R : Name → Option Exports → Option Exports → Type 0) (source : Names) (rest : List Entry)
+    (built : Names) : Type 0 where
   pub front : List Entry
   pub is : front ++ rest ≡ source.entries
   pub has : (n : Name) → is_in n front ≡ true → R n (get_by_text source n) (get_by_text built n)
@@ -43,7 +45,8 @@ IsCopyAt old new = (is_some new ≡ is_some old) × IsSame (paths_at new) (paths
 is_in_push : (n : Name) (e : Entry) (es : List Entry) → is_in n (es ++ e ∷ []) ≡ (is_in n es || is_name n e.0)
 is_in_push n e [] = elim (is_name n e.0) as (λ b. is_some (cond b (Some e.1) None) ≡ b) [ true ↦ refl | false ↦ refl ]
 is_in_push n e (f ∷ es) =
-    elim (is_name n f.0) as (λ b. is_some (cond b (Some f.1) (lookup (is_name n) (es ++ e ∷ []))) ≡ (is_some (cond b (Some f.1) (lookup (is_name n) es)) || is_name n e.0)) [ true ↦ refl | false ↦ is_in_push n e es ]
+    elim (is_name n f.0) as (λ b. is_some (cond b (Some f.1) (lookup (is_name n) (es ++ e ∷ []))) ≡
+    (is_some (cond b (Some f.1) (lookup (is_name n) es)) || is_name n e.0)) [ true ↦ refl | false ↦ is_in_push n e es ]
 
 -- what a look-up by equal bytes found
 pub found_at : (m : Names) (bs name : List ℕ) (o : Option Exports) → bs ≡ name → o ≡ get_by_text m bs → get_by_text m name ≡ o
@@ -65,8 +68,11 @@ held_at m bs name e h = subst (λ (b : List ℕ). is_some (get_by_text m b) ≡ 
 same_or_not : (n : Name) (k : String Global) → (n ≡ string_bytes k) ⊎ ((is_name n k ≡ false) × (bytes_eq (string_bytes k) n ≡ false))
 same_or_not n k =
     ⊎_elim (λ t. inl (sym ((bytes_eq-Decides (string_bytes k) n).0 t)))
-    (λ f. inr
-    (false_from_ne_true (is_name n k) (λ t. false≢true (sym f ∙ (bytes_eq-Decides (string_bytes k) n).1 (sym ((bytes_eq-Decides n (string_bytes k)).0 (sym (is_eq-slice_cmp n (string_bytes k)) ∙ t))))), f))
+    (λ f. inr (
+      false_from_ne_true (is_name n k) (λ t. false≢true
+          (sym f ∙ (bytes_eq-Decides (string_bytes k) n).1 (sym ((bytes_eq-Decides n (string_bytes k)).0 (sym (is_eq-slice_cmp n (string_bytes k)) ∙ t))))),
+      f,
+    ))
     (cases_Bool (bytes_eq (string_bytes k) n))
 
 module _ (L : Name → Option Exports → Type 0) (R : Name → Option Exports → Option Exports → Type 0) (source : Names) where
@@ -78,7 +84,8 @@ module _ (L : Name → Option Exports → Type 0) (R : Name → Option Exports �
     lacks = λ n t. l n;
   }
 
-  pub built_last : (built : Names) → IsBuilt L R source [] built → ((n : Name) (o : Option Exports) → get_by_text source n ≡ None → L n o → R n None o) → (n : Name) → R n (get_by_text source n) (get_by_text built n)
+  pub built_last : (built : Names) → IsBuilt L R source [] built → ((n : Name) (o : Option Exports) → get_by_text source n ≡ None → L n o → R n None o) →
+      (n : Name) → R n (get_by_text source n) (get_by_text built n)
   built_last built b none n =
       let all : b.front ≡ source.entries = sym (append-nil b.front) ∙ b.is in
       ⊎_elim (λ t. b.has n t)
@@ -87,12 +94,15 @@ module _ (L : Name → Option Exports → Type 0) (R : Name → Option Exports �
       subst (λ (o : Option Exports). R n o (get_by_text built n)) (sym s) (none n (get_by_text built n) s (b.lacks n f)))
       (cases_Bool (is_in n b.front))
 
-  module _ (k : String Global) (x : Exports) (rest : List Entry) (built : Names) (b : IsBuilt L R source ((k, x) ∷ rest) built) (all : All (λ e. tree.get string_cmp source e.0 ≡ Some e.1) source.entries) where
+  module _ (k : String Global) (x : Exports) (rest : List Entry) (built : Names) (b : IsBuilt L R source ((k, x) ∷ rest) built)
+      (all : All (λ e. tree.get string_cmp source e.0 ≡ Some e.1) source.entries) where
     pub found : get_by_text source (string_bytes k) ≡ Some x
-    found = All-contains (λ e. tree.get string_cmp source e.0 ≡ Some e.1) source.entries (k, x) all (subst (λ (es : List Entry). Contains es (k, x)) b.is (Contains-append_right b.front ((k, x) ∷ rest) (k, x) (0, omega arith, refl)))
+    found = All-contains (λ e. tree.get string_cmp source e.0 ≡ Some e.1) source.entries (k, x) all
+        (subst (λ (es : List Entry). Contains es (k, x)) b.is (Contains-append_right b.front ((k, x) ∷ rest) (k, x) (0, omega arith, refl)))
 
     -- what the relation says of the key, said of a name that is the key
-    at_key : (other : Names) (o : Option Exports) (n : Name) → n ≡ string_bytes k → get_by_text other (string_bytes k) ≡ o → R (string_bytes k) (Some x) o → R n (get_by_text source n) (get_by_text other n)
+    at_key : (other : Names) (o : Option Exports) (n : Name) → n ≡ string_bytes k → get_by_text other (string_bytes k) ≡ o → R (string_bytes k) (Some x) o →
+        R n (get_by_text source n) (get_by_text other n)
     at_key other o n e is r =
         subst (λ (m : Name). R m (get_by_text source m) (get_by_text other m)) (sym e)
         (subst (λ (y : Option Exports). R (string_bytes k) y (get_by_text other (string_bytes k))) (sym found)
@@ -100,38 +110,47 @@ module _ (L : Name → Option Exports → Type 0) (R : Name → Option Exports �
 
     -- a name that came came before, or is the key
     came_before : (n : Name) → is_in n (b.front ++ (k, x) ∷ []) ≡ true → is_name n k ≡ false → is_in n b.front ≡ true
-    came_before n t ne = ⊎_elim (λ h. h) (λ h. absurd (false≢true (sym ne ∙ h))) (or_cases (is_in n b.front) (is_name n k) (sym (is_in_push n (k, x) b.front) ∙ t))
+    came_before n t ne = ⊎_elim (λ h. h) (λ h. absurd (false≢true (sym ne ∙ h)))
+        (or_cases (is_in n b.front) (is_name n k) (sym (is_in_push n (k, x) b.front) ∙ t))
 
     not_came : (n : Name) → is_in n (b.front ++ (k, x) ∷ []) ≡ false → (is_in n b.front ≡ false) × (is_name n k ≡ false)
     not_came n t = or_parts (is_in n b.front) (is_name n k) (sym (is_in_push n (k, x) b.front) ∙ t)
 
     -- something stands in the built map under the name
-    pub built_put : (built' : Names) (z : Exports) → Puts (string_bytes k) z built built' → R (string_bytes k) (Some x) (Some z) → IsBuilt L R source rest built'
+    pub built_put : (built' : Names) (z : Exports) → Puts (string_bytes k) z built built' → R (string_bytes k) (Some x) (Some z) →
+        IsBuilt L R source rest built'
     built_put built' z now r =
         record {
           front = b.front ++ (k, x) ∷ [];
           is = append_assoc b.front ((k, x) ∷ []) rest ∙ b.is;
           has = λ n t.
               ⊎_elim
-              (λ e. at_key built' (Some z) n e (now (string_bytes k) ∙ cond-true (bytes_eq (string_bytes k) (string_bytes k)) (Some z) (get_by_text built (string_bytes k)) ((bytes_eq-Decides (string_bytes k) (string_bytes k)).1 refl)) r)
-              (λ ne. subst (λ (y : Option Exports). R n (get_by_text source n) y) (sym (now n ∙ cond-false (bytes_eq (string_bytes k) n) (Some z) (get_by_text built n) ne.1)) (b.has n (came_before n t ne.0)))
+              (λ e. at_key built' (Some z) n e
+              (now (string_bytes k) ∙
+              cond-true (bytes_eq (string_bytes k) (string_bytes k)) (Some z) (get_by_text built (string_bytes k))
+              ((bytes_eq-Decides (string_bytes k) (string_bytes k)).1 refl)) r)
+              (λ ne. subst (λ (y : Option Exports). R n (get_by_text source n) y)
+              (sym (now n ∙ cond-false (bytes_eq (string_bytes k) n) (Some z) (get_by_text built n) ne.1)) (b.has n (came_before n t ne.0)))
               (same_or_not n k);
           lacks = λ n t.
               ⊎_elim
               (λ e. absurd (false≢true (sym (not_came n t).1 ∙ (is_eq-slice_cmp n (string_bytes k) ∙ (bytes_eq-Decides n (string_bytes k)).1 e))))
-              (λ ne. subst (λ (o : Option Exports). L n o) (sym (now n ∙ cond-false (bytes_eq (string_bytes k) n) (Some z) (get_by_text built n) ne.1)) (b.lacks n (not_came n t).0))
+              (λ ne. subst (λ (o : Option Exports). L n o) (sym (now n ∙ cond-false (bytes_eq (string_bytes k) n) (Some z) (get_by_text built n) ne.1))
+              (b.lacks n (not_came n t).0))
               (same_or_not n k);
         }
 
     -- nothing is put there
-    pub built_skip : ((o : Option Exports) → get_by_text source (string_bytes k) ≡ Some x → L (string_bytes k) o → R (string_bytes k) (Some x) o) → IsBuilt L R source rest built
+    pub built_skip : ((o : Option Exports) → get_by_text source (string_bytes k) ≡ Some x → L (string_bytes k) o → R (string_bytes k) (Some x) o) →
+        IsBuilt L R source rest built
     built_skip r = record {
       front = b.front ++ (k, x) ∷ [];
       is = append_assoc b.front ((k, x) ∷ []) rest ∙ b.is;
       has = λ n t.
           ⊎_elim (λ before. b.has n before)
           (λ not. ⊎_elim
-          (λ e. at_key built (get_by_text built (string_bytes k)) n e refl (r (get_by_text built (string_bytes k)) found (subst (λ (m : Name). L m (get_by_text built m)) e (b.lacks n not))))
+          (λ e. at_key built (get_by_text built (string_bytes k)) n e refl
+          (r (get_by_text built (string_bytes k)) found (subst (λ (m : Name). L m (get_by_text built m)) e (b.lacks n not))))
           (λ ne. absurd (false≢true (sym not ∙ came_before n t ne.0)))
           (same_or_not n k))
           (cases_Bool (is_in n b.front));
@@ -145,7 +164,8 @@ copy_none o e = subst (λ (x : Option Exports). IsCopyAt None x) (sym e) (refl, 
 pub none_first : (m : Names) → m.entries ≡ [] → (n : Name) → get_by_text m n ≡ None
 none_first m e n = ap (λ (es : List Entry). lookup (is_name n) es) e
 
-pub copied_all : (s copy : NamedSubset) → ((n : Name) → IsCopyAt (get_by_text (out-NamedSubset s).names n) (get_by_text (out-NamedSubset copy).names n)) → IsSame (paths copy) (paths s)
+pub copied_all : (s copy : NamedSubset) → ((n : Name) → IsCopyAt (get_by_text (out-NamedSubset s).names n) (get_by_text (out-NamedSubset copy).names n)) →
+    IsSame (paths copy) (paths s)
 copied_all s copy h part [] = paths_opened_nil copy part ∙ sym (paths_opened_nil s part)
 copied_all s copy h part (n ∷ q) = paths_opened copy n part q ∙ ((h n).1 part q ∙ sym (paths_opened s n part q))
 
@@ -158,7 +178,8 @@ no_paths s e part (n ∷ q) = paths_opened s n part q ∙ ap (λ (es : List Entr
 pub first_name : (s : NamedSubset) (e : Entry) (es : List Entry) → (out-NamedSubset s).names.entries ≡ e ∷ es → paths s Touched (string_bytes e.0 ∷ []) ≡ true
 first_name s e es h =
     sym (touched_name s (string_bytes e.0)) ∙ (ap (λ (xs : List Entry). is_some (lookup (is_name (string_bytes e.0)) xs)) h
-    ∙ ap (λ b. is_some (cond b (Some e.1) (lookup (is_name (string_bytes e.0)) es))) (is_eq-slice_cmp (string_bytes e.0) (string_bytes e.0) ∙ (bytes_eq-Decides (string_bytes e.0) (string_bytes e.0)).1 refl))
+    ∙ ap (λ b. is_some (cond b (Some e.1) (lookup (is_name (string_bytes e.0)) es)))
+    (is_eq-slice_cmp (string_bytes e.0) (string_bytes e.0) ∙ (bytes_eq-Decides (string_bytes e.0) (string_bytes e.0)).1 refl))
 
 nil_from_length : (es : List Entry) → length es ≡ 0 → es ≡ []
 nil_from_length [] h = refl

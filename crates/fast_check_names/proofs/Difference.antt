@@ -5,7 +5,9 @@ use Rattle.std.proofs.lemmas.Bool.{or_left, or_right, false≢true}
 use Rattle.fast_check_names.specs.declared.lattice.named_subset.Exports.{Exports}
 use Rattle.fast_check_names.specs.declared.lattice.named_subset.Exports.TheVariants.{All, Subset}
 use Rattle.fast_check_names.specs.declared.lattice.named_subset.NamedSubset.{NamedSubset, out-NamedSubset}
-use Rattle.fast_check_names.specs.Names.{Name, Path, Part, Touched, Covered, NameSet, nothing, paths, paths_below, paths_at, subset_of, IsBelow, IsBelowJoin, IsClosed, IsNameSet, IsLeastDifference, IsLeastDifferenceBelow, IsSame, HasMore, IsDifference, IsDifferenceBelow}
+use Rattle.fast_check_names.specs.Names.{Name, Path, Part, Touched, Covered, NameSet, nothing, paths, paths_below, paths_at, subset_of, IsBelow}
+use Rattle.fast_check_names.specs.Names.{IsBelowJoin, IsClosed, IsNameSet, IsLeastDifference, IsLeastDifferenceBelow, IsSame, HasMore, IsDifference}
+use Rattle.fast_check_names.specs.Names.{IsDifferenceBelow}
 use Rattle.fast_check_names.proofs.Sets.{of_source_along, of_itself, of_nothing, of_subset, of_each}
 use Rattle.fast_check_names.specs.Paths.{paths_opened, paths_opened_nil, below_all, below_subset, below_subset_is, below_subset_nil, touched_below}
 
@@ -76,7 +78,9 @@ module _ (o s d : NamedSubset) (least : IsLeastDifference (paths o) (paths s) (p
       back e closed h part (m ∷ p) t = h part (m ∷ p) (sym (below_subset d part m p) ∙ t)
 
 -- name by name, of whole sets
-pub diff_each : (old new answer : NamedSubset) → ((n : Name) → DiffAt (get_by_text (out-NamedSubset old).names n) (get_by_text (out-NamedSubset new).names n) (get_by_text (out-NamedSubset answer).names n)) → IsLeastDifference (paths old) (paths new) (paths answer)
+pub diff_each : (old new answer : NamedSubset) →
+    ((n : Name) → DiffAt (get_by_text (out-NamedSubset old).names n) (get_by_text (out-NamedSubset new).names n)
+    (get_by_text (out-NamedSubset answer).names n)) → IsLeastDifference (paths old) (paths new) (paths answer)
 diff_each old new answer each = λ e names. (joins e names, backs e names)
   where
     at : (e : NameSet) (n : Name) → NameSet
@@ -106,7 +110,8 @@ some_is x y e = cc
 pub below_absent : (x z : Exports) → IsSame (paths_below z) (paths_below x) → IsDifferenceBelow None (Some x) (Some z)
 below_absent x z same = record {
   least = diff_copy x z same;
-  of_new = of_source_along (paths_below x) (paths_below x) (paths_below z) (paths_below x) (λ part p. sym (same part p)) (λ part p. refl) (of_itself (paths_below x));
+  of_new = of_source_along (paths_below x) (paths_below x) (paths_below z) (paths_below x) (λ part p. sym (same part p)) (λ part p. refl)
+      (of_itself (paths_below x));
   progress = λ y e. (Touched, [], touched_below y, refl);
 }
 
@@ -128,7 +133,8 @@ pub below_whole : (o : NamedSubset) → IsDifferenceBelow (Some (Subset o)) (Som
 below_whole o = record {
   least = diff_whole o;
   of_new = of_itself (paths_below All);
-  progress = λ y e. subst (λ (x : Exports). HasMore (paths_below x) (paths_below (Subset o))) (some_is All y e) (Covered, [], below_all Covered [], below_subset_nil o Covered);
+  progress = λ y e. subst (λ (x : Exports). HasMore (paths_below x) (paths_below (Subset o))) (some_is All y e)
+      (Covered, [], below_all Covered [], below_subset_nil o Covered);
 }
 
 module _ (o s d : NamedSubset) (is : IsDifference (paths o) (paths s) (paths d)) where
@@ -152,18 +158,23 @@ module _ (o s d : NamedSubset) (is : IsDifference (paths o) (paths s) (paths d))
   }
 
 -- something under a name has progress
-progress_at : (old answer : Option Exports) → ((x : Exports) → answer ≡ Some x → HasMore (paths_below x) (paths_at old)) → paths_at answer Touched [] ≡ true → HasMore (paths_at answer) (paths_at old)
+progress_at : (old answer : Option Exports) → ((x : Exports) → answer ≡ Some x → HasMore (paths_below x) (paths_at old)) → paths_at answer Touched [] ≡ true →
+    HasMore (paths_at answer) (paths_at old)
 progress_at old None h t = absurd (false≢true t)
 progress_at old (Some x) h t = h x refl
 
 -- name by name, of whole sets
-pub difference_each : (old new answer : NamedSubset) → ((n : Name) → IsDifferenceBelow (get_by_text (out-NamedSubset old).names n) (get_by_text (out-NamedSubset new).names n) (get_by_text (out-NamedSubset answer).names n)) → IsDifference (paths old) (paths new) (paths answer)
+pub difference_each : (old new answer : NamedSubset) →
+    ((n : Name) → IsDifferenceBelow (get_by_text (out-NamedSubset old).names n) (get_by_text (out-NamedSubset new).names n)
+    (get_by_text (out-NamedSubset answer).names n)) → IsDifference (paths old) (paths new) (paths answer)
 difference_each old new answer each = record {
   least = diff_each old new answer (λ n. (each n).least);
   of_new = of_each (paths answer) (paths new) (paths_opened_nil answer Touched) (paths_opened_nil answer Covered) (paths_opened_nil new Covered) (λ n.
-      of_source_along (paths_at (get_by_text (out-NamedSubset answer).names n)) (paths_at (get_by_text (out-NamedSubset new).names n)) (λ part q. paths answer part (n ∷ q)) (λ part q. paths new part (n ∷ q))
+      of_source_along (paths_at (get_by_text (out-NamedSubset answer).names n)) (paths_at (get_by_text (out-NamedSubset new).names n))
+      (λ part q. paths answer part (n ∷ q)) (λ part q. paths new part (n ∷ q))
       (λ part q. sym (paths_opened answer n part q)) (λ part q. sym (paths_opened new n part q)) (each n).of_new);
   progress = λ n t.
-      let h = progress_at (get_by_text (out-NamedSubset old).names n) (get_by_text (out-NamedSubset answer).names n) (each n).progress (sym (paths_opened answer n Touched []) ∙ t) in
+      let h = progress_at (get_by_text (out-NamedSubset old).names n) (get_by_text (out-NamedSubset answer).names n) (each n).progress
+      (sym (paths_opened answer n Touched []) ∙ t) in
       (h.0, h.1, paths_opened answer n h.0 h.1 ∙ h.2, paths_opened old n h.0 h.1 ∙ h.3);
 }

@@ -1,5 +1,6 @@
 -- The three forms of what is demanded of a module, and what `add` does to them.
-use Rattle.std.proofs.Common.{◌≡◌, ◌∙◌, sym, ap, refl, subst, ⊎_elim, Bool, true, false, ◌&&◌, ◌||◌, not, cond, ℕ, ◌≤◌, ◌<◌, length, List, [], ◌∷◌, ◌++◌, Some, None, string_bytes, arith, length-append}
+use Rattle.std.proofs.Common.{◌≡◌, ◌∙◌, sym, ap, refl, subst, ⊎_elim, Bool, true, false, ◌&&◌, ◌||◌, not, cond, ℕ, ◌≤◌, ◌<◌, length, List, [], ◌∷◌}
+use Rattle.std.proofs.Common.{◌++◌, Some, None, string_bytes, arith, length-append}
 use Rattle.std.specs.Map.{lookup}
 use Rattle.std.specs.BTreeMap.{get_by_text, is_at}
 use Rattle.std.specs.Cmp.Lexicographic.{slice_cmp}
@@ -39,8 +40,11 @@ not_found : (n : Name) (es : List Entry) → length (long es) ≤ length n → l
 unfolding long
 not_found n [] h = refl
 not_found n (e ∷ es) h =
-    let apart : is_at (slice_cmp nat_cmp n) (string_bytes e.0) ≡ false = is_eq-slice_cmp n (string_bytes e.0) ∙ longer_differs n (string_bytes e.0) (omega (arith, h, long_more es, length-append (string_bytes e.0) (long es))) in
-    ap (λ b. cond b (Some e.1) (lookup (λ k. is_at (slice_cmp nat_cmp n) (string_bytes k)) es)) apart ∙ not_found n es (omega (arith, h, length-append (string_bytes e.0) (long es)))
+    let apart : is_at (slice_cmp nat_cmp n) (string_bytes e.0) ≡ false =
+    is_eq-slice_cmp n (string_bytes e.0) ∙
+    longer_differs n (string_bytes e.0) (omega (arith, h, long_more es, length-append (string_bytes e.0) (long es))) in
+    ap (λ b. cond b (Some e.1) (lookup (λ k. is_at (slice_cmp nat_cmp n) (string_bytes k)) es)) apart ∙
+    not_found n es (omega (arith, h, length-append (string_bytes e.0) (long es)))
 
 -- a name that is missing, and is not `default`
 missing : NamedSubset → Name
@@ -48,7 +52,8 @@ missing s = long (out-NamedSubset s).names.entries
 
 missing_touched : (s : NamedSubset) → paths s Touched (missing s ∷ []) ≡ false
 unfolding missing
-missing_touched s = paths_opened s (missing s) Touched [] ∙ ap (λ o. paths_at o Touched []) (not_found (missing s) (out-NamedSubset s).names.entries (omega arith))
+missing_touched s = paths_opened s (missing s) Touched [] ∙
+    ap (λ o. paths_at o Touched []) (not_found (missing s) (out-NamedSubset s).names.entries (omega arith))
 
 missing_star : (s : NamedSubset) → all_but_default Touched (missing s ∷ []) ≡ true
 unfolding missing
@@ -76,11 +81,13 @@ set_below_all s part (n ∷ q) t = refl
 
 -- where `default` is not touched, nothing below it is
 no_default : (s : NamedSubset) → paths s Touched (default_name ∷ []) ≡ false → (part : Part) (q : Path) → paths s part (default_name ∷ q) ≡ false
-no_default s h part q = paths_opened s default_name part q ∙ nothing_below (get_by_text (out-NamedSubset s).names default_name) (sym (paths_opened s default_name Touched []) ∙ h) part q
+no_default s h part q = paths_opened s default_name part q ∙
+    nothing_below (get_by_text (out-NamedSubset s).names default_name) (sym (paths_opened s default_name Touched []) ∙ h) part q
 
 -- where `default` is covered, all below it is
 whole_default : (s : NamedSubset) → paths s Covered (default_name ∷ []) ≡ true → (part : Part) (q : Path) → paths s part (default_name ∷ q) ≡ true
-whole_default s h part q = paths_opened s default_name part q ∙ all_below (get_by_text (out-NamedSubset s).names default_name) (sym (paths_opened s default_name Covered []) ∙ h) part q
+whole_default s h part q = paths_opened s default_name part q ∙
+    all_below (get_by_text (out-NamedSubset s).names default_name) (sym (paths_opened s default_name Covered []) ∙ h) part q
 
 not_true : (b : Bool) → b ≡ false → not b ≡ true
 not_true true h = cc
@@ -136,6 +143,7 @@ pub join_whole_default : (s : NamedSubset) → paths s Covered (default_name ∷
 join_whole_default s h part [] = sym (ap (λ b. b || false) (paths_opened_nil s part))
 join_whole_default s h part (n ∷ q) =
     ⊎_elim
-    (λ e. sym (or_left (paths s part (n ∷ q)) (not (bytes_eq default_name n)) (subst (λ (m : Name). paths s part (m ∷ q) ≡ true) ((bytes_eq-Decides default_name n).0 e) (whole_default s h part q))))
+    (λ e. sym (or_left (paths s part (n ∷ q)) (not (bytes_eq default_name n))
+    (subst (λ (m : Name). paths s part (m ∷ q) ≡ true) ((bytes_eq-Decides default_name n).0 e) (whole_default s h part q))))
     (λ e. sym (or_right (paths s part (n ∷ q)) (not (bytes_eq default_name n)) (not_true (bytes_eq default_name n) e)))
     (cases_Bool (bytes_eq default_name n))

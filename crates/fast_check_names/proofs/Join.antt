@@ -8,7 +8,8 @@ use Rattle.std.specs.Str.{bytes_eq}
 use Rattle.fast_check_names.specs.declared.lattice.named_subset.Exports.{Exports}
 use Rattle.fast_check_names.specs.declared.lattice.named_subset.Exports.TheVariants.{All, Subset}
 use Rattle.fast_check_names.specs.declared.lattice.named_subset.NamedSubset.{NamedSubset, out-NamedSubset}
-use Rattle.fast_check_names.specs.Names.{Name, Names, Path, Part, NameSet, Puts, is_touched, everything, named, paths, paths_below, paths_at, IsJoin, IsJoinBelow, IsJoinWhereHeld, IsSame}
+use Rattle.fast_check_names.specs.Names.{Name, Names, Path, Part, NameSet, Puts, is_touched, everything, named, paths, paths_below, paths_at, IsJoin}
+use Rattle.fast_check_names.specs.Names.{IsJoinBelow, IsJoinWhereHeld, IsSame}
 use Rattle.fast_check_names.specs.Paths.{made, paths_made, paths_made_nil, paths_opened, paths_opened_nil, below_all, below_subset, below_subset_nil}
 
 or_false : (b : Bool) → b ≡ (b || false)
@@ -48,14 +49,23 @@ pub join_both : (o s j : NamedSubset) → IsJoin (paths o) (paths s) (paths j) �
 join_both o s j h = record { join = go }
   where
     go : (part : Part) (q : Path) → paths_below (Subset j) part q ≡ (paths_below (Subset o) part q || paths_below (Subset s) part q)
-    go part [] = below_subset_nil j part ∙ (or_itself (is_touched part) ∙ sym (ap (λ b. b || paths_below (Subset s) part []) (below_subset_nil o part) ∙ ap (λ b. is_touched part || b) (below_subset_nil s part)))
-    go part (n ∷ q) = below_subset j part n q ∙ (h part (n ∷ q) ∙ sym (ap (λ b. b || paths_below (Subset s) part (n ∷ q)) (below_subset o part n q) ∙ ap (λ b. paths o part (n ∷ q) || b) (below_subset s part n q)))
+    go part [] = below_subset_nil j part ∙
+        (or_itself (is_touched part) ∙ sym
+        (ap (λ b. b || paths_below (Subset s) part []) (below_subset_nil o part) ∙ ap (λ b. is_touched part || b) (below_subset_nil s part)))
+    go part (n ∷ q) = below_subset j part n q ∙
+        (h part (n ∷ q) ∙ sym (ap (λ b. b || paths_below (Subset s) part (n ∷ q)) (below_subset o part n q) ∙
+        ap (λ b. paths o part (n ∷ q) || b) (below_subset s part n q)))
 
 -- name by name, of whole sets
-pub join_each : (old new answer : NamedSubset) → ((n : Name) → IsJoinBelow (get_by_text (out-NamedSubset old).names n) (get_by_text (out-NamedSubset new).names n) (get_by_text (out-NamedSubset answer).names n)) → IsJoin (paths old) (paths new) (paths answer)
-join_each old new answer each part [] = paths_opened_nil answer part ∙ sym (ap (λ b. b || paths new part []) (paths_opened_nil old part) ∙ ap (λ b. false || b) (paths_opened_nil new part))
+pub join_each : (old new answer : NamedSubset) →
+    ((n : Name) → IsJoinBelow (get_by_text (out-NamedSubset old).names n) (get_by_text (out-NamedSubset new).names n)
+    (get_by_text (out-NamedSubset answer).names n)) → IsJoin (paths old) (paths new) (paths answer)
+join_each old new answer each part [] = paths_opened_nil answer part ∙
+    sym (ap (λ b. b || paths new part []) (paths_opened_nil old part) ∙ ap (λ b. false || b) (paths_opened_nil new part))
 join_each old new answer each part (n ∷ q) =
-    paths_opened answer n part q ∙ ((each n).join part q ∙ sym (ap (λ b. b || paths new part (n ∷ q)) (paths_opened old n part q) ∙ ap (λ b. paths_at (get_by_text (out-NamedSubset old).names n) part q || b) (paths_opened new n part q)))
+    paths_opened answer n part q ∙ ((each n).join part q ∙
+    sym (ap (λ b. b || paths new part (n ∷ q)) (paths_opened old n part q) ∙
+    ap (λ b. paths_at (get_by_text (out-NamedSubset old).names n) part q || b) (paths_opened new n part q)))
 
 here : (b o x z : Bool) → b ≡ true → z ≡ (o || x) → z ≡ (o || (b && x))
 here true o x z t e = e
@@ -66,7 +76,8 @@ there true o x f = cc
 there false o x f = or_false o
 
 -- one name joined by f, and all other names as they were
-pub join_put : (s : NamedSubset) (m' : Names) (n : Name) (f : NameSet) (z : Exports) → Puts n z (out-NamedSubset s).names m' → IsJoin (paths_at (get_by_text (out-NamedSubset s).names n)) f (paths_below z) → IsJoin (paths s) (named n f) (paths (made m'))
+pub join_put : (s : NamedSubset) (m' : Names) (n : Name) (f : NameSet) (z : Exports) → Puts n z (out-NamedSubset s).names m' →
+    IsJoin (paths_at (get_by_text (out-NamedSubset s).names n)) f (paths_below z) → IsJoin (paths s) (named n f) (paths (made m'))
 join_put s m' n f z now j part [] = paths_made_nil m' part ∙ sym (ap (λ b. b || false) (paths_opened_nil s part))
 join_put s m' n f z now j part (m ∷ q) =
     let at : Name → Option Exports = λ k. get_by_text (out-NamedSubset s).names k in
@@ -79,18 +90,21 @@ join_put s m' n f z now j part (m ∷ q) =
     ∙ ap (λ b. b || (bytes_eq n m && f part q)) (sym (paths_opened s m part q))))
 
 -- one name written as it was
-pub same_put : (s : NamedSubset) (m' : Names) (n : Name) (z : Exports) → Puts n z (out-NamedSubset s).names m' → IsSame (paths_below z) (paths_at (get_by_text (out-NamedSubset s).names n)) → IsSame (paths (made m')) (paths s)
+pub same_put : (s : NamedSubset) (m' : Names) (n : Name) (z : Exports) → Puts n z (out-NamedSubset s).names m' →
+    IsSame (paths_below z) (paths_at (get_by_text (out-NamedSubset s).names n)) → IsSame (paths (made m')) (paths s)
 same_put s m' n z now e part [] = paths_made_nil m' part ∙ sym (paths_opened_nil s part)
 same_put s m' n z now e part (m ∷ q) =
     let at : Name → Option Exports = λ k. get_by_text (out-NamedSubset s).names k in
     paths_made m' m part q ∙ (ap (λ o. paths_at o part q) (now m) ∙ (⊎_elim
-    (λ t. ap (λ b. paths_at (cond b (Some z) (at m)) part q) t ∙ subst (λ (k : Name). paths_below z part q ≡ paths_at (at k) part q) ((bytes_eq-Decides n m).0 t) (e part q))
+    (λ t. ap (λ b. paths_at (cond b (Some z) (at m)) part q) t ∙
+    subst (λ (k : Name). paths_below z part q ≡ paths_at (at k) part q) ((bytes_eq-Decides n m).0 t) (e part q))
     (λ t. ap (λ b. paths_at (cond b (Some z) (at m)) part q) t)
     (cases_Bool (bytes_eq n m))
     ∙ sym (paths_opened s m part q)))
 
 -- a map that was empty has one name
-pub single_put : (m m' : Names) (n : Name) (z : Exports) → ((k : Name) → get_by_text m k ≡ None) → Puts n z m m' → IsSame (paths (made m')) (named n (paths_below z))
+pub single_put : (m m' : Names) (n : Name) (z : Exports) → ((k : Name) → get_by_text m k ≡ None) → Puts n z m m' →
+    IsSame (paths (made m')) (named n (paths_below z))
 single_put m m' n z empty now part [] = paths_made_nil m' part
 single_put m m' n z empty now part (k ∷ q) =
     paths_made m' k part q ∙ (ap (λ o. paths_at o part q) (now k ∙ ap (λ o. cond (bytes_eq n k) (Some z) o) (empty k))

@@ -6,5 +6,4 @@ pub mod Writes
 pub mod Listed
 pub mod Forms
 pub mod Added
-pub mod Traced
 pub mod Alike

@@ -1,5 +1,6 @@
 -- The names of a set as a list.
-use Rattle.std.proofs.Common.{◌≡◌, ◌∙◌, sym, ap, refl, subst, Bool, true, false, ◌&&◌, not, cond, List, [], ◌∷◌, map, Option, Some, None, String, string_bytes, ◌≢◌, Result, Ok, Err}
+use Rattle.std.proofs.Common.{◌≡◌, ◌∙◌, sym, ap, refl, subst, Bool, true, false, ◌&&◌, not, cond, List, [], ◌∷◌, map, Option, Some, None, String}
+use Rattle.std.proofs.Common.{string_bytes, ◌≢◌, Result, Ok, Err}
 use Rattle.std.specs.Result.{IfOk}
 use Rattle.std.specs.Map.{lookup}
 use Rattle.std.specs.BTreeMap as tree
@@ -31,7 +32,8 @@ found_listed n (e ∷ es) =
     ap (λ b. cond b (Some e.1) (lookup (λ k. is_at (slice_cmp nat_cmp n) (string_bytes k)) es)) (is_eq-slice_cmp n (string_bytes e.0))
     ∙ ap (λ o. cond (bytes_eq n (string_bytes e.0)) (Some e.1) o) (found_listed n es)
 
-above_first : (k : String Global) (es : List Entry) → AllByRecursion (λ q. string_cmp k q ≡ Less) (map (λ e. e.0) es) → AllByRecursion (λ q. slice_cmp nat_cmp (string_bytes k) q ≡ Less) (map (λ e. string_bytes e.0) es)
+above_first : (k : String Global) (es : List Entry) → AllByRecursion (λ q. string_cmp k q ≡ Less) (map (λ e. e.0) es) →
+    AllByRecursion (λ q. slice_cmp nat_cmp (string_bytes k) q ≡ Less) (map (λ e. string_bytes e.0) es)
 above_first k [] h = h
 above_first k (e ∷ es) h = (h.0, above_first k es h.1)
 
@@ -44,12 +46,15 @@ same_name : (n m : Name) → Decides (eq_by_cmp (slice_cmp nat_cmp) n m) (n ≡ 
 same_name n m = subst (λ (b : Bool). Decides b (n ≡ m)) (sym (is_eq-slice_cmp n m)) (bytes_eq-Decides n m)
 
 -- the entries of a set in order are its list of names
-pub listed : (s : NamedSubset) (names : List Entry) → names ≡ (out-NamedSubset s).names.entries → tree.IsOrdered string_cmp (out-NamedSubset s).names → IsListed (paths s) names
+pub listed : (s : NamedSubset) (names : List Entry) → names ≡ (out-NamedSubset s).names.entries → tree.IsOrdered string_cmp (out-NamedSubset s).names →
+    IsListed (paths s) names
 listed s names e ordered = record {
-  each = λ n part q. paths_opened s n part q ∙ ap (λ o. paths_at o part q) (found_listed n (out-NamedSubset s).names.entries ∙ ap (λ es. listed_at es n) (sym e));
+  each = λ n part q. paths_opened s n part q ∙
+      ap (λ o. paths_at o part q) (found_listed n (out-NamedSubset s).names.entries ∙ ap (λ es. listed_at es n) (sym e));
   once = subst (λ (es : List Entry). AllPairs (λ n m. n ≢ m) (map (λ x. string_bytes x.0) es)) (sym e)
       (AllPairs-from_IsDistinct same_name (map (λ x. string_bytes x.0) (out-NamedSubset s).names.entries)
-      (IsDistinct-from_sorted (slice_cmp nat_cmp) (map (λ x. string_bytes x.0) (out-NamedSubset s).names.entries) (sorted_names (out-NamedSubset s).names.entries ordered)));
+      (IsDistinct-from_sorted (slice_cmp nat_cmp) (map (λ x. string_bytes x.0) (out-NamedSubset s).names.entries)
+      (sorted_names (out-NamedSubset s).names.entries ordered)));
 }
 
 -- what one fact of an answer gives of it
@@ -72,4 +77,5 @@ part_of_subset s = sym (ap (λ b. paths_below (Subset s) Touched [] && not b) (b
 
 pub part_found : (s : NamedSubset) (n : Name) (o : Option Exports) → o ≡ get_by_text (out-NamedSubset s).names n → is_part o ≡ has_subset (paths s) (n ∷ [])
 part_found s n o e =
-    ap is_part e ∙ sym (ap (λ b. b && not (paths s Covered (n ∷ []))) (paths_opened s n Touched []) ∙ ap (λ b. paths_at (get_by_text (out-NamedSubset s).names n) Touched [] && not b) (paths_opened s n Covered []))
+    ap is_part e ∙ sym (ap (λ b. b && not (paths s Covered (n ∷ []))) (paths_opened s n Touched []) ∙
+    ap (λ b. paths_at (get_by_text (out-NamedSubset s).names n) Touched [] && not b) (paths_opened s n Covered []))

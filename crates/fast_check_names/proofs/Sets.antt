@@ -1,7 +1,8 @@
 -- Subsets and whole paths of name sets: what becomes of them in joins and below names.
 use Rattle.std.proofs.Common.{◌≡◌, ◌∙◌, sym, ap, refl, Bool, true, false, ◌&&◌, ◌||◌, not, [], ◌∷◌}
 use Rattle.std.proofs.lemmas.Bool.{false≢true}
-use Rattle.fast_check_names.specs.Names.{Name, Path, Touched, Covered, NameSet, nothing, subset_of, has_subset, has_whole, IsSame, IsJoin, IsOfSource, IsOfEither}
+use Rattle.fast_check_names.specs.Names.{Name, Path, Touched, Covered, NameSet, nothing, subset_of, has_subset, has_whole, IsSame, IsJoin, IsOfSource}
+use Rattle.fast_check_names.specs.Names.{IsOfEither}
 
 -- what stands below a name of a set
 abbrev pub at_name : NameSet → Name → NameSet
@@ -54,11 +55,14 @@ of_subset f g ef eg o = record { subsets = subsets; wholes = wholes }
     wholes : (p : Path) → has_whole (subset_of f) p ≡ true → has_whole (subset_of g) p ≡ true
     wholes [] t = t
     wholes (n ∷ p) t =
-        let h : (not (g Covered []) && has_whole (at_name g n) p) ≡ true = o.wholes (n ∷ p) (let e : (not (f Covered []) && has_whole (at_name f n) p) ≡ has_whole (at_name f n) p = ap (λ b. not b && has_whole (at_name f n) p) ef in e ∙ t) in
+        let h : (not (g Covered []) && has_whole (at_name g n) p) ≡ true =
+        o.wholes (n ∷ p) (let e : (not (f Covered []) && has_whole (at_name f n) p) ≡ has_whole (at_name f n) p =
+        ap (λ b. not b && has_whole (at_name f n) p) ef in e ∙ t) in
         sym (ap (λ b. not b && has_whole (at_name g n) p) eg) ∙ h
 
 -- name by name
-pub of_each : (f g : NameSet) → (f Touched [] ≡ false) → (f Covered [] ≡ false) → (g Covered [] ≡ false) → ((n : Name) → IsOfSource (at_name g n) (at_name f n)) → IsOfSource g f
+pub of_each : (f g : NameSet) → (f Touched [] ≡ false) → (f Covered [] ≡ false) → (g Covered [] ≡ false) →
+    ((n : Name) → IsOfSource (at_name g n) (at_name f n)) → IsOfSource g f
 of_each f g ft fc gc each = record { subsets = subsets; wholes = wholes }
   where
     subsets : (p : Path) → has_subset f p ≡ true → has_subset g p ≡ true
@@ -95,11 +99,16 @@ pub of_join : (a b c : NameSet) → IsJoin a b c → IsOfEither a b c
 of_join a b c join = record { subsets = subsets; wholes = wholes a b c join }
   where
     subsets : (p : Path) → has_subset c p ≡ true → (has_subset a p || has_subset b p) ≡ true
-    subsets p t = either_subset (a Touched p) (b Touched p) (a Covered p) (b Covered p) (sym (both_subsets (c Touched p) (a Touched p || b Touched p) (c Covered p) (a Covered p || b Covered p) (join Touched p) (join Covered p)) ∙ t)
+    subsets p t = either_subset (a Touched p) (b Touched p) (a Covered p) (b Covered p)
+        (sym (both_subsets (c Touched p) (a Touched p || b Touched p) (c Covered p) (a Covered p || b Covered p) (join Touched p) (join Covered p)) ∙ t)
 
     wholes : (a b c : NameSet) → IsJoin a b c → (p : Path) → has_whole c p ≡ true → (has_whole a p || has_whole b p) ≡ true
     wholes a b c j [] t = sym (j Covered []) ∙ t
     wholes a b c j (n ∷ p) t =
-        let start : (not (a Covered [] || b Covered []) && has_whole (at_name c n) p) ≡ true = sym (ap (λ x. not x && has_whole (at_name c n) p) (j Covered [])) ∙ t in
-        let below : (has_whole (at_name a n) p || has_whole (at_name b n) p) ≡ true = wholes (at_name a n) (at_name b n) (at_name c n) (λ part q. j part (n ∷ q)) p (and_right (not (a Covered [] || b Covered [])) (has_whole (at_name c n) p) start) in
-        either_whole (a Covered []) (b Covered []) (has_whole (at_name a n) p) (has_whole (at_name b n) p) (and_swap (not (a Covered [] || b Covered [])) (has_whole (at_name c n) p) (has_whole (at_name a n) p || has_whole (at_name b n) p) start below)
+        let start : (not (a Covered [] || b Covered []) && has_whole (at_name c n) p) ≡ true =
+        sym (ap (λ x. not x && has_whole (at_name c n) p) (j Covered [])) ∙ t in
+        let below : (has_whole (at_name a n) p || has_whole (at_name b n) p) ≡ true =
+        wholes (at_name a n) (at_name b n) (at_name c n) (λ part q. j part (n ∷ q)) p
+        (and_right (not (a Covered [] || b Covered [])) (has_whole (at_name c n) p) start) in
+        either_whole (a Covered []) (b Covered []) (has_whole (at_name a n) p) (has_whole (at_name b n) p)
+        (and_swap (not (a Covered [] || b Covered [])) (has_whole (at_name c n) p) (has_whole (at_name a n) p || has_whole (at_name b n) p) start below)

@@ -15,7 +15,8 @@ use Rattle.std.proofs.lemmas.Map.Text.{btree_map_updates_text}
 use Rattle.fast_check_names.specs.declared.lattice.named_subset.Exports.{Exports}
 use Rattle.fast_check_names.specs.declared.lattice.named_subset.Exports.TheVariants.{Subset}
 use Rattle.fast_check_names.specs.declared.lattice.named_subset.NamedSubset.{NamedSubset, out-NamedSubset}
-use Rattle.fast_check_names.specs.Names.{Name, Names, Path, NameSet, Puts, paths, paths_below, paths_at, named, whole, whole_below, IsSame, IsJoin, IsJoined, IsJoinBelow, is_touched}
+use Rattle.fast_check_names.specs.Names.{Name, Names, Path, NameSet, Puts, paths, paths_below, paths_at, named, whole, whole_below, IsSame, IsJoin}
+use Rattle.fast_check_names.specs.Names.{IsJoined, IsJoinBelow, is_touched}
 use Rattle.fast_check_names.specs.Paths.{made, paths_made, paths_made_nil, paths_opened, paths_opened_nil, below_subset, below_subset_nil}
 use Rattle.fast_check_names.proofs.Build.{Entry}
 use Rattle.fast_check_names.proofs.Sets.{of_join}
@@ -30,15 +31,18 @@ on_err (Err e) p = p
 pub same_entries : (s : NamedSubset) (m' : Names) → m'.entries ≡ (out-NamedSubset s).names.entries → IsSame (paths (made m')) (paths s)
 same_entries s m' e part [] = paths_made_nil m' part ∙ sym (paths_opened_nil s part)
 same_entries s m' e part (n ∷ q) =
-    paths_made m' n part q ∙ (ap (λ (es : List Entry). paths_at (lookup (λ k. is_at (slice_cmp nat_cmp n) (string_bytes k)) es) part q) e ∙ sym (paths_opened s n part q))
+    paths_made m' n part q ∙ (ap (λ (es : List Entry). paths_at (lookup (λ k. is_at (slice_cmp nat_cmp n) (string_bytes k)) es) part q) e ∙
+    sym (paths_opened s n part q))
 
 pub puts_inserted : (m m' : Names) (k : String Global) (x : Exports) → tree.Updates string_cmp m m' k (Some x) → Puts (string_bytes k) x m m'
 puts_inserted m m' k x u = btree_map_updates_text (string_bytes k) m m' (Some x) u
 
-module _ (m m' : Names) (bs name : List ℕ) (e : bs ≡ name) (w : Exports) (writes : tree.WritesThrough string_cmp (λ k. slice_cmp nat_cmp bs (string_bytes k)) m w m') where
+module _ (m m' : Names) (bs name : List ℕ) (e : bs ≡ name) (w : Exports)
+    (writes : tree.WritesThrough string_cmp (λ k. slice_cmp nat_cmp bs (string_bytes k)) m w m') where
   -- what is written through a loan stands under the name
   pub puts_written : (x : Exports) → Some x ≡ get_by_text m bs → Puts name w m m'
-  puts_written x found = subst (λ (b : List ℕ). Puts b w m m') e (btree_map_updates_text bs m m' (Some w) (writes.3 (subst (λ (o : Option Exports). IsSome o) found refl)))
+  puts_written x found = subst (λ (b : List ℕ). Puts b w m m') e
+      (btree_map_updates_text bs m m' (Some w) (writes.3 (subst (λ (o : Option Exports). IsSome o) found refl)))
 
   -- what stood there, written back, changes nothing
   pub kept_written : Some w ≡ get_by_text m bs → m'.entries ≡ m.entries
@@ -56,11 +60,13 @@ pub joined : (a b c : NameSet) → IsJoin a b c → IsJoined a b c
 joined a b c j = record { join = j; of_either = of_join a b c j }
 
 -- one name joined by f
-pub joined_put : (s : NamedSubset) (m' : Names) (n : Name) (f : NameSet) (z : Exports) → Puts n z (out-NamedSubset s).names m' → IsJoin (paths_at (get_by_text (out-NamedSubset s).names n)) f (paths_below z) → IsJoined (paths s) (named n f) (paths (made m'))
+pub joined_put : (s : NamedSubset) (m' : Names) (n : Name) (f : NameSet) (z : Exports) → Puts n z (out-NamedSubset s).names m' →
+    IsJoin (paths_at (get_by_text (out-NamedSubset s).names n)) f (paths_below z) → IsJoined (paths s) (named n f) (paths (made m'))
 joined_put s m' n f z now j = joined (paths s) (named n f) (paths (made m')) (join_put s m' n f z now j)
 
 -- below a name, a subset joined by a path
-pub joined_path : (o j : NamedSubset) (n : Name) (p : Path) → IsJoin (paths o) (whole n p) (paths j) → IsJoined (paths_below (Subset o)) (whole_below (n ∷ p)) (paths_below (Subset j))
+pub joined_path : (o j : NamedSubset) (n : Name) (p : Path) → IsJoin (paths o) (whole n p) (paths j) →
+    IsJoined (paths_below (Subset o)) (whole_below (n ∷ p)) (paths_below (Subset j))
 joined_path o j n p h = joined (paths_below (Subset o)) (whole_below (n ∷ p)) (paths_below (Subset j)) go
   where
     go : IsJoin (paths_below (Subset o)) (whole_below (n ∷ p)) (paths_below (Subset j))

@@ -4,9 +4,10 @@ use Rattle.std.specs.Str.{bytes_eq}
 use Rattle.fast_check_names.specs.declared.lattice.named_subset.NamedSubset.{NamedSubset}
 use Rattle.fast_check_names.specs.declared.lattice.imported_exports.ImportedExports.{ImportedExports}
 use Rattle.fast_check_names.specs.declared.lattice.imported_exports.ImportedExports.TheVariants.{Star, StarWithDefault, Subset}
-use Rattle.fast_check_names.specs.declared.package.FileDepName.{FileDepName}
-use Rattle.fast_check_names.specs.declared.package.FileDepName.TheVariants.{Star as StarDep, Name as NameDep}
-use Rattle.fast_check_names.specs.Names.{Name, Path, Touched, NameSet, paths, nothing, whole, has_subset, has_whole, IsSame, IsBelow, IsJoin, HasMore, IsDifference}
+use Rattle.fast_check_names.specs.declared.lattice.file_dep_name.FileDepName.{FileDepName}
+use Rattle.fast_check_names.specs.declared.lattice.file_dep_name.FileDepName.TheVariants.{Star as StarDep, Name as NameDep}
+use Rattle.fast_check_names.specs.Names.{Name, Path, Touched, NameSet, paths, nothing, whole, has_subset, has_whole, IsSame, IsBelow, IsJoin, HasMore}
+use Rattle.fast_check_names.specs.Names.{IsDifference}
 
 abbrev pub default_name : Name
 default_name = codes "default"
@@ -66,7 +67,8 @@ IsAnswer Star new answer =
     (IsTrue (imported new Touched (default_name ∷ [])) → IsDefaultAlone answer) × (imported new Touched (default_name ∷ []) ≡ false → answer ≡ None)
 IsAnswer (Subset s) StarWithDefault answer = answer ≡ Some StarWithDefault
 IsAnswer (Subset s) Star answer =
-    (IsTrue (has_subset (paths s) (default_name ∷ [])) → answer ≡ Some StarWithDefault) × (has_subset (paths s) (default_name ∷ []) ≡ false → answer ≡ Some Star)
+    (IsTrue (has_subset (paths s) (default_name ∷ [])) → answer ≡ Some StarWithDefault) ×
+    (has_subset (paths s) (default_name ∷ []) ≡ false → answer ≡ Some Star)
 IsAnswer (Subset s) (Subset t) answer = IsRest s t answer
 
 -- the single things that a value demands: all names but `default`, all names, a path as a subset, or a path whole
@@ -88,7 +90,8 @@ is_star Star = true
 is_star StarWithDefault = true
 is_star (Subset s) = false
 
--- a demand that stands for several: where one of the two is a star, and one of them demands `default` or something below it, `default` whole and all names follow
+-- a demand that stands for several: where one of the two is a star, and one of them demands `default` or something below it, `default`
+-- whole and all names follow
 pub record IsWidened (old new : ImportedExports) (demand : NameDemand) : Type 0 where
   pub widens_to : (demand ≡ whole_at (default_name ∷ [])) ⊎ (demand ≡ each_name)
   pub star : IsTrue (is_star old || is_star new)

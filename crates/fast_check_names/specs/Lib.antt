@@ -1,8 +1,5 @@
-pub mod Package
-pub mod PackageOrder
 pub mod Names
 pub mod Imports
-pub mod Traces
 pub mod Equality
 pub mod Paths
 pub mod Shapes

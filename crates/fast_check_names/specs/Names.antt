@@ -2,7 +2,8 @@
 --
 -- A path is a list of names. A set of demanded names is two sets of nonempty paths. The touched ones are
 -- closed under nonempty beginnings. The covered ones are closed under longer paths, and all of them are touched.
-use Rattle.std.specs.Prelude.{ℕ, ◌≡◌, ◌≢◌, AllPairs, ◌↔◌, Bool, true, false, ◌&&◌, ◌||◌, not, List, [], ◌∷◌, ◌++◌, map, Option, Some, None, IsTrue, String, string_bytes, cond}
+use Rattle.std.specs.Prelude.{ℕ, ◌≡◌, ◌≢◌, AllPairs, ◌↔◌, Bool, true, false, ◌&&◌, ◌||◌, not, List, [], ◌∷◌, ◌++◌, map, Option, Some, None, IsTrue}
+use Rattle.std.specs.Prelude.{String, string_bytes, cond}
 use Rattle.std.specs.Map.{lookup}
 use Rattle.std.specs.Str.{bytes_eq}
 use Rattle.std.specs.declared.alloc.Global.{Global}

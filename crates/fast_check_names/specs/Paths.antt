@@ -9,25 +9,33 @@ use Rattle.std.specs.declared.alloc.Global.{Global}
 use Rattle.fast_check_names.specs.declared.lattice.named_subset.Exports.{Exports, out-Exports, roll-Exports, map-Exports, fold-roll-Exports, fold_out-Exports}
 use Rattle.fast_check_names.specs.declared.lattice.named_subset.Exports.TheVariants.{All, Subset, rolls-All, rolls-Subset}
 use Rattle.fast_check_names.specs.declared.lattice.named_subset.Exports.TheOpen as open'
-use Rattle.fast_check_names.specs.declared.lattice.named_subset.NamedSubset.{NamedSubset, out-NamedSubset, roll-NamedSubset, map-NamedSubset, fold-roll-NamedSubset, fold_out-NamedSubset}
+use Rattle.fast_check_names.specs.declared.lattice.named_subset.NamedSubset.{NamedSubset, out-NamedSubset, roll-NamedSubset, map-NamedSubset}
+use Rattle.fast_check_names.specs.declared.lattice.named_subset.NamedSubset.{fold-roll-NamedSubset, fold_out-NamedSubset}
 use Rattle.fast_check_names.specs.declared.lattice.named_subset.Exports.TheOpen.{Exports-F, NamedSubset-F}
-use Rattle.fast_check_names.specs.Names.{Name, Path, Part, Touched, is_touched, NameSet, paths, paths_below, under, named_step, exports_step, paths_at, everything, subset_of, IsSame, Names}
+use Rattle.fast_check_names.specs.Names.{Name, Path, Part, Touched, is_touched, NameSet, paths, paths_below, under, named_step, exports_step}
+use Rattle.fast_check_names.specs.Names.{paths_at, everything, subset_of, IsSame, Names}
 
-paths_roll : (x : NamedSubset-F Exports NamedSubset) (part : Part) (p : Path) → paths (roll-NamedSubset x) part p ≡ named_step (map-NamedSubset Exports NamedSubset NameSet NameSet paths_below paths x) part p
+paths_roll : (x : NamedSubset-F Exports NamedSubset) (part : Part) (p : Path) →
+    paths (roll-NamedSubset x) part p ≡ named_step (map-NamedSubset Exports NamedSubset NameSet NameSet paths_below paths x) part p
 paths_roll x part p = ap (λ (f : NameSet). f part p) (fold-roll-NamedSubset NameSet NameSet exports_step named_step x)
 
-paths_out : (s : NamedSubset) (part : Part) (p : Path) → paths s part p ≡ named_step (map-NamedSubset Exports NamedSubset NameSet NameSet paths_below paths (out-NamedSubset s)) part p
+paths_out : (s : NamedSubset) (part : Part) (p : Path) →
+    paths s part p ≡ named_step (map-NamedSubset Exports NamedSubset NameSet NameSet paths_below paths (out-NamedSubset s)) part p
 paths_out s part p = ap (λ (f : NameSet). f part p) (fold_out-NamedSubset NameSet NameSet exports_step named_step s)
 
-pub below_roll : (x : Exports-F Exports NamedSubset) (part : Part) (p : Path) → paths_below (roll-Exports x) part p ≡ exports_step (map-Exports Exports NamedSubset NameSet NameSet paths_below paths x) part p
+pub below_roll : (x : Exports-F Exports NamedSubset) (part : Part) (p : Path) →
+    paths_below (roll-Exports x) part p ≡ exports_step (map-Exports Exports NamedSubset NameSet NameSet paths_below paths x) part p
 below_roll x part p = ap (λ (f : NameSet). f part p) (fold-roll-Exports NameSet NameSet exports_step named_step x)
 
-found_mapped : (test : String Global → Bool) (part : Part) (q : Path) (es : List (String Global × Exports)) → under (lookup test (map (λ e. (e.0, paths_below e.1)) es)) part q ≡ paths_at (lookup test es) part q
+found_mapped : (test : String Global → Bool) (part : Part) (q : Path) (es : List (String Global × Exports)) →
+    under (lookup test (map (λ e. (e.0, paths_below e.1)) es)) part q ≡ paths_at (lookup test es) part q
 found_mapped test part q [] = refl
 found_mapped test part q (e ∷ es) =
-    elim (test e.0) as (λ b. under (cond b (Some (paths_below e.1)) (lookup test (map (λ f. (f.0, paths_below f.1)) es))) part q ≡ paths_at (cond b (Some e.1) (lookup test es)) part q) [ true ↦ refl | false ↦ found_mapped test part q es ]
+    elim (test e.0) as (λ b. under (cond b (Some (paths_below e.1)) (lookup test (map (λ f. (f.0, paths_below f.1)) es))) part q ≡ paths_at
+    (cond b (Some e.1) (lookup test es)) part q) [ true ↦ refl | false ↦ found_mapped test part q es ]
 
-mapped : (x : NamedSubset-F Exports NamedSubset) (n : Name) (part : Part) (q : Path) → under (get_by_text (map-NamedSubset Exports NamedSubset NameSet NameSet paths_below paths x).names n) part q ≡ paths_at (get_by_text x.names n) part q
+mapped : (x : NamedSubset-F Exports NamedSubset) (n : Name) (part : Part) (q : Path) →
+    under (get_by_text (map-NamedSubset Exports NamedSubset NameSet NameSet paths_below paths x).names n) part q ≡ paths_at (get_by_text x.names n) part q
 mapped x n part q = found_mapped (λ k. is_at (slice_cmp nat_cmp n) (string_bytes k)) part q x.names.entries
 
 abbrev pub made : Names → NamedSubset

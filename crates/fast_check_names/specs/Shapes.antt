@@ -10,11 +10,13 @@ use Rattle.fast_check_names.specs.Names.{Name, IsNameSet, Path, Part, Touched, C
 use Rattle.fast_check_names.specs.Paths.{touched_below, paths_opened}
 
 -- what is covered itself covers all
-all_shape : (x : Exports-F Exports NamedSubset) → exports_step (map-Exports Exports NamedSubset NameSet NameSet paths_below paths x) Covered [] ≡ true → (part : Part) (q : Path) → exports_step (map-Exports Exports NamedSubset NameSet NameSet paths_below paths x) part q ≡ true
+all_shape : (x : Exports-F Exports NamedSubset) → exports_step (map-Exports Exports NamedSubset NameSet NameSet paths_below paths x) Covered [] ≡ true →
+    (part : Part) (q : Path) → exports_step (map-Exports Exports NamedSubset NameSet NameSet paths_below paths x) part q ≡ true
 all_shape open'.All h part q = refl
 all_shape (open'.Subset s) h part q = absurd (false≢true h)
 
-pub opened : (x : Exports) (part : Part) (q : Path) → paths_below x part q ≡ exports_step (map-Exports Exports NamedSubset NameSet NameSet paths_below paths (out-Exports x)) part q
+pub opened : (x : Exports) (part : Part) (q : Path) →
+    paths_below x part q ≡ exports_step (map-Exports Exports NamedSubset NameSet NameSet paths_below paths (out-Exports x)) part q
 opened x part q = ap (λ (f : NameSet). f part q) (fold_out-Exports NameSet NameSet exports_step named_step x)
 
 pub all_below : (o : Option Exports) → paths_at o Covered [] ≡ true → (part : Part) (q : Path) → paths_at o part q ≡ true
@@ -27,7 +29,10 @@ nothing_below None h part q = refl
 nothing_below (Some x) h part q = absurd (false≢true (sym h ∙ touched_below x))
 
 -- a fact of a longer path, from the same of the subset that stands there
-deeper : (x : Exports-F Exports NamedSubset) (part other : Part) (p r : Path) (n : Name) → ((s : NamedSubset) → paths s part (n ∷ p) ≡ true → paths s other (n ∷ r) ≡ true) → exports_step (map-Exports Exports NamedSubset NameSet NameSet paths_below paths x) part (n ∷ p) ≡ true → exports_step (map-Exports Exports NamedSubset NameSet NameSet paths_below paths x) other (n ∷ r) ≡ true
+deeper : (x : Exports-F Exports NamedSubset) (part other : Part) (p r : Path) (n : Name) →
+    ((s : NamedSubset) → paths s part (n ∷ p) ≡ true → paths s other (n ∷ r) ≡ true) →
+    exports_step (map-Exports Exports NamedSubset NameSet NameSet paths_below paths x) part (n ∷ p) ≡ true →
+    exports_step (map-Exports Exports NamedSubset NameSet NameSet paths_below paths x) other (n ∷ r) ≡ true
 deeper open'.All part other p r n f h = refl
 deeper (open'.Subset s) part other p r n f h = f s h
 
@@ -53,5 +58,6 @@ closed_longer (n ∷ p) q part (Some x) h =
 pub own_set : (s : NamedSubset) → IsNameSet (paths s)
 own_set s n = record {
   beginnings = λ p q t. paths_opened s n Touched p ∙ closed_begin p q (get_by_text (out-NamedSubset s).names n) (sym (paths_opened s n Touched (p ++ q)) ∙ t);
-  longer = λ p q part t. paths_opened s n part (p ++ q) ∙ closed_longer p q part (get_by_text (out-NamedSubset s).names n) (sym (paths_opened s n Covered p) ∙ t);
+  longer = λ p q part t. paths_opened s n part (p ++ q) ∙
+      closed_longer p q part (get_by_text (out-NamedSubset s).names n) (sym (paths_opened s n Covered p) ∙ t);
 }

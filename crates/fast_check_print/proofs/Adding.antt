@@ -16,14 +16,16 @@ adds-then ts us a b c first second = record {
   tokens_now = second.tokens_now ∙ ap (λ xs. xs ++ us) first.tokens_now ∙ append_assoc a.tokens ts us;
 }
 
-pub adds-last : {E : Type 0} (r : Result (Unit {0}) E) (ts us : List Token) (a b c : Written) → Adds ts a b → OnOk r (Adds us b c) → OnOk r (Adds (ts ++ us) a c)
+pub adds-last : {E : Type 0} (r : Result (Unit {0}) E) (ts us : List Token) (a b c : Written) → Adds ts a b → OnOk r (Adds us b c) →
+    OnOk r (Adds (ts ++ us) a c)
 adds-last r ts us a b c first last = on_ok_weaker r (adds-then ts us a b c first) last
 
 -- where a call went well
 pub adds-ok : {E : Type 0} (r : Result (Unit {0}) E) (x : Unit {0}) (ts : List Token) (a b : Written) → r ≡ Ok x → OnOk r (Adds ts a b) → Adds ts a b
 adds-ok r x ts a b e h = subst (λ r. OnOk r (Adds ts a b)) e h
 
-pub adds-token_ok : {E : Type 0} (r : Result (Unit {0}) E) (x : Unit {0}) (old new : Written) (t : Token) → r ≡ Ok x → Writes r old new t → Adds (t ∷ []) old new
+pub adds-token_ok : {E : Type 0} (r : Result (Unit {0}) E) (x : Unit {0}) (old new : Written) (t : Token) → r ≡ Ok x → Writes r old new t →
+    Adds (t ∷ []) old new
 adds-token_ok r x old new t e w = adds-ok r x (t ∷ []) old new e (adds-token r old new t w)
 
 -- after the old tokens, the rest still has to come for the whole to stand there

@@ -18,10 +18,12 @@ variant_names-choice zero kind choice some = absurd (omega arith)
 variant_names-choice (suc levels) kind choice some = let one_less : suc levels - 1 ≡ levels = omega arith in rw one_less refl
 
 -- a value under names: their objects are opened, the value is written, and as many are closed
-pub tokens-under : (names : List (List ℕ)) (value : Data) → tokens_of (under names value) ≡ opening names ++ (tokens_of value ++ replicate (length names) end_object)
+pub tokens-under : (names : List (List ℕ)) (value : Data) → tokens_of (under names value) ≡ opening names ++
+    (tokens_of value ++ replicate (length names) end_object)
 tokens-under [] value = sym (append-nil (tokens_of value))
 tokens-under (name ∷ names) value =
     ap (λ ts. begin_object ∷ key name ∷ ts)
     (ap (λ ts. ts ++ end_object ∷ []) (tokens-under names value)
     ∙ (append_assoc (opening names) (tokens_of value ++ replicate (length names) end_object) (end_object ∷ [])
-    ∙ ap (λ ts. opening names ++ ts) (append_assoc (tokens_of value) (replicate (length names) end_object) (end_object ∷ []) ∙ ap (λ ts. tokens_of value ++ ts) (replicate_more (length names) end_object ∙ simp unary_clauses refl))))
+    ∙ ap (λ ts. opening names ++ ts) (append_assoc (tokens_of value) (replicate (length names) end_object) (end_object ∷ []) ∙
+    ap (λ ts. tokens_of value ++ ts) (replicate_more (length names) end_object ∙ simp unary_clauses refl))))

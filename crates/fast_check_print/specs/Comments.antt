@@ -16,7 +16,8 @@ kind_text Block = codes "Block"
 
 -- an object of the members kind, span and text
 abbrev pub comment_data : Comment → Data
-comment_data comment = object (member (codes "kind") (string (kind_text comment.kind)) (member (codes "span") (range_data comment.span) (member (codes "text") (string comment.text) no_members)))
+comment_data comment = object (member (codes "kind") (string (kind_text comment.kind))
+    (member (codes "span") (range_data comment.span) (member (codes "text") (string comment.text) no_members)))
 
 -- an array of comments
 abbrev pub comment_list_data : List Comment → Data

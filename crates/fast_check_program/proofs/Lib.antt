@@ -1,3 +1,1 @@
-pub mod Given
-mod Reports
-mod Words
+mod Refused

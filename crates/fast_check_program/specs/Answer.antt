@@ -1,10 +1,9 @@
 -- The answers of `transform`, as JSON.
-use Rattle.std.specs.Prelude.{◌≡◌, ◌≢◌, ℕ, List, [], ◌++◌, Bool, map, codes, Option, Some, None, Result, Ok, Err, Vec, ◌⊎◌}
+use Rattle.std.specs.Prelude.{◌≡◌, ◌≢◌, ℕ, List, [], ◌++◌, Bool, map, codes, Result, Ok, Err, Vec, ◌⊎◌}
 use Rattle.std.specs.declared.alloc.Global.{Global}
-use Rattle.serde_json.specs.Data.{Data, null, boolean, string, array, object, no_members, member}
+use Rattle.serde_json.specs.Data.{Data, boolean, string, array, object, no_members, member}
 use Rattle.serde_json.specs.View.{items_of}
 use Rattle.serde_json.specs.Written.{compact_text}
-use Rattle.url.specs.Parts.{Parts, serialize}
 use Rattle.fast_check_syntax.specs.declared.kind.Kind.TheVariants as kinds
 use Rattle.fast_check_syntax.specs.declared.tree.Tree.{Tree}
 use Rattle.fast_check_comments.specs.declared.comments.Comments.{Comments}
@@ -13,17 +12,13 @@ use Rattle.fast_check_print.specs.Comments.{comments_data}
 use Rattle.fast_check_print.specs.Pieces.{range_data, single}
 use Rattle.fast_check_print.specs.Printing.{json_of}
 use Rattle.fast_check_tables.specs.declared.diagnostics.FastCheckDiagnostic.{FastCheckDiagnostic}
-use Rattle.fast_check_tables.specs.declared.diagnostics.range.FastCheckDiagnosticRange.{FastCheckDiagnosticRange}
-use Rattle.fast_check_tables.specs.declared.diagnostics.report.DiagnosticLevel.{DiagnosticLevel}
-use Rattle.fast_check_tables.specs.declared.diagnostics.report.DiagnosticLevel.TheVariants as levels
-use Rattle.fast_check_tables.specs.Diagnostic.{range_of, specifier_of, report_of}
 use Rattle.fast_check_tables.specs.EsModule.{EsModule}
 use Rattle.fast_check_tables.specs.PublicRanges.{PublicRanges}
-use Rattle.fast_check_tables.specs.Report.{Report}
 use Rattle.fast_check_transform.specs.declared.transformer.FastCheckModule.{FastCheckModule}
 use Rattle.fast_check_transform.specs.declared.transformer.StaticSource.{StaticSource}
 use Rattle.fast_check_transform.specs.Transform.{skeleton, comments, faults, told, AreDiagnosticsOf}
-use Rattle.fast_check_program.specs.Refusal.{line_end}
+use Rattle.fast_check_requests.specs.Refusal.{line_end}
+use Rattle.fast_check_answers.specs.Diagnostics.{diagnostics_array}
 
 -- ---- a skeleton
 
@@ -46,35 +41,6 @@ module_data comments sources program =
     (member (codes "module_info") (sources_data sources)
     (member (codes "program") (json_of program (Struct kinds.Module)) no_members)))
 
--- ---- diagnostics
-
-abbrev pub text_or_null : Option (List ℕ) → Data
-text_or_null None = null
-text_or_null (Some text) = string text
-
-abbrev pub place_or_null : Option FastCheckDiagnosticRange → Data
-place_or_null None = null
-place_or_null (Some place) = range_data place.range
-
-abbrev pub level_text : DiagnosticLevel → List ℕ
-level_text levels.Error = codes "Error"
-level_text levels.Warning = codes "Warning"
-
--- an object of what a reader is told of it
-abbrev pub report_data : Report → Option FastCheckDiagnosticRange → Parts → Data
-report_data report place specifier =
-    object (member (codes "code") (string report.code)
-    (member (codes "docs_url") (text_or_null report.docs_url)
-    (member (codes "hint") (text_or_null report.hint)
-    (member (codes "info") (array (items_of (map string report.info)))
-    (member (codes "level") (string (level_text report.level))
-    (member (codes "message") (string report.message)
-    (member (codes "range") (place_or_null place)
-    (member (codes "specifier") (string (serialize specifier)) no_members))))))))
-
-unfoldable pub diagnostic_data : FastCheckDiagnostic → Data
-diagnostic_data d = report_data (report_of d) (range_of d) (specifier_of d)
-
 -- ---- the answer
 
 -- the skeleton, or the diagnostics in their order
@@ -82,7 +48,7 @@ abbrev pub skeleton_data : Comments → List StaticSource → Tree → Data
 skeleton_data comments sources program = single (codes "Ok") (module_data comments sources program)
 
 abbrev pub diagnostics_data : List FastCheckDiagnostic → Data
-diagnostics_data ds = single (codes "Err") (array (items_of (map diagnostic_data ds)))
+diagnostics_data ds = single (codes "Err") (diagnostics_array ds)
 
 abbrev pub answer_data : Result FastCheckModule (Vec FastCheckDiagnostic Global) → Data
 answer_data (Ok made) = skeleton_data made.comments made.module_info.sources.items made.program

@@ -1,23 +1,18 @@
 -- What the program does with its words and its file.
-use Rattle.std.specs.Prelude.{◌≡◌, ℕ, ◌<◌, IsTrue, List, [], ◌∷◌, Bool, true, false, Option, Some, None, codes, IsUtf8, ◌⊎◌}
-use Rattle.std.specs.Str.{bytes_eq}
+use Rattle.std.specs.Prelude.{◌≡◌, ℕ, ◌<◌, IsTrue, List, true, false, Option, Some, None, IsUtf8, ◌⊎◌}
 use Rattle.std.specs.Io.KnownBytes.{Appends}
 use Rattle.serde_json.specs.Data.{Data}
 use Rattle.serde_json.specs.Read.{read}
 use Rattle.fast_check_tables.specs.EsModule.{EsModule}
 use Rattle.fast_check_tables.specs.PublicRanges.{PublicRanges}
 use Rattle.fast_check_transform.specs.Transform.{IsCarried}
-use Rattle.fast_check_program.specs.declared.ending.Ending.{Ending}
-use Rattle.fast_check_program.specs.declared.refusal.Refusal.{Refusal}
-use Rattle.fast_check_program.specs.declared.refusal.Refusal.TheVariants as refusals
+use Rattle.fast_check_requests.specs.declared.ending.Ending.{Ending}
+use Rattle.fast_check_requests.specs.declared.refusal.Refusal.{Refusal}
+use Rattle.fast_check_requests.specs.declared.refusal.Refusal.TheVariants as refusals
+use Rattle.fast_check_requests.specs.Call.{is_call, File, OfFile}
+use Rattle.fast_check_requests.specs.Input.{IsNotJson}
+use Rattle.fast_check_requests.specs.Request.{Request, request_of, IsModule, IsPublic}
 use Rattle.fast_check_program.specs.Answer.{IsAnswer}
-use Rattle.fast_check_program.specs.Refusal.{line_of, status_of}
-use Rattle.fast_check_program.specs.Request.{Request, request_of, IsModule, IsPublic}
-
--- the words are a command that is there, and one file
-abbrev pub is_call : List (List ℕ) → Bool
-is_call (command ∷ file ∷ []) = bytes_eq command (codes "transform")
-is_call _ = false
 
 -- ---- the bytes of the file
 
@@ -34,10 +29,6 @@ pub record IsAnswerTo (bytes : List ℕ) (line : List ℕ) (status : ℕ) : Type
   pub is_public : IsPublic request public
   pub carried : IsCarried info
   pub answer : IsAnswer info public request.first line status
-
--- they are no JSON value
-abbrev pub IsNotJson : List ℕ → Type 0
-IsNotJson bytes = IsUtf8 bytes → read bytes ≡ None
 
 -- a request of a module that is not taken yet
 pub record IsNotCarried (value : Data) : Type 0 where
@@ -61,23 +52,7 @@ RefusesBytes refusals.BadForm bytes = IsBadForm bytes
 RefusesBytes refusals.OutOfMemory bytes = Unit {0}
 RefusesBytes _ bytes = ⊥
 
--- ---- the file
-
--- nothing where it does not open, else its bytes, where they are known
-abbrev pub File : Type 0
-File = Option (Option (List ℕ))
-
--- it opens, and this holds of its bytes; of some bytes, where they are not known
-abbrev pub OfFile : (List ℕ → Type 0) → File → Type 0
-OfFile P None = ⊥
-OfFile P (Some None) = (bytes : List ℕ) × P bytes
-OfFile P (Some (Some bytes)) = P bytes
-
--- why it is not read: any reader may fail, and memory may run out once there is one
-abbrev pub IsReadRefusal : File → Refusal → Type 0
-IsReadRefusal file refusals.Unreadable = Unit {0}
-IsReadRefusal file refusals.OutOfMemory = OfFile (λ bytes. Unit {0}) file
-IsReadRefusal file _ = ⊥
+-- ---- the words and the file
 
 -- why the words or the file are refused: the words before all else
 abbrev pub RefusesCall : List (List ℕ) → File → Refusal → Type 0
@@ -93,10 +68,6 @@ abbrev pub HasAnswer : List (List ℕ) → File → Type 0
 HasAnswer words file = (line : List ℕ) × (status : ℕ) × AnswersCall words file line status
 
 -- ---- the streams: what is known of the bytes that one held and holds then
-
--- the refusal gives the status, and its line is what is written, where that is taken
-abbrev pub IsTold : Refusal → Option (List ℕ) → Option (List ℕ) → Ending → Type 0
-IsTold refusal old new ending = (ending.status ≡ status_of refusal) × (IsTrue ending.is_told → Appends old new (line_of refusal))
 
 -- the line of an answer is what is written
 abbrev pub IsAnswered : List (List ℕ) → File → Option (List ℕ) → Option (List ℕ) → Ending → Type 0

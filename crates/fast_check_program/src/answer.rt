@@ -4,7 +4,7 @@ ghost use Rattle.std.specs.Prelude.{◌≡◌, IfOk, OnOk};
 ghost use Rattle.fast_check_print.specs.Writing.{WritesData};
 ghost use Rattle.fast_check_program.specs.Answer.{answer_data, line_of_data, module_data, sources_data, source_data};
 
-use crate::diagnostic::write_diagnostics;
+use fast_check_answers::write_diagnostics;
 use fast_check_print::{write_comments, write_range, write_tree};
 use fast_check_schema::Form;
 use fast_check_syntax::Kind;

@@ -1,18 +1,17 @@
 ghost use Rattle.std.specs.Prelude.{◌≡◌, ◌<◌, ◌≤◌, map, option_map, IfOk, IfErr, false, ◌⊎◌};
 ghost use Rattle.std.specs.String.{string_bytes};
 ghost use Rattle.fast_check_transform.specs.Transform.{IsCarried};
+ghost use Rattle.fast_check_requests.specs.Call.{is_call};
+ghost use Rattle.fast_check_requests.specs.Refusal.{IsTold};
 ghost use Rattle.fast_check_program.specs.Answer.{IsAnswer};
-ghost use Rattle.fast_check_program.specs.Program.{is_call, IsAnswerTo, RefusesBytes, OfFile, IsReadRefusal, RefusesCall, AnswersCall, HasAnswer, IsTold, IsAnswered};
+ghost use Rattle.fast_check_program.specs.Program.{IsAnswerTo, RefusesBytes, RefusesCall, AnswersCall, HasAnswer, IsAnswered};
 
 use crate::answer::print_line;
-use crate::ending::Ending;
-use crate::refusal::Refusal;
-use crate::request::{TransformRequest, read_transform_request};
-use fast_check_read::read_input;
+use fast_check_requests::{Ending, Refusal, TransformRequest, is_call, read_bytes, read_request};
 use fast_check_tables::ModuleGraph;
 use fast_check_transform::{TransformOptions, is_carried, transform};
 use std::alloc::{AllocError, Global};
-use std::io::{ErrorKind, Read, Write};
+use std::io::{Read, Write};
 
 /// A line for standard output, and the status that goes with it: 0 where all modules have trees, 1 where there are
 /// diagnostics.
@@ -24,7 +23,7 @@ struct Answer {
 
 /// Runs the program with these words on an input, which is none where its file does not open. The status is 0 where all
 /// modules have trees, 1 where there are diagnostics, each with one line of JSON to `out`; 2 where the words or the input are
-/// refused, or `out` does not take its line, and 3 where memory ran out, each with one line to `err`.
+/// refused, 3 where memory ran out, and 4 where `out` does not take its line, each with one line to `err`.
 pub fn run<R: Read + Drop, O: Write, E: Write>(
     alloc: Global,
     words: &[String],
@@ -67,38 +66,12 @@ fn respond<R: Read + Drop>(
     answer_transform(alloc, read_bytes(alloc, input)?.as_slice())
 }
 
-/// Whether the words are a command that is there, and one file.
-fn is_call(words: &[String]) -> bool
-    ensures { result ≡ is_call (map string_bytes words.now) }
-{
-    match words {
-        [command, _] => command.as_str() == "transform",
-        _ => false,
-    }
-}
-
-/// The bytes of an input.
-fn read_bytes<R: Read + Drop>(alloc: Global, input: Option<R>) -> Result<Vec<u8>, Refusal>
-    ensures bytes { IfOk result (λ bytes. OfFile (λ known. bytes.items ≡ known) (option_map R.remaining input)) }
-    ensures refusal { IfErr result (λ refusal. IsReadRefusal (option_map R.remaining input) refusal) }
-{
-    let Some(mut input) = input else {
-        return Err(Refusal::Unreadable);
-    };
-    let mut bytes = Vec::new(alloc);
-    match input.read_to_end(&mut bytes) {
-        Ok(_) => Ok(bytes),
-        Err(error) if error.kind() == ErrorKind::OutOfMemory => Err(Refusal::OutOfMemory),
-        Err(_) => Err(Refusal::Unreadable),
-    }
-}
-
 /// The answer to the bytes of a file, or why they are refused.
 fn answer_transform(alloc: Global, bytes: &[u8]) -> Result<Answer, Refusal>
     ensures answer { IfOk result (λ answer. IsAnswerTo bytes.now answer.line.items answer.status) }
     ensures refusal { IfErr result (λ refusal. RefusesBytes refusal bytes.now) }
 {
-    let request = read_transform_request(alloc, &read_input(alloc, bytes)?)?;
+    let request = read_request(alloc, bytes)?;
     if !is_carried(&request.es_module_info) {
         return Err(Refusal::BadForm);
     }
@@ -108,7 +81,8 @@ fn answer_transform(alloc: Global, bytes: &[u8]) -> Result<Answer, Refusal>
 /// The answer to a request.
 fn answer_request(alloc: Global, request: &TransformRequest) -> Result<Answer, AllocError>
     requires { IsCarried request.now.es_module_info }
-    ensures { IfOk result (λ answer. IsAnswer request.now.es_module_info request.now.public_ranges request.now.should_error_on_first_diagnostic answer.line.items answer.status) }
+    ensures { IfOk result (λ answer. IsAnswer request.now.es_module_info request.now.public_ranges
+        request.now.should_error_on_first_diagnostic answer.line.items answer.status) }
 {
     let graph = ModuleGraph::from_parts(alloc)?;
     let options = TransformOptions {

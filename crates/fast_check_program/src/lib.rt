@@ -3,13 +3,6 @@
 
 mod answer;
 mod command;
-mod diagnostic;
-mod ending;
-mod refusal;
-mod request;
-#[cfg(test)]
-mod tests;
 
 pub use command::run;
-pub use ending::Ending;
-pub use refusal::Refusal;
+pub use fast_check_requests::{Ending, Refusal};

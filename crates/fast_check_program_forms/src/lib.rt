@@ -2,15 +2,14 @@
 //!
 //! A form reads a node where its `N` is a `Part` and its `T` a `&str`, and makes one where they are a `Tree` and an `Atom`.
 //!
-//! `of` reads a node by the places of its fields, whatever its kind is. A field that is not there is absent, false, empty or `DUMMY_SP`. `into_tree` fails only for want of memory.
+//! `of` reads a node by the places of its fields, whatever its kind is. A field that is not there is absent, false, empty or
+//! `DUMMY_SP`. `into_tree` fails only for want of memory.
 #![tactic(auto)]
 
 mod literals;
 mod module_decls;
 mod names;
 mod programs;
-#[cfg(test)]
-mod tests;
 
 pub use literals::{BigInt, Bool, JSXText, Null, Number, Regex, Str};
 pub use module_decls::{

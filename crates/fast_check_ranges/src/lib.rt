@@ -11,7 +11,9 @@ use fast_check_program_forms::{BindingIdent, ExportDefaultSpecifier, Ident};
 use fast_check_statement_forms::{ClassDecl, FnDecl};
 use fast_check_syntax::{Kind, Part, SourceRange};
 
-/// The range of a node in the source text: its span. A class declaration or expression has that of its class, a function declaration or expression that of its function, and an identifier as a pattern and a default export specifier that of the identifier. A spread has its dots' range, and any other node without a span `DUMMY_SP`.
+/// The range of a node in the source text: its span. A class declaration or expression has that of its class, a function declaration or
+/// expression that of its function, and an identifier as a pattern and a default export specifier that of the identifier. A spread has
+/// its dots' range, and any other node without a span `DUMMY_SP`.
 pub fn range_of_node(part: Part<'_>) -> SourceRange
     ensures { result ≡ range_of_node (seen part.entry) }
 {

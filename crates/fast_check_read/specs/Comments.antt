@@ -16,7 +16,8 @@ use Rattle.fast_check_read.specs.Pieces.{u32_of, pair_of, range_of_data, items_l
 
 -- "Line" or "Block"
 abbrev pub comment_kind_of : Data → Option CommentKind
-comment_kind_of value = option_and_then (λ text. if bytes_eq text (codes "Line") then Some Line else (if bytes_eq text (codes "Block") then Some Block else None)) (as_str value)
+comment_kind_of value = option_and_then (λ text. if bytes_eq text (codes "Line") then Some Line else
+    (if bytes_eq text (codes "Block") then Some Block else None)) (as_str value)
 
 -- a range that may be left out
 abbrev pub optional_range_of : Option Data → Option SourceRange
@@ -37,7 +38,8 @@ comment_list_of value = option_and_then (λ items. each comment_of (items_list i
 
 -- an array of a position and its comments
 abbrev pub entry_of : Data → Option (SourcePos × List Comment)
-entry_of value = option_and_then (λ pair. option_and_then (λ p. option_map (λ cs. (record { 0 = p }, cs)) (comment_list_of pair.1)) (u32_of pair.0)) (pair_of value)
+entry_of value = option_and_then (λ pair. option_and_then (λ p. option_map (λ cs. (record { 0 = p }, cs)) (comment_list_of pair.1)) (u32_of pair.0))
+    (pair_of value)
 
 -- the places with each entry laid in turn, so that of entries with one position the last counts
 abbrev pub laid : Places → List (SourcePos × List Comment) → Places

@@ -2,7 +2,8 @@ ghost use Rattle.std.specs.Prelude.{◌≡◌, option_map};
 ghost use Rattle.std.specs.Option.{ok_or};
 ghost use Rattle.serde_json.specs.View.{view, items_view, members_view};
 ghost use Rattle.fast_check_read.specs.Each.{Answers};
-ghost use Rattle.fast_check_read.specs.Comments.{comments_of, optional_places_of, places_of, entry_of, comment_list_of, comment_of, comment_kind_of, optional_range_of};
+ghost use Rattle.fast_check_read.specs.Comments.{comments_of, optional_places_of, places_of, entry_of, comment_list_of, comment_of, comment_kind_of};
+ghost use Rattle.fast_check_read.specs.Comments.{optional_range_of};
 
 use crate::error::ReadError;
 use crate::pieces::{read_array, read_members, read_pair, read_range, read_text, read_u32};
@@ -11,7 +12,8 @@ use fast_check_syntax::{Atom, DUMMY_SP, SourcePos, SourceRange};
 use serde_json::Value;
 use std::alloc::Global;
 
-/// The comments of an object with the members `leading` and `trailing`, each an array of positions with their comments, as `[[1, [{"kind": "Line", "span": [1, 5], "text": " a"}]]]`.
+/// The comments of an object with the members `leading` and `trailing`, each an array of positions with their comments, as
+/// `[[1, [{"kind": "Line", "span": [1, 5], "text": " a"}]]]`.
 /// Either may be left out. Of entries with one position the last counts.
 pub fn read_comments(alloc: Global, value: &Value) -> Result<Comments, ReadError>
     ensures { Answers (comments_of (view value.now)) result }

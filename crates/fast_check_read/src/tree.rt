@@ -5,7 +5,8 @@ ghost use Rattle.fast_check_syntax.specs.Shape.{list};
 ghost use Rattle.fast_check_schema.specs.Rows.{field_row};
 ghost use Rattle.fast_check_read.specs.Each.{Answers};
 ghost use Rattle.fast_check_read.specs.Pieces.{word_of};
-ghost use Rattle.fast_check_read.specs.Reading.{reading, item_readings, member_readings, tree_of, counted, option_tree, list_items, option_items, default_tree, field_tree, node_tree, choice_tree, marked_tree};
+ghost use Rattle.fast_check_read.specs.Reading.{reading, item_readings, member_readings, tree_of, counted, option_tree, list_items, option_items};
+ghost use Rattle.fast_check_read.specs.Reading.{default_tree, field_tree, node_tree, choice_tree, marked_tree};
 
 use crate::error::ReadError;
 use crate::pieces::{read_array, read_flag, read_members, read_range, read_text, read_u32};

@@ -212,7 +212,7 @@ pub static INVALID: [Field; 1] = [SPAN];
 pub static OPT_CALL: [Field; 5] = [
     SPAN,
     ("ctxt", Form::Context, Count::One),
-    ("callee", Form::Choice(Choice::Expr), Count::One),
+    ("callee", Form::Choice(Choice::Callee), Count::One),
     ("args", Form::Struct(Kind::ExprOrSpread), Count::List),
     (
         "type_args",

@@ -55,9 +55,11 @@ module _ (m : Moves) where
       pick t u false e same = nones
       pick t u true e same = same (ltb-true (height u) (height t) e)
 
-      at_lower : (t u : Tree) → (height u < height t → R (by_descent none form u) (by_descent none' form' (moved m u))) → R (given none form t u) (given none' form' (moved m t) (moved m u))
+      at_lower : (t u : Tree) → (height u < height t → R (by_descent none form u) (by_descent none' form' (moved m u))) →
+          R (given none form t u) (given none' form' (moved m t) (moved m u))
       at_lower t u same =
-          subst (λ b. R (given none form t u) (if b then by_descent none' form' (moved m u) else none')) (sym (is_lower_moved t u)) (pick t u (is_lower u t) refl same)
+          subst (λ b. R (given none form t u) (if b then by_descent none' form' (moved m u) else none')) (sym (is_lower_moved t u))
+          (pick t u (is_lower u t) refl same)
 
       limited : (n : ℕ) (t : Tree) → height t < n → R (by_descent none form t) (by_descent none' form' (moved m t))
       limited zero t h = absurd (omega arith)

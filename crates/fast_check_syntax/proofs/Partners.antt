@@ -10,7 +10,8 @@ twice-keeps = record { start_zero = refl; end_zero = refl; scope_zero = refl; sc
 abbrev Known : Pairs → ℕ → Type 0
 Known ps a = (b : ℕ) × IsPair ps a b × (partner ps a ≡ 2 * b)
 
-first : (p : ℕ × ℕ) (ps : Pairs) (a : ℕ) (t : Bool) → eqb p.0 a ≡ t → Known ps a ⊎ (partner ps a ≡ 2 * a + 1) → Known (p ∷ ps) a ⊎ (partner (p ∷ ps) a ≡ 2 * a + 1)
+first : (p : ℕ × ℕ) (ps : Pairs) (a : ℕ) (t : Bool) → eqb p.0 a ≡ t → Known ps a ⊎ (partner ps a ≡ 2 * a + 1) →
+    Known (p ∷ ps) a ⊎ (partner (p ∷ ps) a ≡ 2 * a + 1)
 first p ps a true e k = inl (p.1, inl (eqb-true p.0 a e, refl), rw e refl)
 first p ps a false e (inl (b, h, q)) = inl (b, inr h, rw e q)
 first p ps a false e (inr q) = inr (rw e q)

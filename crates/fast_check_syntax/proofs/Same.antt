@@ -19,16 +19,25 @@ number_at _ = 0
 
 module _ (r : Renaming) (ok : IsRenaming r) where
   pub range_to : (a b : SourceRange) → SameRange r a b → moved_range (partners r) a ≡ moved_range twice b
-  range_to a b q = λ i. record { start = record { 0 = to_partner r.starts ok.starts a.start.0 b.start.0 q.start i }; end = record { 0 = to_partner r.ends ok.ends a.end.0 b.end.0 q.end i } }
+  range_to a b q = λ i. record {
+    start = record { 0 = to_partner r.starts ok.starts a.start.0 b.start.0 q.start i };
+    end =
+        record { 0 = to_partner r.ends ok.ends a.end.0 b.end.0 q.end i };
+  }
 
   pub range_from : (a b : SourceRange) → moved_range (partners r) a ≡ moved_range twice b → SameRange r a b
-  range_from a b e = record { start = from_partner r.starts ok.starts a.start.0 b.start.0 (ap (λ x. x.start.0) e); end = from_partner r.ends ok.ends a.end.0 b.end.0 (ap (λ x. x.end.0) e) }
+  range_from a b e = record {
+    start = from_partner r.starts ok.starts a.start.0 b.start.0 (ap (λ x. x.start.0) e);
+    end =
+        from_partner r.ends ok.ends a.end.0 b.end.0 (ap (λ x. x.end.0) e);
+  }
 
   mutual
     pub tree_to : {t u : Tree} → SameTree r t u → moved (partners r) t ≡ moved twice u
     tree_to (s.SameTree.at {t = t} {u = u} l) = moved_out (partners r) t ∙ (ap roll-Tree (level_to l) ∙ sym (moved_out twice u))
 
-    level_to : {x y : Tree-F Tree} → SameLevel r x y → moved_level (partners r) (map-Tree Tree Tree (moved (partners r)) x) ≡ moved_level twice (map-Tree Tree Tree (moved twice) y)
+    level_to : {x y : Tree-F Tree} → SameLevel r x y →
+        moved_level (partners r) (map-Tree Tree Tree (moved (partners r)) x) ≡ moved_level twice (map-Tree Tree Tree (moved twice) y)
     level_to s.absent = refl
     level_to s.flag = refl
     level_to (s.context {a = a} {b = b} p) = ap (λ n. Tree-F.Context (record { 0 = n })) (to_partner r.scopes ok.scopes a.0 b.0 p)
@@ -52,14 +61,16 @@ module _ (r : Renaming) (ok : IsRenaming r) where
   all_from [] (u ∷ us) h e = cc
   all_from (t ∷ ts) [] h e = cc
 
-  level_from : (x y : Tree-F Tree) → OfAll From (parts_at x) → moved_level (partners r) (map-Tree Tree Tree (moved (partners r)) x) ≡ moved_level twice (map-Tree Tree Tree (moved twice) y) → SameLevel r x y
+  level_from : (x y : Tree-F Tree) → OfAll From (parts_at x) →
+      moved_level (partners r) (map-Tree Tree Tree (moved (partners r)) x) ≡ moved_level twice (map-Tree Tree Tree (moved twice) y) → SameLevel r x y
   level_from Tree-F.Absent Tree-F.Absent h e = s.absent
   level_from (Tree-F.Flag x) (Tree-F.Flag y) h e = let p : x ≡ y = cc in subst (λ z. SameLevel r (Tree-F.Flag x) (Tree-F.Flag z)) p s.flag
   level_from (Tree-F.Context x) (Tree-F.Context y) h e = s.context (from_partner r.scopes ok.scopes x.0 y.0 (ap number_at e))
   level_from (Tree-F.Text x) (Tree-F.Text y) h e = let p : x ≡ y = cc in subst (λ z. SameLevel r (Tree-F.Text x) (Tree-F.Text z)) p s.text
   level_from (Tree-F.Range x) (Tree-F.Range y) h e = s.SameLevel.range (range_from x y cc)
   level_from (Tree-F.Word x) (Tree-F.Word y) h e = let p : x ≡ y = cc in subst (λ z. SameLevel r (Tree-F.Word x) (Tree-F.Word z)) p s.word
-  level_from (Tree-F.Node k ts) (Tree-F.Node j us) h e = let p : k ≡ j = cc in subst (λ z. SameLevel r (Tree-F.Node k ts) (Tree-F.Node z us)) p (s.node (all_from ts us h cc))
+  level_from (Tree-F.Node k ts) (Tree-F.Node j us) h e = let p : k ≡ j = cc in
+      subst (λ z. SameLevel r (Tree-F.Node k ts) (Tree-F.Node z us)) p (s.node (all_from ts us h cc))
   level_from _ _ h e = cc
 
   from_parts : (t : Tree) → OfAll From (parts t) → From t

@@ -34,7 +34,8 @@ module _ {A : Type 0} (none : A) (form : Tree → (Tree → A) → A) where
   enough (suc n) zero t h g = absurd (omega arith)
   enough (suc n) (suc k) t h g = ap (form t) (fun_ext (λ u. pick u (is_lower u t) refl (enough n k u)))
     where
-      pick : (u : Tree) (b : Bool) → is_lower u t ≡ b → (height u < n → height u < k → below n u ≡ below k u) → (if b then below n u else none) ≡ (if b then below k u else none)
+      pick : (u : Tree) (b : Bool) → is_lower u t ≡ b → (height u < n → height u < k → below n u ≡ below k u) →
+          (if b then below n u else none) ≡ (if b then below k u else none)
       pick u false e same = refl
       pick u true e same = same (omega (arith, ltb-true (height u) (height t) e)) (omega (arith, ltb-true (height u) (height t) e))
 

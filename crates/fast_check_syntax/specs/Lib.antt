@@ -5,3 +5,5 @@ pub mod Descent
 pub mod Height
 pub mod Moves
 pub mod Same
+pub mod Equality
+pub mod TreeEquality

@@ -26,7 +26,9 @@ module _ {A : Type 0} (step : Tree-F (Tree × A) → A) where
   same_parts (e ∷ es) = cc (e.1, same_parts es)
 
   same_level : (y : Tree-F ((t : Tree) × ((paired step t).0 ≡ t))) →
-      map-Tree (Tree × A) Tree (λ c. c.0) (map-Tree Tree (Tree × A) (paired step) (map-Tree ((t : Tree) × ((paired step t).0 ≡ t)) Tree (λ e. e.0) y)) ≡ map-Tree ((t : Tree) × ((paired step t).0 ≡ t)) Tree (λ e. e.0) y
+      map-Tree (Tree × A) Tree (λ c. c.0)
+      (map-Tree Tree (Tree × A) (paired step) (map-Tree ((t : Tree) × ((paired step t).0 ≡ t)) Tree (λ e. e.0) y)) ≡ map-Tree
+      ((t : Tree) × ((paired step t).0 ≡ t)) Tree (λ e. e.0) y
   same_level (Tree-F.Node kind es) = ap (λ ps. Tree-F.Node kind ps) (same_parts es)
   same_level Tree-F.Absent = refl
   same_level (Tree-F.Flag x) = refl
@@ -69,7 +71,8 @@ module _ {A : Type 0} (step : Tree-F (Tree × A) → A) where
 module _ {A : Type 0} (absent : A) (form : Tree → (ℕ → A) → List A → A) where
   abbrev by_form_step : Tree-F (Tree × A) → A
   by_form_step Tree-F.Absent = absent
-  by_form_step l = form (roll-Tree (map-Tree (Tree × A) Tree (λ c. c.0) l)) (λ i. unwrap_or (slice_get (map (λ (c : Tree × A). c.1) (parts_at l)) i) absent) (map (λ (c : Tree × A). c.1) (parts_at l))
+  by_form_step l = form (roll-Tree (map-Tree (Tree × A) Tree (λ c. c.0) l)) (λ i. unwrap_or (slice_get (map (λ (c : Tree × A). c.1) (parts_at l)) i) absent)
+      (map (λ (c : Tree × A). c.1) (parts_at l))
 
   unfoldable pub by_form : Tree → A
   by_form = recurse by_form_step
@@ -97,7 +100,8 @@ module _ {A : Type 0} (absent : A) (form : Tree → (ℕ → A) → List A → A
   at_level : (l : Tree-F Tree) → is_absent_at l ≡ false → by_form_step (with_results by_form l) ≡
       form (roll-Tree l) (λ i. by_form (unwrap_or (slice_get (parts_at l) i) Absent)) (map by_form (parts_at l))
   at_level (Tree-F.Node k ts) not_absent =
-      ap (λ us. form (roll-Tree (Tree-F.Node k us)) (λ i. unwrap_or (slice_get (map (λ (c : Tree × A). c.1) (map (λ c. (c, by_form c)) ts)) i) absent) (map (λ (c : Tree × A). c.1) (map (λ c. (c, by_form c)) ts))) (trees_of ts)
+      ap (λ us. form (roll-Tree (Tree-F.Node k us)) (λ i. unwrap_or (slice_get (map (λ (c : Tree × A). c.1) (map (λ c. (c, by_form c)) ts)) i) absent)
+      (map (λ (c : Tree × A). c.1) (map (λ c. (c, by_form c)) ts))) (trees_of ts)
       ∙ (ap (λ rs. form (roll-Tree (Tree-F.Node k ts)) (λ i. unwrap_or (slice_get rs i) absent) rs) (results_of ts)
       ∙ ap (λ at. form (roll-Tree (Tree-F.Node k ts)) at (map by_form ts)) (fun_ext (result_at ts)))
   at_level Tree-F.Absent not_absent = cc

@@ -7,8 +7,10 @@ use crate::source::{SourceRange, SyntaxContext};
 use sqlite_items::Items;
 use std::alloc::{AllocError, Global};
 
-/// A syntax tree. A node's parts stand in the order of its form's fields, its range first where it has one. A node of the kind `List` has its items as parts.
-#[derive(Drop)]
+/// A syntax tree. A node's parts stand in the order of its form's fields, its range first where it has one. A node of the kind `List` has its
+/// items as parts.
+#[derive(Debug, Drop)]
+#[cycle(tree)]
 pub enum Tree {
     /// An empty option.
     Absent,
@@ -85,6 +87,28 @@ fn same_kind(a: Kind, b: Kind) -> bool
     ensures { IsTrue result ↔ (a ≡ b) }
 {
     a == b
+}
+
+/// Trees are equal where they are the same tree, positions and scope numbers included.
+impl PartialEq for Tree {
+    ghost use Rattle.fast_check_syntax.specs.TreeEquality.{same_trees, same_trees-per};
+
+    ghost eq = { same_trees };
+
+    ghost laws = { same_trees-per };
+
+    fn eq(&self, other: &Tree) -> bool
+        ensures value { result ≡ same_trees self.now other.now }
+        ensures same { IsTrue result ↔ (self.now ≡ other.now) }
+    {
+        same_tree(self, other)
+    }
+}
+
+impl Eq for Tree {
+    ghost use Rattle.fast_check_syntax.specs.TreeEquality.{same_trees-equiv};
+
+    ghost laws = { same_trees-equiv };
 }
 
 impl Tree {

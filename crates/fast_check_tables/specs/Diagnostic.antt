@@ -4,7 +4,8 @@ use Rattle.std.specs.Rc.{rc_str_bytes}
 use Rattle.url.specs.Parts.{Parts}
 use Rattle.fast_check_tables.specs.declared.diagnostics.range.FastCheckDiagnosticRange.{FastCheckDiagnosticRange}
 use Rattle.fast_check_tables.specs.declared.diagnostics.FastCheckDiagnostic.{FastCheckDiagnostic}
-use Rattle.fast_check_tables.specs.declared.diagnostics.FastCheckDiagnostic.TheVariants.{MissingExplicitType, MissingExplicitReturnType, UnsupportedDestructuring}
+use Rattle.fast_check_tables.specs.declared.diagnostics.FastCheckDiagnostic.TheVariants.{MissingExplicitType, MissingExplicitReturnType}
+use Rattle.fast_check_tables.specs.declared.diagnostics.FastCheckDiagnostic.TheVariants.{UnsupportedDestructuring}
 use Rattle.fast_check_tables.specs.declared.diagnostics.report.DiagnosticLevel.{DiagnosticLevel}
 use Rattle.fast_check_tables.specs.declared.diagnostics.report.DiagnosticLevel.TheVariants.{Error}
 use Rattle.fast_check_tables.specs.Report.{Report, Snippet, Location, AtPosition, AtModule}

@@ -15,7 +15,8 @@ same_place a b = bytes_eq (serialize a.specifier) (serialize b.specifier) && sam
 
 -- each is one with itself, and of two that are one either stands for the other
 pub same_place-equiv : IsEquivalence same_place
-same_place-equiv = and_equiv (on_equiv (λ a. serialize a.specifier) nat_list_eq_equiv) (and_equiv (on_equiv (λ a. a.range.start.0) nat_eq_equiv) (on_equiv (λ a. a.range.end.0) nat_eq_equiv))
+same_place-equiv = and_equiv (on_equiv (λ a. serialize a.specifier) nat_list_eq_equiv)
+    (and_equiv (on_equiv (λ a. a.range.start.0) nat_eq_equiv) (on_equiv (λ a. a.range.end.0) nat_eq_equiv))
 
 -- what is hashed of a part: the module's text, the start and the end
 abbrev pub place_writes : FastCheckDiagnosticRange → HashWrites

@@ -1,7 +1,8 @@
 -- What a module is written in.
 use Rattle.std.specs.Prelude.{Bool, true, false}
 use Rattle.fast_check_tables.specs.declared.tables.media_type.MediaType.{MediaType}
-use Rattle.fast_check_tables.specs.declared.tables.media_type.MediaType.TheVariants.{TypeScript, Mts, Cts, Tsx, Dts, Dmts, Dcts, JavaScript, Mjs, Cjs, Jsx, Unknown}
+use Rattle.fast_check_tables.specs.declared.tables.media_type.MediaType.TheVariants.{TypeScript, Mts, Cts, Tsx, Dts, Dmts, Dcts, JavaScript, Mjs, Cjs}
+use Rattle.fast_check_tables.specs.declared.tables.media_type.MediaType.TheVariants.{Jsx, Unknown}
 
 -- such a module has declarations alone
 abbrev pub is_declaration : MediaType → Bool

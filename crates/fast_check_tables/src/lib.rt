@@ -4,16 +4,14 @@
 mod diagnostics;
 mod public_ranges;
 mod tables;
-#[cfg(test)]
-mod tests;
 
 pub use diagnostics::{
     Diagnostic, DiagnosticLevel, DiagnosticLocation, DiagnosticSnippet, FastCheckDiagnostic,
     FastCheckDiagnosticRange,
 };
-pub use fast_check_names::{
-    Exports, FileDepName, HandledExports, ImportedExports, NamedSubset, PackageNv, PendingTrace,
-    PendingTraces, WorkspaceMember,
+pub use fast_check_names::{Exports, FileDepName, ImportedExports, NamedSubset};
+pub use fast_check_packages::{
+    HandledExports, PackageNv, PendingTrace, PendingTraces, WorkspaceMember,
 };
 pub use public_ranges::ModulePublicRanges;
 pub use tables::{EsModuleInfo, MediaType, ModuleGraph, ModuleSpecifier, ParsedSource};

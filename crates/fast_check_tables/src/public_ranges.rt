@@ -25,7 +25,8 @@ impl Model for ModulePublicRanges {
 }
 
 impl ModulePublicRanges {
-    /// The public ranges of a module: those of its public declarations, and those of the implementations that have overloads. A range that is given twice counts once.
+    /// The public ranges of a module: those of its public declarations, and those of the implementations that have overloads. A range that
+    /// is given twice counts once.
     pub fn from_parts(
         alloc: Global,
         ranges: Vec<SourceRange>,

@@ -12,13 +12,13 @@ ghost use Rattle.fast_check_transform.specs.Transform.{IsCarried, skeleton, comm
 use crate::asked::Asked;
 use crate::items::keep_item;
 use fast_check_comments::{Comments, CommentsMut};
-use fast_check_names::WorkspaceMember;
 use fast_check_program_forms::Module;
 use fast_check_ranges::range_of_node;
 use fast_check_signatures::{Fault, FaultKind};
 use fast_check_syntax::{Atom, Items, Part, SourceRange, Tree};
 use fast_check_tables::{
     EsModuleInfo, FastCheckDiagnostic, FastCheckDiagnosticRange, ModuleGraph, ModulePublicRanges,
+    WorkspaceMember,
 };
 use std::alloc::{AllocError, Global};
 

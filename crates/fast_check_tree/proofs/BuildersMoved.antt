@@ -4,7 +4,8 @@ use Rattle.fast_check_syntax.specs.declared.kind.Word.{Word}
 use Rattle.fast_check_syntax.specs.declared.tree.Tree.{Tree}
 use Rattle.fast_check_syntax.specs.Moves.{Moves, Keeps, moved}
 use Rattle.fast_check_syntax.proofs.Moved.{node_moved, absent_moved, flag_moved, word_moved, text_moved, context_moved, range_moved, none_moved}
-use Rattle.fast_check_tree.specs.Builders.{ts_keyword_type, ts_lit_type, type_ann, regex_type, never_value, any_type_ann, ts_readonly, ts_tuple_element, unique_symbol}
+use Rattle.fast_check_tree.specs.Builders.{ts_keyword_type, ts_lit_type, type_ann, regex_type, never_value, any_type_ann, ts_readonly, ts_tuple_element}
+use Rattle.fast_check_tree.specs.Builders.{unique_symbol}
 
 module _ (m : Moves) (ok : Keeps m) where
   pub ts_keyword_type_moved : (w : Word) → moved m (ts_keyword_type w) ≡ ts_keyword_type w

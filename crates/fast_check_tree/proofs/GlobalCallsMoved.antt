@@ -1,5 +1,6 @@
 -- A call of a global function stays one when its scopes are moved, those of the unresolved with them.
-use Rattle.std.proofs.Common.{◌≡◌, ℕ, Bool, true, false, ◌==◌, ◌&&◌, ◌||◌, Some, None, List, [], ◌∷◌, map, refl, ap, ap₂, ◌∙◌, sym, true≢false, eqb-true, eq-eqb}
+use Rattle.std.proofs.Common.{◌≡◌, ℕ, Bool, true, false, ◌==◌, ◌&&◌, ◌||◌, Some, None, List, [], ◌∷◌, map, refl, ap, ap₂, ◌∙◌, sym, true≢false, eqb-true}
+use Rattle.std.proofs.Common.{eq-eqb}
 use Rattle.std.specs.Prelude.{codes, if◌then◌else◌}
 use Rattle.std.specs.Option.{option_map}
 use Rattle.std.specs.Str.{bytes_eq}
@@ -11,7 +12,11 @@ use Rattle.fast_check_syntax.specs.declared.kind.Kind.TheVariants.{Ident, IdentN
 use Rattle.fast_check_syntax.specs.Shape.{◌is◌, kind_of, part, parts, context_of, context_at, text_of, is_absent}
 use Rattle.fast_check_syntax.specs.Moves.{Moves, Keeps, moved, moved_level}
 use Rattle.fast_check_syntax.proofs.Moved.{out_moved, kind_of_moved, part_moved, parts_moved, is_absent_moved, text_of_moved}
-use Rattle.fast_check_tree.specs.GlobalCalls.{is_global, is_plain_name, is_global_member, sole_argument, object_freeze_call_arg, is_symbol_description, is_symbol_call}
+use Rattle.fast_check_expression_forms.specs.Calls.{MemberExpr-obj, MemberExpr-prop}
+use Rattle.fast_check_expression_forms.specs.Expressions.{ExprOrSpread-expr, ExprOrSpread-spread}
+use Rattle.fast_check_tree.specs.Places.{at-ExprOrSpread-expr, at-ExprOrSpread-spread, at-MemberExpr-obj, at-MemberExpr-prop}
+use Rattle.fast_check_tree.specs.GlobalCalls.{is_global, is_plain_name, is_global_member, sole_argument, object_freeze_call_arg, is_symbol_description}
+use Rattle.fast_check_tree.specs.GlobalCalls.{is_symbol_call}
 
 -- the scope number of the unresolved, moved
 abbrev pub moved_scope : Moves → SyntaxContext → SyntaxContext
@@ -49,18 +54,20 @@ module _ (m : Moves) (ok : Keeps m) where
   is_plain_name_moved name t =
       ap₂ (λ k x. (k is IdentName) && bytes_eq x name) (kind_of_moved m t) (ap text_of (part_moved m 1 t) ∙ text_of_moved m (part 1 t))
 
-  pub is_global_member_moved : (object name : List ℕ) (u : SyntaxContext) (t : Tree) → is_global_member object name (moved_scope m u) (moved m t) ≡ is_global_member object name u t
+  pub is_global_member_moved : (object name : List ℕ) (u : SyntaxContext) (t : Tree) →
+      is_global_member object name (moved_scope m u) (moved m t) ≡ is_global_member object name u t
   is_global_member_moved object name u t =
       ap₂ (λ k b. (k is MemberExpr) && b) (kind_of_moved m t)
-      (ap₂ ◌&&◌ (ap (is_global object (moved_scope m u)) (part_moved m 1 t) ∙ is_global_moved object u (part 1 t))
-      (ap (is_plain_name name) (part_moved m 2 t) ∙ is_plain_name_moved name (part 2 t)))
+      (ap₂ ◌&&◌ (ap (is_global object (moved_scope m u)) (part_moved m at-MemberExpr-obj.place t) ∙ is_global_moved object u (MemberExpr-obj t))
+      (ap (is_plain_name name) (part_moved m at-MemberExpr-prop.place t) ∙ is_plain_name_moved name (MemberExpr-prop t)))
 
   description_moved : (ts : List Tree) → is_symbol_description (map (moved m) ts) ≡ is_symbol_description ts
   description_moved [] = refl
-  description_moved (t ∷ []) = ap (λ k. k is Str) (ap kind_of (part_moved m 1 t) ∙ kind_of_moved m (part 1 t))
+  description_moved (t ∷ []) = ap (λ k. k is Str) (ap kind_of (part_moved m at-ExprOrSpread-expr.place t) ∙ kind_of_moved m (ExprOrSpread-expr t))
   description_moved (t ∷ u ∷ us) = refl
 
-  pub is_symbol_call_moved : (u : SyntaxContext) (callee args : Tree) → is_symbol_call (moved_scope m u) (moved m callee) (moved m args) ≡ is_symbol_call u callee args
+  pub is_symbol_call_moved : (u : SyntaxContext) (callee args : Tree) →
+      is_symbol_call (moved_scope m u) (moved m callee) (moved m args) ≡ is_symbol_call u callee args
   is_symbol_call_moved u callee args =
       ap₂ ◌&&◌
       (ap₂ ◌||◌ (is_global_moved (codes "Symbol") u callee) (is_global_member_moved (codes "Symbol") (codes "for") u callee))
@@ -68,7 +75,9 @@ module _ (m : Moves) (ok : Keeps m) where
 
   sole_argument_moved : (ts : List Tree) → sole_argument (map (moved m) ts) ≡ option_map (moved m) (sole_argument ts)
   sole_argument_moved [] = refl
-  sole_argument_moved (t ∷ []) = ap (λ b. if b then Some (moved m t) else None) (ap is_absent (part_moved m 0 t) ∙ is_absent_moved m (part 0 t)) ∙ go (is_absent (part 0 t))
+  sole_argument_moved (t ∷ []) =
+      ap (λ b. if b then Some (moved m t) else None) (ap is_absent (part_moved m at-ExprOrSpread-spread.place t)
+      ∙ is_absent_moved m (ExprOrSpread-spread t)) ∙ go (is_absent (ExprOrSpread-spread t))
     where
       go : (b : Bool) → (if b then Some (moved m t) else None) ≡ option_map (moved m) (if b then Some t else None)
       go true = refl
@@ -82,6 +91,7 @@ module _ (m : Moves) (ok : Keeps m) where
       (ap sole_argument (parts_moved m args) ∙ sole_argument_moved (parts args))
       ∙ go (is_global_member (codes "Object") (codes "freeze") u callee)
     where
-      go : (b : Bool) → (if b then option_map (moved m) (sole_argument (parts args)) else None) ≡ option_map (moved m) (if b then sole_argument (parts args) else None)
+      go : (b : Bool) →
+          (if b then option_map (moved m) (sole_argument (parts args)) else None) ≡ option_map (moved m) (if b then sole_argument (parts args) else None)
       go true = refl
       go false = refl

@@ -2,17 +2,23 @@
 use Rattle.std.proofs.Common.{◌≡◌, ℕ, Bool, true, false, Option, Some, None, List, [], ◌∷◌, map, refl, ap, ap₂, ◌∙◌, sym}
 use Rattle.std.specs.Prelude.{if◌then◌else◌}
 use Rattle.std.specs.Option.{option_map}
-use Rattle.fast_check_syntax.specs.declared.kind.Kind.TheVariants.{Str, Bool as BoolKind, Number, BigInt, Null, Regex, TsAsExpr, TsTypeAssertion, CallExpr, Tpl, ParenExpr, TsSatisfiesExpr}
+use Rattle.fast_check_syntax.specs.declared.kind.Kind.TheVariants.{Str, Bool as BoolKind, Number, BigInt, Null, Regex, TsAsExpr, TsTypeAssertion, CallExpr}
+use Rattle.fast_check_syntax.specs.declared.kind.Kind.TheVariants.{Tpl, ParenExpr, TsSatisfiesExpr}
 use Rattle.fast_check_syntax.specs.declared.kind.Word.{Word}
 use Rattle.fast_check_syntax.specs.declared.kind.Word.TheVariants as words
 use Rattle.fast_check_syntax.specs.declared.source.SyntaxContext.{SyntaxContext}
 use Rattle.fast_check_syntax.specs.declared.tree.Tree.{Tree, Absent}
 use Rattle.fast_check_syntax.specs.Shape.{◌is◌, kind_of, none_range, part, parts, text_of, is_absent}
 use Rattle.fast_check_syntax.specs.Moves.{Moves, Keeps, moved}
-use Rattle.fast_check_syntax.proofs.Moved.{node_moved, range_moved, text_moved, absent_moved, none_moved, kind_of_moved, part_moved, parts_moved, is_absent_moved, text_of_moved}
+use Rattle.fast_check_syntax.proofs.Moved.{node_moved, range_moved, text_moved, absent_moved, none_moved, kind_of_moved, part_moved, parts_moved}
+use Rattle.fast_check_syntax.proofs.Moved.{is_absent_moved, text_of_moved}
 use Rattle.fast_check_syntax.proofs.Induction.{tree_ind, at_part}
 use Rattle.fast_check_program_forms.specs.Literals.{str}
 use Rattle.fast_check_expression_forms.specs.Templates.{Tpl-exprs}
+use Rattle.fast_check_expression_forms.specs.Assertions.{TsAsExpr-type_ann, TsTypeAssertion-type_ann}
+use Rattle.fast_check_expression_forms.specs.Calls.{CallExpr-args, CallExpr-callee}
+use Rattle.fast_check_tree.specs.Places.{at-CallExpr-args, at-CallExpr-callee, at-ParenExpr-expr, at-Tpl-exprs, at-TsAsExpr-type_ann}
+use Rattle.fast_check_tree.specs.Places.{at-TsSatisfiesExpr-expr, at-TsTypeAssertion-type_ann}
 use Rattle.fast_check_tree.specs.declared.helpers.literal_type.DeclMutabilityKind.{DeclMutabilityKind}
 use Rattle.fast_check_tree.specs.declared.helpers.literal_type.DeclMutabilityKind.TheVariants.{Const, Mutable}
 use Rattle.fast_check_tree.specs.Builders.{ts_keyword_type, regex_type, unique_symbol}
@@ -32,11 +38,13 @@ chosen m true x x' y y' p q = p
 chosen m false x x' y y' p q = q
 
 module _ (m : Moves) (ok : Keeps m) where
-  literal_or_keyword_moved : (mutability : DeclMutabilityKind) (w : Word) (t : Tree) → literal_or_keyword mutability w (moved m t) ≡ moved m (literal_or_keyword mutability w t)
+  literal_or_keyword_moved : (mutability : DeclMutabilityKind) (w : Word) (t : Tree) →
+      literal_or_keyword mutability w (moved m t) ≡ moved m (literal_or_keyword mutability w t)
   literal_or_keyword_moved Const w t = sym (ts_lit_type_moved m ok t)
   literal_or_keyword_moved Mutable w t = sym (ts_keyword_type_moved m ok w)
 
-  pub type_of_literal_moved : (mutability : DeclMutabilityKind) (t : Tree) → type_of_literal mutability (moved m t) ≡ option_map (moved m) (type_of_literal mutability t)
+  pub type_of_literal_moved : (mutability : DeclMutabilityKind) (t : Tree) →
+      type_of_literal mutability (moved m t) ≡ option_map (moved m) (type_of_literal mutability t)
   type_of_literal_moved mutability t =
       ap (λ k.
       if k is Str then Some (literal_or_keyword mutability words.TsStringKeyword (moved m t))
@@ -74,14 +82,16 @@ module _ (m : Moves) (ok : Keeps m) where
 
   pub type_of_template_moved : (mutability : DeclMutabilityKind) (t : Tree) → type_of_template mutability (moved m t) ≡ moved m (type_of_template mutability t)
   type_of_template_moved Const t =
-      ap text_or_string (ap₂ text_without (ap parts (part_moved m 1 t) ∙ parts_moved m (part 1 t)) (cooked_text_moved t) ∙ text_without_moved (parts (Tpl-exprs t)) (cooked_text t))
+      ap text_or_string (ap₂ text_without (ap parts (part_moved m at-Tpl-exprs.place t) ∙ parts_moved m (Tpl-exprs t)) (cooked_text_moved t)
+      ∙ text_without_moved (parts (Tpl-exprs t)) (cooked_text t))
       ∙ text_or_string_moved (text_without (parts (Tpl-exprs t)) (cooked_text t))
   type_of_template_moved Mutable t = sym (ts_keyword_type_moved m ok words.TsStringKeyword)
 
   pub asserted_type_moved : (t : Tree) → asserted_type (moved m t) ≡ option_map (moved m) (asserted_type t)
   asserted_type_moved t = ap (λ b. if b then Some (moved m t) else None) (is_simple_type_moved m t) ∙ chosen m (is_simple_type t) _ _ _ _ refl refl
 
-  pub symbol_type_moved : (u : SyntaxContext) (callee args : Tree) → symbol_type (moved_scope m u) (moved m callee) (moved m args) ≡ option_map (moved m) (symbol_type u callee args)
+  pub symbol_type_moved : (u : SyntaxContext) (callee args : Tree) →
+      symbol_type (moved_scope m u) (moved m callee) (moved m args) ≡ option_map (moved m) (symbol_type u callee args)
   symbol_type_moved u callee args =
       ap (λ b. if b then Some unique_symbol else None) (is_symbol_call_moved m ok u callee args)
       ∙ chosen m (is_symbol_call u callee args) _ _ _ _ (ap Some (sym (unique_symbol_moved m ok))) refl
@@ -91,19 +101,23 @@ module _ (m : Moves) (ok : Keeps m) where
         inferred_form mutability (moved_scope m u) (moved m t) f' es' ≡ option_map (moved m) (inferred_form mutability u t f es)
     form_moved t f' f es' es at =
         ap (λ k.
-        if k is TsAsExpr then asserted_type (part 2 (moved m t))
-        else (if k is TsTypeAssertion then asserted_type (part 2 (moved m t))
-        else (if k is CallExpr then symbol_type (moved_scope m u) (part 2 (moved m t)) (part 3 (moved m t))
+        if k is TsAsExpr then asserted_type (TsAsExpr-type_ann (moved m t))
+        else (if k is TsTypeAssertion then asserted_type (TsTypeAssertion-type_ann (moved m t))
+        else (if k is CallExpr then symbol_type (moved_scope m u) (CallExpr-callee (moved m t)) (CallExpr-args (moved m t))
         else (if k is Tpl then Some (type_of_template mutability (moved m t))
-        else (if k is ParenExpr then f' 1
-        else (if k is TsSatisfiesExpr then f' 1
+        else (if k is ParenExpr then f' at-ParenExpr-expr.place
+        else (if k is TsSatisfiesExpr then f' at-TsSatisfiesExpr-expr.place
         else type_of_literal mutability (moved m t))))))) (kind_of_moved m t) ∙
-        chosen m (kind_of t is TsAsExpr) _ _ _ _ (ap asserted_type (part_moved m 2 t) ∙ asserted_type_moved (part 2 t))
-        (chosen m (kind_of t is TsTypeAssertion) _ _ _ _ (ap asserted_type (part_moved m 2 t) ∙ asserted_type_moved (part 2 t))
-        (chosen m (kind_of t is CallExpr) _ _ _ _ (ap₂ (symbol_type (moved_scope m u)) (part_moved m 2 t) (part_moved m 3 t) ∙ symbol_type_moved u (part 2 t) (part 3 t))
+        chosen m (kind_of t is TsAsExpr) _ _ _ _
+        (ap asserted_type (part_moved m at-TsAsExpr-type_ann.place t) ∙ asserted_type_moved (TsAsExpr-type_ann t))
+        (chosen m (kind_of t is TsTypeAssertion) _ _ _ _
+        (ap asserted_type (part_moved m at-TsTypeAssertion-type_ann.place t) ∙ asserted_type_moved (TsTypeAssertion-type_ann t))
+        (chosen m (kind_of t is CallExpr) _ _ _ _
+        (ap₂ (symbol_type (moved_scope m u)) (part_moved m at-CallExpr-callee.place t) (part_moved m at-CallExpr-args.place t)
+        ∙ symbol_type_moved u (CallExpr-callee t) (CallExpr-args t))
         (chosen m (kind_of t is Tpl) _ _ _ _ (ap Some (type_of_template_moved mutability t))
-        (chosen m (kind_of t is ParenExpr) _ _ _ _ (at 1)
-        (chosen m (kind_of t is TsSatisfiesExpr) _ _ _ _ (at 1) (type_of_literal_moved mutability t))))))
+        (chosen m (kind_of t is ParenExpr) _ _ _ _ (at at-ParenExpr-expr.place)
+        (chosen m (kind_of t is TsSatisfiesExpr) _ _ _ _ (at at-TsSatisfiesExpr-expr.place) (type_of_literal_moved mutability t))))))
 
     abbrev Moves-with : Tree → Type 0
     Moves-with t = inferred_type mutability (moved_scope m u) (moved m t) ≡ option_map (moved m) (inferred_type mutability u t)
@@ -111,7 +125,8 @@ module _ (m : Moves) (ok : Keeps m) where
     moves_with : (t : Tree) → ((i : ℕ) → Moves-with (part i t)) → Moves-with t
     moves_with t h =
         inferred_out mutability (moved_scope m u) (moved m t)
-        ∙ (form_moved t (λ i. inferred_type mutability (moved_scope m u) (part i (moved m t))) (λ i. inferred_type mutability u (part i t)) (map (inferred_type mutability (moved_scope m u)) (parts (moved m t))) (map (inferred_type mutability u) (parts t))
+        ∙ (form_moved t (λ i. inferred_type mutability (moved_scope m u) (part i (moved m t))) (λ i. inferred_type mutability u (part i t))
+        (map (inferred_type mutability (moved_scope m u)) (parts (moved m t))) (map (inferred_type mutability u) (parts t))
         (λ i. ap (inferred_type mutability (moved_scope m u)) (part_moved m i t) ∙ h i)
         ∙ ap (option_map (moved m)) (sym (inferred_out mutability u t)))
 

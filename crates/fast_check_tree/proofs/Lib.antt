@@ -1,3 +1,4 @@
+mod Lower
 pub mod Leaves
 pub mod SimpleTypes
 pub mod InferredTypes

@@ -6,6 +6,7 @@ use Rattle.fast_check_syntax.specs.Moves.{Moves, moved}
 use Rattle.fast_check_syntax.proofs.Moved.{kind_of_moved, part_moved, parts_moved, is_absent_moved, absent_moved, flag_of_moved}
 use Rattle.fast_check_syntax.proofs.Induction.{tree_ind, at_part}
 use Rattle.fast_check_statement_forms.specs.Statements.{BlockStmt-stmts}
+use Rattle.fast_check_tree.specs.Places.{at-BlockStmt-stmts}
 use Rattle.fast_check_tree.specs.OptionalParams.{is_optional_param}
 use Rattle.fast_check_tree.specs.ReturnClass.{returns, returns_form, class_of_body, return_class}
 use Rattle.fast_check_tree.proofs.Returns.{returns_out}
@@ -14,7 +15,8 @@ module _ (m : Moves) where
   abbrev Stays : Tree → Type 0
   Stays t = returns (moved m t) ≡ returns t
 
-  form_moved : (t : Tree) (f' f : ℕ → List Bool) (es' es : List (List Bool)) → ((i : ℕ) → f' i ≡ f i) → es' ≡ es → returns_form (moved m t) f' es' ≡ returns_form t f es
+  form_moved : (t : Tree) (f' f : ℕ → List Bool) (es' es : List (List Bool)) → ((i : ℕ) → f' i ≡ f i) → es' ≡ es →
+      returns_form (moved m t) f' es' ≡ returns_form t f es
   form_moved t f' f es' es at all = simp (kind_of_moved, part_moved, is_absent_moved, at, all)
 
   each_stays : (ts : List Tree) → OfAll Stays ts → map returns (map (moved m) ts) ≡ map returns ts
@@ -38,7 +40,7 @@ module _ (m : Moves) where
 
   pub return_class_moved : (t : Tree) → return_class (moved m t) ≡ return_class t
   return_class_moved t =
-      ap₂ class_of_body (ap parts (part_moved m 2 t) ∙ parts_moved m (part 2 t)) (returns_moved t)
+      ap₂ class_of_body (ap parts (part_moved m at-BlockStmt-stmts.place t) ∙ parts_moved m (BlockStmt-stmts t)) (returns_moved t)
       ∙ class_of_map (parts (BlockStmt-stmts t)) (returns t)
 
   pub is_optional_param_moved : (t : Tree) → is_optional_param (moved m t) ≡ is_optional_param t

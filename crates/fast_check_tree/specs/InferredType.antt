@@ -24,7 +24,8 @@ asserted_type type = if is_simple_type type then Some type else None
 abbrev pub symbol_type : SyntaxContext → Tree → Tree → Option Tree
 symbol_type unresolved callee args = if is_symbol_call unresolved callee args then Some unique_symbol else None
 
--- Of `value as type` and `<type>value` it is the type, if that is simple; of a call that makes a symbol `unique symbol`; of a template and of a literal their type.
+-- Of `value as type` and `<type>value` it is the type, if that is simple; of a call that makes a symbol `unique symbol`; of a template and of a literal their
+-- type.
 -- Of `(value)` and `value satisfies type` it is that of the value, which `inside` gives of the part at a place. No other value shows its type.
 abbrev pub inferred_form : DeclMutabilityKind → SyntaxContext → Tree → (ℕ → Option Tree) → List (Option Tree) → Option Tree
 inferred_form mutability unresolved value inside each =

@@ -1,3 +1,4 @@
+pub mod Keywords
 pub mod Builders
 pub mod Places
 pub mod LiteralType

@@ -2,13 +2,18 @@
 use Rattle.std.specs.Prelude.{◌≡◌, ℕ, refl}
 use Rattle.fast_check_syntax.specs.declared.tree.Tree.{Tree}
 use Rattle.fast_check_syntax.specs.Shape.{part}
-use Rattle.fast_check_expression_forms.specs.Assertions.{TsSatisfiesExpr-expr}
-use Rattle.fast_check_expression_forms.specs.Expressions.{ParenExpr-expr}
+use Rattle.fast_check_expression_forms.specs.Assertions.{TsAsExpr-type_ann, TsSatisfiesExpr-expr, TsTypeAssertion-type_ann}
+use Rattle.fast_check_expression_forms.specs.Calls.{CallExpr-args, CallExpr-callee, MemberExpr-obj, MemberExpr-prop}
+use Rattle.fast_check_expression_forms.specs.Expressions.{ExprOrSpread-expr, ExprOrSpread-spread, ParenExpr-expr}
+use Rattle.fast_check_expression_forms.specs.Templates.{Tpl-exprs}
 use Rattle.fast_check_statement_forms.specs.Loops.{WhileStmt-body, DoWhileStmt-body, ForStmt-body, ForInStmt-body, ForOfStmt-body}
-use Rattle.fast_check_statement_forms.specs.Statements.{BlockStmt-stmts, WithStmt-body, LabeledStmt-body, IfStmt-cons, IfStmt-alt, SwitchStmt-cases, SwitchCase-cons, TryStmt-block, TryStmt-handler, TryStmt-finalizer, CatchClause-body}
+use Rattle.fast_check_statement_forms.specs.Statements.{BlockStmt-stmts, WithStmt-body, LabeledStmt-body, IfStmt-cons, IfStmt-alt, SwitchStmt-cases}
+use Rattle.fast_check_statement_forms.specs.Statements.{SwitchCase-cons, TryStmt-block, TryStmt-handler, TryStmt-finalizer, CatchClause-body}
 use Rattle.fast_check_type_forms.specs.TypeOperators.{TsTypeOperator-type_ann}
 use Rattle.fast_check_type_forms.specs.TypeParams.{TsTypeParamInstantiation-params}
-use Rattle.fast_check_type_forms.specs.Types.{TsTypeRef-type_params, TsTupleType-elem_types, TsTupleElement-ty, TsArrayType-elem_type, TsOptionalType-type_ann, TsRestType-type_ann, TsUnionType-types, TsIntersectionType-types, TsParenthesizedType-type_ann}
+use Rattle.fast_check_type_forms.specs.Types.{TsTypeRef-type_params, TsTupleType-elem_types, TsTupleElement-ty, TsArrayType-elem_type}
+use Rattle.fast_check_type_forms.specs.Types.{TsOptionalType-type_ann, TsRestType-type_ann, TsUnionType-types, TsIntersectionType-types}
+use Rattle.fast_check_type_forms.specs.Types.{TsParenthesizedType-type_ann}
 
 -- the place of a field: the field is the part that stands there
 pub record PlaceOf (field : Tree → Tree) : Type 0 where
@@ -26,6 +31,33 @@ at-ParenExpr-expr = record { place = 1; reads = λ t. refl }
 
 abbrev pub at-TsSatisfiesExpr-expr : PlaceOf TsSatisfiesExpr-expr
 at-TsSatisfiesExpr-expr = record { place = 1; reads = λ t. refl }
+
+abbrev pub at-TsAsExpr-type_ann : PlaceOf TsAsExpr-type_ann
+at-TsAsExpr-type_ann = record { place = 2; reads = λ t. refl }
+
+abbrev pub at-TsTypeAssertion-type_ann : PlaceOf TsTypeAssertion-type_ann
+at-TsTypeAssertion-type_ann = record { place = 2; reads = λ t. refl }
+
+abbrev pub at-MemberExpr-obj : PlaceOf MemberExpr-obj
+at-MemberExpr-obj = record { place = 1; reads = λ t. refl }
+
+abbrev pub at-MemberExpr-prop : PlaceOf MemberExpr-prop
+at-MemberExpr-prop = record { place = 2; reads = λ t. refl }
+
+abbrev pub at-CallExpr-callee : PlaceOf CallExpr-callee
+at-CallExpr-callee = record { place = 2; reads = λ t. refl }
+
+abbrev pub at-CallExpr-args : PlaceOf CallExpr-args
+at-CallExpr-args = record { place = 3; reads = λ t. refl }
+
+abbrev pub at-ExprOrSpread-spread : PlaceOf ExprOrSpread-spread
+at-ExprOrSpread-spread = record { place = 0; reads = λ t. refl }
+
+abbrev pub at-ExprOrSpread-expr : PlaceOf ExprOrSpread-expr
+at-ExprOrSpread-expr = record { place = 1; reads = λ t. refl }
+
+abbrev pub at-Tpl-exprs : PlaceOf Tpl-exprs
+at-Tpl-exprs = record { place = 1; reads = λ t. refl }
 
 -- ---- in types
 

@@ -1,18 +1,22 @@
 -- How a function's body returns.
 use Rattle.std.specs.Prelude.{ℕ, Bool, false, not, ◌&&◌, List, [], ◌∷◌, ◌++◌, if◌then◌else◌}
 use Rattle.std.specs.List.{list_all, flat_map}
-use Rattle.fast_check_syntax.specs.declared.kind.Kind.TheVariants.{ReturnStmt, BlockStmt, WithStmt, LabeledStmt, IfStmt, SwitchStmt, SwitchCase, TryStmt, CatchClause, WhileStmt, DoWhileStmt, ForStmt, ForInStmt, ForOfStmt}
+use Rattle.fast_check_syntax.specs.declared.kind.Kind.TheVariants.{ReturnStmt, BlockStmt, WithStmt, LabeledStmt, IfStmt, SwitchStmt, SwitchCase, TryStmt}
+use Rattle.fast_check_syntax.specs.declared.kind.Kind.TheVariants.{CatchClause, WhileStmt, DoWhileStmt, ForStmt, ForInStmt, ForOfStmt}
 use Rattle.fast_check_syntax.specs.declared.kind.Kind.TheVariants as kinds
 use Rattle.fast_check_syntax.specs.declared.tree.Tree.{Tree}
 use Rattle.fast_check_syntax.specs.Shape.{◌is◌, kind_of, parts, is_absent}
 use Rattle.fast_check_syntax.specs.Recursion.{by_form}
 use Rattle.fast_check_statement_forms.specs.Statements.{ReturnStmt-arg, BlockStmt-stmts}
-use Rattle.fast_check_tree.specs.Places.{at-BlockStmt-stmts, at-WithStmt-body, at-LabeledStmt-body, at-IfStmt-cons, at-IfStmt-alt, at-SwitchStmt-cases, at-SwitchCase-cons, at-TryStmt-block, at-TryStmt-handler, at-TryStmt-finalizer, at-CatchClause-body, at-WhileStmt-body, at-DoWhileStmt-body, at-ForStmt-body, at-ForInStmt-body, at-ForOfStmt-body}
+use Rattle.fast_check_tree.specs.Places.{at-BlockStmt-stmts, at-WithStmt-body, at-LabeledStmt-body, at-IfStmt-cons, at-IfStmt-alt, at-SwitchStmt-cases}
+use Rattle.fast_check_tree.specs.Places.{at-SwitchCase-cons, at-TryStmt-block, at-TryStmt-handler, at-TryStmt-finalizer, at-CatchClause-body}
+use Rattle.fast_check_tree.specs.Places.{at-WhileStmt-body, at-DoWhileStmt-body, at-ForStmt-body, at-ForInStmt-body, at-ForOfStmt-body}
 use Rattle.fast_check_tree.specs.declared.helpers.return_class.ReturnStatementAnalysis.{ReturnStatementAnalysis}
 use Rattle.fast_check_tree.specs.declared.helpers.return_class.ReturnStatementAnalysis.TheVariants as class
 
 -- The return statements reached from a statement, in text order: of each, whether it has an argument.
--- They are reached through blocks, `with`, labels, both branches of `if`, the cases of `switch`, the three parts of `try`, and loops. Expressions and declarations, and with them nested functions, are not entered.
+-- They are reached through blocks, `with`, labels, both branches of `if`, the cases of `switch`, the three parts of `try`, and loops. Expressions and
+-- declarations, and with them nested functions, are not entered.
 -- `inside` has those of the part at a place, `each` those of each part of a list of statements.
 abbrev pub returns_form : Tree → (ℕ → List Bool) → List (List Bool) → List Bool
 returns_form stmt inside each =

@@ -3,6 +3,7 @@
 mod builders;
 mod global_calls;
 mod infer_type;
+mod keywords;
 mod literal_type;
 mod optional_params;
 mod return_class;
@@ -15,6 +16,7 @@ pub use builders::{
 };
 pub use global_calls::{is_global, object_freeze_call_arg};
 pub use infer_type::{maybe_infer_type, shows_type};
+pub use keywords::TsKeywordTypeKind;
 pub use literal_type::{DeclMutabilityKind, maybe_lit_to_ts_type};
 pub use optional_params::ParamsOptionalStartIndex;
 pub use return_class::{ReturnStatementAnalysis, analyze_return_stmts_in_function_body};

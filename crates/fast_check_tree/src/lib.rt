@@ -8,6 +8,3 @@ pub use fast_check_syntax::{
     Atom, DUMMY_SP, Id, Items, Kind, Part, SourcePos, SourceRange, SyntaxContext, Tree, Word,
     clone_tree, same_tree,
 };
-
-#[cfg(test)]
-mod tests;

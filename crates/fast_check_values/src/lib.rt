@@ -5,8 +5,6 @@ mod expressions;
 mod functions;
 mod new_nodes;
 mod parameters;
-#[cfg(test)]
-mod tests;
 
 pub use expressions::{leave_expr, leave_value};
 pub use functions::{transform_arrow, transform_fn, transform_implementation};

@@ -11,9 +11,10 @@ use fast_check_class_forms::Param;
 use fast_check_expression_forms::{ArrayLit, ObjectLit, ParenExpr, PatExpr, RestPat, TsAsExpr};
 use fast_check_program_forms::{BindingIdent, Ident};
 use fast_check_statement_forms::{BlockStmt, ReturnStmt};
-use fast_check_syntax::{Atom, DUMMY_SP, Items, Kind, Part, SyntaxContext, Tree, Word};
+use fast_check_syntax::{Atom, DUMMY_SP, Items, Kind, Part, SyntaxContext, Tree};
 use fast_check_tree::helpers::{
-    any_type_ann, is_global, is_void_type, never_value, new_ident, ts_keyword_type,
+    TsKeywordTypeKind, any_type_ann, is_global, is_void_type, never_value, new_ident,
+    ts_keyword_type,
 };
 use fast_check_type_forms::{TsTypeAnn, TsTypeParamInstantiation, TsTypeRef, TsUnionType};
 use std::alloc::{AllocError, Global};
@@ -29,7 +30,7 @@ pub fn never_array(alloc: Global) -> Result<Tree, AllocError>
     TsAsExpr {
         span: DUMMY_SP,
         expr: array.into_tree(alloc)?,
-        type_ann: ts_keyword_type(Word::TsNeverKeyword).into_tree(alloc)?,
+        type_ann: ts_keyword_type(TsKeywordTypeKind::TsNeverKeyword).into_tree(alloc)?,
     }
     .into_tree(alloc)
 }
@@ -179,7 +180,7 @@ pub fn promised(
 pub fn void_or_promise_void(alloc: Global, is_async: bool) -> Result<Tree, AllocError>
     ensures { IfOk result (λ tree. tree ≡ new.void_or_promise_void is_async) }
 {
-    let nothing = ts_keyword_type(Word::TsVoidKeyword).into_tree(alloc)?;
+    let nothing = ts_keyword_type(TsKeywordTypeKind::TsVoidKeyword).into_tree(alloc)?;
     if is_async {
         promise_of(alloc, nothing)
     } else {
@@ -194,7 +195,7 @@ pub fn or_undefined(alloc: Global, type_ann: Part<'_>) -> Result<Tree, AllocErro
     let TsTypeAnn { span, type_ann } = TsTypeAnn::of(type_ann);
     let mut types = Items::new(alloc);
     types.push(type_ann.to_tree(alloc)?)?;
-    types.push(ts_keyword_type(Word::TsUndefinedKeyword).into_tree(alloc)?)?;
+    types.push(ts_keyword_type(TsKeywordTypeKind::TsUndefinedKeyword).into_tree(alloc)?)?;
     let union = TsUnionType {
         span: DUMMY_SP,
         types: Tree::list(types),

@@ -1,8 +1,13 @@
 //! The bench of vectors: runs `fast-check` with the words of each line of the file `cases`, and prints what it writes and
-//! its status.
+//! its status. As in a shell a line may redirect: `<broken` makes reading fail where the file ends, and `>closed` and
+//! `2>closed` make an output take nothing.
 #![tactic(auto)]
 
-use fast_check_program::run;
+mod streams;
+
+use crate::streams::{Input, Output};
+use fast_check_program::{Ending, run};
+use std::alloc::AllocError;
 use std::fs::File;
 use std::io::Write;
 use std::{fs, io};
@@ -15,27 +20,53 @@ fn main(rt: HostRuntime) -> io::Result<()> {
             println!(rt; "{line}")?;
         } else {
             println!(rt; "$ fast-check {line}")?;
-            let status = run_line(&rt, line, &mut out)?;
+            let ending = run_line(&rt, line, &mut out)?;
+            let status = ending.status;
             println!(rt; "status {status}")?;
+            if !ending.is_told {
+                println!(rt; "the line was not taken")?;
+            }
         }
     }
     Ok(())
 }
 
 /// Runs the program with the words of a line. Both its outputs go to `out`.
-fn run_line<W: Write>(rt: &HostRuntime, line: &str, out: &mut W) -> io::Result<u8> {
-    let mut words = Vec::new(rt.alloc());
-    for word in line.split_whitespace() {
-        words.push(String::from_str(rt.alloc(), word)?)?;
-    }
-    let file = match words.as_slice() {
-        [_, path] => File::open(rt, path.as_str()).ok(),
+fn run_line<W: Write>(rt: &HostRuntime, line: &str, out: &mut W) -> io::Result<Ending> {
+    let words = words(rt, line)?;
+    let input = match words.as_slice() {
+        [_, path] => match File::open(rt, path.as_str()) {
+            Ok(file) => Some(Input::new(file, redirects(line, "<broken"))),
+            Err(_) => None,
+        },
         _ => None,
     };
-    let mut answer = Vec::new(rt.alloc());
-    let mut errors = Vec::new(rt.alloc());
-    let ending = run(rt.alloc(), words.as_slice(), file, &mut answer, &mut errors);
-    out.write_all(answer.as_slice())?;
-    out.write_all(errors.as_slice())?;
-    Ok(ending.status)
+    let mut answer = Output::new(rt.alloc(), redirects(line, ">closed"));
+    let mut errors = Output::new(rt.alloc(), redirects(line, "2>closed"));
+    let ending = run(
+        rt.alloc(),
+        words.as_slice(),
+        input,
+        &mut answer,
+        &mut errors,
+    );
+    out.write_all(answer.bytes())?;
+    out.write_all(errors.bytes())?;
+    Ok(ending)
+}
+
+/// Whether a line has this redirection.
+fn redirects(line: &str, redirection: &str) -> bool {
+    line.split_whitespace().any(|word| word == redirection)
+}
+
+/// The words of a line that redirect nothing.
+fn words(rt: &HostRuntime, line: &str) -> Result<Vec<String>, AllocError> {
+    let mut words = Vec::new(rt.alloc());
+    for word in line.split_whitespace() {
+        if !matches!(word, "<broken" | ">closed" | "2>closed") {
+            words.push(String::from_str(rt.alloc(), word)?)?;
+        }
+    }
+    Ok(words)
 }

@@ -4,8 +4,8 @@ ghost use Rattle.std.specs.Prelude.{◌≡◌, Some, ◌∷◌, [], IfOk, OnErr,
 ghost use Rattle.fast_check_names.specs.Names.{Touched, paths, whole, IsSame};
 ghost use Rattle.fast_check_names.specs.Imports.{default_name, imported, IsAdded, IsCopy, IsDepName, IsDefaultAlone};
 
+use crate::lattice::file_dep_name::FileDepName;
 use crate::lattice::named_subset::NamedSubset;
-use crate::package::FileDepName;
 use std::alloc::{AllocError, Global};
 
 /// What is demanded of a module: all names but `default`, all names, or a set of names.

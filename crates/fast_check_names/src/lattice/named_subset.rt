@@ -4,7 +4,9 @@
 //! is dropped.
 
 ghost use Rattle.std.specs.Prelude.{◌≡◌, ◌∷◌, [], ◌↔◌, true, false, Some, None, is_some, IfOk, OnOk, OnErr, IsTrue, string_bytes, option_copied};
-ghost use Rattle.fast_check_names.specs.Names.{Name, Path, Part, Touched, Puts, paths, paths_below, paths_at, nothing, named, subset_of, whole, whole_path, whole_below, path_of, IsJoin, IsJoined, IsListed, has_subset, IsJoinBelow, IsJoinWhereHeld, IsSame, IsDifference, IsDifferenceBelow};
+ghost use Rattle.fast_check_names.specs.Names.{Name, Path, Part, Touched, Puts, paths, paths_below, paths_at, nothing, named, subset_of, whole};
+ghost use Rattle.fast_check_names.specs.Names.{whole_path, whole_below, path_of, IsJoin, IsJoined, IsListed, has_subset, IsJoinBelow};
+ghost use Rattle.fast_check_names.specs.Names.{IsJoinWhereHeld, IsSame, IsDifference, IsDifferenceBelow};
 ghost use Rattle.std.specs.BTreeMap.{get_by_text, IsOrdered};
 ghost use Rattle.std.specs.String.{string_cmp};
 ghost use Rattle.fast_check_names.specs.Equality.{same_exports, same_names};

@@ -3,7 +3,9 @@ ghost use Rattle.fast_check_syntax.specs.Part.{seen};
 ghost use Rattle.fast_check_program_forms.specs.Names.{ident};
 ghost use Rattle.fast_check_type_forms.specs.Types as types;
 ghost use Rattle.fast_check_tree.specs.Builders as build;
+ghost use Rattle.fast_check_tree.specs.Keywords.{word_of};
 
+use crate::helpers::keywords::TsKeywordTypeKind;
 use fast_check_expression_forms::{ObjectLit, TsAsExpr};
 use fast_check_program_forms::Ident;
 use fast_check_syntax::{
@@ -50,12 +52,12 @@ pub fn new_ident(name: Atom) -> Ident<Atom>
 }
 
 /// The type of a keyword, as `string`. It takes no memory.
-pub fn ts_keyword_type(kind: Word) -> TsKeywordType<Tree>
-    ensures { types.ts_keyword_type result.span result.kind ≡ build.ts_keyword_type kind }
+pub fn ts_keyword_type(kind: TsKeywordTypeKind) -> TsKeywordType<Tree>
+    ensures { types.ts_keyword_type result.span result.kind ≡ build.ts_keyword_type (word_of kind) }
 {
     TsKeywordType {
         span: DUMMY_SP,
-        kind: Tree::Word(kind),
+        kind: Tree::Word(kind.word()),
     }
 }
 
@@ -101,7 +103,10 @@ pub fn type_ann(alloc: Global, ty: Tree) -> Result<Tree, AllocError>
 pub fn any_type_ann(alloc: Global) -> Result<Tree, AllocError>
     ensures { IfOk result (λ tree. tree ≡ build.any_type_ann) }
 {
-    type_ann(alloc, ts_keyword_type(Word::TsAnyKeyword).into_tree(alloc)?)
+    type_ann(
+        alloc,
+        ts_keyword_type(TsKeywordTypeKind::TsAnyKeyword).into_tree(alloc)?,
+    )
 }
 
 /// The type `readonly ty`.
@@ -158,7 +163,7 @@ pub fn never_value(alloc: Global) -> Result<Tree, AllocError>
     TsAsExpr {
         span: DUMMY_SP,
         expr: object.into_tree(alloc)?,
-        type_ann: ts_keyword_type(Word::TsNeverKeyword).into_tree(alloc)?,
+        type_ann: ts_keyword_type(TsKeywordTypeKind::TsNeverKeyword).into_tree(alloc)?,
     }
     .into_tree(alloc)
 }

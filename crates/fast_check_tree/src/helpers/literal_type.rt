@@ -1,9 +1,11 @@
 ghost use Rattle.std.specs.Prelude.{◌≡◌, IfOk};
 ghost use Rattle.fast_check_syntax.specs.Part.{seen};
+ghost use Rattle.fast_check_tree.specs.Keywords.{word_of};
 ghost use Rattle.fast_check_tree.specs.LiteralType.{type_of_literal, literal_or_keyword};
 
 use crate::helpers::builders::{regex_type, ts_keyword_type, ts_lit_type};
-use fast_check_syntax::{Kind, Part, Tree, Word};
+use crate::helpers::keywords::TsKeywordTypeKind;
+use fast_check_syntax::{Kind, Part, Tree};
 use std::alloc::{AllocError, Global};
 
 /// Whether a declared name keeps its value, as under `const` and `readonly`.
@@ -17,10 +19,10 @@ pub enum DeclMutabilityKind {
 fn literal_or_keyword(
     alloc: Global,
     mutability: DeclMutabilityKind,
-    keyword: Word,
+    keyword: TsKeywordTypeKind,
     lit: Part<'_>,
 ) -> Result<Tree, AllocError>
-    ensures { IfOk result (λ ty. ty ≡ literal_or_keyword mutability keyword (seen lit.entry)) }
+    ensures { IfOk result (λ ty. ty ≡ literal_or_keyword mutability (word_of keyword) (seen lit.entry)) }
 {
     match mutability {
         DeclMutabilityKind::Const => ts_lit_type(lit.to_tree(alloc)?).into_tree(alloc),
@@ -38,12 +40,14 @@ pub fn maybe_lit_to_ts_type(
     ensures { IfOk result (λ ty. ty ≡ type_of_literal mutability (seen lit.entry)) }
 {
     let keyword = match lit.kind() {
-        Kind::Null => return Ok(Some(ts_keyword_type(Word::TsNullKeyword).into_tree(alloc)?)),
+        Kind::Null => return Ok(Some(ts_keyword_type(TsKeywordTypeKind::TsNullKeyword).into_tree(
+            alloc,
+        )?)),
         Kind::Regex => return Ok(Some(regex_type(alloc)?)),
-        Kind::Str => Word::TsStringKeyword,
-        Kind::Bool => Word::TsBooleanKeyword,
-        Kind::Number => Word::TsNumberKeyword,
-        Kind::BigInt => Word::TsBigIntKeyword,
+        Kind::Str => TsKeywordTypeKind::TsStringKeyword,
+        Kind::Bool => TsKeywordTypeKind::TsBooleanKeyword,
+        Kind::Number => TsKeywordTypeKind::TsNumberKeyword,
+        Kind::BigInt => TsKeywordTypeKind::TsBigIntKeyword,
         _ => return Ok(None),
     };
     Ok(Some(literal_or_keyword(alloc, mutability, keyword, lit)?))

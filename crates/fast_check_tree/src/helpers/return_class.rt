@@ -43,7 +43,7 @@ fn after_return(analysis: ReturnStatementAnalysis, has_argument: bool) -> Return
 
 /// The class after the return statements reached from a statement.
 #[cycle(returns)]
-#[tactic(auto, using(crate::proofs::Returns::then_ReturnStmt, crate::proofs::Returns::then_BlockStmt, crate::proofs::Returns::then_WithStmt, crate::proofs::Returns::then_LabeledStmt, crate::proofs::Returns::then_IfStmt, crate::proofs::Returns::then_SwitchStmt, crate::proofs::Returns::then_SwitchCase, crate::proofs::Returns::then_TryStmt, crate::proofs::Returns::then_CatchClause, crate::proofs::Returns::then_WhileStmt, crate::proofs::Returns::then_DoWhileStmt, crate::proofs::Returns::then_ForStmt, crate::proofs::Returns::then_ForInStmt, crate::proofs::Returns::then_ForOfStmt, crate::proofs::Returns::then_List, fast_check_syntax::specs::Height::height_part))]
+#[tactic(auto, using(crate::proofs::Returns::then_ReturnStmt, crate::proofs::Returns::then_IfStmt, crate::proofs::Returns::then_TryStmt, fast_check_syntax::specs::Height::height_part))]
 fn analyze_return_stmts(
     stmt: Part<'_>,
     analysis: ReturnStatementAnalysis,

@@ -14,7 +14,7 @@ use fast_check_type_forms::{
 /// template, and references to types, tuples, arrays, optional, rest, union, intersection and parenthesised types and
 /// operators on types, where the types in them are simple. It takes no memory.
 #[cycle(simple)]
-#[tactic(auto, using(crate::proofs::SimpleTypes::simple_TsKeywordType, crate::proofs::SimpleTypes::simple_TsThisType, crate::proofs::SimpleTypes::simple_TsTypeLit, crate::proofs::SimpleTypes::simple_TsLitType, crate::proofs::SimpleTypes::simple_TsTypeRef, crate::proofs::SimpleTypes::simple_TsTypeParamInstantiation, crate::proofs::SimpleTypes::simple_TsTupleType, crate::proofs::SimpleTypes::simple_TsTupleElement, crate::proofs::SimpleTypes::simple_TsArrayType, crate::proofs::SimpleTypes::simple_TsOptionalType, crate::proofs::SimpleTypes::simple_TsRestType, crate::proofs::SimpleTypes::simple_TsUnionType, crate::proofs::SimpleTypes::simple_TsIntersectionType, crate::proofs::SimpleTypes::simple_TsParenthesizedType, crate::proofs::SimpleTypes::simple_TsTypeOperator, crate::proofs::SimpleTypes::simple_List, fast_check_syntax::specs::Height::height_part))]
+#[tactic(auto, using(crate::proofs::SimpleTypes::simple_TsLitType, crate::proofs::SimpleTypes::simple_TsTypeRef))]
 pub fn is_simple_type(ty: Part<'_>) -> bool
     ensures { result ≡ is_simple_type (seen ty.entry) }
 {

@@ -3,10 +3,11 @@ ghost use Rattle.fast_check_syntax.specs.Part.{seen};
 ghost use Rattle.fast_check_tree.specs.TemplateType.{cooked_text, text_or_string, type_of_template};
 
 use crate::helpers::builders::{ts_keyword_type, ts_lit_type};
+use crate::helpers::keywords::TsKeywordTypeKind;
 use crate::helpers::literal_type::DeclMutabilityKind;
 use fast_check_expression_forms::{Tpl, TplElement};
 use fast_check_program_forms::Str;
-use fast_check_syntax::{Atom, DUMMY_SP, Part, Tree, Word};
+use fast_check_syntax::{Atom, DUMMY_SP, Part, Tree};
 use std::alloc::{AllocError, Global};
 
 /// The text that the first part of a template stands for. Absent where its escapes have no meaning.
@@ -21,7 +22,7 @@ fn text_or_string(alloc: Global, text: Part<'_>) -> Result<Tree, AllocError>
     ensures { IfOk result (λ ty. ty ≡ text_or_string (seen text.entry)) }
 {
     if text.is_absent() {
-        return ts_keyword_type(Word::TsStringKeyword).into_tree(alloc);
+        return ts_keyword_type(TsKeywordTypeKind::TsStringKeyword).into_tree(alloc);
     }
     let literal = Str {
         span: DUMMY_SP,
@@ -42,6 +43,6 @@ pub fn tpl_to_ts_type(
 {
     match (mutability, Tpl::of(tpl).exprs.parts()) {
         (DeclMutabilityKind::Const, []) => text_or_string(alloc, cooked_text(tpl)),
-        _ => ts_keyword_type(Word::TsStringKeyword).into_tree(alloc),
+        _ => ts_keyword_type(TsKeywordTypeKind::TsStringKeyword).into_tree(alloc),
     }
 }

@@ -9,10 +9,11 @@ use Rattle.fast_check_signatures.specs.Seen.{tree_in}
 use Rattle.fast_check_signatures.specs.Answers.{fault_at}
 use Rattle.fast_check_signatures.specs.Functions.{return_type_seen, return_type_missing, or_own}
 use Rattle.fast_check_signatures.specs.Expressions.{is_plain, is_compound}
-use Rattle.fast_check_values.proofs.Answered.{IsOtherExpr, faults_plain, faults_as, faults_assertion, left_other, faults_other, left_fn, faults_fn}
+use Rattle.fast_check_values.proofs.Answered.{left_plain, left_compound, faults_compound, left_satisfies, faults_satisfies, left_as, left_assertion, left_any_call, faults_any_call, left_arrow, faults_arrow, IsOtherExpr, faults_plain, faults_as, faults_assertion, left_other, faults_other, left_fn, faults_fn}
 use Rattle.fast_check_values.proofs.Chains.{unchanged, two_steps, three_steps, ok_all}
-use Rattle.fast_check_values.proofs.Heights.{height_some}
-use Rattle.fast_check_values.proofs.Patterns.{IsOtherPat, IsOtherLeft, assign_known_faults, assign_array_typed_faults, assign_object_typed_faults, assign_other, assign_other_faults, pat_other, pat_other_faults, pat_rest, pat_rest_faults}
+use Rattle.fast_check_values.proofs.Heights.{height_some, height_less}
+use Rattle.fast_check_syntax.specs.Height.{height_part, height_read, height_at_most}
+use Rattle.fast_check_values.proofs.Patterns.{pat_ident, pat_ident_faults, pat_assign, pat_assign_faults, pat_array, pat_array_faults, pat_object, pat_object_faults, assign_known, assign_unknown, assign_unknown_faults, assign_array_typed, assign_object_typed, assign_array, assign_array_faults, assign_object, assign_object_faults, IsOtherPat, IsOtherLeft, assign_known_faults, assign_array_typed_faults, assign_object_typed_faults, assign_other, assign_other_faults, pat_other, pat_other_faults, pat_rest, pat_rest_faults}
 use Rattle.fast_check_values.proofs.Signed.{fn_faults_are, arrow_known_faults, no_known_faults, arrow_valued_faults, fn_tree_is}
 use Rattle.fast_check_values.specs.Kept.{faults_of, expr_left, expr_faults, unless_left, known_type, known_faults, pats_faults, params_faults}
 use Rattle.std.proofs.lemmas.Grind.{common_steps}
@@ -177,3 +178,117 @@ parameters::transform_param_pat-returns-in-RestPat-clause-kept t c = grind (arit
 
 pub parameters::transform_param_pat-returns-in-RestPat-clause-faults : goal.parameters::transform_param_pat-returns-in-RestPat-clause-faults
 parameters::transform_param_pat-returns-in-RestPat-clause-faults t c = grind (arith, pat_rest_faults)
+
+pub expressions::leave_expr-returns-then-is_plain-clause-kept : goal.expressions::leave_expr-returns-then-is_plain-clause-kept
+expressions::leave_expr-returns-then-is_plain-clause-kept t c = grind (arith, left_plain)
+
+pub expressions::leave_expr-returns-then-is_compound-clause-kept : goal.expressions::leave_expr-returns-then-is_compound-clause-kept
+expressions::leave_expr-returns-then-is_compound-clause-kept t c = grind (arith, left_compound)
+
+pub expressions::leave_expr-returns-then-is_compound-clause-faults : goal.expressions::leave_expr-returns-then-is_compound-clause-faults
+expressions::leave_expr-returns-then-is_compound-clause-faults t c = grind (arith, faults_compound)
+
+pub expressions::leave_expr-returns-in-TsSatisfiesExpr-clause-kept : goal.expressions::leave_expr-returns-in-TsSatisfiesExpr-clause-kept
+expressions::leave_expr-returns-in-TsSatisfiesExpr-clause-kept t c = grind (arith, left_satisfies)
+
+pub expressions::leave_expr-returns-in-TsSatisfiesExpr-clause-faults : goal.expressions::leave_expr-returns-in-TsSatisfiesExpr-clause-faults
+expressions::leave_expr-returns-in-TsSatisfiesExpr-clause-faults t c = grind (arith, faults_satisfies)
+
+pub expressions::leave_expr-returns-in_ok-never_as-in-TsAsExpr-clause-kept : goal.expressions::leave_expr-returns-in_ok-never_as-in-TsAsExpr-clause-kept
+expressions::leave_expr-returns-in_ok-never_as-in-TsAsExpr-clause-kept t c = grind (arith, left_as)
+
+pub expressions::leave_expr-returns-in_ok-asserted_never-in-TsTypeAssertion-clause-kept : goal.expressions::leave_expr-returns-in_ok-asserted_never-in-TsTypeAssertion-clause-kept
+expressions::leave_expr-returns-in_ok-asserted_never-in-TsTypeAssertion-clause-kept t c = grind (arith, left_assertion)
+
+pub expressions::leave_expr-returns-in-CallExpr-clause-kept : goal.expressions::leave_expr-returns-in-CallExpr-clause-kept
+expressions::leave_expr-returns-in-CallExpr-clause-kept t c = grind (arith, left_any_call)
+
+pub expressions::leave_expr-returns-in-CallExpr-clause-faults : goal.expressions::leave_expr-returns-in-CallExpr-clause-faults
+expressions::leave_expr-returns-in-CallExpr-clause-faults t c = grind (arith, faults_any_call)
+
+pub expressions::leave_expr-returns-in_ok-transform_arrow-in-ArrowExpr-clause-kept : goal.expressions::leave_expr-returns-in_ok-transform_arrow-in-ArrowExpr-clause-kept
+expressions::leave_expr-returns-in_ok-transform_arrow-in-ArrowExpr-clause-kept t c = grind (arith, left_arrow)
+
+pub expressions::leave_expr-returns-in_ok-transform_arrow-in-ArrowExpr-clause-faults : goal.expressions::leave_expr-returns-in_ok-transform_arrow-in-ArrowExpr-clause-faults
+expressions::leave_expr-returns-in_ok-transform_arrow-in-ArrowExpr-clause-faults t c = grind (arith, faults_arrow)
+
+pub expressions::leave_expr-transform_fn-requires : goal.expressions::leave_expr-transform_fn-requires
+expressions::leave_expr-transform_fn-requires t c = grind (arith, height_less, height_part)
+
+pub expressions::leave_parts-leave_expr-requires : goal.expressions::leave_parts-leave_expr-requires
+expressions::leave_parts-leave_expr-requires t c = grind (arith, height_read)
+
+pub expressions::leave_satisfies-leave_expr-requires : goal.expressions::leave_satisfies-leave_expr-requires
+expressions::leave_satisfies-leave_expr-requires t c = grind (arith, height_less)
+
+pub expressions::leave_call-leave_expr-requires : goal.expressions::leave_call-leave_expr-requires
+expressions::leave_call-leave_expr-requires t c = grind (arith, height_less)
+
+pub parameters::transform_param_pat-returns-in_ok-to_tree-in-BindingIdent-clause-kept : goal.parameters::transform_param_pat-returns-in_ok-to_tree-in-BindingIdent-clause-kept
+parameters::transform_param_pat-returns-in_ok-to_tree-in-BindingIdent-clause-kept t c = grind (arith, pat_ident)
+
+pub parameters::transform_param_pat-returns-in_ok-to_tree-in-BindingIdent-clause-faults : goal.parameters::transform_param_pat-returns-in_ok-to_tree-in-BindingIdent-clause-faults
+parameters::transform_param_pat-returns-in_ok-to_tree-in-BindingIdent-clause-faults t c = grind (arith, pat_ident_faults)
+
+pub parameters::transform_param_pat-returns-in-AssignPat-clause-kept : goal.parameters::transform_param_pat-returns-in-AssignPat-clause-kept
+parameters::transform_param_pat-returns-in-AssignPat-clause-kept t c = grind (arith, pat_assign)
+
+pub parameters::transform_param_pat-returns-in-AssignPat-clause-faults : goal.parameters::transform_param_pat-returns-in-AssignPat-clause-faults
+parameters::transform_param_pat-returns-in-AssignPat-clause-faults t c = grind (arith, pat_assign_faults)
+
+pub parameters::transform_param_pat-returns-in_ok-emptied_array-in-ArrayPat-clause-kept : goal.parameters::transform_param_pat-returns-in_ok-emptied_array-in-ArrayPat-clause-kept
+parameters::transform_param_pat-returns-in_ok-emptied_array-in-ArrayPat-clause-kept t c = grind (arith, pat_array)
+
+pub parameters::transform_param_pat-returns-in_ok-emptied_array-in-ArrayPat-clause-faults : goal.parameters::transform_param_pat-returns-in_ok-emptied_array-in-ArrayPat-clause-faults
+parameters::transform_param_pat-returns-in_ok-emptied_array-in-ArrayPat-clause-faults t c = grind (arith, pat_array_faults)
+
+pub parameters::transform_param_pat-returns-in_ok-emptied_object-in-ObjectPat-clause-kept : goal.parameters::transform_param_pat-returns-in_ok-emptied_object-in-ObjectPat-clause-kept
+parameters::transform_param_pat-returns-in_ok-emptied_object-in-ObjectPat-clause-kept t c = grind (arith, pat_object)
+
+pub parameters::transform_param_pat-returns-in_ok-emptied_object-in-ObjectPat-clause-faults : goal.parameters::transform_param_pat-returns-in_ok-emptied_object-in-ObjectPat-clause-faults
+parameters::transform_param_pat-returns-in_ok-emptied_object-in-ObjectPat-clause-faults t c = grind (arith, pat_object_faults)
+
+pub parameters::transform_assign_pat-returns-in-Some-clause-kept : goal.parameters::transform_assign_pat-returns-in-Some-clause-kept
+parameters::transform_assign_pat-returns-in-Some-clause-kept t c = grind (arith, assign_known)
+
+pub parameters::transform_assign_pat-returns-in_ok-left-in-BindingIdent-clause-kept : goal.parameters::transform_assign_pat-returns-in_ok-left-in-BindingIdent-clause-kept
+parameters::transform_assign_pat-returns-in_ok-left-in-BindingIdent-clause-kept t c = grind (arith, assign_unknown)
+
+pub parameters::transform_assign_pat-returns-in_ok-left-in-BindingIdent-clause-faults : goal.parameters::transform_assign_pat-returns-in_ok-left-in-BindingIdent-clause-faults
+parameters::transform_assign_pat-returns-in_ok-left-in-BindingIdent-clause-faults t c = grind (arith, assign_unknown_faults)
+
+pub parameters::transform_assign_pat-returns-in_ok-never_array-in-ArrayPat-clause-kept : goal.parameters::transform_assign_pat-returns-in_ok-never_array-in-ArrayPat-clause-kept
+parameters::transform_assign_pat-returns-in_ok-never_array-in-ArrayPat-clause-kept t c = grind (arith, assign_array_typed)
+
+pub parameters::transform_assign_pat-returns-in_ok-never_value-in-ObjectPat-clause-kept : goal.parameters::transform_assign_pat-returns-in_ok-never_value-in-ObjectPat-clause-kept
+parameters::transform_assign_pat-returns-in_ok-never_value-in-ObjectPat-clause-kept t c = grind (arith, assign_object_typed)
+
+pub parameters::transform_assign_pat-returns-then-is_absent-clause-kept : goal.parameters::transform_assign_pat-returns-then-is_absent-clause-kept
+parameters::transform_assign_pat-returns-then-is_absent-clause-kept t c = grind (arith, assign_array)
+
+pub parameters::transform_assign_pat-returns-then-is_absent-clause-faults : goal.parameters::transform_assign_pat-returns-then-is_absent-clause-faults
+parameters::transform_assign_pat-returns-then-is_absent-clause-faults t c = grind (arith, assign_array_faults)
+
+pub parameters::transform_assign_pat-returns-then-is_absent-2-clause-kept : goal.parameters::transform_assign_pat-returns-then-is_absent-2-clause-kept
+parameters::transform_assign_pat-returns-then-is_absent-2-clause-kept t c = grind (arith, assign_object)
+
+pub parameters::transform_assign_pat-returns-then-is_absent-2-clause-faults : goal.parameters::transform_assign_pat-returns-then-is_absent-2-clause-faults
+parameters::transform_assign_pat-returns-then-is_absent-2-clause-faults t c = grind (arith, assign_object_faults)
+
+pub parameters::leave_default-leave_value-requires : goal.parameters::leave_default-leave_value-requires
+parameters::leave_default-leave_value-requires t c = grind (arith, height_at_most)
+
+pub parameters::transform_pats-transform_param_pat-requires : goal.parameters::transform_pats-transform_param_pat-requires
+parameters::transform_pats-transform_param_pat-requires t c = grind (arith, height_read)
+
+pub parameters::transform_params-transform_param_pat-requires : goal.parameters::transform_params-transform_param_pat-requires
+parameters::transform_params-transform_param_pat-requires t c = grind (arith, height_read, height_at_most)
+
+pub expressions::leave_parts-loop-part-preserved : goal.expressions::leave_parts-loop-part-preserved
+expressions::leave_parts-loop-part-preserved t c = grind (arith, common_steps)
+
+pub parameters::transform_pats-loop-index-preserved : goal.parameters::transform_pats-loop-index-preserved
+parameters::transform_pats-loop-index-preserved t c = grind (arith, common_steps)
+
+pub parameters::transform_params-loop-index-preserved : goal.parameters::transform_params-loop-index-preserved
+parameters::transform_params-loop-index-preserved t c = grind (arith, common_steps)

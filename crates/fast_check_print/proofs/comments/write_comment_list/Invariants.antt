@@ -7,4 +7,5 @@ use Rattle.fast_check_print.proofs.comments.write_comment_list.Given as goal
 
 -- the other comments still have to come
 abbrev pub invariant-loop-comment : goal.invariant-loop-comment
-invariant-loop-comment l = Remains (tokens_of (comment_list_data l.fn.comments)) l.fn.out l.out (rest_of_items (map comment_data (drop l.comment-index l.comments)))
+invariant-loop-comment l = Remains (tokens_of (comment_list_data l.fn.comments)) l.fn.out l.out
+    (rest_of_items (map comment_data (drop l.comment-index l.comments)))

@@ -11,11 +11,13 @@ use Rattle.fast_check_print.proofs.tree.+write.Given as goal
 -- the other items still have to come
 abbrev pub invariant-write_list-loop-item : goal.invariant-write_list-loop-item
 invariant-write_list-loop-item l =
-    Remains (tokens_of (list_data (map json_of l.fn.items) l.fn.form)) l.fn.out l.out (rest_of_items (map (λ p. p l.form) (map json_of (drop l.item-index l.items))))
+    Remains (tokens_of (list_data (map json_of l.fn.items) l.fn.form)) l.fn.out l.out
+    (rest_of_items (map (λ p. p l.form) (map json_of (drop l.item-index l.items))))
 
 -- the members of the other places still have to come
 abbrev pub invariant-write_fields-loop-place : goal.invariant-write_fields-loop-place
 invariant-write_fields-loop-place l =
     let places = drop l.place-index l.place-items in
-    Remains (tokens_of (fields_data (fields_of l.fn.kind) (map json_of l.fn.parts))) l.fn.out l.out (rest_of_members (map field_row l.fields) (map json_of l.parts) places)
+    Remains (tokens_of (fields_data (fields_of l.fn.kind) (map json_of l.fn.parts))) l.fn.out l.out
+    (rest_of_members (map field_row l.fields) (map json_of l.parts) places)
     × Within (map field_row l.fields) places

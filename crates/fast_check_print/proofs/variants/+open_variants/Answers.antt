@@ -25,5 +25,6 @@ pub returns-in_ok-open_variants-in-Some-clause-count : goal.returns-in_ok-open_v
 returns-in_ok-open_variants-in-Some-clause-count t c =
     let inner = c.in_ok-open_variants-in-Some.ensures.count in
     let some = c.if-levels-gt0.true in
-    let count : length (variant_names c.args.levels c.args.kind c.args.form) ≡ 1 + length (variant_names (c.args.levels - 1) c.args.kind c.in-Some.variant.1) = ap length (names-found t c) ∙ omega arith in
+    let count : length (variant_names c.args.levels c.args.kind c.args.form) ≡ 1 + length
+    (variant_names (c.args.levels - 1) c.args.kind c.in-Some.variant.1) = ap length (names-found t c) ∙ omega arith in
     (ap (λ n. 1 + n) inner.0 ∙ sym count, omega (arith, inner.1, some))

@@ -8,4 +8,6 @@ use Rattle.fast_check_program.proofs.answer.write_module_info.Given as goal
 
 -- the other sources still have to come
 abbrev pub invariant-loop-source : goal.invariant-loop-source
-invariant-loop-source l = Remains (tokens_of (sources_data l.source-items)) l.fn.out l.out (rest_of_items (map source_data (drop l.source-index l.source-items)) ++ end_object ∷ [])
+invariant-loop-source l =
+    Remains (tokens_of (sources_data l.source-items)) l.fn.out l.out
+    (rest_of_items (map source_data (drop l.source-index l.source-items)) ++ end_object ∷ [])

@@ -1,5 +1,5 @@
 use Rattle.std.proofs.Common.{rules, refl, inr}
-use Rattle.fast_check_program.specs.declared.refusal.Refusal.TheVariants as refusals
+use Rattle.fast_check_requests.specs.declared.refusal.Refusal.TheVariants as refusals
 use Rattle.fast_check_program.proofs.command.run.Goals as goal
 
 pub returns-in-Ok-clause-refusal : goal.returns-in-Ok-clause-refusal

@@ -13,8 +13,10 @@ invariant-read_node-loop-field l =
 
 abbrev pub invariant-read_list-loop-value : goal.invariant-read_list-loop-value
 invariant-read_list-loop-value l =
-    list_items l.form (item_readings (items_view l.value-items)) ≡ option_map (λ more. l.items ++ more) (list_items l.form (item_readings (items_view (drop l.value-index l.value-items))))
+    list_items l.form (item_readings (items_view l.value-items)) ≡ option_map (λ more. l.items ++ more)
+    (list_items l.form (item_readings (items_view (drop l.value-index l.value-items))))
 
 abbrev pub invariant-read_options-loop-value : goal.invariant-read_options-loop-value
 invariant-read_options-loop-value l =
-    option_items l.form (item_readings (items_view l.value-items)) ≡ option_map (λ more. l.items ++ more) (option_items l.form (item_readings (items_view (drop l.value-index l.value-items))))
+    option_items l.form (item_readings (items_view l.value-items)) ≡ option_map (λ more. l.items ++ more)
+    (option_items l.form (item_readings (items_view (drop l.value-index l.value-items))))

@@ -14,4 +14,5 @@ is_admitted-choice (suc levels) kind choice some = let one_less : suc levels - 1
 
 pub admits-returns-then-levels-gt0 : goal.admits-returns-then-levels-gt0
 admits-returns-then-levels-gt0 t c =
-    c.admits_variant.ensures ∙ sym (is_admitted-choice c.args.levels c.args.kind c.in-Choice.choice c.if-levels-gt0.true) ∙ ap (is_admitted c.args.levels c.args.kind) (sym c.in-Choice.is)
+    c.admits_variant.ensures ∙ sym (is_admitted-choice c.args.levels c.args.kind c.in-Choice.choice c.if-levels-gt0.true) ∙
+    ap (is_admitted c.args.levels c.args.kind) (sym c.in-Choice.is)

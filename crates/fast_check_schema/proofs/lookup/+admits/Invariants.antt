@@ -13,4 +13,5 @@ decreases-admits_variant l = 2 * l.levels + 1
 -- no variant so far admits the kind
 abbrev pub invariant-admits_variant-loop-variant : goal.invariant-admits_variant-loop-variant
 invariant-admits_variant-loop-variant l =
-    list_any (λ v. is_admitted l.levels l.kind v.form) (map variant_row l.variant-items) ≡ list_any (λ v. is_admitted l.levels l.kind v.form) (map variant_row (drop l.variant-index l.variant-items))
+    list_any (λ v. is_admitted l.levels l.kind v.form) (map variant_row l.variant-items) ≡
+    list_any (λ v. is_admitted l.levels l.kind v.form) (map variant_row (drop l.variant-index l.variant-items))

@@ -25,7 +25,8 @@ difference-loop-name-preserved-in_ok-put-in-None-get t c =
     built_put L (R c.args.old.now.names) c.args.new.now.names c.in-Some.name.now c.in-Some.exports.now c.next.new.self c.loop-name.names
     (rw c.in-Some.ensures.steps at c.loop-name.invariant)
     (c.into_iter-name-iterator.ensures.into_iter_gives).6 c.put.new.names c.in_ok-clone-in-None-get.field-0 c.in_ok-put-in-None-get.ensures
-    (at_old _ None (Some c.in-Some.exports.now) (Some c.in_ok-clone-in-None-get.field-0) (found_at c.args.old.now.names c.as_str.result.now (string_bytes c.in-Some.name.now) None c.as_str.ensures.value c.in-None-get.ensures.value)
+    (at_old _ None (Some c.in-Some.exports.now) (Some c.in_ok-clone-in-None-get.field-0)
+    (found_at c.args.old.now.names c.as_str.result.now (string_bytes c.in-Some.name.now) None c.as_str.ensures.value c.in-None-get.ensures.value)
     (below_absent c.in-Some.exports.now c.in_ok-clone-in-None-get.field-0 c.in_ok-clone-in-None-get.ensures.cases))
 
 pub difference-loop-name-preserved-in_ok-put-in-Some-get : goal.difference-loop-name-preserved-in_ok-put-in-Some-get
@@ -33,7 +34,9 @@ difference-loop-name-preserved-in_ok-put-in-Some-get t c =
     built_put L (R c.args.old.now.names) c.args.new.now.names c.in-Some.name.now c.in-Some.exports.now c.next.new.self c.loop-name.names
     (rw c.in-Some.ensures.steps at c.loop-name.invariant)
     (c.into_iter-name-iterator.ensures.into_iter_gives).6 c.put-in-Some-2.new.names c.in-Some-2.rest c.in_ok-put-in-Some-get.ensures
-    (at_old _ (Some c.in-Some-get.below.now) (Some c.in-Some.exports.now) (Some c.in-Some-2.rest) (found_at c.args.old.now.names c.as_str.result.now (string_bytes c.in-Some.name.now) (Some c.in-Some-get.below.now) c.as_str.ensures.value c.in-Some-get.ensures.value)
+    (at_old _ (Some c.in-Some-get.below.now) (Some c.in-Some.exports.now) (Some c.in-Some-2.rest)
+    (found_at c.args.old.now.names c.as_str.result.now (string_bytes c.in-Some.name.now)
+    (Some c.in-Some-get.below.now) c.as_str.ensures.value c.in-Some-get.ensures.value)
     (rw c.in-Some-2.is at c.in_ok-rest-in-Some-get.ensures))
 
 pub difference-loop-name-preserved : goal.difference-loop-name-preserved
@@ -41,13 +44,17 @@ difference-loop-name-preserved t c =
     built_skip L (R c.args.old.now.names) c.args.new.now.names c.in-Some.name.now c.in-Some.exports.now c.next.new.self c.loop-name.names
     (rw c.in-Some.ensures.steps at c.loop-name.invariant)
     (c.into_iter-name-iterator.ensures.into_iter_gives).6
-    (λ o is. skipped _ (Some c.in-Some.exports.now) o (at_old _ (Some c.in-Some-get.below.now) (Some c.in-Some.exports.now) None (found_at c.args.old.now.names c.as_str.result.now (string_bytes c.in-Some.name.now) (Some c.in-Some-get.below.now) c.as_str.ensures.value c.in-Some-get.ensures.value)
+    (λ o is. skipped _ (Some c.in-Some.exports.now) o
+    (at_old _ (Some c.in-Some-get.below.now) (Some c.in-Some.exports.now) None
+    (found_at c.args.old.now.names c.as_str.result.now (string_bytes c.in-Some.name.now)
+    (Some c.in-Some-get.below.now) c.as_str.ensures.value c.in-Some-get.ensures.value)
     (rw c.in_default.is at c.in_ok-rest-in-Some-get.ensures)))
 
 pub difference-returns : goal.difference-returns
 difference-returns t c =
     difference_each c.args.old.now c.args.new.now (made c.loop-name.names)
-    (built_last L (R c.args.old.now.names) c.args.new.now.names c.loop-name.names (rw c.in-None.ensures.steps.0 at c.loop-name.invariant) (λ n o is e. skipped _ None o (below_nothing (get_by_text c.args.old.now.names n)) e))
+    (built_last L (R c.args.old.now.names) c.args.new.now.names c.loop-name.names (rw c.in-None.ensures.steps.0 at c.loop-name.invariant)
+    (λ n o is e. skipped _ None o (below_nothing (get_by_text c.args.old.now.names n)) e))
 
 pub difference_below-returns-in-All-default : goal.difference_below-returns-in-All-default
 difference_below-returns-in-All-default t c = rw c.in-All-default.is-0 (below_all_before (Some c.args.new.now))
@@ -58,7 +65,8 @@ difference_below-returns-in-Subset-All t c = rw (c.in-Subset-All.is-0, c.in-Subs
 pub difference_below-returns-then-is_empty : goal.difference_below-returns-then-is_empty
 difference_below-returns-then-is_empty t c =
     rw (c.in-Subset-Subset.is-0, c.in-Subset-Subset.is-1)
-    (below_no_rest c.in-Subset-Subset.old c.in-Subset-Subset.new c.in_ok-rest-in-Subset-Subset.rest c.in_ok-rest-in-Subset-Subset.ensures (c.is_empty.ensures.none c.if-is_empty.true))
+    (below_no_rest c.in-Subset-Subset.old c.in-Subset-Subset.new c.in_ok-rest-in-Subset-Subset.rest c.in_ok-rest-in-Subset-Subset.ensures
+    (c.is_empty.ensures.none c.if-is_empty.true))
 
 pub difference_below-returns-else-is_empty : goal.difference_below-returns-else-is_empty
 difference_below-returns-else-is_empty t c =

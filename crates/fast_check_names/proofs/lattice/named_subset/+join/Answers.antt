@@ -21,7 +21,8 @@ join-loop-name-preserved-in_ok-put-in-None-get t c =
     built_put L (R c.args.new.now.names) c.args.old.now.names c.in-Some.name.now c.in-Some.exports.now c.next.new.self c.loop-name.names
     (rw c.in-Some.ensures.steps at c.loop-name.invariant)
     (c.into_iter-name-iterator.ensures.into_iter_gives).6 c.put.new.names c.in_ok-clone-in-None-get.field-0 c.in_ok-put-in-None-get.ensures
-    (at_new (Some c.in-Some.exports.now) _ None (Some c.in_ok-clone-in-None-get.field-0) (found_at c.args.new.now.names c.as_str.result.now (string_bytes c.in-Some.name.now) None c.as_str.ensures.value c.in-None-get.ensures.value)
+    (at_new (Some c.in-Some.exports.now) _ None (Some c.in_ok-clone-in-None-get.field-0)
+    (found_at c.args.new.now.names c.as_str.result.now (string_bytes c.in-Some.name.now) None c.as_str.ensures.value c.in-None-get.ensures.value)
     (join_nothing (Some c.in-Some.exports.now) (Some c.in_ok-clone-in-None-get.field-0) c.in_ok-clone-in-None-get.ensures.cases))
 
 pub join-loop-name-preserved : goal.join-loop-name-preserved
@@ -29,7 +30,9 @@ join-loop-name-preserved t c =
     built_put L (R c.args.new.now.names) c.args.old.now.names c.in-Some.name.now c.in-Some.exports.now c.next.new.self c.loop-name.names
     (rw c.in-Some.ensures.steps at c.loop-name.invariant)
     (c.into_iter-name-iterator.ensures.into_iter_gives).6 c.put-in-Some-get.new.names c.in_ok-below-in-Some-get.below c.in_ok-put-in-Some-get.ensures
-    (at_new (Some c.in-Some.exports.now) _ (Some c.in-Some-get.more.now) (Some c.in_ok-below-in-Some-get.below) (found_at c.args.new.now.names c.as_str.result.now (string_bytes c.in-Some.name.now) (Some c.in-Some-get.more.now) c.as_str.ensures.value c.in-Some-get.ensures.value)
+    (at_new (Some c.in-Some.exports.now) _ (Some c.in-Some-get.more.now) (Some c.in_ok-below-in-Some-get.below)
+    (found_at c.args.new.now.names c.as_str.result.now (string_bytes c.in-Some.name.now)
+    (Some c.in-Some-get.more.now) c.as_str.ensures.value c.in-Some-get.ensures.value)
     c.in_ok-below-in-Some-get.ensures)
 
 pub join-returns : goal.join-returns

@@ -17,16 +17,20 @@ pub is_same-returns-in-None-get : goal.is_same-returns-in-None-get
 is_same-returns-in-None-get t c = (
   λ u. absurd (false≢true u),
   λ h. lacks_one c.args.a.now c.args.b.now (string_bytes c.in-Some.name.now) c.in-Some.below.now
-      (found (L c.args.b.now.names) R c.args.a.now.names c.in-Some.name.now c.in-Some.below.now c.next.new.self c.args.b.now.names (rw c.in-Some.ensures.steps at c.loop-name.invariant) (c.into_iter-name-iterator.ensures.into_iter_gives).6)
+      (found (L c.args.b.now.names) R c.args.a.now.names c.in-Some.name.now c.in-Some.below.now c.next.new.self c.args.b.now.names
+      (rw c.in-Some.ensures.steps at c.loop-name.invariant) (c.into_iter-name-iterator.ensures.into_iter_gives).6)
       (found_at c.args.b.now.names c.as_str.result.now (string_bytes c.in-Some.name.now) None c.as_str.ensures.value c.in-None-get.ensures.value) h,
 )
 
 pub is_same-returns-then-not-is_same_below : goal.is_same-returns-then-not-is_same_below
 is_same-returns-then-not-is_same_below t c = (
   λ u. absurd (false≢true u),
-  λ h. sym c.if-not-is_same_below.true ∙ c.is_same_below.ensures.1 (found_same c.args.a.now c.args.b.now (string_bytes c.in-Some.name.now) c.in-Some.below.now c.in-Some-get.other.now
-      (found (L c.args.b.now.names) R c.args.a.now.names c.in-Some.name.now c.in-Some.below.now c.next.new.self c.args.b.now.names (rw c.in-Some.ensures.steps at c.loop-name.invariant) (c.into_iter-name-iterator.ensures.into_iter_gives).6)
-      (found_at c.args.b.now.names c.as_str.result.now (string_bytes c.in-Some.name.now) (Some c.in-Some-get.other.now) c.as_str.ensures.value c.in-Some-get.ensures.value) h),
+  λ h. sym c.if-not-is_same_below.true ∙
+      c.is_same_below.ensures.1 (found_same c.args.a.now c.args.b.now (string_bytes c.in-Some.name.now) c.in-Some.below.now c.in-Some-get.other.now
+      (found (L c.args.b.now.names) R c.args.a.now.names c.in-Some.name.now c.in-Some.below.now c.next.new.self c.args.b.now.names
+      (rw c.in-Some.ensures.steps at c.loop-name.invariant) (c.into_iter-name-iterator.ensures.into_iter_gives).6)
+      (found_at c.args.b.now.names c.as_str.result.now (string_bytes c.in-Some.name.now)
+      (Some c.in-Some-get.other.now) c.as_str.ensures.value c.in-Some-get.ensures.value) h),
 )
 
 pub is_same-loop-name-preserved : goal.is_same-loop-name-preserved
@@ -34,7 +38,9 @@ is_same-loop-name-preserved t c =
     built_skip (L c.args.b.now.names) R c.args.a.now.names c.in-Some.name.now c.in-Some.below.now c.next.new.self c.args.b.now.names
     (rw c.in-Some.ensures.steps at c.loop-name.invariant)
     (c.into_iter-name-iterator.ensures.into_iter_gives).6
-    (λ o is e. alike_at c.in-Some.below.now c.in-Some-get.other.now o (e ∙ found_at c.args.b.now.names c.as_str.result.now (string_bytes c.in-Some.name.now) (Some c.in-Some-get.other.now) c.as_str.ensures.value c.in-Some-get.ensures.value)
+    (λ o is e. alike_at c.in-Some.below.now c.in-Some-get.other.now o
+    (e ∙ found_at c.args.b.now.names c.as_str.result.now (string_bytes c.in-Some.name.now)
+    (Some c.in-Some-get.other.now) c.as_str.ensures.value c.in-Some-get.ensures.value)
     (c.is_same_below.ensures.0 c.if-not-is_same_below.false))
 
 pub is_same-returns : goal.is_same-returns
@@ -46,12 +52,16 @@ is_same-returns t c = (
 )
 
 pub is_same_below-returns-in-All-Subset : goal.is_same_below-returns-in-All-Subset
-is_same_below-returns-in-All-Subset t c = rw (c.in-All-Subset.is-0, c.in-All-Subset.is-1) (λ u. absurd (false≢true u), λ h. all_not_subset c.in-All-Subset.field-0-1 h)
+is_same_below-returns-in-All-Subset t c =
+    rw (c.in-All-Subset.is-0, c.in-All-Subset.is-1) (λ u. absurd (false≢true u), λ h. all_not_subset c.in-All-Subset.field-0-1 h)
 
 pub is_same_below-returns-in-Subset-Subset : goal.is_same_below-returns-in-Subset-Subset
 is_same_below-returns-in-Subset-Subset t c =
-    rw (c.in-Subset-Subset.is-0, c.in-Subset-Subset.is-1)
-    (λ u. subsets_same c.in-Subset-Subset.a c.in-Subset-Subset.b (c.is_same.ensures.0 u), λ h. c.is_same.ensures.1 (same_subsets c.in-Subset-Subset.a c.in-Subset-Subset.b h))
+    rw (c.in-Subset-Subset.is-0, c.in-Subset-Subset.is-1) (
+      λ u. subsets_same c.in-Subset-Subset.a c.in-Subset-Subset.b (c.is_same.ensures.0 u),
+      λ h. c.is_same.ensures.1 (same_subsets c.in-Subset-Subset.a c.in-Subset-Subset.b h),
+    )
 
 pub is_same_below-returns-in-Subset-All : goal.is_same_below-returns-in-Subset-All
-is_same_below-returns-in-Subset-All t c = rw (c.in-Subset-All.is-0, c.in-Subset-All.is-1) (λ u. absurd (false≢true u), λ h. all_not_subset c.in-Subset-All.field-0-0 (λ part p. sym (h part p)))
+is_same_below-returns-in-Subset-All t c =
+    rw (c.in-Subset-All.is-0, c.in-Subset-All.is-1) (λ u. absurd (false≢true u), λ h. all_not_subset c.in-Subset-All.field-0-0 (λ part p. sym (h part p)))

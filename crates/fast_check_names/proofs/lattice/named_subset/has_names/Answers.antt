@@ -18,9 +18,11 @@ pub returns-then-not-contains_key : goal.returns-then-not-contains_key
 returns-then-not-contains_key c = (
   λ t. absurd (false≢true t),
   λ h.
-      sym (ap is_some (absent_at c.args.others.now c.as_str.result.now (string_bytes c.in-Some.name.now) c.as_str.ensures.value (sym c.contains_key.ensures ∙ c.if-not-contains_key.true)))
+      sym (ap is_some (absent_at c.args.others.now c.as_str.result.now (string_bytes c.in-Some.name.now) c.as_str.ensures.value
+      (sym c.contains_key.ensures ∙ c.if-not-contains_key.true)))
       ∙ h (string_bytes c.in-Some.name.now)
-      (ap is_some (found (L c.args.others.now) R c.args.names.now c.in-Some.name.now c.in-Some.field-0-1.now c.next.new.self c.args.others.now (rw c.in-Some.ensures.steps at c.loop-name.invariant) (c.into_iter-name-iterator.ensures.into_iter_gives).6)),
+      (ap is_some (found (L c.args.others.now) R c.args.names.now c.in-Some.name.now c.in-Some.field-0-1.now c.next.new.self c.args.others.now
+      (rw c.in-Some.ensures.steps at c.loop-name.invariant) (c.into_iter-name-iterator.ensures.into_iter_gives).6)),
 )
 
 pub loop-name-preserved : goal.loop-name-preserved
@@ -28,4 +30,5 @@ loop-name-preserved c =
     built_skip (L c.args.others.now) R c.args.names.now c.in-Some.name.now c.in-Some.field-0-1.now c.next.new.self c.args.others.now
     (rw c.in-Some.ensures.steps at c.loop-name.invariant)
     (c.into_iter-name-iterator.ensures.into_iter_gives).6
-    (λ o is e t. ap is_some e ∙ held_at c.args.others.now c.as_str.result.now (string_bytes c.in-Some.name.now) c.as_str.ensures.value (sym c.contains_key.ensures ∙ c.if-not-contains_key.false))
+    (λ o is e t. ap is_some e ∙ held_at c.args.others.now c.as_str.result.now (string_bytes c.in-Some.name.now) c.as_str.ensures.value
+    (sym c.contains_key.ensures ∙ c.if-not-contains_key.false))

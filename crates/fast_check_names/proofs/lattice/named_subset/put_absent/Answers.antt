@@ -17,7 +17,9 @@ loop-name-preserved-in_ok-put c =
     built_put (L c.args.old.now c.args.new.now) (R c.args.old.now) c.args.new.now c.in-Some.name.now c.in-Some.exports.now c.next.new.self c.loop-name.names
     (rw c.in-Some.ensures.steps at c.loop-name.invariant)
     (c.into_iter-name-iterator.ensures.into_iter_gives).6 c.put.new.names c.in_ok-clone.field-0 c.in_ok-put.ensures
-    (absent_join (get_by_text c.args.old.now (string_bytes c.in-Some.name.now)) (absent_at c.args.old.now c.as_str.result.now (string_bytes c.in-Some.name.now) c.as_str.ensures.value (sym c.contains_key.ensures ∙ c.if-not-contains_key.true))
+    (absent_join (get_by_text c.args.old.now (string_bytes c.in-Some.name.now))
+    (absent_at c.args.old.now c.as_str.result.now (string_bytes c.in-Some.name.now) c.as_str.ensures.value
+    (sym c.contains_key.ensures ∙ c.if-not-contains_key.true))
     (join_absent (Some c.in-Some.exports.now) (Some c.in_ok-clone.field-0) c.in_ok-clone.ensures.cases))
 
 pub loop-name-preserved : goal.loop-name-preserved
@@ -26,7 +28,8 @@ loop-name-preserved c =
     (rw c.in-Some.ensures.steps at c.loop-name.invariant)
     (c.into_iter-name-iterator.ensures.into_iter_gives).6
     (λ o is held. held_join (get_by_text c.args.old.now (string_bytes c.in-Some.name.now)) (Some c.in-Some.exports.now) o
-    (held_at c.args.old.now c.as_str.result.now (string_bytes c.in-Some.name.now) c.as_str.ensures.value (sym c.contains_key.ensures ∙ c.if-not-contains_key.false))
+    (held_at c.args.old.now c.as_str.result.now (string_bytes c.in-Some.name.now) c.as_str.ensures.value
+    (sym c.contains_key.ensures ∙ c.if-not-contains_key.false))
     (subst (λ (x : Option Exports). IsJoinWhereHeld (get_by_text c.args.old.now (string_bytes c.in-Some.name.now)) x o) is held))
 
 pub returns : goal.returns

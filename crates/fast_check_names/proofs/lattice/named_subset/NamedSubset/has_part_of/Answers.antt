@@ -7,7 +7,10 @@ pub returns-in-None : goal.returns-in-None
 returns-in-None c = part_of_none ∙ part_found c.args.self.now c.args.name.now None c.in-None.ensures.value
 
 pub returns-in-Some-All : goal.returns-in-Some-All
-returns-in-Some-All c = part_of_all ∙ part_found c.args.self.now c.args.name.now (Some All) (sym (ap Some c.in-Some-All.field-0-is) ∙ c.in-Some-All.ensures.value)
+returns-in-Some-All c = part_of_all ∙ part_found c.args.self.now c.args.name.now (Some All)
+    (sym (ap Some c.in-Some-All.field-0-is) ∙ c.in-Some-All.ensures.value)
 
 pub returns-in-Some-Subset : goal.returns-in-Some-Subset
-returns-in-Some-Subset c = part_of_subset c.in-Some-Subset.field-0-0 ∙ part_found c.args.self.now c.args.name.now (Some (Subset c.in-Some-Subset.field-0-0)) (sym (ap Some c.in-Some-Subset.field-0-is) ∙ c.in-Some-Subset.ensures.value)
+returns-in-Some-Subset c = part_of_subset c.in-Some-Subset.field-0-0 ∙
+    part_found c.args.self.now c.args.name.now (Some (Subset c.in-Some-Subset.field-0-0))
+    (sym (ap Some c.in-Some-Subset.field-0-is) ∙ c.in-Some-Subset.ensures.value)

@@ -1,0 +1,43 @@
+-- Diagnostics, as JSON.
+use Rattle.std.specs.Prelude.{ℕ, List, map, codes, Option, Some, None}
+use Rattle.serde_json.specs.Data.{Data, null, string, array, object, no_members, member}
+use Rattle.serde_json.specs.View.{items_of}
+use Rattle.url.specs.Parts.{Parts, serialize}
+use Rattle.fast_check_print.specs.Pieces.{range_data}
+use Rattle.fast_check_tables.specs.declared.diagnostics.FastCheckDiagnostic.{FastCheckDiagnostic}
+use Rattle.fast_check_tables.specs.declared.diagnostics.range.FastCheckDiagnosticRange.{FastCheckDiagnosticRange}
+use Rattle.fast_check_tables.specs.declared.diagnostics.report.DiagnosticLevel.{DiagnosticLevel}
+use Rattle.fast_check_tables.specs.declared.diagnostics.report.DiagnosticLevel.TheVariants as levels
+use Rattle.fast_check_tables.specs.Diagnostic.{range_of, specifier_of, report_of}
+use Rattle.fast_check_tables.specs.Report.{Report}
+
+abbrev pub text_or_null : Option (List ℕ) → Data
+text_or_null None = null
+text_or_null (Some text) = string text
+
+abbrev pub place_or_null : Option FastCheckDiagnosticRange → Data
+place_or_null None = null
+place_or_null (Some place) = range_data place.range
+
+abbrev pub level_text : DiagnosticLevel → List ℕ
+level_text levels.Error = codes "Error"
+level_text levels.Warning = codes "Warning"
+
+-- an object of what a reader is told of it
+abbrev pub report_data : Report → Option FastCheckDiagnosticRange → Parts → Data
+report_data report place specifier =
+    object (member (codes "code") (string report.code)
+    (member (codes "docs_url") (text_or_null report.docs_url)
+    (member (codes "hint") (text_or_null report.hint)
+    (member (codes "info") (array (items_of (map string report.info)))
+    (member (codes "level") (string (level_text report.level))
+    (member (codes "message") (string report.message)
+    (member (codes "range") (place_or_null place)
+    (member (codes "specifier") (string (serialize specifier)) no_members))))))))
+
+unfoldable pub diagnostic_data : FastCheckDiagnostic → Data
+diagnostic_data d = report_data (report_of d) (range_of d) (specifier_of d)
+
+-- diagnostics in their order, as an array
+abbrev pub diagnostics_array : List FastCheckDiagnostic → Data
+diagnostics_array ds = array (items_of (map diagnostic_data ds))

@@ -1,0 +1,83 @@
+//! Cases of single calls: each line of the file `cases` names a call and what it is given, as JSON, and what it answers is
+//! printed as a line of JSON.
+#![tactic(auto)]
+
+mod calls;
+mod faults;
+mod forms;
+
+use crate::calls::{Given, write_answer};
+use crate::forms::given_form;
+use fast_check_read::{ReadError, read_optional_flag, read_range, read_text, read_tree};
+use fast_check_syntax::SourceRange;
+use fast_check_tree::helpers::DeclMutabilityKind;
+use json::Writer;
+use serde_json::Value;
+use std::alloc::Global;
+use std::{fs, io};
+
+fn main(rt: HostRuntime) -> io::Result<()> {
+    let cases = fs::read_to_string(&rt, "cases")?;
+    for line in cases.as_str().lines() {
+        match answer_of(rt.alloc(), line) {
+            Ok(answer) => println!(rt; "{answer}")?,
+            Err(error) => println!(rt; "{error}: {line}")?,
+        }
+    }
+    Ok(())
+}
+
+/// What the case of a line answers, as a line of JSON.
+fn answer_of(alloc: Global, line: &str) -> Result<String, ReadError> {
+    let case = read_case(alloc, line)?;
+    let mut out = Writer::new(Vec::new(alloc));
+    write_case(alloc, &case, &mut out)?;
+    match String::from_utf8(out.into_inner()) {
+        Ok(answer) => Ok(answer),
+        Err(_) => Err(ReadError::BadForm),
+    }
+}
+
+fn read_case(alloc: Global, line: &str) -> Result<Value, ReadError> {
+    match Value::from_str(alloc, line) {
+        Ok(case) => Ok(case),
+        Err(_) => Err(ReadError::BadForm),
+    }
+}
+
+/// Writes the name of a case, and what its call answers.
+fn write_case(alloc: Global, case: &Value, out: &mut Writer) -> Result<(), ReadError> {
+    let name = read_text(member(case, "case")?)?;
+    let call = read_text(member(case, "call")?)?;
+    let tree = read_tree(alloc, member(case, "tree")?, given_form(call))?;
+    let given = Given {
+        mutability: mutability(read_optional_flag(case.get("const"))?),
+        place: place(case)?,
+    };
+    out.begin_object()?;
+    out.key("case")?;
+    out.string(name)?;
+    out.key("answer")?;
+    write_answer(alloc, call, tree.read(), given, out)?;
+    Ok(out.end_object()?)
+}
+
+fn member<'a>(case: &'a Value, name: &str) -> Result<&'a Value, ReadError> {
+    case.get(name).ok_or(ReadError::BadForm)
+}
+
+fn mutability(is_const: bool) -> DeclMutabilityKind {
+    if is_const {
+        DeclMutabilityKind::Const
+    } else {
+        DeclMutabilityKind::Mutable
+    }
+}
+
+/// The place of the name that is declared, if there is one.
+fn place(case: &Value) -> Result<Option<SourceRange>, ReadError> {
+    match case.get("place") {
+        Some(range) => Ok(Some(read_range(range)?)),
+        None => Ok(None),
+    }
+}

@@ -1,0 +1,124 @@
+ghost use Rattle.std.specs.Prelude.{◌≡◌, IfOk, IfErr, OnOk, Some};
+ghost use Rattle.std.specs.Option.{option_copied};
+ghost use Rattle.std.specs.List.{list_any};
+ghost use Rattle.fast_check_tables.specs.PublicRanges.{same_range};
+
+use crate::fault::TableFault;
+use crate::faults::{lacks_declaration, misses_symbol};
+use crate::ranges::{push_declarations, push_re_exports, range_set};
+use crate::tables::{ModuleTables, ReExportAllNode};
+use fast_check_symbols::{Symbol, SymbolId, SymbolTable, map_of};
+use fast_check_syntax::{Id, SourceRange};
+use std::alloc::{AllocError, Global};
+use std::collections::{BTreeMap, BTreeSet};
+use std::marker::Model;
+use url::Url;
+
+/// The tables of a module, of which each mentioned id has its symbol.
+#[derive(Drop)]
+pub struct CheckedTables {
+    symbols: SymbolTable,
+    module_symbol: SymbolId,
+    swc_ids: BTreeMap<Id, SymbolId>,
+    re_export_all_nodes: Vec<ReExportAllNode>,
+    resolved_exports: BTreeMap<String, Url>,
+}
+
+impl Model for CheckedTables {
+    ghost use Rattle.std.specs.Prelude.{map, string_bytes};
+    ghost use Rattle.fast_check_modules.specs.Tables.{Tables};
+
+    ghost Value = { Tables };
+
+    ghost view = { λ t. record { symbols = t.symbols; module_symbol = t.module_symbol; swc_ids = t.swc_ids.entries; re_exports = t.re_export_all_nodes.items; resolved = map (λ e. (string_bytes e.0, e.1)) t.resolved_exports.entries } };
+}
+
+impl CheckedTables {
+    ghost use Rattle.fast_check_modules.specs.Tables.{symbol_of_swc, resolved_export, table_ranges};
+    ghost use Rattle.fast_check_modules.specs.WellFormed.{AreMadeOf, AreWellFormed, IsTableFault};
+    ghost use Rattle.fast_check_symbols.specs.Symbols.{symbol_of, place_of};
+
+    /// The tables, where each id that they mention has a symbol, and each symbol that has to have a declaration has one. Else the first fault.
+    pub fn new(alloc: Global, tables: ModuleTables) -> Result<CheckedTables, TableFault>
+        ensures made { IfOk result (λ made. AreMadeOf tables made) }
+        ensures well_formed { OnOk result (AreWellFormed tables) }
+        ensures fault { IfErr result (IsTableFault tables) }
+    {
+        let ModuleTables {
+            symbols,
+            module_symbol,
+            swc_ids,
+            re_export_all_nodes,
+            resolved_exports,
+        } = tables;
+        let symbols = SymbolTable::new(alloc, symbols)?;
+        if misses_symbol(&symbols, module_symbol, &swc_ids) {
+            return Err(TableFault::MissingSymbol);
+        }
+        if lacks_declaration(module_symbol, symbols.as_slice()) {
+            return Err(TableFault::SymbolWithoutDecl);
+        }
+        let swc_ids = map_of(alloc, swc_ids)?;
+        let resolved_exports = map_of(alloc, resolved_exports)?;
+        Ok(CheckedTables {
+            symbols,
+            module_symbol,
+            swc_ids,
+            re_export_all_nodes,
+            resolved_exports,
+        })
+    }
+
+    pub fn symbols(&self) -> &[Symbol]
+        ensures { result.now ≡ self.now.symbols }
+    {
+        self.symbols.as_slice()
+    }
+
+    pub fn symbol(&self, id: SymbolId) -> Option<&Symbol>
+        ensures { option_copied result ≡ symbol_of id self.now.symbols }
+    {
+        self.symbols.get(id)
+    }
+
+    pub fn symbol_place(&self, id: SymbolId) -> Option<usize>
+        ensures { result ≡ place_of id self.now.symbols }
+    {
+        self.symbols.place(id)
+    }
+
+    pub fn symbol_from_swc(&self, id: &Id) -> Option<&Symbol>
+        ensures { option_copied result ≡ symbol_of_swc self.now id.now }
+    {
+        let symbol = self.swc_ids.get(id)?;
+        self.symbols.get(*symbol)
+    }
+
+    pub fn module_symbol(&self) -> SymbolId
+        ensures { result ≡ self.now.module_symbol }
+    {
+        self.module_symbol
+    }
+
+    pub fn re_export_all_nodes(&self) -> &[ReExportAllNode]
+        ensures { result.now ≡ self.now.re_exports }
+    {
+        &self.re_export_all_nodes
+    }
+
+    pub fn resolved_export(&self, name: &str) -> Option<&Url>
+        ensures { option_copied result ≡ resolved_export self.now name.now }
+    {
+        self.resolved_exports.get(name)
+    }
+
+    /// The ranges of the declarations and of the re-exports of all.
+    pub fn ranges(&self, alloc: Global) -> Result<BTreeSet<SourceRange>, AllocError>
+        ensures { IfOk result (λ set. (r : _) → list_any (same_range r) set.keys ≡ list_any (same_range r) (table_ranges self.now.symbols self.now.re_exports)) }
+    {
+        let mut ranges = Vec::new(alloc);
+        push_declarations(self.symbols.as_slice(), &mut ranges)?;
+        push_re_exports(&self.re_export_all_nodes, &mut ranges)?;
+        range_set(alloc, ranges)
+    }
+}

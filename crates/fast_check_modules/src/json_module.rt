@@ -1,0 +1,103 @@
+ghost use Rattle.std.specs.Prelude.{◌≡◌, IfOk, IfErr, OnOk};
+ghost use Rattle.std.specs.Option.{option_copied};
+
+use crate::checked::CheckedTables;
+use crate::fault::TableFault;
+use crate::tables::{ModuleTables, ReExportAllNode};
+use fast_check_symbols::{Symbol, SymbolId};
+use fast_check_syntax::Id;
+use std::alloc::Global;
+use std::marker::Model;
+use url::Url;
+
+/// What is known of a JSON module: its symbols.
+#[derive(Drop)]
+pub struct JsonModuleInfo {
+    specifier: Url,
+    tables: CheckedTables,
+}
+
+impl Model for JsonModuleInfo {
+    ghost use Rattle.fast_check_modules.specs.EsModule.{JsonModule};
+
+    ghost Value = { JsonModule };
+
+    ghost view = { λ m. record { specifier = m.specifier; tables = m.tables } };
+}
+
+impl JsonModuleInfo {
+    ghost use Rattle.fast_check_modules.specs.Tables.{symbol_of_swc, resolved_export};
+    ghost use Rattle.fast_check_modules.specs.WellFormed.{AreMadeOf, AreWellFormed, IsTableFault};
+    ghost use Rattle.fast_check_symbols.specs.Symbols.{symbol_of, place_of};
+
+    /// The module of this name and these tables. Of several faults the first is answered, and what was handed in is dropped.
+    pub fn new(
+        alloc: Global,
+        specifier: Url,
+        tables: ModuleTables,
+    ) -> Result<JsonModuleInfo, TableFault>
+        ensures specifier { IfOk result (λ made. made.specifier ≡ specifier) }
+        ensures tables { IfOk result (λ made. AreMadeOf tables made.tables) }
+        ensures well_formed { OnOk result (AreWellFormed tables) }
+        ensures fault { IfErr result (IsTableFault tables) }
+    {
+        let tables = CheckedTables::new(alloc, tables)?;
+        Ok(JsonModuleInfo { specifier, tables })
+    }
+
+    /// Its name.
+    pub fn specifier(&self) -> &Url
+        ensures { result.now ≡ self.now.specifier }
+    {
+        &self.specifier
+    }
+
+    /// The id of the symbol that stands for it.
+    pub fn module_symbol(&self) -> SymbolId
+        ensures { result ≡ self.now.tables.module_symbol }
+    {
+        self.tables.module_symbol()
+    }
+
+    /// Its re-exports of all, in order.
+    pub fn re_export_all_nodes(&self) -> &[ReExportAllNode]
+        ensures { result.now ≡ self.now.tables.re_exports }
+    {
+        self.tables.re_export_all_nodes()
+    }
+
+    /// The module that answers an exported name.
+    pub fn resolved_export(&self, name: &str) -> Option<&Url>
+        ensures { option_copied result ≡ resolved_export self.now.tables name.now }
+    {
+        self.tables.resolved_export(name)
+    }
+
+    /// Its symbols, in the order in which they were handed in.
+    pub fn symbols(&self) -> &[Symbol]
+        ensures { result.now ≡ self.now.tables.symbols }
+    {
+        self.tables.symbols()
+    }
+
+    /// The symbol of an id.
+    pub fn symbol(&self, id: SymbolId) -> Option<&Symbol>
+        ensures { option_copied result ≡ symbol_of id self.now.tables.symbols }
+    {
+        self.tables.symbol(id)
+    }
+
+    /// The place of a symbol among `symbols`.
+    pub fn symbol_place(&self, id: SymbolId) -> Option<usize>
+        ensures { result ≡ place_of id self.now.tables.symbols }
+    {
+        self.tables.symbol_place(id)
+    }
+
+    /// The symbol of a resolved identifier.
+    pub fn symbol_from_swc(&self, id: &Id) -> Option<&Symbol>
+        ensures { option_copied result ≡ symbol_of_swc self.now.tables id.now }
+    {
+        self.tables.symbol_from_swc(id)
+    }
+}

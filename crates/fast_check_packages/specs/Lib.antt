@@ -1,0 +1,3 @@
+pub mod Package
+pub mod PackageOrder
+pub mod Traces

@@ -1,0 +1,8 @@
+//! The packages that ask for names, and the modules that were followed or wait to be.
+#![tactic(auto)]
+
+mod package;
+mod traced_modules;
+
+pub use crate::package::{PackageNv, WorkspaceMember};
+pub use crate::traced_modules::{HandledExports, PendingTrace, PendingTraces};

@@ -1,8 +1,0 @@
-use Rattle.std.proofs.Common.{rules}
-use Rattle.fast_check_program.proofs.refusal.Refusal.status.Goals as goal
-
-pub returns-in-OutOfMemory : goal.returns-in-OutOfMemory
-returns-in-OutOfMemory c = search rules
-
-pub returns-in_default : goal.returns-in_default
-returns-in_default c = search rules

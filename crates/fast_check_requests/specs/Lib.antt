@@ -1,0 +1,4 @@
+pub mod Call
+pub mod Refusal
+pub mod Request
+pub mod Input

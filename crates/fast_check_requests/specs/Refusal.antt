@@ -1,0 +1,43 @@
+-- Why the program has no answer, and what it says then.
+use Rattle.std.specs.Prelude.{◌≡◌, ℕ, IsTrue, List, ◌++◌, Option, codes}
+use Rattle.std.specs.Io.KnownBytes.{Appends}
+use Rattle.fast_check_read.specs.declared.error.ReadError.{ReadError}
+use Rattle.fast_check_read.specs.declared.error.ReadError.TheVariants as read_errors
+use Rattle.fast_check_read.specs.declared.input.InputFault.{InputFault}
+use Rattle.fast_check_read.specs.declared.input.InputFault.TheVariants as faults
+use Rattle.fast_check_requests.specs.declared.ending.Ending.{Ending}
+use Rattle.fast_check_requests.specs.declared.refusal.Refusal.{Refusal}
+use Rattle.fast_check_requests.specs.declared.refusal.Refusal.TheVariants.{Usage, Unreadable, NotJson, BadForm, Unwritable, OutOfMemory}
+
+-- what a line ends with
+abbrev pub line_end : List ℕ
+line_end = codes "\n"
+
+-- the line that is written to standard error
+abbrev pub line_of : Refusal → List ℕ
+line_of Usage = codes "usage: fast-check (build|transform|pair) FILE" ++ line_end
+line_of Unreadable = codes "error: input refused: unreadable" ++ line_end
+line_of NotJson = codes "error: input refused: not-json" ++ line_end
+line_of BadForm = codes "error: input refused: bad-form" ++ line_end
+line_of Unwritable = codes "error: output refused" ++ line_end
+line_of OutOfMemory = codes "error: out of memory" ++ line_end
+
+-- the status that the program ends with: 2 where the words or the input are refused, 3 where memory ran out, 4 where the answer is not taken
+abbrev pub status_of : Refusal → ℕ
+status_of OutOfMemory = 3
+status_of Unwritable = 4
+status_of _ = 2
+
+-- of bytes that are no JSON value
+abbrev pub refusal_of_fault : InputFault → Refusal
+refusal_of_fault faults.NotJson = NotJson
+refusal_of_fault faults.OutOfMemory = OutOfMemory
+
+-- of a JSON value that is not of the form
+abbrev pub refusal_of_error : ReadError → Refusal
+refusal_of_error read_errors.BadForm = BadForm
+refusal_of_error read_errors.OutOfMemory = OutOfMemory
+
+-- the refusal gives the status, and its line is what is written, where that is taken: of the bytes that a stream held and holds then, what is known
+abbrev pub IsTold : Refusal → Option (List ℕ) → Option (List ℕ) → Ending → Type 0
+IsTold refusal old new ending = (ending.status ≡ status_of refusal) × (IsTrue ending.is_told → Appends old new (line_of refusal))

@@ -1,0 +1,109 @@
+//! Why the program has no answer, and what it says then.
+
+ghost use Rattle.std.specs.Prelude.{◌≡◌};
+ghost use Rattle.fast_check_requests.specs.Refusal.{line_of, status_of, IsTold};
+
+use crate::ending::Ending;
+use fast_check_read::{InputFault, ReadError};
+use std::alloc::{AllocError, AllocFailed};
+use std::io::Write;
+
+/// Why the program has no answer.
+#[derive(Clone, Copy, Debug, PartialEq, Eq)]
+pub enum Refusal {
+    /// The words are not a command and a file.
+    Usage,
+    /// The file does not open, or reading it fails.
+    Unreadable,
+    /// The file's bytes are not UTF-8, or not JSON.
+    NotJson,
+    /// The JSON is not of the command's form.
+    BadForm,
+    /// The answer cannot be written.
+    Unwritable,
+    OutOfMemory,
+}
+
+impl Refusal {
+    /// The line that is written to standard error.
+    pub fn line(self) -> &'static str
+        ensures { result.now ≡ line_of self }
+    {
+        match self {
+            Refusal::Usage => "usage: fast-check (build|transform|pair) FILE\n",
+            Refusal::Unreadable => "error: input refused: unreadable\n",
+            Refusal::NotJson => "error: input refused: not-json\n",
+            Refusal::BadForm => "error: input refused: bad-form\n",
+            Refusal::Unwritable => "error: output refused\n",
+            Refusal::OutOfMemory => "error: out of memory\n",
+        }
+    }
+
+    /// The status that the program ends with.
+    pub fn status(self) -> u8
+        ensures { result ≡ status_of self }
+    {
+        match self {
+            Refusal::OutOfMemory => 3,
+            Refusal::Unwritable => 4,
+            _ => 2,
+        }
+    }
+
+    /// Writes the line, and answers the status, with whether the line was taken. A line that is not taken changes no status.
+    pub fn told<E: Write>(self, err: &mut E) -> Ending
+        ensures { IsTold self (E.contents err.old) (E.contents err.new) result }
+    {
+        let written = err.write_all(self.line().as_bytes());
+        Ending {
+            status: self.status(),
+            is_told: written.is_ok(),
+        }
+    }
+}
+
+impl From<InputFault> for Refusal {
+    ghost use Rattle.fast_check_requests.specs.Refusal.{refusal_of_fault};
+
+    ghost from_gives = { λ fault refusal. refusal ≡ refusal_of_fault fault };
+
+    fn from(fault: InputFault) -> Refusal {
+        match fault {
+            InputFault::NotJson => Refusal::NotJson,
+            InputFault::OutOfMemory => Refusal::OutOfMemory,
+        }
+    }
+}
+
+impl From<ReadError> for Refusal {
+    ghost use Rattle.fast_check_requests.specs.Refusal.{refusal_of_error};
+
+    ghost from_gives = { λ error refusal. refusal ≡ refusal_of_error error };
+
+    fn from(error: ReadError) -> Refusal {
+        match error {
+            ReadError::BadForm => Refusal::BadForm,
+            ReadError::OutOfMemory => Refusal::OutOfMemory,
+        }
+    }
+}
+
+impl From<AllocError> for Refusal {
+    ghost use Rattle.fast_check_requests.specs.declared.refusal.Refusal.TheVariants.{OutOfMemory};
+
+    ghost from_gives = { λ _ refusal. refusal ≡ OutOfMemory };
+
+    fn from(_error: AllocError) -> Refusal {
+        Refusal::OutOfMemory
+    }
+}
+
+impl<T: Drop> From<AllocFailed<T>> for Refusal {
+    ghost use Rattle.fast_check_requests.specs.declared.refusal.Refusal.TheVariants.{OutOfMemory};
+
+    ghost from_gives = { λ _ refusal. refusal ≡ OutOfMemory };
+
+    fn from(_error: AllocFailed<T>) -> Refusal {
+        Refusal::OutOfMemory
+    }
+}

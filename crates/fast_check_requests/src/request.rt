@@ -1,0 +1,175 @@
+//! What the commands are asked, read from JSON.
+
+ghost use Rattle.std.specs.Prelude.{◌≡◌, option_map, codes, IfErr, MatchResult, None, Some};
+ghost use Rattle.std.specs.Result.{result_ok};
+ghost use Rattle.serde_json.specs.Find.{get};
+ghost use Rattle.serde_json.specs.View.{view};
+ghost use Rattle.fast_check_read.specs.Each.{Answers};
+ghost use Rattle.fast_check_requests.specs.Request.{request_of, members_of_request, ranges_or_none, comments_or_none, context_or_zero, given, specifier_of};
+ghost use Rattle.fast_check_requests.specs.Request.{media_type_of, program_of, source_of, module_of, Makes, IsModule, IsRequest, IsSource};
+
+use fast_check_comments::Comments;
+use fast_check_read::{
+    ReadError, has_float, read_comments, read_optional_flag, read_ranges, read_text, read_tree,
+    read_u32,
+};
+use fast_check_schema::{Choice, Form};
+use fast_check_syntax::{SourceRange, SyntaxContext, Tree};
+use fast_check_tables::{
+    EsModuleInfo, MediaType, ModulePublicRanges, ModuleSpecifier, ParsedSource,
+};
+use serde_json::Value;
+use std::alloc::Global;
+use std::rc::RcStr;
+use url::{ParseError, Url};
+
+/// What `transform` is asked: a module, what is public of it, and whether its first fault is answered alone.
+#[derive(Drop)]
+pub struct TransformRequest {
+    pub es_module_info: EsModuleInfo,
+    pub public_ranges: ModulePublicRanges,
+    pub should_error_on_first_diagnostic: bool,
+}
+
+/// Reads `{"module": {..}, "ranges": [..], "impls": [..], "first": false}`. Other members are passed over, but no number
+/// anywhere may have a fraction or an exponent.
+pub fn read_transform_request(alloc: Global, value: &Value) -> Result<TransformRequest, ReadError>
+    ensures { Makes IsRequest (request_of (view value.now)) result }
+{
+    if has_float(value) {
+        return Err(ReadError::BadForm);
+    }
+    read_members(alloc, value)
+}
+
+fn read_members(alloc: Global, value: &Value) -> Result<TransformRequest, ReadError>
+    ensures { Makes IsRequest (members_of_request (view value.now)) result }
+{
+    let ranges = read_optional_ranges(alloc, value, "ranges")?;
+    let implementations = read_optional_ranges(alloc, value, "impls")?;
+    let should_error_on_first_diagnostic = read_optional_flag(value.get("first"))?;
+    let es_module_info = read_es_module_info(alloc, member(value, "module")?)?;
+    let public_ranges = ModulePublicRanges::from_parts(
+        alloc,
+        ranges,
+        implementations,
+        Vec::new(alloc),
+    )?;
+    Ok(TransformRequest {
+        es_module_info,
+        public_ranges,
+        should_error_on_first_diagnostic,
+    })
+}
+
+/// A member that has no default.
+fn member<'a>(value: &'a Value, name: &str) -> Result<&'a Value, ReadError>
+    ensures member { option_map (λ v. view v.now) (result_ok result) ≡ get name.now (view value.now) }
+    ensures err { IfErr result (λ error. error ≡ ReadError.BadForm) }
+{
+    value.get(name).ok_or(ReadError::BadForm)
+}
+
+/// The ranges of a member, which may be left out, and are then none.
+fn read_optional_ranges(
+    alloc: Global,
+    value: &Value,
+    name: &str,
+) -> Result<Vec<SourceRange>, ReadError>
+    ensures { let expected = ranges_or_none (get name.now (view value.now)) in
+        MatchResult result (λ ranges. expected ≡ Some ranges.items) (λ error. error ≡ ReadError.BadForm → expected ≡ None) }
+{
+    let mut ranges = Vec::new(alloc);
+    if let Some(value) = value.get(name) {
+        ranges.extend_from_slice(read_ranges(alloc, value)?.as_slice())?;
+    }
+    Ok(ranges)
+}
+
+fn read_es_module_info(alloc: Global, value: &Value) -> Result<EsModuleInfo, ReadError>
+    ensures { Makes IsModule (module_of (view value.now)) result }
+{
+    let specifier = read_specifier(alloc, value)?;
+    let source = read_source(alloc, member(value, "source")?)?;
+    Ok(EsModuleInfo::new(specifier, source))
+}
+
+/// The specifier of a module.
+fn read_specifier(alloc: Global, value: &Value) -> Result<ModuleSpecifier, ReadError>
+    ensures { Answers (given (get (codes "specifier") (view value.now)) specifier_of) result }
+{
+    match Url::parse(alloc, read_text(member(value, "specifier")?)?) {
+        Ok(specifier) => Ok(specifier),
+        Err(ParseError::OutOfMemory | ParseError::Overflow) => Err(ReadError::OutOfMemory),
+        Err(_) => Err(ReadError::BadForm),
+    }
+}
+
+fn read_source(alloc: Global, value: &Value) -> Result<ParsedSource, ReadError>
+    ensures { Makes IsSource (source_of (view value.now)) result }
+{
+    let media_type = read_media_type(value)?;
+    let text = read_text(member(value, "text")?)?;
+    let program = read_program(alloc, value)?;
+    let comments = read_optional_comments(alloc, value)?;
+    let unresolved_context = read_optional_context(value)?;
+    Ok(ParsedSource {
+        media_type,
+        text: RcStr::from_str(alloc, text)?,
+        program,
+        comments,
+        unresolved_context,
+    })
+}
+
+/// The tree of a source.
+fn read_program(alloc: Global, value: &Value) -> Result<Tree, ReadError>
+    ensures { Answers (given (get (codes "program") (view value.now)) program_of) result }
+{
+    read_tree(
+        alloc,
+        member(value, "program")?,
+        Form::Choice(Choice::Program),
+    )
+}
+
+/// The comments of a source, which may be left out, and are then none.
+fn read_optional_comments(alloc: Global, value: &Value) -> Result<Comments, ReadError>
+    ensures { Answers (comments_or_none (get (codes "comments") (view value.now))) result }
+{
+    match value.get("comments") {
+        Some(comments) => read_comments(alloc, comments),
+        None => Ok(Comments::new(alloc)),
+    }
+}
+
+/// The scope number of a source's unbound names, which may be left out, and is then 0.
+fn read_optional_context(value: &Value) -> Result<SyntaxContext, ReadError>
+    ensures { Answers (context_or_zero (get (codes "unresolved_context") (view value.now))) result }
+{
+    match value.get("unresolved_context") {
+        Some(context) => Ok(SyntaxContext(read_u32(context)?)),
+        None => Ok(SyntaxContext(0)),
+    }
+}
+
+/// The media type of a source.
+fn read_media_type(value: &Value) -> Result<MediaType, ReadError>
+    ensures { Answers (given (get (codes "media_type") (view value.now)) media_type_of) result }
+{
+    match read_text(member(value, "media_type")?)? {
+        "TypeScript" => Ok(MediaType::TypeScript),
+        "Mts" => Ok(MediaType::Mts),
+        "Cts" => Ok(MediaType::Cts),
+        "Tsx" => Ok(MediaType::Tsx),
+        "Dts" => Ok(MediaType::Dts),
+        "Dmts" => Ok(MediaType::Dmts),
+        "Dcts" => Ok(MediaType::Dcts),
+        "JavaScript" => Ok(MediaType::JavaScript),
+        "Mjs" => Ok(MediaType::Mjs),
+        "Cjs" => Ok(MediaType::Cjs),
+        "Jsx" => Ok(MediaType::Jsx),
+        "Unknown" => Ok(MediaType::Unknown),
+        _ => Err(ReadError::BadForm),
+    }
+}

@@ -1,0 +1,3 @@
+pub mod Last
+pub mod Seen
+pub mod Indexed

@@ -1,0 +1,18 @@
+-- Lists in which a later item stands for the earlier ones like it.
+use Rattle.std.specs.Prelude.{Bool, cond, List, [], ◌∷◌, Option, Some, None, option_map, ℕ, suc}
+use Rattle.std.specs.Option.{option_or}
+
+-- the last item that passes a test
+abbrev pub last_that : {X : Type 0} → (X → Bool) → List X → Option X
+last_that test [] = None
+last_that test (x ∷ xs) = option_or (last_that test xs) (cond (test x) (Some x) None)
+
+-- its place
+abbrev pub last_place : {X : Type 0} → (X → Bool) → List X → Option ℕ
+last_place test [] = None
+last_place test (x ∷ xs) = option_or (option_map suc (last_place test xs)) (cond (test x) (Some 0) None)
+
+-- the value of the last entry whose key passes a test
+abbrev pub last_value : {K X : Type 0} → (K → Bool) → List (K × X) → Option X
+last_value test [] = None
+last_value test (e ∷ es) = option_or (last_value test es) (cond (test e.0) (Some e.1) None)

@@ -1,0 +1,42 @@
+use fast_check_syntax::Id;
+
+/// In which of TypeScript's two namespaces a name is referred to.
+#[derive(Clone, Copy, Debug, PartialEq, Eq)]
+pub enum ReferenceNamespace {
+    Value,
+    Type_,
+    Both,
+}
+
+/// What the source text of a declaration refers to.
+#[derive(Drop)]
+pub enum SymbolDep {
+    /// `name`.
+    Id(Id),
+    /// `name.part.part`.
+    QualifiedId(Id, Vec<String>),
+    /// `import("specifier").part.part`.
+    ImportType(String, Vec<String>),
+}
+
+/// A reference of a declaration, with the namespaces that it is looked up in.
+#[derive(Drop)]
+pub struct SymbolNodeDep {
+    pub dep: SymbolDep,
+    pub namespace: ReferenceNamespace,
+}
+
+/// What is known of the node that defines a symbol.
+#[derive(Drop)]
+pub struct SymbolNode {
+    pub is_class: bool,
+    /// A member of a class, an interface or an enum.
+    pub is_member: bool,
+    pub is_function: bool,
+    pub is_ts_namespace: bool,
+    pub is_default_class_expr: bool,
+    /// A class declaration without type parameters, exported by keyword or not.
+    pub is_plain_class_decl: bool,
+    pub has_export_keyword: bool,
+    pub deps: Vec<SymbolNodeDep>,
+}
