@@ -36,9 +36,11 @@ module _ (around : Surroundings) (place : SourceRange) (decl : Tree) where
       Adds (function_answer around place decl) (Some t) old new → Adds (decl_answer around place decl rule) (t ∷ []) old new
   unfolding decl_answer function_answer
   public_function_stays r e h =
-      adds_same (ap (λ x. answer_of (by_rule x)) r ∙ ap (λ p. answer_of (if_public p (function_decl_seen around place decl))) e) (alone (function_decl_seen around place decl) h)
+      adds_same (ap (λ x. answer_of (by_rule x)) r ∙ ap (λ p. answer_of (if_public p (function_decl_seen around place decl))) e)
+      (alone (function_decl_seen around place decl) h)
 
-  pub private_function : {rule : DeclRule} → rule ≡ Function → around.is_public place ≡ false → (old : List Fault) → Adds (decl_answer around place decl rule) [] old old
+  pub private_function : {rule : DeclRule} → rule ≡ Function → around.is_public place ≡ false → (old : List Fault) →
+      Adds (decl_answer around place decl rule) [] old old
   unfolding decl_answer
   private_function r e old =
       adds_same (ap (λ x. answer_of (by_rule x)) r ∙ ap (λ p. answer_of (if_public p (function_decl_seen around place decl))) e) (adds_nothing [] old)
@@ -50,7 +52,8 @@ module _ (around : Surroundings) (place : SourceRange) (decl : Tree) where
       subst (λ u. Adds (answer_of (by_rule rule)) (u ∷ []) old old) (sym p)
       (adds_same (ap (λ x. answer_of (by_rule x)) r ∙ ap (λ p. answer_of (if_public p (written decl))) e) (adds_nothing (decl ∷ []) old))
 
-  pub private_standing : {rule : DeclRule} → rule ≡ Standing → around.is_public place ≡ false → (old : List Fault) → Adds (decl_answer around place decl rule) [] old old
+  pub private_standing : {rule : DeclRule} → rule ≡ Standing → around.is_public place ≡ false → (old : List Fault) →
+      Adds (decl_answer around place decl rule) [] old old
   unfolding decl_answer
   private_standing r e old =
       adds_same (ap (λ x. answer_of (by_rule x)) r ∙ ap (λ p. answer_of (if_public p (written decl))) e) (adds_nothing [] old)

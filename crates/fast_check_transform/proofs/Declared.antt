@@ -68,7 +68,8 @@ module _ (around : Surroundings) (d : Tree) where
       Adds (valued_answer around d) (Some (retyped d Absent Absent)) old all
   unfolding value_answer valued_answer
   value_goes {old = old} {new = new} h p q e f =
-      subst (λ fs. Adds (answer_to (declarator (declarator_head d) (value_seen around name_place (VarDeclarator-init d)))) (Some (retyped d Absent Absent)) old fs)
+      subst (λ fs. Adds (answer_to (declarator (declarator_head d) (value_seen around name_place (VarDeclarator-init d))))
+      (Some (retyped d Absent Absent)) old fs)
       (sym (f ∙ ap (λ r. new ++ fault_at MissingExplicitType r ∷ []) p))
       (adds_made (λ v. Some (valued_declarator (declarator_head d) v))
       (adds_missing missing (subst (λ x. Adds (answer_to (value_seen around name_place (VarDeclarator-init d))) x old new) e
@@ -196,7 +197,8 @@ module _ (around : Surroundings) (statement : Tree) where
   seen_statement : (ss : List Seen) {xs : List Tree} {old new : List Fault} → Adds (answer_of ss) xs old new → (xs ≡ [] → ⊥) →
       Adds (answer_of (statement_seen statement ss)) (with_declarators xs ∷ []) old new
   seen_statement [] h some = absurd (some (sym (ap (λ a. a.stays) h.is)))
-  seen_statement (s ∷ ss) h some = alone (statement_form (s ∷ ss)) (adds_same (statement_is around statement (s ∷ ss)) (adds_made (λ ds. Some (with_declarators ds)) h))
+  seen_statement (s ∷ ss) h some =
+      alone (statement_form (s ∷ ss)) (adds_same (statement_is around statement (s ∷ ss)) (adds_made (λ ds. Some (with_declarators ds)) h))
 
   pub made_statement : {xs : List Tree} {old new : List Fault} → Adds (declarators_answer around statement (parts (VarDecl-decls statement))) xs old new →
       (xs ≡ [] → ⊥) → {t : Tree} → t ≡ with_declarators xs → Adds (statement_answer around statement) (t ∷ []) old new

@@ -44,10 +44,14 @@ module _ (around : Surroundings) (item : Tree) where
   removed_if_some {t} h e = seen_one (item_seen around item) t (ap (λ a. a.stays) h.is ∙ e)
 
 -- the comments without those before one more item
-pub one_more : (around : Surroundings) (items : List Tree) (i : ℕ) (item : Tree) (starts : List SourcePos) (c : Comments) → i < length items → item ≡ get_or items i item →
+pub one_more : (around : Surroundings) (items : List Tree) (i : ℕ) (item : Tree) (starts : List SourcePos) (c : Comments) → i < length items →
+    item ≡ get_or items i item →
     removed_start around item ≡ starts →
-    without_all_leading (flat_map (removed_start around) (take (i + 1) items)) c ≡ without_all_leading starts (without_all_leading (flat_map (removed_start around) (take i items)) c)
+    without_all_leading (flat_map (removed_start around) (take (i + 1) items)) c ≡ without_all_leading starts
+    (without_all_leading (flat_map (removed_start around) (take i items)) c)
 one_more around items i item starts c h e r =
     ap (λ ts. without_all_leading (flat_map (removed_start around) ts) c) (take_more items i item h ∙ ap (λ t. take i items ++ t ∷ []) (sym e))
-    ∙ (ap (λ ps. without_all_leading ps c) (flat_map-append (removed_start around) (take i items) (item ∷ []) ∙ ap (λ ps. flat_map (removed_start around) (take i items) ++ ps) (append-nil (removed_start around item) ∙ r))
+    ∙ (ap (λ ps. without_all_leading ps c)
+    (flat_map-append (removed_start around) (take i items) (item ∷ [])
+    ∙ ap (λ ps. flat_map (removed_start around) (take i items) ++ ps) (append-nil (removed_start around item) ∙ r))
     ∙ without_append (flat_map (removed_start around) (take i items)) starts c)

@@ -11,13 +11,15 @@ use Rattle.fast_check_transform.proofs.declarations.ident_declarator.Goals as go
 pub returns-then-not-is_absent : goal.returns-then-not-is_absent
 returns-then-not-is_absent c =
     let type = c.in_ok-to_tree.ensures ∙ (c.of-2.ensures.type_ann ∙ ap BindingIdent-type_ann c.of.ensures.name) in
-    some_of c.retyped.result c.retyped.ensures (written_ident (Asked-around c.args.asked) c.args.mutability (seen c.args.declarator) (cc) c.args.faults.now.items)
+    some_of c.retyped.result c.retyped.ensures
+    (written_ident (Asked-around c.args.asked) c.args.mutability (seen c.args.declarator) (cc) c.args.faults.now.items)
     (λ i. retyped (seen c.args.declarator) (type i) (c.in_ok-never_value.ensures i))
 
 pub returns-in_ok-never_value-in-Some : goal.returns-in_ok-never_value-in-Some
 returns-in_ok-never_value-in-Some c =
     let shown = ap (inferred_type c.args.mutability c.args.asked.unresolved) (sym c.of.ensures.init) ∙ (sym c.in_ok-ty.ensures.inferred ∙ c.in-Some.is) in
-    some_of c.retyped-in-Some.result c.retyped-in-Some.ensures (shown_ident (Asked-around c.args.asked) c.args.mutability (seen c.args.declarator) c.in-Some.ty (cc) shown c.args.faults.now.items)
+    some_of c.retyped-in-Some.result c.retyped-in-Some.ensures
+    (shown_ident (Asked-around c.args.asked) c.args.mutability (seen c.args.declarator) c.in-Some.ty (cc) shown c.args.faults.now.items)
     (λ i. retyped (seen c.args.declarator) (c.in_ok-type_ann-in-Some.ensures i) (c.in_ok-never_value-in-Some.ensures i))
 
 pub returns-in-None : goal.returns-in-None

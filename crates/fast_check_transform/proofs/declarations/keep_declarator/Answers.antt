@@ -10,10 +10,12 @@ pub returns-then-not-contains : goal.returns-then-not-contains
 returns-then-not-contains c = private_declarator (Asked-around c.args.asked) (seen c.args.statement) (seen c.args.declarator) (cc) c.args.faults.now.items
 
 pub returns-then-is_ambient : goal.returns-then-is_ambient
-returns-then-is_ambient c = ambient_declarator (Asked-around c.args.asked) (seen c.args.statement) (seen c.args.declarator) (cc) (cc) c.in_ok-to_tree.ensures c.args.faults.now.items
+returns-then-is_ambient c =
+    ambient_declarator (Asked-around c.args.asked) (seen c.args.statement) (seen c.args.declarator) (cc) (cc) c.in_ok-to_tree.ensures c.args.faults.now.items
 
 pub returns : goal.returns
 returns c =
     public_declarator_stays (Asked-around c.args.asked) (seen c.args.statement) (seen c.args.declarator) (cc) (cc)
-    (adds_same (ap (λ m. declarator_answer (Asked-around c.args.asked) m (seen c.args.declarator)) (sym (c.mutability_of-mutability.ensures ∙ ap mutability_of c.of-2.ensures.kind)))
+    (adds_same (ap (λ m. declarator_answer (Asked-around c.args.asked) m (seen c.args.declarator))
+    (sym (c.mutability_of-mutability.ensures ∙ ap mutability_of c.of-2.ensures.kind)))
     c.in_ok-typed_declarator.ensures)

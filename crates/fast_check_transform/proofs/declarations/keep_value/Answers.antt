@@ -8,4 +8,5 @@ pub returns-then-is_absent : goal.returns-then-is_absent
 returns-then-is_absent c = absent_value (Asked-around c.args.asked) c.args.place (seen c.args.value) (cc) c.args.faults.now.items
 
 pub returns : goal.returns
-returns c = IfOk-weaker c.leave_expr.result _ _ (λ tree h. present_value (Asked-around c.args.asked) c.args.place (seen c.args.value) (cc) h) c.leave_expr.ensures
+returns c = IfOk-weaker c.leave_expr.result _ _
+    (λ tree h. present_value (Asked-around c.args.asked) c.args.place (seen c.args.value) (cc) h) c.leave_expr.ensures

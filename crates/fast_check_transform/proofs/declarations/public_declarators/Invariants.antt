@@ -6,4 +6,5 @@ use Rattle.fast_check_transform.proofs.declarations.public_declarators.Given as 
 
 abbrev pub invariant-loop-declarator : goal.invariant-loop-declarator
 invariant-loop-declarator l =
-    Adds (declarators_answer (Asked-around l.asked) (seen l.statement) (take l.declarator-index l.declarator-items)) l.items l.initial.faults.items l.faults.items
+    Adds (declarators_answer (Asked-around l.asked) (seen l.statement)
+    (take l.declarator-index l.declarator-items)) l.items l.initial.faults.items l.faults.items

@@ -16,4 +16,5 @@ pub returns-in_ok-push-in-None : goal.returns-in_ok-push-in-None
 returns-in_ok-push-in-None c =
     let place = c.of-3.ensures.span ∙ ap Ident-span (c.of-2.ensures.id ∙ ap BindingIdent-id c.of.ensures.name) in
     some_of c.retyped-in-None.result c.retyped-in-None.ensures
-    (value_goes (Asked-around c.args.asked) (seen c.args.declarator) c.in_ok-value.ensures place c.of.ensures.init c.in-None.is c.in_ok-push-in-None.ensures.items) refl
+    (value_goes (Asked-around c.args.asked)
+    (seen c.args.declarator) c.in_ok-value.ensures place c.of.ensures.init c.in-None.is c.in_ok-push-in-None.ensures.items) refl

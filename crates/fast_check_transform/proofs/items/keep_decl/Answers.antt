@@ -16,10 +16,13 @@ returns-in-Variables c =
     (λ tree h. variables (Asked-around c.args.asked) c.args.place (seen c.args.decl) c.in-Variables.is h) c.keep_statement.ensures
 
 pub returns-in_ok-keep_function-in-Function : goal.returns-in_ok-keep_function-in-Function
-returns-in_ok-keep_function-in-Function c = public_function_stays (Asked-around c.args.asked) c.args.place (seen c.args.decl) c.in-Function.is (cc) c.in_ok-keep_function-in-Function.ensures
+returns-in_ok-keep_function-in-Function c =
+    public_function_stays (Asked-around c.args.asked) c.args.place (seen c.args.decl) c.in-Function.is (cc) c.in_ok-keep_function-in-Function.ensures
 
 pub returns-in_ok-to_tree-in-Standing : goal.returns-in_ok-to_tree-in-Standing
-returns-in_ok-to_tree-in-Standing c = public_standing (Asked-around c.args.asked) c.args.place (seen c.args.decl) c.in-Standing.is (cc) c.in_ok-to_tree-in-Standing.ensures c.args.faults.now.items
+returns-in_ok-to_tree-in-Standing c =
+    public_standing (Asked-around c.args.asked) c.args.place (seen c.args.decl) c.in-Standing.is
+    (cc) c.in_ok-to_tree-in-Standing.ensures c.args.faults.now.items
 
 pub returns-in-Untaken : goal.returns-in-Untaken
 returns-in-Untaken c = untaken (Asked-around c.args.asked) c.args.place (seen c.args.decl) c.in-Untaken.is c.args.faults.now.items

@@ -9,7 +9,8 @@ use Rattle.fast_check_transform.proofs.items.keep_item.Goals as goal
 pub returns-in-Declared : goal.returns-in-Declared
 returns-in-Declared c =
     IfOk-weaker c.keep_decl.result _ _
-    (λ tree h. declared (Asked-around c.args.asked) (seen c.args.item) (sym c.item_rule.ensures ∙ c.in-Declared.is) h c.range_of_node.ensures) c.keep_decl.ensures
+    (λ tree h. declared (Asked-around c.args.asked) (seen c.args.item)
+    (sym c.item_rule.ensures ∙ c.in-Declared.is) h c.range_of_node.ensures) c.keep_decl.ensures
 
 pub returns-in_ok-into_tree-in-Some : goal.returns-in_ok-into_tree-in-Some
 returns-in_ok-into_tree-in-Some c =

@@ -17,5 +17,6 @@ returns-then-is_impl_with_overloads c =
 pub returns : goal.returns
 returns c =
     IfOk-weaker c.transform_fn.result _ _
-    (λ tree h. signature (Asked-around c.args.asked) c.args.place (seen c.args.decl) (cc) h (c.of-2.ensures.span ∙ ap Ident-span c.of.ensures.ident) c.of.ensures.function)
+    (λ tree h. signature (Asked-around c.args.asked) c.args.place (seen c.args.decl) (cc) h
+    (c.of-2.ensures.span ∙ ap Ident-span c.of.ensures.ident) c.of.ensures.function)
     c.transform_fn.ensures

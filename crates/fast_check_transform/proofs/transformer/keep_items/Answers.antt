@@ -17,10 +17,12 @@ loop-item-preserved-in-None c =
     let none = ap as_list c.in-None.is in
     let start = ap (λ r. r.start) c.range_of_node.ensures in
     record {
-      answer = one_more_item (Asked-around c.args.asked) c.parts-item-items.result.now c.loop-item.item-index item c.loop-item-test.true (search rules) c.loop-item.invariant.answer
+      answer = one_more_item (Asked-around c.args.asked) c.parts-item-items.result.now c.loop-item.item-index item c.loop-item-test.true
+          (search rules) c.loop-item.invariant.answer
           c.in_ok-keep_item.ensures (sym (append-nil c.loop-item.items) ∙ ap (λ o. c.loop-item.items ++ as_list o) (sym c.in-None.is));
       comments = c.remove_leading.ensures ∙ ((λ i. without_leading (start i) (c.loop-item.invariant.comments i))
-          ∙ sym (one_more (Asked-around c.args.asked) c.parts-item-items.result.now c.loop-item.item-index item ((range_of_node item).start ∷ []) c.args.comments.now
+          ∙ sym (one_more (Asked-around c.args.asked) c.parts-item-items.result.now c.loop-item.item-index item
+          ((range_of_node item).start ∷ []) c.args.comments.now
           c.loop-item-test.true (search rules) (removed_if_none (Asked-around c.args.asked) item c.in_ok-keep_item.ensures none)));
     }
 
@@ -29,7 +31,8 @@ loop-item-preserved c =
     let item = seen c.read-item.result in
     let some = ap as_list c.in-Some.is in
     record {
-      answer = one_more_item (Asked-around c.args.asked) c.parts-item-items.result.now c.loop-item.item-index item c.loop-item-test.true (search rules) c.loop-item.invariant.answer
+      answer = one_more_item (Asked-around c.args.asked) c.parts-item-items.result.now c.loop-item.item-index item c.loop-item-test.true
+          (search rules) c.loop-item.invariant.answer
           c.in_ok-keep_item.ensures (c.in_ok-push-in-Some.ensures.ok ∙ ap (λ o. c.loop-item.items ++ as_list o) (sym c.in-Some.is));
       comments = c.loop-item.invariant.comments
           ∙ sym (one_more (Asked-around c.args.asked) c.parts-item-items.result.now c.loop-item.item-index item [] c.args.comments.now
@@ -37,7 +40,8 @@ loop-item-preserved c =
     }
 
 pub returns-clause-answer : goal.returns-clause-answer
-returns-clause-answer c = all_items (Asked-around c.args.asked) c.loop-item.item-index c.loop-item-test.false c.parts-item-items.ensures c.loop-item.invariant.answer
+returns-clause-answer c =
+    all_items (Asked-around c.args.asked) c.loop-item.item-index c.loop-item-test.false c.parts-item-items.ensures c.loop-item.invariant.answer
 
 pub returns-clause-comments : goal.returns-clause-comments
 returns-clause-comments c = grind (arith, common_steps)
