@@ -2,6 +2,8 @@
 use Rattle.std.specs.Prelude.{◌≡◌, Bool, ◌&&◌, Option, None, List, ◌∷◌, map, refl}
 use Rattle.std.specs.List.{list_all}
 use Rattle.std.proofs.Common.{ap₂, ◌∙◌, sym, subst, subst₂}
+use Rattle.fast_check_syntax.specs.declared.kind.Kind.{Kind}
+use Rattle.fast_check_syntax.specs.declared.kind.Kind.TheVariants as kinds
 use Rattle.fast_check_syntax.specs.declared.source.SourceRange.{SourceRange}
 use Rattle.fast_check_syntax.specs.declared.source.SyntaxContext.{SyntaxContext}
 use Rattle.fast_check_syntax.specs.declared.tree.Tree.{Tree}
@@ -15,19 +17,26 @@ use Rattle.fast_check_expression_forms.specs.Expressions.{ArrowExpr-span, ArrowE
 use Rattle.fast_check_tree.specs.OptionalParams.{is_optional_param}
 use Rattle.fast_check_signatures.specs.declared.function_kind.FunctionKind.{FunctionKind}
 use Rattle.fast_check_signatures.specs.declared.function_kind.FunctionKind.TheVariants.{ExpressionLike}
-use Rattle.fast_check_signatures.specs.Seen.{Seen}
+use Rattle.fast_check_signatures.specs.declared.rules.TheConstants.{SATISFIES, ASSERTION, FN_EXPR}
+use Rattle.fast_check_signatures.specs.Seen.{Seen, written}
+use Rattle.fast_check_signatures.specs.NewNodes.{never_in_parens}
 use Rattle.fast_check_signatures.specs.Parameters.{pat_seen, pats_seen}
 use Rattle.fast_check_signatures.specs.Functions.{or_own, function_seen, params_seen, arrow_by_type, arrow_seen}
-use Rattle.fast_check_signatures.specs.Expressions.{expr_form, expr_seen}
-use Rattle.fast_check_same_values.specs.SameValues.{SameFunctionHead, SameImplementation, SameArrowHead, SameExpr, SameExprs, SameArrowBody, SameFunction, SameParams, SamePats, SamePat}
+use Rattle.fast_check_signatures.specs.Expressions.{freezes, Rule, slotted, arrow, rule, expr_form, expr_seen}
+use Rattle.fast_check_same_values.specs.SameValues.{Both, SameFunctionHead, SameArrowHead, SameExpr, SameExprs, SameArrowBody}
+use Rattle.fast_check_same_values.specs.SameValues.{SameFunction, SameParams, SamePats, SamePat}
 use Rattle.fast_check_same_values.specs.SameValues as s
 use Rattle.fast_check_signatures.proofs.Looks.{expr_seen_is}
+use Rattle.fast_check_signatures.proofs.NewNodesMoved.{never_in_parens_moved}
 use Rattle.fast_check_signatures.proofs.SeenMoved.{expr_seen_moved, pat_seen_moved}
-use Rattle.fast_check_same_values.proofs.AlikeTrees.{RangeAlike, scope_to}
-use Rattle.fast_check_same_values.proofs.AlikeSeen.{Alike, AllAlike}
-use Rattle.fast_check_same_values.proofs.AlikeParameters.{PlaceAlike, same_optional, emptied_optional, rest_optional, assign_optional, emptied_alike, rest_alike, typed_default_alike, shown_default_alike, kept_default_alike, typed_pattern_alike, kept_pattern_alike}
-use Rattle.fast_check_same_values.proofs.AlikeFunctions.{or_own_alike, signature_of_alike, param_alike, typed_alike, classed_alike, shown_value_alike, kept_value_alike}
-use Rattle.fast_check_same_values.proofs.AlikeExpressions.{refused_alike, compound_alike, satisfies_alike, as_type_alike, assertion_alike, frozen_alike, fn_expr_alike, arrow_expr_alike}
+use Rattle.fast_check_same_values.proofs.AlikeTrees.{RangeAlike, scope_to, new_alike}
+use Rattle.fast_check_same_values.proofs.AlikeSeen.{Alike, AllAlike, written_alike, same_written, range_alike, scope_alike}
+use Rattle.fast_check_same_values.proofs.AlikeParameters.{PlaceAlike, same_optional, emptied_optional, rest_optional, assign_optional, emptied_alike}
+use Rattle.fast_check_same_values.proofs.AlikeParameters.{rest_alike, typed_default_alike, shown_default_alike, kept_default_alike, typed_pattern_alike}
+use Rattle.fast_check_same_values.proofs.AlikeParameters.{kept_pattern_alike}
+use Rattle.fast_check_same_values.proofs.AlikeFunctions.{or_own_alike, signature_of_alike, param_alike, typed_alike, classed_alike, shown_value_alike}
+use Rattle.fast_check_same_values.proofs.AlikeFunctions.{kept_value_alike}
+use Rattle.fast_check_same_values.proofs.AlikeExpressions.{refused_alike, RuleAlike, kind_alike, compound_alike, frozen_alike}
 
 module _ (r : Renaming) (ok : IsRenaming r) (c d : SyntaxContext) (pair : IsPair r.scopes c.0 d.0) where
   -- ---- which parameters may be left out
@@ -46,7 +55,8 @@ module _ (r : Renaming) (ok : IsRenaming r) (c d : SyntaxContext) (pair : IsPair
   all_optional_pats s.no_pats = refl
   all_optional_pats (s.next_pat x xs) = ap₂ ◌&&◌ (optional_alike x) (all_optional_pats xs)
 
-  all_optional_params : {ts us : List Tree} → SameParams r c d ts us → list_all is_optional_param (map (λ p. Param-pat p) ts) ≡ list_all is_optional_param (map (λ p. Param-pat p) us)
+  all_optional_params : {ts us : List Tree} → SameParams r c d ts us →
+      list_all is_optional_param (map (λ p. Param-pat p) ts) ≡ list_all is_optional_param (map (λ p. Param-pat p) us)
   all_optional_params s.no_params = refl
   all_optional_params (s.next_param a x xs) = ap₂ ◌&&◌ (optional_alike x) (all_optional_params xs)
 
@@ -66,8 +76,16 @@ module _ (r : Renaming) (ok : IsRenaming r) (c d : SyntaxContext) (pair : IsPair
       sym (pat_seen_moved (partners r) (partners_keep r ok) c b t) ∙
       ((λ i. pat_seen (scope_to r ok c d pair i) (expr_seen (scope_to r ok c d pair i)) b (tree_to r ok e i)) ∙ pat_seen_moved twice twice_keeps d b u)
 
-  by_form : (t u : Tree) (p q : Option SourceRange) → Alike r ok (expr_form c t (expr_seen c) p) (expr_form d u (expr_seen d) q) → Alike r ok (expr_seen c t p) (expr_seen d u q)
+  by_form : (t u : Tree) (p q : Option SourceRange) → Alike r ok (expr_form c t (expr_seen c) p) (expr_form d u (expr_seen d) q) →
+      Alike r ok (expr_seen c t p) (expr_seen d u q)
   by_form t u p q e = subst₂ (Alike r ok) (sym (expr_seen_is c t p)) (sym (expr_seen_is d u q)) e
+
+  by_kind : (t u : Tree) (p q : Option SourceRange) (k : Kind) (x : Rule) → Both k t u → rule k (freezes c t) ≡ x → rule k (freezes d u) ≡ x →
+      RuleAlike r ok c d (expr_seen c) (expr_seen d) t u p q x → Alike r ok (expr_seen c t p) (expr_seen d u q)
+  by_kind t u p q k x b e f alike = by_form t u p q (kind_alike r ok c d (expr_seen c) (expr_seen d) t u p q k x b e f alike)
+
+  never_alike : Alike r ok (written never_in_parens) (written never_in_parens)
+  never_alike = written_alike r ok never_in_parens never_in_parens (new_alike r ok never_in_parens never_in_parens_moved)
 
   -- ---- what agrees is seen alike
 
@@ -75,45 +93,64 @@ module _ (r : Renaming) (ok : IsRenaming r) (c d : SyntaxContext) (pair : IsPair
     pub expr_alike : {t u : Tree} → SameExpr r c d t u → (p q : Option SourceRange) → PlaceAlike r ok p q → Alike r ok (expr_seen c t p) (expr_seen d u q)
     expr_alike (s.same {t = t} {u = u} e) p q f = same_expr_alike t u p q e f
     expr_alike (s.SameExpr.refused {t = t} {u = u} e g) p q f = by_form t u p q (refused_alike r ok c d (expr_seen c) (expr_seen d) t u p q e g)
-    expr_alike (s.compound {t = t} {u = u} k b e xs) p q f = by_form t u p q (compound_alike r ok c d (expr_seen c) (expr_seen d) t u p q k b e (exprs_alike xs))
-    expr_alike (s.satisfies {t = t} {u = u} b a x e) p q f = by_form t u p q (satisfies_alike r ok c d (expr_seen c) (expr_seen d) t u p q b a (expr_alike x None None refl) e)
-    expr_alike (s.as_type {t = t} {u = u} b a e) p q f = by_form t u p q (as_type_alike r ok c d (expr_seen c) (expr_seen d) t u p q b a e)
-    expr_alike (s.assertion {t = t} {u = u} b a e) p q f = by_form t u p q (assertion_alike r ok c d (expr_seen c) (expr_seen d) t u p q b a e)
+    expr_alike (s.compound {t = t} {u = u} k b e xs) p q f =
+        by_form t u p q (compound_alike r ok c d (expr_seen c) (expr_seen d) t u p q k b e (exprs_alike xs))
+    expr_alike (s.satisfies {t = t} {u = u} b a x e) p q f =
+        by_kind t u p q kinds.TsSatisfiesExpr (slotted SATISFIES) b refl refl (range_alike r ok _ _ a, (expr_alike x None None refl, (same_written r ok e, tt)))
+    expr_alike (s.as_type {t = t} {u = u} b a e) p q f =
+        by_kind t u p q kinds.TsAsExpr (slotted ASSERTION) b refl refl (range_alike r ok _ _ a, (never_alike, (same_written r ok e, tt)))
+    expr_alike (s.assertion {t = t} {u = u} b a e) p q f =
+        by_kind t u p q kinds.TsTypeAssertion (slotted ASSERTION) b refl refl (range_alike r ok _ _ a, (never_alike, (same_written r ok e, tt)))
     expr_alike (s.frozen {t = t} {u = u} b b' a n callee x types) p q f =
-        by_form t u p q (frozen_alike r ok c d (expr_seen c) (expr_seen d) t u p q b b' a n callee (expr_alike x None None refl) types)
+        by_form t u p q (frozen_alike r ok c d (expr_seen c) (expr_seen d) t u p q b b'
+        (range_alike r ok _ _ a, (scope_alike r ok _ _ n, (same_written r ok callee, (expr_alike x None None refl, (same_written r ok types, tt))))))
     expr_alike (s.function {t = t} {u = u} b e x) p q f =
-        let span = range_to r ok (Function-span (FnExpr-function t)) (Function-span (FnExpr-function u)) (function_head x).span in
-        by_form t u p q (fn_expr_alike r ok c d (expr_seen c) (expr_seen d) t u p q b e
-        (function_alike x ExpressionLike (or_own p (Function-span (FnExpr-function t))) (or_own q (Function-span (FnExpr-function u)))
-        (or_own_alike r ok p q (Function-span (FnExpr-function t)) (Function-span (FnExpr-function u)) f span)))
+        let left = Function-span (FnExpr-function t) in let right = Function-span (FnExpr-function u) in
+        by_kind t u p q kinds.FnExpr (slotted FN_EXPR) b refl refl (
+          same_written r ok e,
+          (
+            function_alike x ExpressionLike (or_own p left) (or_own q right)
+                (or_own_alike r ok p q left right f (range_to r ok left right (function_head x).span)),
+            tt,
+          ),
+        )
     expr_alike (s.arrow {t = t} {u = u} b h ps x) p q f =
-        by_form t u p q (arrow_expr_alike r ok c d (expr_seen c) (expr_seen d) t u p q b
-        (arrow_body_alike x (or_own p (ArrowExpr-span t)) (or_own q (ArrowExpr-span u)) (pats_seen c (expr_seen c) (parts (ArrowExpr-params t))) (pats_seen d (expr_seen d) (parts (ArrowExpr-params u)))
-        h (or_own_alike r ok p q (ArrowExpr-span t) (ArrowExpr-span u) f (range_to r ok (ArrowExpr-span t) (ArrowExpr-span u) h.span)) (pats_alike ps)))
+        by_kind t u p q kinds.ArrowExpr arrow b refl refl
+        (arrow_body_alike x (or_own p (ArrowExpr-span t)) (or_own q (ArrowExpr-span u)) (pats_seen c (expr_seen c) (parts (ArrowExpr-params t)))
+        (pats_seen d (expr_seen d) (parts (ArrowExpr-params u)))
+        h (or_own_alike r ok p q (ArrowExpr-span t) (ArrowExpr-span u) f (range_to r ok (ArrowExpr-span t) (ArrowExpr-span u) h.span)) (pats_alike ps))
 
     exprs_alike : {ts us : List Tree} → SameExprs r c d ts us → AllAlike r ok (map (λ x. expr_seen c x None) ts) (map (λ x. expr_seen d x None) us)
     exprs_alike s.no_exprs = refl
     exprs_alike (s.next_expr x xs) = ap₂ (λ y ys. y ∷ ys) (expr_alike x None None refl) (exprs_alike xs)
 
-    arrow_body_alike : {t u : Tree} → SameArrowBody r c d t u → (p q : SourceRange) (pats pats' : List Seen) → SameArrowHead r c d t u → RangeAlike r ok p q → AllAlike r ok pats pats' →
+    arrow_body_alike : {t u : Tree} → SameArrowBody r c d t u → (p q : SourceRange) (pats pats' : List Seen) → SameArrowHead r c d t u → RangeAlike r ok p q →
+        AllAlike r ok pats pats' →
         Alike r ok (arrow_by_type c (expr_seen c) t p pats) (arrow_by_type d (expr_seen d) u q pats')
     arrow_body_alike (s.typed_arrow {t = t} {u = u} w) p q pats pats' h e ps = typed_alike r ok c d (expr_seen c) (expr_seen d) t u p q pats pats' h e ps w
-    arrow_body_alike (s.classed_arrow {t = t} {u = u} b f) p q pats pats' h e ps = classed_alike r ok c d (expr_seen c) (expr_seen d) t u p q pats pats' h e ps b f
-    arrow_body_alike (s.shown_value {t = t} {u = u} n f) p q pats pats' h e ps = shown_value_alike r ok c d (expr_seen c) (expr_seen d) t u p q pats pats' h e ps pair n f
+    arrow_body_alike (s.classed_arrow {t = t} {u = u} b f) p q pats pats' h e ps =
+        classed_alike r ok c d (expr_seen c) (expr_seen d) t u p q pats pats' h e ps b f
+    arrow_body_alike (s.shown_value {t = t} {u = u} n f) p q pats pats' h e ps =
+        shown_value_alike r ok c d (expr_seen c) (expr_seen d) t u p q pats pats' h e ps pair n f
     arrow_body_alike (s.kept_value {t = t} {u = u} n f x) p q pats pats' h e ps =
         kept_value_alike r ok c d (expr_seen c) (expr_seen d) t u p q pats pats' h e ps n f (expr_alike x None None refl)
 
     pub function_alike : {t u : Tree} → SameFunction r c d t u → (kind : FunctionKind) (p q : SourceRange) → RangeAlike r ok p q →
         Alike r ok (function_seen c (expr_seen c) kind p t) (function_seen d (expr_seen d) kind q u)
     function_alike (s.typed_function {t = t} {u = u} h n w ps) kind p q e =
-        signature_of_alike r ok c d kind p q t u (params_seen (parts (Function-params t)) (pats_seen c (expr_seen c) (map (λ x. Param-pat x) (parts (Function-params t)))))
-        (params_seen (parts (Function-params u)) (pats_seen d (expr_seen d) (map (λ x. Param-pat x) (parts (Function-params u))))) e h n (λ a. cc) (params_alike ps)
+        signature_of_alike r ok c d kind p q t u (params_seen (parts (Function-params t))
+        (pats_seen c (expr_seen c) (map (λ x. Param-pat x) (parts (Function-params t)))))
+        (params_seen (parts (Function-params u)) (pats_seen d (expr_seen d) (map (λ x. Param-pat x) (parts (Function-params u))))) e h n (λ a. cc)
+        (params_alike ps)
     function_alike (s.classed_function {t = t} {u = u} h n f ps) kind p q e =
-        signature_of_alike r ok c d kind p q t u (params_seen (parts (Function-params t)) (pats_seen c (expr_seen c) (map (λ x. Param-pat x) (parts (Function-params t)))))
-        (params_seen (parts (Function-params u)) (pats_seen d (expr_seen d) (map (λ x. Param-pat x) (parts (Function-params u))))) e h n (λ a. f) (params_alike ps)
+        signature_of_alike r ok c d kind p q t u (params_seen (parts (Function-params t))
+        (pats_seen c (expr_seen c) (map (λ x. Param-pat x) (parts (Function-params t)))))
+        (params_seen (parts (Function-params u)) (pats_seen d (expr_seen d) (map (λ x. Param-pat x) (parts (Function-params u))))) e h n (λ a. f)
+        (params_alike ps)
 
     pub params_alike : {ts us : List Tree} → SameParams r c d ts us →
-        AllAlike r ok (params_seen ts (pats_seen c (expr_seen c) (map (λ x. Param-pat x) ts))) (params_seen us (pats_seen d (expr_seen d) (map (λ x. Param-pat x) us)))
+        AllAlike r ok (params_seen ts (pats_seen c (expr_seen c) (map (λ x. Param-pat x) ts)))
+        (params_seen us (pats_seen d (expr_seen d) (map (λ x. Param-pat x) us)))
     params_alike s.no_params = refl
     params_alike (s.next_param {t = t} {u = u} {ts = ts} {us = us} a x xs) =
         let b = list_all is_optional_param (Param-pat t ∷ map (λ y. Param-pat y) ts) in
@@ -137,12 +174,15 @@ module _ (r : Renaming) (ok : IsRenaming r) (c d : SyntaxContext) (pair : IsPair
     pat_alike (s.rest {t = t} {u = u} k a dots arg e) b = rest_alike r ok c d (expr_seen c) (expr_seen d) b t u k a dots arg e
     pat_alike (s.typed_default {t = t} {u = u} k j e w) b = typed_default_alike r ok c d (expr_seen c) (expr_seen d) b t u k j e w
     pat_alike (s.shown_default {t = t} {u = u} k j e h) b = shown_default_alike r ok c d (expr_seen c) (expr_seen d) b t u k j e h
-    pat_alike (s.kept_default {t = t} {u = u} k j a e h x) b = kept_default_alike r ok c d (expr_seen c) (expr_seen d) b t u k j a e h (λ p q f. expr_alike x p q f)
+    pat_alike (s.kept_default {t = t} {u = u} k j a e h x) b = kept_default_alike r ok c d (expr_seen c)
+        (expr_seen d) b t u k j a e h (λ p q f. expr_alike x p q f)
     pat_alike (s.typed_pattern {t = t} {u = u} k a e w) b = typed_pattern_alike r ok c d (expr_seen c) (expr_seen d) b t u k a e w
     pat_alike (s.kept_pattern {t = t} {u = u} k a e x) b = kept_pattern_alike r ok c d (expr_seen c) (expr_seen d) b t u k a e (λ p q f. expr_alike x p q f)
 
-  pub arrow_alike : {t u : Tree} → SameArrowHead r c d t u → SamePats r c d (parts (ArrowExpr-params t)) (parts (ArrowExpr-params u)) → SameArrowBody r c d t u →
+  pub arrow_alike : {t u : Tree} → SameArrowHead r c d t u → SamePats r c d (parts (ArrowExpr-params t)) (parts (ArrowExpr-params u)) →
+      SameArrowBody r c d t u →
       (p q : Option SourceRange) → PlaceAlike r ok p q → Alike r ok (arrow_seen c (expr_seen c) p t) (arrow_seen d (expr_seen d) q u)
   arrow_alike {t} {u} h ps x p q f =
-      arrow_body_alike x (or_own p (ArrowExpr-span t)) (or_own q (ArrowExpr-span u)) (pats_seen c (expr_seen c) (parts (ArrowExpr-params t))) (pats_seen d (expr_seen d) (parts (ArrowExpr-params u)))
+      arrow_body_alike x (or_own p (ArrowExpr-span t)) (or_own q (ArrowExpr-span u)) (pats_seen c (expr_seen c) (parts (ArrowExpr-params t)))
+      (pats_seen d (expr_seen d) (parts (ArrowExpr-params u)))
       h (or_own_alike r ok p q (ArrowExpr-span t) (ArrowExpr-span u) f (range_to r ok (ArrowExpr-span t) (ArrowExpr-span u) h.span)) (pats_alike ps)

@@ -1,18 +1,20 @@
 -- Functions and arrows that agree but for what is hidden are seen alike.
 use Rattle.std.specs.Prelude.{◌≡◌, ℕ, suc, Bool, true, false, Option, Some, None, List, [], ◌∷◌, map, refl, if◌then◌else◌}
 use Rattle.std.proofs.Common.{ap, ap₂, ◌∙◌, sym, subst₂, true≢false}
-use Rattle.fast_check_syntax.specs.declared.kind.Kind.TheVariants.{Function, ArrowExpr, Param, BlockStmt, RestPat, List as List'}
+use Rattle.fast_check_syntax.specs.declared.kind.Kind.TheVariants.{Param, BlockStmt, RestPat}
 use Rattle.fast_check_syntax.specs.declared.source.SourceRange.{SourceRange}
 use Rattle.fast_check_syntax.specs.declared.source.SyntaxContext.{SyntaxContext}
 use Rattle.fast_check_syntax.specs.declared.tree.Tree.{Tree, Absent}
-use Rattle.fast_check_syntax.specs.Shape.{◌is◌, kind_of, parts, is_absent}
+use Rattle.fast_check_syntax.specs.Shape.{◌is◌, kind_of, parts, is_absent, list}
 use Rattle.fast_check_syntax.specs.Moves.{Renaming, IsRenaming, IsPair, partners, twice, moved, moved_range}
 use Rattle.fast_check_syntax.specs.Same.{SameRange}
 use Rattle.fast_check_syntax.proofs.Moved.{absent_moved}
 use Rattle.fast_check_syntax.proofs.Partners.{partners-keep as partners_keep, twice-keeps as twice_keeps}
-use Rattle.fast_check_syntax.proofs.Same.{tree_to}
-use Rattle.fast_check_class_forms.specs.Functions.{Function-span, Function-params, Function-ctxt, Function-body, Function-is_generator, Function-is_async, Function-type_params, Function-return_type, Param-span, Param-pat}
-use Rattle.fast_check_expression_forms.specs.Expressions.{ArrowExpr-span, ArrowExpr-ctxt, ArrowExpr-body, ArrowExpr-is_async, ArrowExpr-is_generator, ArrowExpr-type_params, ArrowExpr-return_type}
+use Rattle.fast_check_syntax.proofs.Same.{tree_to, range_to}
+use Rattle.fast_check_class_forms.specs.Functions.{Function-span, Function-params, Function-ctxt, Function-body, Function-is_generator, Function-is_async}
+use Rattle.fast_check_class_forms.specs.Functions.{Function-return_type, Param-span, Param-pat}
+use Rattle.fast_check_expression_forms.specs.Expressions.{ArrowExpr-span, ArrowExpr-ctxt, ArrowExpr-body, ArrowExpr-is_async}
+use Rattle.fast_check_expression_forms.specs.Expressions.{ArrowExpr-return_type}
 use Rattle.fast_check_tree.specs.declared.helpers.literal_type.DeclMutabilityKind.TheVariants.{Mutable}
 use Rattle.fast_check_tree.specs.declared.helpers.return_class.ReturnStatementAnalysis.{ReturnStatementAnalysis}
 use Rattle.fast_check_tree.specs.declared.helpers.return_class.ReturnStatementAnalysis.TheVariants as class
@@ -22,14 +24,18 @@ use Rattle.fast_check_tree.specs.ReturnClass.{return_class}
 use Rattle.fast_check_tree.proofs.BuildersMoved.{type_ann_moved, any_type_ann_moved}
 use Rattle.fast_check_signatures.specs.declared.function_kind.FunctionKind.{FunctionKind}
 use Rattle.fast_check_signatures.specs.declared.function_kind.FunctionKind.TheVariants.{DeclarationLike, ExpressionLike}
-use Rattle.fast_check_signatures.specs.Seen.{Seen, written, range, scope, flag, form, faulty, end, seens, tree_in}
-use Rattle.fast_check_signatures.specs.NewNodes.{function_body, arrow_body, promised, void_or_promise_void, any_param}
+use Rattle.fast_check_signatures.specs.Seen.{Seen, written, range, function, typed_arrow, valued_arrow, faulty}
+use Rattle.fast_check_signatures.specs.NewNodes.{promised, void_or_promise_void, any_param}
 use Rattle.fast_check_signatures.specs.Parameters.{Look}
-use Rattle.fast_check_signatures.specs.Functions.{return_type_missing, void_seen, class_seen, return_type_seen, body_behind, signature_seen, any_params_from, implementation_seen, param_seen, typed_arrow_seen, valued_arrow_seen, or_own, by_value, untyped_arrow_seen, arrow_by_type}
+use Rattle.fast_check_signatures.specs.Functions.{return_type_missing, void_seen, class_seen, return_type_seen, function_head, signature_seen, any_params_from}
+use Rattle.fast_check_signatures.specs.Functions.{implementation_seen, param_seen, arrow_head, typed_arrow_seen, valued_arrow_seen, or_own, by_value}
+use Rattle.fast_check_signatures.specs.Functions.{untyped_arrow_seen}
+use Rattle.fast_check_signatures.specs.Functions.{arrow_by_type}
 use Rattle.fast_check_same_values.specs.SameValues.{Both, Neither, SameShown, NoneShown, SameFunctionHead, SameReturn, SameImplementation, SameArrowHead}
-use Rattle.fast_check_signatures.proofs.NewNodesMoved.{function_body_moved, arrow_body_moved, promised_moved, void_or_promise_void_moved, any_param_moved}
-use Rattle.fast_check_same_values.proofs.AlikeTrees.{TreeAlike, RangeAlike, scope_to, image_alike, new_alike, absent_alike}
-use Rattle.fast_check_same_values.proofs.AlikeSeen.{Alike, AllAlike, written_alike, same_written, range_alike, scope_alike, faulty_alike, alike_if, form_alike, tree_in_alike}
+use Rattle.fast_check_signatures.proofs.NewNodesMoved.{promised_moved, void_or_promise_void_moved, any_param_moved}
+use Rattle.fast_check_signatures.proofs.MovedParts.{moved_function, moved_arrow}
+use Rattle.fast_check_same_values.proofs.AlikeTrees.{TreeAlike, RangeAlike, scope_to, image_alike, new_alike, absent_alike, empty_list_alike}
+use Rattle.fast_check_same_values.proofs.AlikeSeen.{Alike, AllAlike, written_alike, same_written, range_alike, faulty_alike, alike_if, seens_alike, round_alike}
 use Rattle.fast_check_same_values.proofs.AlikeParameters.{PlaceAlike}
 
 module _ (r : Renaming) (ok : IsRenaming r) where
@@ -45,9 +51,11 @@ module _ (r : Renaming) (ok : IsRenaming r) where
   void_alike : (is_async : Bool) → Alike r ok (void_seen is_async) (void_seen is_async)
   void_alike is_async =
       let type = type_ann (void_or_promise_void is_async) in
-      written_alike r ok type type (new_alike r ok type (λ m keeps. type_ann_moved m keeps (void_or_promise_void is_async) ∙ ap type_ann (void_or_promise_void_moved m keeps is_async)))
+      written_alike r ok type type (new_alike r ok type (λ m keeps. type_ann_moved m keeps (void_or_promise_void is_async)
+      ∙ ap type_ann (void_or_promise_void_moved m keeps is_async)))
 
-  class_alike : (kind : FunctionKind) (is_async : Bool) (p q : SourceRange) (c : ReturnStatementAnalysis) → RangeAlike r ok p q → Alike r ok (class_seen kind is_async p c) (class_seen kind is_async q c)
+  class_alike : (kind : FunctionKind) (is_async : Bool) (p q : SourceRange) (c : ReturnStatementAnalysis) → RangeAlike r ok p q →
+      Alike r ok (class_seen kind is_async p c) (class_seen kind is_async q c)
   class_alike kind is_async p q class.Void e = void_alike is_async
   class_alike DeclarationLike is_async p q class.None e = void_alike is_async
   class_alike ExpressionLike is_async p q class.None e = faulty_alike r ok (return_type_missing true is_async) p q e
@@ -56,27 +64,22 @@ module _ (r : Renaming) (ok : IsRenaming r) where
 
   -- ---- signatures
 
-  body_behind_alike : (type type' : Seen) (body body' : Tree) → Alike r ok type type' → is_absent body ≡ is_absent body' → TreeAlike r ok (body_behind type body) (body_behind type' body')
-  body_behind_alike type type' body body' e f = go (is_absent body) (is_absent body') f
-    where
-      go : (a b : Bool) → a ≡ b → TreeAlike r ok (if a then Absent else function_body (tree_in type)) (if b then Absent else function_body (tree_in type'))
-      go true true f = new_alike r ok Absent (λ m keeps. absent_moved m)
-      go false false f = image_alike r ok function_body function_body_moved (tree_in type) (tree_in type') (tree_in_alike r ok type type' e)
-      go true false f = cc
-      go false true f = cc
-
   module _ (c d : SyntaxContext) where
-    signature_alike : (t u : Tree) (type type' : Seen) (params params' : List Seen) → SameFunctionHead r c d t u → Alike r ok type type' → AllAlike r ok params params' →
-        Alike r ok (signature_seen t type params) (signature_seen u type' params')
-    signature_alike t u type type' params params' h e ps =
-        form_alike r ok Function
-        (range (Function-span t) ∷ type ∷ form List' (seens params) ∷ scope (Function-ctxt t) ∷ written (body_behind type (Function-body t)) ∷ written (Function-type_params t) ∷ [])
-        (range (Function-span u) ∷ type' ∷ form List' (seens params') ∷ scope (Function-ctxt u) ∷ written (body_behind type' (Function-body u)) ∷ written (Function-type_params u) ∷ [])
-        (λ i. range_alike r ok (Function-span t) (Function-span u) h.span i ∷ e i ∷ form_alike r ok List' params params' ps i ∷ scope_alike r ok (Function-ctxt t) (Function-ctxt u) h.ctxt i ∷
-        written (body_behind_alike type type' (Function-body t) (Function-body u) e h.has_body i) ∷ same_written r ok h.type_params i ∷ [])
+    function_head_alike : (t u : Tree) → SameFunctionHead r c d t u → moved_function (partners r) (function_head t) ≡ moved_function twice (function_head u)
+    function_head_alike t u h = λ i. record {
+      span = range_to r ok (Function-span t) (Function-span u) h.span i;
+      ctxt = scope_to r ok (Function-ctxt t) (Function-ctxt u) h.ctxt i;
+      lacks_body = h.has_body i;
+      type_params = tree_to r ok h.type_params i;
+    }
+
+    signature_alike : (t u : Tree) (type type' : Seen) (params params' : List Seen) → SameFunctionHead r c d t u → Alike r ok type type' →
+        AllAlike r ok params params' → Alike r ok (signature_seen t type params) (signature_seen u type' params')
+    signature_alike t u type type' params params' h e ps = λ i. function (function_head_alike t u h i) (e i) (seens_alike r ok params params' ps i)
 
     return_type_alike : (kind : FunctionKind) (p q : SourceRange) (t u : Tree) → RangeAlike r ok p q → SameFunctionHead r c d t u → SameReturn r c d t u →
-        (is_absent (Function-return_type t) ≡ true → return_class (Function-body t) ≡ return_class (Function-body u)) → Alike r ok (return_type_seen kind p t) (return_type_seen kind q u)
+        (is_absent (Function-return_type t) ≡ true → return_class (Function-body t) ≡ return_class (Function-body u)) →
+        Alike r ok (return_type_seen kind p t) (return_type_seen kind q u)
     return_type_alike kind p q t u e h s classes =
         let missing = return_type_missing false (Function-is_async t) in
         let missing' = return_type_missing false (Function-is_async u) in
@@ -97,7 +100,8 @@ module _ (r : Renaming) (ok : IsRenaming r) where
         (λ w. same_written r ok s.return_type)
 
     -- a function, by its parameters, where its body has the class of the other's if no type is written
-    pub signature_of_alike : (kind : FunctionKind) (p q : SourceRange) (t u : Tree) (params params' : List Seen) → RangeAlike r ok p q → SameFunctionHead r c d t u → SameReturn r c d t u →
+    pub signature_of_alike : (kind : FunctionKind) (p q : SourceRange) (t u : Tree) (params params' : List Seen) → RangeAlike r ok p q →
+        SameFunctionHead r c d t u → SameReturn r c d t u →
         (is_absent (Function-return_type t) ≡ true → return_class (Function-body t) ≡ return_class (Function-body u)) → AllAlike r ok params params' →
         Alike r ok (signature_seen t (return_type_seen kind p t) params) (signature_seen u (return_type_seen kind q u) params')
     signature_of_alike kind p q t u params params' e h s classes ps =
@@ -105,14 +109,16 @@ module _ (r : Renaming) (ok : IsRenaming r) where
 
     -- ---- parameters
 
-    pub param_alike : (t u : Tree) (pat pat' : Seen) → SameRange r (Param-span t) (Param-span u) → Alike r ok pat pat' → Alike r ok (param_seen t pat) (param_seen u pat')
+    pub param_alike : (t u : Tree) (pat pat' : Seen) → SameRange r (Param-span t) (Param-span u) → Alike r ok pat pat' →
+        Alike r ok (param_seen t pat) (param_seen u pat')
     param_alike t u pat pat' s e =
-        form_alike r ok Param (range (Param-span t) ∷ form List' end ∷ pat ∷ []) (range (Param-span u) ∷ form List' end ∷ pat' ∷ [])
-        (λ i. range_alike r ok (Param-span t) (Param-span u) s i ∷ form List' end ∷ e i ∷ [])
+        round_alike r ok Param (range (Param-span t) ∷ written (list []) ∷ pat ∷ []) (range (Param-span u) ∷ written (list []) ∷ pat' ∷ [])
+        (λ i. range_alike r ok (Param-span t) (Param-span u) s i ∷ written (empty_list_alike r ok i) ∷ e i ∷ [])
 
     any_alike : (n : ℕ) (a b : Bool) → a ≡ b → Alike r ok (written (any_param n a)) (written (any_param n b))
     any_alike n a b e =
-        ap (λ x. written (moved (partners r) (any_param n x))) e ∙ written_alike r ok (any_param n b) (any_param n b) (new_alike r ok (any_param n b) (λ m keeps. any_param_moved m keeps n b))
+        ap (λ x. written (moved (partners r) (any_param n x))) e ∙ written_alike r ok (any_param n b) (any_param n b)
+        (new_alike r ok (any_param n b) (λ m keeps. any_param_moved m keeps n b))
 
     any_params_alike : (n : ℕ) (ts us : List Tree) → map (λ p. kind_of (Param-pat p) is RestPat) ts ≡ map (λ p. kind_of (Param-pat p) is RestPat) us →
         AllAlike r ok (any_params_from n ts) (any_params_from n us)
@@ -126,49 +132,46 @@ module _ (r : Renaming) (ok : IsRenaming r) where
 
     pub implementation_alike : (t u : Tree) → SameImplementation r c d t u → Alike r ok (implementation_seen t) (implementation_seen u)
     implementation_alike t u s =
-        signature_alike t u (written any_type_ann) (written any_type_ann) (any_params_from 0 (parts (Function-params t))) (any_params_from 0 (parts (Function-params u))) s.head
+        signature_alike t u (written any_type_ann) (written any_type_ann) (any_params_from 0 (parts (Function-params t)))
+        (any_params_from 0 (parts (Function-params u))) s.head
         (written_alike r ok any_type_ann any_type_ann (new_alike r ok any_type_ann any_type_ann_moved))
         (any_params_alike 0 (parts (Function-params t)) (parts (Function-params u)) s.rests)
 
     -- ---- arrows
 
-    typed_arrow_alike : (t u : Tree) (p q : SourceRange) (pats pats' : List Seen) (type type' : Seen) → SameArrowHead r c d t u → RangeAlike r ok p q → AllAlike r ok pats pats' →
-        Alike r ok type type' → Alike r ok (typed_arrow_seen t p pats type) (typed_arrow_seen u q pats' type')
-    typed_arrow_alike t u p q pats pats' type type' h e ps f =
-        form_alike r ok ArrowExpr
-        (range (ArrowExpr-span t) ∷ range p ∷ type ∷ written (arrow_body (tree_in type)) ∷ flag false ∷
-        flag (ArrowExpr-is_generator t) ∷ form List' (seens pats) ∷ scope (ArrowExpr-ctxt t) ∷ written (ArrowExpr-type_params t) ∷ [])
-        (range (ArrowExpr-span u) ∷ range q ∷ type' ∷ written (arrow_body (tree_in type')) ∷ flag false ∷
-        flag (ArrowExpr-is_generator u) ∷ form List' (seens pats') ∷ scope (ArrowExpr-ctxt u) ∷ written (ArrowExpr-type_params u) ∷ [])
-        (λ i. range_alike r ok (ArrowExpr-span t) (ArrowExpr-span u) h.span i ∷ range (e i) ∷ f i ∷
-        written (image_alike r ok arrow_body arrow_body_moved (tree_in type) (tree_in type') (tree_in_alike r ok type type' f) i) ∷ flag false ∷
-        flag (h.is_generator i) ∷ form_alike r ok List' pats pats' ps i ∷ scope_alike r ok (ArrowExpr-ctxt t) (ArrowExpr-ctxt u) h.ctxt i ∷ same_written r ok h.type_params i ∷ [])
+    arrow_head_alike : (t u : Tree) → SameArrowHead r c d t u → moved_arrow (partners r) (arrow_head t) ≡ moved_arrow twice (arrow_head u)
+    arrow_head_alike t u h = λ i. record {
+      span = range_to r ok (ArrowExpr-span t) (ArrowExpr-span u) h.span i;
+      ctxt = scope_to r ok (ArrowExpr-ctxt t) (ArrowExpr-ctxt u) h.ctxt i;
+      is_generator = h.is_generator i;
+      type_params = tree_to r ok h.type_params i;
+    }
 
-    valued_arrow_alike : (t u : Tree) (p q : SourceRange) (pats pats' : List Seen) (value value' : Seen) → SameArrowHead r c d t u → RangeAlike r ok p q → AllAlike r ok pats pats' →
-        Alike r ok value value' → Alike r ok (valued_arrow_seen t p pats value) (valued_arrow_seen u q pats' value')
+    typed_arrow_alike : (t u : Tree) (pats pats' : List Seen) (type type' : Seen) → SameArrowHead r c d t u → AllAlike r ok pats pats' →
+        Alike r ok type type' → Alike r ok (typed_arrow_seen t pats type) (typed_arrow_seen u pats' type')
+    typed_arrow_alike t u pats pats' type type' h ps f = λ i. typed_arrow (arrow_head_alike t u h i) (f i) (seens_alike r ok pats pats' ps i)
+
+    valued_arrow_alike : (t u : Tree) (p q : SourceRange) (pats pats' : List Seen) (value value' : Seen) → SameArrowHead r c d t u → RangeAlike r ok p q →
+        AllAlike r ok pats pats' → Alike r ok value value' → Alike r ok (valued_arrow_seen t p pats value) (valued_arrow_seen u q pats' value')
     valued_arrow_alike t u p q pats pats' value value' h e ps f =
-        form_alike r ok ArrowExpr
-        (range (ArrowExpr-span t) ∷ range p ∷ written Absent ∷ value ∷ flag (ArrowExpr-is_async t) ∷
-        flag (ArrowExpr-is_generator t) ∷ form List' (seens pats) ∷ scope (ArrowExpr-ctxt t) ∷ written (ArrowExpr-type_params t) ∷ [])
-        (range (ArrowExpr-span u) ∷ range q ∷ written Absent ∷ value' ∷ flag (ArrowExpr-is_async u) ∷
-        flag (ArrowExpr-is_generator u) ∷ form List' (seens pats') ∷ scope (ArrowExpr-ctxt u) ∷ written (ArrowExpr-type_params u) ∷ [])
-        (λ i. range_alike r ok (ArrowExpr-span t) (ArrowExpr-span u) h.span i ∷ range (e i) ∷ written (new_alike r ok Absent (λ m keeps. absent_moved m) i) ∷ f i ∷ flag (h.is_async i) ∷
-        flag (h.is_generator i) ∷ form_alike r ok List' pats pats' ps i ∷ scope_alike r ok (ArrowExpr-ctxt t) (ArrowExpr-ctxt u) h.ctxt i ∷ same_written r ok h.type_params i ∷ [])
+        λ i. valued_arrow (arrow_head_alike t u h i) (h.is_async i) (e i) (f i) (seens_alike r ok pats pats' ps i)
 
     -- two arrows by their parameters, where what is seen of them without a written type is given
-    module _ (look look' : Look) (t u : Tree) (p q : SourceRange) (pats pats' : List Seen) (h : SameArrowHead r c d t u) (e : RangeAlike r ok p q) (ps : AllAlike r ok pats pats') where
+    module _ (look look' : Look) (t u : Tree) (p q : SourceRange) (pats pats' : List Seen) (h : SameArrowHead r c d t u) (e : RangeAlike r ok p q)
+        (ps : AllAlike r ok pats pats') where
       abbrev pub ArrowAlike : Type 0
       ArrowAlike = Alike r ok (arrow_by_type c look t p pats) (arrow_by_type d look' u q pats')
 
-      by_type_alike : (is_absent (ArrowExpr-return_type t) ≡ true → Alike r ok (untyped_arrow_seen c look t p pats) (untyped_arrow_seen d look' u q pats')) → ArrowAlike
+      by_type_alike : (is_absent (ArrowExpr-return_type t) ≡ true → Alike r ok (untyped_arrow_seen c look t p pats) (untyped_arrow_seen d look' u q pats')) →
+          ArrowAlike
       by_type_alike f =
           let type = ArrowExpr-return_type t in
           let type' = ArrowExpr-return_type u in
           alike_if r ok (is_absent type) (is_absent type')
-          (untyped_arrow_seen c look t p pats) (typed_arrow_seen t p pats (written type))
-          (untyped_arrow_seen d look' u q pats') (typed_arrow_seen u q pats' (written type'))
+          (untyped_arrow_seen c look t p pats) (typed_arrow_seen t pats (written type))
+          (untyped_arrow_seen d look' u q pats') (typed_arrow_seen u pats' (written type'))
           (absent_alike r ok type type' (tree_to r ok h.return_type)) f
-          (λ w. typed_arrow_alike t u p q pats pats' (written type) (written type') h e ps (same_written r ok h.return_type))
+          (λ w. typed_arrow_alike t u pats pats' (written type) (written type') h ps (same_written r ok h.return_type))
 
       pub typed_alike : is_absent (ArrowExpr-return_type t) ≡ false → ArrowAlike
       typed_alike w = by_type_alike (λ a. absurd (true≢false (sym a ∙ w)))
@@ -176,7 +179,7 @@ module _ (r : Renaming) (ok : IsRenaming r) where
       -- the body is a block
       abbrev untyped_at : SyntaxContext → Look → Tree → SourceRange → List Seen → Bool → Seen
       untyped_at unresolved f v place ss is_block =
-          if is_block then typed_arrow_seen v place ss (class_seen ExpressionLike (ArrowExpr-is_async v) place (return_class (ArrowExpr-body v)))
+          if is_block then typed_arrow_seen v ss (class_seen ExpressionLike (ArrowExpr-is_async v) place (return_class (ArrowExpr-body v)))
           else by_value unresolved f v place ss (inferred_type Mutable unresolved (ArrowExpr-body v))
 
       pub classed_alike : Both BlockStmt (ArrowExpr-body t) (ArrowExpr-body u) → return_class (ArrowExpr-body t) ≡ return_class (ArrowExpr-body u) → ArrowAlike
@@ -184,28 +187,34 @@ module _ (r : Renaming) (ok : IsRenaming r) where
           let classed = class_seen ExpressionLike (ArrowExpr-is_async t) p (return_class (ArrowExpr-body t)) in
           let classed' = class_seen ExpressionLike (ArrowExpr-is_async u) q (return_class (ArrowExpr-body u)) in
           by_type_alike (λ a.
-          subst₂ (Alike r ok) (sym (ap (λ j. untyped_at c look t p pats (j is BlockStmt)) k.left)) (sym (ap (λ j. untyped_at d look' u q pats' (j is BlockStmt)) k.right))
-          (typed_arrow_alike t u p q pats pats' classed classed' h e ps
+          subst₂ (Alike r ok) (sym (ap (λ j. untyped_at c look t p pats (j is BlockStmt)) k.left))
+          (sym (ap (λ j. untyped_at d look' u q pats' (j is BlockStmt)) k.right))
+          (typed_arrow_alike t u pats pats' classed classed' h ps
           (subst₂ (λ x y. Alike r ok classed (class_seen ExpressionLike x q y)) h.is_async classes
           (class_alike ExpressionLike (ArrowExpr-is_async t) p q (return_class (ArrowExpr-body t)) e))))
 
       -- the body is a value
       valued_alike : Neither BlockStmt (ArrowExpr-body t) (ArrowExpr-body u) →
-          Alike r ok (by_value c look t p pats (inferred_type Mutable c (ArrowExpr-body t))) (by_value d look' u q pats' (inferred_type Mutable d (ArrowExpr-body u))) → ArrowAlike
-      valued_alike n f = by_type_alike (λ a. subst₂ (Alike r ok) (sym (ap (untyped_at c look t p pats) n.left)) (sym (ap (untyped_at d look' u q pats') n.right)) f)
+          Alike r ok (by_value c look t p pats (inferred_type Mutable c (ArrowExpr-body t)))
+          (by_value d look' u q pats' (inferred_type Mutable d (ArrowExpr-body u))) → ArrowAlike
+      valued_alike n f = by_type_alike (λ a. subst₂ (Alike r ok) (sym (ap (untyped_at c look t p pats) n.left))
+          (sym (ap (untyped_at d look' u q pats') n.right)) f)
 
-      pub shown_value_alike : IsPair r.scopes c.0 d.0 → Neither BlockStmt (ArrowExpr-body t) (ArrowExpr-body u) → SameShown r c d (ArrowExpr-body t) (ArrowExpr-body u) → ArrowAlike
+      pub shown_value_alike : IsPair r.scopes c.0 d.0 → Neither BlockStmt (ArrowExpr-body t) (ArrowExpr-body u) →
+          SameShown r c d (ArrowExpr-body t) (ArrowExpr-body u) → ArrowAlike
       shown_value_alike pair n s =
           let type = type_ann (promised c (ArrowExpr-is_async t) s.left) in
           let type' = type_ann (promised d (ArrowExpr-is_async u) s.right) in
           valued_alike n (subst₂ (λ x y. Alike r ok (by_value c look t p pats x) (by_value d look' u q pats' y)) (sym s.left_is) (sym s.right_is)
-          (typed_arrow_alike t u p q pats pats' (written type) (written type') h e ps
-          (written_alike r ok type type' (image_alike r ok type_ann (λ m keeps t. sym (type_ann_moved m keeps t)) (promised c (ArrowExpr-is_async t) s.left) (promised d (ArrowExpr-is_async u) s.right)
+          (typed_arrow_alike t u pats pats' (written type) (written type') h ps
+          (written_alike r ok type type' (image_alike r ok type_ann (λ m keeps t. sym (type_ann_moved m keeps t)) (promised c (ArrowExpr-is_async t) s.left)
+          (promised d (ArrowExpr-is_async u) s.right)
           (promised_alike pair (ArrowExpr-is_async t) (ArrowExpr-is_async u) s.left s.right h.is_async (tree_to r ok s.types))))))
         where
           promised_alike : IsPair r.scopes c.0 d.0 → (a b : Bool) (x y : Tree) → a ≡ b → TreeAlike r ok x y → TreeAlike r ok (promised c a x) (promised d b y)
           promised_alike pair a b x y f g =
-              sym (promised_moved (partners r) (partners_keep r ok) c a x) ∙ ((λ i. promised (scope_to r ok c d pair i) (f i) (g i)) ∙ promised_moved twice twice_keeps d b y)
+              sym (promised_moved (partners r) (partners_keep r ok) c a x)
+              ∙ ((λ i. promised (scope_to r ok c d pair i) (f i) (g i)) ∙ promised_moved twice twice_keeps d b y)
 
       pub kept_value_alike : Neither BlockStmt (ArrowExpr-body t) (ArrowExpr-body u) → NoneShown r c d (ArrowExpr-body t) (ArrowExpr-body u) →
           Alike r ok (look (ArrowExpr-body t) None) (look' (ArrowExpr-body u) None) → ArrowAlike

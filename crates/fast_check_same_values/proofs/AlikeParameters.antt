@@ -2,18 +2,19 @@
 use Rattle.std.specs.Prelude.{◌≡◌, Bool, true, false, ◌||◌, Option, Some, None, option_map, [], ◌∷◌, refl, if◌then◌else◌}
 use Rattle.std.proofs.Common.{ap, ap₂, ◌∙◌, sym, subst₂, true≢false}
 use Rattle.fast_check_syntax.specs.declared.kind.Kind.{Kind}
-use Rattle.fast_check_syntax.specs.declared.kind.Kind.TheVariants.{BindingIdent, ArrayPat, ObjectPat, AssignPat, RestPat, PatExpr}
+use Rattle.fast_check_syntax.specs.declared.kind.Kind.TheVariants as kinds
 use Rattle.fast_check_syntax.specs.declared.source.SourceRange.{SourceRange}
 use Rattle.fast_check_syntax.specs.declared.source.SyntaxContext.{SyntaxContext}
 use Rattle.fast_check_syntax.specs.declared.tree.Tree as tree
 use Rattle.fast_check_syntax.specs.declared.tree.Tree.{Tree}
-use Rattle.fast_check_syntax.specs.Shape.{◌is◌, kind_of, part, is_absent, list}
+use Rattle.fast_check_syntax.specs.Shape.{◌is◌, kind_of, is_absent, list}
 use Rattle.fast_check_syntax.specs.Moves.{Renaming, IsRenaming, partners, twice, moved_range}
 use Rattle.fast_check_syntax.specs.Same.{SameTree, SameRange}
 use Rattle.fast_check_syntax.proofs.Partners.{partners-keep as partners_keep, twice-keeps as twice_keeps}
 use Rattle.fast_check_syntax.proofs.Same.{tree_to, range_to}
-use Rattle.fast_check_expression_forms.specs.Patterns.{ArrayPat-span, ArrayPat-optional, ArrayPat-type_ann, ObjectPat-span, ObjectPat-optional, ObjectPat-type_ann, RestPat-span, RestPat-dot3_token, RestPat-arg, RestPat-type_ann, rest_pat, AssignPat-span, AssignPat-left, AssignPat-right, assign_pat}
-use Rattle.fast_check_ranges.specs.Ranges.{range_of_node}
+use Rattle.fast_check_expression_forms.specs.Patterns.{ArrayPat-span, ArrayPat-optional, ArrayPat-type_ann, ObjectPat-span, ObjectPat-optional}
+use Rattle.fast_check_expression_forms.specs.Patterns.{ObjectPat-type_ann, RestPat-span, RestPat-dot3_token, RestPat-arg, RestPat-type_ann, rest_pat}
+use Rattle.fast_check_expression_forms.specs.Patterns.{AssignPat-span, AssignPat-left, AssignPat-right, assign_pat}
 use Rattle.fast_check_program_forms.specs.Names.{Ident-span, Ident-optional, BindingIdent-id, BindingIdent-type_ann}
 use Rattle.fast_check_tree.specs.declared.helpers.literal_type.DeclMutabilityKind.TheVariants.{Mutable}
 use Rattle.fast_check_tree.specs.Builders.{type_ann, never_value}
@@ -21,83 +22,41 @@ use Rattle.fast_check_tree.specs.InferredType.{inferred_type}
 use Rattle.fast_check_tree.specs.OptionalParams.{is_optional_param}
 use Rattle.fast_check_tree.proofs.BuildersMoved.{type_ann_moved, never_value_moved}
 use Rattle.fast_check_tree.proofs.ReturnsMoved.{is_optional_param_moved}
-use Rattle.fast_check_signatures.specs.declared.fault.FaultKind.TheVariants.{MissingExplicitType, UnsupportedDestructuring}
-use Rattle.fast_check_signatures.specs.Seen.{Seen, written, range, faulty}
-use Rattle.fast_check_signatures.specs.NewNodes.{never_array, empty_object_pat}
-use Rattle.fast_check_signatures.specs.Parameters.{Look, emptied_array, emptied_object, typed, rest_arg, rest_seen, without_default, default_seen, by_shown, ident_default_seen, pattern_default_seen, assign_seen, pat_seen}
+use Rattle.fast_check_signatures.specs.declared.fault.FaultKind.TheVariants.{MissingExplicitType}
+use Rattle.fast_check_signatures.specs.Seen.{Seen, written, default, faulty}
+use Rattle.fast_check_signatures.specs.NewNodes.{never_array}
+use Rattle.fast_check_signatures.specs.Parameters.{Look, emptied_array, emptied_object, typed, arg_by_kind, rest_arg, without_default, default_seen, by_shown}
+use Rattle.fast_check_signatures.specs.Parameters.{pattern_default_seen, assign_by_left, pat_by_kind, pat_seen}
 use Rattle.fast_check_same_values.specs.SameValues.{Both, SameShown, NoneShown, SameEmptied, pattern_type}
 use Rattle.fast_check_same_values.specs.SameValues as s
 use Rattle.fast_check_signatures.proofs.NewNodesMoved.{never_array_moved}
 use Rattle.fast_check_signatures.proofs.ParametersMoved.{without_default_moved}
-use Rattle.fast_check_same_values.proofs.AlikeTrees.{TreeAlike, RangeAlike, image_alike, same_read, new_alike, part_alike, absent_alike, range_of_alike, range_leaf_alike, flag_leaf_alike, node_alike, empty_list_alike}
-use Rattle.fast_check_same_values.proofs.AlikeSeen.{Alike, written_alike, range_alike, faulty_alike, alike_if, form_alike}
+use Rattle.fast_check_same_values.proofs.AlikeTrees.{TreeAlike, RangeAlike, image_alike, same_read, new_alike, field_alike, range_field_alike, absent_alike}
+use Rattle.fast_check_same_values.proofs.AlikeTrees.{range_leaf_alike, flag_leaf_alike, node_alike, empty_list_alike}
+use Rattle.fast_check_same_values.proofs.AlikeSeen.{Alike, written_alike, faulty_alike, alike_if}
 
 -- ---- what a parameter of each kind is seen as
 
 module _ (unresolved : SyntaxContext) (look : Look) (is_optional : Bool) (pat : Tree) where
-  abbrev pat_at : Kind → Seen
-  pat_at kind =
-      if kind is BindingIdent then typed (BindingIdent-type_ann pat) (Ident-span (BindingIdent-id pat)) pat
-      else (if kind is AssignPat then assign_seen unresolved look is_optional pat
-      else (if kind is RestPat then rest_seen pat
-      else (if kind is ArrayPat then typed (ArrayPat-type_ann pat) (ArrayPat-span pat) (emptied_array pat)
-      else (if kind is ObjectPat then typed (ObjectPat-type_ann pat) (ObjectPat-span pat) (emptied_object pat)
-      else faulty UnsupportedDestructuring (range_of_node pat)))))
-
-  assign_of : kind_of pat ≡ AssignPat → pat_seen unresolved look is_optional pat ≡ assign_seen unresolved look is_optional pat
-  assign_of e = ap pat_at e
-
-  rest_of : kind_of pat ≡ RestPat → pat_seen unresolved look is_optional pat ≡ rest_seen pat
-  rest_of e = ap pat_at e
-
-  array_of : kind_of pat ≡ ArrayPat → pat_seen unresolved look is_optional pat ≡ typed (ArrayPat-type_ann pat) (ArrayPat-span pat) (emptied_array pat)
-  array_of e = ap pat_at e
-
-  object_of : kind_of pat ≡ ObjectPat → pat_seen unresolved look is_optional pat ≡ typed (ObjectPat-type_ann pat) (ObjectPat-span pat) (emptied_object pat)
-  object_of e = ap pat_at e
+  pat_of : (k : Kind) → kind_of pat ≡ k → pat_seen unresolved look is_optional pat ≡ pat_by_kind unresolved look k is_optional pat
+  pat_of k e = ap (λ k. pat_by_kind unresolved look k is_optional pat) e
 
   -- a default, by the kind of the pattern that has it
-  abbrev assign_at : Kind → Seen
-  assign_at kind =
-      let left = AssignPat-left pat in
-      if kind is BindingIdent then ident_default_seen unresolved look is_optional pat
-      else (if kind is ArrayPat then pattern_default_seen unresolved look (ArrayPat-type_ann left) (ArrayPat-span left) (emptied_array left) never_array pat
-      else (if kind is ObjectPat then pattern_default_seen unresolved look (ObjectPat-type_ann left) (ObjectPat-span left) (emptied_object left) never_value pat
-      else faulty UnsupportedDestructuring (AssignPat-span pat)))
-
-  ident_default_of : kind_of pat ≡ AssignPat → kind_of (AssignPat-left pat) ≡ BindingIdent →
-      pat_seen unresolved look is_optional pat ≡ ident_default_seen unresolved look is_optional pat
-  ident_default_of e f = assign_of e ∙ ap assign_at f
-
-  array_default_of : kind_of pat ≡ AssignPat → kind_of (AssignPat-left pat) ≡ ArrayPat → pat_seen unresolved look is_optional pat ≡
-      pattern_default_seen unresolved look (ArrayPat-type_ann (AssignPat-left pat)) (ArrayPat-span (AssignPat-left pat)) (emptied_array (AssignPat-left pat)) never_array pat
-  array_default_of e f = assign_of e ∙ ap assign_at f
-
-  object_default_of : kind_of pat ≡ AssignPat → kind_of (AssignPat-left pat) ≡ ObjectPat → pat_seen unresolved look is_optional pat ≡
-      pattern_default_seen unresolved look (ObjectPat-type_ann (AssignPat-left pat)) (ObjectPat-span (AssignPat-left pat)) (emptied_object (AssignPat-left pat)) never_value pat
-  object_default_of e f = assign_of e ∙ ap assign_at f
-
--- an emptied pattern in a rest
-abbrev rest_arg_at : Tree → Kind → Tree
-rest_arg_at arg kind =
-    if kind is ArrayPat then emptied_array arg
-    else (if kind is ObjectPat then emptied_object arg
-    else (if kind is RestPat then empty_object_pat
-    else (if kind is AssignPat then empty_object_pat
-    else (if kind is PatExpr then empty_object_pat
-    else arg))))
+  default_of : (k : Kind) → kind_of pat ≡ kinds.AssignPat → kind_of (AssignPat-left pat) ≡ k →
+      pat_seen unresolved look is_optional pat ≡ assign_by_left unresolved look k is_optional pat
+  default_of k e f = pat_of kinds.AssignPat e ∙ ap (λ k. assign_by_left unresolved look k is_optional pat) f
 
 -- whether a parameter is optional, by its kind
 abbrev optional_at : Tree → Kind → Bool
 optional_at pat kind =
-    if kind is BindingIdent then Ident-optional (BindingIdent-id pat)
-    else (if kind is ArrayPat then ArrayPat-optional pat
-    else (if kind is ObjectPat then ObjectPat-optional pat
-    else ((kind is AssignPat) || (kind is RestPat))))
+    if kind is kinds.BindingIdent then Ident-optional (BindingIdent-id pat)
+    else (if kind is kinds.ArrayPat then ArrayPat-optional pat
+    else (if kind is kinds.ObjectPat then ObjectPat-optional pat
+    else ((kind is kinds.AssignPat) || (kind is kinds.RestPat))))
 
 -- whether the type of an array or an object pattern is written, by its kind
 abbrev no_type_at : Tree → Kind → Bool
-no_type_at pat kind = is_absent (if kind is ArrayPat then ArrayPat-type_ann pat else ObjectPat-type_ann pat)
+no_type_at pat kind = is_absent (if kind is kinds.ArrayPat then ArrayPat-type_ann pat else ObjectPat-type_ann pat)
 
 -- ---- what agrees is alike
 
@@ -106,7 +65,8 @@ module _ (r : Renaming) (ok : IsRenaming r) where
   abbrev pub PlaceAlike : Option SourceRange → Option SourceRange → Type 0
   PlaceAlike p q = option_map (moved_range (partners r)) p ≡ option_map (moved_range twice) q
 
-  typed_alike : (type type' : Tree) (a b : SourceRange) (t u : Tree) → TreeAlike r ok type type' → RangeAlike r ok a b → TreeAlike r ok t u → Alike r ok (typed type a t) (typed type' b u)
+  typed_alike : (type type' : Tree) (a b : SourceRange) (t u : Tree) → TreeAlike r ok type type' → RangeAlike r ok a b → TreeAlike r ok t u →
+      Alike r ok (typed type a t) (typed type' b u)
   typed_alike type type' a b t u e f g =
       alike_if r ok (is_absent type) (is_absent type') (faulty MissingExplicitType a) (written t) (faulty MissingExplicitType b) (written u)
       (absent_alike r ok type type' e) (λ q. faulty_alike r ok MissingExplicitType a b f) (λ q. written_alike r ok t u g)
@@ -117,37 +77,42 @@ module _ (r : Renaming) (ok : IsRenaming r) where
       sym (without_default_moved (partners r) (partners_keep r ok) optional id type) ∙
       (ap₂ (without_default optional) e f ∙ without_default_moved twice twice_keeps optional id' type')
 
-  array_emptied : (t u : Tree) → SameRange r (ArrayPat-span t) (ArrayPat-span u) → ArrayPat-optional t ≡ ArrayPat-optional u → SameTree r (ArrayPat-type_ann t) (ArrayPat-type_ann u) →
+  array_emptied : (t u : Tree) → SameRange r (ArrayPat-span t) (ArrayPat-span u) → ArrayPat-optional t ≡ ArrayPat-optional u →
+      SameTree r (ArrayPat-type_ann t) (ArrayPat-type_ann u) →
       TreeAlike r ok (emptied_array t) (emptied_array u)
   array_emptied t u a o e =
-      node_alike r ok ArrayPat (tree.Range (ArrayPat-span t) ∷ list [] ∷ tree.Flag (ArrayPat-optional t) ∷ ArrayPat-type_ann t ∷ [])
+      node_alike r ok kinds.ArrayPat (tree.Range (ArrayPat-span t) ∷ list [] ∷ tree.Flag (ArrayPat-optional t) ∷ ArrayPat-type_ann t ∷ [])
       (tree.Range (ArrayPat-span u) ∷ list [] ∷ tree.Flag (ArrayPat-optional u) ∷ ArrayPat-type_ann u ∷ [])
       (λ i. range_leaf_alike r ok (ArrayPat-span t) (ArrayPat-span u) (range_to r ok (ArrayPat-span t) (ArrayPat-span u) a) i ∷
       empty_list_alike r ok i ∷ flag_leaf_alike r ok (ArrayPat-optional t) (ArrayPat-optional u) o i ∷ tree_to r ok e i ∷ [])
 
-  object_emptied : (t u : Tree) → SameRange r (ObjectPat-span t) (ObjectPat-span u) → ObjectPat-optional t ≡ ObjectPat-optional u → SameTree r (ObjectPat-type_ann t) (ObjectPat-type_ann u) →
+  object_emptied : (t u : Tree) → SameRange r (ObjectPat-span t) (ObjectPat-span u) → ObjectPat-optional t ≡ ObjectPat-optional u →
+      SameTree r (ObjectPat-type_ann t) (ObjectPat-type_ann u) →
       TreeAlike r ok (emptied_object t) (emptied_object u)
   object_emptied t u a o e =
-      node_alike r ok ObjectPat (tree.Range (ObjectPat-span t) ∷ list [] ∷ tree.Flag (ObjectPat-optional t) ∷ ObjectPat-type_ann t ∷ [])
+      node_alike r ok kinds.ObjectPat (tree.Range (ObjectPat-span t) ∷ list [] ∷ tree.Flag (ObjectPat-optional t) ∷ ObjectPat-type_ann t ∷ [])
       (tree.Range (ObjectPat-span u) ∷ list [] ∷ tree.Flag (ObjectPat-optional u) ∷ ObjectPat-type_ann u ∷ [])
       (λ i. range_leaf_alike r ok (ObjectPat-span t) (ObjectPat-span u) (range_to r ok (ObjectPat-span t) (ObjectPat-span u) a) i ∷
       empty_list_alike r ok i ∷ flag_leaf_alike r ok (ObjectPat-optional t) (ObjectPat-optional u) o i ∷ tree_to r ok e i ∷ [])
 
-  assign_pat_alike : (a b : SourceRange) (t u never : Tree) → SameRange r a b → TreeAlike r ok t u → TreeAlike r ok never never → TreeAlike r ok (assign_pat a t never) (assign_pat b u never)
+  assign_pat_alike : (a b : SourceRange) (t u never : Tree) → SameRange r a b → TreeAlike r ok t u → TreeAlike r ok never never →
+      TreeAlike r ok (assign_pat a t never) (assign_pat b u never)
   assign_pat_alike a b t u never s e f =
-      node_alike r ok AssignPat (tree.Range a ∷ t ∷ never ∷ []) (tree.Range b ∷ u ∷ never ∷ [])
+      node_alike r ok kinds.AssignPat (tree.Range a ∷ t ∷ never ∷ []) (tree.Range b ∷ u ∷ never ∷ [])
       (λ i. range_leaf_alike r ok a b (range_to r ok a b s) i ∷ e i ∷ f i ∷ [])
 
-  default_alike : (a b p q : SourceRange) (left left' : Tree) (value value' : Seen) → SameRange r a b → RangeAlike r ok p q → TreeAlike r ok left left' → Alike r ok value value' →
+  default_alike : (a b p q : SourceRange) (left left' : Tree) (value value' : Seen) → SameRange r a b → RangeAlike r ok p q → TreeAlike r ok left left' →
+      Alike r ok value value' →
       Alike r ok (default_seen a p left value) (default_seen b q left' value')
   default_alike a b p q left left' value value' s e f g =
-      form_alike r ok AssignPat (range a ∷ range p ∷ written left ∷ value ∷ []) (range b ∷ range q ∷ written left' ∷ value' ∷ [])
-      (λ i. range_alike r ok a b s i ∷ range (e i) ∷ written (f i) ∷ g i ∷ [])
+      λ i. default (record { span = range_to r ok a b s i; left = f i; place = e i }) (g i)
 
   module _ (c d : SyntaxContext) where
     rest_arg_alike : (t u : Tree) → SameEmptied r c d t u → TreeAlike r ok (rest_arg t) (rest_arg u)
-    rest_arg_alike t u (s.array k a o e) = subst₂ (TreeAlike r ok) (sym (ap (rest_arg_at t) k.left)) (sym (ap (rest_arg_at u) k.right)) (array_emptied t u a o e)
-    rest_arg_alike t u (s.object k a o e) = subst₂ (TreeAlike r ok) (sym (ap (rest_arg_at t) k.left)) (sym (ap (rest_arg_at u) k.right)) (object_emptied t u a o e)
+    rest_arg_alike t u (s.array k a o e) = subst₂ (TreeAlike r ok) (sym (ap (λ k. arg_by_kind k t) k.left)) (sym (ap (λ k. arg_by_kind k u) k.right))
+        (array_emptied t u a o e)
+    rest_arg_alike t u (s.object k a o e) = subst₂ (TreeAlike r ok) (sym (ap (λ k. arg_by_kind k t) k.left)) (sym (ap (λ k. arg_by_kind k u) k.right))
+        (object_emptied t u a o e)
 
     -- ---- which may be left out
 
@@ -158,10 +123,10 @@ module _ (r : Renaming) (ok : IsRenaming r) where
     emptied_optional t u (s.array k a o e) = ap (optional_at t) k.left ∙ (o ∙ sym (ap (optional_at u) k.right))
     emptied_optional t u (s.object k a o e) = ap (optional_at t) k.left ∙ (o ∙ sym (ap (optional_at u) k.right))
 
-    pub rest_optional : (t u : Tree) → Both RestPat t u → is_optional_param t ≡ is_optional_param u
+    pub rest_optional : (t u : Tree) → Both kinds.RestPat t u → is_optional_param t ≡ is_optional_param u
     rest_optional t u k = ap (optional_at t) k.left ∙ sym (ap (optional_at u) k.right)
 
-    pub assign_optional : (t u : Tree) → Both AssignPat t u → is_optional_param t ≡ is_optional_param u
+    pub assign_optional : (t u : Tree) → Both kinds.AssignPat t u → is_optional_param t ≡ is_optional_param u
     assign_optional t u k = ap (optional_at t) k.left ∙ sym (ap (optional_at u) k.right)
 
     -- ---- what is seen, whatever is seen of expressions, but for defaults that are to stay
@@ -177,23 +142,24 @@ module _ (r : Renaming) (ok : IsRenaming r) where
 
       pub emptied_alike : (t u : Tree) → SameEmptied r c d t u → PatAlike t u
       emptied_alike t u (s.array k a o e) =
-          subst₂ (Alike r ok) (sym (array_of c look b t k.left)) (sym (array_of d look' b u k.right))
+          subst₂ (Alike r ok) (sym (pat_of c look b t kinds.ArrayPat k.left)) (sym (pat_of d look' b u kinds.ArrayPat k.right))
           (typed_alike (ArrayPat-type_ann t) (ArrayPat-type_ann u) (ArrayPat-span t) (ArrayPat-span u) (emptied_array t) (emptied_array u)
           (tree_to r ok e) (range_to r ok (ArrayPat-span t) (ArrayPat-span u) a) (array_emptied t u a o e))
       emptied_alike t u (s.object k a o e) =
-          subst₂ (Alike r ok) (sym (object_of c look b t k.left)) (sym (object_of d look' b u k.right))
+          subst₂ (Alike r ok) (sym (pat_of c look b t kinds.ObjectPat k.left)) (sym (pat_of d look' b u kinds.ObjectPat k.right))
           (typed_alike (ObjectPat-type_ann t) (ObjectPat-type_ann u) (ObjectPat-span t) (ObjectPat-span u) (emptied_object t) (emptied_object u)
           (tree_to r ok e) (range_to r ok (ObjectPat-span t) (ObjectPat-span u) a) (object_emptied t u a o e))
 
-      pub rest_alike : (t u : Tree) → Both RestPat t u → SameRange r (RestPat-span t) (RestPat-span u) → SameRange r (RestPat-dot3_token t) (RestPat-dot3_token u) →
+      pub rest_alike : (t u : Tree) → Both kinds.RestPat t u → SameRange r (RestPat-span t) (RestPat-span u) →
+          SameRange r (RestPat-dot3_token t) (RestPat-dot3_token u) →
           SameEmptied r c d (RestPat-arg t) (RestPat-arg u) → SameTree r (RestPat-type_ann t) (RestPat-type_ann u) → PatAlike t u
       rest_alike t u k a dots arg e =
-          subst₂ (Alike r ok) (sym (rest_of c look b t k.left)) (sym (rest_of d look' b u k.right))
+          subst₂ (Alike r ok) (sym (pat_of c look b t kinds.RestPat k.left)) (sym (pat_of d look' b u kinds.RestPat k.right))
           (typed_alike (RestPat-type_ann t) (RestPat-type_ann u) (RestPat-span t) (RestPat-span u)
           (rest_pat (RestPat-span t) (RestPat-dot3_token t) (rest_arg (RestPat-arg t)) (RestPat-type_ann t))
           (rest_pat (RestPat-span u) (RestPat-dot3_token u) (rest_arg (RestPat-arg u)) (RestPat-type_ann u))
           (tree_to r ok e) (range_to r ok (RestPat-span t) (RestPat-span u) a)
-          (node_alike r ok RestPat (tree.Range (RestPat-span t) ∷ tree.Range (RestPat-dot3_token t) ∷ rest_arg (RestPat-arg t) ∷ RestPat-type_ann t ∷ [])
+          (node_alike r ok kinds.RestPat (tree.Range (RestPat-span t) ∷ tree.Range (RestPat-dot3_token t) ∷ rest_arg (RestPat-arg t) ∷ RestPat-type_ann t ∷ [])
           (tree.Range (RestPat-span u) ∷ tree.Range (RestPat-dot3_token u) ∷ rest_arg (RestPat-arg u) ∷ RestPat-type_ann u ∷ [])
           (λ i. range_leaf_alike r ok (RestPat-span t) (RestPat-span u) (range_to r ok (RestPat-span t) (RestPat-span u) a) i ∷
           range_leaf_alike r ok (RestPat-dot3_token t) (RestPat-dot3_token u) (range_to r ok (RestPat-dot3_token t) (RestPat-dot3_token u) dots) i ∷
@@ -205,7 +171,8 @@ module _ (r : Renaming) (ok : IsRenaming r) where
       shown unresolved f pat = by_shown unresolved f b pat
 
       -- by the written type, or else as `by_shown` says
-      ident_default_alike : (t u : Tree) → Both AssignPat t u → Both BindingIdent (AssignPat-left t) (AssignPat-left u) → SameTree r (AssignPat-left t) (AssignPat-left u) →
+      ident_default_alike : (t u : Tree) → Both kinds.AssignPat t u → Both kinds.BindingIdent (AssignPat-left t) (AssignPat-left u) →
+          SameTree r (AssignPat-left t) (AssignPat-left u) →
           (is_absent (BindingIdent-type_ann (AssignPat-left t)) ≡ true →
           Alike r ok (shown c look t (inferred_type Mutable c (AssignPat-right t))) (shown d look' u (inferred_type Mutable d (AssignPat-right u)))) →
           PatAlike t u
@@ -214,38 +181,43 @@ module _ (r : Renaming) (ok : IsRenaming r) where
           let id' = BindingIdent-id (AssignPat-left u) in
           let type = BindingIdent-type_ann (AssignPat-left t) in
           let type' = BindingIdent-type_ann (AssignPat-left u) in
-          let f : TreeAlike r ok id id' = part_alike r ok 0 (AssignPat-left t) (AssignPat-left u) (tree_to r ok e) in
-          let g : TreeAlike r ok type type' = part_alike r ok 1 (AssignPat-left t) (AssignPat-left u) (tree_to r ok e) in
-          subst₂ (Alike r ok) (sym (ident_default_of c look b t k.left j.left)) (sym (ident_default_of d look' b u k.right j.right))
+          let f : TreeAlike r ok id id' = field_alike r ok BindingIdent-id _ (λ t. refl) (AssignPat-left t) (AssignPat-left u) (tree_to r ok e) in
+          let g : TreeAlike r ok type type' = field_alike r ok BindingIdent-type_ann _ (λ t. refl) (AssignPat-left t) (AssignPat-left u) (tree_to r ok e) in
+          subst₂ (Alike r ok) (sym (default_of c look b t kinds.BindingIdent k.left j.left)) (sym (default_of d look' b u kinds.BindingIdent k.right j.right))
           (alike_if r ok (is_absent type) (is_absent type')
           (shown c look t (inferred_type Mutable c (AssignPat-right t))) (written (without_default b id type))
           (shown d look' u (inferred_type Mutable d (AssignPat-right u))) (written (without_default b id' type'))
-          (absent_alike r ok type type' g) s (λ q. written_alike r ok (without_default b id type) (without_default b id' type') (without_default_alike b id id' type type' f g)))
+          (absent_alike r ok type type' g) s (λ q. written_alike r ok (without_default b id type) (without_default b id' type')
+          (without_default_alike b id id' type type' f g)))
 
-      pub typed_default_alike : (t u : Tree) → Both AssignPat t u → Both BindingIdent (AssignPat-left t) (AssignPat-left u) → SameTree r (AssignPat-left t) (AssignPat-left u) →
+      pub typed_default_alike : (t u : Tree) → Both kinds.AssignPat t u → Both kinds.BindingIdent (AssignPat-left t) (AssignPat-left u) →
+          SameTree r (AssignPat-left t) (AssignPat-left u) →
           is_absent (BindingIdent-type_ann (AssignPat-left t)) ≡ false → PatAlike t u
       typed_default_alike t u k j e w = ident_default_alike t u k j e (λ q. absurd (true≢false (sym q ∙ w)))
 
-      pub shown_default_alike : (t u : Tree) → Both AssignPat t u → Both BindingIdent (AssignPat-left t) (AssignPat-left u) → SameTree r (AssignPat-left t) (AssignPat-left u) →
+      pub shown_default_alike : (t u : Tree) → Both kinds.AssignPat t u → Both kinds.BindingIdent (AssignPat-left t) (AssignPat-left u) →
+          SameTree r (AssignPat-left t) (AssignPat-left u) →
           SameShown r c d (AssignPat-right t) (AssignPat-right u) → PatAlike t u
       shown_default_alike t u k j e h =
           let id = BindingIdent-id (AssignPat-left t) in
           let id' = BindingIdent-id (AssignPat-left u) in
-          let f : TreeAlike r ok id id' = part_alike r ok 0 (AssignPat-left t) (AssignPat-left u) (tree_to r ok e) in
-          let g : TreeAlike r ok (type_ann h.left) (type_ann h.right) = image_alike r ok type_ann (λ m keeps t. sym (type_ann_moved m keeps t)) h.left h.right (tree_to r ok h.types) in
+          let f : TreeAlike r ok id id' = field_alike r ok BindingIdent-id _ (λ t. refl) (AssignPat-left t) (AssignPat-left u) (tree_to r ok e) in
+          let g : TreeAlike r ok (type_ann h.left) (type_ann h.right) =
+          image_alike r ok type_ann (λ m keeps t. sym (type_ann_moved m keeps t)) h.left h.right (tree_to r ok h.types) in
           ident_default_alike t u k j e (λ q.
           subst₂ (λ x y. Alike r ok (shown c look t x) (shown d look' u y)) (sym h.left_is) (sym h.right_is)
           (written_alike r ok (without_default b id (type_ann h.left)) (without_default b id' (type_ann h.right))
           (without_default_alike b id id' (type_ann h.left) (type_ann h.right) f g)))
 
-      pub kept_default_alike : (t u : Tree) → Both AssignPat t u → Both BindingIdent (AssignPat-left t) (AssignPat-left u) → SameRange r (AssignPat-span t) (AssignPat-span u) →
+      pub kept_default_alike : (t u : Tree) → Both kinds.AssignPat t u → Both kinds.BindingIdent (AssignPat-left t) (AssignPat-left u) →
+          SameRange r (AssignPat-span t) (AssignPat-span u) →
           SameTree r (AssignPat-left t) (AssignPat-left u) → NoneShown r c d (AssignPat-right t) (AssignPat-right u) → DefaultAlike t u → PatAlike t u
       kept_default_alike t u k j a e h v =
           let place = Ident-span (BindingIdent-id (AssignPat-left t)) in
           let place' = Ident-span (BindingIdent-id (AssignPat-left u)) in
           let f : RangeAlike r ok place place' =
-          range_of_alike r ok (part 0 (BindingIdent-id (AssignPat-left t))) (part 0 (BindingIdent-id (AssignPat-left u)))
-          (part_alike r ok 0 (BindingIdent-id (AssignPat-left t)) (BindingIdent-id (AssignPat-left u)) (part_alike r ok 0 (AssignPat-left t) (AssignPat-left u) (tree_to r ok e))) in
+          range_field_alike r ok Ident-span _ (λ t. refl) (BindingIdent-id (AssignPat-left t)) (BindingIdent-id (AssignPat-left u))
+          (field_alike r ok BindingIdent-id _ (λ t. refl) (AssignPat-left t) (AssignPat-left u) (tree_to r ok e)) in
           ident_default_alike t u k j e (λ q.
           subst₂ (λ x y. Alike r ok (shown c look t x) (shown d look' u y)) (sym h.left) (sym h.right)
           (default_alike (AssignPat-span t) (AssignPat-span u) place place' (AssignPat-left t) (AssignPat-left u)
@@ -263,30 +235,38 @@ module _ (r : Renaming) (ok : IsRenaming r) where
           (default_seen (AssignPat-span u) q y (look' (AssignPat-right u) None)) (written (assign_pat (AssignPat-span u) y never))
           (absent_alike r ok type type' e)
           (λ w. default_alike (AssignPat-span t) (AssignPat-span u) p q x y (look (AssignPat-right t) None) (look' (AssignPat-right u) None) a f g (v w))
-          (λ w. written_alike r ok (assign_pat (AssignPat-span t) x never) (assign_pat (AssignPat-span u) y never) (assign_pat_alike (AssignPat-span t) (AssignPat-span u) x y never a g n))
+          (λ w. written_alike r ok (assign_pat (AssignPat-span t) x never) (assign_pat (AssignPat-span u) y never)
+          (assign_pat_alike (AssignPat-span t) (AssignPat-span u) x y never a g n))
 
       -- by the written type, or else by the default
-      emptied_default_alike : (t u : Tree) → Both AssignPat t u → SameRange r (AssignPat-span t) (AssignPat-span u) → SameEmptied r c d (AssignPat-left t) (AssignPat-left u) →
+      emptied_default_alike : (t u : Tree) → Both kinds.AssignPat t u → SameRange r (AssignPat-span t) (AssignPat-span u) →
+          SameEmptied r c d (AssignPat-left t) (AssignPat-left u) →
           (is_absent (pattern_type (AssignPat-left t)) ≡ true → Alike r ok (look (AssignPat-right t) None) (look' (AssignPat-right u) None)) → PatAlike t u
       emptied_default_alike t u k a (s.array j o f e) v =
           let left = AssignPat-left t in
           let left' = AssignPat-left u in
-          subst₂ (Alike r ok) (sym (array_default_of c look b t k.left j.left)) (sym (array_default_of d look' b u k.right j.right))
-          (pattern_default_alike t u (ArrayPat-type_ann left) (ArrayPat-type_ann left') (ArrayPat-span left) (ArrayPat-span left') (emptied_array left) (emptied_array left') never_array
-          a (tree_to r ok e) (range_to r ok (ArrayPat-span left) (ArrayPat-span left') o) (array_emptied left left' o f e) (new_alike r ok never_array never_array_moved)
+          subst₂ (Alike r ok) (sym (default_of c look b t kinds.ArrayPat k.left j.left)) (sym (default_of d look' b u kinds.ArrayPat k.right j.right))
+          (pattern_default_alike t u (ArrayPat-type_ann left) (ArrayPat-type_ann left') (ArrayPat-span left) (ArrayPat-span left') (emptied_array left)
+          (emptied_array left') never_array
+          a (tree_to r ok e) (range_to r ok (ArrayPat-span left) (ArrayPat-span left') o) (array_emptied left left' o f e)
+          (new_alike r ok never_array never_array_moved)
           (λ q. v (ap (no_type_at left) j.left ∙ q)))
       emptied_default_alike t u k a (s.object j o f e) v =
           let left = AssignPat-left t in
           let left' = AssignPat-left u in
-          subst₂ (Alike r ok) (sym (object_default_of c look b t k.left j.left)) (sym (object_default_of d look' b u k.right j.right))
-          (pattern_default_alike t u (ObjectPat-type_ann left) (ObjectPat-type_ann left') (ObjectPat-span left) (ObjectPat-span left') (emptied_object left) (emptied_object left') never_value
-          a (tree_to r ok e) (range_to r ok (ObjectPat-span left) (ObjectPat-span left') o) (object_emptied left left' o f e) (new_alike r ok never_value never_value_moved)
+          subst₂ (Alike r ok) (sym (default_of c look b t kinds.ObjectPat k.left j.left)) (sym (default_of d look' b u kinds.ObjectPat k.right j.right))
+          (pattern_default_alike t u (ObjectPat-type_ann left) (ObjectPat-type_ann left') (ObjectPat-span left) (ObjectPat-span left') (emptied_object left)
+          (emptied_object left') never_value
+          a (tree_to r ok e) (range_to r ok (ObjectPat-span left) (ObjectPat-span left') o) (object_emptied left left' o f e)
+          (new_alike r ok never_value never_value_moved)
           (λ q. v (ap (no_type_at left) j.left ∙ q)))
 
-      pub typed_pattern_alike : (t u : Tree) → Both AssignPat t u → SameRange r (AssignPat-span t) (AssignPat-span u) → SameEmptied r c d (AssignPat-left t) (AssignPat-left u) →
+      pub typed_pattern_alike : (t u : Tree) → Both kinds.AssignPat t u → SameRange r (AssignPat-span t) (AssignPat-span u) →
+          SameEmptied r c d (AssignPat-left t) (AssignPat-left u) →
           is_absent (pattern_type (AssignPat-left t)) ≡ false → PatAlike t u
       typed_pattern_alike t u k a e w = emptied_default_alike t u k a e (λ q. absurd (true≢false (sym q ∙ w)))
 
-      pub kept_pattern_alike : (t u : Tree) → Both AssignPat t u → SameRange r (AssignPat-span t) (AssignPat-span u) → SameEmptied r c d (AssignPat-left t) (AssignPat-left u) →
+      pub kept_pattern_alike : (t u : Tree) → Both kinds.AssignPat t u → SameRange r (AssignPat-span t) (AssignPat-span u) →
+          SameEmptied r c d (AssignPat-left t) (AssignPat-left u) →
           DefaultAlike t u → PatAlike t u
       kept_pattern_alike t u k a e v = emptied_default_alike t u k a e (λ q. v None None refl)

@@ -1,19 +1,18 @@
 -- What is seen of two sources is alike if it is equal once each position and scope number is written by its partner.
 use Rattle.std.specs.Prelude.{◌≡◌, Bool, true, false, List, [], ◌∷◌, ◌++◌, map, refl, if◌then◌else◌}
 use Rattle.std.proofs.Common.{ap, ap₂, ◌∙◌, sym}
+use Rattle.std.proofs.lemmas.List.{map-append}
 use Rattle.fast_check_syntax.specs.declared.kind.Kind.{Kind}
 use Rattle.fast_check_syntax.specs.declared.source.SourceRange.{SourceRange}
 use Rattle.fast_check_syntax.specs.declared.source.SyntaxContext.{SyntaxContext}
 use Rattle.fast_check_syntax.specs.declared.tree.Tree.{Tree}
 use Rattle.fast_check_syntax.specs.Moves.{Renaming, IsRenaming, IsPair, partners, twice}
 use Rattle.fast_check_syntax.specs.Same.{SameTree, SameRange}
-use Rattle.fast_check_syntax.proofs.Partners.{to_partner}
 use Rattle.fast_check_syntax.proofs.Same.{tree_to, range_to}
 use Rattle.fast_check_signatures.specs.declared.fault.FaultKind.{FaultKind}
-use Rattle.fast_check_signatures.specs.Seen.{Seen, written, range, scope, form, faulty, seens, moved_seen, tree_in}
-use Rattle.fast_check_signatures.proofs.AnswersMoved.{map_append, tree_in_moved}
-use Rattle.fast_check_signatures.proofs.MovedParts.{seens_moved}
-use Rattle.fast_check_same_values.proofs.AlikeTrees.{TreeAlike, RangeAlike}
+use Rattle.fast_check_signatures.specs.Seen.{Seen, written, range, scope, flag, round, listed, faulty, seens}
+use Rattle.fast_check_signatures.proofs.MovedParts.{moved_seen, moved_seens, seens_moved}
+use Rattle.fast_check_same_values.proofs.AlikeTrees.{TreeAlike, RangeAlike, range_leaf_alike, scope_leaf_alike, flag_leaf_alike}
 
 module _ (r : Renaming) (ok : IsRenaming r) where
   abbrev pub Alike : Seen → Seen → Type 0
@@ -29,15 +28,19 @@ module _ (r : Renaming) (ok : IsRenaming r) where
   same_written s = ap written (tree_to r ok s)
 
   pub range_alike : (a b : SourceRange) → SameRange r a b → Alike (range a) (range b)
-  range_alike a b s = ap range (range_to r ok a b s)
+  range_alike a b s = ap written (range_leaf_alike r ok a b (range_to r ok a b s))
 
   pub scope_alike : (a b : SyntaxContext) → IsPair r.scopes a.0 b.0 → Alike (scope a) (scope b)
-  scope_alike a b p = ap (λ n. scope (record { 0 = n })) (to_partner r.scopes ok.scopes a.0 b.0 p)
+  scope_alike a b p = ap written (scope_leaf_alike r ok a b p)
+
+  pub flag_alike : (x y : Bool) → x ≡ y → Alike (flag x) (flag y)
+  flag_alike x y e = ap written (flag_leaf_alike r ok x y e)
 
   pub faulty_alike : (kind : FaultKind) (a b : SourceRange) → RangeAlike r ok a b → Alike (faulty kind a) (faulty kind b)
   faulty_alike kind a b e = ap (faulty kind) e
 
-  pub alike_if : (a b : Bool) (s s' t t' : Seen) → a ≡ b → (a ≡ true → Alike s t) → (a ≡ false → Alike s' t') → Alike (if a then s else s') (if b then t else t')
+  pub alike_if : (a b : Bool) (s s' t t' : Seen) → a ≡ b → (a ≡ true → Alike s t) → (a ≡ false → Alike s' t') →
+      Alike (if a then s else s') (if b then t else t')
   alike_if true true s s' t t' e p q = p refl
   alike_if false false s s' t t' e p q = q refl
   alike_if true false s s' t t' e p q = cc
@@ -50,10 +53,13 @@ module _ (r : Renaming) (ok : IsRenaming r) where
   all_alike_if false true s t e p = cc
 
   pub append_alike : (a b c d : List Seen) → AllAlike a c → AllAlike b d → AllAlike (a ++ b) (c ++ d)
-  append_alike a b c d p q = map_append (moved_seen (partners r)) a b ∙ (ap₂ (λ x y. x ++ y) p q ∙ sym (map_append (moved_seen twice) c d))
+  append_alike a b c d p q = map-append (moved_seen (partners r)) a b ∙ (ap₂ (λ x y. x ++ y) p q ∙ sym (map-append (moved_seen twice) c d))
 
-  pub form_alike : (k : Kind) (ss ts : List Seen) → AllAlike ss ts → Alike (form k (seens ss)) (form k (seens ts))
-  form_alike k ss ts p = ap (form k) (sym (seens_moved (partners r) ss) ∙ (ap seens p ∙ seens_moved twice ts))
+  pub seens_alike : (ss ts : List Seen) → AllAlike ss ts → moved_seens (partners r) (seens ss) ≡ moved_seens twice (seens ts)
+  seens_alike ss ts p = sym (seens_moved (partners r) ss) ∙ (ap seens p ∙ seens_moved twice ts)
 
-  pub tree_in_alike : (s t : Seen) → Alike s t → TreeAlike r ok (tree_in s) (tree_in t)
-  tree_in_alike s t e = sym (tree_in_moved (partners r) s) ∙ (ap tree_in e ∙ tree_in_moved twice t)
+  pub round_alike : (k : Kind) (ss ts : List Seen) → AllAlike ss ts → Alike (round k (seens ss)) (round k (seens ts))
+  round_alike k ss ts p = ap (round k) (seens_alike ss ts p)
+
+  pub listed_alike : (ss ts : List Seen) → AllAlike ss ts → Alike (listed (seens ss)) (listed (seens ts))
+  listed_alike ss ts p = ap listed (seens_alike ss ts p)

@@ -9,9 +9,10 @@ use Rattle.fast_check_syntax.specs.declared.tree.Tree as tree
 use Rattle.fast_check_syntax.specs.declared.tree.Tree.{Tree}
 use Rattle.fast_check_syntax.specs.Shape.{kind_of, part, is_absent, node, list, range_of}
 use Rattle.fast_check_syntax.specs.Moves.{Moves, Keeps, Renaming, IsRenaming, IsPair, partners, twice, moved, moved_range}
-use Rattle.fast_check_syntax.proofs.Moved.{node_moved, part_moved, kind_of_moved, is_absent_moved, range_moved, flag_moved, range_of_moved}
+use Rattle.fast_check_syntax.proofs.Moved.{node_moved, kind_of_moved, is_absent_moved, range_moved, context_moved, flag_moved}
 use Rattle.fast_check_syntax.proofs.Partners.{partners-keep as partners_keep, twice-keeps as twice_keeps, to_partner}
 use Rattle.fast_check_tree.proofs.GlobalCallsMoved.{moved_scope}
+use Rattle.fast_check_signatures.proofs.MovedParts.{field_moved, range_field_moved}
 
 module _ (r : Renaming) (ok : IsRenaming r) where
   abbrev pub TreeAlike : Tree → Tree → Type 0
@@ -25,7 +26,8 @@ module _ (r : Renaming) (ok : IsRenaming r) where
   scope_to c d p = λ i. record { 0 = to_partner r.scopes ok.scopes c.0 d.0 p i }
 
   -- what becomes of trees in a way that commutes with moves
-  pub image_alike : (f : Tree → Tree) → ((m : Moves) → Keeps m → (t : Tree) → f (moved m t) ≡ moved m (f t)) → (t u : Tree) → TreeAlike t u → TreeAlike (f t) (f u)
+  pub image_alike : (f : Tree → Tree) → ((m : Moves) → Keeps m → (t : Tree) → f (moved m t) ≡ moved m (f t)) → (t u : Tree) → TreeAlike t u →
+      TreeAlike (f t) (f u)
   image_alike f moves t u e = sym (moves (partners r) (partners_keep r ok) t) ∙ (ap f e ∙ moves twice twice_keeps u)
 
   -- what is read of trees, and stays under moves
@@ -36,8 +38,14 @@ module _ (r : Renaming) (ok : IsRenaming r) where
   pub new_alike : (t : Tree) → ((m : Moves) → Keeps m → moved m t ≡ t) → TreeAlike t t
   new_alike t stays = stays (partners r) (partners_keep r ok) ∙ sym (stays twice twice_keeps)
 
-  pub part_alike : (i : ℕ) (t u : Tree) → TreeAlike t u → TreeAlike (part i t) (part i u)
-  part_alike i t u e = image_alike (part i) (λ m keeps t. part_moved m i t) t u e
+  -- a field, with the place where it reads
+  pub field_alike : (field : Tree → Tree) (n : ℕ) → ((t : Tree) → field t ≡ part n t) → (t u : Tree) → TreeAlike t u → TreeAlike (field t) (field u)
+  field_alike field n reads t u e = image_alike field (λ m keeps t. field_moved m field n reads t) t u e
+
+  pub range_field_alike : (field : Tree → SourceRange) (n : ℕ) → ((t : Tree) → field t ≡ range_of (part n t)) → (t u : Tree) → TreeAlike t u →
+      RangeAlike (field t) (field u)
+  range_field_alike field n reads t u e =
+      sym (range_field_moved (partners r) (partners_keep r ok) field n reads t) ∙ (ap field e ∙ range_field_moved twice twice_keeps field n reads u)
 
   pub absent_alike : (t u : Tree) → TreeAlike t u → is_absent t ≡ is_absent u
   absent_alike t u e = same_read is_absent (λ m keeps t. is_absent_moved m t) t u e
@@ -45,13 +53,13 @@ module _ (r : Renaming) (ok : IsRenaming r) where
   pub kind_alike : (t u : Tree) → TreeAlike t u → kind_of t ≡ kind_of u
   kind_alike t u e = same_read kind_of (λ m keeps t. kind_of_moved m t) t u e
 
-  pub range_of_alike : (t u : Tree) → TreeAlike t u → RangeAlike (range_of t) (range_of u)
-  range_of_alike t u e = sym (range_of_moved (partners r) (partners_keep r ok) t) ∙ (ap range_of e ∙ range_of_moved twice twice_keeps u)
-
   -- ---- leaves and nodes
 
   pub range_leaf_alike : (a b : SourceRange) → RangeAlike a b → TreeAlike (tree.Range a) (tree.Range b)
   range_leaf_alike a b e = range_moved (partners r) a ∙ (ap tree.Range e ∙ sym (range_moved twice b))
+
+  pub scope_leaf_alike : (a b : SyntaxContext) → IsPair r.scopes a.0 b.0 → TreeAlike (tree.Context a) (tree.Context b)
+  scope_leaf_alike a b p = context_moved (partners r) a ∙ (ap tree.Context (scope_to a b p) ∙ sym (context_moved twice b))
 
   pub flag_leaf_alike : (x y : Bool) → x ≡ y → TreeAlike (tree.Flag x) (tree.Flag y)
   flag_leaf_alike x y e = flag_moved (partners r) x ∙ (ap tree.Flag e ∙ sym (flag_moved twice y))

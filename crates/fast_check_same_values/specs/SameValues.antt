@@ -1,17 +1,24 @@
--- Agreement of values, functions and parameters but for what is hidden: one rule for each part that may differ. All else agrees under a renaming of positions and scope numbers.
+-- Agreement of values, functions and parameters but for what is hidden: one rule for each part that may differ. All else agrees under a renaming of
+-- positions and scope numbers.
 use Rattle.std.specs.Prelude.{◌≡◌, Bool, true, false, Some, None, List, [], ◌∷◌, map, if◌then◌else◌}
 use Rattle.fast_check_syntax.specs.declared.kind.Kind.{Kind}
-use Rattle.fast_check_syntax.specs.declared.kind.Kind.TheVariants.{AssignPat, ArrayPat, ObjectPat, RestPat, BindingIdent, BlockStmt, TsSatisfiesExpr, TsAsExpr, TsTypeAssertion, FnExpr, ArrowExpr}
+use Rattle.fast_check_syntax.specs.declared.kind.Kind.TheVariants.{AssignPat, ArrayPat, ObjectPat, RestPat, BindingIdent, BlockStmt, TsSatisfiesExpr}
+use Rattle.fast_check_syntax.specs.declared.kind.Kind.TheVariants.{TsAsExpr, TsTypeAssertion, FnExpr, ArrowExpr}
 use Rattle.fast_check_syntax.specs.declared.source.SyntaxContext.{SyntaxContext}
 use Rattle.fast_check_syntax.specs.declared.tree.Tree.{Tree}
 use Rattle.fast_check_syntax.specs.Shape.{◌is◌, kind_of, parts, is_absent}
 use Rattle.fast_check_syntax.specs.Moves.{Renaming, IsPair}
 use Rattle.fast_check_syntax.specs.Same.{SameTree, SameRange}
-use Rattle.fast_check_class_forms.specs.Functions.{Function-span, Function-params, Function-ctxt, Function-body, Function-is_generator, Function-is_async, Function-type_params, Function-return_type, Param-span, Param-pat}
-use Rattle.fast_check_expression_forms.specs.Assertions.{TsAsExpr-span, TsAsExpr-type_ann, TsTypeAssertion-span, TsTypeAssertion-type_ann, TsSatisfiesExpr-span, TsSatisfiesExpr-expr, TsSatisfiesExpr-type_ann}
+use Rattle.fast_check_class_forms.specs.Functions.{Function-span, Function-params, Function-ctxt, Function-body, Function-is_generator, Function-is_async}
+use Rattle.fast_check_class_forms.specs.Functions.{Function-type_params, Function-return_type, Param-span, Param-pat}
+use Rattle.fast_check_expression_forms.specs.Assertions.{TsAsExpr-span, TsAsExpr-type_ann, TsTypeAssertion-span, TsTypeAssertion-type_ann}
+use Rattle.fast_check_expression_forms.specs.Assertions.{TsSatisfiesExpr-span, TsSatisfiesExpr-expr, TsSatisfiesExpr-type_ann}
 use Rattle.fast_check_expression_forms.specs.Calls.{CallExpr-span, CallExpr-ctxt, CallExpr-callee, CallExpr-args, CallExpr-type_args}
-use Rattle.fast_check_expression_forms.specs.Expressions.{ArrowExpr-span, ArrowExpr-ctxt, ArrowExpr-params, ArrowExpr-body, ArrowExpr-is_async, ArrowExpr-is_generator, ArrowExpr-type_params, ArrowExpr-return_type, FnExpr-ident, FnExpr-function}
-use Rattle.fast_check_expression_forms.specs.Patterns.{ArrayPat-span, ArrayPat-optional, ArrayPat-type_ann, ObjectPat-span, ObjectPat-optional, ObjectPat-type_ann, RestPat-span, RestPat-dot3_token, RestPat-arg, RestPat-type_ann, AssignPat-span, AssignPat-left, AssignPat-right}
+use Rattle.fast_check_expression_forms.specs.Expressions.{ArrowExpr-span, ArrowExpr-ctxt, ArrowExpr-params, ArrowExpr-body, ArrowExpr-is_async}
+use Rattle.fast_check_expression_forms.specs.Expressions.{ArrowExpr-is_generator, ArrowExpr-type_params, ArrowExpr-return_type, FnExpr-ident, FnExpr-function}
+use Rattle.fast_check_expression_forms.specs.Patterns.{ArrayPat-span, ArrayPat-optional, ArrayPat-type_ann, ObjectPat-span, ObjectPat-optional}
+use Rattle.fast_check_expression_forms.specs.Patterns.{ObjectPat-type_ann, RestPat-span, RestPat-dot3_token, RestPat-arg, RestPat-type_ann, AssignPat-span}
+use Rattle.fast_check_expression_forms.specs.Patterns.{AssignPat-left, AssignPat-right}
 use Rattle.fast_check_program_forms.specs.Names.{BindingIdent-type_ann}
 use Rattle.fast_check_tree.specs.declared.helpers.literal_type.DeclMutabilityKind.TheVariants.{Mutable}
 use Rattle.fast_check_tree.specs.InferredType.{inferred_type}
@@ -96,15 +103,18 @@ module _ (r : Renaming) (c d : SyntaxContext) where
       satisfies : {t u : Tree} → Both TsSatisfiesExpr t u → SameRange r (TsSatisfiesExpr-span t) (TsSatisfiesExpr-span u) →
           SameExpr (TsSatisfiesExpr-expr t) (TsSatisfiesExpr-expr u) → SameTree r (TsSatisfiesExpr-type_ann t) (TsSatisfiesExpr-type_ann u) → SameExpr t u
       -- any operands of assertions
-      as_type : {t u : Tree} → Both TsAsExpr t u → SameRange r (TsAsExpr-span t) (TsAsExpr-span u) → SameTree r (TsAsExpr-type_ann t) (TsAsExpr-type_ann u) → SameExpr t u
+      as_type : {t u : Tree} → Both TsAsExpr t u → SameRange r (TsAsExpr-span t) (TsAsExpr-span u) → SameTree r (TsAsExpr-type_ann t) (TsAsExpr-type_ann u) →
+          SameExpr t u
       assertion : {t u : Tree} → Both TsTypeAssertion t u → SameRange r (TsTypeAssertion-span t) (TsTypeAssertion-span u) →
           SameTree r (TsTypeAssertion-type_ann t) (TsTypeAssertion-type_ann u) → SameExpr t u
       -- `Object.freeze(x)`, by the argument
       frozen : {t u : Tree} → is_frozen c t ≡ true → is_frozen d u ≡ true → SameRange r (CallExpr-span t) (CallExpr-span u) →
           IsPair r.scopes (CallExpr-ctxt t).0 (CallExpr-ctxt u).0 → SameTree r (CallExpr-callee t) (CallExpr-callee u) →
           SameExpr (CallExpr-args t) (CallExpr-args u) → SameTree r (CallExpr-type_args t) (CallExpr-type_args u) → SameExpr t u
-      function : {t u : Tree} → Both FnExpr t u → SameTree r (FnExpr-ident t) (FnExpr-ident u) → SameFunction (FnExpr-function t) (FnExpr-function u) → SameExpr t u
-      arrow : {t u : Tree} → Both ArrowExpr t u → SameArrowHead t u → SamePats (parts (ArrowExpr-params t)) (parts (ArrowExpr-params u)) → SameArrowBody t u → SameExpr t u
+      function : {t u : Tree} → Both FnExpr t u → SameTree r (FnExpr-ident t) (FnExpr-ident u) → SameFunction (FnExpr-function t) (FnExpr-function u) →
+          SameExpr t u
+      arrow : {t u : Tree} → Both ArrowExpr t u → SameArrowHead t u → SamePats (parts (ArrowExpr-params t)) (parts (ArrowExpr-params u)) → SameArrowBody t u →
+          SameExpr t u
 
     pub data SameExprs : List Tree → List Tree → Type 0 where
       no_exprs : SameExprs [] []
@@ -115,7 +125,8 @@ module _ (r : Renaming) (c d : SyntaxContext) where
       -- any bodies behind a written return type
       typed_arrow : {t u : Tree} → is_absent (ArrowExpr-return_type t) ≡ false → SameArrowBody t u
       -- blocks of one return class
-      classed_arrow : {t u : Tree} → Both BlockStmt (ArrowExpr-body t) (ArrowExpr-body u) → return_class (ArrowExpr-body t) ≡ return_class (ArrowExpr-body u) → SameArrowBody t u
+      classed_arrow : {t u : Tree} → Both BlockStmt (ArrowExpr-body t) (ArrowExpr-body u) →
+          return_class (ArrowExpr-body t) ≡ return_class (ArrowExpr-body u) → SameArrowBody t u
       -- any values of the same inferred type
       shown_value : {t u : Tree} → Neither BlockStmt (ArrowExpr-body t) (ArrowExpr-body u) → SameShown (ArrowExpr-body t) (ArrowExpr-body u) → SameArrowBody t u
       -- values that are to stay
@@ -132,7 +143,8 @@ module _ (r : Renaming) (c d : SyntaxContext) where
     -- parameters of functions, whatever their decorators
     pub data SameParams : List Tree → List Tree → Type 0 where
       no_params : SameParams [] []
-      next_param : {t u : Tree} {ts us : List Tree} → SameRange r (Param-span t) (Param-span u) → SamePat (Param-pat t) (Param-pat u) → SameParams ts us → SameParams (t ∷ ts) (u ∷ us)
+      next_param : {t u : Tree} {ts us : List Tree} → SameRange r (Param-span t) (Param-span u) → SamePat (Param-pat t) (Param-pat u) → SameParams ts us →
+          SameParams (t ∷ ts) (u ∷ us)
 
     pub data SamePats : List Tree → List Tree → Type 0 where
       no_pats : SamePats [] []
@@ -152,10 +164,13 @@ module _ (r : Renaming) (c d : SyntaxContext) where
       shown_default : {t u : Tree} → Both AssignPat t u → Both BindingIdent (AssignPat-left t) (AssignPat-left u) →
           SameTree r (AssignPat-left t) (AssignPat-left u) → SameShown (AssignPat-right t) (AssignPat-right u) → SamePat t u
       -- defaults that are to stay
-      kept_default : {t u : Tree} → Both AssignPat t u → Both BindingIdent (AssignPat-left t) (AssignPat-left u) → SameRange r (AssignPat-span t) (AssignPat-span u) →
-          SameTree r (AssignPat-left t) (AssignPat-left u) → NoneShown (AssignPat-right t) (AssignPat-right u) → SameExpr (AssignPat-right t) (AssignPat-right u) → SamePat t u
+      kept_default : {t u : Tree} → Both AssignPat t u → Both BindingIdent (AssignPat-left t) (AssignPat-left u) →
+          SameRange r (AssignPat-span t) (AssignPat-span u) →
+          SameTree r (AssignPat-left t) (AssignPat-left u) → NoneShown (AssignPat-right t) (AssignPat-right u) →
+          SameExpr (AssignPat-right t) (AssignPat-right u) → SamePat t u
       -- any defaults of patterns with a written type
-      typed_pattern : {t u : Tree} → Both AssignPat t u → SameRange r (AssignPat-span t) (AssignPat-span u) → SameEmptied (AssignPat-left t) (AssignPat-left u) →
+      typed_pattern : {t u : Tree} → Both AssignPat t u → SameRange r (AssignPat-span t) (AssignPat-span u) →
+          SameEmptied (AssignPat-left t) (AssignPat-left u) →
           is_absent (pattern_type (AssignPat-left t)) ≡ false → SamePat t u
       -- defaults of patterns that are to stay
       kept_pattern : {t u : Tree} → Both AssignPat t u → SameRange r (AssignPat-span t) (AssignPat-span u) → SameEmptied (AssignPat-left t) (AssignPat-left u) →

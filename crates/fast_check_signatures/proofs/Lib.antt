@@ -1,9 +1,11 @@
-pub mod Apart
-pub mod Looks
+pub mod MovedParts
 pub mod NewNodesMoved
 pub mod AnswersMoved
-pub mod Gone
-pub mod MovedParts
 pub mod ParametersMoved
 pub mod FunctionsMoved
 pub mod SeenMoved
+pub mod Refused
+pub mod Looks
+pub mod Adding
+pub mod Choices
+pub mod Rows

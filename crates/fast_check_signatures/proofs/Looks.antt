@@ -1,20 +1,20 @@
--- The equation of `expr_seen`, and that of each kind.
+-- The equation of `expr_seen`.
 use Rattle.std.specs.Prelude.{◌≡◌, ℕ, zero, suc, ◌<◌, Bool, true, false, Option, Some, None, List, [], ◌∷◌, map, slice_get, refl, if◌then◌else◌}
 use Rattle.std.specs.List.{list_all}
-use Rattle.std.proofs.Common.{arith, ap, ◌∙◌, sym}
+use Rattle.std.proofs.Common.{arith, ap, ap₂, ◌∙◌, sym, subst}
 use Rattle.fast_check_syntax.specs.declared.kind.Kind.{Kind}
 use Rattle.fast_check_syntax.specs.declared.kind.Kind.TheVariants.{Leaf}
 use Rattle.fast_check_syntax.specs.declared.kind.Kind.TheVariants as kinds
 use Rattle.fast_check_syntax.specs.declared.source.SourceRange.{SourceRange}
 use Rattle.fast_check_syntax.specs.declared.source.SyntaxContext.{SyntaxContext}
 use Rattle.fast_check_syntax.specs.declared.tree.Tree.{Tree}
-use Rattle.fast_check_syntax.specs.Shape.{◌is◌, is_kind, kind_of, part, parts, is_absent, OfAll}
+use Rattle.fast_check_syntax.specs.Shape.{◌is◌, kind_of, part, parts, is_absent, OfAll}
 use Rattle.fast_check_syntax.specs.Descent.{by_descent_is, given, given_lower}
 use Rattle.fast_check_syntax.specs.Height.{height, height_part, height_at_most, height_one}
 use Rattle.fast_check_class_forms.specs.Functions.{Function-span, Function-params, Param-pat}
-use Rattle.fast_check_expression_forms.specs.Assertions.{TsSatisfiesExpr-span, TsSatisfiesExpr-expr, TsSatisfiesExpr-type_ann}
-use Rattle.fast_check_expression_forms.specs.Expressions.{ArrowExpr-span, ArrowExpr-params, ArrowExpr-body, ArrowExpr-return_type, FnExpr-function, FnExpr-ident}
-use Rattle.fast_check_expression_forms.specs.Patterns.{ArrayPat-span, ArrayPat-type_ann, ObjectPat-span, ObjectPat-type_ann, AssignPat-span, AssignPat-left, AssignPat-right}
+use Rattle.fast_check_expression_forms.specs.Expressions.{ArrowExpr-span, ArrowExpr-params, ArrowExpr-body, ArrowExpr-return_type}
+use Rattle.fast_check_expression_forms.specs.Patterns.{ArrayPat-span, ArrayPat-type_ann, ObjectPat-span, ObjectPat-type_ann, AssignPat-span, AssignPat-left}
+use Rattle.fast_check_expression_forms.specs.Patterns.{AssignPat-right}
 use Rattle.fast_check_program_forms.specs.Names.{Ident-span, BindingIdent-id, BindingIdent-type_ann}
 use Rattle.fast_check_tree.specs.declared.helpers.literal_type.DeclMutabilityKind.TheVariants.{Mutable}
 use Rattle.fast_check_tree.specs.Builders.{never_value}
@@ -22,11 +22,16 @@ use Rattle.fast_check_tree.specs.InferredType.{inferred_type}
 use Rattle.fast_check_tree.specs.OptionalParams.{is_optional_param}
 use Rattle.fast_check_signatures.specs.declared.function_kind.FunctionKind.{FunctionKind}
 use Rattle.fast_check_signatures.specs.declared.function_kind.FunctionKind.TheVariants.{ExpressionLike}
-use Rattle.fast_check_signatures.specs.Seen.{Seen, written, range, form, refused, seens}
+use Rattle.fast_check_signatures.specs.declared.rules.Slot.{Slot}
+use Rattle.fast_check_signatures.specs.declared.rules.Slot.TheVariants as slots
+use Rattle.fast_check_signatures.specs.Seen.{Seen, round, refused, seens}
 use Rattle.fast_check_signatures.specs.NewNodes.{never_array}
-use Rattle.fast_check_signatures.specs.Parameters.{Look, default_seen, emptied_array, emptied_object, by_shown, ident_default_seen, pattern_default_seen, assign_seen, pat_seen, pats_seen}
-use Rattle.fast_check_signatures.specs.Functions.{or_own, signature_seen, return_type_seen, params_seen, function_seen, fn_expr_seen, valued_arrow_seen, by_value, arrow_by_type, arrow_seen}
-use Rattle.fast_check_signatures.specs.Expressions.{is_plain, is_compound, call_seen, expr_form, expr_seen}
+use Rattle.fast_check_signatures.specs.Parameters.{Look, default_seen, emptied_array, emptied_object, by_shown, ident_default_seen, pattern_default_seen}
+use Rattle.fast_check_signatures.specs.Parameters.{assign_by_left, pat_by_kind, pat_seen, pats_seen}
+use Rattle.fast_check_signatures.specs.Functions.{or_own, signature_seen, return_type_seen, params_seen, function_seen, valued_arrow_seen, by_value}
+use Rattle.fast_check_signatures.specs.Functions.{arrow_by_type, arrow_seen}
+use Rattle.fast_check_signatures.specs.Expressions.{freezes, Rule, whole, parted, slotted, arrow, rule, expr_rule, slot_seen, slots_seen, by_rule, expr_form}
+use Rattle.fast_check_signatures.specs.Expressions.{expr_seen}
 
 -- ---- trees that are lower than a number says
 
@@ -40,9 +45,13 @@ all_below limit (t ∷ ts) below = (below zero t refl, all_below limit ts (λ i.
 parts_below : (limit : ℕ) (t : Tree) → height t < suc limit → Below limit (parts t)
 parts_below limit t h = all_below limit (parts t) (λ i u e. omega (arith, height_one t i u e, h))
 
+-- a field is lower than a number where its tree is at most as high
+field_below : (field : Tree → Tree) (n : ℕ) → ((t : Tree) → field t ≡ part n t) → (limit : ℕ) (t : Tree) → height t < limit → height (field t) < limit
+field_below field n reads limit t h = subst (λ u. height u < limit) (sym (reads t)) (omega (arith, height_at_most t n, h))
+
 patterns_below : (limit : ℕ) (params : List Tree) → Below limit params → Below limit (map (λ p. Param-pat p) params)
 patterns_below limit [] below = tt
-patterns_below limit (p ∷ ps) below = (omega (arith, height_at_most p 2, below.0), patterns_below limit ps below.1)
+patterns_below limit (p ∷ ps) below = (field_below Param-pat _ (λ t. refl) limit p below.0, patterns_below limit ps below.1)
 
 choose : {A : Type 0} (b : Bool) (x x' y y' : A) → (b ≡ true → x ≡ x') → y ≡ y' → (if b then x else y) ≡ (if b then x' else y')
 choose true x x' y y' p q = p refl
@@ -52,9 +61,10 @@ choose false x x' y y' p q = q
 
 module _ (unresolved : SyntaxContext) (look other : Look) (limit : ℕ) (same : (u : Tree) → height u < limit → look u ≡ other u) where
   default_same : (pat : Tree) → height pat < limit → look (AssignPat-right pat) ≡ other (AssignPat-right pat)
-  default_same pat h = same (AssignPat-right pat) (omega (arith, height_at_most pat 2, h))
+  default_same pat h = same (AssignPat-right pat) (field_below AssignPat-right _ (λ t. refl) limit pat h)
 
-  by_shown_same : (b : Bool) (pat : Tree) → height pat < limit → (shown : Option Tree) → by_shown unresolved look b pat shown ≡ by_shown unresolved other b pat shown
+  by_shown_same : (b : Bool) (pat : Tree) → height pat < limit → (shown : Option Tree) →
+      by_shown unresolved look b pat shown ≡ by_shown unresolved other b pat shown
   by_shown_same b pat h (Some type) = refl
   by_shown_same b pat h None = let place = Ident-span (BindingIdent-id (AssignPat-left pat)) in
       ap (λ f. default_seen (AssignPat-span pat) place (AssignPat-left pat) (f (Some place))) (default_same pat h)
@@ -66,25 +76,35 @@ module _ (unresolved : SyntaxContext) (look other : Look) (limit : ℕ) (same : 
 
   ident_default_same : (b : Bool) (pat : Tree) → height pat < limit → ident_default_seen unresolved look b pat ≡ ident_default_seen unresolved other b pat
   ident_default_same b pat h =
-      choose (is_absent (BindingIdent-type_ann (AssignPat-left pat))) _ _ _ _ (λ e. by_shown_same b pat h (inferred_type Mutable unresolved (AssignPat-right pat))) refl
+      choose (is_absent (BindingIdent-type_ann (AssignPat-left pat))) _ _ _ _
+      (λ e. by_shown_same b pat h (inferred_type Mutable unresolved (AssignPat-right pat))) refl
 
-  assign_same : (b : Bool) (pat : Tree) → height pat < limit → assign_seen unresolved look b pat ≡ assign_seen unresolved other b pat
-  assign_same b pat h = let left = AssignPat-left pat in
-      choose (kind_of left is kinds.BindingIdent) _ _ _ _ (λ e. ident_default_same b pat h)
-      (choose (kind_of left is kinds.ArrayPat) _ _ _ _ (λ e. pattern_default_same (ArrayPat-type_ann left) (ArrayPat-span left) (emptied_array left) never_array pat h)
-      (choose (kind_of left is kinds.ObjectPat) _ _ _ _ (λ e. pattern_default_same (ObjectPat-type_ann left) (ObjectPat-span left) (emptied_object left) never_value pat h) refl))
+  by_left_same : (kind : Kind) (b : Bool) (pat : Tree) → height pat < limit →
+      assign_by_left unresolved look kind b pat ≡ assign_by_left unresolved other kind b pat
+  by_left_same kinds.BindingIdent b pat h = ident_default_same b pat h
+  by_left_same kinds.ArrayPat b pat h =
+      let left = AssignPat-left pat in pattern_default_same (ArrayPat-type_ann left) (ArrayPat-span left) (emptied_array left) never_array pat h
+  by_left_same kinds.ObjectPat b pat h =
+      let left = AssignPat-left pat in pattern_default_same (ObjectPat-type_ann left) (ObjectPat-span left) (emptied_object left) never_value pat h
+  by_left_same _ b pat h = refl
+
+  by_kind_same : (kind : Kind) (b : Bool) (pat : Tree) → height pat < limit → pat_by_kind unresolved look kind b pat ≡ pat_by_kind unresolved other kind b pat
+  by_kind_same kinds.AssignPat b pat h = by_left_same (kind_of (AssignPat-left pat)) b pat h
+  by_kind_same _ b pat h = refl
 
   pat_same : (b : Bool) (pat : Tree) → height pat < limit → pat_seen unresolved look b pat ≡ pat_seen unresolved other b pat
-  pat_same b pat h = choose (kind_of pat is kinds.BindingIdent) _ _ _ _ (λ e. refl) (choose (kind_of pat is kinds.AssignPat) _ _ _ _ (λ e. assign_same b pat h) refl)
+  pat_same b pat h = by_kind_same (kind_of pat) b pat h
 
   pats_same : (pats : List Tree) → Below limit pats → pats_seen unresolved look pats ≡ pats_seen unresolved other pats
   pats_same [] below = refl
   pats_same (pat ∷ pats) below = λ i. pat_same (list_all is_optional_param (pat ∷ pats)) pat below.0 i ∷ pats_same pats below.1 i
 
-  pub function_same : (kind : FunctionKind) (place : SourceRange) (t : Tree) → height t < suc limit → function_seen unresolved look kind place t ≡ function_seen unresolved other kind place t
+  pub function_same : (kind : FunctionKind) (place : SourceRange) (t : Tree) → height t < suc limit →
+      function_seen unresolved look kind place t ≡ function_seen unresolved other kind place t
   function_same kind place t h = let params = parts (Function-params t) in
-      let below : Below limit params = parts_below limit (Function-params t) (omega (arith, height_at_most t 1, h)) in
-      ap (λ pats. signature_seen t (return_type_seen kind place t) (params_seen params pats)) (pats_same (map (λ p. Param-pat p) params) (patterns_below limit params below))
+      let below : Below limit params = parts_below limit (Function-params t) (field_below Function-params _ (λ t. refl) (suc limit) t h) in
+      ap (λ pats. signature_seen t (return_type_seen kind place t) (params_seen params pats))
+      (pats_same (map (λ p. Param-pat p) params) (patterns_below limit params below))
 
   by_value_same : (t : Tree) (place : SourceRange) (pats : List Seen) → look (ArrowExpr-body t) ≡ other (ArrowExpr-body t) → (shown : Option Tree) →
       by_value unresolved look t place pats shown ≡ by_value unresolved other t place pats shown
@@ -95,12 +115,14 @@ module _ (unresolved : SyntaxContext) (look other : Look) (limit : ℕ) (same : 
       arrow_by_type unresolved look t place pats ≡ arrow_by_type unresolved other t place pats
   arrow_by_type_same t place pats e =
       choose (is_absent (ArrowExpr-return_type t)) _ _ _ _ (λ absent.
-      choose (kind_of (ArrowExpr-body t) is kinds.BlockStmt) _ _ _ _ (λ block. refl) (by_value_same t place pats e (inferred_type Mutable unresolved (ArrowExpr-body t)))) refl
+      choose (kind_of (ArrowExpr-body t) is kinds.BlockStmt) _ _ _ _ (λ block. refl)
+      (by_value_same t place pats e (inferred_type Mutable unresolved (ArrowExpr-body t)))) refl
 
   arrow_same : (place : Option SourceRange) (t : Tree) → height t < suc limit → look (ArrowExpr-body t) ≡ other (ArrowExpr-body t) →
       arrow_seen unresolved look place t ≡ arrow_seen unresolved other place t
   arrow_same place t h e = let own = or_own place (ArrowExpr-span t) in
-      let below : Below limit (parts (ArrowExpr-params t)) = parts_below limit (ArrowExpr-params t) (omega (arith, height_at_most t 2, h)) in
+      let below : Below limit (parts (ArrowExpr-params t)) = parts_below limit (ArrowExpr-params t)
+      (field_below ArrowExpr-params _ (λ t. refl) (suc limit) t h) in
       ap (λ pats. arrow_by_type unresolved look t own pats) (pats_same (parts (ArrowExpr-params t)) below)
       ∙ arrow_by_type_same t own (pats_seen unresolved other (parts (ArrowExpr-params t))) e
 
@@ -121,42 +143,40 @@ module _ (unresolved : SyntaxContext) (t : Tree) where
   unfolding expr_seen
   lower u h = given_lower (λ place. refused) (expr_form unresolved) t u h
 
-  in_part : (i : ℕ) → (kind_of t ≡ Leaf → ⊥) → look (part i t) ≡ seen (part i t)
-  in_part i n = lower (part i t) (height_part t i n)
+  in_part : (n : ℕ) → (kind_of t ≡ Leaf → ⊥) → look (part n t) ≡ seen (part n t)
+  in_part n not_leaf = lower (part n t) (height_part t n not_leaf)
 
-  -- a node of a kind that is none of a leaf
-  no_leaf : (kind : Kind) → (kind ≡ Leaf → ⊥) → kind_of t is kind ≡ true → kind_of t ≡ Leaf → ⊥
-  no_leaf kind n e leaf = n (sym (is_kind _ _ e) ∙ leaf)
+  in_field : (field : Tree → Tree) (n : ℕ) → ((t : Tree) → field t ≡ part n t) → (kind_of t ≡ Leaf → ⊥) → look (field t) ≡ seen (field t)
+  in_field field n reads not_leaf = ap look (reads t) ∙ (in_part n not_leaf ∙ ap seen (sym (reads t)))
 
-  compound_same : form (kind_of t) (seens (map (λ p. look p None) (parts t))) ≡ form (kind_of t) (seens (map (λ p. seen p None) (parts t)))
-  compound_same = ap (λ ss. form (kind_of t) (seens ss)) (all_same unresolved look seen (height t) lower (parts t) (parts_below (height t) t (omega arith)))
+  -- a rule of a node that is no leaf
+  no_leaf : (r : Rule) → (whole ≡ r → ⊥) → expr_rule unresolved t ≡ r → kind_of t ≡ Leaf → ⊥
+  no_leaf r not_whole e leaf = not_whole (sym (ap (λ k. rule k (freezes unresolved t)) leaf) ∙ e)
 
-  satisfies_same : kind_of t is kinds.TsSatisfiesExpr ≡ true → look (TsSatisfiesExpr-expr t) ≡ seen (TsSatisfiesExpr-expr t)
-  satisfies_same e = in_part 1 (no_leaf kinds.TsSatisfiesExpr (λ p. cc) e)
+  slot_same : (kind_of t ≡ Leaf → ⊥) → (s : Slot) (n : ℕ) (place : Option SourceRange) →
+      slot_seen unresolved s (part n t) look place ≡ slot_seen unresolved s (part n t) seen place
+  slot_same not_leaf slots.Value n place = ap (λ f. f None) (in_part n not_leaf)
+  slot_same not_leaf slots.Function n place =
+      function_same unresolved look seen (height t) lower ExpressionLike (or_own place (Function-span (part n t))) (part n t)
+      (omega (arith, height_at_most t n))
+  slot_same not_leaf _ n place = refl
 
-  call_same : kind_of t is kinds.CallExpr ≡ true → call_seen unresolved t look ≡ call_seen unresolved t seen
-  call_same e = ap (λ f. call_seen unresolved t (λ u. f)) (in_part 3 (no_leaf kinds.CallExpr (λ p. cc) e))
+  slots_same : (kind_of t ≡ Leaf → ⊥) → (row : List Slot) (n : ℕ) (place : Option SourceRange) →
+      slots_seen unresolved row n t look place ≡ slots_seen unresolved row n t seen place
+  slots_same not_leaf [] n place = refl
+  slots_same not_leaf (s ∷ row) n place = ap₂ (λ x xs. x ∷ xs) (slot_same not_leaf s n place) (slots_same not_leaf row (suc n) place)
 
-  fn_same : (place : Option SourceRange) → fn_expr_seen unresolved look place t ≡ fn_expr_seen unresolved seen place t
-  fn_same place = let function = FnExpr-function t in
-      ap (λ f. form kinds.FnExpr (seens (written (FnExpr-ident t) ∷ f ∷ [])))
-      (function_same unresolved look seen (height t) lower ExpressionLike (or_own place (Function-span function)) function (omega (arith, height_at_most t 1)))
+  rule_same : (r : Rule) (kind : Kind) (place : Option SourceRange) → expr_rule unresolved t ≡ r →
+      by_rule unresolved r kind t look place ≡ by_rule unresolved r kind t seen place
+  rule_same parted kind place e =
+      ap (λ ss. round kind (seens ss)) (all_same unresolved look seen (height t) lower (parts t) (parts_below (height t) t (omega arith)))
+  rule_same (slotted row) kind place e = ap (λ ss. round kind (seens ss)) (slots_same (no_leaf (slotted row) (λ p. cc) e) row 0 place)
+  rule_same arrow kind place e =
+      arrow_same unresolved look seen (height t) lower place t (omega arith) (in_field ArrowExpr-body _ (λ t. refl) (no_leaf arrow (λ p. cc) e))
+  rule_same _ kind place e = refl
 
-  own_arrow_same : (place : Option SourceRange) → kind_of t is kinds.ArrowExpr ≡ true → arrow_seen unresolved look place t ≡ arrow_seen unresolved seen place t
-  own_arrow_same place e = arrow_same unresolved look seen (height t) lower place t (omega arith) (in_part 3 (no_leaf kinds.ArrowExpr (λ p. cc) e))
-
-  form_same : (place : Option SourceRange) → expr_form unresolved t look place ≡ expr_form unresolved t seen place
-  form_same place = let kind = kind_of t in
-      choose (is_plain kind) _ _ _ _ (λ e. refl)
-      (choose (is_compound kind) _ _ _ _ (λ e. compound_same)
-      (choose (kind is kinds.TsSatisfiesExpr) _ _ _ _
-      (λ e. ap (λ f. form kind (seens (range (TsSatisfiesExpr-span t) ∷ f None ∷ written (TsSatisfiesExpr-type_ann t) ∷ []))) (satisfies_same e))
-      (choose (kind is kinds.TsAsExpr) _ _ _ _ (λ e. refl)
-      (choose (kind is kinds.TsTypeAssertion) _ _ _ _ (λ e. refl)
-      (choose (kind is kinds.CallExpr) _ _ _ _ call_same
-      (choose (kind is kinds.FnExpr) _ _ _ _ (λ e. fn_same place)
-      (choose (kind is kinds.ArrowExpr) _ _ _ _ (own_arrow_same place) refl)))))))
-
-pub expr_seen_is : (unresolved : SyntaxContext) (t : Tree) (place : Option SourceRange) → expr_seen unresolved t place ≡ expr_form unresolved t (expr_seen unresolved) place
+pub expr_seen_is : (unresolved : SyntaxContext) (t : Tree) (place : Option SourceRange) →
+    expr_seen unresolved t place ≡ expr_form unresolved t (expr_seen unresolved) place
 unfolding expr_seen
-expr_seen_is unresolved t place = ap (λ f. f place) (by_descent_is (λ place. refused) (expr_form unresolved) t) ∙ form_same unresolved t place
+expr_seen_is unresolved t place =
+    ap (λ f. f place) (by_descent_is (λ place. refused) (expr_form unresolved) t) ∙ rule_same unresolved t (expr_rule unresolved t) (kind_of t) place refl

@@ -1,45 +1,101 @@
--- What the parts of a moved node read as, and choices between moved things.
+-- What is seen, moved; what the fields of a moved node read as; and choices between moved things.
 use Rattle.std.specs.Prelude.{◌≡◌, ℕ, Bool, true, false, List, [], ◌∷◌, map, refl, if◌then◌else◌}
-use Rattle.std.proofs.Common.{ap, ◌∙◌}
+use Rattle.std.proofs.Common.{ap, ◌∙◌, sym}
+use Rattle.fast_check_syntax.specs.declared.source.SourceRange.{SourceRange}
+use Rattle.fast_check_syntax.specs.declared.source.SyntaxContext.{SyntaxContext}
 use Rattle.fast_check_syntax.specs.declared.tree.Tree.{Tree}
-use Rattle.fast_check_syntax.specs.Shape.{part, parts, is_absent, range_of, flag_of, context_of}
+use Rattle.fast_check_syntax.specs.Shape.{kind_of, part, parts, is_absent, range_of, flag_of, context_of}
 use Rattle.fast_check_syntax.specs.Moves.{Moves, Keeps, moved, moved_range}
-use Rattle.fast_check_syntax.proofs.Moved.{part_moved, parts_moved, is_absent_moved, flag_of_moved, range_of_moved}
+use Rattle.fast_check_syntax.proofs.Moved.{range_moved, context_moved, kind_of_moved, part_moved, parts_moved, is_absent_moved, flag_of_moved, range_of_moved}
 use Rattle.fast_check_tree.proofs.GlobalCallsMoved.{moved_scope, context_of_moved}
-use Rattle.fast_check_signatures.specs.Seen.{Seen, seens, also, moved_seen, moved_seens}
+use Rattle.fast_check_signatures.specs.Seen.{DeclaratorHead, DefaultHead, FunctionHead, ArrowHead}
+use Rattle.fast_check_signatures.specs.Seen.{Seen, written, round, listed, declarator, default, function, typed_arrow, valued_arrow, faulty, refused, Seens}
+use Rattle.fast_check_signatures.specs.Seen.{end, also, seens, range, scope}
+
+abbrev pub moved_declarator : Moves → DeclaratorHead → DeclaratorHead
+moved_declarator m d = record { span = moved_range m d.span; ident = moved m d.ident; definite = d.definite }
+
+abbrev pub moved_default : Moves → DefaultHead → DefaultHead
+moved_default m d = record { span = moved_range m d.span; left = moved m d.left; place = moved_range m d.place }
+
+abbrev pub moved_function : Moves → FunctionHead → FunctionHead
+moved_function m f =
+    record { span = moved_range m f.span; ctxt = moved_scope m f.ctxt; lacks_body = f.lacks_body; type_params = moved m f.type_params }
+
+abbrev pub moved_arrow : Moves → ArrowHead → ArrowHead
+moved_arrow m a =
+    record { span = moved_range m a.span; ctxt = moved_scope m a.ctxt; is_generator = a.is_generator; type_params = moved m a.type_params }
+
+abbrev mutual
+  pub moved_seen : Moves → Seen → Seen
+  moved_seen m (written t) = written (moved m t)
+  moved_seen m (round kind ss) = round kind (moved_seens m ss)
+  moved_seen m (listed ss) = listed (moved_seens m ss)
+  moved_seen m (declarator d value) = declarator (moved_declarator m d) (moved_seen m value)
+  moved_seen m (default d value) = default (moved_default m d) (moved_seen m value)
+  moved_seen m (function f type params) = function (moved_function m f) (moved_seen m type) (moved_seens m params)
+  moved_seen m (typed_arrow a type params) = typed_arrow (moved_arrow m a) (moved_seen m type) (moved_seens m params)
+  moved_seen m (valued_arrow a is_async place value params) =
+      valued_arrow (moved_arrow m a) is_async (moved_range m place) (moved_seen m value) (moved_seens m params)
+  moved_seen m (faulty kind place) = faulty kind (moved_range m place)
+  moved_seen m refused = refused
+
+  pub moved_seens : Moves → Seens → Seens
+  moved_seens m end = end
+  moved_seens m (also s ss) = also (moved_seen m s) (moved_seens m ss)
+
+pub seens_moved : (m : Moves) (ss : List Seen) → seens (map (moved_seen m) ss) ≡ moved_seens m (seens ss)
+seens_moved m [] = refl
+seens_moved m (s ∷ ss) = ap (also (moved_seen m s)) (seens_moved m ss)
+
+-- a range and a scope number
+pub range_seen_moved : (m : Moves) (r : SourceRange) → moved_seen m (range r) ≡ range (moved_range m r)
+range_seen_moved m r = ap written (range_moved m r)
+
+pub scope_seen_moved : (m : Moves) (c : SyntaxContext) → moved_seen m (scope c) ≡ scope (moved_scope m c)
+scope_seen_moved m c = ap written (context_moved m c)
+
+-- ---- fields, each with the place where it reads, which the form tells
 
 module _ (m : Moves) where
-  pub inner_moved : (k i : ℕ) (t : Tree) → part k (part i (moved m t)) ≡ moved m (part k (part i t))
-  inner_moved k i t = ap (part k) (part_moved m i t) ∙ part_moved m k (part i t)
+  pub field_moved : (field : Tree → Tree) (n : ℕ) → ((t : Tree) → field t ≡ part n t) → (t : Tree) → field (moved m t) ≡ moved m (field t)
+  field_moved field n reads t = reads (moved m t) ∙ (part_moved m n t ∙ ap (moved m) (sym (reads t)))
 
-  pub absent_part_moved : (i : ℕ) (t : Tree) → is_absent (part i (moved m t)) ≡ is_absent (part i t)
-  absent_part_moved i t = ap is_absent (part_moved m i t) ∙ is_absent_moved m (part i t)
+  pub absent_moved_at : (field : Tree → Tree) (n : ℕ) → ((t : Tree) → field t ≡ part n t) → (t : Tree) → is_absent (field (moved m t)) ≡ is_absent (field t)
+  absent_moved_at field n reads t = ap is_absent (field_moved field n reads t) ∙ is_absent_moved m (field t)
 
-  pub flag_part_moved : (i : ℕ) (t : Tree) → flag_of (part i (moved m t)) ≡ flag_of (part i t)
-  flag_part_moved i t = ap flag_of (part_moved m i t) ∙ flag_of_moved m (part i t)
+  pub kind_moved_at : (field : Tree → Tree) (n : ℕ) → ((t : Tree) → field t ≡ part n t) → (t : Tree) → kind_of (field (moved m t)) ≡ kind_of (field t)
+  kind_moved_at field n reads t = ap kind_of (field_moved field n reads t) ∙ kind_of_moved m (field t)
 
-  pub items_moved : (i : ℕ) (t : Tree) → parts (part i (moved m t)) ≡ map (moved m) (parts (part i t))
-  items_moved i t = ap parts (part_moved m i t) ∙ parts_moved m (part i t)
+  pub items_moved_at : (field : Tree → Tree) (n : ℕ) → ((t : Tree) → field t ≡ part n t) → (t : Tree) →
+      parts (field (moved m t)) ≡ map (moved m) (parts (field t))
+  items_moved_at field n reads t = ap parts (field_moved field n reads t) ∙ parts_moved m (field t)
 
-  pub seens_moved : (ss : List Seen) → seens (map (moved_seen m) ss) ≡ moved_seens m (seens ss)
-  seens_moved [] = refl
-  seens_moved (s ∷ ss) = ap (also (moved_seen m s)) (seens_moved ss)
+  pub flag_field_moved : (field : Tree → Bool) (n : ℕ) → ((t : Tree) → field t ≡ flag_of (part n t)) → (t : Tree) → field (moved m t) ≡ field t
+  flag_field_moved field n reads t = reads (moved m t) ∙ (ap flag_of (part_moved m n t) ∙ (flag_of_moved m (part n t) ∙ sym (reads t)))
 
-module _ (m : Moves) (ok : Keeps m) where
-  pub range_part_moved : (i : ℕ) (t : Tree) → range_of (part i (moved m t)) ≡ moved_range m (range_of (part i t))
-  range_part_moved i t = ap range_of (part_moved m i t) ∙ range_of_moved m ok (part i t)
+  pub range_field_moved : Keeps m → (field : Tree → SourceRange) (n : ℕ) → ((t : Tree) → field t ≡ range_of (part n t)) → (t : Tree) →
+      field (moved m t) ≡ moved_range m (field t)
+  range_field_moved ok field n reads t =
+      reads (moved m t) ∙ (ap range_of (part_moved m n t) ∙ (range_of_moved m ok (part n t) ∙ ap (moved_range m) (sym (reads t))))
 
-  pub scope_part_moved : (i : ℕ) (t : Tree) → context_of (part i (moved m t)) ≡ moved_scope m (context_of (part i t))
-  scope_part_moved i t = ap context_of (part_moved m i t) ∙ context_of_moved m ok (part i t)
+  pub scope_field_moved : Keeps m → (field : Tree → SyntaxContext) (n : ℕ) → ((t : Tree) → field t ≡ context_of (part n t)) → (t : Tree) →
+      field (moved m t) ≡ moved_scope m (field t)
+  scope_field_moved ok field n reads t =
+      reads (moved m t) ∙ (ap context_of (part_moved m n t) ∙ (context_of_moved m ok (part n t) ∙ ap (moved_scope m) (sym (reads t))))
+
+-- ---- choices
 
 -- what is seen after a move is what was seen before it, moved
 pub record IsMoved (m : Moves) (after before : Seen) : Type 0 where
   pub path : after ≡ moved_seen m before
 
-pub tree_chosen : (m : Moves) (b' b : Bool) (x x' y y' : Tree) → b' ≡ b → x ≡ moved m x' → y ≡ moved m y' → (if b' then x else y) ≡ moved m (if b then x' else y')
+pub tree_chosen : (m : Moves) (b' b : Bool) (x x' y y' : Tree) → b' ≡ b → x ≡ moved m x' → y ≡ moved m y' →
+    (if b' then x else y) ≡ moved m (if b then x' else y')
 tree_chosen m b' true x x' y y' e p q = ap (λ b. if b then x else y) e ∙ p
 tree_chosen m b' false x x' y y' e p q = ap (λ b. if b then x else y) e ∙ q
 
-pub seen_chosen : (m : Moves) (b' b : Bool) (x x' y y' : Seen) → b' ≡ b → IsMoved m x x' → IsMoved m y y' → IsMoved m (if b' then x else y) (if b then x' else y')
+pub seen_chosen : (m : Moves) (b' b : Bool) (x x' y y' : Seen) → b' ≡ b → IsMoved m x x' → IsMoved m y y' →
+    IsMoved m (if b' then x else y) (if b then x' else y')
 seen_chosen m b' true x x' y y' e p q = record { path = ap (λ b. if b then x else y) e ∙ p.path }
 seen_chosen m b' false x x' y y' e p q = record { path = ap (λ b. if b then x else y) e ∙ q.path }

@@ -5,17 +5,20 @@ use Rattle.fast_check_syntax.specs.declared.kind.Kind.TheVariants.{TsTypeRef, Ts
 use Rattle.fast_check_syntax.specs.declared.kind.Word.TheVariants.{TsVoidKeyword}
 use Rattle.fast_check_syntax.specs.declared.source.SyntaxContext.{SyntaxContext}
 use Rattle.fast_check_syntax.specs.declared.tree.Tree.{Tree}
-use Rattle.fast_check_syntax.specs.Shape.{◌is◌, part, parts, none_range, has_word}
+use Rattle.fast_check_syntax.specs.Shape.{◌is◌, parts, none_range, has_word}
 use Rattle.fast_check_syntax.specs.Moves.{Moves, Keeps, moved}
-use Rattle.fast_check_syntax.proofs.Moved.{node_moved, range_moved, none_moved, absent_moved, word_moved, flag_moved, text_moved, context_moved, kind_of_moved, part_moved, parts_moved, is_absent_moved, has_word_moved, range_of_moved}
+use Rattle.fast_check_syntax.proofs.Moved.{node_moved, range_moved, none_moved, absent_moved, word_moved, flag_moved, text_moved, context_moved}
+use Rattle.fast_check_syntax.proofs.Moved.{kind_of_moved, part_moved, is_absent_moved, has_word_moved, range_of_moved}
 use Rattle.fast_check_statement_forms.specs.Statements.{return_stmt}
-use Rattle.fast_check_type_forms.specs.Types.{TsTypeRef-type_name, TsTypeRef-type_params}
+use Rattle.fast_check_type_forms.specs.Types.{TsKeywordType-kind, TsTypeRef-type_name, TsTypeRef-type_params}
 use Rattle.fast_check_type_forms.specs.TypeParams.{TsTypeAnn-type_ann, TsTypeParamInstantiation-params}
 use Rattle.fast_check_tree.specs.Builders.{ts_keyword_type, never_value, is_void_type}
 use Rattle.fast_check_tree.specs.GlobalCalls.{is_global}
 use Rattle.fast_check_tree.proofs.BuildersMoved.{ts_keyword_type_moved}
 use Rattle.fast_check_tree.proofs.GlobalCallsMoved.{moved_scope, is_global_moved}
-use Rattle.fast_check_signatures.specs.NewNodes.{never_array, never_in_parens, empty_object_pat, new_block, returns_value, function_body, arrow_body, promise_of, is_one, is_promise, promised, void_or_promise_void, or_undefined, param_ident, any_param}
+use Rattle.fast_check_signatures.proofs.MovedParts.{field_moved, items_moved_at}
+use Rattle.fast_check_signatures.specs.NewNodes.{never_array, never_in_parens, empty_object_pat, new_block, returns_value, function_body, arrow_body}
+use Rattle.fast_check_signatures.specs.NewNodes.{promise_of, is_one, is_promise, promised, void_or_promise_void, or_undefined, param_ident, any_param}
 
 -- a choice of trees
 pub either_moved : (m : Moves) (b : Bool) (x x' y y' : Tree) → x ≡ moved m x' → y ≡ moved m y' → (if b then x else y) ≡ moved m (if b then x' else y')
@@ -25,12 +28,13 @@ either_moved m false x x' y y' p q = q
 -- whether a type is `void`
 pub is_void_type_moved : (m : Moves) (t : Tree) → is_void_type (moved m t) ≡ is_void_type t
 is_void_type_moved m t =
-    ap₂ (λ k b. (k is TsKeywordType) && b) (kind_of_moved m t) (ap (has_word TsVoidKeyword) (part_moved m 1 t) ∙ has_word_moved m TsVoidKeyword (part 1 t))
+    ap₂ (λ k b. (k is TsKeywordType) && b) (kind_of_moved m t)
+    (ap (has_word TsVoidKeyword) (field_moved m TsKeywordType-kind _ (λ t. refl) t) ∙ has_word_moved m TsVoidKeyword (TsKeywordType-kind t))
 
 pub returns_value_moved : (m : Moves) (t : Tree) → returns_value (moved m t) ≡ returns_value t
 returns_value_moved m t =
     ap₂ (λ a v. if a then false else (if v then false else true)) (is_absent_moved m t)
-    (ap is_void_type (part_moved m 1 t) ∙ is_void_type_moved m (TsTypeAnn-type_ann t))
+    (ap is_void_type (field_moved m TsTypeAnn-type_ann _ (λ t. refl) t) ∙ is_void_type_moved m (TsTypeAnn-type_ann t))
 
 one_moved : (m : Moves) (ts : List Tree) → is_one (map (moved m) ts) ≡ is_one ts
 one_moved m [] = refl
@@ -73,8 +77,10 @@ module _ (m : Moves) (ok : Keeps m) where
   pub is_promise_moved : (u : SyntaxContext) (t : Tree) → is_promise (moved_scope m u) (moved m t) ≡ is_promise u t
   is_promise_moved u t =
       ap₂ (λ k b. (k is TsTypeRef) && b) (kind_of_moved m t)
-      (ap₂ ◌&&◌ (ap (is_global (codes "Promise") (moved_scope m u)) (part_moved m 1 t) ∙ is_global_moved m ok (codes "Promise") u (TsTypeRef-type_name t))
-      (ap is_one (ap (λ p. parts (part 1 p)) (part_moved m 2 t) ∙ (ap parts (part_moved m 1 (part 2 t)) ∙ parts_moved m (part 1 (part 2 t))))
+      (ap₂ ◌&&◌ (ap (is_global (codes "Promise") (moved_scope m u)) (field_moved m TsTypeRef-type_name _ (λ t. refl) t)
+      ∙ is_global_moved m ok (codes "Promise") u (TsTypeRef-type_name t))
+      (ap is_one (ap (λ p. parts (TsTypeParamInstantiation-params p)) (field_moved m TsTypeRef-type_params _ (λ t. refl) t)
+      ∙ items_moved_at m TsTypeParamInstantiation-params _ (λ t. refl) (TsTypeRef-type_params t))
       ∙ one_moved m (parts (TsTypeParamInstantiation-params (TsTypeRef-type_params t)))))
 
   pub promised_moved : (u : SyntaxContext) (is_async : Bool) (t : Tree) → promised (moved_scope m u) is_async (moved m t) ≡ moved m (promised u is_async t)

@@ -1,27 +1,29 @@
 -- What is seen of a moved expression is what is seen of it, moved.
-use Rattle.std.specs.Prelude.{◌≡◌, Bool, not, ◌&&◌, ◌||◌, is_some, Option, Some, None, List, [], ◌∷◌, map, refl}
+use Rattle.std.specs.Prelude.{◌≡◌, ℕ, suc, Bool, is_some, Option, Some, None, List, [], ◌∷◌, map, refl}
 use Rattle.std.specs.Option.{option_map}
 use Rattle.std.proofs.Common.{ap, ap₂, ◌∙◌, sym}
-use Rattle.fast_check_syntax.specs.declared.kind.Kind.TheVariants as kinds
+use Rattle.fast_check_syntax.specs.declared.kind.Kind.{Kind}
 use Rattle.fast_check_syntax.specs.declared.source.SourceRange.{SourceRange}
 use Rattle.fast_check_syntax.specs.declared.source.SyntaxContext.{SyntaxContext}
 use Rattle.fast_check_syntax.specs.declared.tree.Tree.{Tree}
-use Rattle.fast_check_syntax.specs.Shape.{◌is◌, kind_of, parts}
+use Rattle.fast_check_syntax.specs.Shape.{kind_of, part, parts, range_of, context_of}
 use Rattle.fast_check_syntax.specs.Moves.{Moves, Keeps, moved, moved_range}
-use Rattle.fast_check_syntax.proofs.Moved.{node_moved, range_moved, kind_of_moved, part_moved, parts_moved}
+use Rattle.fast_check_syntax.proofs.Moved.{kind_of_moved, part_moved, parts_moved, range_of_moved}
 use Rattle.fast_check_syntax.proofs.DescentMoved.{by_descent_moved}
-use Rattle.fast_check_expression_forms.specs.Assertions.{TsAsExpr-span, TsAsExpr-type_ann, ts_as_expr, TsTypeAssertion-span, TsTypeAssertion-type_ann, ts_type_assertion, TsSatisfiesExpr-expr}
 use Rattle.fast_check_expression_forms.specs.Calls.{CallExpr-callee, CallExpr-args}
 use Rattle.fast_check_tree.specs.GlobalCalls.{object_freeze_call_arg}
-use Rattle.fast_check_tree.proofs.GlobalCallsMoved.{moved_scope, object_freeze_call_arg_moved}
+use Rattle.fast_check_tree.proofs.GlobalCallsMoved.{moved_scope, context_of_moved, object_freeze_call_arg_moved}
 use Rattle.fast_check_signatures.specs.declared.function_kind.FunctionKind.{FunctionKind}
-use Rattle.fast_check_signatures.specs.Seen.{written, range, scope, form, refused, also, end, seens, moved_seen}
-use Rattle.fast_check_signatures.specs.NewNodes.{never_in_parens}
+use Rattle.fast_check_signatures.specs.declared.rules.Slot.{Slot}
+use Rattle.fast_check_signatures.specs.declared.rules.Slot.TheVariants as slots
+use Rattle.fast_check_signatures.specs.Seen.{written, range, scope, round, refused, seens}
 use Rattle.fast_check_signatures.specs.Parameters.{Look, pat_seen, pats_seen}
 use Rattle.fast_check_signatures.specs.Functions.{function_seen, arrow_seen}
-use Rattle.fast_check_signatures.specs.Expressions.{is_plain, is_compound, is_among, other_kinds, freezes, is_frozen, is_refused, call_seen, expr_form, expr_seen}
+use Rattle.fast_check_signatures.specs.Expressions.{freezes, Rule, whole, parted, slotted, arrow, not_at_all, rule, expr_rule, slot_seen, slots_seen, by_rule}
+use Rattle.fast_check_signatures.specs.Expressions.{expr_form, expr_seen}
 use Rattle.fast_check_signatures.proofs.NewNodesMoved.{never_in_parens_moved}
-use Rattle.fast_check_signatures.proofs.MovedParts.{seens_moved, range_part_moved, scope_part_moved, seen_chosen}
+use Rattle.fast_check_signatures.proofs.MovedParts.{moved_seen, seens_moved, range_seen_moved, scope_seen_moved, field_moved}
+use Rattle.fast_check_signatures.proofs.ParametersMoved.{LooksMoved}
 use Rattle.fast_check_signatures.proofs.ParametersMoved as parameters
 use Rattle.fast_check_signatures.proofs.FunctionsMoved as functions
 
@@ -32,34 +34,15 @@ module _ (m : Moves) (ok : Keeps m) where
 
   pub freezes_moved : (unresolved : SyntaxContext) (t : Tree) → freezes (moved_scope m unresolved) (moved m t) ≡ freezes unresolved t
   freezes_moved unresolved t =
-      ap₂ (λ callee args. is_some (object_freeze_call_arg (moved_scope m unresolved) callee args)) (part_moved m 2 t) (part_moved m 3 t)
+      ap₂ (λ callee args. is_some (object_freeze_call_arg (moved_scope m unresolved) callee args))
+      (field_moved m CallExpr-callee _ (λ t. refl) t) (field_moved m CallExpr-args _ (λ t. refl) t)
       ∙ (ap is_some (object_freeze_call_arg_moved m ok unresolved (CallExpr-callee t) (CallExpr-args t))
       ∙ is_some_moved (object_freeze_call_arg unresolved (CallExpr-callee t) (CallExpr-args t)))
 
-  pub is_frozen_moved : (unresolved : SyntaxContext) (t : Tree) → is_frozen (moved_scope m unresolved) (moved m t) ≡ is_frozen unresolved t
-  is_frozen_moved unresolved t = ap₂ (λ k b. (k is kinds.CallExpr) && b) (kind_of_moved m t) (freezes_moved unresolved t)
+  expr_rule_moved : (unresolved : SyntaxContext) (t : Tree) → expr_rule (moved_scope m unresolved) (moved m t) ≡ expr_rule unresolved t
+  expr_rule_moved unresolved t = ap₂ rule (kind_of_moved m t) (freezes_moved unresolved t)
 
-  pub is_refused_moved : (unresolved : SyntaxContext) (t : Tree) → is_refused (moved_scope m unresolved) (moved m t) ≡ is_refused unresolved t
-  is_refused_moved unresolved t =
-      ap₂ (λ k b. not (is_plain k || (is_compound k || (is_among other_kinds k || b)))) (kind_of_moved m t) (is_frozen_moved unresolved t)
-
-  as_type_moved : (t : Tree) → ts_as_expr (TsAsExpr-span (moved m t)) never_in_parens (TsAsExpr-type_ann (moved m t)) ≡ moved m (ts_as_expr (TsAsExpr-span t) never_in_parens (TsAsExpr-type_ann t))
-  as_type_moved t =
-      (λ i. ts_as_expr (range_part_moved m ok 0 t i) (sym (never_in_parens_moved m ok) i) (part_moved m 2 t i)) ∙ sym (made (TsAsExpr-span t) never_in_parens (TsAsExpr-type_ann t))
-    where
-      made : (span : SourceRange) (expr type : Tree) → moved m (ts_as_expr span expr type) ≡ ts_as_expr (moved_range m span) (moved m expr) (moved m type)
-      made span expr type = simp (node_moved, range_moved)
-
-  assertion_moved : (t : Tree) →
-      ts_type_assertion (TsTypeAssertion-span (moved m t)) never_in_parens (TsTypeAssertion-type_ann (moved m t)) ≡
-      moved m (ts_type_assertion (TsTypeAssertion-span t) never_in_parens (TsTypeAssertion-type_ann t))
-  assertion_moved t =
-      (λ i. ts_type_assertion (range_part_moved m ok 0 t i) (sym (never_in_parens_moved m ok) i) (part_moved m 2 t i)) ∙ sym (made (TsTypeAssertion-span t) never_in_parens (TsTypeAssertion-type_ann t))
-    where
-      made : (span : SourceRange) (expr type : Tree) → moved m (ts_type_assertion span expr type) ≡ ts_type_assertion (moved_range m span) (moved m expr) (moved m type)
-      made span expr type = simp (node_moved, range_moved)
-
-  module _ (unresolved : SyntaxContext) (look look' : Look) (at : (t : Tree) (place : Option SourceRange) → look' (moved m t) (option_map (moved_range m) place) ≡ moved_seen m (look t place)) where
+  module _ (unresolved : SyntaxContext) (look look' : Look) (at : LooksMoved m look look') where
     abbrev unresolved' : SyntaxContext
     unresolved' = moved_scope m unresolved
 
@@ -67,59 +50,66 @@ module _ (m : Moves) (ok : Keeps m) where
     all_moved [] = refl
     all_moved (t ∷ ts) = λ i. at t None i ∷ all_moved ts i
 
-    compound_moved : (t : Tree) → form (kind_of (moved m t)) (seens (map (λ p. look' p None) (parts (moved m t)))) ≡ moved_seen m (form (kind_of t) (seens (map (λ p. look p None) (parts t))))
-    compound_moved t =
-        let each = ap (map (λ p. look' p None)) (parts_moved m t) ∙ all_moved (parts t) in
-        ap₂ form (kind_of_moved m t) (ap seens each ∙ seens_moved m (map (λ p. look p None) (parts t)))
+    slot_moved : (s : Slot) (p p' : Tree) (place : Option SourceRange) → p' ≡ moved m p →
+        slot_seen unresolved' s p' look' (option_map (moved_range m) place) ≡ moved_seen m (slot_seen unresolved s p look place)
+    slot_moved slots.Span p p' place e = ap range (ap range_of e ∙ range_of_moved m ok p) ∙ sym (range_seen_moved m (range_of p))
+    slot_moved slots.Scope p p' place e = ap scope (ap context_of e ∙ context_of_moved m ok p) ∙ sym (scope_seen_moved m (context_of p))
+    slot_moved slots.Written p p' place e = ap written e
+    slot_moved slots.Never p p' place e = ap written (sym (never_in_parens_moved m ok))
+    slot_moved slots.Value p p' place e = ap (λ p. look' p None) e ∙ at p None
+    slot_moved slots.Function p p' place e = functions.part_function_moved m ok unresolved look look' at place p p' e
 
-    call_seen_moved : (t : Tree) → call_seen unresolved' (moved m t) look' ≡ moved_seen m (call_seen unresolved t look)
-    call_seen_moved t =
-        let args = ap (λ p. look' p None) (part_moved m 3 t) ∙ at (CallExpr-args t) None in
-        (seen_chosen m _ (freezes unresolved t) _ _ _ _ (freezes_moved unresolved t)
-        (record {
-          path =
-              λ i. form kinds.CallExpr (also (range (range_part_moved m ok 0 t i)) (also (scope (scope_part_moved m ok 1 t i)) (also (written (part_moved m 2 t i)) (also (args i) (also (written (part_moved m 4 t i)) end)))));
-        })
-        (record { path = refl })).path
+    slots_moved : (row : List Slot) (n : ℕ) (t : Tree) (place : Option SourceRange) →
+        slots_seen unresolved' row n (moved m t) look' (option_map (moved_range m) place) ≡ map (moved_seen m) (slots_seen unresolved row n t look place)
+    slots_moved [] n t place = refl
+    slots_moved (s ∷ row) n t place = λ i. slot_moved s (part n t) (part n (moved m t)) place (part_moved m n t) i ∷ slots_moved row (suc n) t place i
 
-    pub expr_form_moved : (t : Tree) (place : Option SourceRange) →
+    by_rule_moved : (r : Rule) (kind : Kind) (t : Tree) (place : Option SourceRange) →
+        by_rule unresolved' r kind (moved m t) look' (option_map (moved_range m) place) ≡ moved_seen m (by_rule unresolved r kind t look place)
+    by_rule_moved whole kind t place = refl
+    by_rule_moved parted kind t place =
+        ap (λ ss. round kind (seens ss)) (ap (map (λ p. look' p None)) (parts_moved m t) ∙ all_moved (parts t))
+        ∙ ap (round kind) (seens_moved m (map (λ p. look p None) (parts t)))
+    by_rule_moved (slotted row) kind t place =
+        ap (λ ss. round kind (seens ss)) (slots_moved row 0 t place) ∙ ap (round kind) (seens_moved m (slots_seen unresolved row 0 t look place))
+    by_rule_moved arrow kind t place = functions.arrow_seen_moved m ok unresolved look look' at place t
+    by_rule_moved not_at_all kind t place = refl
+
+    expr_form_moved : (t : Tree) (place : Option SourceRange) →
         expr_form unresolved' (moved m t) look' (option_map (moved_range m) place) ≡ moved_seen m (expr_form unresolved t look place)
     expr_form_moved t place =
-        let kind = kind_of t in
-        let same = kind_of_moved m t in
-        let operand = ap (λ p. look' p None) (part_moved m 1 t) ∙ at (TsSatisfiesExpr-expr t) None in
-        (seen_chosen m _ (is_plain kind) _ _ _ _ (ap is_plain same) (record { path = refl })
-        (seen_chosen m _ (is_compound kind) _ _ _ _ (ap is_compound same) (record { path = compound_moved t })
-        (seen_chosen m _ (kind is kinds.TsSatisfiesExpr) _ _ _ _ (ap (λ k. k is kinds.TsSatisfiesExpr) same)
-        (record { path = λ i. form (same i) (also (range (range_part_moved m ok 0 t i)) (also (operand i) (also (written (part_moved m 2 t i)) end))) })
-        (seen_chosen m _ (kind is kinds.TsAsExpr) _ _ _ _ (ap (λ k. k is kinds.TsAsExpr) same) (record { path = ap written (as_type_moved t) })
-        (seen_chosen m _ (kind is kinds.TsTypeAssertion) _ _ _ _ (ap (λ k. k is kinds.TsTypeAssertion) same) (record { path = ap written (assertion_moved t) })
-        (seen_chosen m _ (kind is kinds.CallExpr) _ _ _ _ (ap (λ k. k is kinds.CallExpr) same) (record { path = call_seen_moved t })
-        (seen_chosen m _ (kind is kinds.FnExpr) _ _ _ _ (ap (λ k. k is kinds.FnExpr) same) (record { path = functions.fn_expr_seen_moved m ok unresolved look look' at place t })
-        (seen_chosen m _ (kind is kinds.ArrowExpr) _ _ _ _ (ap (λ k. k is kinds.ArrowExpr) same) (record { path = functions.arrow_seen_moved m ok unresolved look look' at place t })
-        (record { path = refl }))))))))).path
+        ap₂ (λ r k. by_rule unresolved' r k (moved m t) look' (option_map (moved_range m) place)) (expr_rule_moved unresolved t) (kind_of_moved m t)
+        ∙ by_rule_moved (expr_rule unresolved t) (kind_of t) t place
 
   module _ (unresolved : SyntaxContext) where
+    abbrev seen : Look
+    seen = expr_seen unresolved
+
+    abbrev seen' : Look
+    seen' = expr_seen (moved_scope m unresolved)
+
     -- an expression, with or without a parent that names it
-    pub expr_seen_moved : (t : Tree) (place : Option SourceRange) → expr_seen (moved_scope m unresolved) (moved m t) (option_map (moved_range m) place) ≡ moved_seen m (expr_seen unresolved t place)
+    pub expr_seen_moved : (t : Tree) (place : Option SourceRange) →
+        expr_seen (moved_scope m unresolved) (moved m t) (option_map (moved_range m) place) ≡ moved_seen m (expr_seen unresolved t place)
     unfolding expr_seen
     expr_seen_moved =
-        by_descent_moved m (λ f f'. (place : Option SourceRange) → f' (option_map (moved_range m) place) ≡ moved_seen m (f place)) (λ place. refused) (λ place. refused) (λ place. refl)
+        by_descent_moved m (λ f f'. (place : Option SourceRange) → f' (option_map (moved_range m) place) ≡ moved_seen m (f place)) (λ place. refused)
+        (λ place. refused) (λ place. refl)
         (expr_form unresolved) (expr_form (moved_scope m unresolved)) (λ t look look' at. expr_form_moved unresolved look look' at t)
 
     -- a function, an arrow and parameters, by what is seen of the expressions in them
     pub function_seen_moved : (kind : FunctionKind) (place : SourceRange) (t : Tree) →
-        function_seen (moved_scope m unresolved) (expr_seen (moved_scope m unresolved)) kind (moved_range m place) (moved m t) ≡ moved_seen m (function_seen unresolved (expr_seen unresolved) kind place t)
-    function_seen_moved = functions.function_seen_moved m ok unresolved (expr_seen unresolved) (expr_seen (moved_scope m unresolved)) expr_seen_moved
+        function_seen (moved_scope m unresolved) seen' kind (moved_range m place) (moved m t) ≡ moved_seen m (function_seen unresolved seen kind place t)
+    function_seen_moved = functions.function_seen_moved m ok unresolved seen seen' expr_seen_moved
 
     pub arrow_seen_moved : (place : Option SourceRange) (t : Tree) →
-        arrow_seen (moved_scope m unresolved) (expr_seen (moved_scope m unresolved)) (option_map (moved_range m) place) (moved m t) ≡ moved_seen m (arrow_seen unresolved (expr_seen unresolved) place t)
-    arrow_seen_moved = functions.arrow_seen_moved m ok unresolved (expr_seen unresolved) (expr_seen (moved_scope m unresolved)) expr_seen_moved
+        arrow_seen (moved_scope m unresolved) seen' (option_map (moved_range m) place) (moved m t) ≡ moved_seen m (arrow_seen unresolved seen place t)
+    arrow_seen_moved = functions.arrow_seen_moved m ok unresolved seen seen' expr_seen_moved
 
     pub pat_seen_moved : (is_optional : Bool) (pat : Tree) →
-        pat_seen (moved_scope m unresolved) (expr_seen (moved_scope m unresolved)) is_optional (moved m pat) ≡ moved_seen m (pat_seen unresolved (expr_seen unresolved) is_optional pat)
-    pat_seen_moved = parameters.pat_seen_moved m ok unresolved (expr_seen unresolved) (expr_seen (moved_scope m unresolved)) expr_seen_moved
+        pat_seen (moved_scope m unresolved) seen' is_optional (moved m pat) ≡ moved_seen m (pat_seen unresolved seen is_optional pat)
+    pat_seen_moved = parameters.pat_seen_moved m ok unresolved seen seen' expr_seen_moved
 
     pub pats_seen_moved : (pats : List Tree) →
-        pats_seen (moved_scope m unresolved) (expr_seen (moved_scope m unresolved)) (map (moved m) pats) ≡ map (moved_seen m) (pats_seen unresolved (expr_seen unresolved) pats)
-    pats_seen_moved = parameters.pats_seen_moved m ok unresolved (expr_seen unresolved) (expr_seen (moved_scope m unresolved)) expr_seen_moved
+        pats_seen (moved_scope m unresolved) seen' (map (moved m) pats) ≡ map (moved_seen m) (pats_seen unresolved seen pats)
+    pats_seen_moved = parameters.pats_seen_moved m ok unresolved seen seen' expr_seen_moved

@@ -1,155 +1,146 @@
--- What becomes of what is seen: the trees that stand in the skeleton, and the faults, by cases on what is seen. Nothing is asked outside, and nothing that is hidden is there to be read.
-use Rattle.std.specs.Prelude.{Bool, true, false, Option, Some, None, List, [], ◌∷◌, ◌++◌, map, if◌then◌else◌}
-use Rattle.std.specs.List.{flat_map}
+-- What becomes of what is seen: what stays of it, and the faults, by cases on what is seen. Nothing is asked outside, and nothing that is hidden is there to
+-- be read.
+use Rattle.std.specs.Prelude.{◌≡◌, Bool, false, Option, Some, None, List, [], ◌∷◌, ◌++◌, is_some, unwrap_or, option_map, if◌then◌else◌}
 use Rattle.fast_check_syntax.specs.declared.kind.Kind.{Kind}
-use Rattle.fast_check_syntax.specs.declared.kind.Kind.TheVariants.{VarDeclarator, AssignPat, Function, ArrowExpr}
 use Rattle.fast_check_syntax.specs.declared.source.SourceRange.{SourceRange}
-use Rattle.fast_check_syntax.specs.declared.tree.Tree as tree
 use Rattle.fast_check_syntax.specs.declared.tree.Tree.{Tree, Absent}
-use Rattle.fast_check_syntax.specs.Shape.{◌is◌, node, list}
-use Rattle.fast_check_class_forms.specs.Functions.{function}
+use Rattle.fast_check_syntax.specs.Shape.{node, list}
+use Rattle.fast_check_class_forms.specs.Functions.{function as function_node}
 use Rattle.fast_check_expression_forms.specs.Expressions.{arrow_expr}
 use Rattle.fast_check_expression_forms.specs.Patterns.{assign_pat}
 use Rattle.fast_check_program_forms.specs.Names.{Ident-span, binding_ident}
 use Rattle.fast_check_statement_forms.specs.Declarations.{var_declarator}
-use Rattle.fast_check_tree.specs.Builders.{type_ann, never_value}
 use Rattle.fast_check_signatures.specs.declared.fault.Fault.{Fault}
 use Rattle.fast_check_signatures.specs.declared.fault.FaultKind.{FaultKind}
 use Rattle.fast_check_signatures.specs.declared.fault.FaultKind.TheVariants.{MissingExplicitType}
-use Rattle.fast_check_signatures.specs.Seen.{Seen, written, range, scope, flag, form, inferred, faulty, refused, hidden, Seens, end, also, tree_in, range_in, scope_in, flag_in}
+use Rattle.fast_check_signatures.specs.NewNodes.{function_body, arrow_body}
 use Rattle.fast_check_signatures.specs.Functions.{return_type_missing}
+use Rattle.fast_check_signatures.specs.Seen.{DeclaratorHead, DefaultHead, FunctionHead, ArrowHead}
+use Rattle.fast_check_signatures.specs.Seen.{Seen, written, round, listed, declarator, default, function, typed_arrow, valued_arrow, faulty, refused, Seens}
+use Rattle.fast_check_signatures.specs.Seen.{end, also, seens}
 
--- the trees that stand in the skeleton, the faults in reading order, and whether an expression may stay
-pub record Answer : Type 0 where
-  pub trees : List Tree
+-- ---- answers
+
+-- What stays, and the faults in reading order. Of an expression an optional tree stays, none where it may not; of what always stays a tree.
+pub record Answer (A : Type 0) : Type 0 where
+  pub stays : A
   pub faults : List Fault
-  pub is_leavable : Bool
+
+-- What a call gives stays, and with the faults that it adds behind the old ones it is the answer.
+pub record Adds {A : Type 0} (answer : Answer A) (given : A) (old new : List Fault) : Type 0 where
+  pub added : List Fault
+  pub is : answer ≡ record { stays = given; faults = added }
+  pub faults : new ≡ old ++ added
 
 abbrev pub fault_at : FaultKind → SourceRange → Fault
 fault_at kind place = record { kind = kind; range = place }
 
-abbrev pub nothing : Answer
-nothing = record { trees = []; faults = []; is_leavable = true }
+-- what stays as it is, with nothing wrong
+abbrev pub faultless : {A : Type 0} → A → Answer A
+faultless given = record { stays = given; faults = [] }
 
-abbrev pub stands : Tree → Answer
-stands t = record { trees = t ∷ []; faults = []; is_leavable = true }
+-- what is made of an answer, with its faults
+abbrev pub made : {A B : Type 0} → (A → B) → Answer A → Answer B
+made f a = record { stays = f a.stays; faults = a.faults }
 
--- a tree that stands there for want of a better one, and what is wrong with it
-abbrev pub fails : Tree → List Fault → Answer
-fails t faults = record { trees = t ∷ []; faults = faults; is_leavable = true }
+-- what is made of two answers in reading order
+abbrev pub joined : {A B C : Type 0} → (A → B → C) → Answer A → Answer B → Answer C
+joined f a b = record { stays = f a.stays b.stays; faults = a.faults ++ b.faults }
 
--- an expression that may not stay, and the faults that were met on the way
-abbrev pub goes : List Fault → Answer
-goes faults = record { trees = []; faults = faults; is_leavable = false }
+-- the tree of what always stays, or an empty option
+abbrev pub settled : Answer (Option Tree) → Answer Tree
+settled = made (λ o. unwrap_or o Absent)
 
--- answers in reading order, as one
-abbrev pub joined : List Answer → Answer
-joined answers = record { trees = flat_map (λ a. a.trees) answers; faults = flat_map (λ a. a.faults) answers; is_leavable = true }
+-- what is wrong besides where that may not stay which has to
+abbrev pub unless_stays : Option Tree → Fault → List Fault
+unless_stays o fault = if is_some o then [] else fault ∷ []
 
--- one answer before another
-abbrev pub before : Answer → Answer → Answer
-before a rest = record { trees = a.trees ++ rest.trees; faults = a.faults ++ rest.faults; is_leavable = rest.is_leavable }
+-- the tree of what has to stay, or an empty option, and this fault
+abbrev pub demanded : Fault → Answer (Option Tree) → Answer Tree
+demanded fault a = record { stays = unwrap_or a.stays Absent; faults = a.faults ++ unless_stays a.stays fault }
 
--- answers in reading order, as one, up to the first that may not stay, which ends the visit
-abbrev pub visited : List Answer → Answer
-visited [] = nothing
-visited (a ∷ rest) = if a.is_leavable then before a (visited rest) else goes a.faults
+-- a part before others, which are visited only where it may stay
+abbrev pub before : Option Tree → List Fault → Answer (Option (List Tree)) → Answer (Option (List Tree))
+before None faults rest = record { stays = None; faults = faults }
+before (Some t) faults rest = record { stays = option_map (λ ts. t ∷ ts) rest.stays; faults = faults ++ rest.faults }
 
--- a part of a form, with its answer
-pub record Part : Type 0 where
-  pub seen : Seen
-  pub answer : Answer
+abbrev pub visited : Answer (Option Tree) → Answer (Option (List Tree)) → Answer (Option (List Tree))
+visited a rest = before a.stays a.faults rest
 
-abbrev pub first_or_absent : List Tree → Tree
-first_or_absent (t ∷ ts) = t
-first_or_absent [] = Absent
+-- a tree among others, if there is one
+abbrev pub with_tree : Option Tree → List Tree → List Tree
+with_tree None ts = ts
+with_tree (Some t) ts = t ∷ ts
 
--- the tree that stands for a part
-abbrev pub tree_of : Part → Tree
-tree_of p = first_or_absent p.answer.trees
-
--- what is missing at a place where an expression may not stay
-abbrev pub unless_leavable : Part → FaultKind → SourceRange → List Fault
-unless_leavable p kind place = if p.answer.is_leavable then [] else fault_at kind place ∷ []
-
--- a declarator of this type, with `{} as never` for its value
-abbrev pub typed_declarator : SourceRange → Tree → Bool → Tree → Tree
-typed_declarator span ident definite type = var_declarator span (binding_ident ident type) never_value definite
+-- ---- nodes
 
 -- a declarator without type, which its value gives
-abbrev pub valued_declarator : SourceRange → Tree → Bool → Part → Answer
-valued_declarator span ident definite value =
-    record {
-      trees = var_declarator span (binding_ident ident Absent) (tree_of value) definite ∷ [];
-      faults = value.answer.faults ++ unless_leavable value MissingExplicitType (Ident-span ident);
-      is_leavable = true;
-    }
+abbrev pub valued_declarator : DeclaratorHead → Tree → Tree
+valued_declarator d value = var_declarator d.span (binding_ident d.ident Absent) value d.definite
 
--- the type is the written one, else the inferred one; where there is neither, the value must stay, or that is a fault at the identifier
-abbrev pub declarator_answer : SourceRange → Tree → Bool → Seen → Seen → Part → Answer
-declarator_answer span ident definite (written type) shown value = stands (typed_declarator span ident definite type)
-declarator_answer span ident definite _ (inferred type) value = stands (typed_declarator span ident definite (type_ann type))
-declarator_answer span ident definite _ _ value = valued_declarator span ident definite value
+-- a function of this return type and these parameters, with a body that stands for its own
+abbrev pub signed_function : FunctionHead → Tree → List Tree → Tree
+signed_function f type params =
+    function_node f.span (list params) (list []) f.ctxt (if f.lacks_body then Absent else function_body type) false false f.type_params type
 
-abbrev pub declarator_form : List Part → Answer
-declarator_form (span ∷ ident ∷ definite ∷ type ∷ shown ∷ value ∷ []) =
-    declarator_answer (range_in span.seen) (tree_in ident.seen) (flag_in definite.seen) type.seen shown.seen value
-declarator_form _ = nothing
+-- an arrow of this return type and these parameters, with a body that stands for its own
+abbrev pub signed_arrow : ArrowHead → Tree → List Tree → Tree
+signed_arrow a type params = arrow_expr a.span a.ctxt (list params) (arrow_body type) false a.is_generator a.type_params type
 
--- a parameter with a default that gives its type
-abbrev pub default_form : List Part → Answer
-default_form (span ∷ place ∷ left ∷ value ∷ []) =
-    fails (assign_pat (range_in span.seen) (tree_in left.seen) (tree_of value)) (value.answer.faults ++ unless_leavable value MissingExplicitType (range_in place.seen))
-default_form _ = nothing
+-- an arrow with this value, which gives its return type
+abbrev pub kept_arrow : ArrowHead → Bool → Tree → List Tree → Tree
+kept_arrow a is_async value params = arrow_expr a.span a.ctxt (list params) value is_async a.is_generator a.type_params Absent
 
--- a function: what is wrong with its return type comes before what is wrong with its parameters
-abbrev pub function_form : List Part → Answer
-function_form (span ∷ type ∷ params ∷ ctxt ∷ body ∷ type_params ∷ []) =
-    fails (function (range_in span.seen) (tree_of params) (list []) (scope_in ctxt.seen) (tree_in body.seen) false false (tree_in type_params.seen) (tree_in type.seen))
-    (type.answer.faults ++ params.answer.faults)
-function_form _ = nothing
+-- ---- what is answered to what is seen
 
--- an arrow: where its value is to give its type and may not stay, that is a fault at its place
-abbrev pub arrow_form : List Part → Answer
-arrow_form (span ∷ place ∷ type ∷ body ∷ is_async ∷ is_generator ∷ params ∷ ctxt ∷ type_params ∷ []) =
-    fails (arrow_expr (range_in span.seen) (scope_in ctxt.seen) (tree_of params) (tree_of body) (flag_in is_async.seen) (flag_in is_generator.seen) (tree_in type_params.seen) (tree_in type.seen))
-    (type.answer.faults ++ (body.answer.faults ++ (unless_leavable body (return_type_missing false (flag_in is_async.seen)) (range_in place.seen) ++ params.answer.faults)))
-arrow_form _ = nothing
+-- a node round its parts
+abbrev pub round_answer : Kind → Answer (Option (List Tree)) → Answer (Option Tree)
+round_answer kind = made (option_map (node kind))
 
--- a node of a kind round the trees that its parts become; it may stay where they all may
-abbrev pub around : Kind → List Part → Answer
-around kind parts =
-    let answer = visited (map (λ p. p.answer) parts) in
-    if answer.is_leavable then fails (node kind answer.trees) answer.faults else goes answer.faults
+-- a list of items
+abbrev pub list_answer : Answer (List Tree) → Answer (Option Tree)
+list_answer = made (λ ts. Some (list ts))
 
-abbrev pub form_answer : Kind → List Part → Answer
-form_answer kind parts =
-    if kind is VarDeclarator then declarator_form parts
-    else (if kind is AssignPat then default_form parts
-    else (if kind is Function then function_form parts
-    else (if kind is ArrowExpr then arrow_form parts
-    else around kind parts)))
+abbrev pub declarator_answer : DeclaratorHead → Answer (Option Tree) → Answer (Option Tree)
+declarator_answer d value = made (λ v. Some (valued_declarator d v)) (demanded (fault_at MissingExplicitType (Ident-span d.ident)) value)
+
+abbrev pub default_answer : DefaultHead → Answer (Option Tree) → Answer (Option Tree)
+default_answer d value = made (λ v. Some (assign_pat d.span d.left v)) (demanded (fault_at MissingExplicitType d.place) value)
+
+-- what is wrong with a return type comes before what is wrong with the parameters
+abbrev pub function_answer : FunctionHead → Answer (Option Tree) → Answer (List Tree) → Answer (Option Tree)
+function_answer f type params = joined (λ t ps. Some (signed_function f t ps)) (settled type) params
+
+abbrev pub typed_arrow_answer : ArrowHead → Answer (Option Tree) → Answer (List Tree) → Answer (Option Tree)
+typed_arrow_answer a type params = joined (λ t ps. Some (signed_arrow a t ps)) (settled type) params
+
+abbrev pub valued_arrow_answer : ArrowHead → Bool → SourceRange → Answer (Option Tree) → Answer (List Tree) → Answer (Option Tree)
+valued_arrow_answer a is_async place value params =
+    joined (λ v ps. Some (kept_arrow a is_async v ps)) (demanded (fault_at (return_type_missing false is_async) place) value) params
 
 abbrev mutual
-  pub answer_to : Seen → Answer
-  answer_to (written t) = stands t
-  answer_to (range r) = stands (tree.Range r)
-  answer_to (scope c) = stands (tree.Context c)
-  answer_to (flag f) = stands (tree.Flag f)
-  answer_to (form kind ss) = form_answer kind (answered ss)
-  answer_to (inferred type) = nothing
-  answer_to (faulty kind place) = fails Absent (fault_at kind place ∷ [])
-  answer_to refused = goes []
-  answer_to hidden = nothing
+  pub answer_to : Seen → Answer (Option Tree)
+  answer_to (written t) = faultless (Some t)
+  answer_to (round kind ss) = round_answer kind (parts_answer ss)
+  answer_to (listed ss) = list_answer (items_answer ss)
+  answer_to (declarator d value) = declarator_answer d (answer_to value)
+  answer_to (default d value) = default_answer d (answer_to value)
+  answer_to (function f type params) = function_answer f (answer_to type) (items_answer params)
+  answer_to (typed_arrow a type params) = typed_arrow_answer a (answer_to type) (items_answer params)
+  answer_to (valued_arrow a is_async place value params) = valued_arrow_answer a is_async place (answer_to value) (items_answer params)
+  answer_to (faulty kind place) = record { stays = Some Absent; faults = fault_at kind place ∷ [] }
+  answer_to refused = faultless None
 
-  pub answered : Seens → List Part
-  answered end = []
-  answered (also s ss) = record { seen = s; answer = answer_to s } ∷ answered ss
+  -- parts of a node, up to the first that may not stay, where none of them does
+  pub parts_answer : Seens → Answer (Option (List Tree))
+  parts_answer end = faultless (Some [])
+  parts_answer (also s ss) = visited (answer_to s) (parts_answer ss)
+
+  -- parameters, and items of a module, each for itself
+  pub items_answer : Seens → Answer (List Tree)
+  items_answer end = faultless []
+  items_answer (also s ss) = joined with_tree (answer_to s) (items_answer ss)
 
 -- the answer to what is seen, item by item
-abbrev pub answer_of : List Seen → Answer
-answer_of ss = joined (map answer_to ss)
-
--- the tree of an expression that may stay
-abbrev pub kept_tree : Answer → Option Tree
-kept_tree a = if a.is_leavable then Some (first_or_absent a.trees) else None
+abbrev pub answer_of : List Seen → Answer (List Tree)
+answer_of ss = items_answer (seens ss)

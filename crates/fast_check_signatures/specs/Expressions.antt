@@ -1,42 +1,35 @@
 -- What is seen of an expression that gives a type by itself, if it may stay in a skeleton.
-use Rattle.std.specs.Prelude.{Bool, not, ◌&&◌, ◌||◌, Option, None, List, [], ◌∷◌, map, is_some, if◌then◌else◌}
+use Rattle.std.specs.Prelude.{ℕ, suc, Bool, true, not, ◌&&◌, ◌||◌, Option, None, List, [], ◌∷◌, map, is_some, if◌then◌else◌}
 use Rattle.std.specs.List.{list_any}
 use Rattle.fast_check_syntax.specs.declared.kind.Kind.{Kind}
 use Rattle.fast_check_syntax.specs.declared.kind.Kind.TheVariants as kinds
 use Rattle.fast_check_syntax.specs.declared.source.SourceRange.{SourceRange}
 use Rattle.fast_check_syntax.specs.declared.source.SyntaxContext.{SyntaxContext}
 use Rattle.fast_check_syntax.specs.declared.tree.Tree.{Tree}
-use Rattle.fast_check_syntax.specs.Shape.{◌is◌, kind_of, parts}
+use Rattle.fast_check_syntax.specs.Shape.{◌is◌, kind_of, part, parts, range_of, context_of}
 use Rattle.fast_check_syntax.specs.Descent.{by_descent}
-use Rattle.fast_check_expression_forms.specs.Assertions.{TsAsExpr-span, TsAsExpr-type_ann, ts_as_expr, TsTypeAssertion-span, TsTypeAssertion-type_ann, ts_type_assertion, TsSatisfiesExpr-span, TsSatisfiesExpr-expr, TsSatisfiesExpr-type_ann}
-use Rattle.fast_check_expression_forms.specs.Calls.{CallExpr-span, CallExpr-ctxt, CallExpr-callee, CallExpr-args, CallExpr-type_args}
+use Rattle.fast_check_class_forms.specs.Functions.{Function-span}
+use Rattle.fast_check_expression_forms.specs.Calls.{CallExpr-callee, CallExpr-args}
 use Rattle.fast_check_tree.specs.GlobalCalls.{object_freeze_call_arg}
-use Rattle.fast_check_signatures.specs.Seen.{Seen, written, range, scope, form, refused, seens}
+use Rattle.fast_check_signatures.specs.declared.rules.TheConstants.{PLAIN_KINDS, COMPOUND_KINDS, SATISFIES, ASSERTION, FN_EXPR, FREEZE}
+use Rattle.fast_check_signatures.specs.declared.rules.Slot.{Slot}
+use Rattle.fast_check_signatures.specs.declared.rules.Slot.TheVariants as slots
+use Rattle.fast_check_signatures.specs.declared.function_kind.FunctionKind.TheVariants.{ExpressionLike}
+use Rattle.fast_check_signatures.specs.Seen.{Seen, written, range, scope, round, refused, seens}
 use Rattle.fast_check_signatures.specs.NewNodes.{never_in_parens}
 use Rattle.fast_check_signatures.specs.Parameters.{Look}
-use Rattle.fast_check_signatures.specs.Functions.{fn_expr_seen, arrow_seen}
-
--- expressions that stay as they are, and the names and texts inside of others
-abbrev pub plain_kinds : List Kind
-plain_kinds =
-    kinds.Leaf ∷ kinds.ThisExpr ∷ kinds.Ident ∷ kinds.IdentName ∷ kinds.Str ∷ kinds.Bool ∷ kinds.Null ∷ kinds.Number ∷ kinds.BigInt ∷
-    kinds.Regex ∷ kinds.TplElement ∷ []
-
--- expressions that stay if their parts do, with the lists, elements, properties and computed names inside of them
-abbrev pub compound_kinds : List Kind
-compound_kinds =
-    kinds.List ∷ kinds.ArrayLit ∷ kinds.ExprOrSpread ∷ kinds.ObjectLit ∷ kinds.SpreadElement ∷ kinds.KeyValueProp ∷ kinds.AssignProp ∷
-    kinds.ComputedPropName ∷ kinds.UnaryExpr ∷ kinds.UpdateExpr ∷ kinds.AwaitExpr ∷ kinds.ParenExpr ∷ kinds.TsNonNullExpr ∷
-    kinds.TsConstAssertion ∷ kinds.BinExpr ∷ kinds.CondExpr ∷ kinds.MemberExpr ∷ kinds.Tpl ∷ []
+use Rattle.fast_check_signatures.specs.Functions.{or_own, function_seen, arrow_seen}
 
 abbrev pub is_among : List Kind → Kind → Bool
-is_among kinds kind = list_any (λ other. kind is other) kinds
+is_among kinds kind = list_any (λ other. other is kind) kinds
 
+-- an expression that stays as it is, or a name or a text inside of one
 abbrev pub is_plain : Kind → Bool
-is_plain = is_among plain_kinds
+is_plain = is_among PLAIN_KINDS
 
+-- one that stays if its parts do
 abbrev pub is_compound : Kind → Bool
-is_compound = is_among compound_kinds
+is_compound = is_among COMPOUND_KINDS
 
 -- other expressions that may stay
 abbrev pub other_kinds : List Kind
@@ -54,27 +47,54 @@ abbrev pub is_refused : SyntaxContext → Tree → Bool
 is_refused unresolved t =
     let kind = kind_of t in not (is_plain kind || (is_compound kind || (is_among other_kinds kind || is_frozen unresolved t)))
 
-module _ (unresolved : SyntaxContext) where
-  -- a call stays where it is `Object.freeze(x)`, by its argument
-  abbrev pub call_seen : Tree → Look → Seen
-  call_seen t look =
-      if freezes unresolved t then
-      form kinds.CallExpr (seens (range (CallExpr-span t) ∷ scope (CallExpr-ctxt t) ∷ written (CallExpr-callee t) ∷ look (CallExpr-args t) None ∷ written (CallExpr-type_args t) ∷ []))
-      else refused
+-- how an expression stays: as it is, if all its parts do, slot by slot, as an arrow, or not
+pub data Rule : Type 0 where
+  whole : Rule
+  parted : Rule
+  slotted : List Slot → Rule
+  arrow : Rule
+  not_at_all : Rule
 
-  -- an expression, where `look` is what is seen of the lower trees in it; an asserted operand does not count
+-- by its kind, and for a call by whether it is `Object.freeze(x)`
+abbrev pub other_rule : Kind → Bool → Rule
+other_rule kinds.TsSatisfiesExpr freezing = slotted SATISFIES
+other_rule kinds.TsAsExpr freezing = slotted ASSERTION
+other_rule kinds.TsTypeAssertion freezing = slotted ASSERTION
+other_rule kinds.CallExpr true = slotted FREEZE
+other_rule kinds.FnExpr freezing = slotted FN_EXPR
+other_rule kinds.ArrowExpr freezing = arrow
+other_rule _ freezing = not_at_all
+
+abbrev pub rule : Kind → Bool → Rule
+rule kind freezing = if is_compound kind then parted else (if is_plain kind then whole else other_rule kind freezing)
+
+abbrev pub expr_rule : SyntaxContext → Tree → Rule
+expr_rule unresolved t = rule (kind_of t) (freezes unresolved t)
+
+module _ (unresolved : SyntaxContext) where
+  -- what is seen of a part, where `look` is what is seen of the lower trees, and a parent that names the expression gives the place
+  abbrev pub slot_seen : Slot → Tree → Look → Option SourceRange → Seen
+  slot_seen slots.Span p look place = range (range_of p)
+  slot_seen slots.Scope p look place = scope (context_of p)
+  slot_seen slots.Written p look place = written p
+  slot_seen slots.Never p look place = written never_in_parens
+  slot_seen slots.Value p look place = look p None
+  slot_seen slots.Function p look place = function_seen unresolved look ExpressionLike (or_own place (Function-span p)) p
+
+  -- of the parts from the nth on
+  abbrev pub slots_seen : List Slot → ℕ → Tree → Look → Option SourceRange → List Seen
+  slots_seen [] n t look place = []
+  slots_seen (s ∷ ss) n t look place = slot_seen s (part n t) look place ∷ slots_seen ss (suc n) t look place
+
+  abbrev pub by_rule : Rule → Kind → Tree → Look → Option SourceRange → Seen
+  by_rule whole kind t look place = written t
+  by_rule parted kind t look place = round kind (seens (map (λ p. look p None) (parts t)))
+  by_rule (slotted slots) kind t look place = round kind (seens (slots_seen slots 0 t look place))
+  by_rule arrow kind t look place = arrow_seen unresolved look place t
+  by_rule not_at_all kind t look place = refused
+
   abbrev pub expr_form : Tree → Look → Option SourceRange → Seen
-  expr_form t look place =
-      let kind = kind_of t in
-      if is_plain kind then written t
-      else (if is_compound kind then form kind (seens (map (λ p. look p None) (parts t)))
-      else (if kind is kinds.TsSatisfiesExpr then form kind (seens (range (TsSatisfiesExpr-span t) ∷ look (TsSatisfiesExpr-expr t) None ∷ written (TsSatisfiesExpr-type_ann t) ∷ []))
-      else (if kind is kinds.TsAsExpr then written (ts_as_expr (TsAsExpr-span t) never_in_parens (TsAsExpr-type_ann t))
-      else (if kind is kinds.TsTypeAssertion then written (ts_type_assertion (TsTypeAssertion-span t) never_in_parens (TsTypeAssertion-type_ann t))
-      else (if kind is kinds.CallExpr then call_seen t look
-      else (if kind is kinds.FnExpr then fn_expr_seen unresolved look place t
-      else (if kind is kinds.ArrowExpr then arrow_seen unresolved look place t
-      else refused)))))))
+  expr_form t = by_rule (expr_rule unresolved t) (kind_of t) t
 
   unfoldable pub expr_seen : Look
   expr_seen = by_descent (λ place. refused) expr_form

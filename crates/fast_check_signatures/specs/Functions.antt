@@ -1,12 +1,15 @@
--- What is seen of functions and arrows: their parameters and their return type. A body is seen where it shows the return type, by its return class or its value.
+-- What is seen of functions and arrows: their parameters and their return type. A body is seen where it shows the return type, by its return class or its
+-- value.
 use Rattle.std.specs.Prelude.{ℕ, suc, Bool, true, false, Option, Some, None, List, [], ◌∷◌, map, if◌then◌else◌}
-use Rattle.fast_check_syntax.specs.declared.kind.Kind.TheVariants.{Function, ArrowExpr, FnExpr, Param, BlockStmt, RestPat, List as List'}
+use Rattle.fast_check_syntax.specs.declared.kind.Kind.TheVariants.{Param, BlockStmt, RestPat}
 use Rattle.fast_check_syntax.specs.declared.source.SourceRange.{SourceRange}
 use Rattle.fast_check_syntax.specs.declared.source.SyntaxContext.{SyntaxContext}
 use Rattle.fast_check_syntax.specs.declared.tree.Tree.{Tree, Absent}
-use Rattle.fast_check_syntax.specs.Shape.{◌is◌, kind_of, parts, is_absent}
-use Rattle.fast_check_class_forms.specs.Functions.{Function-span, Function-params, Function-ctxt, Function-body, Function-is_generator, Function-is_async, Function-type_params, Function-return_type, Param-span, Param-pat}
-use Rattle.fast_check_expression_forms.specs.Expressions.{ArrowExpr-span, ArrowExpr-ctxt, ArrowExpr-params, ArrowExpr-body, ArrowExpr-is_async, ArrowExpr-is_generator, ArrowExpr-type_params, ArrowExpr-return_type, FnExpr-ident, FnExpr-function}
+use Rattle.fast_check_syntax.specs.Shape.{◌is◌, kind_of, parts, is_absent, list}
+use Rattle.fast_check_class_forms.specs.Functions.{Function-span, Function-params, Function-ctxt, Function-body, Function-is_generator, Function-is_async}
+use Rattle.fast_check_class_forms.specs.Functions.{Function-type_params, Function-return_type, Param-span, Param-pat}
+use Rattle.fast_check_expression_forms.specs.Expressions.{ArrowExpr-span, ArrowExpr-ctxt, ArrowExpr-params, ArrowExpr-body, ArrowExpr-is_async}
+use Rattle.fast_check_expression_forms.specs.Expressions.{ArrowExpr-is_generator, ArrowExpr-type_params, ArrowExpr-return_type}
 use Rattle.fast_check_tree.specs.declared.helpers.literal_type.DeclMutabilityKind.TheVariants.{Mutable}
 use Rattle.fast_check_tree.specs.declared.helpers.return_class.ReturnStatementAnalysis.{ReturnStatementAnalysis}
 use Rattle.fast_check_tree.specs.declared.helpers.return_class.ReturnStatementAnalysis.TheVariants as class
@@ -17,8 +20,8 @@ use Rattle.fast_check_signatures.specs.declared.fault.FaultKind.{FaultKind}
 use Rattle.fast_check_signatures.specs.declared.fault.FaultKind.TheVariants.{MissingExplicitReturnType}
 use Rattle.fast_check_signatures.specs.declared.function_kind.FunctionKind.{FunctionKind}
 use Rattle.fast_check_signatures.specs.declared.function_kind.FunctionKind.TheVariants.{DeclarationLike, ExpressionLike}
-use Rattle.fast_check_signatures.specs.Seen.{Seen, written, range, scope, flag, form, faulty, end, seens, tree_in}
-use Rattle.fast_check_signatures.specs.NewNodes.{function_body, arrow_body, promised, void_or_promise_void, any_param}
+use Rattle.fast_check_signatures.specs.Seen.{FunctionHead, ArrowHead, Seen, written, range, round, function, typed_arrow, valued_arrow, faulty, seens}
+use Rattle.fast_check_signatures.specs.NewNodes.{promised, void_or_promise_void, any_param}
 use Rattle.fast_check_signatures.specs.Parameters.{Look, pats_seen}
 
 abbrev pub return_type_missing : Bool → Bool → FaultKind
@@ -28,7 +31,8 @@ return_type_missing is_definitely_void_or_never is_async = MissingExplicitReturn
 abbrev pub void_seen : Bool → Seen
 void_seen is_async = written (type_ann (void_or_promise_void is_async))
 
--- The return type that a body shows by its class: that of one that returns nothing. With no `return` at all a declaration returns nothing, and an expression may also never return.
+-- The return type that a body shows by its class: that of one that returns nothing. With no `return` at all a declaration returns nothing, and an
+-- expression may also never return.
 abbrev pub class_seen : FunctionKind → Bool → SourceRange → ReturnStatementAnalysis → Seen
 class_seen kind is_async place class.Void = void_seen is_async
 class_seen DeclarationLike is_async place class.None = void_seen is_async
@@ -44,15 +48,12 @@ return_type_seen kind place t =
     else class_seen kind (Function-is_async t) place (return_class (Function-body t))))
     else written (Function-return_type t)
 
--- the body that stands behind a return type, where there was one
-abbrev pub body_behind : Seen → Tree → Tree
-body_behind type body = if is_absent body then Absent else function_body (tree_in type)
+-- a function, but for its return type and its parameters
+abbrev pub function_head : Tree → FunctionHead
+function_head t = record { span = Function-span t; ctxt = Function-ctxt t; lacks_body = is_absent (Function-body t); type_params = Function-type_params t }
 
--- a function: its range, its return type, its parameters, its scope number, its body and its type parameters
 abbrev pub signature_seen : Tree → Seen → List Seen → Seen
-signature_seen t type params =
-    form Function (seens (range (Function-span t) ∷ type ∷ form List' (seens params) ∷ scope (Function-ctxt t) ∷
-    written (body_behind type (Function-body t)) ∷ written (Function-type_params t) ∷ []))
+signature_seen t type params = function (function_head t) type (seens params)
 
 -- the parameters of an implementation behind overloads: what they are is not seen, but how many they are and which is a rest
 abbrev pub any_params_from : ℕ → List Tree → List Seen
@@ -65,23 +66,23 @@ implementation_seen t = signature_seen t (written any_type_ann) (any_params_from
 
 -- a parameter without its decorators
 abbrev pub param_seen : Tree → Seen → Seen
-param_seen p pat = form Param (seens (range (Param-span p) ∷ form List' end ∷ pat ∷ []))
+param_seen p pat = round Param (seens (range (Param-span p) ∷ written (list []) ∷ pat ∷ []))
 
 abbrev pub params_seen : List Tree → List Seen → List Seen
 params_seen (p ∷ ps) (pat ∷ pats) = param_seen p pat ∷ params_seen ps pats
 params_seen _ _ = []
 
+-- an arrow, but for its return type, its parameters and its body
+abbrev pub arrow_head : Tree → ArrowHead
+arrow_head t = record { span = ArrowExpr-span t; ctxt = ArrowExpr-ctxt t; is_generator = ArrowExpr-is_generator t; type_params = ArrowExpr-type_params t }
+
 -- an arrow whose return type is known
-abbrev pub typed_arrow_seen : Tree → SourceRange → List Seen → Seen → Seen
-typed_arrow_seen t place pats type =
-    form ArrowExpr (seens (range (ArrowExpr-span t) ∷ range place ∷ type ∷ written (arrow_body (tree_in type)) ∷ flag false ∷
-    flag (ArrowExpr-is_generator t) ∷ form List' (seens pats) ∷ scope (ArrowExpr-ctxt t) ∷ written (ArrowExpr-type_params t) ∷ []))
+abbrev pub typed_arrow_seen : Tree → List Seen → Seen → Seen
+typed_arrow_seen t pats type = typed_arrow (arrow_head t) type (seens pats)
 
 -- an arrow whose value gives the return type, if it may stay
 abbrev pub valued_arrow_seen : Tree → SourceRange → List Seen → Seen → Seen
-valued_arrow_seen t place pats value =
-    form ArrowExpr (seens (range (ArrowExpr-span t) ∷ range place ∷ written Absent ∷ value ∷ flag (ArrowExpr-is_async t) ∷
-    flag (ArrowExpr-is_generator t) ∷ form List' (seens pats) ∷ scope (ArrowExpr-ctxt t) ∷ written (ArrowExpr-type_params t) ∷ []))
+valued_arrow_seen t place pats value = valued_arrow (arrow_head t) (ArrowExpr-is_async t) place value (seens pats)
 
 -- the place that is given, or else one's own
 abbrev pub or_own : Option SourceRange → SourceRange → SourceRange
@@ -95,27 +96,21 @@ module _ (unresolved : SyntaxContext) (look : Look) where
       let params = parts (Function-params t) in
       signature_seen t (return_type_seen kind place t) (params_seen params (pats_seen unresolved look (map (λ p. Param-pat p) params)))
 
-  -- a function expression
-  abbrev pub fn_expr_seen : Option SourceRange → Tree → Seen
-  fn_expr_seen place t =
-      let function = FnExpr-function t in
-      form FnExpr (seens (written (FnExpr-ident t) ∷ function_seen ExpressionLike (or_own place (Function-span function)) function ∷ []))
-
   -- an arrow without a written return type, by the type that its value shows
   abbrev pub by_value : Tree → SourceRange → List Seen → Option Tree → Seen
-  by_value t place pats (Some type) = typed_arrow_seen t place pats (written (type_ann (promised unresolved (ArrowExpr-is_async t) type)))
+  by_value t place pats (Some type) = typed_arrow_seen t pats (written (type_ann (promised unresolved (ArrowExpr-is_async t) type)))
   by_value t place pats None = valued_arrow_seen t place pats (look (ArrowExpr-body t) None)
 
   abbrev pub untyped_arrow_seen : Tree → SourceRange → List Seen → Seen
   untyped_arrow_seen t place pats =
       let body = ArrowExpr-body t in
-      if kind_of body is BlockStmt then typed_arrow_seen t place pats (class_seen ExpressionLike (ArrowExpr-is_async t) place (return_class body))
+      if kind_of body is BlockStmt then typed_arrow_seen t pats (class_seen ExpressionLike (ArrowExpr-is_async t) place (return_class body))
       else by_value t place pats (inferred_type Mutable unresolved body)
 
   abbrev pub arrow_by_type : Tree → SourceRange → List Seen → Seen
   arrow_by_type t place pats =
       if is_absent (ArrowExpr-return_type t) then untyped_arrow_seen t place pats
-      else typed_arrow_seen t place pats (written (ArrowExpr-return_type t))
+      else typed_arrow_seen t pats (written (ArrowExpr-return_type t))
 
   -- an arrow
   abbrev pub arrow_seen : Option SourceRange → Tree → Seen

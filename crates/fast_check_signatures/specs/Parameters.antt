@@ -1,12 +1,15 @@
 -- What is seen of parameters: their types and whether they may be left out; a default only where nothing else gives a type.
 use Rattle.std.specs.Prelude.{Bool, true, false, Option, Some, None, List, [], ◌∷◌, if◌then◌else◌}
 use Rattle.std.specs.List.{list_all}
-use Rattle.fast_check_syntax.specs.declared.kind.Kind.TheVariants.{BindingIdent, ArrayPat, ObjectPat, AssignPat, RestPat, PatExpr}
+use Rattle.fast_check_syntax.specs.declared.kind.Kind.{Kind}
+use Rattle.fast_check_syntax.specs.declared.kind.Kind.TheVariants as kinds
 use Rattle.fast_check_syntax.specs.declared.source.SourceRange.{SourceRange}
 use Rattle.fast_check_syntax.specs.declared.source.SyntaxContext.{SyntaxContext}
 use Rattle.fast_check_syntax.specs.declared.tree.Tree.{Tree}
-use Rattle.fast_check_syntax.specs.Shape.{◌is◌, kind_of, is_absent, list}
-use Rattle.fast_check_expression_forms.specs.Patterns.{ArrayPat-span, ArrayPat-optional, ArrayPat-type_ann, array_pat, ObjectPat-span, ObjectPat-optional, ObjectPat-type_ann, object_pat, RestPat-span, RestPat-dot3_token, RestPat-arg, RestPat-type_ann, rest_pat, AssignPat-span, AssignPat-left, AssignPat-right, assign_pat}
+use Rattle.fast_check_syntax.specs.Shape.{kind_of, is_absent, list}
+use Rattle.fast_check_expression_forms.specs.Patterns.{ArrayPat-span, ArrayPat-optional, ArrayPat-type_ann, array_pat, ObjectPat-span, ObjectPat-optional}
+use Rattle.fast_check_expression_forms.specs.Patterns.{ObjectPat-type_ann, object_pat, RestPat-span, RestPat-dot3_token, RestPat-arg, RestPat-type_ann}
+use Rattle.fast_check_expression_forms.specs.Patterns.{rest_pat, AssignPat-span, AssignPat-left, AssignPat-right, assign_pat}
 use Rattle.fast_check_ranges.specs.Ranges.{range_of_node}
 use Rattle.fast_check_program_forms.specs.Names.{Ident-span, Ident-ctxt, Ident-sym, ident, BindingIdent-id, BindingIdent-type_ann, binding_ident}
 use Rattle.fast_check_tree.specs.declared.helpers.literal_type.DeclMutabilityKind.TheVariants.{Mutable}
@@ -14,7 +17,7 @@ use Rattle.fast_check_tree.specs.Builders.{type_ann, never_value}
 use Rattle.fast_check_tree.specs.InferredType.{inferred_type}
 use Rattle.fast_check_tree.specs.OptionalParams.{is_optional_param}
 use Rattle.fast_check_signatures.specs.declared.fault.FaultKind.TheVariants.{MissingExplicitType, UnsupportedDestructuring}
-use Rattle.fast_check_signatures.specs.Seen.{Seen, written, range, form, faulty, seens}
+use Rattle.fast_check_signatures.specs.Seen.{Seen, written, default, faulty}
 use Rattle.fast_check_signatures.specs.NewNodes.{never_array, empty_object_pat, or_undefined}
 
 -- What is seen of an expression. A fault of a function stands at the place that is given, that of the parent that names it, or else at the function.
@@ -33,18 +36,20 @@ abbrev pub typed : Tree → SourceRange → Tree → Seen
 typed type place pat = if is_absent type then faulty MissingExplicitType place else written pat
 
 -- what a rest is gathered in: patterns are emptied, and `{}` stands for what can't be there
+abbrev pub arg_by_kind : Kind → Tree → Tree
+arg_by_kind kinds.ArrayPat arg = emptied_array arg
+arg_by_kind kinds.ObjectPat arg = emptied_object arg
+arg_by_kind kinds.RestPat arg = empty_object_pat
+arg_by_kind kinds.AssignPat arg = empty_object_pat
+arg_by_kind kinds.PatExpr arg = empty_object_pat
+arg_by_kind _ arg = arg
+
 abbrev pub rest_arg : Tree → Tree
-rest_arg arg =
-    let kind = kind_of arg in
-    if kind is ArrayPat then emptied_array arg
-    else (if kind is ObjectPat then emptied_object arg
-    else (if kind is RestPat then empty_object_pat
-    else (if kind is AssignPat then empty_object_pat
-    else (if kind is PatExpr then empty_object_pat
-    else arg))))
+rest_arg arg = arg_by_kind (kind_of arg) arg
 
 abbrev pub rest_seen : Tree → Seen
-rest_seen pat = typed (RestPat-type_ann pat) (RestPat-span pat) (rest_pat (RestPat-span pat) (RestPat-dot3_token pat) (rest_arg (RestPat-arg pat)) (RestPat-type_ann pat))
+rest_seen pat = typed (RestPat-type_ann pat) (RestPat-span pat) (rest_pat (RestPat-span pat) (RestPat-dot3_token pat) (rest_arg (RestPat-arg pat))
+    (RestPat-type_ann pat))
 
 -- an identifier with this mark
 abbrev pub with_optional : Bool → Tree → Tree
@@ -57,7 +62,7 @@ without_default false id type = binding_ident (with_optional false id) (or_undef
 
 -- a default that gives the type where it may stay; else the type is missing at this place
 abbrev pub default_seen : SourceRange → SourceRange → Tree → Seen → Seen
-default_seen span place left value = form AssignPat (seens (range span ∷ range place ∷ written left ∷ value ∷ []))
+default_seen span place left value = default (record { span = span; left = left; place = place }) value
 
 module _ (unresolved : SyntaxContext) (look : Look) where
   -- an identifier with a default, whose type is written, or shown by the default, or else left to it
@@ -79,24 +84,29 @@ module _ (unresolved : SyntaxContext) (look : Look) where
       if is_absent type then default_seen (AssignPat-span pat) place emptied (look (AssignPat-right pat) None)
       else written (assign_pat (AssignPat-span pat) emptied never)
 
+  -- one with a default, by the kind of what stands left of it
+  abbrev pub assign_by_left : Kind → Bool → Tree → Seen
+  assign_by_left kinds.BindingIdent is_optional pat = ident_default_seen is_optional pat
+  assign_by_left kinds.ArrayPat is_optional pat =
+      let left = AssignPat-left pat in pattern_default_seen (ArrayPat-type_ann left) (ArrayPat-span left) (emptied_array left) never_array pat
+  assign_by_left kinds.ObjectPat is_optional pat =
+      let left = AssignPat-left pat in pattern_default_seen (ObjectPat-type_ann left) (ObjectPat-span left) (emptied_object left) never_value pat
+  assign_by_left _ is_optional pat = faulty UnsupportedDestructuring (AssignPat-span pat)
+
   abbrev pub assign_seen : Bool → Tree → Seen
-  assign_seen is_optional pat =
-      let left = AssignPat-left pat in
-      if kind_of left is BindingIdent then ident_default_seen is_optional pat
-      else (if kind_of left is ArrayPat then pattern_default_seen (ArrayPat-type_ann left) (ArrayPat-span left) (emptied_array left) never_array pat
-      else (if kind_of left is ObjectPat then pattern_default_seen (ObjectPat-type_ann left) (ObjectPat-span left) (emptied_object left) never_value pat
-      else faulty UnsupportedDestructuring (AssignPat-span pat)))
+  assign_seen is_optional pat = assign_by_left (kind_of (AssignPat-left pat)) is_optional pat
 
   -- a parameter, and whether all from it on may be left out
+  abbrev pub pat_by_kind : Kind → Bool → Tree → Seen
+  pat_by_kind kinds.BindingIdent is_optional pat = typed (BindingIdent-type_ann pat) (Ident-span (BindingIdent-id pat)) pat
+  pat_by_kind kinds.AssignPat is_optional pat = assign_seen is_optional pat
+  pat_by_kind kinds.RestPat is_optional pat = rest_seen pat
+  pat_by_kind kinds.ArrayPat is_optional pat = typed (ArrayPat-type_ann pat) (ArrayPat-span pat) (emptied_array pat)
+  pat_by_kind kinds.ObjectPat is_optional pat = typed (ObjectPat-type_ann pat) (ObjectPat-span pat) (emptied_object pat)
+  pat_by_kind _ is_optional pat = faulty UnsupportedDestructuring (range_of_node pat)
+
   abbrev pub pat_seen : Bool → Tree → Seen
-  pat_seen is_optional pat =
-      let kind = kind_of pat in
-      if kind is BindingIdent then typed (BindingIdent-type_ann pat) (Ident-span (BindingIdent-id pat)) pat
-      else (if kind is AssignPat then assign_seen is_optional pat
-      else (if kind is RestPat then rest_seen pat
-      else (if kind is ArrayPat then typed (ArrayPat-type_ann pat) (ArrayPat-span pat) (emptied_array pat)
-      else (if kind is ObjectPat then typed (ObjectPat-type_ann pat) (ObjectPat-span pat) (emptied_object pat)
-      else faulty UnsupportedDestructuring (range_of_node pat)))))
+  pat_seen is_optional pat = pat_by_kind (kind_of pat) is_optional pat
 
   -- parameters, in order
   abbrev pub pats_seen : List Tree → List Seen

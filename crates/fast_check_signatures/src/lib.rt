@@ -4,6 +4,8 @@
 
 mod fault;
 mod function_kind;
+mod rules;
 
 pub use fault::{Fault, FaultKind};
 pub use function_kind::FunctionKind;
+pub use rules::{ASSERTION, COMPOUND_KINDS, FN_EXPR, FREEZE, PLAIN_KINDS, SATISFIES, Slot};

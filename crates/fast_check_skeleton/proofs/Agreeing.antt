@@ -1,84 +1,79 @@
 -- Modules that agree but for what is hidden are seen alike, so that their skeletons and faults are the same.
-use Rattle.std.specs.Prelude.{◌≡◌, Bool, true, false, not, ◌&&◌, ◌||◌, Option, Some, None, is_some, option_map, List, [], ◌∷◌, ◌++◌, map, flat_map, refl, if◌then◌else◌}
-use Rattle.std.specs.List.{list_all, list_any}
+use Rattle.std.specs.Prelude.{◌≡◌, Bool, true, false, not, ◌||◌, Option, Some, None, unwrap_or, option_map, List, [], ◌∷◌, ◌++◌, map, flat_map, refl}
+use Rattle.std.specs.Prelude.{if◌then◌else◌}
+use Rattle.std.specs.List.{list_all}
 use Rattle.std.proofs.Common.{ap, ap₂, ◌∙◌, sym, subst, subst₂, true≢false}
 use Rattle.fast_check_syntax.specs.declared.kind.Kind.{Kind}
-use Rattle.fast_check_syntax.specs.declared.kind.Kind.TheVariants.{Leaf, CallExpr, TsSatisfiesExpr, TsAsExpr, TsTypeAssertion, FnExpr, ArrowExpr, Module, BindingIdent, VarDeclarator, VarDecl, ExportDecl, FnDecl, TsInterfaceDecl, TsTypeAliasDecl, TsEnumDecl, ExprStmt, AssignExpr, List as List'}
+use Rattle.fast_check_syntax.specs.declared.kind.Kind.TheVariants.{Leaf, CallExpr, TsSatisfiesExpr, TsAsExpr, TsTypeAssertion, FnExpr, ArrowExpr}
+use Rattle.fast_check_syntax.specs.declared.kind.Kind.TheVariants.{Module, BindingIdent, VarDeclarator, VarDecl, ExportDecl, FnDecl, List as List'}
 use Rattle.fast_check_syntax.specs.declared.kind.Word.TheVariants.{Const as ConstWord}
 use Rattle.fast_check_syntax.specs.declared.source.SourceRange.{SourceRange}
 use Rattle.fast_check_syntax.specs.declared.source.SyntaxContext.{SyntaxContext}
 use Rattle.fast_check_syntax.specs.declared.tree.Tree as tree
 use Rattle.fast_check_syntax.specs.declared.tree.Tree.{Tree}
-use Rattle.fast_check_syntax.specs.Shape.{◌is◌, is_kind, not_absent, kind_of, parts, is_absent, has_word, range_of, part, list}
-use Rattle.fast_check_syntax.specs.Moves.{Moves, Renaming, IsRenaming, IsPair, partners, twice, moved}
+use Rattle.fast_check_syntax.specs.Shape.{◌is◌, is_kind, not_absent, kind_of, parts, is_absent, has_word, list}
+use Rattle.fast_check_syntax.specs.Moves.{Renaming, IsRenaming, IsPair, partners, twice, moved}
 use Rattle.fast_check_syntax.specs.Same.{SameTree, SameRange, Each}
-use Rattle.fast_check_syntax.proofs.Moved.{has_word_moved, node_moved, part_moved, range_of_moved}
+use Rattle.fast_check_syntax.proofs.Moved.{has_word_moved, node_moved}
 use Rattle.fast_check_syntax.proofs.Made.{part_node}
 use Rattle.fast_check_syntax.proofs.Partners.{partners-keep as partners_keep, twice-keeps as twice_keeps}
 use Rattle.fast_check_syntax.proofs.Same.{tree_to, tree_from, range_to, range_from}
 use Rattle.fast_check_ranges.specs.Ranges.{range_of_node}
-use Rattle.fast_check_program_forms.specs.Names.{Ident-span}
+use Rattle.fast_check_program_forms.specs.Names.{Ident-span, binding_ident}
 use Rattle.fast_check_program_forms.specs.Programs.{Module-span, Module-shebang}
 use Rattle.fast_check_program_forms.specs.ModuleDecls.{ExportDecl-span, ExportDecl-decl}
-use Rattle.fast_check_statement_forms.specs.Declarations.{FnDecl-ident, FnDecl-declare, FnDecl-function, VarDecl-span, VarDecl-ctxt, VarDecl-kind, VarDecl-declare, VarDecl-decls, VarDeclarator-span, VarDeclarator-name, VarDeclarator-init}
+use Rattle.fast_check_statement_forms.specs.Declarations.{FnDecl-ident, FnDecl-declare, FnDecl-function}
+use Rattle.fast_check_statement_forms.specs.Declarations.{VarDecl-span, VarDecl-ctxt, VarDecl-kind, VarDecl-declare, VarDecl-decls}
+use Rattle.fast_check_statement_forms.specs.Declarations.{VarDeclarator-span, VarDeclarator-name, VarDeclarator-init, VarDeclarator-definite}
 use Rattle.fast_check_tree.specs.declared.helpers.literal_type.DeclMutabilityKind.{DeclMutabilityKind}
 use Rattle.fast_check_tree.specs.declared.helpers.literal_type.DeclMutabilityKind.TheVariants.{Const, Mutable}
-use Rattle.fast_check_statement_forms.specs.Statements.{ExprStmt-expr}
 use Rattle.fast_check_signatures.specs.declared.fault.Fault.{Fault}
 use Rattle.fast_check_signatures.specs.declared.fault.FaultKind.TheVariants.{UnsupportedDestructuring}
 use Rattle.fast_check_signatures.specs.declared.function_kind.FunctionKind.TheVariants.{DeclarationLike}
 use Rattle.fast_check_skeleton.specs.Surroundings.{Surroundings}
+use Rattle.fast_check_tree.specs.Builders.{type_ann, never_value}
 use Rattle.fast_check_tree.specs.InferredType.{inferred_type}
+use Rattle.fast_check_tree.proofs.BuildersMoved.{type_ann_moved, never_value_moved}
 use Rattle.fast_check_skeleton.specs.Mutability.{mutability_of}
-use Rattle.fast_check_signatures.specs.Seen.{Seen, written, range, flag, form, inferred, faulty, refused, hidden, end, also, seens, moved_seen}
-use Rattle.fast_check_skeleton.specs.Visible.{declared_ident, declared_type, standing, by_inferred, kept_value_seen, ident_declarator_seen, declarator_seen, is_ambient, is_public_declarator, declarator_in, public_declarator, public_declarators, statement_seen, is_standing, own_range, standing_seen, signature_of, function_decl_seen, public_function, decl_seen, exported_seen, item_seen, items_of, visible}
+use Rattle.fast_check_signatures.specs.Seen.{Seen, written, range, scope, flag, round, listed, declarator, faulty, refused, seens}
+use Rattle.fast_check_skeleton.specs.Visible.{declared_ident, declared_type, declarator_head, typed_declarator, value_seen, untyped_seen, ident_declarator_seen}
+use Rattle.fast_check_skeleton.specs.Visible.{declarator_seen, is_ambient, is_public_declarator, declarator_in, public_declarator, public_declarators}
+use Rattle.fast_check_skeleton.specs.Visible.{statement_seen, signature_of, function_decl_seen, public_function, decl_seen, exported_seen}
+use Rattle.fast_check_skeleton.specs.Visible.{seen_by_rule, item_seen, items_of, visible}
 use Rattle.fast_check_signatures.specs.Answers.{answer_of}
 use Rattle.fast_check_signatures.specs.Expressions.{is_plain, is_compound, is_among, other_kinds, freezes, is_frozen, is_refused, expr_seen}
 use Rattle.fast_check_signatures.specs.Functions.{function_seen, implementation_seen}
-use Rattle.fast_check_same_values.specs.SameValues.{Both, Neither, SameExpr, SameFunction, SameImplementation}
+use Rattle.fast_check_same_values.specs.SameValues.{Both, SameExpr}
 use Rattle.fast_check_same_values.specs.SameValues as v
-use Rattle.fast_check_same_values.proofs.AlikeTrees.{scope_to, absent_alike}
-use Rattle.fast_check_same_values.proofs.AlikeSeen.{Alike, AllAlike, same_written, range_alike, scope_alike, alike_if, all_alike_if, form_alike, append_alike}
-use Rattle.fast_check_signatures.proofs.Apart.{apart}
-use Rattle.fast_check_same_values.proofs.AlikeExpressions.{both_true}
+use Rattle.fast_check_same_values.proofs.AlikeTrees.{TreeAlike, scope_to, image_alike, new_alike, absent_alike, range_leaf_alike, flag_leaf_alike, node_alike}
+use Rattle.fast_check_same_values.proofs.AlikeTrees.{range_field_alike}
+use Rattle.fast_check_same_values.proofs.AlikeSeen.{Alike, AllAlike, written_alike, same_written, range_alike, scope_alike, flag_alike}
+use Rattle.fast_check_same_values.proofs.AlikeSeen.{alike_if, all_alike_if, listed_alike, round_alike, append_alike}
+use Rattle.fast_check_signatures.proofs.Choices.{both_true}
+use Rattle.fast_check_signatures.proofs.MovedParts.{moved_declarator}
 use Rattle.fast_check_same_values.proofs.Alike.{expr_alike, function_alike}
 use Rattle.fast_check_same_values.proofs.AlikeFunctions.{implementation_alike}
 use Rattle.fast_check_skeleton.specs.Skeleton.{transformed, skeleton_of, faults_of}
-use Rattle.fast_check_skeleton.specs.Hidden.{statement_kinds, is_plain_statement, IsSilentDecl, IsSilent, SameHead, SameDeclarator, SameAmbient, SameDeclarators, SameStatement, SameFunctionDecl, SameDecl, SameItem, SameItems, AgreeHidden}
+use Rattle.fast_check_skeleton.specs.Hidden.{IsSilentDecl, IsSilent, SameHead, SameDeclarator, SameAmbient, SameDeclarators, SameStatement}
+use Rattle.fast_check_skeleton.specs.Hidden.{SameFunctionDecl, SameDecl, SameItem, SameItems, AgreeHidden}
+use Rattle.fast_check_skeleton.specs.Kinds.{is_standing}
+use Rattle.fast_check_skeleton.specs.Rules.{decl_rule, rule_of_kind, is_taken_decl}
+use Rattle.fast_check_skeleton.specs.declared.rules.DeclRule.{DeclRule}
+use Rattle.fast_check_skeleton.specs.declared.rules.DeclRule.TheVariants.{Variables, Function, Standing}
+use Rattle.fast_check_skeleton.proofs.Ruled.{standing_rule, declared_rule, silent_rule}
 use Rattle.fast_check_skeleton.specs.Hidden as h
 use Rattle.fast_check_skeleton.specs.Worlds.{SameFault, SameSkeleton}
 use Rattle.fast_check_tree.proofs.InferredMoved.{inferred_type_moved}
-use Rattle.fast_check_signatures.proofs.AnswersMoved.{moved_fault, moved_answer, answer_of_moved}
+use Rattle.fast_check_signatures.proofs.AnswersMoved.{moved_fault, moved_items, answer_of_moved}
 
 -- ---- what is silent is not seen
-
-pub stands_apart : (k j : Kind) → is_standing k ≡ true → is_standing j ≡ false → k is j ≡ false
-stands_apart = apart is_standing
-
--- whether a statement of this kind may be plain
-abbrev may_be_plain : Kind → Bool
-may_be_plain k = list_any (λ kind. k is kind) statement_kinds || (k is ExprStmt)
-
-plain_kind : (t : Tree) → is_plain_statement t ≡ true → may_be_plain (kind_of t) ≡ true
-plain_kind t = go (list_any (λ kind. kind_of t is kind) statement_kinds) (kind_of t is ExprStmt) (not (kind_of (ExprStmt-expr t) is AssignExpr))
-  where
-    go : (a b c : Bool) → (a || (b && c)) ≡ true → (a || b) ≡ true
-    go true b c e = refl
-    go false true c e = refl
-    go false false c e = e
-
-plain_apart : (t : Tree) (j : Kind) → is_plain_statement t ≡ true → may_be_plain j ≡ false → kind_of t is j ≡ false
-plain_apart t j e n = apart may_be_plain (kind_of t) j (plain_kind t e) n
-
-plain_no_standing : (t : Tree) → is_plain_statement t ≡ true → is_standing (kind_of t) ≡ false
-plain_no_standing t e =
-    λ i. plain_apart t TsInterfaceDecl e refl i || (plain_apart t TsTypeAliasDecl e refl i || plain_apart t TsEnumDecl e refl i)
 
 module _ (around : Surroundings) where
   not_public : (statement d : Tree) → is_public_declarator around d ≡ false → public_declarator around statement d ≡ []
   not_public statement d e = rw e refl
 
-  no_declarators : (statement : Tree) (ds : List Tree) → list_all (λ d. not (is_public_declarator around d)) ds ≡ true → flat_map (public_declarator around statement) ds ≡ []
+  no_declarators : (statement : Tree) (ds : List Tree) → list_all (λ d. not (is_public_declarator around d)) ds ≡ true →
+      flat_map (public_declarator around statement) ds ≡ []
   no_declarators statement [] e = refl
   no_declarators statement (d ∷ ds) e =
       let b = both_true (not (is_public_declarator around d)) (list_all (λ d. not (is_public_declarator around d)) ds) e in
@@ -88,44 +83,33 @@ module _ (around : Surroundings) where
       go false e = refl
       go true e = cc
 
-  abbrev decl_if : SourceRange → Tree → Bool → Bool → Bool → List Seen
-  decl_if p t is_variable is_function stands =
-      if is_variable then statement_seen t (public_declarators around t) else (if is_function then public_function around p t else (if stands then standing_seen around p t else []))
+  abbrev pub rule_of : Tree → DeclRule
+  rule_of t = decl_rule (kind_of t)
 
-  decl_of : (p : SourceRange) (t : Tree) → kind_of t ≡ VarDecl → decl_seen around p t ≡ statement_seen t (public_declarators around t)
-  decl_of p t e = ap (λ k. decl_if p t (k is VarDecl) (k is FnDecl) (is_standing k)) e
+  -- a declaration that goes without a word is taken
+  pub silent_taken : (p : SourceRange) (t : Tree) → IsSilentDecl around p t → is_taken_decl (rule_of t) ≡ true
+  silent_taken p t (h.IsSilentDecl.variable k e) = ap (λ j. is_taken_decl (decl_rule j)) k
+  silent_taken p t (h.IsSilentDecl.standing s e) = ap is_taken_decl (standing_rule (kind_of t) s)
+  silent_taken p t (h.IsSilentDecl.function k e) = ap (λ j. is_taken_decl (decl_rule j)) k
 
-  function_of : (p : SourceRange) (t : Tree) → kind_of t ≡ FnDecl → decl_seen around p t ≡ public_function around p t
-  function_of p t e = ap (λ k. decl_if p t (k is VarDecl) (k is FnDecl) (is_standing k)) e
+  silent_decl : (p : SourceRange) (t : Tree) → IsSilentDecl around p t → decl_seen around p t (rule_of t) ≡ []
+  silent_decl p t (h.IsSilentDecl.variable k e) =
+      ap (λ j. decl_seen around p t (decl_rule j)) k ∙ ap (statement_seen t) (no_declarators t (parts (VarDecl-decls t)) e)
+  silent_decl p t (h.IsSilentDecl.standing s e) =
+      ap (decl_seen around p t) (standing_rule (kind_of t) s) ∙ ap (λ b. if b then written t ∷ [] else []) e
+  silent_decl p t (h.IsSilentDecl.function k e) =
+      ap (λ j. decl_seen around p t (decl_rule j)) k ∙ ap (λ b. if b then function_decl_seen around p t ∷ [] else []) e
 
-  no_decl : (p : SourceRange) (t : Tree) → kind_of t is VarDecl ≡ false → kind_of t is FnDecl ≡ false → is_standing (kind_of t) ≡ false → decl_seen around p t ≡ []
-  no_decl p t e f g = λ i. decl_if p t (e i) (f i) (g i)
+  item_of : (t : Tree) → is_taken_decl (rule_of t) ≡ true → item_seen around t ≡ decl_seen around (range_of_node t) t (rule_of t)
+  item_of t e = ap (seen_by_rule around t) (declared_rule (kind_of t) t e)
 
-  standing_of : (p : SourceRange) (t : Tree) → is_standing (kind_of t) ≡ true → decl_seen around p t ≡ standing_seen around p t
-  standing_of p t e = λ i. decl_if p t (stands_apart (kind_of t) VarDecl e refl i) (stands_apart (kind_of t) FnDecl e refl i) (e i)
-
-  abbrev item_if : Tree → Bool → List Seen
-  item_if t is_export = if is_export then exported_seen t (decl_seen around (ExportDecl-span t) (ExportDecl-decl t)) else decl_seen around (own_range t) t
-
-  export_of : (t : Tree) → kind_of t ≡ ExportDecl → item_seen around t ≡ exported_seen t (decl_seen around (ExportDecl-span t) (ExportDecl-decl t))
-  export_of t e = ap (λ k. item_if t (k is ExportDecl)) e
-
-  item_of : (t : Tree) → kind_of t is ExportDecl ≡ false → item_seen around t ≡ decl_seen around (own_range t) t
-  item_of t e = ap (item_if t) e
-
-  silent_decl : (p : SourceRange) (t : Tree) → IsSilentDecl around p t → decl_seen around p t ≡ []
-  silent_decl p t (h.IsSilentDecl.variable k e) = decl_of p t k ∙ ap (statement_seen t) (no_declarators t (parts (VarDecl-decls t)) e)
-  silent_decl p t (h.IsSilentDecl.standing s e) = standing_of p t s ∙ ap (λ b. if b then written t ∷ [] else []) e
-  silent_decl p t (h.IsSilentDecl.function k e) = function_of p t k ∙ ap (λ b. if b then function_decl_seen around p t ∷ [] else []) e
-
-  no_export : (p : SourceRange) (t : Tree) → IsSilentDecl around p t → kind_of t is ExportDecl ≡ false
-  no_export p t (h.IsSilentDecl.variable k e) = ap (λ j. j is ExportDecl) k
-  no_export p t (h.IsSilentDecl.standing s e) = stands_apart (kind_of t) ExportDecl s refl
-  no_export p t (h.IsSilentDecl.function k e) = ap (λ j. j is ExportDecl) k
+  export_of : (t : Tree) → kind_of t ≡ ExportDecl →
+      item_seen around t ≡ exported_seen t (decl_seen around (ExportDecl-span t) (ExportDecl-decl t) (rule_of (ExportDecl-decl t)))
+  export_of t e = ap (λ k. seen_by_rule around t (rule_of_kind k t)) e
 
   pub silent_item : (t : Tree) → IsSilent around t → item_seen around t ≡ []
-  silent_item t (h.IsSilent.decl s) = item_of t (no_export (own_range t) t s) ∙ silent_decl (own_range t) t s
-  silent_item t (h.IsSilent.statement s) = item_of t (plain_apart t ExportDecl s refl) ∙ no_decl (own_range t) t (plain_apart t VarDecl s refl) (plain_apart t FnDecl s refl) (plain_no_standing t s)
+  silent_item t (h.IsSilent.decl s) = item_of t (silent_taken (range_of_node t) t s) ∙ silent_decl (range_of_node t) t s
+  silent_item t (h.IsSilent.statement s) = ap (seen_by_rule around t) (silent_rule t s)
   silent_item t (h.IsSilent.exported k s) = export_of t k ∙ ap (exported_seen t) (silent_decl (ExportDecl-span t) (ExportDecl-decl t) s)
 
 -- ---- what is an expression is there
@@ -152,53 +136,57 @@ module _ (r : Renaming) (ok : IsRenaming r) where
   absent_same : (t u : Tree) → SameTree r t u → is_absent t ≡ is_absent u
   absent_same t u s = absent_alike r ok t u (tree_to r ok s)
 
-  standing_alike : {t u : Tree} → SameTree r t u → Alike r ok (standing t) (standing u)
-  standing_alike {t} {u} s = alike_if r ok (is_absent t) (is_absent u) hidden (written t) hidden (written u) (absent_same t u s) (λ e. refl) (λ e. same_written r ok s)
-
-  -- ---- values
-
-  by_inferred_moved : (m : Moves) (o : Option Tree) → by_inferred (option_map (moved m) o) ≡ moved_seen m (by_inferred o)
-  by_inferred_moved m (Some t) = refl
-  by_inferred_moved m None = refl
-
-  same_value : (mutability : DeclMutabilityKind) (c d : SyntaxContext) (v w : Tree) → IsPair r.scopes c.0 d.0 → SameTree r v w →
-      Alike r ok (by_inferred (inferred_type mutability c v)) (by_inferred (inferred_type mutability d w))
-  same_value mutability c d v w p s =
-      sym (ap by_inferred (inferred_type_moved (partners r) (partners_keep r ok) mutability c v) ∙ by_inferred_moved (partners r) (inferred_type mutability c v)) ∙
-      (ap₂ (λ u t. by_inferred (inferred_type mutability u t)) (scope_to r ok c d p) (tree_to r ok s) ∙
-      (ap by_inferred (inferred_type_moved twice twice_keeps mutability d w) ∙ by_inferred_moved twice (inferred_type mutability d w)))
-
   module _ (a b : Surroundings) where
     -- ---- declarators
 
     abbrev shown_of : Surroundings → DeclMutabilityKind → Tree → Option Tree
     shown_of around mutability d = inferred_type mutability around.unresolved (VarDeclarator-init d)
 
-    abbrev value_of : Surroundings → DeclMutabilityKind → Tree → Seen
-    value_of around mutability d = by_inferred (shown_of around mutability d)
-
-    abbrev kept_of : Surroundings → DeclMutabilityKind → Tree → Seen
-    kept_of around mutability d = kept_value_seen around (Ident-span (declared_ident d)) (shown_of around mutability d) (VarDeclarator-init d)
-
-    of_ident : (around : Surroundings) (mutability : DeclMutabilityKind) (d : Tree) → kind_of (VarDeclarator-name d) ≡ BindingIdent → declarator_seen around mutability d ≡ ident_declarator_seen around mutability d
-    of_ident around mutability d e = ap (λ k. if k is BindingIdent then ident_declarator_seen around mutability d else faulty UnsupportedDestructuring (range_of_node (VarDeclarator-name d))) e
+    of_ident : (around : Surroundings) (mutability : DeclMutabilityKind) (d : Tree) → kind_of (VarDeclarator-name d) ≡ BindingIdent →
+        declarator_seen around mutability d ≡ ident_declarator_seen around mutability d
+    of_ident around mutability d e =
+        ap (λ k. if k is BindingIdent then ident_declarator_seen around mutability d else faulty UnsupportedDestructuring
+        (range_of_node (VarDeclarator-name d))) e
 
     of_pattern : (around : Surroundings) (mutability : DeclMutabilityKind) (d : Tree) → kind_of (VarDeclarator-name d) is BindingIdent ≡ false →
         declarator_seen around mutability d ≡ faulty UnsupportedDestructuring (range_of_node (VarDeclarator-name d))
-    of_pattern around mutability d e = ap (λ b. if b then ident_declarator_seen around mutability d else faulty UnsupportedDestructuring (range_of_node (VarDeclarator-name d))) e
+    of_pattern around mutability d e =
+        ap (λ b. if b then ident_declarator_seen around mutability d else faulty UnsupportedDestructuring (range_of_node (VarDeclarator-name d))) e
 
+    head_alike : (t u : Tree) → SameHead r a b t u → moved_declarator (partners r) (declarator_head t) ≡ moved_declarator twice (declarator_head u)
+    head_alike t u d = λ i. record {
+      span = range_to r ok (VarDeclarator-span t) (VarDeclarator-span u) d.span i;
+      ident = tree_to r ok d.ident i;
+      definite = d.definite i;
+    }
+
+    typed_alike : (t u x y : Tree) → SameHead r a b t u → TreeAlike r ok x y →
+        Alike r ok (written (typed_declarator (declarator_head t) x)) (written (typed_declarator (declarator_head u) y))
+    typed_alike t u x y d e =
+        let parts_of : Tree → Tree → List Tree =
+        λ v type. tree.Range (VarDeclarator-span v) ∷ binding_ident (declared_ident v) type ∷ never_value ∷ tree.Flag (VarDeclarator-definite v) ∷ [] in
+        written_alike r ok _ _ (node_alike r ok VarDeclarator (parts_of t x) (parts_of u y)
+        (λ i. range_leaf_alike r ok (VarDeclarator-span t) (VarDeclarator-span u) (range_to r ok (VarDeclarator-span t) (VarDeclarator-span u) d.span) i ∷
+        node_alike r ok BindingIdent (declared_ident t ∷ x ∷ []) (declared_ident u ∷ y ∷ []) (λ j. tree_to r ok d.ident j ∷ e j ∷ []) i ∷
+        new_alike r ok never_value never_value_moved i ∷ flag_leaf_alike r ok (VarDeclarator-definite t) (VarDeclarator-definite u) d.definite i ∷ []))
+
+    abbrev UntypedAlike : Tree → Tree → Option Tree → Option Tree → Type 0
+    UntypedAlike t u o o' = Alike r ok (untyped_seen a t o) (untyped_seen b u o')
+
+    -- where no type is written, as the values are seen
     declared : (mutability : DeclMutabilityKind) (t u : Tree) → SameHead r a b t u →
-        (is_absent (declared_type t) ≡ true → Alike r ok (value_of a mutability t) (value_of b mutability u)) →
-        (is_absent (declared_type t) ≡ true → Alike r ok (kept_of a mutability t) (kept_of b mutability u)) →
+        (is_absent (declared_type t) ≡ true → UntypedAlike t u (shown_of a mutability t) (shown_of b mutability u)) →
         Alike r ok (declarator_seen a mutability t) (declarator_seen b mutability u)
-    declared mutability t u d v k =
-        let e = absent_same (declared_type t) (declared_type u) d.type in
-        let w = alike_if r ok (is_absent (declared_type t)) (is_absent (declared_type u)) (value_of a mutability t) hidden (value_of b mutability u) hidden e v (λ e. refl) in
-        let x = alike_if r ok (is_absent (declared_type t)) (is_absent (declared_type u)) (kept_of a mutability t) hidden (kept_of b mutability u) hidden e k (λ e. refl) in
-        let same : Alike r ok (ident_declarator_seen a mutability t) (ident_declarator_seen b mutability u) =
-        λ i. form VarDeclarator (also (range_alike r ok (VarDeclarator-span t) (VarDeclarator-span u) d.span i) (also (same_written r ok d.ident i) (also (flag (d.definite i))
-        (also (standing_alike d.type i) (also (w i) (also (x i) end)))))) in
-        subst₂ (Alike r ok) (sym (of_ident a mutability t d.names.left)) (sym (of_ident b mutability u d.names.right)) same
+    declared mutability t u d v =
+        subst₂ (Alike r ok) (sym (of_ident a mutability t d.names.left)) (sym (of_ident b mutability u d.names.right))
+        (alike_if r ok (is_absent (declared_type t)) (is_absent (declared_type u))
+        (untyped_seen a t (shown_of a mutability t)) (written (typed_declarator (declarator_head t) (declared_type t)))
+        (untyped_seen b u (shown_of b mutability u)) (written (typed_declarator (declarator_head u) (declared_type u)))
+        (absent_same (declared_type t) (declared_type u) d.type) v (λ e. typed_alike t u (declared_type t) (declared_type u) d (tree_to r ok d.type)))
+
+    shown_alike : (t u x y : Tree) → SameHead r a b t u → TreeAlike r ok x y → UntypedAlike t u (Some x) (Some y)
+    shown_alike t u x y d e =
+        typed_alike t u (type_ann x) (type_ann y) d (image_alike r ok type_ann (λ m keeps t. sym (type_ann_moved m keeps t)) x y e)
 
     -- neither is absent, or both are
     expr_absent : {t u : Tree} → SameExpr r a.unresolved b.unresolved t u → is_absent t ≡ is_absent u
@@ -212,57 +200,56 @@ module _ (r : Renaming) (ok : IsRenaming r) where
     expr_absent (v.SameExpr.function {t = t} {u = u} d x y) = both_there FnExpr t u d (λ l. cc)
     expr_absent (v.SameExpr.arrow {t = t} {u = u} d x y z) = both_there ArrowExpr t u d (λ l. cc)
 
-    -- values that show no type on either side, or a type on both
-    kept_alike : IsPair r.scopes a.unresolved.0 b.unresolved.0 → (p q : SourceRange) (o o' : Option Tree) (v w : Tree) → is_some o ≡ is_some o' → SameRange r p q → SameExpr r a.unresolved b.unresolved v w →
-        Alike r ok (kept_value_seen a p o v) (kept_value_seen b q o' w)
-    kept_alike c p q (Some x) (Some y) v w e s f = refl
-    kept_alike c p q (Some x) None v w e s f = cc
-    kept_alike c p q None (Some y) v w e s f = cc
-    kept_alike c p q None None v w e s f =
-        alike_if r ok (is_absent v) (is_absent w) refused (expr_seen a.unresolved v (Some p)) refused (expr_seen b.unresolved w (Some q)) (expr_absent f) (λ e. refl)
-        (λ e. expr_alike r ok a.unresolved b.unresolved c f (Some p) (Some q) (ap Some (range_to r ok p q s)))
+    ident_place : (t u : Tree) → SameTree r t u → SameRange r (Ident-span t) (Ident-span u)
+    ident_place t u s = range_from r ok (Ident-span t) (Ident-span u) (range_field_alike r ok Ident-span _ (λ t. refl) t u (tree_to r ok s))
 
-    both_shown : (m n : Moves) (o o' : Option Tree) → option_map (moved m) o ≡ option_map (moved n) o' → is_some o ≡ is_some o'
-    both_shown m n (Some x) (Some y) e = refl
-    both_shown m n None None e = refl
-    both_shown m n (Some x) None e = cc
-    both_shown m n None (Some y) e = cc
+    -- values that show no type
+    kept_alike : IsPair r.scopes a.unresolved.0 b.unresolved.0 → (t u : Tree) → SameHead r a b t u →
+        SameExpr r a.unresolved b.unresolved (VarDeclarator-init t) (VarDeclarator-init u) → UntypedAlike t u None None
+    kept_alike c t u d f =
+        let place = Ident-span (declared_ident t) in
+        let place' = Ident-span (declared_ident u) in
+        let value = VarDeclarator-init t in
+        let value' = VarDeclarator-init u in
+        let same : Alike r ok (value_seen a place value) (value_seen b place' value') =
+        alike_if r ok (is_absent value) (is_absent value') refused (expr_seen a.unresolved value (Some place)) refused
+        (expr_seen b.unresolved value' (Some place'))
+        (expr_absent f) (λ e. refl)
+        (λ e. expr_alike r ok a.unresolved b.unresolved c f (Some place) (Some place')
+        (ap Some (range_to r ok place place' (ident_place (declared_ident t) (declared_ident u) d.ident)))) in
+        λ i. declarator (head_alike t u d i) (same i)
+
+    -- equal values
+    same_alike : IsPair r.scopes a.unresolved.0 b.unresolved.0 → (t u : Tree) → SameHead r a b t u → SameTree r (VarDeclarator-init t) (VarDeclarator-init u) →
+        (o o' : Option Tree) → option_map (moved (partners r)) o ≡ option_map (moved twice) o' → UntypedAlike t u o o'
+    same_alike c t u d s (Some x) (Some y) e = shown_alike t u x y d (ap (λ o. unwrap_or o (moved twice y)) e)
+    same_alike c t u d s None None e = kept_alike c t u d (v.SameExpr.same s)
+    same_alike c t u d s (Some x) None e = cc
+    same_alike c t u d s None (Some y) e = cc
 
     same_shown : (mutability : DeclMutabilityKind) (v w : Tree) → IsPair r.scopes a.unresolved.0 b.unresolved.0 → SameTree r v w →
-        is_some (inferred_type mutability a.unresolved v) ≡ is_some (inferred_type mutability b.unresolved w)
+        option_map (moved (partners r)) (inferred_type mutability a.unresolved v) ≡ option_map (moved twice) (inferred_type mutability b.unresolved w)
     same_shown mutability v w c s =
-        both_shown (partners r) twice (inferred_type mutability a.unresolved v) (inferred_type mutability b.unresolved w)
-        (sym (inferred_type_moved (partners r) (partners_keep r ok) mutability a.unresolved v) ∙ (ap₂ (inferred_type mutability) (scope_to r ok a.unresolved b.unresolved c) (tree_to r ok s) ∙
-        inferred_type_moved twice twice_keeps mutability b.unresolved w))
-
-    ident_place : (t u : Tree) → SameTree r t u → SameRange r (Ident-span t) (Ident-span u)
-    ident_place t u s = range_from r ok (Ident-span t) (Ident-span u)
-        (sym (ap range_of (part_moved (partners r) 0 t) ∙ range_of_moved (partners r) (partners_keep r ok) (part 0 t)) ∙
-        (ap Ident-span (tree_to r ok s) ∙ (ap range_of (part_moved twice 0 u) ∙ range_of_moved twice twice_keeps (part 0 u))))
+        sym (inferred_type_moved (partners r) (partners_keep r ok) mutability a.unresolved v)
+        ∙ (ap₂ (inferred_type mutability) (scope_to r ok a.unresolved b.unresolved c) (tree_to r ok s) ∙
+        inferred_type_moved twice twice_keeps mutability b.unresolved w)
 
     declarator_alike : IsPair r.scopes a.unresolved.0 b.unresolved.0 → (mutability : DeclMutabilityKind) {t u : Tree} → SameDeclarator r a b mutability t u →
         (is_public_declarator a t ≡ is_public_declarator b u) × Alike r ok (declarator_seen a mutability t) (declarator_seen b mutability u)
-    declarator_alike c mutability (h.SameDeclarator.typed {t = t} {u = u} d w) = (d.is_public, declared mutability t u d (λ e. cc) (λ e. cc))
-    declarator_alike c mutability (h.SameDeclarator.inferred {t = t} {u = u} x y d f g s) = (
-      d.is_public,
-      declared mutability t u d (λ e. subst₂ (λ i j. Alike r ok (by_inferred i) (by_inferred j)) (sym f) (sym g) (ap inferred (tree_to r ok s)))
-          (λ e. subst₂ (λ i j. Alike r ok (kept_value_seen a (Ident-span (declared_ident t)) i (VarDeclarator-init t)) (kept_value_seen b (Ident-span (declared_ident u)) j (VarDeclarator-init u))) (sym f) (sym g) refl),
-    )
+    declarator_alike c mutability (h.SameDeclarator.typed {t = t} {u = u} d w) = (d.is_public, declared mutability t u d (λ e. cc))
+    declarator_alike c mutability (h.SameDeclarator.inferred {t = t} {u = u} x y d f g s) =
+        (d.is_public, declared mutability t u d (λ e. subst₂ (UntypedAlike t u) (sym f) (sym g) (shown_alike t u x y d (tree_to r ok s))))
     declarator_alike c mutability (h.SameDeclarator.same {t = t} {u = u} d s) = (
       d.is_public,
-      declared mutability t u d (λ e. same_value mutability a.unresolved b.unresolved (VarDeclarator-init t) (VarDeclarator-init u) c s)
-          (λ e. kept_alike c (Ident-span (declared_ident t)) (Ident-span (declared_ident u)) (shown_of a mutability t) (shown_of b mutability u) (VarDeclarator-init t) (VarDeclarator-init u)
-          (same_shown mutability (VarDeclarator-init t) (VarDeclarator-init u) c s) (ident_place (declared_ident t) (declared_ident u) d.ident) (v.SameExpr.same s)),
+      declared mutability t u d (λ e. same_alike c t u d s (shown_of a mutability t) (shown_of b mutability u)
+          (same_shown mutability (VarDeclarator-init t) (VarDeclarator-init u) c s)),
     )
-    declarator_alike c mutability (h.SameDeclarator.kept {t = t} {u = u} d f g s) = (
-      d.is_public,
-      declared mutability t u d (λ e. subst₂ (λ i j. Alike r ok (by_inferred i) (by_inferred j)) (sym f) (sym g) refl)
-          (λ e. kept_alike c (Ident-span (declared_ident t)) (Ident-span (declared_ident u)) (shown_of a mutability t) (shown_of b mutability u) (VarDeclarator-init t) (VarDeclarator-init u)
-          (ap is_some f ∙ sym (ap is_some g)) (ident_place (declared_ident t) (declared_ident u) d.ident) s),
-    )
+    declarator_alike c mutability (h.SameDeclarator.kept {t = t} {u = u} d f g s) =
+        (d.is_public, declared mutability t u d (λ e. subst₂ (UntypedAlike t u) (sym f) (sym g) (kept_alike c t u d s)))
     declarator_alike c mutability (h.SameDeclarator.destructured {t = t} {u = u} e n s) = (
       e,
-      subst₂ (Alike r ok) (sym (of_pattern a mutability t n.left)) (sym (of_pattern b mutability u n.right)) (ap (faulty UnsupportedDestructuring) (range_to r ok _ _ s)),
+      subst₂ (Alike r ok) (sym (of_pattern a mutability t n.left)) (sym (of_pattern b mutability u n.right))
+          (ap (faulty UnsupportedDestructuring) (range_to r ok _ _ s)),
     )
 
     declarators_alike : (Same : Tree → Tree → Type 0) (s s' : Tree) →
@@ -270,9 +257,11 @@ module _ (r : Renaming) (ok : IsRenaming r) where
         (ts us : List Tree) → SameDeclarators r a b Same ts us → AllAlike r ok (flat_map (public_declarator a s) ts) (flat_map (public_declarator b s') us)
     declarators_alike Same s s' f [] [] h.SameDeclarators.end = refl
     declarators_alike Same s s' f (t ∷ ts) us (h.SameDeclarators.left q rest) =
-        subst (λ xs. AllAlike r ok (xs ++ flat_map (public_declarator a s) ts) (flat_map (public_declarator b s') us)) (sym (not_public a s t q)) (declarators_alike Same s s' f ts us rest)
+        subst (λ xs. AllAlike r ok (xs ++ flat_map (public_declarator a s) ts) (flat_map (public_declarator b s') us)) (sym (not_public a s t q))
+        (declarators_alike Same s s' f ts us rest)
     declarators_alike Same s s' f ts (u ∷ us) (h.SameDeclarators.right q rest) =
-        subst (λ xs. AllAlike r ok (flat_map (public_declarator a s) ts) (xs ++ flat_map (public_declarator b s') us)) (sym (not_public b s' u q)) (declarators_alike Same s s' f ts us rest)
+        subst (λ xs. AllAlike r ok (flat_map (public_declarator a s) ts) (xs ++ flat_map (public_declarator b s') us)) (sym (not_public b s' u q))
+        (declarators_alike Same s s' f ts us rest)
     declarators_alike Same s s' f (t ∷ ts) (u ∷ us) (h.SameDeclarators.next x rest) =
         append_alike r ok (public_declarator a s t) (flat_map (public_declarator a s) ts) (public_declarator b s' u) (flat_map (public_declarator b s') us)
         (all_alike_if r ok (is_public_declarator a t) (is_public_declarator b u) (declarator_in a s t) (declarator_in b s' u) (f t u x).0 (f t u x).1)
@@ -280,11 +269,15 @@ module _ (r : Renaming) (ok : IsRenaming r) where
 
     -- ---- statements
 
-    statement_alike : (t u : Tree) (xs ys : List Seen) → SameStatement r a b t u → AllAlike r ok xs ys → AllAlike r ok (statement_seen t xs) (statement_seen u ys)
+    statement_alike : (t u : Tree) (xs ys : List Seen) → SameStatement r a b t u → AllAlike r ok xs ys →
+        AllAlike r ok (statement_seen t xs) (statement_seen u ys)
     statement_alike t u [] [] d p = refl
     statement_alike t u (x ∷ xs) (y ∷ ys) d p =
-        λ i. form VarDecl (also (range_alike r ok (VarDecl-span t) (VarDecl-span u) d.span i) (also (scope_alike r ok (VarDecl-ctxt t) (VarDecl-ctxt u) d.ctxt i)
-        (also (same_written r ok d.kind i) (also (flag (d.declare i)) (also (form_alike r ok List' (x ∷ xs) (y ∷ ys) p i) end))))) ∷ []
+        ap (λ s. s ∷ []) (round_alike r ok VarDecl
+        (range (VarDecl-span t) ∷ scope (VarDecl-ctxt t) ∷ written (VarDecl-kind t) ∷ flag (VarDecl-declare t) ∷ listed (seens (x ∷ xs)) ∷ [])
+        (range (VarDecl-span u) ∷ scope (VarDecl-ctxt u) ∷ written (VarDecl-kind u) ∷ flag (VarDecl-declare u) ∷ listed (seens (y ∷ ys)) ∷ [])
+        (λ i. range_alike r ok (VarDecl-span t) (VarDecl-span u) d.span i ∷ scope_alike r ok (VarDecl-ctxt t) (VarDecl-ctxt u) d.ctxt i ∷
+        same_written r ok d.kind i ∷ flag_alike r ok (VarDecl-declare t) (VarDecl-declare u) d.declare i ∷ listed_alike r ok (x ∷ xs) (y ∷ ys) p i ∷ []))
     statement_alike t u [] (y ∷ ys) d p = cc
     statement_alike t u (x ∷ xs) [] d p = cc
 
@@ -307,102 +300,125 @@ module _ (r : Renaming) (ok : IsRenaming r) where
     signature_if around t is_implementation seen = if is_implementation then implementation_seen (FnDecl-function t) else seen
 
     abbrev function_form : Surroundings → SourceRange → Tree → Seen
-    function_form around p t = form FnDecl (seens (written (FnDecl-ident t) ∷ flag (FnDecl-declare t) ∷ signature_of around p t ∷ []))
+    function_form around p t = round FnDecl (seens (written (FnDecl-ident t) ∷ flag (FnDecl-declare t) ∷ signature_of around p t ∷ []))
 
-    declared_function : (p q : SourceRange) (t u : Tree) → a.is_declaration_file ≡ b.is_declaration_file → SameFunctionDecl r a b p q t u → Alike r ok (signature_of a p t) (signature_of b q u) →
+    declared_function : (p q : SourceRange) (t u : Tree) → a.is_declaration_file ≡ b.is_declaration_file → SameFunctionDecl r a b p q t u →
+        Alike r ok (signature_of a p t) (signature_of b q u) →
         Alike r ok (function_decl_seen a p t) (function_decl_seen b q u)
     declared_function p q t u m d s =
-        let same : Alike r ok (function_form a p t) (function_form b q u) = λ i. form FnDecl (also (same_written r ok d.ident i) (also (flag (d.declare i)) (also (s i) end))) in
-        subst₂ (λ x y. Alike r ok (if x then written t else function_form a p t) (if y then written u else function_form b q u)) (sym d.is_declaration_file) (sym d.is_declaration_file ∙ m) same
+        let same : Alike r ok (function_form a p t) (function_form b q u) =
+        round_alike r ok FnDecl (written (FnDecl-ident t) ∷ flag (FnDecl-declare t) ∷ signature_of a p t ∷ [])
+        (written (FnDecl-ident u) ∷ flag (FnDecl-declare u) ∷ signature_of b q u ∷ [])
+        (λ i. same_written r ok d.ident i ∷ flag_alike r ok (FnDecl-declare t) (FnDecl-declare u) d.declare i ∷ s i ∷ []) in
+        subst₂ (λ x y. Alike r ok (if x then written t else function_form a p t) (if y then written u else function_form b q u)) (sym d.is_declaration_file)
+        (sym d.is_declaration_file ∙ m) same
 
-    public_alike : (p q : SourceRange) (t u : Tree) → Both FnDecl t u → a.is_public p ≡ b.is_public q → Alike r ok (function_decl_seen a p t) (function_decl_seen b q u) → AllAlike r ok (decl_seen a p t) (decl_seen b q u)
-    public_alike p q t u k e s =
-        subst₂ (AllAlike r ok) (sym (function_of a p t k.left)) (sym (function_of b q u k.right)) (all_alike_if r ok (a.is_public p) (b.is_public q) (function_decl_seen a p t) (function_decl_seen b q u) e s)
+    public_alike : (p q : SourceRange) (t u : Tree) → a.is_public p ≡ b.is_public q → Alike r ok (function_decl_seen a p t) (function_decl_seen b q u) →
+        AllAlike r ok (public_function a p t) (public_function b q u)
+    public_alike p q t u e s = all_alike_if r ok (a.is_public p) (b.is_public q) (function_decl_seen a p t) (function_decl_seen b q u) e s
 
-    -- the kinds are not that of an export, and what is seen is alike
-    abbrev DeclsAlike : SourceRange → SourceRange → Tree → Tree → Type 0
-    DeclsAlike p q t u = (kind_of t is ExportDecl ≡ false) × (kind_of u is ExportDecl ≡ false) × AllAlike r ok (decl_seen a p t) (decl_seen b q u)
+    -- both are taken, and what is seen is alike
+    record DeclsAlike (p q : SourceRange) (t u : Tree) : Type 0 where
+      left : is_taken_decl (decl_rule (kind_of t)) ≡ true
+      right : is_taken_decl (decl_rule (kind_of u)) ≡ true
+      alike : AllAlike r ok (decl_seen a p t (decl_rule (kind_of t))) (decl_seen b q u (decl_rule (kind_of u)))
 
-    decl_alike : IsPair r.scopes a.unresolved.0 b.unresolved.0 → a.is_declaration_file ≡ b.is_declaration_file → (p q : SourceRange) (t u : Tree) → SameDecl r a b p q t u → DeclsAlike p q t u
-    decl_alike c m p q t u (h.SameDecl.variable d n rest) = (
-      ap (λ k. k is ExportDecl) d.kinds.left,
-      ap (λ k. k is ExportDecl) d.kinds.right,
-      subst₂ (AllAlike r ok) (sym (decl_of a p t d.kinds.left)) (sym (decl_of b q u d.kinds.right))
-          (statement_alike t u (public_declarators a t) (public_declarators b u) d
-          (declarators_alike (SameDeclarator r a b (mutability_of (VarDecl-kind t))) t u go (parts (VarDecl-decls t)) (parts (VarDecl-decls u)) rest)),
-    )
+    by_rule : (p q : SourceRange) (t u : Tree) (rule : DeclRule) → decl_rule (kind_of t) ≡ rule → decl_rule (kind_of u) ≡ rule →
+        is_taken_decl rule ≡ true → AllAlike r ok (decl_seen a p t rule) (decl_seen b q u rule) → DeclsAlike p q t u
+    by_rule p q t u rule e f taken s = record {
+      left = ap is_taken_decl e ∙ taken;
+      right = ap is_taken_decl f ∙ taken;
+      alike = subst₂ (λ x y. AllAlike r ok (decl_seen a p t x) (decl_seen b q u y)) (sym e) (sym f) s;
+    }
+
+    of_functions : (p q : SourceRange) (t u : Tree) → Both FnDecl t u → AllAlike r ok (public_function a p t) (public_function b q u) → DeclsAlike p q t u
+    of_functions p q t u k s = by_rule p q t u Function (ap decl_rule k.left) (ap decl_rule k.right) refl s
+
+    of_variables : (p q : SourceRange) (t u : Tree) (Same : Tree → Tree → Type 0) → SameStatement r a b t u →
+        ((x y : Tree) → Same x y → (is_public_declarator a x ≡ is_public_declarator b y) × Alike r ok (declarator_in a t x) (declarator_in b u y)) →
+        SameDeclarators r a b Same (parts (VarDecl-decls t)) (parts (VarDecl-decls u)) → DeclsAlike p q t u
+    of_variables p q t u Same d go rest =
+        by_rule p q t u Variables (ap decl_rule d.kinds.left) (ap decl_rule d.kinds.right) refl
+        (statement_alike t u (public_declarators a t) (public_declarators b u) d
+        (declarators_alike Same t u go (parts (VarDecl-decls t)) (parts (VarDecl-decls u)) rest))
+
+    abbrev declared_as : Tree → DeclMutabilityKind
+    declared_as statement = mutability_of (VarDecl-kind statement)
+
+    decl_alike : IsPair r.scopes a.unresolved.0 b.unresolved.0 → a.is_declaration_file ≡ b.is_declaration_file →
+        (p q : SourceRange) (t u : Tree) → SameDecl r a b p q t u → DeclsAlike p q t u
+    decl_alike c m p q t u (h.SameDecl.variable d n rest) = of_variables p q t u (SameDeclarator r a b (declared_as t)) d go rest
       where
-        go : (x y : Tree) → SameDeclarator r a b (mutability_of (VarDecl-kind t)) x y → (is_public_declarator a x ≡ is_public_declarator b y) × Alike r ok (declarator_in a t x) (declarator_in b u y)
+        go : (x y : Tree) → SameDeclarator r a b (declared_as t) x y →
+            (is_public_declarator a x ≡ is_public_declarator b y) × Alike r ok (declarator_in a t x) (declarator_in b u y)
         go x y s =
-            let e = declarator_alike c (mutability_of (VarDecl-kind t)) s in (
+            let e = declarator_alike c (declared_as t) s in (
               e.0,
-              alike_if r ok (is_ambient a t) (is_ambient b u) (written x) (declarator_seen a (mutability_of (VarDecl-kind t)) x) (written y) (declarator_seen b (mutability_of (VarDecl-kind u)) y)
-                  (ambient_alike t u m d.declare) (λ e. cc) (λ f. subst (λ k. Alike r ok (declarator_seen a (mutability_of (VarDecl-kind t)) x) (declarator_seen b k y)) (mutability_alike (VarDecl-kind t) (VarDecl-kind u) d.kind) e.1),
+              alike_if r ok (is_ambient a t) (is_ambient b u)
+                  (written x) (declarator_seen a (declared_as t) x) (written y) (declarator_seen b (declared_as u) y)
+                  (ambient_alike t u m d.declare) (λ e. cc)
+                  (λ f. subst (λ k. Alike r ok (declarator_seen a (declared_as t) x) (declarator_seen b k y))
+                  (mutability_alike (VarDecl-kind t) (VarDecl-kind u) d.kind) e.1),
             )
-    decl_alike c m p q t u (h.SameDecl.ambient d n rest) = (
-      ap (λ k. k is ExportDecl) d.kinds.left,
-      ap (λ k. k is ExportDecl) d.kinds.right,
-      subst₂ (AllAlike r ok) (sym (decl_of a p t d.kinds.left)) (sym (decl_of b q u d.kinds.right))
-          (statement_alike t u (public_declarators a t) (public_declarators b u) d
-          (declarators_alike (SameAmbient r a b) t u go (parts (VarDecl-decls t)) (parts (VarDecl-decls u)) rest)),
-    )
+    decl_alike c m p q t u (h.SameDecl.ambient d n rest) = of_variables p q t u (SameAmbient r a b) d go rest
       where
-        go : (x y : Tree) → SameAmbient r a b x y → (is_public_declarator a x ≡ is_public_declarator b y) × Alike r ok (declarator_in a t x) (declarator_in b u y)
+        go : (x y : Tree) → SameAmbient r a b x y →
+            (is_public_declarator a x ≡ is_public_declarator b y) × Alike r ok (declarator_in a t x) (declarator_in b u y)
         go x y s = (
           s.is_public,
-          alike_if r ok (is_ambient a t) (is_ambient b u) (written x) (declarator_seen a (mutability_of (VarDecl-kind t)) x) (written y) (declarator_seen b (mutability_of (VarDecl-kind u)) y)
+          alike_if r ok (is_ambient a t) (is_ambient b u)
+              (written x) (declarator_seen a (declared_as t) x) (written y) (declarator_seen b (declared_as u) y)
               (ambient_alike t u m d.declare) (λ e. same_written r ok s.tree) (λ e. cc),
         )
     decl_alike c m p q t u (h.SameDecl.standing k d s e f) =
-        let st = ap is_standing d.left ∙ s in
-        let su = ap is_standing d.right ∙ s in (
-          stands_apart (kind_of t) ExportDecl st refl,
-          stands_apart (kind_of u) ExportDecl su refl,
-          subst₂ (AllAlike r ok) (sym (standing_of a p t st)) (sym (standing_of b q u su)) (all_alike_if r ok (a.is_public p) (b.is_public q) (written t) (written u) e (same_written r ok f)),
-        )
-    decl_alike c m p q t u (h.SameDecl.function d e f g) = (
-      ap (λ k. k is ExportDecl) d.kinds.left,
-      ap (λ k. k is ExportDecl) d.kinds.right,
-      public_alike p q t u d.kinds d.is_public (declared_function p q t u m d
-          (subst₂ (λ x y. Alike r ok (signature_if a t x (here a t)) (signature_if b u y (here b u))) (sym e) (sym f)
-          (function_alike r ok a.unresolved b.unresolved c g DeclarationLike (Ident-span (FnDecl-ident t)) (Ident-span (FnDecl-ident u))
-          (range_to r ok (Ident-span (FnDecl-ident t)) (Ident-span (FnDecl-ident u)) (ident_place (FnDecl-ident t) (FnDecl-ident u) d.ident))))),
-    )
-    decl_alike c m p q t u (h.SameDecl.implementation d e f g) = (
-      ap (λ k. k is ExportDecl) d.kinds.left,
-      ap (λ k. k is ExportDecl) d.kinds.right,
-      public_alike p q t u d.kinds d.is_public (declared_function p q t u m d
-          (subst₂ (λ x y. Alike r ok (signature_if a t x (here a t)) (signature_if b u y (here b u))) (sym e) (sym f) (implementation_alike r ok a.unresolved b.unresolved (FnDecl-function t) (FnDecl-function u) g))),
-    )
-    decl_alike c m p q t u (h.SameDecl.ambient_function k e f s) = (
-      ap (λ j. j is ExportDecl) k.left,
-      ap (λ j. j is ExportDecl) k.right,
-      public_alike p q t u k e (subst₂ (λ x y. Alike r ok (if x then written t else function_form a p t) (if y then written u else function_form b q u)) (sym f) (sym f ∙ m) (same_written r ok s)),
-    )
+        by_rule p q t u Standing (standing_rule (kind_of t) (ap is_standing d.left ∙ s)) (standing_rule (kind_of u) (ap is_standing d.right ∙ s)) refl
+        (all_alike_if r ok (a.is_public p) (b.is_public q) (written t) (written u) e (same_written r ok f))
+    decl_alike c m p q t u (h.SameDecl.function d e f g) =
+        of_functions p q t u d.kinds (public_alike p q t u d.is_public (declared_function p q t u m d
+        (subst₂ (λ x y. Alike r ok (signature_if a t x (here a t)) (signature_if b u y (here b u))) (sym e) (sym f)
+        (function_alike r ok a.unresolved b.unresolved c g DeclarationLike (Ident-span (FnDecl-ident t)) (Ident-span (FnDecl-ident u))
+        (range_to r ok (Ident-span (FnDecl-ident t)) (Ident-span (FnDecl-ident u)) (ident_place (FnDecl-ident t) (FnDecl-ident u) d.ident))))))
+    decl_alike c m p q t u (h.SameDecl.implementation d e f g) =
+        of_functions p q t u d.kinds (public_alike p q t u d.is_public (declared_function p q t u m d
+        (subst₂ (λ x y. Alike r ok (signature_if a t x (here a t)) (signature_if b u y (here b u))) (sym e) (sym f)
+        (implementation_alike r ok a.unresolved b.unresolved (FnDecl-function t) (FnDecl-function u) g))))
+    decl_alike c m p q t u (h.SameDecl.ambient_function k e f s) =
+        of_functions p q t u k (public_alike p q t u e
+        (subst₂ (λ x y. Alike r ok (if x then written t else function_form a p t) (if y then written u else function_form b q u))
+        (sym f) (sym f ∙ m) (same_written r ok s)))
 
     -- ---- items
 
-    exported_alike : (t u : Tree) (xs ys : List Seen) → SameRange r (ExportDecl-span t) (ExportDecl-span u) → AllAlike r ok xs ys → AllAlike r ok (exported_seen t xs) (exported_seen u ys)
+    exported_alike : (t u : Tree) (xs ys : List Seen) → SameRange r (ExportDecl-span t) (ExportDecl-span u) → AllAlike r ok xs ys →
+        AllAlike r ok (exported_seen t xs) (exported_seen u ys)
     exported_alike t u [] [] s p = refl
     exported_alike t u (x ∷ xs) (y ∷ ys) s p =
-        ap (λ f. f ∷ []) (form_alike r ok ExportDecl (range (ExportDecl-span t) ∷ x ∷ xs) (range (ExportDecl-span u) ∷ y ∷ ys) (λ i. range_alike r ok (ExportDecl-span t) (ExportDecl-span u) s i ∷ p i))
+        ap (λ f. f ∷ []) (round_alike r ok ExportDecl (range (ExportDecl-span t) ∷ x ∷ xs) (range (ExportDecl-span u) ∷ y ∷ ys)
+        (λ i. range_alike r ok (ExportDecl-span t) (ExportDecl-span u) s i ∷ p i))
     exported_alike t u [] (y ∷ ys) s p = cc
     exported_alike t u (x ∷ xs) [] s p = cc
 
-    pub item_alike : IsPair r.scopes a.unresolved.0 b.unresolved.0 → a.is_declaration_file ≡ b.is_declaration_file → (t u : Tree) → SameItem r a b t u → AllAlike r ok (item_seen a t) (item_seen b u)
+    pub item_alike : IsPair r.scopes a.unresolved.0 b.unresolved.0 → a.is_declaration_file ≡ b.is_declaration_file → (t u : Tree) → SameItem r a b t u →
+        AllAlike r ok (item_seen a t) (item_seen b u)
     item_alike c m t u (h.SameItem.decl d) =
-        let e = decl_alike c m (own_range t) (own_range u) t u d in subst₂ (AllAlike r ok) (sym (item_of a t e.0)) (sym (item_of b u e.1)) e.2
+        let e = decl_alike c m (range_of_node t) (range_of_node u) t u d in
+        subst₂ (AllAlike r ok) (sym (item_of a t e.left)) (sym (item_of b u e.right)) e.alike
     item_alike c m t u (h.SameItem.exported k s d) =
         subst₂ (AllAlike r ok) (sym (export_of a t k.left)) (sym (export_of b u k.right))
-        (exported_alike t u (decl_seen a (ExportDecl-span t) (ExportDecl-decl t)) (decl_seen b (ExportDecl-span u) (ExportDecl-decl u)) s
-        (decl_alike c m (ExportDecl-span t) (ExportDecl-span u) (ExportDecl-decl t) (ExportDecl-decl u) d).2)
+        (exported_alike t u (decl_seen a (ExportDecl-span t) (ExportDecl-decl t) (decl_rule (kind_of (ExportDecl-decl t))))
+        (decl_seen b (ExportDecl-span u) (ExportDecl-decl u) (decl_rule (kind_of (ExportDecl-decl u)))) s
+        (decl_alike c m (ExportDecl-span t) (ExportDecl-span u) (ExportDecl-decl t) (ExportDecl-decl u) d).alike)
 
-    items_alike : IsPair r.scopes a.unresolved.0 b.unresolved.0 → a.is_declaration_file ≡ b.is_declaration_file → (ts us : List Tree) → SameItems r a b ts us → AllAlike r ok (flat_map (item_seen a) ts) (flat_map (item_seen b) us)
+    items_alike : IsPair r.scopes a.unresolved.0 b.unresolved.0 → a.is_declaration_file ≡ b.is_declaration_file → (ts us : List Tree) →
+        SameItems r a b ts us → AllAlike r ok (flat_map (item_seen a) ts) (flat_map (item_seen b) us)
     items_alike c m [] [] h.SameItems.end = refl
-    items_alike c m (t ∷ ts) us (h.SameItems.left q n rest) = subst (λ xs. AllAlike r ok (xs ++ flat_map (item_seen a) ts) (flat_map (item_seen b) us)) (sym (silent_item a t q)) (items_alike c m ts us rest)
-    items_alike c m ts (u ∷ us) (h.SameItems.right q n rest) = subst (λ xs. AllAlike r ok (flat_map (item_seen a) ts) (xs ++ flat_map (item_seen b) us)) (sym (silent_item b u q)) (items_alike c m ts us rest)
+    items_alike c m (t ∷ ts) us (h.SameItems.left q n rest) =
+        subst (λ xs. AllAlike r ok (xs ++ flat_map (item_seen a) ts) (flat_map (item_seen b) us)) (sym (silent_item a t q)) (items_alike c m ts us rest)
+    items_alike c m ts (u ∷ us) (h.SameItems.right q n rest) =
+        subst (λ xs. AllAlike r ok (flat_map (item_seen a) ts) (xs ++ flat_map (item_seen b) us)) (sym (silent_item b u q)) (items_alike c m ts us rest)
     items_alike c m (t ∷ ts) (u ∷ us) (h.SameItems.next s rest) =
-        append_alike r ok (item_seen a t) (flat_map (item_seen a) ts) (item_seen b u) (flat_map (item_seen b) us) (item_alike c m t u s) (items_alike c m ts us rest)
+        append_alike r ok (item_seen a t) (flat_map (item_seen a) ts) (item_seen b u) (flat_map (item_seen b) us)
+        (item_alike c m t u s) (items_alike c m ts us rest)
 
     visible_alike : (t u : Tree) → AgreeHidden r a b t u → AllAlike r ok (visible a t) (visible b u)
     visible_alike t u g = items_alike g.unresolved g.is_declaration_file (items_of t) (items_of u) g.items
@@ -419,16 +435,18 @@ module _ (r : Renaming) (ok : IsRenaming r) where
     faults_from (x ∷ xs) [] e = cc
 
     abbrev module_parts : Surroundings → Tree → List Tree
-    module_parts around t = tree.Range (Module-span t) ∷ list (transformed around t).trees ∷ Module-shebang t ∷ []
+    module_parts around t = tree.Range (Module-span t) ∷ list (transformed around t).stays ∷ Module-shebang t ∷ []
 
-    pub same_trees : (t u : Tree) → AgreeHidden r a b t u → SameSkeleton r (skeleton_of a t) (skeleton_of b u) × Each (SameFault r) (faults_of a t) (faults_of b u)
+    pub same_trees : (t u : Tree) → AgreeHidden r a b t u → SameSkeleton r (skeleton_of a t) (skeleton_of b u) ×
+        Each (SameFault r) (faults_of a t) (faults_of b u)
     same_trees t u g =
-        let e : moved_answer (partners r) (transformed a t) ≡ moved_answer twice (transformed b u) =
-        sym (answer_of_moved (partners r) (partners_keep r ok) (visible a t)) ∙ (ap answer_of (visible_alike t u g) ∙ answer_of_moved twice twice_keeps (visible b u)) in (
+        let e : moved_items (partners r) (transformed a t) ≡ moved_items twice (transformed b u) =
+        sym (answer_of_moved (partners r) (partners_keep r ok) (visible a t))
+        ∙ (ap answer_of (visible_alike t u g) ∙ answer_of_moved twice twice_keeps (visible b u)) in (
           record {
             body = subst₂ (SameTree r) (sym (part_node 1 Module (module_parts a t))) (sym (part_node 1 Module (module_parts b u)))
-                (tree_from r ok (list (transformed a t).trees) (list (transformed b u).trees)
-                (node_moved (partners r) List' (transformed a t).trees ∙ (ap (λ x. list x.trees) e ∙ sym (node_moved twice List' (transformed b u).trees))));
+                (tree_from r ok (list (transformed a t).stays) (list (transformed b u).stays)
+                (node_moved (partners r) List' (transformed a t).stays ∙ (ap (λ x. list x.stays) e ∙ sym (node_moved twice List' (transformed b u).stays))));
             shebang = subst₂ (SameTree r) (sym (part_node 2 Module (module_parts a t))) (sym (part_node 2 Module (module_parts b u))) g.shebang;
           },
           faults_from (transformed a t).faults (transformed b u).faults (ap (λ x. x.faults) e),

@@ -6,26 +6,22 @@ use Rattle.std.specs.List.{list_any}
 use Rattle.std.specs.Ordering.{is_eq, nat_cmp}
 use Rattle.std.proofs.Common.{ap, ap₂, ◌∙◌, sym, subst, subst₂, cond, eqb-true, eq-eqb}
 use Rattle.std.proofs.lemmas.List.Folds.{list_any-append}
-use Rattle.fast_check_syntax.specs.declared.kind.Kind.TheVariants.{FnDecl}
+use Rattle.fast_check_syntax.specs.declared.kind.Kind.TheVariants.{VarDecl, FnDecl}
 use Rattle.fast_check_syntax.specs.declared.source.SourcePos.{SourcePos}
 use Rattle.fast_check_syntax.specs.declared.source.SourceRange.{SourceRange}
 use Rattle.fast_check_syntax.specs.declared.tree.Tree.{Tree}
-use Rattle.fast_check_syntax.specs.Shape.{◌is◌, kind_of, part, range_of}
-use Rattle.fast_check_syntax.specs.Moves.{Moves, Keeps, Renaming, IsRenaming, IsPair, partners, twice, moved, moved_range}
-use Rattle.fast_check_syntax.specs.Same.{SameTree, SameRange, Each}
-use Rattle.fast_check_syntax.proofs.Moved.{part_moved, range_of_moved}
-use Rattle.fast_check_syntax.proofs.Partners.{partners-keep as partners_keep, twice-keeps as twice_keeps}
-use Rattle.fast_check_syntax.proofs.Same.{tree_to, range_from}
+use Rattle.fast_check_syntax.specs.Moves.{Renaming, IsRenaming, IsPair}
+use Rattle.fast_check_syntax.specs.Same.{SameRange, Each}
 use Rattle.fast_check_comments.specs.declared.comment.Comment.{Comment}
 use Rattle.fast_check_comments.specs.declared.comments.Comments.{Comments}
 use Rattle.fast_check_comments.specs.Kept.{kept, without_leading}
 use Rattle.fast_check_comments.specs.Places.{Places, is_place_at, without_comments}
 use Rattle.fast_check_class_forms.specs.Functions.{Function-span}
-use Rattle.fast_check_statement_forms.specs.Declarations.{FnDecl-function}
-use Rattle.fast_check_statement_forms.specs.TsDeclarations.{TsInterfaceDecl-span}
+use Rattle.fast_check_statement_forms.specs.Declarations.{FnDecl-function, VarDecl-span}
+use Rattle.fast_check_ranges.specs.Ranges.{range_of_node}
 use Rattle.fast_check_skeleton.specs.Surroundings.{Surroundings}
 use Rattle.fast_check_signatures.specs.Seen.{Seen}
-use Rattle.fast_check_skeleton.specs.Visible.{is_standing, own_range, item_seen, items_of}
+use Rattle.fast_check_skeleton.specs.Visible.{item_seen, items_of}
 use Rattle.fast_check_skeleton.specs.KeptComments.{start_of_unseen, removed_start, removed_starts, without_all_leading, kept_comments}
 use Rattle.fast_check_skeleton.specs.SameComments.{all_comments_at, SameComment, SameAtPairs, SameComments}
 use Rattle.fast_check_skeleton.specs.Hidden.{HasNoPartner, IsNoPartner, SameDecl, SameItem, SameItems, AgreeHidden}
@@ -34,7 +30,8 @@ use Rattle.fast_check_same_values.specs.SameValues.{Both}
 use Rattle.fast_check_same_values.specs.SameValues as v
 use Rattle.fast_check_skeleton.specs.Worlds.{TwoWorlds}
 use Rattle.fast_check_same_values.proofs.AlikeSeen.{AllAlike}
-use Rattle.fast_check_skeleton.proofs.Agreeing.{stands_apart, silent_item, item_alike, same_trees}
+use Rattle.fast_check_skeleton.proofs.Agreeing.{silent_item, item_alike, same_trees}
+use Rattle.fast_check_skeleton.proofs.ItemRanges.{range_of_variables, range_of_function, range_of_export, range_alike}
 
 -- ---- what is left at a position
 
@@ -72,7 +69,8 @@ abbrev is_among : ℕ → List SourcePos → Bool
 is_among p starts = list_any (λ s. s.0 == p) starts
 
 -- at the starts nothing, elsewhere what stood there
-all_without : (p : ℕ) (starts : List SourcePos) (c : Comments) → all_comments_at p (without_all_leading starts c).leading ≡ (if is_among p starts then [] else all_comments_at p c.leading)
+all_without : (p : ℕ) (starts : List SourcePos) (c : Comments) →
+    all_comments_at p (without_all_leading starts c).leading ≡ (if is_among p starts then [] else all_comments_at p c.leading)
 all_without p [] c = refl
 all_without p (s ∷ ss) c =
     all_without p ss (without_leading s c) ∙ (ap (λ cs. if is_among p ss then [] else cs) (without_at p s c.leading) ∙ go (is_among p ss) (s.0 == p))
@@ -89,17 +87,7 @@ trailing_stay (s ∷ ss) c = trailing_stay ss (without_leading s c)
 
 -- ---- where items begin
 
-own_other : (t : Tree) → kind_of t is FnDecl ≡ false → own_range t ≡ TsInterfaceDecl-span t
-own_other t e = ap (λ b. if b then Function-span (FnDecl-function t) else TsInterfaceDecl-span t) e
-
-first_moved : (m : Moves) → Keeps m → (t : Tree) → range_of (part 0 (moved m t)) ≡ moved_range m (range_of (part 0 t))
-first_moved m ok t = ap range_of (part_moved m 0 t) ∙ range_of_moved m ok (part 0 t)
-
 module _ (r : Renaming) (ok : IsRenaming r) where
-  first_alike : (t u : Tree) → SameTree r t u → SameRange r (TsInterfaceDecl-span t) (TsInterfaceDecl-span u)
-  first_alike t u s = range_from r ok (range_of (part 0 t)) (range_of (part 0 u))
-      (sym (first_moved (partners r) (partners_keep r ok) t) ∙ (ap (λ x. range_of (part 0 x)) (tree_to r ok s) ∙ first_moved twice twice_keeps u))
-
   one_start : (p q x y : ℕ) → IsPair r.starts p q → IsPair r.starts x y → (x == p) ≡ (y == q)
   one_start p q x y h k =
       let same = ok.starts.same x p y q k h in
@@ -119,59 +107,51 @@ module _ (r : Renaming) (ok : IsRenaming r) where
       go false e = refl
       go true e = absurd (n p (subst (λ z. IsPair r.starts p z) (sym (eqb-true y q e)) h))
 
-  own_function : (t : Tree) → kind_of t ≡ FnDecl → own_range t ≡ Function-span (FnDecl-function t)
-  own_function t e = ap (λ k. if k is FnDecl then Function-span (FnDecl-function t) else TsInterfaceDecl-span t) e
+  of_variables : (t u : Tree) → Both VarDecl t u → SameRange r (VarDecl-span t) (VarDecl-span u) → SameRange r (range_of_node t) (range_of_node u)
+  of_variables t u k s = subst₂ (SameRange r) (sym (range_of_variables t k.left)) (sym (range_of_variables u k.right)) s
 
-  function_begins : (t u : Tree) → Both FnDecl t u → SameRange r (Function-span (FnDecl-function t)) (Function-span (FnDecl-function u)) → SameRange r (own_range t) (own_range u)
-  function_begins t u k s = subst₂ (SameRange r) (sym (own_function t k.left)) (sym (own_function u k.right)) s
-
-  inner_moved : (m : Moves) → Keeps m → (t : Tree) → Function-span (FnDecl-function (moved m t)) ≡ moved_range m (Function-span (FnDecl-function t))
-  inner_moved m keeps t = ap (λ x. range_of (part 0 x)) (part_moved m 2 t) ∙ first_moved m keeps (part 2 t)
-
-  inner_alike : (t u : Tree) → SameTree r t u → SameRange r (Function-span (FnDecl-function t)) (Function-span (FnDecl-function u))
-  inner_alike t u s = range_from r ok (Function-span (FnDecl-function t)) (Function-span (FnDecl-function u))
-      (sym (inner_moved (partners r) (partners_keep r ok) t) ∙ (ap (λ x. Function-span (FnDecl-function x)) (tree_to r ok s) ∙ inner_moved twice twice_keeps u))
+  of_functions : (t u : Tree) → Both FnDecl t u → SameRange r (Function-span (FnDecl-function t)) (Function-span (FnDecl-function u)) →
+      SameRange r (range_of_node t) (range_of_node u)
+  of_functions t u k s = subst₂ (SameRange r) (sym (range_of_function t k.left)) (sym (range_of_function u k.right)) s
 
   module _ (a b : Surroundings) where
-    decl_begins : (p q : SourceRange) (t u : Tree) → SameDecl r a b p q t u → SameRange r (own_range t) (own_range u)
-    decl_begins p q t u (h.SameDecl.variable d n rest) =
-        subst₂ (SameRange r) (sym (own_other t (ap (λ k. k is FnDecl) d.kinds.left))) (sym (own_other u (ap (λ k. k is FnDecl) d.kinds.right))) d.span
-    decl_begins p q t u (h.SameDecl.ambient d n rest) =
-        subst₂ (SameRange r) (sym (own_other t (ap (λ k. k is FnDecl) d.kinds.left))) (sym (own_other u (ap (λ k. k is FnDecl) d.kinds.right))) d.span
-    decl_begins p q t u (h.SameDecl.standing k d s e f) =
-        let t_other = stands_apart (kind_of t) FnDecl (ap is_standing d.left ∙ s) refl in
-        let u_other = stands_apart (kind_of u) FnDecl (ap is_standing d.right ∙ s) refl in
-        subst₂ (SameRange r) (sym (own_other t t_other)) (sym (own_other u u_other)) (first_alike t u f)
-    decl_begins p q t u (h.SameDecl.function d e f (v.SameFunction.typed_function g x y z)) = function_begins t u d.kinds g.span
-    decl_begins p q t u (h.SameDecl.function d e f (v.SameFunction.classed_function g x y z)) = function_begins t u d.kinds g.span
-    decl_begins p q t u (h.SameDecl.implementation d e f g) = function_begins t u d.kinds g.head.span
-    decl_begins p q t u (h.SameDecl.ambient_function k e f s) = function_begins t u k (inner_alike t u s)
+    decl_begins : (p q : SourceRange) (t u : Tree) → SameDecl r a b p q t u → SameRange r (range_of_node t) (range_of_node u)
+    decl_begins p q t u (h.SameDecl.variable d n rest) = of_variables t u d.kinds d.span
+    decl_begins p q t u (h.SameDecl.ambient d n rest) = of_variables t u d.kinds d.span
+    decl_begins p q t u (h.SameDecl.standing k d s e f) = range_alike r ok t u f
+    decl_begins p q t u (h.SameDecl.function d e f (v.SameFunction.typed_function g x y z)) = of_functions t u d.kinds g.span
+    decl_begins p q t u (h.SameDecl.function d e f (v.SameFunction.classed_function g x y z)) = of_functions t u d.kinds g.span
+    decl_begins p q t u (h.SameDecl.implementation d e f g) = of_functions t u d.kinds g.head.span
+    decl_begins p q t u (h.SameDecl.ambient_function k e f s) = range_alike r ok t u s
 
-    item_begins : (t u : Tree) → SameItem r a b t u → SameRange r (own_range t) (own_range u)
-    item_begins t u (h.SameItem.decl d) = decl_begins (own_range t) (own_range u) t u d
-    item_begins t u (h.SameItem.exported k s d) =
-        subst₂ (SameRange r) (sym (own_other t (ap (λ j. j is FnDecl) k.left))) (sym (own_other u (ap (λ j. j is FnDecl) k.right))) s
+    item_begins : (t u : Tree) → SameItem r a b t u → SameRange r (range_of_node t) (range_of_node u)
+    item_begins t u (h.SameItem.decl d) = decl_begins (range_of_node t) (range_of_node u) t u d
+    item_begins t u (h.SameItem.exported k s d) = subst₂ (SameRange r) (sym (range_of_export t k.left)) (sym (range_of_export u k.right)) s
 
     -- ---- where what goes begins
 
     module _ (p q : ℕ) (pair : IsPair r.starts p q) where
-      unseen_alike : (t u : Tree) (ss ts : List Seen) → SameRange r (own_range t) (own_range u) → AllAlike r ok ss ts → is_among p (start_of_unseen t ss) ≡ is_among q (start_of_unseen u ts)
-      unseen_alike t u [] [] s e = ap (λ m. m || false) (one_start p q (own_range t).start.0 (own_range u).start.0 pair s.start)
+      unseen_alike : (t u : Tree) (ss ts : List Seen) → SameRange r (range_of_node t) (range_of_node u) → AllAlike r ok ss ts →
+          is_among p (start_of_unseen t ss) ≡ is_among q (start_of_unseen u ts)
+      unseen_alike t u [] [] s e = ap (λ m. m || false) (one_start p q (range_of_node t).start.0 (range_of_node u).start.0 pair s.start)
       unseen_alike t u (x ∷ xs) (y ∷ ys) s e = refl
       unseen_alike t u [] (y ∷ ys) s e = cc
       unseen_alike t u (x ∷ xs) [] s e = cc
 
-      removed_left : (t : Tree) → h.IsSilent a t → HasNoPartner r.starts (own_range t).start.0 → is_among p (removed_start a t) ≡ false
-      removed_left t s n = ap (λ ss. is_among p (start_of_unseen t ss)) (silent_item a t s) ∙ ap (λ m. m || false) (no_left p q (own_range t).start.0 pair n)
+      removed_left : (t : Tree) → h.IsSilent a t → HasNoPartner r.starts (range_of_node t).start.0 → is_among p (removed_start a t) ≡ false
+      removed_left t s n = ap (λ ss. is_among p (start_of_unseen t ss)) (silent_item a t s)
+          ∙ ap (λ m. m || false) (no_left p q (range_of_node t).start.0 pair n)
 
-      removed_right : (u : Tree) → h.IsSilent b u → IsNoPartner r.starts (own_range u).start.0 → is_among q (removed_start b u) ≡ false
-      removed_right u s n = ap (λ ss. is_among q (start_of_unseen u ss)) (silent_item b u s) ∙ ap (λ m. m || false) (no_right p q (own_range u).start.0 pair n)
+      removed_right : (u : Tree) → h.IsSilent b u → IsNoPartner r.starts (range_of_node u).start.0 → is_among q (removed_start b u) ≡ false
+      removed_right u s n = ap (λ ss. is_among q (start_of_unseen u ss)) (silent_item b u s)
+          ∙ ap (λ m. m || false) (no_right p q (range_of_node u).start.0 pair n)
 
       among_more : (n : ℕ) (around : Surroundings) (t : Tree) (ts : List Tree) →
           is_among n (flat_map (removed_start around) (t ∷ ts)) ≡ (is_among n (removed_start around t) || is_among n (flat_map (removed_start around) ts))
       among_more n around t ts = list_any-append (λ (s : SourcePos). s.0 == n) (removed_start around t) (flat_map (removed_start around) ts)
 
-      removed_alike : IsPair r.scopes a.unresolved.0 b.unresolved.0 → a.is_declaration_file ≡ b.is_declaration_file → (ts us : List Tree) → SameItems r a b ts us →
+      removed_alike : IsPair r.scopes a.unresolved.0 b.unresolved.0 → a.is_declaration_file ≡ b.is_declaration_file → (ts us : List Tree) →
+          SameItems r a b ts us →
           is_among p (flat_map (removed_start a) ts) ≡ is_among q (flat_map (removed_start b) us)
       removed_alike c m [] [] h.SameItems.end = refl
       removed_alike c m (t ∷ ts) us (h.SameItems.left s n rest) =
@@ -179,7 +159,8 @@ module _ (r : Renaming) (ok : IsRenaming r) where
       removed_alike c m ts (u ∷ us) (h.SameItems.right s n rest) =
           removed_alike c m ts us rest ∙ sym (among_more q b u us ∙ ap (λ x. x || is_among q (flat_map (removed_start b) us)) (removed_right u s n))
       removed_alike c m (t ∷ ts) (u ∷ us) (h.SameItems.next s rest) =
-          among_more p a t ts ∙ (ap₂ (λ x y. x || y) (unseen_alike t u (item_seen a t) (item_seen b u) (item_begins t u s) (item_alike r ok a b c m t u s)) (removed_alike c m ts us rest)
+          among_more p a t ts ∙ (ap₂ (λ x y. x || y) (unseen_alike t u (item_seen a t) (item_seen b u) (item_begins t u s) (item_alike r ok a b c m t u s))
+          (removed_alike c m ts us rest)
           ∙ sym (among_more q b u us))
 
     -- ---- the comments that stay
@@ -190,13 +171,15 @@ module _ (r : Renaming) (ok : IsRenaming r) where
     each_if true false xs ys e s = cc
     each_if false true xs ys e s = cc
 
-    same_comments : (t u : Tree) (c d : Comments) → AgreeHidden r a b t u → SameComments r (kept c) (kept d) → SameComments r (kept_comments a t c) (kept_comments b u d)
+    same_comments : (t u : Tree) (c d : Comments) → AgreeHidden r a b t u → SameComments r (kept c) (kept d) →
+        SameComments r (kept_comments a t c) (kept_comments b u d)
     same_comments t u c d g s = record {
       leading = λ p q pair.
           subst₂ (Each (SameComment r)) (sym (all_without p (removed_starts a t) (kept c))) (sym (all_without q (removed_starts b u) (kept d)))
           (each_if (is_among p (removed_starts a t)) (is_among q (removed_starts b u)) (all_comments_at p (kept c).leading) (all_comments_at q (kept d).leading)
           (removed_alike p q pair g.unresolved g.is_declaration_file (items_of t) (items_of u) g.items) (s.leading p q pair));
-      trailing = subst₂ (SameAtPairs r r.ends) (sym (trailing_stay (removed_starts a t) (kept c))) (sym (trailing_stay (removed_starts b u) (kept d))) s.trailing;
+      trailing = subst₂ (SameAtPairs r r.ends) (sym (trailing_stay (removed_starts a t) (kept c)))
+          (sym (trailing_stay (removed_starts b u) (kept d))) s.trailing;
     }
 
 -- under each renaming

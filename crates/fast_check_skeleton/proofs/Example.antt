@@ -2,7 +2,8 @@
 use Rattle.std.specs.Prelude.{◌≡◌, ℕ, Bool, false, List, [], ◌∷◌, refl, ◌↔◌, slice_get, unwrap_or}
 use Rattle.std.proofs.Common.{inl, inr, arith, ap, ◌∙◌, sym, subst, subst₂}
 use Rattle.fast_check_syntax.specs.declared.kind.Kind.{Kind}
-use Rattle.fast_check_syntax.specs.declared.kind.Kind.TheVariants.{Module, VarDecl, VarDeclarator, ExportDecl, BindingIdent, TsTypeAnn, TsKeywordType, List as List'}
+use Rattle.fast_check_syntax.specs.declared.kind.Kind.TheVariants.{Module, VarDecl, VarDeclarator, ExportDecl, BindingIdent, TsTypeAnn, TsKeywordType}
+use Rattle.fast_check_syntax.specs.declared.kind.Kind.TheVariants.{List as List'}
 use Rattle.fast_check_syntax.specs.declared.kind.Word.TheVariants as words
 use Rattle.fast_check_syntax.specs.declared.source.SourceRange.{SourceRange}
 use Rattle.fast_check_syntax.specs.declared.source.SyntaxContext.{SyntaxContext}
@@ -19,17 +20,21 @@ use Rattle.fast_check_comments.specs.Kept.{kept}
 use Rattle.fast_check_program_forms.specs.Names.{BindingIdent-id, BindingIdent-type_ann, binding_ident}
 use Rattle.fast_check_program_forms.specs.ModuleDecls.{ExportDecl-span, ExportDecl-decl, export_decl}
 use Rattle.fast_check_program_forms.specs.Programs.{module'}
-use Rattle.fast_check_statement_forms.specs.Declarations.{VarDecl-ctxt, VarDecl-kind, VarDecl-declare, VarDecl-decls, VarDeclarator-span, VarDeclarator-definite, var_decl, var_declarator}
+use Rattle.fast_check_statement_forms.specs.Declarations.{VarDecl-ctxt, VarDecl-kind, VarDecl-declare, VarDecl-decls, VarDeclarator-span}
+use Rattle.fast_check_statement_forms.specs.Declarations.{VarDeclarator-definite, var_decl, var_declarator}
 use Rattle.fast_check_tree.specs.Builders.{never_value}
 use Rattle.fast_check_skeleton.specs.Surroundings.{Surroundings}
 use Rattle.fast_check_skeleton.specs.Mutability.{mutability_of}
-use Rattle.fast_check_skeleton.specs.Visible.{declared_ident, declared_type, own_range, items_of}
+use Rattle.fast_check_ranges.specs.Ranges.{range_of_node}
+use Rattle.fast_check_skeleton.specs.Visible.{declared_ident, declared_type, items_of}
 use Rattle.fast_check_skeleton.specs.Hidden.{IsNoPartner, AgreeHidden, SameHead, SameDeclarator, SameDeclarators, SameStatement, SameDecl, SameItem, SameItems}
 use Rattle.fast_check_skeleton.specs.Hidden as h
 use Rattle.fast_check_skeleton.specs.KeptComments.{kept_comments}
 use Rattle.fast_check_skeleton.specs.SameComments.{all_comments_at, SameComment, SameComments}
 use Rattle.fast_check_skeleton.specs.Skeleton.{skeleton_of}
-use Rattle.fast_check_skeleton.specs.Example.{at, scope, name, annotation, declarator, statement, exported, documented, before_tokens, with_trailing, text_value, first, first_comments, hidden_function, name_value, second, second_comments, renaming, around, Example}
+use Rattle.fast_check_skeleton.specs.Example.{at, scope, name, annotation, declarator, statement, exported, documented, before_tokens, with_trailing}
+use Rattle.fast_check_skeleton.specs.Example.{text_value, first, first_comments, hidden_function, name_value, second, second_comments, renaming, around}
+use Rattle.fast_check_skeleton.specs.Example.{Example}
 use Rattle.fast_check_skeleton.proofs.CommentsAlike.{two_worlds}
 
 -- ---- the renaming
@@ -138,10 +143,13 @@ heads = record {
   span = subst₂ (SameRange renaming) (sym first_span) (sym second_span)
       (record { start = inr (inr (inr (inr (inl (refl, refl))))); end = inr (inr (inr (inr (inl (refl, refl))))) });
   names = record { left = simp (part_node, kind_of_node); right = simp (part_node, kind_of_node) };
-  ident = subst₂ Same (sym (ident_made (at 23 38) (name 23 2) (annotation 23) text_value false)) (sym (ident_made (at 48 61) (name 48 3) (annotation 48) name_value false))
+  ident = subst₂ Same (sym (ident_made (at 23 38) (name 23 2) (annotation 23) text_value false))
+      (sym (ident_made (at 48 61) (name 48 3) (annotation 48) name_value false))
       (same (name 23 2) (name 48 3) same_names);
-  definite = definite_made (at 23 38) (name 23 2) (annotation 23) text_value false ∙ sym (definite_made (at 48 61) (name 48 3) (annotation 48) name_value false);
-  type = subst₂ Same (sym (type_made (at 23 38) (name 23 2) (annotation 23) text_value false)) (sym (type_made (at 48 61) (name 48 3) (annotation 48) name_value false))
+  definite = definite_made (at 23 38) (name 23 2) (annotation 23) text_value false
+      ∙ sym (definite_made (at 48 61) (name 48 3) (annotation 48) name_value false);
+  type = subst₂ Same (sym (type_made (at 23 38) (name 23 2) (annotation 23) text_value false))
+      (sym (type_made (at 48 61) (name 48 3) (annotation 48) name_value false))
       (same (annotation 23) (annotation 48) same_types);
 }
 
@@ -167,10 +175,13 @@ statements = record {
       (sym (span_made VarDecl (at 42 62) (tree.Context (scope 0) ∷ const ∷ tree.Flag false ∷ list (second_declarator ∷ []) ∷ [])))
       (record { start = inr (inr (inr (inl (refl, refl)))); end = inr (inr (inr (inr (inr (inl (refl, refl)))))) });
   ctxt = subst₂ (λ (x y : SyntaxContext). IsPair renaming.scopes x.0 y.0)
-      (sym (ctxt_made (at 17 39) (scope 0) const false (first_declarator ∷ []))) (sym (ctxt_made (at 42 62) (scope 0) const false (second_declarator ∷ []))) (inl (refl, refl));
-  kind = subst₂ Same (sym (kind_made (at 17 39) (scope 0) const false (first_declarator ∷ []))) (sym (kind_made (at 42 62) (scope 0) const false (second_declarator ∷ [])))
+      (sym (ctxt_made (at 17 39) (scope 0) const false (first_declarator ∷ []))) (sym (ctxt_made (at 42 62) (scope 0) const false (second_declarator ∷ [])))
+      (inl (refl, refl));
+  kind = subst₂ Same (sym (kind_made (at 17 39) (scope 0) const false (first_declarator ∷ [])))
+      (sym (kind_made (at 42 62) (scope 0) const false (second_declarator ∷ [])))
       (same const const same_consts);
-  declare = declare_made (at 17 39) (scope 0) const false (first_declarator ∷ []) ∙ sym (declare_made (at 42 62) (scope 0) const false (second_declarator ∷ []));
+  declare = declare_made (at 17 39) (scope 0) const false (first_declarator ∷ [])
+      ∙ sym (declare_made (at 42 62) (scope 0) const false (second_declarator ∷ []));
 }
 
 decls : (p q : SourceRange) → SameDecl renaming a b p q first_statement second_statement
@@ -189,15 +200,16 @@ exports : SameItem renaming a b (exported 10 2 text_value 38) (exported 35 3 nam
 exports = h.SameItem.exported (record { left = simp kind_of_node; right = simp kind_of_node })
     (subst₂ (SameRange renaming) (sym (span_made ExportDecl (at 10 39) (first_statement ∷ []))) (sym (span_made ExportDecl (at 35 62) (second_statement ∷ [])))
     (record { start = inr (inr (inl (refl, refl))); end = inr (inr (inr (inr (inr (inl (refl, refl)))))) }))
-    (subst₂ (SameDecl renaming a b first_export second_export) (sym (decl_made (at 10 39) first_statement)) (sym (decl_made (at 35 62) second_statement)) (decls first_export second_export))
+    (subst₂ (SameDecl renaming a b first_export second_export) (sym (decl_made (at 10 39) first_statement)) (sym (decl_made (at 35 62) second_statement))
+    (decls first_export second_export))
 
-begins_at : own_range hidden_function ≡ at 10 25
+begins_at : range_of_node hidden_function ≡ at 10 25
 begins_at = simp (kind_of_node, part_node, range_of_range)
 
 silent : h.IsSilent b hidden_function
 silent = h.IsSilent.decl (h.IsSilentDecl.function (simp kind_of_node) (ap b.is_public begins_at))
 
-begins_alone : IsNoPartner renaming.starts (own_range hidden_function).start.0
+begins_alone : IsNoPartner renaming.starts (range_of_node hidden_function).start.0
 begins_alone n p = let q : IsPair renaming.starts n 10 = subst (λ s. IsPair renaming.starts n s.start.0) begins_at p in grind arith
 
 agree : AgreeHidden renaming a b first second
@@ -205,7 +217,8 @@ agree = record {
   unresolved = inr (inl (refl, refl));
   is_declaration_file = refl;
   items = subst₂ (SameItems renaming a b)
-      (sym (items_made (at 10 39) (exported 10 2 text_value 38 ∷ []) Absent)) (sym (items_made (at 10 62) (hidden_function ∷ exported 35 3 name_value 61 ∷ []) Absent))
+      (sym (items_made (at 10 39) (exported 10 2 text_value 38 ∷ []) Absent))
+      (sym (items_made (at 10 62) (hidden_function ∷ exported 35 3 name_value 61 ∷ []) Absent))
       (h.SameItems.right silent begins_alone (h.SameItems.next exports h.SameItems.end));
   shebang = subst₂ Same
       (sym (part_node 2 Module (tree.Range (at 10 39) ∷ list (exported 10 2 text_value 38 ∷ []) ∷ Absent ∷ [])))
@@ -228,7 +241,8 @@ is_at p q x y e s = subst₂ SameLeading e.0 e.1 s
 agree_leading : (x y : ℕ) → IsPair renaming.starts x y → SameLeading x y
 agree_leading x y (inl e) = is_at 0 0 x y e tt
 agree_leading x y (inr (inl e)) = is_at 1 26 x y e tt
-agree_leading x y (inr (inr (inl e))) = is_at 10 35 x y e (record { kind = refl; span = record { start = inr (inl (refl, refl)); end = inr (inl (refl, refl)) }; text = refl }, tt)
+agree_leading x y (inr (inr (inl e))) =
+    is_at 10 35 x y e (record { kind = refl; span = record { start = inr (inl (refl, refl)); end = inr (inl (refl, refl)) }; text = refl }, tt)
 agree_leading x y (inr (inr (inr (inl e)))) = is_at 17 42 x y e tt
 agree_leading x y (inr (inr (inr (inr (inl e))))) = is_at 23 48 x y e tt
 agree_leading x y (inr (inr (inr (inr (inr (inl e)))))) = is_at 24 49 x y e tt

@@ -1,93 +1,87 @@
 -- A skeleton stands in the grammar: where there is no fault, each declarator has its type.
-use Rattle.std.specs.Prelude.{◌≡◌, Bool, true, false, ◌||◌, IsTrue, ◌⊎◌, Option, Some, None, List, [], ◌∷◌, ◌++◌, map, flat_map, refl, if◌then◌else◌}
-use Rattle.std.proofs.Common.{ap, ◌∙◌, sym, subst, subst₂, inl, inr, append_assoc, append-nil}
-use Rattle.fast_check_syntax.specs.declared.kind.Kind.TheVariants.{Module, VarDeclarator, VarDecl, FnDecl, ExportDecl, BindingIdent, TsTypeAnn, List as List'}
+use Rattle.std.specs.Prelude.{◌≡◌, Bool, true, false, ◌||◌, IsTrue, ◌⊎◌, IfSome, Option, Some, None, List, [], ◌∷◌, ◌++◌, flat_map, refl}
+use Rattle.std.specs.Prelude.{if◌then◌else◌}
+use Rattle.std.proofs.Common.{ap, ◌∙◌, sym, subst, subst₂, inl, inr, append-nil}
+use Rattle.fast_check_syntax.specs.declared.kind.Kind.{Kind}
+use Rattle.fast_check_syntax.specs.declared.kind.Kind.TheVariants as kinds
+use Rattle.fast_check_syntax.specs.declared.kind.Kind.TheVariants.{Module, VarDecl, FnDecl, ExportDecl, BindingIdent, List as List'}
 use Rattle.fast_check_syntax.specs.declared.source.SourceRange.{SourceRange}
 use Rattle.fast_check_syntax.specs.declared.source.SyntaxContext.{SyntaxContext}
 use Rattle.fast_check_syntax.specs.declared.tree.Tree as tree
 use Rattle.fast_check_syntax.specs.declared.tree.Tree.{Tree, Absent}
-use Rattle.fast_check_syntax.specs.Shape.{◌is◌, is_kind, kind_of, parts, is_absent, flag_of, none_range, node, list, OfAll}
+use Rattle.fast_check_syntax.specs.Shape.{◌is◌, kind_of, parts, is_absent, flag_of, node, list, OfAll}
 use Rattle.fast_check_syntax.proofs.Made.{kind_of_node, parts_node, part_node, is_absent_node, flag_of_flag}
 use Rattle.fast_check_program_forms.specs.Names.{Ident-span, BindingIdent-type_ann, binding_ident}
 use Rattle.fast_check_program_forms.specs.ModuleDecls.{ExportDecl-span, ExportDecl-decl}
 use Rattle.fast_check_program_forms.specs.Programs.{Module-span, Module-shebang}
-use Rattle.fast_check_statement_forms.specs.Declarations.{FnDecl-ident, FnDecl-declare, FnDecl-function, fn_decl, VarDecl-span, VarDecl-ctxt, VarDecl-kind, VarDecl-declare, VarDecl-decls, VarDeclarator-span, VarDeclarator-name, VarDeclarator-init, VarDeclarator-definite, var_decl, var_declarator}
+use Rattle.fast_check_statement_forms.specs.Declarations.{FnDecl-ident, FnDecl-declare, FnDecl-function, fn_decl}
+use Rattle.fast_check_statement_forms.specs.Declarations.{VarDecl-span, VarDecl-ctxt, VarDecl-kind, VarDecl-declare, VarDecl-decls, var_decl}
+use Rattle.fast_check_statement_forms.specs.Declarations.{VarDeclarator-name, VarDeclarator-init, var_declarator}
+use Rattle.fast_check_statement_forms.specs.Statements.{ExprStmt-expr}
 use Rattle.fast_check_tree.specs.Builders.{type_ann, never_value}
 use Rattle.fast_check_tree.specs.declared.helpers.literal_type.DeclMutabilityKind.{DeclMutabilityKind}
-use Rattle.fast_check_skeleton.specs.Surroundings.{Surroundings}
 use Rattle.fast_check_tree.specs.InferredType.{inferred_type}
-use Rattle.fast_check_skeleton.specs.Mutability.{mutability_of}
 use Rattle.fast_check_ranges.specs.Ranges.{range_of_node}
-use Rattle.fast_check_signatures.specs.declared.fault.Fault.{Fault}
-use Rattle.fast_check_signatures.specs.declared.fault.FaultKind.TheVariants.{MissingExplicitType, UnsupportedDestructuring}
+use Rattle.fast_check_signatures.specs.declared.fault.FaultKind.TheVariants.{MissingExplicitType}
 use Rattle.fast_check_signatures.specs.declared.function_kind.FunctionKind.TheVariants.{DeclarationLike}
-use Rattle.fast_check_signatures.specs.Seen.{Seen, written, form, faulty, refused, hidden, seens}
-use Rattle.fast_check_skeleton.specs.Visible.{declared_ident, declared_type, by_inferred, kept_value_seen, ident_declarator_seen, declarator_seen, is_ambient, is_public_declarator, declarator_in, public_declarator, public_declarators, statement_seen, is_standing, own_range, standing_seen, signature_of, function_decl_seen, public_function, decl_seen, exported_seen, item_seen, items_of}
-use Rattle.fast_check_signatures.specs.Answers.{Answer, joined, visited, before, fails, Part, first_or_absent, answer_to, answered, answer_of}
+use Rattle.fast_check_signatures.specs.Seen.{Seen, written, range, scope, flag, round, listed, seens}
+use Rattle.fast_check_signatures.specs.Answers.{Answer, faultless, joined, visited, with_tree, round_answer, fault_at, answer_to, parts_answer, answer_of}
 use Rattle.fast_check_signatures.specs.Expressions.{expr_seen}
-use Rattle.fast_check_signatures.specs.Functions.{function_seen, implementation_seen}
+use Rattle.fast_check_signatures.proofs.Choices.{of_choice, no_left, not_empty}
 use Rattle.fast_check_typed_grammar.specs.TypedGrammar.{IsLeavable, IsTypedFunction}
-use Rattle.fast_check_typed_grammar.proofs.Staying.{no_left, no_right}
+use Rattle.fast_check_typed_grammar.proofs.Staying.{Holds, Stays, round_stays, written_before, last_stays, items_hold, demanded_holds}
 use Rattle.fast_check_typed_grammar.proofs.Present.{stays_there}
-use Rattle.fast_check_typed_grammar.proofs.Typed.{leavable_stands, function_stands, implementation_stands}
+use Rattle.fast_check_typed_grammar.proofs.Typed.{expr_stays, function_is_typed, implementation_is_typed}
+use Rattle.fast_check_skeleton.specs.declared.rules.DeclRule.{DeclRule}
+use Rattle.fast_check_skeleton.specs.declared.rules.DeclRule.TheVariants.{Variables, Function, Standing, Untaken}
+use Rattle.fast_check_skeleton.specs.declared.rules.ItemRule.{ItemRule}
+use Rattle.fast_check_skeleton.specs.declared.rules.ItemRule.TheVariants.{Declared, Exported, Silent}
+use Rattle.fast_check_skeleton.specs.Mutability.{mutability_of}
+use Rattle.fast_check_skeleton.specs.Rules.{decl_rule, expr_stmt_rule, rule_of_kind}
+use Rattle.fast_check_skeleton.specs.Surroundings.{Surroundings}
+use Rattle.fast_check_skeleton.specs.Visible.{declared_ident, declared_type, value_seen, untyped_seen}
+use Rattle.fast_check_skeleton.specs.Visible.{declarator_seen, is_ambient, is_public_declarator, declarator_in, public_declarator, public_declarators}
+use Rattle.fast_check_skeleton.specs.Visible.{statement_seen, signature_of, function_decl_seen, public_function, decl_seen, exported_seen}
+use Rattle.fast_check_skeleton.specs.Visible.{seen_by_rule, item_seen, items_of}
 use Rattle.fast_check_skeleton.specs.Skeleton.{transformed, skeleton_of, faults_of}
 use Rattle.fast_check_skeleton.specs.Grammar.{HasTypedValue, IsTypedDeclarator, IsTypedStatement, IsTypedFunctionDecl, IsTypedDecl, IsTypedItem, IsSkeleton}
+use Rattle.fast_check_skeleton.proofs.Ruled.{standing_kind, function_kind}
 
--- ---- once
+-- ---- lists of what is seen
 
-pub answered_seens : (ss : List Seen) → map (λ (p : Part). p.answer) (answered (seens ss)) ≡ map answer_to ss
-answered_seens [] = refl
-answered_seens (s ∷ ss) = ap (λ xs. answer_to s ∷ xs) (answered_seens ss)
+-- each stays with a property, if nothing of it is at fault
+abbrev AllStay : (Tree → Type 0) → List Seen → Type 0
+AllStay P [] = Unit {0}
+AllStay P (s ∷ ss) = Stays P (answer_to s) × AllStay P ss
 
-all_append : (P : Tree → Type 0) (xs ys : List Tree) → OfAll P xs → OfAll P ys → OfAll P (xs ++ ys)
+all_append : (P : Tree → Type 0) (xs ys : List Seen) → AllStay P xs → AllStay P ys → AllStay P (xs ++ ys)
 all_append P [] ys p q = q
 all_append P (x ∷ xs) ys p q = (p.0, all_append P xs ys p.1 q)
 
--- where a list of what is seen has no faults, what stands of each of them has a property if each has it alone
-abbrev Stands : (Tree → Type 0) → List Seen → Type 0
-Stands P ss = (answer_of ss).faults ≡ [] → OfAll P (answer_of ss).trees
+all_flat : (P : Tree → Type 0) (f : Tree → List Seen) (ts : List Tree) → ((t : Tree) → AllStay P (f t)) → AllStay P (flat_map f ts)
+all_flat P f [] p = tt
+all_flat P f (t ∷ ts) p = all_append P (f t) (flat_map f ts) (p t) (all_flat P f ts p)
 
-pub answer_append : (xs ys : List Seen) → answer_of (xs ++ ys) ≡ (record { trees = (answer_of xs).trees ++ (answer_of ys).trees; faults = (answer_of xs).faults ++ (answer_of ys).faults; is_leavable = true })
-answer_append [] ys = refl
-answer_append (x ∷ xs) ys = λ i. record {
-  trees = (ap (λ a. (answer_to x).trees ++ a.trees) (answer_append xs ys) ∙ sym (append_assoc (answer_to x).trees (answer_of xs).trees (answer_of ys).trees)) i;
-  faults = (ap (λ a. (answer_to x).faults ++ a.faults) (answer_append xs ys) ∙ sym (append_assoc (answer_to x).faults (answer_of xs).faults (answer_of ys).faults)) i;
-  is_leavable = true;
-}
+-- so has each tree that stands
+all_hold : (P : Tree → Type 0) (ss : List Seen) → AllStay P ss → Holds (OfAll P) (answer_of ss)
+all_hold P [] h = λ f. tt
+all_hold P (s ∷ ss) h = items_hold P (OfAll P) (λ t ts p q. (p, q)) (answer_to s) (answer_of ss) h.0 (all_hold P ss h.1)
 
--- what may stay, each of a list
-abbrev pub AllStay : List Seen → Type 0
-AllStay [] = Unit {0}
-AllStay (s ∷ ss) = ((answer_to s).is_leavable ≡ true) × AllStay ss
+some_weaker : (P Q : Tree → Type 0) → ((t : Tree) → P t → Q t) → (o : Option Tree) → IfSome o P → IfSome o Q
+some_weaker P Q w None p = tt
+some_weaker P Q w (Some t) p = w t p
 
-pub all_stay_append : (xs ys : List Seen) → AllStay xs → AllStay ys → AllStay (xs ++ ys)
-all_stay_append [] ys p q = q
-all_stay_append (x ∷ xs) ys p q = (p.0, all_stay_append xs ys p.1 q)
+all_weaker : (P Q : Tree → Type 0) → ((t : Tree) → P t → Q t) → (ss : List Seen) → AllStay P ss → AllStay Q ss
+all_weaker P Q w [] h = tt
+all_weaker P Q w (s ∷ ss) h = (λ f. some_weaker P Q w (answer_to s).stays (h.0 f), all_weaker P Q w ss h.1)
 
-pub all_stay : (f : Tree → List Seen) (ts : List Tree) → ((t : Tree) → AllStay (f t)) → AllStay (flat_map f ts)
-all_stay f [] p = tt
-all_stay f (t ∷ ts) p = all_stay_append (f t) (flat_map f ts) (p t) (all_stay f ts p)
+all_if : (P : Tree → Type 0) (b : Bool) (s : Seen) → Stays P (answer_to s) → AllStay P (if b then s ∷ [] else [])
+all_if P true s p = (p, tt)
+all_if P false s p = tt
 
--- a visit that nothing ends joins all
-visited_all : (ss : List Seen) → AllStay ss → visited (map answer_to ss) ≡ answer_of ss
-visited_all [] h = refl
-visited_all (s ∷ ss) h =
-    ap (λ b. if b then before (answer_to s) (visited (map answer_to ss)) else record { trees = []; faults = (answer_to s).faults; is_leavable = false }) h.0
-    ∙ ap (before (answer_to s)) (visited_all ss h.1)
-
--- a list of what may stay is the list of what stands
-pub list_is : (ss : List Seen) → AllStay ss → answer_to (form List' (seens ss)) ≡ fails (list (answer_of ss).trees) (answer_of ss).faults
-list_is ss h = ap (λ a. if a.is_leavable then fails (list a.trees) a.faults else record { trees = []; faults = a.faults; is_leavable = false }) (ap visited (answered_seens ss) ∙ visited_all ss h)
-
-stands_append : (P : Tree → Type 0) (xs ys : List Seen) → Stands P xs → Stands P ys → Stands P (xs ++ ys)
-stands_append P xs ys p q e =
-    let e' = sym (ap (λ a. a.faults) (answer_append xs ys)) ∙ e in
-    subst (OfAll P) (sym (ap (λ a. a.trees) (answer_append xs ys)))
-    (all_append P (answer_of xs).trees (answer_of ys).trees (p (no_left (answer_of xs).faults (answer_of ys).faults e')) (q (no_right (answer_of xs).faults (answer_of ys).faults e')))
-
-stands_all : (P : Tree → Type 0) (f : Tree → List Seen) (ts : List Tree) → ((t : Tree) → Stands P (f t)) → Stands P (flat_map f ts)
-stands_all P f [] p e = tt
-stands_all P f (t ∷ ts) p e = stands_append P (f t) (flat_map f ts) (p t) (stands_all P f ts p) e
+both_some : (P Q : Tree → Type 0) (o : Option Tree) → IfSome o P → IfSome o Q → IfSome o (λ t. P t × Q t)
+both_some P Q None p q = tt
+both_some P Q (Some t) p q = (p, q)
 
 -- ---- declarators
 
@@ -95,78 +89,65 @@ stands_all P f (t ∷ ts) p e = stands_append P (f t) (flat_map f ts) (p t) (sta
 typed : (unresolved : SyntaxContext) (span : SourceRange) (ident : Tree) (definite : Bool) (type value : Tree) → HasTypedValue unresolved type value →
     IsTypedDeclarator unresolved (var_declarator span (binding_ident ident type) value definite)
 typed unresolved span ident definite type value e =
-    let name = part_node 1 VarDeclarator (tree.Range span ∷ binding_ident ident type ∷ value ∷ tree.Flag definite ∷ []) in
-    let of_name = ap BindingIdent-type_ann name ∙ part_node 1 BindingIdent (ident ∷ type ∷ []) in
-    let of_value = part_node 2 VarDeclarator (tree.Range span ∷ binding_ident ident type ∷ value ∷ tree.Flag definite ∷ []) in
+    let made = var_declarator span (binding_ident ident type) value definite in
+    let name : VarDeclarator-name made ≡ binding_ident ident type = part_node _ _ _ in
+    let of_type : BindingIdent-type_ann (binding_ident ident type) ≡ type = part_node _ _ _ in
+    let of_value : VarDeclarator-init made ≡ value = part_node _ _ _ in
     record {
-      kind = kind_of_node VarDeclarator (tree.Range span ∷ binding_ident ident type ∷ value ∷ tree.Flag definite ∷ []);
+      kind = kind_of_node _ _;
       name = ap kind_of name ∙ kind_of_node BindingIdent (ident ∷ type ∷ []);
-      value = subst₂ (HasTypedValue unresolved) (sym of_name) (sym of_value) e;
+      value = subst₂ (HasTypedValue unresolved) (sym (ap BindingIdent-type_ann name ∙ of_type)) (sym of_value) e;
     }
-
--- where a value that is to stay has no fault, and nothing is missing, it stays
-no_fault : (b : Bool) (faults : List Fault) (fault : Fault) → faults ++ (if b then [] else fault ∷ []) ≡ [] → (b ≡ true) × (faults ≡ [])
-no_fault true faults fault e = (refl, no_left faults [] e)
-no_fault false faults fault e = absurd (go (no_right faults (fault ∷ []) e))
-  where
-    go : fault ∷ [] ≡ [] → ⊥
-    go e = cc
 
 module _ (around : Surroundings) (mutability : DeclMutabilityKind) (d : Tree) where
   abbrev name_place : SourceRange
   name_place = Ident-span (declared_ident d)
 
-  abbrev seen_with : Bool → Option Tree → Seen
-  seen_with absent shown =
-      form VarDeclarator (seens (Seen.range (VarDeclarator-span d) ∷ written (declared_ident d) ∷ Seen.flag (VarDeclarator-definite d) ∷ (if absent then hidden else written (declared_type d)) ∷
-      (if absent then by_inferred shown else hidden) ∷ (if absent then kept_value_seen around name_place shown (VarDeclarator-init d) else hidden) ∷ []))
+  abbrev value : Tree
+  value = VarDeclarator-init d
 
   abbrev Typed : Tree → Type 0
   Typed = IsTypedDeclarator around.unresolved
 
-  valued : (value : Seen) → ((answer_to value).is_leavable ≡ true → (answer_to value).faults ≡ [] →
-      (is_absent (first_or_absent (answer_to value).trees) ≡ false) × IsLeavable around.unresolved (first_or_absent (answer_to value).trees)) →
-      Stands Typed (form VarDeclarator (seens (Seen.range (VarDeclarator-span d) ∷ written (declared_ident d) ∷ Seen.flag (VarDeclarator-definite d) ∷ hidden ∷ hidden ∷ value ∷ [])) ∷ [])
-  valued value h e =
-      let f = no_fault (answer_to value).is_leavable (answer_to value).faults (record { kind = MissingExplicitType; range = name_place }) (no_left _ [] e) in
-      (typed around.unresolved (VarDeclarator-span d) (declared_ident d) (VarDeclarator-definite d) Absent (first_or_absent (answer_to value).trees) (inr (h f.0 f.1)), tt)
+  abbrev StaysTyped : Seen → Type 0
+  StaysTyped s = Stays Typed (answer_to s)
 
-  abbrev kept_if : Bool → Seen
-  kept_if absent = if absent then refused else expr_seen around.unresolved (VarDeclarator-init d) (Some name_place)
+  -- a value that gives a type
+  abbrev Gives : Tree → Type 0
+  Gives v = (is_absent v ≡ false) × IsLeavable around.unresolved v
 
-  kept_stands : (absent : Bool) → is_absent (VarDeclarator-init d) ≡ absent → (answer_to (kept_if absent)).is_leavable ≡ true → (answer_to (kept_if absent)).faults ≡ [] →
-      (is_absent (first_or_absent (answer_to (kept_if absent)).trees) ≡ false) × IsLeavable around.unresolved (first_or_absent (answer_to (kept_if absent)).trees)
-  kept_stands true q l f = cc
-  kept_stands false q l f =
-      (stays_there around.unresolved (VarDeclarator-init d) (Some name_place) q l, leavable_stands around.unresolved (VarDeclarator-init d) (Some name_place) l f)
+  value_stays : Stays Gives (answer_to (value_seen around name_place value))
+  value_stays =
+      of_choice (λ s. Stays Gives (answer_to s)) (is_absent value) _ _ (λ e f. tt)
+      (λ e f. both_some (λ v. is_absent v ≡ false) (IsLeavable around.unresolved) (answer_to (expr_seen around.unresolved value (Some name_place))).stays
+      (stays_there around.unresolved value (Some name_place) e) (expr_stays around.unresolved value (Some name_place) f))
 
-  by_value : (o : Option Tree) (t : Bool) → is_absent (declared_type d) ≡ t → Stands Typed (seen_with t o ∷ [])
-  by_value (Some type) true e f =
-      (typed around.unresolved (VarDeclarator-span d) (declared_ident d) (VarDeclarator-definite d) (type_ann type) never_value (inl (is_absent_node TsTypeAnn (tree.Range none_range ∷ type ∷ []), refl)), tt)
-  by_value None true e f = valued (if is_absent (VarDeclarator-init d) then refused else expr_seen around.unresolved (VarDeclarator-init d) (Some name_place)) (kept_stands (is_absent (VarDeclarator-init d)) refl) f
-  by_value o false e f =
-      (typed around.unresolved (VarDeclarator-span d) (declared_ident d) (VarDeclarator-definite d) (declared_type d) never_value (inl (e, refl)), tt)
+  untyped_stays : (o : Option Tree) → StaysTyped (untyped_seen around d o)
+  untyped_stays (Some type) = λ f. typed around.unresolved _ _ _ (type_ann type) never_value (inl (is_absent_node _ _, refl))
+  untyped_stays None =
+      λ f. typed around.unresolved _ _ _ Absent _
+      (inr (demanded_holds Gives (fault_at MissingExplicitType name_place) (answer_to (value_seen around name_place value)) value_stays f))
 
-  declarator_stands : Stands Typed (declarator_seen around mutability d ∷ [])
-  declarator_stands = go (kind_of (VarDeclarator-name d) is BindingIdent)
-    where
-      go : (b : Bool) → Stands Typed ((if b then ident_declarator_seen around mutability d else faulty UnsupportedDestructuring (range_of_node (VarDeclarator-name d))) ∷ [])
-      go true e = by_value (inferred_type mutability around.unresolved (VarDeclarator-init d)) (is_absent (declared_type d)) refl e
-      go false e = cc
+  declarator_stays : StaysTyped (declarator_seen around mutability d)
+  declarator_stays =
+      of_choice StaysTyped (kind_of (VarDeclarator-name d) is BindingIdent) _ _
+      (λ e. of_choice StaysTyped (is_absent (declared_type d)) _ _ (λ absent. untyped_stays (inferred_type mutability around.unresolved value))
+      (λ present f. typed around.unresolved _ _ _ (declared_type d) never_value (inl (present, refl))))
+      (λ e f. not_empty f)
 
   -- what stands of a declarator is one tree
-  one_if : (t : Bool) (o : Option Tree) → ((answer_to (seen_with t o)).is_leavable ≡ true) × ((x : Tree) × ((answer_to (seen_with t o)).trees ≡ x ∷ []))
-  one_if true (Some type) = (refl, (_, refl))
-  one_if true None = (refl, (_, refl))
-  one_if false o = (refl, (_, refl))
+  abbrev pub IsOne : Seen → Type 0
+  IsOne s = (t : Tree) × ((answer_to s).stays ≡ Some t)
 
-  pub declarator_one : ((answer_to (declarator_seen around mutability d)).is_leavable ≡ true) × ((x : Tree) × ((answer_to (declarator_seen around mutability d)).trees ≡ x ∷ []))
-  declarator_one = go (kind_of (VarDeclarator-name d) is BindingIdent)
-    where
-      go : (b : Bool) → ((answer_to (if b then ident_declarator_seen around mutability d else faulty UnsupportedDestructuring (range_of_node (VarDeclarator-name d)))).is_leavable ≡ true) ×
-          ((x : Tree) × ((answer_to (if b then ident_declarator_seen around mutability d else faulty UnsupportedDestructuring (range_of_node (VarDeclarator-name d)))).trees ≡ x ∷ []))
-      go true = one_if (is_absent (declared_type d)) (inferred_type mutability around.unresolved (VarDeclarator-init d))
-      go false = (refl, (_, refl))
+  untyped_one : (o : Option Tree) → IsOne (untyped_seen around d o)
+  untyped_one (Some type) = (_, refl)
+  untyped_one None = (_, refl)
+
+  pub declarator_one : IsOne (declarator_seen around mutability d)
+  declarator_one =
+      of_choice IsOne (kind_of (VarDeclarator-name d) is BindingIdent) _ _
+      (λ e. of_choice IsOne (is_absent (declared_type d)) _ _ (λ absent. untyped_one (inferred_type mutability around.unresolved value)) (λ present. (_, refl)))
+      (λ e. (Absent, refl))
 
 -- ---- statements and items
 
@@ -174,94 +155,91 @@ module _ (around : Surroundings) where
   abbrev Typed' : Tree → Type 0
   Typed' = IsTypedDeclarator around.unresolved
 
-  declarators_stand : (statement : Tree) → is_ambient around statement ≡ false → Stands Typed' (public_declarators around statement)
-  declarators_stand statement n = stands_all Typed' (public_declarator around statement) (parts (VarDecl-decls statement)) (λ d. one d (is_public_declarator around d))
-    where
-      one : (d : Tree) (b : Bool) → Stands Typed' (if b then declarator_in around statement d ∷ [] else [])
-      one d false e = tt
-      one d true e = let P : Bool → Type 0 = λ a. Stands Typed' ((if a then written d else declarator_seen around (mutability_of (VarDecl-kind statement)) d) ∷ []) in
-          subst P (sym n) (declarator_stands around (mutability_of (VarDecl-kind statement)) d) e
-
-  pub declarators_stay : (statement : Tree) → AllStay (public_declarators around statement)
-  declarators_stay statement = all_stay (public_declarator around statement) (parts (VarDecl-decls statement)) (λ d. one d (is_public_declarator around d) (is_ambient around statement))
-    where
-      one : (d : Tree) (b c : Bool) → AllStay (if b then (if c then written d else declarator_seen around (mutability_of (VarDecl-kind statement)) d) ∷ [] else [])
-      one d false c = tt
-      one d true true = (refl, tt)
-      one d true false = ((declarator_one around (mutability_of (VarDecl-kind statement)) d).0, tt)
+  declarators_stay : (statement : Tree) → is_ambient around statement ≡ false → AllStay Typed' (public_declarators around statement)
+  declarators_stay statement n = all_flat Typed' (public_declarator around statement) (parts (VarDecl-decls statement))
+      (λ d. all_if Typed' (is_public_declarator around d) (declarator_in around statement d)
+      (let P : Bool → Type 0 = λ a. Stays Typed' (answer_to (if a then written d else declarator_seen around (mutability_of (VarDecl-kind statement)) d)) in
+      subst P (sym n) (declarator_stays around (mutability_of (VarDecl-kind statement)) d)))
 
   abbrev made_parts : Tree → List Tree → List Tree
-  made_parts statement ds = tree.Range (VarDecl-span statement) ∷ tree.Context (VarDecl-ctxt statement) ∷ VarDecl-kind statement ∷ tree.Flag (VarDecl-declare statement) ∷ list ds ∷ []
+  made_parts statement ds = tree.Range (VarDecl-span statement) ∷ tree.Context (VarDecl-ctxt statement) ∷ VarDecl-kind statement ∷
+      tree.Flag (VarDecl-declare statement) ∷ list ds ∷ []
 
   abbrev made : Tree → List Tree → Tree
   made statement ds = var_decl (VarDecl-span statement) (VarDecl-ctxt statement) (VarDecl-kind statement) (VarDecl-declare statement) (list ds)
 
   abbrev statement_form : Tree → List Seen → Seen
   statement_form statement ds =
-      form VarDecl (seens (Seen.range (VarDecl-span statement) ∷ Seen.scope (VarDecl-ctxt statement) ∷ written (VarDecl-kind statement) ∷ Seen.flag (VarDecl-declare statement) ∷ form List' (seens ds) ∷ []))
+      round VarDecl (seens (range (VarDecl-span statement) ∷ scope (VarDecl-ctxt statement) ∷ written (VarDecl-kind statement) ∷
+      flag (VarDecl-declare statement) ∷ listed (seens ds) ∷ []))
 
-  abbrev with_list : Tree → Answer → Answer
-  with_list statement a =
-      let all = visited (record { trees = tree.Range (VarDecl-span statement) ∷ []; faults = []; is_leavable = true } ∷ record { trees = tree.Context (VarDecl-ctxt statement) ∷ []; faults = []; is_leavable = true } ∷
-      record { trees = VarDecl-kind statement ∷ []; faults = []; is_leavable = true } ∷ record { trees = tree.Flag (VarDecl-declare statement) ∷ []; faults = []; is_leavable = true } ∷ a ∷ []) in
-      if all.is_leavable then fails (node VarDecl all.trees) all.faults else record { trees = []; faults = all.faults; is_leavable = false }
-
-  -- what stands of a statement of declarators that may stay
-  pub statement_is : (statement : Tree) (ds : List Seen) → AllStay ds → answer_to (statement_form statement ds) ≡ fails (made statement (answer_of ds).trees) (answer_of ds).faults
-  statement_is statement ds h = ap (with_list statement) (list_is ds h) ∙ ap (fails (made statement (answer_of ds).trees)) (append-nil (answer_of ds).faults)
+  -- what stands of a statement
+  pub statement_is : (statement : Tree) (ds : List Seen) →
+      answer_to (statement_form statement ds) ≡ (record { stays = Some (made statement (answer_of ds).stays); faults = (answer_of ds).faults })
+  statement_is statement ds = λ i. record { stays = Some (made statement (answer_of ds).stays); faults = append-nil (answer_of ds).faults i }
 
   ambient_or_typed : (statement : Tree) (ds : List Tree) (a : Bool) → is_ambient around statement ≡ a → (a ≡ false → OfAll Typed' ds) →
-      IsTrue (around.is_declaration_file || VarDecl-declare (node VarDecl (made_parts statement ds))) ⊎ OfAll Typed' (parts (VarDecl-decls (node VarDecl (made_parts statement ds))))
+      IsTrue (around.is_declaration_file || VarDecl-declare (node VarDecl (made_parts statement ds))) ⊎
+      OfAll Typed' (parts (VarDecl-decls (node VarDecl (made_parts statement ds))))
   ambient_or_typed statement ds true q p =
-      let f = ap flag_of (part_node 3 VarDecl (made_parts statement ds)) ∙ flag_of_flag (VarDecl-declare statement) in
+      let f = ap flag_of (part_node _ VarDecl (made_parts statement ds)) ∙ flag_of_flag (VarDecl-declare statement) in
       inl (subst (λ b. IsTrue (around.is_declaration_file || b)) (sym f) q)
   ambient_or_typed statement ds false q p =
-      inr (subst (OfAll Typed') (sym (ap parts (part_node 4 VarDecl (made_parts statement ds)) ∙ parts_node List' ds)) (p refl))
+      let same : VarDecl-decls (node VarDecl (made_parts statement ds)) ≡ list ds = part_node _ _ _ in
+      inr (subst (OfAll Typed') (sym (ap parts same ∙ parts_node List' ds)) (p refl))
 
   abbrev Statement : Tree → Type 0
   Statement = IsTypedStatement around.unresolved around.is_declaration_file
 
-  statement_stands : (statement : Tree) (ds : List Seen) → AllStay ds → (is_ambient around statement ≡ false → Stands Typed' ds) → Stands Statement (statement_seen statement ds)
-  statement_stands statement [] h p e = tt
-  statement_stands statement (d ∷ ds) h p e =
-      let made_is = statement_is statement (d ∷ ds) h in
-      let none : (answer_of (d ∷ ds)).faults ≡ [] = sym (ap (λ a. a.faults) made_is) ∙ no_left (answer_to (statement_form statement (d ∷ ds))).faults [] e in
-      let stands : Statement (made statement (answer_of (d ∷ ds)).trees) = record {
-        kind = kind_of_node VarDecl (made_parts statement (answer_of (d ∷ ds)).trees);
-        declarators = ambient_or_typed statement (answer_of (d ∷ ds)).trees (is_ambient around statement) refl (λ n. p n none);
-      } in
-      subst (λ a. OfAll Statement (a.trees ++ [])) (sym made_is) (stands, tt)
+  statement_stays : (statement : Tree) (ds : List Seen) → (is_ambient around statement ≡ false → Holds (OfAll Typed') (answer_of ds)) →
+      AllStay Statement (statement_seen statement ds)
+  statement_stays statement [] p = tt
+  statement_stays statement (d ∷ ds) p = (
+    λ f. record {
+      kind = kind_of_node VarDecl (made_parts statement (answer_of (d ∷ ds)).stays);
+      declarators = ambient_or_typed statement (answer_of (d ∷ ds)).stays (is_ambient around statement) refl (λ n. p n (no_left _ [] f));
+    },
+    tt,
+  )
 
   -- ---- functions
 
   abbrev Function' : Tree → Type 0
   Function' = IsTypedFunctionDecl around.unresolved around.is_declaration_file
 
-  abbrev function_with : Tree → Seen → Seen
-  function_with decl seen = form FnDecl (seens (written (FnDecl-ident decl) ∷ Seen.flag (FnDecl-declare decl) ∷ seen ∷ []))
-
-  abbrev fn_parts : Tree → Tree → List Tree
-  fn_parts decl function = FnDecl-ident decl ∷ tree.Flag (FnDecl-declare decl) ∷ function ∷ []
-
   function_made : (decl function : Tree) → IsTypedFunction around.unresolved function → Function' (fn_decl (FnDecl-ident decl) (FnDecl-declare decl) function)
-  function_made decl function h = record {
-    kind = kind_of_node FnDecl (fn_parts decl function);
-    function = inr (subst (IsTypedFunction around.unresolved) (sym (part_node 2 FnDecl (fn_parts decl function))) h);
-  }
+  function_made decl function h =
+      let same : FnDecl-function (fn_decl (FnDecl-ident decl) (FnDecl-declare decl) function) ≡ function = part_node _ _ _ in
+      record { kind = kind_of_node _ _; function = inr (subst (IsTypedFunction around.unresolved) (sym same) h) }
 
-  signature_stands : (place : SourceRange) (decl : Tree) (b : Bool) →
-      Stands Function' (function_with decl (if b then implementation_seen (FnDecl-function decl) else function_seen around.unresolved (expr_seen around.unresolved) DeclarationLike (Ident-span (FnDecl-ident decl)) (FnDecl-function decl)) ∷ [])
-  signature_stands place decl true e = (function_made decl _ (implementation_stands around.unresolved (FnDecl-function decl)), tt)
-  signature_stands place decl false e =
-      (function_made decl _ (function_stands around.unresolved DeclarationLike (Ident-span (FnDecl-ident decl)) (FnDecl-function decl) (no_left _ [] (no_left _ [] e))), tt)
+  abbrev signed : Tree → Seen → Seen
+  signed decl s = round FnDecl (seens (written (FnDecl-ident decl) ∷ flag (FnDecl-declare decl) ∷ s ∷ []))
 
-  function_stands' : (place : SourceRange) (decl : Tree) → kind_of decl ≡ FnDecl → (p : Bool) → Stands Function' (if p then function_decl_seen around place decl ∷ [] else [])
-  function_stands' place decl k false e = tt
-  function_stands' place decl k true e = go around.is_declaration_file refl e
+  signed_stays : (decl : Tree) (s : Seen) → Stays (IsTypedFunction around.unresolved) (answer_to s) → Stays Function' (answer_to (signed decl s))
+  signed_stays decl s p =
+      let ident = FnDecl-ident decl in
+      let declare = tree.Flag (FnDecl-declare decl) in
+      let last = visited (answer_to s) (faultless (Some [])) in
+      round_stays FnDecl (λ ts. Function' (node FnDecl ts)) Function' (λ ts h. h)
+      (parts_answer (seens (written ident ∷ written declare ∷ s ∷ [])))
+      (written_before (λ ts. Function' (node FnDecl ts)) ident (visited (faultless (Some declare)) last)
+      (written_before (λ ts. Function' (node FnDecl (ident ∷ ts))) declare last
+      (last_stays (IsTypedFunction around.unresolved) (λ ts. Function' (node FnDecl (ident ∷ declare ∷ ts))) (function_made decl) (answer_to s) p)))
+
+  signature_stays : (place : SourceRange) (decl : Tree) → Stays (IsTypedFunction around.unresolved) (answer_to (signature_of around place decl))
+  signature_stays place decl =
+      of_choice (λ s. Stays (IsTypedFunction around.unresolved) (answer_to s)) (around.is_implementation place) _ _
+      (λ e f. implementation_is_typed around.unresolved (FnDecl-function decl))
+      (λ e. function_is_typed around.unresolved DeclarationLike (Ident-span (FnDecl-ident decl)) (FnDecl-function decl))
+
+  function_stays : (place : SourceRange) (decl : Tree) → kind_of decl ≡ FnDecl → AllStay Function' (public_function around place decl)
+  function_stays place decl k = all_if Function' (around.is_public place) (function_decl_seen around place decl) (go around.is_declaration_file refl)
     where
-      go : (b : Bool) → around.is_declaration_file ≡ b → Stands Function' ((if b then written decl else function_with decl (signature_of around place decl)) ∷ [])
-      go true q e = (record { kind = k; function = inl q }, tt)
-      go false q e = signature_stands place decl (around.is_implementation place) e
+      go : (b : Bool) → around.is_declaration_file ≡ b → Stays Function' (answer_to (if b then written decl else signed decl (signature_of around place decl)))
+      go true q = λ f. record { kind = k; function = inl q }
+      go false q = signed_stays decl (signature_of around place decl) (signature_stays place decl)
+
+  -- ---- declarations
 
   abbrev IsDecl : Tree → Type 0
   IsDecl = IsTypedDecl around.unresolved around.is_declaration_file
@@ -269,112 +247,120 @@ module _ (around : Surroundings) where
   abbrev IsItem : Tree → Type 0
   IsItem = IsTypedItem around.unresolved around.is_declaration_file
 
-  statement_decl : (ts : List Tree) → OfAll Statement ts → OfAll IsDecl ts
-  statement_decl [] h = tt
-  statement_decl (t ∷ ts) h = (inl h.0, statement_decl ts h.1)
+  decl_stays : (place : SourceRange) (decl : Tree) (rule : DeclRule) → decl_rule (kind_of decl) ≡ rule → AllStay IsDecl (decl_seen around place decl rule)
+  decl_stays place decl Variables q =
+      all_weaker Statement IsDecl (λ t h. inl h) (statement_seen decl (public_declarators around decl))
+      (statement_stays decl (public_declarators around decl) (λ n. all_hold Typed' (public_declarators around decl) (declarators_stay decl n)))
+  decl_stays place decl Function q =
+      all_weaker Function' IsDecl (λ t h. inr (inl h)) (public_function around place decl) (function_stays place decl (function_kind (kind_of decl) q))
+  decl_stays place decl Standing q = all_if IsDecl (around.is_public place) (written decl) (λ f. inr (inr (standing_kind (kind_of decl) q)))
+  decl_stays place decl Untaken q = tt
 
-  function_decl : (ts : List Tree) → OfAll Function' ts → OfAll IsDecl ts
-  function_decl [] h = tt
-  function_decl (t ∷ ts) h = (inr (inl h.0), function_decl ts h.1)
-
-  standing_stands : (decl : Tree) → is_standing (kind_of decl) ≡ true → (b : Bool) → Stands IsDecl (if b then written decl ∷ [] else [])
-  standing_stands decl s true e = (inr (inr s), tt)
-  standing_stands decl s false e = tt
-
-  decl_stands : (place : SourceRange) (decl : Tree) → Stands IsDecl (decl_seen around place decl)
-  decl_stands place decl = go (kind_of decl is VarDecl) (kind_of decl is FnDecl) (is_standing (kind_of decl)) refl refl
-    where
-      go : (b f s : Bool) → kind_of decl is FnDecl ≡ f → is_standing (kind_of decl) ≡ s →
-          Stands IsDecl (if b then statement_seen decl (public_declarators around decl) else (if f then public_function around place decl else (if s then standing_seen around place decl else [])))
-      go true f s p q e = statement_decl (answer_of (statement_seen decl (public_declarators around decl))).trees (statement_stands decl (public_declarators around decl) (declarators_stay decl) (declarators_stand decl) e)
-      go false true s p q e = function_decl (answer_of (public_function around place decl)).trees (function_stands' place decl (is_kind (kind_of decl) FnDecl p) (around.is_public place) e)
-      go false false true p q e = standing_stands decl q (around.is_public place) e
-      go false false false p q e = tt
-
-  -- what is seen of a declaration is one form at most, which may stay
+  -- what is seen of a declaration is one form at most, of which one tree stays
   abbrev pub OneTree : List Seen → Type 0
   OneTree [] = Unit {0}
-  OneTree (s ∷ []) = ((answer_to s).is_leavable ≡ true) × ((t : Tree) × ((answer_to s).trees ≡ t ∷ []))
+  OneTree (s ∷ []) = (t : Tree) × ((answer_to s).stays ≡ Some t)
   OneTree (s ∷ t ∷ ss) = ⊥
 
-  statement_one : (statement : Tree) (ds : List Seen) → AllStay ds → OneTree (statement_seen statement ds)
-  statement_one statement [] h = tt
-  statement_one statement (d ∷ ds) h =
-      let e = statement_is statement (d ∷ ds) h in (ap (λ a. a.is_leavable) e, (made statement (answer_of (d ∷ ds)).trees, ap (λ a. a.trees) e))
+  one_if : (b : Bool) (s : Seen) → OneTree (s ∷ []) → OneTree (if b then s ∷ [] else [])
+  one_if true s one = one
+  one_if false s one = tt
 
-  function_one : (place : SourceRange) (decl : Tree) (p b c : Bool) →
-      OneTree (if p then (if b then written decl else function_with decl (if c then implementation_seen (FnDecl-function decl) else function_seen around.unresolved (expr_seen around.unresolved) DeclarationLike (Ident-span (FnDecl-ident decl)) (FnDecl-function decl))) ∷ [] else [])
-  function_one place decl false b c = tt
-  function_one place decl true true c = (refl, (decl, refl))
-  function_one place decl true false true = (refl, (_, refl))
-  function_one place decl true false false = (refl, (_, refl))
+  statement_one : (statement : Tree) (ds : List Seen) → OneTree (statement_seen statement ds)
+  statement_one statement [] = tt
+  statement_one statement (d ∷ ds) = (made statement (answer_of (d ∷ ds)).stays, refl)
 
-  pub decl_one : (place : SourceRange) (decl : Tree) → OneTree (decl_seen around place decl)
-  decl_one place decl = go (kind_of decl is VarDecl) (kind_of decl is FnDecl) (is_standing (kind_of decl)) (around.is_public place)
+  function_one : (place : SourceRange) (decl : Tree) → OneTree (public_function around place decl)
+  function_one place decl = one_if (around.is_public place) (function_decl_seen around place decl)
+      (of_choice P around.is_declaration_file _ _ (λ e. (decl, refl))
+      (λ e. of_choice (λ s. P (signed decl s)) (around.is_implementation place) _ _ (λ e. (_, refl)) (λ e. (_, refl))))
     where
-      go : (b f s p : Bool) → OneTree (if b then statement_seen decl (public_declarators around decl) else (if f then (if p then function_decl_seen around place decl ∷ [] else []) else (if s then (if p then written decl ∷ [] else []) else [])))
-      go true f s p = statement_one decl (public_declarators around decl) (declarators_stay decl)
-      go false true s p = function_one place decl p around.is_declaration_file (around.is_implementation place)
-      go false false true true = (refl, (decl, refl))
-      go false false true false = tt
-      go false false false p = tt
+      P : Seen → Type 0
+      P s = OneTree (s ∷ [])
 
-  abbrev export_with : Tree → Answer → Answer
-  export_with export a =
-      let all = visited (record { trees = tree.Range (ExportDecl-span export) ∷ []; faults = []; is_leavable = true } ∷ a ∷ []) in
-      if all.is_leavable then fails (node ExportDecl all.trees) all.faults else record { trees = []; faults = all.faults; is_leavable = false }
+  pub decl_one : (place : SourceRange) (decl : Tree) (rule : DeclRule) → OneTree (decl_seen around place decl rule)
+  decl_one place decl Variables = statement_one decl (public_declarators around decl)
+  decl_one place decl Function = function_one place decl
+  decl_one place decl Standing = one_if (around.is_public place) (written decl) (decl, refl)
+  decl_one place decl Untaken = tt
 
-  -- what stands of an export of one form that may stay
+  -- ---- exports
+
+  abbrev exported : Tree → Tree → Tree
+  exported export decl = node ExportDecl (tree.Range (ExportDecl-span export) ∷ decl ∷ [])
+
+  abbrev export_with : Tree → Answer (Option Tree) → Answer (Option Tree)
+  export_with export a = round_answer ExportDecl (visited (faultless (Some (tree.Range (ExportDecl-span export)))) (visited a (faultless (Some []))))
+
+  -- what stands of an export of one form
   export_answer : (export : Tree) (s : Seen) (one : OneTree (s ∷ [])) →
-      answer_to (form ExportDecl (seens (Seen.range (ExportDecl-span export) ∷ s ∷ []))) ≡ fails (node ExportDecl (tree.Range (ExportDecl-span export) ∷ one.1.0 ∷ [])) (answer_to s).faults
+      answer_to (round ExportDecl (seens (range (ExportDecl-span export) ∷ s ∷ []))) ≡
+      (record { stays = Some (exported export one.0); faults = (answer_to s).faults })
   export_answer export s one =
-      let same : answer_to s ≡ record { trees = one.1.0 ∷ []; faults = (answer_to s).faults; is_leavable = true } = λ i. record { trees = one.1.1 i; faults = (answer_to s).faults; is_leavable = one.0 i } in
-      ap (export_with export) same ∙ ap (fails (node ExportDecl (tree.Range (ExportDecl-span export) ∷ one.1.0 ∷ []))) (append-nil (answer_to s).faults)
+      let same : answer_to s ≡ record { stays = Some one.0; faults = (answer_to s).faults } = λ i. record { stays = one.1 i; faults = (answer_to s).faults } in
+      ap (export_with export) same ∙ (λ i. record { stays = Some (exported export one.0); faults = append-nil (answer_to s).faults i })
 
   pub export_one : (export : Tree) (ss : List Seen) → OneTree ss → OneTree (exported_seen export ss)
   export_one export [] one = tt
-  export_one export (s ∷ []) one =
-      let e = export_answer export s one in (ap (λ a. a.is_leavable) e, (node ExportDecl (tree.Range (ExportDecl-span export) ∷ one.1.0 ∷ []), ap (λ a. a.trees) e))
+  export_one export (s ∷ []) one = (exported export one.0, ap (λ a. a.stays) (export_answer export s one))
   export_one export (s ∷ t ∷ ss) one = absurd one
 
   pub export_is : (export : Tree) (s : Seen) (one : OneTree (s ∷ [])) →
-      answer_of (exported_seen export (s ∷ [])) ≡ (record { trees = node ExportDecl (tree.Range (ExportDecl-span export) ∷ one.1.0 ∷ []) ∷ []; faults = (answer_to s).faults; is_leavable = true })
+      answer_of (exported_seen export (s ∷ [])) ≡ (record { stays = exported export one.0 ∷ []; faults = (answer_to s).faults })
   export_is export s one =
-      ap (λ a. joined (a ∷ [])) (export_answer export s one) ∙
-      ap (λ f. record { trees = node ExportDecl (tree.Range (ExportDecl-span export) ∷ one.1.0 ∷ []) ∷ []; faults = f; is_leavable = true }) (append-nil (answer_to s).faults)
+      ap (λ a. joined with_tree a (faultless [])) (export_answer export s one)
+      ∙ (λ i. record { stays = exported export one.0 ∷ []; faults = append-nil (answer_to s).faults i })
 
-  export_stands : (export : Tree) (ss : List Seen) → OneTree ss → Stands IsDecl ss → Stands IsItem (exported_seen export ss)
-  export_stands export [] one p e = tt
-  export_stands export (s ∷ []) one p e =
-      let is' = export_is export s one in
-      let q : OfAll IsDecl ((answer_to s).trees ++ []) = p (append-nil (answer_to s).faults ∙ (sym (ap (λ a. a.faults) is') ∙ e)) in
-      let decl : IsDecl one.1.0 = (subst (OfAll IsDecl) (append-nil (answer_to s).trees ∙ one.1.1) q).0 in
-      subst (λ a. OfAll IsItem a.trees) (sym is') (
-        inr (
-          kind_of_node ExportDecl (tree.Range (ExportDecl-span export) ∷ one.1.0 ∷ []),
-          subst IsDecl (sym (part_node 1 ExportDecl (tree.Range (ExportDecl-span export) ∷ one.1.0 ∷ []))) decl,
-        ),
+  exported_stays : (export decl : Tree) → IsDecl decl → IsItem (exported export decl)
+  exported_stays export decl h =
+      let same : ExportDecl-decl (exported export decl) ≡ decl = part_node _ _ _ in inr (kind_of_node _ _, subst IsDecl (sym same) h)
+
+  export_stays : (export : Tree) (ss : List Seen) → OneTree ss → AllStay IsDecl ss → AllStay IsItem (exported_seen export ss)
+  export_stays export [] one p = tt
+  export_stays export (s ∷ []) one p =
+      let span = tree.Range (ExportDecl-span export) in
+      let last = visited (answer_to s) (faultless (Some [])) in (
+        round_stays ExportDecl (λ ts. IsItem (node ExportDecl ts)) IsItem (λ ts h. h) (visited (faultless (Some span)) last)
+            (written_before (λ ts. IsItem (node ExportDecl ts)) span last
+            (last_stays IsDecl (λ ts. IsItem (node ExportDecl (span ∷ ts))) (exported_stays export) (answer_to s) p.0)),
         tt,
       )
-  export_stands export (s ∷ t ∷ ss) one p e = absurd one
+  export_stays export (s ∷ t ∷ ss) one p = absurd one
 
-  item_stands : (item : Tree) → Stands IsItem (item_seen around item)
-  item_stands item = go (kind_of item is ExportDecl)
+  -- ---- items
+
+  pub item_one : (item : Tree) (rule : ItemRule) → OneTree (seen_by_rule around item rule)
+  item_one item (Declared rule) = decl_one (range_of_node item) item rule
+  item_one item (Exported rule) =
+      export_one item (decl_seen around (ExportDecl-span item) (ExportDecl-decl item) rule) (decl_one (ExportDecl-span item) (ExportDecl-decl item) rule)
+  item_one item Silent = tt
+
+  item_stays : (item : Tree) → AllStay IsItem (item_seen around item)
+  item_stays item = go (kind_of item) refl
     where
-      wrap : (ts : List Tree) → OfAll IsDecl ts → OfAll IsItem ts
-      wrap [] h = tt
-      wrap (t ∷ ts) h = (inl h.0, wrap ts h.1)
+      expression : (k : Kind) → AllStay IsItem (seen_by_rule around item (expr_stmt_rule k))
+      expression kinds.AssignExpr = tt
+      expression _ = tt
 
-      go : (b : Bool) → Stands IsItem (if b then exported_seen item (decl_seen around (ExportDecl-span item) (ExportDecl-decl item)) else decl_seen around (own_range item) item)
-      go true e = export_stands item (decl_seen around (ExportDecl-span item) (ExportDecl-decl item)) (decl_one (ExportDecl-span item) (ExportDecl-decl item)) (decl_stands (ExportDecl-span item) (ExportDecl-decl item)) e
-      go false e = wrap (answer_of (decl_seen around (own_range item) item)).trees (decl_stands (own_range item) item e)
+      declared : (k : Kind) → kind_of item ≡ k → AllStay IsItem (decl_seen around (range_of_node item) item (decl_rule k))
+      declared k q =
+          all_weaker IsDecl IsItem (λ t h. inl h) (decl_seen around (range_of_node item) item (decl_rule k))
+          (decl_stays (range_of_node item) item (decl_rule k) (ap decl_rule q))
+
+      go : (k : Kind) → kind_of item ≡ k → AllStay IsItem (seen_by_rule around item (rule_of_kind k item))
+      go kinds.ExportDecl q =
+          let rule = decl_rule (kind_of (ExportDecl-decl item)) in
+          export_stays item (decl_seen around (ExportDecl-span item) (ExportDecl-decl item) rule) (decl_one (ExportDecl-span item) (ExportDecl-decl item) rule)
+          (decl_stays (ExportDecl-span item) (ExportDecl-decl item) rule refl)
+      go kinds.ExprStmt q = expression (kind_of (ExprStmt-expr item))
+      go k q = declared k q
 
   abbrev module_parts : Tree → List Tree
-  module_parts program = tree.Range (Module-span program) ∷ list (transformed around program).trees ∷ Module-shebang program ∷ []
+  module_parts program = tree.Range (Module-span program) ∷ list (transformed around program).stays ∷ Module-shebang program ∷ []
 
   pub skeleton_stands : (program : Tree) → faults_of around program ≡ [] → IsSkeleton around.unresolved around.is_declaration_file (skeleton_of around program)
   skeleton_stands program e = record {
     kind = kind_of_node Module (module_parts program);
-    items = subst (OfAll (IsTypedItem around.unresolved around.is_declaration_file)) (sym (ap parts (part_node 1 Module (module_parts program)) ∙ parts_node List' (transformed around program).trees))
-        (stands_all (IsTypedItem around.unresolved around.is_declaration_file) (item_seen around) (items_of program) item_stands e);
+    items = subst (OfAll IsItem) (sym (ap parts (part_node 1 Module (module_parts program)) ∙ parts_node List' (transformed around program).stays))
+        (all_hold IsItem (flat_map (item_seen around) (items_of program)) (all_flat IsItem (item_seen around) (items_of program) item_stays) e);
   }

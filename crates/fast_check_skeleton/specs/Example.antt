@@ -1,5 +1,6 @@
 -- Two modules that agree but for what is hidden, so that the law of two worlds speaks of something:
--- `/** x */ export const x: string = "a";`, and behind a hidden function and with another value `/** g */ function g() {} /** x */ export const x: string = y;`.
+-- `/** x */ export const x: string = "a";`, and behind a hidden function and with another value
+-- `/** g */ function g() {} /** x */ export const x: string = y;`.
 use Rattle.std.specs.Prelude.{◌≡◌, ℕ, ◌+◌, ◌==◌, false, List, [], ◌∷◌}
 use Rattle.fast_check_syntax.specs.declared.kind.Word.TheVariants as words
 use Rattle.fast_check_syntax.specs.declared.source.SourcePos.{SourcePos}
@@ -67,7 +68,10 @@ before_tokens places = record { leading = places; trailing = [] }
 
 -- `/** x */ export const x: string = "a"; /** z */`
 abbrev pub with_trailing : Comments
-with_trailing = record { leading = documented 120 1 ∷ []; trailing = (record { 0 = 39 }, record { kind = Block; span = at 40 48; text = 42 ∷ 32 ∷ 122 ∷ 32 ∷ [] } ∷ []) ∷ [] }
+with_trailing = record {
+  leading = documented 120 1 ∷ [];
+  trailing = (record { 0 = 39 }, record { kind = Block; span = at 40 48; text = 42 ∷ 32 ∷ 122 ∷ 32 ∷ [] } ∷ []) ∷ [];
+}
 
 -- `"a"` at 35
 abbrev pub text_value : Tree
@@ -107,7 +111,8 @@ renaming = record {
 abbrev pub around : ℕ → Surroundings
 around place = record { is_public = λ r. r.start.0 == place; is_implementation = λ r. false; unresolved = scope 1; is_declaration_file = false }
 
--- They agree, and so the law says that their answers are the same: the first is `/** x */ export const x: string = {} as never;`. What documents the hidden function goes.
+-- They agree, and so the law says that their answers are the same: the first is `/** x */ export const x: string = {} as never;`.
+-- What documents the hidden function goes.
 pub record Example : Type 0 where
   pub one_to_one : IsRenaming renaming
   pub agree : AgreeHidden renaming (around 23) (around 48) first second

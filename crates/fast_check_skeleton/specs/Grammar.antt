@@ -9,12 +9,13 @@ use Rattle.fast_check_program_forms.specs.Names.{BindingIdent-type_ann}
 use Rattle.fast_check_program_forms.specs.Programs.{Module-body}
 use Rattle.fast_check_program_forms.specs.ModuleDecls.{ExportDecl-decl}
 use Rattle.fast_check_typed_grammar.specs.TypedGrammar.{IsLeavable, IsTypedFunction}
-use Rattle.fast_check_skeleton.specs.Visible.{is_standing}
 use Rattle.fast_check_statement_forms.specs.Declarations.{FnDecl-function, VarDecl-declare, VarDecl-decls, VarDeclarator-name, VarDeclarator-init}
+use Rattle.fast_check_skeleton.specs.Kinds.{is_standing}
 
 -- a value behind a written type is `{} as never`; else there is one that gives the type
 abbrev pub HasTypedValue : SyntaxContext → Tree → Tree → Type 0
-HasTypedValue unresolved type value = ((is_absent type ≡ false) × (value ≡ never_value)) ⊎ ((is_absent value ≡ false) × IsLeavable unresolved value)
+HasTypedValue unresolved type value =
+    ((is_absent type ≡ false) × (value ≡ never_value)) ⊎ ((is_absent value ≡ false) × IsLeavable unresolved value)
 
 -- `unresolved` is the scope number of the names that nothing in the module binds
 module _ (unresolved : SyntaxContext) where
@@ -41,7 +42,8 @@ module _ (unresolved : SyntaxContext) where
 
   -- an item of a skeleton: a declaration, exported or not
   abbrev pub IsTypedItem : Bool → Tree → Type 0
-  IsTypedItem is_declaration_file item = IsTypedDecl is_declaration_file item ⊎ ((kind_of item ≡ ExportDecl) × IsTypedDecl is_declaration_file (ExportDecl-decl item))
+  IsTypedItem is_declaration_file item =
+      IsTypedDecl is_declaration_file item ⊎ ((kind_of item ≡ ExportDecl) × IsTypedDecl is_declaration_file (ExportDecl-decl item))
 
   -- a skeleton: a module of nothing but such items
   pub record IsSkeleton (is_declaration_file : Bool) (program : Tree) : Type 0 where

@@ -1,41 +1,38 @@
--- Agreement of two sources but for what is hidden: one rule for each part that may differ. All else agrees node by node, under a renaming of positions and scope numbers.
+-- Agreement of two sources but for what is hidden: one rule for each part that may differ.
+-- All else agrees node by node, under a renaming of positions and scope numbers.
 use Rattle.std.specs.Prelude.{◌≡◌, ℕ, Bool, true, false, not, ◌&&◌, ◌||◌, Some, None, List, [], ◌∷◌}
-use Rattle.std.specs.List.{list_all, list_any}
+use Rattle.std.specs.List.{list_all}
 use Rattle.fast_check_syntax.specs.declared.kind.Kind.{Kind}
-use Rattle.fast_check_syntax.specs.declared.kind.Kind.TheVariants.{BindingIdent, VarDecl, ExportDecl, FnDecl, BlockStmt, EmptyStmt, DebuggerStmt, WithStmt, ReturnStmt, LabeledStmt, BreakStmt, ContinueStmt, IfStmt, SwitchStmt, ThrowStmt, TryStmt, WhileStmt, DoWhileStmt, ForStmt, ForInStmt, ForOfStmt, ExprStmt, AssignExpr}
+use Rattle.fast_check_syntax.specs.declared.kind.Kind.TheVariants.{BindingIdent, VarDecl, ExportDecl, FnDecl, ExprStmt, AssignExpr}
 use Rattle.fast_check_syntax.specs.declared.source.SourceRange.{SourceRange}
 use Rattle.fast_check_syntax.specs.declared.tree.Tree.{Tree}
 use Rattle.fast_check_syntax.specs.Shape.{◌is◌, kind_of, parts, is_absent}
 use Rattle.fast_check_syntax.specs.Moves.{Renaming, Pairs, IsPair}
 use Rattle.fast_check_syntax.specs.Same.{SameTree, SameRange}
 use Rattle.fast_check_tree.specs.declared.helpers.literal_type.DeclMutabilityKind.{DeclMutabilityKind}
+use Rattle.fast_check_tree.specs.InferredType.{inferred_type}
 use Rattle.fast_check_ranges.specs.Ranges.{range_of_node}
 use Rattle.fast_check_program_forms.specs.Programs.{Module-shebang}
 use Rattle.fast_check_program_forms.specs.ModuleDecls.{ExportDecl-span, ExportDecl-decl}
-use Rattle.fast_check_statement_forms.specs.Declarations.{FnDecl-ident, FnDecl-declare, FnDecl-function, VarDecl-span, VarDecl-ctxt, VarDecl-kind, VarDecl-declare, VarDecl-decls, VarDeclarator-span, VarDeclarator-name, VarDeclarator-init, VarDeclarator-definite}
-use Rattle.fast_check_same_values.specs.SameValues.{Both, Neither, SameExpr, SameFunction, SameImplementation}
-use Rattle.fast_check_tree.specs.InferredType.{inferred_type}
+use Rattle.fast_check_statement_forms.specs.Declarations.{FnDecl-ident, FnDecl-declare, FnDecl-function}
+use Rattle.fast_check_statement_forms.specs.Declarations.{VarDecl-span, VarDecl-ctxt, VarDecl-kind, VarDecl-declare, VarDecl-decls}
+use Rattle.fast_check_statement_forms.specs.Declarations.{VarDeclarator-span, VarDeclarator-name, VarDeclarator-init, VarDeclarator-definite}
 use Rattle.fast_check_statement_forms.specs.Statements.{ExprStmt-expr}
-use Rattle.fast_check_skeleton.specs.Surroundings.{Surroundings}
+use Rattle.fast_check_same_values.specs.SameValues.{Both, Neither, SameExpr, SameFunction, SameImplementation}
+use Rattle.fast_check_skeleton.specs.Kinds.{is_standing, is_statement}
 use Rattle.fast_check_skeleton.specs.Mutability.{mutability_of}
-use Rattle.fast_check_skeleton.specs.Visible.{declared_ident, declared_type, is_ambient, is_public_declarator, is_standing, own_range, items_of}
-
--- the statements that are no declarations and no expressions
-abbrev pub statement_kinds : List Kind
-statement_kinds =
-    BlockStmt ∷ EmptyStmt ∷ DebuggerStmt ∷ WithStmt ∷ ReturnStmt ∷ LabeledStmt ∷ BreakStmt ∷ ContinueStmt ∷ IfStmt ∷ SwitchStmt ∷
-    ThrowStmt ∷ TryStmt ∷ WhileStmt ∷ DoWhileStmt ∷ ForStmt ∷ ForInStmt ∷ ForOfStmt ∷ []
+use Rattle.fast_check_skeleton.specs.Surroundings.{Surroundings}
+use Rattle.fast_check_skeleton.specs.Visible.{declared_ident, declared_type, is_ambient, is_public_declarator, items_of}
 
 -- a statement that is no declaration and no assignment
 abbrev pub is_plain_statement : Tree → Bool
-is_plain_statement t =
-    list_any (λ kind. kind_of t is kind) statement_kinds ||
-    ((kind_of t is ExprStmt) && not (kind_of (ExprStmt-expr t) is AssignExpr))
+is_plain_statement t = is_statement (kind_of t) || ((kind_of t is ExprStmt) && not (kind_of (ExprStmt-expr t) is AssignExpr))
 
 -- a declaration that goes without a word; `place` is the range of its export, or else its own
 pub data IsSilentDecl (around : Surroundings) (place : SourceRange) : Tree → Type 0 where
   -- a variable statement without a public declarator
-  variable : {t : Tree} → kind_of t ≡ VarDecl → list_all (λ d. not (is_public_declarator around d)) (parts (VarDecl-decls t)) ≡ true → IsSilentDecl around place t
+  variable : {t : Tree} → kind_of t ≡ VarDecl → list_all (λ d. not (is_public_declarator around d)) (parts (VarDecl-decls t)) ≡ true →
+      IsSilentDecl around place t
   -- an interface, type alias or enum that is not public
   standing : {t : Tree} → is_standing (kind_of t) ≡ true → around.is_public place ≡ false → IsSilentDecl around place t
   -- a function that is not public
@@ -43,7 +40,7 @@ pub data IsSilentDecl (around : Surroundings) (place : SourceRange) : Tree → T
 
 -- an item that goes without a word
 pub data IsSilent (around : Surroundings) : Tree → Type 0 where
-  decl : {t : Tree} → IsSilentDecl around (own_range t) t → IsSilent around t
+  decl : {t : Tree} → IsSilentDecl around (range_of_node t) t → IsSilent around t
   -- a statement that declares and assigns nothing
   statement : {t : Tree} → is_plain_statement t ≡ true → IsSilent around t
   exported : {t : Tree} → kind_of t ≡ ExportDecl → IsSilentDecl around (ExportDecl-span t) (ExportDecl-decl t) → IsSilent around t
@@ -71,7 +68,8 @@ module _ (r : Renaming) (a b : Surroundings) where
     typed : {t u : Tree} → SameHead t u → is_absent (declared_type t) ≡ false → SameDeclarator mutability t u
     -- any values of the same inferred type
     inferred : {t u : Tree} (x y : Tree) → SameHead t u →
-        inferred_type mutability a.unresolved (VarDeclarator-init t) ≡ Some x → inferred_type mutability b.unresolved (VarDeclarator-init u) ≡ Some y → SameTree r x y → SameDeclarator mutability t u
+        inferred_type mutability a.unresolved (VarDeclarator-init t) ≡ Some x → inferred_type mutability b.unresolved (VarDeclarator-init u) ≡ Some y →
+        SameTree r x y → SameDeclarator mutability t u
     -- the same values
     same : {t u : Tree} → SameHead t u → SameTree r (VarDeclarator-init t) (VarDeclarator-init u) → SameDeclarator mutability t u
     -- values that show no type and are to stay
@@ -127,14 +125,15 @@ module _ (r : Renaming) (a b : Surroundings) where
     ambient_function : {t u : Tree} → Both FnDecl t u → a.is_public p ≡ b.is_public q → a.is_declaration_file ≡ true → SameTree r t u → SameDecl p q t u
 
   pub data SameItem : Tree → Tree → Type 0 where
-    decl : {t u : Tree} → SameDecl (own_range t) (own_range u) t u → SameItem t u
-    exported : {t u : Tree} → Both ExportDecl t u → SameRange r (ExportDecl-span t) (ExportDecl-span u) → SameDecl (ExportDecl-span t) (ExportDecl-span u) (ExportDecl-decl t) (ExportDecl-decl u) → SameItem t u
+    decl : {t u : Tree} → SameDecl (range_of_node t) (range_of_node u) t u → SameItem t u
+    exported : {t u : Tree} → Both ExportDecl t u → SameRange r (ExportDecl-span t) (ExportDecl-span u) →
+        SameDecl (ExportDecl-span t) (ExportDecl-span u) (ExportDecl-decl t) (ExportDecl-decl u) → SameItem t u
 
   -- items one by one, the silent ones aside; where a silent one begins has no partner
   pub data SameItems : List Tree → List Tree → Type 0 where
     end : SameItems [] []
-    left : {t : Tree} {ts us : List Tree} → IsSilent a t → HasNoPartner r.starts (own_range t).start.0 → SameItems ts us → SameItems (t ∷ ts) us
-    right : {u : Tree} {ts us : List Tree} → IsSilent b u → IsNoPartner r.starts (own_range u).start.0 → SameItems ts us → SameItems ts (u ∷ us)
+    left : {t : Tree} {ts us : List Tree} → IsSilent a t → HasNoPartner r.starts (range_of_node t).start.0 → SameItems ts us → SameItems (t ∷ ts) us
+    right : {u : Tree} {ts us : List Tree} → IsSilent b u → IsNoPartner r.starts (range_of_node u).start.0 → SameItems ts us → SameItems ts (u ∷ us)
     next : {t u : Tree} {ts us : List Tree} → SameItem t u → SameItems ts us → SameItems (t ∷ ts) (u ∷ us)
 
   -- two modules that agree but for what is hidden

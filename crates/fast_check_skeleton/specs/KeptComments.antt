@@ -5,13 +5,14 @@ use Rattle.fast_check_syntax.specs.declared.source.SourcePos.{SourcePos}
 use Rattle.fast_check_syntax.specs.declared.tree.Tree.{Tree}
 use Rattle.fast_check_comments.specs.declared.comments.Comments.{Comments}
 use Rattle.fast_check_comments.specs.Kept.{kept, without_leading}
-use Rattle.fast_check_skeleton.specs.Surroundings.{Surroundings}
+use Rattle.fast_check_ranges.specs.Ranges.{range_of_node}
 use Rattle.fast_check_signatures.specs.Seen.{Seen}
-use Rattle.fast_check_skeleton.specs.Visible.{own_range, item_seen, items_of}
+use Rattle.fast_check_skeleton.specs.Surroundings.{Surroundings}
+use Rattle.fast_check_skeleton.specs.Visible.{item_seen, items_of}
 
 -- the start of an item, if nothing of it is seen
 abbrev pub start_of_unseen : Tree → List Seen → List SourcePos
-start_of_unseen item [] = (own_range item).start ∷ []
+start_of_unseen item [] = (range_of_node item).start ∷ []
 start_of_unseen item (_ ∷ _) = []
 
 -- the start of an item that goes

@@ -1,4 +1,6 @@
 pub mod Surroundings
+pub mod Kinds
+pub mod Rules
 pub mod Mutability
 pub mod Visible
 pub mod Skeleton

@@ -9,13 +9,13 @@ use Rattle.fast_check_skeleton.specs.Surroundings.{Surroundings}
 use Rattle.fast_check_skeleton.specs.Visible.{visible}
 
 -- what becomes of a module's items
-abbrev pub transformed : Surroundings → Tree → Answer
+abbrev pub transformed : Surroundings → Tree → Answer (List Tree)
 transformed surroundings program = answer_of (visible surroundings program)
 
 -- the skeleton of a module: what is public of its items, under its own span and shebang
 abbrev pub skeleton_of : Surroundings → Tree → Tree
 skeleton_of surroundings program =
-    module' (Module-span program) (list (transformed surroundings program).trees) (Module-shebang program)
+    module' (Module-span program) (list (transformed surroundings program).stays) (Module-shebang program)
 
 -- what is wrong with a module, in reading order
 abbrev pub faults_of : Surroundings → Tree → List Fault

@@ -2,27 +2,32 @@
 -- All that is asked outside the tree is asked here. What follows sees nothing that is hidden.
 use Rattle.std.specs.Prelude.{Bool, ◌||◌, if◌then◌else◌, Option, Some, None, List, [], ◌∷◌}
 use Rattle.std.specs.List.{flat_map}
-use Rattle.fast_check_syntax.specs.declared.kind.Kind.TheVariants.{BindingIdent, VarDeclarator, VarDecl, FnDecl, ExportDecl, TsInterfaceDecl, TsTypeAliasDecl, TsEnumDecl, List as List'}
-use Rattle.fast_check_syntax.specs.declared.kind.Kind.{Kind}
+use Rattle.fast_check_syntax.specs.declared.kind.Kind.TheVariants.{BindingIdent, VarDecl, FnDecl, ExportDecl}
 use Rattle.fast_check_syntax.specs.declared.source.SourceRange.{SourceRange}
 use Rattle.fast_check_syntax.specs.declared.tree.Tree.{Tree}
 use Rattle.fast_check_syntax.specs.Shape.{◌is◌, kind_of, parts, is_absent}
 use Rattle.fast_check_tree.specs.declared.helpers.literal_type.DeclMutabilityKind.{DeclMutabilityKind}
-use Rattle.fast_check_class_forms.specs.Functions.{Function-span}
+use Rattle.fast_check_tree.specs.Builders.{type_ann, never_value}
+use Rattle.fast_check_tree.specs.InferredType.{inferred_type}
 use Rattle.fast_check_ranges.specs.Ranges.{range_of_node}
-use Rattle.fast_check_program_forms.specs.Names.{Ident-span, BindingIdent-id, BindingIdent-type_ann}
+use Rattle.fast_check_program_forms.specs.Names.{Ident-span, BindingIdent-id, BindingIdent-type_ann, binding_ident}
 use Rattle.fast_check_program_forms.specs.Programs.{Module-body}
 use Rattle.fast_check_program_forms.specs.ModuleDecls.{ExportDecl-span, ExportDecl-decl}
-use Rattle.fast_check_statement_forms.specs.TsDeclarations.{TsInterfaceDecl-span}
-use Rattle.fast_check_statement_forms.specs.Declarations.{FnDecl-ident, FnDecl-declare, FnDecl-function, VarDecl-span, VarDecl-ctxt, VarDecl-kind, VarDecl-declare, VarDecl-decls, VarDeclarator-span, VarDeclarator-name, VarDeclarator-init, VarDeclarator-definite}
-use Rattle.fast_check_tree.specs.InferredType.{inferred_type}
+use Rattle.fast_check_statement_forms.specs.Declarations.{FnDecl-ident, FnDecl-declare, FnDecl-function}
+use Rattle.fast_check_statement_forms.specs.Declarations.{VarDecl-span, VarDecl-ctxt, VarDecl-kind, VarDecl-declare, VarDecl-decls}
+use Rattle.fast_check_statement_forms.specs.Declarations.{VarDeclarator-span, VarDeclarator-name, VarDeclarator-init, VarDeclarator-definite, var_declarator}
 use Rattle.fast_check_signatures.specs.declared.fault.FaultKind.TheVariants.{UnsupportedDestructuring}
 use Rattle.fast_check_signatures.specs.declared.function_kind.FunctionKind.TheVariants.{DeclarationLike}
 use Rattle.fast_check_signatures.specs.Expressions.{expr_seen}
 use Rattle.fast_check_signatures.specs.Functions.{function_seen, implementation_seen}
-use Rattle.fast_check_skeleton.specs.Surroundings.{Surroundings}
+use Rattle.fast_check_signatures.specs.Seen.{DeclaratorHead, Seen, written, range, scope, flag, round, listed, declarator, faulty, refused, seens}
+use Rattle.fast_check_skeleton.specs.declared.rules.DeclRule.{DeclRule}
+use Rattle.fast_check_skeleton.specs.declared.rules.DeclRule.TheVariants.{Variables, Function, Standing, Untaken}
+use Rattle.fast_check_skeleton.specs.declared.rules.ItemRule.{ItemRule}
+use Rattle.fast_check_skeleton.specs.declared.rules.ItemRule.TheVariants.{Declared, Exported, Silent}
 use Rattle.fast_check_skeleton.specs.Mutability.{mutability_of}
-use Rattle.fast_check_signatures.specs.Seen.{Seen, written, range, scope, flag, form, inferred, faulty, refused, hidden, seens}
+use Rattle.fast_check_skeleton.specs.Rules.{item_rule}
+use Rattle.fast_check_skeleton.specs.Surroundings.{Surroundings}
 
 -- the identifier that a declarator declares, and its written type
 abbrev pub declared_ident : Tree → Tree
@@ -31,30 +36,28 @@ declared_ident d = BindingIdent-id (VarDeclarator-name d)
 abbrev pub declared_type : Tree → Tree
 declared_type d = BindingIdent-type_ann (VarDeclarator-name d)
 
--- a part that is written, if it is there
-abbrev pub standing : Tree → Seen
-standing t = if is_absent t then hidden else written t
+-- a declarator of an identifier, but for its value
+abbrev pub declarator_head : Tree → DeclaratorHead
+declarator_head d = record { span = VarDeclarator-span d; ident = declared_ident d; definite = VarDeclarator-definite d }
 
-abbrev pub by_inferred : Option Tree → Seen
-by_inferred (Some type) = inferred type
-by_inferred None = hidden
+-- a declarator of this type, with `{} as never` for its value
+abbrev pub typed_declarator : DeclaratorHead → Tree → Tree
+typed_declarator d type = var_declarator d.span (binding_ident d.ident type) never_value d.definite
 
--- what is seen of a declarator where no type is written
-abbrev pub untyped : Tree → Seen → Seen
-untyped type seen = if is_absent type then seen else hidden
+-- a value that is to give a type, and the place of the identifier that names it; where there is none, nothing gives the type
+abbrev pub value_seen : Surroundings → SourceRange → Tree → Seen
+value_seen around place value = if is_absent value then refused else expr_seen around.unresolved value (Some place)
 
--- a value that shows no type: it may stay, so that it gives the type, and the identifier names it; where there is none, nothing gives the type
-abbrev pub kept_value_seen : Surroundings → SourceRange → Option Tree → Tree → Seen
-kept_value_seen around place (Some type) value = hidden
-kept_value_seen around place None value = if is_absent value then refused else expr_seen around.unresolved value (Some place)
+-- a declarator without a written type, by the type that its value shows, or else with the value as it may stay
+abbrev pub untyped_seen : Surroundings → Tree → Option Tree → Seen
+untyped_seen around d (Some type) = written (typed_declarator (declarator_head d) (type_ann type))
+untyped_seen around d None = declarator (declarator_head d) (value_seen around (Ident-span (declared_ident d)) (VarDeclarator-init d))
 
--- a declarator of an identifier: its range, its identifier, whether it is definite, its written type, and behind none its value by the inferred type, or else as it may stay
+-- a declarator of an identifier
 abbrev pub ident_declarator_seen : Surroundings → DeclMutabilityKind → Tree → Seen
 ident_declarator_seen around mutability d =
-    let type = declared_type d in
-    let shown = inferred_type mutability around.unresolved (VarDeclarator-init d) in
-    form VarDeclarator (seens (range (VarDeclarator-span d) ∷ written (declared_ident d) ∷ flag (VarDeclarator-definite d) ∷ standing type ∷
-    untyped type (by_inferred shown) ∷ untyped type (kept_value_seen around (Ident-span (declared_ident d)) shown (VarDeclarator-init d)) ∷ []))
+    if is_absent (declared_type d) then untyped_seen around d (inferred_type mutability around.unresolved (VarDeclarator-init d))
+    else written (typed_declarator (declarator_head d) (declared_type d))
 
 -- a declarator that is not ambient; a pattern can't be one
 abbrev pub declarator_seen : Surroundings → DeclMutabilityKind → Tree → Seen
@@ -72,7 +75,8 @@ is_public_declarator around d = around.is_public (VarDeclarator-span d)
 
 -- a declarator of a statement
 abbrev pub declarator_in : Surroundings → Tree → Tree → Seen
-declarator_in around statement d = if is_ambient around statement then written d else declarator_seen around (mutability_of (VarDecl-kind statement)) d
+declarator_in around statement d =
+    if is_ambient around statement then written d else declarator_seen around (mutability_of (VarDecl-kind statement)) d
 
 -- a public declarator; nothing of another
 abbrev pub public_declarator : Surroundings → Tree → Tree → List Seen
@@ -85,16 +89,8 @@ public_declarators around statement = flat_map (public_declarator around stateme
 abbrev pub statement_seen : Tree → List Seen → List Seen
 statement_seen statement [] = []
 statement_seen statement (d ∷ ds) =
-    form VarDecl (seens (range (VarDecl-span statement) ∷ scope (VarDecl-ctxt statement) ∷ written (VarDecl-kind statement) ∷
-    flag (VarDecl-declare statement) ∷ form List' (seens (d ∷ ds)) ∷ [])) ∷ []
-
--- interfaces, type aliases and enums stand as they are written
-abbrev pub is_standing : Kind → Bool
-is_standing kind = (kind is TsInterfaceDecl) || ((kind is TsTypeAliasDecl) || (kind is TsEnumDecl))
-
--- the range of an item: that of a function declaration is its function's, and the other forms that are spoken of begin with it alike
-abbrev pub own_range : Tree → SourceRange
-own_range item = if kind_of item is FnDecl then Function-span (FnDecl-function item) else TsInterfaceDecl-span item
+    round VarDecl (seens (range (VarDecl-span statement) ∷ scope (VarDecl-ctxt statement) ∷ written (VarDecl-kind statement) ∷
+    flag (VarDecl-declare statement) ∷ listed (seens (d ∷ ds)) ∷ [])) ∷ []
 
 abbrev pub standing_seen : Surroundings → SourceRange → Tree → List Seen
 standing_seen around place decl = if around.is_public place then written decl ∷ [] else []
@@ -109,27 +105,32 @@ signature_of around place decl =
 abbrev pub function_decl_seen : Surroundings → SourceRange → Tree → Seen
 function_decl_seen around place decl =
     if around.is_declaration_file then written decl
-    else form FnDecl (seens (written (FnDecl-ident decl) ∷ flag (FnDecl-declare decl) ∷ signature_of around place decl ∷ []))
+    else round FnDecl (seens (written (FnDecl-ident decl) ∷ flag (FnDecl-declare decl) ∷ signature_of around place decl ∷ []))
 
 abbrev pub public_function : Surroundings → SourceRange → Tree → List Seen
 public_function around place decl = if around.is_public place then function_decl_seen around place decl ∷ [] else []
 
--- A declaration. Of a variable statement the declarators are public, by their own ranges; another is public by `place`, which is the range of its export, or else its own. Of other forms nothing is seen.
-abbrev pub decl_seen : Surroundings → SourceRange → Tree → List Seen
-decl_seen around place decl =
-    if kind_of decl is VarDecl then statement_seen decl (public_declarators around decl)
-    else (if kind_of decl is FnDecl then public_function around place decl
-    else (if is_standing (kind_of decl) then standing_seen around place decl else []))
+-- A declaration, by what is done with it. Of a variable statement the declarators are public, by their own ranges; another is public by `place`, which is the
+-- range of its export, or else its own. Of one that is not taken nothing is seen.
+abbrev pub decl_seen : Surroundings → SourceRange → Tree → DeclRule → List Seen
+decl_seen around place decl Variables = statement_seen decl (public_declarators around decl)
+decl_seen around place decl Function = public_function around place decl
+decl_seen around place decl Standing = standing_seen around place decl
+decl_seen around place decl Untaken = []
 
 -- an exported declaration; nothing where none of it is seen
 abbrev pub exported_seen : Tree → List Seen → List Seen
 exported_seen export [] = []
-exported_seen export (d ∷ ds) = form ExportDecl (seens (range (ExportDecl-span export) ∷ d ∷ ds)) ∷ []
+exported_seen export (d ∷ ds) = round ExportDecl (seens (range (ExportDecl-span export) ∷ d ∷ ds)) ∷ []
 
--- an item of a module
+-- an item of a module, by what is done with it
+abbrev pub seen_by_rule : Surroundings → Tree → ItemRule → List Seen
+seen_by_rule around item (Declared rule) = decl_seen around (range_of_node item) item rule
+seen_by_rule around item (Exported rule) = exported_seen item (decl_seen around (ExportDecl-span item) (ExportDecl-decl item) rule)
+seen_by_rule around item Silent = []
+
 abbrev pub item_seen : Surroundings → Tree → List Seen
-item_seen around item =
-    if kind_of item is ExportDecl then exported_seen item (decl_seen around (ExportDecl-span item) (ExportDecl-decl item)) else decl_seen around (own_range item) item
+item_seen around item = seen_by_rule around item (item_rule item)
 
 -- the items of a module. A script is taken as a module: its fields stand in the same places.
 abbrev pub items_of : Tree → List Tree

@@ -29,6 +29,7 @@ pub record SameAnswers (r : Renaming) (a : Surroundings) (t : Tree) (c : Comment
   pub faults : Each (SameFault r) (faults_of a t) (faults_of b u)
   pub comments : SameComments r (kept_comments a t c) (kept_comments b u d)
 
--- Under each renaming under which two modules agree but for what is hidden, and so do those of their comments that a skeleton may keep, their answers are the same.
+-- Under each renaming under which two modules agree but for what is hidden, and so do those of their comments that a skeleton may keep, their answers are
+-- the same.
 abbrev pub TwoWorlds : Surroundings → Tree → Comments → Surroundings → Tree → Comments → Type 0
 TwoWorlds a t c b u d = (r : Renaming) → IsRenaming r → AgreeHidden r a b t u → SameComments r (kept c) (kept d) → SameAnswers r a t c b u d

@@ -2,7 +2,9 @@
 //! and the law that they keep.
 #![tactic(auto)]
 
+mod rules;
 mod worlds;
 
 pub use fast_check_signatures::{Fault, FaultKind, FunctionKind};
+pub use rules::{DeclRule, ItemRule, decl_rule, item_rule};
 pub use worlds::two_worlds;

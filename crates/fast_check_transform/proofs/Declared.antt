@@ -1,207 +1,244 @@
--- What becomes of the value of a declarator, and of a function.
-use Rattle.std.specs.Prelude.{◌≡◌, Bool, true, false, Option, Some, None, List, [], ◌∷◌, ◌++◌, refl, if◌then◌else◌}
-use Rattle.std.proofs.Common.{ap, ◌∙◌, append-nil}
+-- What is answered to declarators and functions, case by case.
+use Rattle.std.specs.Prelude.{◌≡◌, ℕ, ◌+◌, ◌<◌, ◌≤◌, Bool, true, false, Option, Some, None, option_map, List, [], ◌∷◌, ◌++◌, flat_map, length, take, refl}
+use Rattle.std.specs.Prelude.{if◌then◌else◌}
+use lib.ListN.{get_or}
+use Rattle.std.proofs.Common.{ap, ◌∙◌, sym, subst}
+use Rattle.fast_check_syntax.specs.declared.kind.Kind.TheVariants.{BindingIdent, FnDecl, VarDecl}
 use Rattle.fast_check_syntax.specs.declared.source.SourceRange.{SourceRange}
+use Rattle.fast_check_syntax.specs.declared.tree.Tree as tree
 use Rattle.fast_check_syntax.specs.declared.tree.Tree.{Tree, Absent}
-use Rattle.fast_check_syntax.specs.declared.kind.Kind.TheVariants.{FnDecl, BindingIdent, VarDeclarator}
-use Rattle.fast_check_syntax.specs.Shape.{is_absent, ◌is◌, kind_of}
+use Rattle.fast_check_syntax.specs.Shape.{is_absent, ◌is◌, kind_of, parts, node, list}
 use Rattle.fast_check_program_forms.specs.Names.{Ident-span}
-use Rattle.fast_check_statement_forms.specs.Declarations.{FnDecl-ident, FnDecl-declare, FnDecl-function, fn_decl, VarDecl-kind, VarDeclarator-span, VarDeclarator-name, VarDeclarator-init, VarDeclarator-definite}
+use Rattle.fast_check_statement_forms.specs.Declarations.{FnDecl-ident, FnDecl-declare, FnDecl-function, fn_decl}
+use Rattle.fast_check_statement_forms.specs.Declarations.{VarDecl-span, VarDecl-ctxt, VarDecl-kind, VarDecl-declare, VarDecl-decls, var_decl}
+use Rattle.fast_check_statement_forms.specs.Declarations.{VarDeclarator-name, VarDeclarator-init}
 use Rattle.fast_check_tree.specs.Builders.{type_ann, never_value}
 use Rattle.fast_check_tree.specs.InferredType.{inferred_type}
+use Rattle.fast_check_tree.specs.declared.helpers.literal_type.DeclMutabilityKind.{DeclMutabilityKind}
+use Rattle.fast_check_ranges.specs.Ranges.{range_of_node}
 use Rattle.fast_check_signatures.specs.declared.fault.Fault.{Fault}
 use Rattle.fast_check_signatures.specs.declared.fault.FaultKind.TheVariants.{MissingExplicitType, UnsupportedDestructuring}
 use Rattle.fast_check_signatures.specs.declared.function_kind.FunctionKind.TheVariants.{DeclarationLike}
-use Rattle.fast_check_signatures.specs.Seen.{Seen, refused, seens}
-use Rattle.fast_check_signatures.specs.Answers.{Answer, first_or_absent, fault_at, kept_tree, answer_to, answer_of}
+use Rattle.fast_check_signatures.specs.Seen.{Seen, written, range, scope, flag, round, listed, declarator, faulty, refused, seens}
+use Rattle.fast_check_signatures.specs.Answers.{Adds, fault_at, faultless, with_tree, valued_declarator, answer_to, answer_of}
 use Rattle.fast_check_signatures.specs.Expressions.{expr_seen}
 use Rattle.fast_check_signatures.specs.Functions.{function_seen, implementation_seen}
-use Rattle.fast_check_signatures.proofs.Gone.{gone}
-use Rattle.fast_check_typed_grammar.proofs.TypedFunctions.{implementation_faultless}
-use Rattle.fast_check_tree.specs.declared.helpers.literal_type.DeclMutabilityKind.{DeclMutabilityKind}
-use Rattle.fast_check_ranges.specs.Ranges.{range_of_node}
-use Rattle.fast_check_values.specs.Kept.{expr_left, expr_faults}
-use Rattle.fast_check_values.specs.Kept as v
+use Rattle.fast_check_signatures.proofs.Choices.{of_choice}
+use Rattle.fast_check_signatures.proofs.Adding.{adds_nothing, adds_fault, adds_same, adds_made, adds_demanded, adds_missing, adds_visited}
 use Rattle.fast_check_skeleton.specs.Mutability.{mutability_of}
 use Rattle.fast_check_skeleton.specs.Surroundings.{Surroundings}
-use Rattle.fast_check_skeleton.specs.Visible.{declared_ident, declared_type, by_inferred, kept_value_seen, ident_declarator_seen, declarator_seen, is_ambient, is_public_declarator, signature_of}
-use Rattle.fast_check_transform.specs.Kept.{valued, valued_tree, valued_faults, value_answer, retyped, kept_ident, ident_faults, signature_tree, signature_faults, kept_typed, typed_faults, kept_declarator, declarator_fault, kept_function, function_faults}
+use Rattle.fast_check_skeleton.specs.Visible.{declared_ident, declared_type, declarator_head, typed_declarator, value_seen, untyped_seen}
+use Rattle.fast_check_skeleton.specs.Visible.{ident_declarator_seen, declarator_seen, is_ambient, is_public_declarator, declarator_in, public_declarator}
+use Rattle.fast_check_skeleton.specs.Visible.{public_declarators, statement_seen, signature_of}
+use Rattle.fast_check_skeleton.proofs.Standing.{declarator_one, statement_is}
+use Rattle.fast_check_transform.specs.PartAnswers.{retyped, value_answer, valued_answer, ident_answer, declarator_answer, public_answer}
+use Rattle.fast_check_transform.specs.PartAnswers.{declarators_answer, statement_answer, signature_answer, function_answer}
+use Rattle.fast_check_transform.proofs.Listed.{alone, one_more, whole}
+
+-- ---- declarators
 
 module _ (around : Surroundings) (place : SourceRange) (value : Tree) where
-  abbrev value_if : Bool → Seen
-  value_if b = if b then refused else expr_seen around.unresolved value (Some place)
-
-  pub absent_value : is_absent value ≡ true → kept_tree (value_answer around place value) ≡ None
+  pub absent_value : is_absent value ≡ true → (old : List Fault) → Adds (value_answer around place value) None old old
   unfolding value_answer
-  absent_value e = ap (λ b. kept_tree (answer_to (value_if b))) e
+  absent_value e old = adds_same (ap (λ b. answer_to (if b then refused else expr_seen around.unresolved value (Some place))) e) (adds_nothing None old)
 
-  pub absent_faults : is_absent value ≡ true → (value_answer around place value).faults ≡ []
+  pub present_value : is_absent value ≡ false → {o : Option Tree} {old new : List Fault} →
+      Adds (answer_to (expr_seen around.unresolved value (Some place))) o old new → Adds (value_answer around place value) o old new
   unfolding value_answer
-  absent_faults e = ap (λ b. (answer_to (value_if b)).faults) e
-
-  pub present_value : is_absent value ≡ false → kept_tree (value_answer around place value) ≡ expr_left around.unresolved value (Some place)
-  unfolding value_answer expr_left
-  present_value e = ap (λ b. kept_tree (answer_to (value_if b))) e
-
-  pub present_faults : is_absent value ≡ false → (value_answer around place value).faults ≡ expr_faults around.unresolved value (Some place)
-  unfolding value_answer expr_faults
-  present_faults e = ap (λ b. (answer_to (value_if b)).faults) e
-
-kept_of : (a : Answer) (b : Bool) (t : Tree) → a.is_leavable ≡ b → (if b then Some (first_or_absent a.trees) else None) ≡ Some t → (a.is_leavable ≡ true) × (first_or_absent a.trees ≡ t)
-kept_of a true t e f = (e, cc)
-kept_of a false t e f = cc
-
-gone_of : (a : Answer) (b : Bool) → a.is_leavable ≡ b → (if b then Some (first_or_absent a.trees) else None) ≡ None → a.is_leavable ≡ false
-gone_of a true e f = cc
-gone_of a false e f = e
+  present_value e h = adds_same (ap (λ b. answer_to (if b then refused else expr_seen around.unresolved value (Some place))) e) h
 
 module _ (around : Surroundings) (d : Tree) where
-  abbrev missing : Bool → List Fault
-  missing b = if b then [] else fault_at MissingExplicitType (Ident-span (declared_ident d)) ∷ []
+  abbrev name_place : SourceRange
+  name_place = Ident-span (declared_ident d)
 
-  -- where the value stays
-  pub stays_tree : (t : Tree) → kept_tree (valued around d) ≡ Some t → valued_tree around d ≡ t
-  stays_tree t e = (kept_of (valued around d) (valued around d).is_leavable t refl e).1
+  abbrev missing : Fault
+  missing = fault_at MissingExplicitType name_place
 
-  pub stays_faults : (t : Tree) → kept_tree (valued around d) ≡ Some t → valued_faults around d ≡ (valued around d).faults
-  stays_faults t e = ap (λ b. (valued around d).faults ++ missing b) (kept_of (valued around d) (valued around d).is_leavable t refl e).0 ∙ append-nil (valued around d).faults
+  -- where the value stays, and where it may not
+  pub value_stays : {place : SourceRange} {value t : Tree} {o : Option Tree} {old new : List Fault} → Adds (value_answer around place value) o old new →
+      place ≡ name_place → value ≡ VarDeclarator-init d → o ≡ Some t → Adds (valued_answer around d) (Some (retyped d Absent t)) old new
+  unfolding value_answer valued_answer
+  value_stays {old = old} {new = new} h p q e =
+      adds_made (λ v. Some (valued_declarator (declarator_head d) v))
+      (adds_demanded missing (subst (λ x. Adds (answer_to (value_seen around name_place (VarDeclarator-init d))) x old new) e
+      (adds_same (λ i. answer_to (value_seen around (sym p i) (sym q i))) h)))
 
-  -- where it may not
-  pub goes_tree : kept_tree (valued around d) ≡ None → valued_tree around d ≡ Absent
-  unfolding value_answer
-  goes_tree e = ap first_or_absent (gone (kept_value_seen around (Ident-span (declared_ident d)) None (VarDeclarator-init d)) (gone_of (valued around d) (valued around d).is_leavable refl e))
-
-  pub goes_faults : kept_tree (valued around d) ≡ None → valued_faults around d ≡ (valued around d).faults ++ (fault_at MissingExplicitType (Ident-span (declared_ident d)) ∷ [])
-  goes_faults e = ap (λ b. (valued around d).faults ++ missing b) (gone_of (valued around d) (valued around d).is_leavable refl e)
+  pub value_goes : {place : SourceRange} {value : Tree} {o : Option Tree} {old new : List Fault} → Adds (value_answer around place value) o old new →
+      place ≡ name_place → value ≡ VarDeclarator-init d → o ≡ None → {all : List Fault} → all ≡ new ++ fault_at MissingExplicitType place ∷ [] →
+      Adds (valued_answer around d) (Some (retyped d Absent Absent)) old all
+  unfolding value_answer valued_answer
+  value_goes {old = old} {new = new} h p q e f =
+      subst (λ fs. Adds (answer_to (declarator (declarator_head d) (value_seen around name_place (VarDeclarator-init d))))
+      (Some (retyped d Absent Absent)) old fs)
+      (sym (f ∙ ap (λ r. new ++ fault_at MissingExplicitType r ∷ []) p))
+      (adds_made (λ v. Some (valued_declarator (declarator_head d) v))
+      (adds_missing missing (subst (λ x. Adds (answer_to (value_seen around name_place (VarDeclarator-init d))) x old new) e
+      (adds_same (λ i. answer_to (value_seen around (sym p i) (sym q i))) h))))
 
 module _ (around : Surroundings) (mutability : DeclMutabilityKind) (d : Tree) where
+  abbrev shown : Option Tree
+  shown = inferred_type mutability around.unresolved (VarDeclarator-init d)
+
   abbrev ident_if : Bool → Option Tree → Seen
-  ident_if absent shown =
-      Seen.form VarDeclarator (seens (Seen.range (VarDeclarator-span d) ∷ Seen.written (declared_ident d) ∷ Seen.flag (VarDeclarator-definite d) ∷ (if absent then Seen.hidden else Seen.written (declared_type d)) ∷
-      (if absent then by_inferred shown else Seen.hidden) ∷ (if absent then kept_value_seen around (Ident-span (declared_ident d)) shown (VarDeclarator-init d) else Seen.hidden) ∷ []))
+  ident_if absent o = if absent then untyped_seen around d o else written (typed_declarator (declarator_head d) (declared_type d))
 
-  pub written_ident : is_absent (declared_type d) ≡ false → kept_ident around mutability d ≡ retyped d (declared_type d) never_value ∷ []
-  unfolding kept_ident
-  written_ident e = ap (λ b. (answer_to (ident_if b (inferred_type mutability around.unresolved (VarDeclarator-init d)))).trees) e
+  pub written_ident : is_absent (declared_type d) ≡ false → (old : List Fault) →
+      Adds (ident_answer around mutability d) (Some (retyped d (declared_type d) never_value)) old old
+  unfolding ident_answer
+  written_ident e old = adds_same (ap (λ b. answer_to (ident_if b shown)) e) (adds_nothing _ old)
 
-  pub faults_written : is_absent (declared_type d) ≡ false → ident_faults around mutability d ≡ []
-  unfolding ident_faults
-  faults_written e = ap (λ b. (answer_to (ident_if b (inferred_type mutability around.unresolved (VarDeclarator-init d)))).faults) e
+  pub shown_ident : (type : Tree) → is_absent (declared_type d) ≡ true → shown ≡ Some type → (old : List Fault) →
+      Adds (ident_answer around mutability d) (Some (retyped d (type_ann type) never_value)) old old
+  unfolding ident_answer
+  shown_ident type e f old = adds_same (λ i. answer_to (ident_if (e i) (f i))) (adds_nothing _ old)
 
-  pub shown_ident : (type : Tree) → is_absent (declared_type d) ≡ true → inferred_type mutability around.unresolved (VarDeclarator-init d) ≡ Some type →
-      kept_ident around mutability d ≡ retyped d (type_ann type) never_value ∷ []
-  unfolding kept_ident
-  shown_ident type e f = λ i. (answer_to (ident_if (e i) (f i))).trees
+  pub valued_ident : is_absent (declared_type d) ≡ true → shown ≡ None → {t : Tree} {old new : List Fault} →
+      Adds (valued_answer around d) (Some t) old new → Adds (ident_answer around mutability d) (Some t) old new
+  unfolding ident_answer valued_answer
+  valued_ident e f h = adds_same (λ i. answer_to (ident_if (e i) (f i))) h
 
-  pub faults_shown : (type : Tree) → is_absent (declared_type d) ≡ true → inferred_type mutability around.unresolved (VarDeclarator-init d) ≡ Some type → ident_faults around mutability d ≡ []
-  unfolding ident_faults
-  faults_shown type e f = λ i. (answer_to (ident_if (e i) (f i))).faults
-
-  pub valued_ident : is_absent (declared_type d) ≡ true → inferred_type mutability around.unresolved (VarDeclarator-init d) ≡ None →
-      kept_ident around mutability d ≡ retyped d Absent (valued_tree around d) ∷ []
-  unfolding kept_ident value_answer
-  valued_ident e f = λ i. (answer_to (ident_if (e i) (f i))).trees
-
-  pub faults_valued : is_absent (declared_type d) ≡ true → inferred_type mutability around.unresolved (VarDeclarator-init d) ≡ None → ident_faults around mutability d ≡ valued_faults around d
-  unfolding ident_faults value_answer
-  faults_valued e f = λ i. (answer_to (ident_if (e i) (f i))).faults
-
-module _ (around : Surroundings) (mutability : DeclMutabilityKind) (d : Tree) where
   abbrev typed_if : Bool → Seen
-  typed_if b = if b then ident_declarator_seen around mutability d else Seen.faulty UnsupportedDestructuring (range_of_node (VarDeclarator-name d))
+  typed_if b = if b then ident_declarator_seen around mutability d else faulty UnsupportedDestructuring (range_of_node (VarDeclarator-name d))
 
-  pub typed_ident : kind_of (VarDeclarator-name d) is BindingIdent ≡ true → kept_typed around mutability d ≡ kept_ident around mutability d
-  unfolding kept_typed kept_ident
-  typed_ident e = ap (λ b. (answer_to (typed_if b)).trees) e
+  pub typed_ident : kind_of (VarDeclarator-name d) is BindingIdent ≡ true → {t : Tree} {old new : List Fault} →
+      Adds (ident_answer around mutability d) (Some t) old new → Adds (declarator_answer around mutability d) (Some t) old new
+  unfolding ident_answer declarator_answer
+  typed_ident e h = adds_same (ap (λ b. answer_to (typed_if b)) e) h
 
-  pub faults_ident : kind_of (VarDeclarator-name d) is BindingIdent ≡ true → typed_faults around mutability d ≡ ident_faults around mutability d
-  unfolding typed_faults ident_faults
-  faults_ident e = ap (λ b. (answer_to (typed_if b)).faults) e
-
-  pub typed_pattern : kind_of (VarDeclarator-name d) is BindingIdent ≡ false → kept_typed around mutability d ≡ Absent ∷ []
-  unfolding kept_typed
-  typed_pattern e = ap (λ b. (answer_to (typed_if b)).trees) e
-
-  pub faults_pattern : kind_of (VarDeclarator-name d) is BindingIdent ≡ false → typed_faults around mutability d ≡ fault_at UnsupportedDestructuring (range_of_node (VarDeclarator-name d)) ∷ []
-  unfolding typed_faults
-  faults_pattern e = ap (λ b. (answer_to (typed_if b)).faults) e
+  pub typed_pattern : kind_of (VarDeclarator-name d) is BindingIdent ≡ false → {old new : List Fault} →
+      new ≡ old ++ fault_at UnsupportedDestructuring (range_of_node (VarDeclarator-name d)) ∷ [] →
+      Adds (declarator_answer around mutability d) (Some Absent) old new
+  unfolding declarator_answer
+  typed_pattern e {old} p =
+      adds_same (ap (λ b. answer_to (typed_if b)) e)
+      (subst (λ fs. Adds (answer_to (typed_if false)) (Some Absent) old fs) (sym p) (adds_fault (Some Absent) _ old))
 
 module _ (around : Surroundings) (statement d : Tree) where
   abbrev in_if : Bool → Bool → List Seen
-  in_if p a = if p then (if a then Seen.written d else declarator_seen around (mutability_of (VarDecl-kind statement)) d) ∷ [] else []
+  in_if p a = if p then (if a then written d else declarator_seen around (mutability_of (VarDecl-kind statement)) d) ∷ [] else []
 
-  pub kept_not_public : is_public_declarator around d ≡ false → kept_declarator around statement d ≡ []
-  unfolding kept_declarator
-  kept_not_public e = ap (λ p. (answer_of (in_if p (is_ambient around statement))).trees) e
+  pub private_declarator : is_public_declarator around d ≡ false → (old : List Fault) → Adds (public_answer around statement d) [] old old
+  unfolding public_answer
+  private_declarator e old = adds_same (ap (λ p. answer_of (in_if p (is_ambient around statement))) e) (adds_nothing [] old)
 
-  pub fault_not_public : is_public_declarator around d ≡ false → declarator_fault around statement d ≡ []
-  unfolding declarator_fault
-  fault_not_public e = ap (λ p. (answer_of (in_if p (is_ambient around statement))).faults) e
+  pub ambient_declarator : is_public_declarator around d ≡ true → is_ambient around statement ≡ true → {t : Tree} → t ≡ d → (old : List Fault) →
+      Adds (public_answer around statement d) (t ∷ []) old old
+  unfolding public_answer
+  ambient_declarator e f p old =
+      subst (λ u. Adds (answer_of (public_declarator around statement d)) (u ∷ []) old old) (sym p)
+      (adds_same (λ i. answer_of (in_if (e i) (f i))) (adds_nothing (d ∷ []) old))
 
-  pub kept_ambient : is_public_declarator around d ≡ true → is_ambient around statement ≡ true → kept_declarator around statement d ≡ d ∷ []
-  unfolding kept_declarator
-  kept_ambient e f = λ i. (answer_of (in_if (e i) (f i))).trees
+  pub public_declarator_stays : is_public_declarator around d ≡ true → is_ambient around statement ≡ false → {t : Tree} {old new : List Fault} →
+      Adds (declarator_answer around (mutability_of (VarDecl-kind statement)) d) (Some t) old new → Adds (public_answer around statement d) (t ∷ []) old new
+  unfolding public_answer declarator_answer
+  public_declarator_stays e f h = adds_same (λ i. answer_of (in_if (e i) (f i))) (alone (declarator_seen around (mutability_of (VarDecl-kind statement)) d) h)
 
-  pub fault_ambient : is_public_declarator around d ≡ true → is_ambient around statement ≡ true → declarator_fault around statement d ≡ []
-  unfolding declarator_fault
-  fault_ambient e f = λ i. (answer_of (in_if (e i) (f i))).faults
+-- ---- statements
 
-  pub kept_public : is_public_declarator around d ≡ true → is_ambient around statement ≡ false → kept_declarator around statement d ≡ kept_typed around (mutability_of (VarDecl-kind statement)) d
-  unfolding kept_declarator kept_typed
-  kept_public e f = (λ i. (answer_of (in_if (e i) (f i))).trees) ∙ append-nil _
+module _ (around : Surroundings) (statement : Tree) where
+  pub no_declarators : {xs : List Tree} → xs ≡ [] → (old : List Fault) → Adds (declarators_answer around statement []) xs old old
+  unfolding declarators_answer
+  no_declarators e old = subst (λ x. Adds (answer_of []) x old old) (sym e) (adds_nothing [] old)
 
-  pub fault_public : is_public_declarator around d ≡ true → is_ambient around statement ≡ false → declarator_fault around statement d ≡ typed_faults around (mutability_of (VarDecl-kind statement)) d
-  unfolding declarator_fault typed_faults
-  fault_public e f = (λ i. (answer_of (in_if (e i) (f i))).faults) ∙ append-nil _
+  pub one_more_declarator : (ds : List Tree) (i : ℕ) (d : Tree) → i < length ds → d ≡ get_or ds i d →
+      {xs ys zs : List Tree} {old mid new : List Fault} → Adds (declarators_answer around statement (take i ds)) xs old mid →
+      Adds (public_answer around statement d) ys mid new → zs ≡ xs ++ ys → Adds (declarators_answer around statement (take (i + 1) ds)) zs old new
+  unfolding declarators_answer public_answer
+  one_more_declarator ds i d h e g k p = one_more (public_declarator around statement) ds i d h e g k p
+
+  pub all_declarators : {ds es : List Tree} (i : ℕ) → length ds ≤ i → ds ≡ es → {xs : List Tree} {old new : List Fault} →
+      Adds (declarators_answer around statement (take i ds)) xs old new → Adds (declarators_answer around statement es) xs old new
+  unfolding declarators_answer
+  all_declarators i h e g = whole (public_declarator around statement) i h e g
+
+  -- each declarator that is seen is answered by one tree
+  abbrev HasTree : Seen → Type 0
+  HasTree s = (t : Tree) × ((answer_to s).stays ≡ Some t)
+
+  abbrev AllHave : List Seen → Type 0
+  AllHave [] = Unit {0}
+  AllHave (s ∷ ss) = HasTree s × AllHave ss
+
+  all_append : (xs ys : List Seen) → AllHave xs → AllHave ys → AllHave (xs ++ ys)
+  all_append [] ys p q = q
+  all_append (x ∷ xs) ys p q = (p.0, all_append xs ys p.1 q)
+
+  declarators_have : (ds : List Tree) → AllHave (flat_map (public_declarator around statement) ds)
+  declarators_have [] = tt
+  declarators_have (d ∷ ds) =
+      all_append (public_declarator around statement d) (flat_map (public_declarator around statement) ds)
+      (of_choice AllHave (is_public_declarator around d) _ _
+      (λ e. (
+        of_choice HasTree (is_ambient around statement) _ _ (λ e. (d, refl)) (λ e. declarator_one around (mutability_of (VarDecl-kind statement)) d),
+        tt,
+      )) (λ e. tt))
+      (declarators_have ds)
+
+  none_seen : (ss : List Seen) → AllHave ss → (answer_of ss).stays ≡ [] → ss ≡ []
+  none_seen [] h e = refl
+  none_seen (s ∷ ss) h e = let f : h.0.0 ∷ (answer_of ss).stays ≡ [] = sym (ap (λ o. with_tree o (answer_of ss).stays) h.0.1) ∙ e in cc
+
+  pub no_statement : {xs : List Tree} {old new : List Fault} → Adds (declarators_answer around statement (parts (VarDecl-decls statement))) xs old new →
+      xs ≡ [] → Adds (statement_answer around statement) [] old new
+  unfolding declarators_answer statement_answer
+  no_statement {old = old} {new = new} h e =
+      let ss = public_declarators around statement in
+      let none : ss ≡ [] = none_seen ss (declarators_have (parts (VarDecl-decls statement))) (ap (λ a. a.stays) h.is ∙ e) in
+      adds_same (ap (λ x. answer_of (statement_seen statement x)) none ∙ sym (ap answer_of none)) (subst (λ x. Adds (answer_of ss) x old new) e h)
+
+  abbrev with_declarators : List Tree → Tree
+  with_declarators ds = var_decl (VarDecl-span statement) (VarDecl-ctxt statement) (VarDecl-kind statement) (VarDecl-declare statement) (list ds)
+
+  abbrev statement_form : List Seen → Seen
+  statement_form ss =
+      round VarDecl (seens (range (VarDecl-span statement) ∷ scope (VarDecl-ctxt statement) ∷ written (VarDecl-kind statement) ∷
+      flag (VarDecl-declare statement) ∷ listed (seens ss) ∷ []))
+
+  seen_statement : (ss : List Seen) {xs : List Tree} {old new : List Fault} → Adds (answer_of ss) xs old new → (xs ≡ [] → ⊥) →
+      Adds (answer_of (statement_seen statement ss)) (with_declarators xs ∷ []) old new
+  seen_statement [] h some = absurd (some (sym (ap (λ a. a.stays) h.is)))
+  seen_statement (s ∷ ss) h some =
+      alone (statement_form (s ∷ ss)) (adds_same (statement_is around statement (s ∷ ss)) (adds_made (λ ds. Some (with_declarators ds)) h))
+
+  pub made_statement : {xs : List Tree} {old new : List Fault} → Adds (declarators_answer around statement (parts (VarDecl-decls statement))) xs old new →
+      (xs ≡ [] → ⊥) → {t : Tree} → t ≡ with_declarators xs → Adds (statement_answer around statement) (t ∷ []) old new
+  unfolding declarators_answer statement_answer
+  made_statement {old = old} {new = new} h some p =
+      let seen = statement_seen statement (public_declarators around statement) in
+      subst (λ u. Adds (answer_of seen) (u ∷ []) old new) (sym p) (seen_statement (public_declarators around statement) h some)
+
+-- ---- functions
 
 module _ (around : Surroundings) (place : SourceRange) (decl : Tree) where
-  abbrev here : Seen
-  here = function_seen around.unresolved (expr_seen around.unresolved) DeclarationLike (Ident-span (FnDecl-ident decl)) (FnDecl-function decl)
-
   abbrev signature_if : Bool → Seen
-  signature_if b = if b then implementation_seen (FnDecl-function decl) else here
+  signature_if b =
+      if b then implementation_seen (FnDecl-function decl)
+      else function_seen around.unresolved (expr_seen around.unresolved) DeclarationLike (Ident-span (FnDecl-ident decl)) (FnDecl-function decl)
 
-  pub implementation_tree : around.is_implementation place ≡ true → signature_tree around place decl ≡ v.implementation_tree (FnDecl-function decl)
-  unfolding signature_tree v.implementation_tree
-  implementation_tree e = ap (λ b. first_or_absent (answer_to (signature_if b)).trees) e
+  pub implementation : around.is_implementation place ≡ true → {t : Tree} → answer_to (implementation_seen (FnDecl-function decl)) ≡ faultless (Some t) →
+      (old : List Fault) → Adds (signature_answer around place decl) (Some t) old old
+  unfolding signature_answer
+  implementation e p old = adds_same (ap (λ b. answer_to (signature_if b)) e ∙ p) (adds_nothing _ old)
 
-  pub implementation_faults : around.is_implementation place ≡ true → signature_faults around place decl ≡ []
-  unfolding signature_faults
-  implementation_faults e = ap (λ b. (answer_to (signature_if b)).faults) e ∙ implementation_faultless (FnDecl-function decl)
-
-  pub other_tree : around.is_implementation place ≡ false → signature_tree around place decl ≡ v.fn_tree around.unresolved DeclarationLike (Ident-span (FnDecl-ident decl)) (FnDecl-function decl)
-  unfolding signature_tree v.fn_tree
-  other_tree e = ap (λ b. first_or_absent (answer_to (signature_if b)).trees) e
-
-  pub other_faults : around.is_implementation place ≡ false → signature_faults around place decl ≡ v.fn_faults around.unresolved DeclarationLike (Ident-span (FnDecl-ident decl)) (FnDecl-function decl)
-  unfolding signature_faults v.fn_faults
-  other_faults e = ap (λ b. (answer_to (signature_if b)).faults) e
+  pub signature : around.is_implementation place ≡ false → {name : SourceRange} {function t : Tree} {old new : List Fault} →
+      Adds (answer_to (function_seen around.unresolved (expr_seen around.unresolved) DeclarationLike name function)) (Some t) old new →
+      name ≡ Ident-span (FnDecl-ident decl) → function ≡ FnDecl-function decl → Adds (signature_answer around place decl) (Some t) old new
+  unfolding signature_answer
+  signature e h p q =
+      adds_same (ap (λ b. answer_to (signature_if b)) e
+      ∙ (λ i. answer_to (function_seen around.unresolved (expr_seen around.unresolved) DeclarationLike (sym p i) (sym q i)))) h
 
   abbrev decl_if : Bool → Seen
-  decl_if b = if b then Seen.written decl else Seen.form FnDecl (seens (Seen.written (FnDecl-ident decl) ∷ Seen.flag (FnDecl-declare decl) ∷ signature_of around place decl ∷ []))
+  decl_if b = if b then written decl else round FnDecl (seens (written (FnDecl-ident decl) ∷ flag (FnDecl-declare decl) ∷ signature_of around place decl ∷ []))
 
-  pub function_ambient : around.is_declaration_file ≡ true → kept_function around place decl ≡ decl ∷ []
-  unfolding kept_function
-  function_ambient e = ap (λ b. (answer_to (decl_if b)).trees) e
+  pub ambient_function : around.is_declaration_file ≡ true → (old : List Fault) → Adds (function_answer around place decl) (Some decl) old old
+  unfolding function_answer
+  ambient_function e old = adds_same (ap (λ b. answer_to (decl_if b)) e) (adds_nothing _ old)
 
-  pub faults_ambient : around.is_declaration_file ≡ true → function_faults around place decl ≡ []
-  unfolding function_faults
-  faults_ambient e = ap (λ b. (answer_to (decl_if b)).faults) e
-
-  -- a signature is one tree, which may stay
-  one_signature : (b : Bool) → (answer_to (Seen.form FnDecl (seens (Seen.written (FnDecl-ident decl) ∷ Seen.flag (FnDecl-declare decl) ∷ signature_if b ∷ [])))).trees ≡
-      fn_decl (FnDecl-ident decl) (FnDecl-declare decl) (first_or_absent (answer_to (signature_if b)).trees) ∷ []
-  one_signature true = refl
-  one_signature false = refl
-
-  pub function_made : around.is_declaration_file ≡ false → kept_function around place decl ≡ fn_decl (FnDecl-ident decl) (FnDecl-declare decl) (signature_tree around place decl) ∷ []
-  unfolding kept_function signature_tree
-  function_made e = ap (λ b. (answer_to (decl_if b)).trees) e ∙ one_signature (around.is_implementation place)
-
-  one_faults : (b : Bool) → (answer_to (Seen.form FnDecl (seens (Seen.written (FnDecl-ident decl) ∷ Seen.flag (FnDecl-declare decl) ∷ signature_if b ∷ [])))).faults ≡ (answer_to (signature_if b)).faults
-  one_faults true = append-nil _
-  one_faults false = append-nil _
-
-  pub faults_made : around.is_declaration_file ≡ false → function_faults around place decl ≡ signature_faults around place decl
-  unfolding function_faults signature_faults
-  faults_made e = ap (λ b. (answer_to (decl_if b)).faults) e ∙ one_faults (around.is_implementation place)
+  pub made_function : around.is_declaration_file ≡ false → {t : Tree} {old new : List Fault} → Adds (signature_answer around place decl) (Some t) old new →
+      Adds (function_answer around place decl) (Some (fn_decl (FnDecl-ident decl) (FnDecl-declare decl) t)) old new
+  unfolding function_answer signature_answer
+  made_function e {new = new} h =
+      adds_same (ap (λ b. answer_to (decl_if b)) e)
+      (adds_made (option_map (node FnDecl)) (adds_visited (adds_nothing (Some (FnDecl-ident decl)) _)
+      (adds_visited (adds_nothing (Some (tree.Flag (FnDecl-declare decl))) _) (adds_visited h (adds_nothing (Some []) new)))))

@@ -1,6 +1,6 @@
+pub mod Listed
 pub mod Declared
-pub mod Fused
-pub mod ByKind
+pub mod ByRule
 pub mod Removed
 pub mod Diagnosed
-pub mod Grammatical
+pub mod Transformed

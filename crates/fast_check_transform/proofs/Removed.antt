@@ -1,58 +1,57 @@
 -- The starts of the items that go, item by item.
-use Rattle.std.specs.Prelude.{◌≡◌, ℕ, ◌+◌, ◌<◌, Bool, true, false, List, [], ◌∷◌, ◌++◌, flat_map, length, take, refl, if◌then◌else◌}
+use Rattle.std.specs.Prelude.{◌≡◌, ℕ, ◌+◌, ◌<◌, List, [], ◌∷◌, ◌++◌, flat_map, length, take, refl}
 use lib.ListN.{get_or}
 use Rattle.std.proofs.Common.{ap, ◌∙◌, sym, append-nil}
 use Rattle.std.proofs.lemmas.List.{take_more}
 use Rattle.std.proofs.lemmas.List.Concat.{flat_map-append}
-use Rattle.fast_check_syntax.specs.declared.kind.Kind.TheVariants.{ExportDecl}
 use Rattle.fast_check_syntax.specs.declared.source.SourcePos.{SourcePos}
 use Rattle.fast_check_syntax.specs.declared.tree.Tree.{Tree}
-use Rattle.fast_check_syntax.specs.Shape.{◌is◌, kind_of}
 use Rattle.fast_check_comments.specs.declared.comments.Comments.{Comments}
 use Rattle.fast_check_comments.specs.Kept.{without_leading}
-use Rattle.fast_check_program_forms.specs.ModuleDecls.{ExportDecl-span, ExportDecl-decl}
 use Rattle.fast_check_skeleton.specs.Surroundings.{Surroundings}
 use Rattle.fast_check_signatures.specs.Seen.{Seen}
-use Rattle.fast_check_skeleton.specs.Visible.{own_range, decl_seen, exported_seen, item_seen}
-use Rattle.fast_check_signatures.specs.Answers.{answer_to, answer_of}
+use Rattle.fast_check_ranges.specs.Ranges.{range_of_node}
+use Rattle.fast_check_skeleton.specs.Rules.{item_rule}
+use Rattle.fast_check_skeleton.specs.Visible.{item_seen}
+use Rattle.fast_check_signatures.specs.declared.fault.Fault.{Fault}
+use Rattle.fast_check_signatures.specs.Answers.{Adds, with_tree, answer_to, answer_of}
 use Rattle.fast_check_skeleton.specs.KeptComments.{start_of_unseen, removed_start, without_all_leading}
-use Rattle.fast_check_skeleton.proofs.Standing.{OneTree, decl_one, export_one}
-use Rattle.fast_check_transform.specs.Kept.{kept_item}
+use Rattle.fast_check_skeleton.proofs.Standing.{OneTree, item_one}
+use Rattle.fast_check_transform.specs.PartAnswers.{item_answer}
 
 pub without_append : (xs ys : List SourcePos) (c : Comments) → without_all_leading (xs ++ ys) c ≡ without_all_leading ys (without_all_leading xs c)
 without_append [] ys c = refl
 without_append (x ∷ xs) ys c = without_append xs ys (without_leading x c)
 
 module _ (around : Surroundings) (item : Tree) where
-  item_one : OneTree around (item_seen around item)
-  item_one = go (kind_of item is ExportDecl)
-    where
-      go : (b : Bool) → OneTree around (if b then exported_seen item (decl_seen around (ExportDecl-span item) (ExportDecl-decl item)) else decl_seen around (own_range item) item)
-      go true = export_one around item (decl_seen around (ExportDecl-span item) (ExportDecl-decl item)) (decl_one around (ExportDecl-span item) (ExportDecl-decl item))
-      go false = decl_one around (own_range item) item
-
-  unseen : (ss : List Seen) → OneTree around ss → (answer_of ss).trees ≡ [] → start_of_unseen item ss ≡ (own_range item).start ∷ []
+  unseen : (ss : List Seen) → OneTree around ss → (answer_of ss).stays ≡ [] → start_of_unseen item ss ≡ (range_of_node item).start ∷ []
   unseen [] one e = refl
-  unseen (s ∷ []) one e = let f : one.1.0 ∷ [] ≡ [] = sym one.1.1 ∙ (sym (append-nil (answer_to s).trees) ∙ e) in cc
+  unseen (s ∷ []) one e = let f : one.0 ∷ [] ≡ [] = sym (ap (λ o. with_tree o []) one.1) ∙ e in cc
   unseen (s ∷ t ∷ ss) one e = absurd one
 
-  seen_one : (ss : List Seen) (t : Tree) → (answer_of ss).trees ≡ t ∷ [] → start_of_unseen item ss ≡ []
+  seen_one : (ss : List Seen) (t : Tree) → (answer_of ss).stays ≡ t ∷ [] → start_of_unseen item ss ≡ []
   seen_one [] t e = cc
   seen_one (s ∷ ss) t e = refl
 
-  pub removed_if_none : kept_item around item ≡ [] → removed_start around item ≡ (own_range item).start ∷ []
-  unfolding kept_item
-  removed_if_none e = unseen (item_seen around item) item_one e
+  pub removed_if_none : {xs : List Tree} {old new : List Fault} → Adds (item_answer around item) xs old new → xs ≡ [] →
+      removed_start around item ≡ (range_of_node item).start ∷ []
+  unfolding item_answer
+  removed_if_none h e = unseen (item_seen around item) (item_one around item (item_rule item)) (ap (λ a. a.stays) h.is ∙ e)
 
-  pub removed_if_some : (t : Tree) → kept_item around item ≡ t ∷ [] → removed_start around item ≡ []
-  unfolding kept_item
-  removed_if_some t e = seen_one (item_seen around item) t e
+  pub removed_if_some : {t : Tree} {xs : List Tree} {old new : List Fault} → Adds (item_answer around item) xs old new → xs ≡ t ∷ [] →
+      removed_start around item ≡ []
+  unfolding item_answer
+  removed_if_some {t} h e = seen_one (item_seen around item) t (ap (λ a. a.stays) h.is ∙ e)
 
 -- the comments without those before one more item
-pub one_more : (around : Surroundings) (items : List Tree) (i : ℕ) (item : Tree) (starts : List SourcePos) (c : Comments) → i < length items → item ≡ get_or items i item →
+pub one_more : (around : Surroundings) (items : List Tree) (i : ℕ) (item : Tree) (starts : List SourcePos) (c : Comments) → i < length items →
+    item ≡ get_or items i item →
     removed_start around item ≡ starts →
-    without_all_leading (flat_map (removed_start around) (take (i + 1) items)) c ≡ without_all_leading starts (without_all_leading (flat_map (removed_start around) (take i items)) c)
+    without_all_leading (flat_map (removed_start around) (take (i + 1) items)) c ≡ without_all_leading starts
+    (without_all_leading (flat_map (removed_start around) (take i items)) c)
 one_more around items i item starts c h e r =
     ap (λ ts. without_all_leading (flat_map (removed_start around) ts) c) (take_more items i item h ∙ ap (λ t. take i items ++ t ∷ []) (sym e))
-    ∙ (ap (λ ps. without_all_leading ps c) (flat_map-append (removed_start around) (take i items) (item ∷ []) ∙ ap (λ ps. flat_map (removed_start around) (take i items) ++ ps) (append-nil (removed_start around item) ∙ r))
+    ∙ (ap (λ ps. without_all_leading ps c)
+    (flat_map-append (removed_start around) (take i items) (item ∷ [])
+    ∙ ap (λ ps. flat_map (removed_start around) (take i items) ++ ps) (append-nil (removed_start around item) ∙ r))
     ∙ without_append (flat_map (removed_start around) (take i items)) starts c)

@@ -6,7 +6,8 @@ use Rattle.fast_check_tables.specs.EsModule.{EsModule}
 use Rattle.fast_check_tables.specs.MediaType.{is_declaration}
 use Rattle.fast_check_tables.specs.PublicRanges.{PublicRanges, is_public, is_implementation}
 use Rattle.fast_check_tables.specs.declared.diagnostics.FastCheckDiagnostic.{FastCheckDiagnostic}
-use Rattle.fast_check_tables.specs.declared.diagnostics.FastCheckDiagnostic.TheVariants.{MissingExplicitType, MissingExplicitReturnType, UnsupportedDestructuring}
+use Rattle.fast_check_tables.specs.declared.diagnostics.FastCheckDiagnostic.TheVariants.{MissingExplicitType, MissingExplicitReturnType}
+use Rattle.fast_check_tables.specs.declared.diagnostics.FastCheckDiagnostic.TheVariants.{UnsupportedDestructuring}
 use Rattle.fast_check_tables.specs.declared.diagnostics.range.FastCheckDiagnosticRange.{FastCheckDiagnosticRange}
 use Rattle.fast_check_signatures.specs.declared.fault.Fault.{Fault}
 use Rattle.fast_check_signatures.specs.declared.fault.FaultKind.TheVariants as kinds
@@ -18,7 +19,12 @@ use Rattle.fast_check_comments.specs.declared.comments.Comments.{Comments}
 
 -- what a module's skeleton depends on beside its tree: what is public of it, and whether it is a declaration file
 abbrev pub surroundings_of : EsModule → PublicRanges → Surroundings
-surroundings_of info public = record { is_public = is_public public; is_implementation = is_implementation public; unresolved = info.source.unresolved_context; is_declaration_file = is_declaration info.source.media_type }
+surroundings_of info public = record {
+  is_public = is_public public;
+  is_implementation = is_implementation public;
+  unresolved = info.source.unresolved_context;
+  is_declaration_file = is_declaration info.source.media_type;
+}
 
 -- the skeleton of a module
 abbrev pub skeleton : EsModule → PublicRanges → Tree

@@ -13,7 +13,7 @@ pub struct Asked<'a> {
 }
 
 impl<'a> Asked<'a> {
-    ghost use Rattle.fast_check_transform.specs.Kept.{Asked-around};
+    ghost use Rattle.fast_check_transform.specs.PartAnswers.{Asked-around};
     ghost use Rattle.fast_check_transform.specs.Transform.{surroundings_of};
 
     /// What is asked of a module with these public ranges.

@@ -1,14 +1,13 @@
 ghost use Rattle.std.specs.Prelude.{◌≡◌, ◌↔◌, IsTrue};
-ghost use Rattle.std.specs.List.{list_all, list_any};
+ghost use Rattle.std.specs.List.{list_all};
 ghost use Rattle.fast_check_syntax.specs.Part.{seen};
-ghost use Rattle.fast_check_syntax.specs.Shape.{◌is◌, parts};
-ghost use Rattle.fast_check_skeleton.specs.Carried.{is_program, is_carried_decl, is_carried_item, is_carried_program};
-ghost use Rattle.fast_check_skeleton.specs.Hidden.{statement_kinds, is_plain_statement};
+ghost use Rattle.fast_check_syntax.specs.Shape.{parts};
+ghost use Rattle.fast_check_skeleton.specs.Carried.{is_program, is_carried_item, is_carried_program};
+ghost use Rattle.fast_check_skeleton.specs.Rules.{is_taken_decl};
 ghost use Rattle.fast_check_transform.specs.Transform.{IsCarried};
 
-use crate::items::is_standing;
-use fast_check_program_forms::{ExportDecl, Module};
-use fast_check_statement_forms::ExprStmt;
+use fast_check_program_forms::Module;
+use fast_check_skeleton::{DeclRule, ItemRule, item_rule};
 use fast_check_syntax::{Kind, Part};
 use fast_check_tables::EsModuleInfo;
 
@@ -30,7 +29,7 @@ fn is_carried_program(program: Part<'_>) -> bool
 fn is_program(kind: Kind) -> bool
     ensures { result ≡ is_program kind }
 {
-    kind == Kind::Module || kind == Kind::Script
+    matches!(kind, Kind::Module | Kind::Script)
 }
 
 fn are_carried_items(items: Part<'_>) -> bool
@@ -45,51 +44,17 @@ fn are_carried_items(items: Part<'_>) -> bool
 fn is_carried_item(item: Part<'_>) -> bool
     ensures { result ≡ is_carried_item (seen item.entry) }
 {
-    if item.kind() == Kind::ExportDecl {
-        is_carried_decl(ExportDecl::of(item).decl.kind())
-    } else {
-        is_carried_decl(item.kind()) || is_plain_statement(item)
+    match item_rule(item) {
+        ItemRule::Declared(rule) | ItemRule::Exported(rule) => is_taken_decl(rule),
+        ItemRule::Silent => true,
     }
 }
 
-fn is_carried_decl(kind: Kind) -> bool
-    ensures { result ≡ is_carried_decl kind }
+fn is_taken_decl(rule: DeclRule) -> bool
+    ensures { result ≡ is_taken_decl rule }
 {
-    kind == Kind::VarDecl || kind == Kind::FnDecl || is_standing(kind)
-}
-
-/// The statements that are no declarations and no expressions.
-const STATEMENT_KINDS: [Kind; 17] = [
-    Kind::BlockStmt,
-    Kind::EmptyStmt,
-    Kind::DebuggerStmt,
-    Kind::WithStmt,
-    Kind::ReturnStmt,
-    Kind::LabeledStmt,
-    Kind::BreakStmt,
-    Kind::ContinueStmt,
-    Kind::IfStmt,
-    Kind::SwitchStmt,
-    Kind::ThrowStmt,
-    Kind::TryStmt,
-    Kind::WhileStmt,
-    Kind::DoWhileStmt,
-    Kind::ForStmt,
-    Kind::ForInStmt,
-    Kind::ForOfStmt,
-];
-
-fn is_statement(kind: Kind) -> bool
-    ensures { result ≡ list_any (λ other. kind is other) statement_kinds }
-{
-    STATEMENT_KINDS.iter().any(|other| kind == *other)
-}
-
-/// Whether a statement declares and assigns nothing.
-fn is_plain_statement(statement: Part<'_>) -> bool
-    ensures { result ≡ is_plain_statement (seen statement.entry) }
-{
-    is_statement(statement.kind())
-        || statement.kind() == Kind::ExprStmt
-            && ExprStmt::of(statement).expr.kind() != Kind::AssignExpr
+    match rule {
+        DeclRule::Variables | DeclRule::Function | DeclRule::Standing => true,
+        DeclRule::Untaken => false,
+    }
 }

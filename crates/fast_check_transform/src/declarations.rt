@@ -1,10 +1,12 @@
-ghost use Rattle.std.specs.Prelude.{◌≡◌, IfOk, ◌++◌, ◌∷◌, []};
+ghost use Rattle.std.specs.Prelude.{◌≡◌, IfOk, Some};
 ghost use Rattle.fast_check_syntax.specs.Part.{seen};
-ghost use Rattle.fast_check_syntax.specs.declared.tree.Tree.{Absent};
+ghost use Rattle.fast_check_syntax.specs.Shape.{parts};
+ghost use Rattle.fast_check_statement_forms.specs.Declarations.{VarDecl-decls};
+ghost use Rattle.fast_check_signatures.specs.Answers.{Adds};
 ghost use Rattle.fast_check_skeleton.specs.Mutability.{mutability_of};
-ghost use Rattle.fast_check_signatures.specs.Answers.{kept_tree};
 ghost use Rattle.fast_check_skeleton.specs.Visible.{is_ambient};
-ghost use Rattle.fast_check_transform.specs.Kept.{Asked-around, as_list, retyped, value_answer, valued_tree, valued_faults, kept_ident, ident_faults, kept_typed, typed_faults, kept_declarator, declarator_fault, kept_declarators, declarator_faults, kept_statement, statement_faults};
+ghost use Rattle.fast_check_transform.specs.PartAnswers.{Asked-around, as_list, retyped, value_answer, valued_answer, ident_answer};
+ghost use Rattle.fast_check_transform.specs.PartAnswers.{declarator_answer, public_answer, declarators_answer, statement_answer};
 
 use crate::asked::Asked;
 use fast_check_program_forms::{BindingIdent, Ident};
@@ -61,8 +63,7 @@ fn keep_value(
     value: Part<'_>,
     faults: &mut Vec<Fault>,
 ) -> Result<Option<Tree>, AllocError>
-    ensures kept { IfOk result (λ tree. tree ≡ kept_tree (value_answer (Asked-around asked.entry) place (seen value.entry))) }
-    ensures faults { IfOk result (λ _. faults.new.items ≡ faults.old.items ++ (value_answer (Asked-around asked.entry) place (seen value.entry)).faults) }
+    ensures { IfOk result (λ tree. Adds (value_answer (Asked-around asked.entry) place (seen value.entry)) tree faults.old.items faults.new.items) }
 {
     if value.is_absent() {
         return Ok(None);
@@ -78,8 +79,7 @@ fn valued_declarator(
     declarator: Part<'_>,
     faults: &mut Vec<Fault>,
 ) -> Result<Tree, AllocError>
-    ensures kept { IfOk result (λ tree. tree ≡ retyped (seen declarator.entry) Absent (valued_tree (Asked-around asked.entry) (seen declarator.entry))) }
-    ensures faults { IfOk result (λ _. faults.new.items ≡ faults.old.items ++ valued_faults (Asked-around asked.entry) (seen declarator.entry)) }
+    ensures { IfOk result (λ tree. Adds (valued_answer (Asked-around asked.entry) (seen declarator.entry)) (Some tree) faults.old.items faults.new.items) }
 {
     let VarDeclarator { name, init, .. } = VarDeclarator::of(declarator);
     let place = Ident::of(BindingIdent::of(name).id).span;
@@ -104,8 +104,8 @@ fn ident_declarator(
     declarator: Part<'_>,
     faults: &mut Vec<Fault>,
 ) -> Result<Tree, AllocError>
-    ensures kept { IfOk result (λ tree. tree ∷ [] ≡ kept_ident (Asked-around asked.entry) mutability (seen declarator.entry)) }
-    ensures faults { IfOk result (λ _. faults.new.items ≡ faults.old.items ++ ident_faults (Asked-around asked.entry) mutability (seen declarator.entry)) }
+    ensures { IfOk result (λ tree.
+        Adds (ident_answer (Asked-around asked.entry) mutability (seen declarator.entry)) (Some tree) faults.old.items faults.new.items) }
 {
     let VarDeclarator { name, init, .. } = VarDeclarator::of(declarator);
     let ty = BindingIdent::of(name).type_ann;
@@ -127,8 +127,8 @@ fn typed_declarator(
     declarator: Part<'_>,
     faults: &mut Vec<Fault>,
 ) -> Result<Tree, AllocError>
-    ensures kept { IfOk result (λ tree. tree ∷ [] ≡ kept_typed (Asked-around asked.entry) mutability (seen declarator.entry)) }
-    ensures faults { IfOk result (λ _. faults.new.items ≡ faults.old.items ++ typed_faults (Asked-around asked.entry) mutability (seen declarator.entry)) }
+    ensures { IfOk result (λ tree.
+        Adds (declarator_answer (Asked-around asked.entry) mutability (seen declarator.entry)) (Some tree) faults.old.items faults.new.items) }
 {
     let name = VarDeclarator::of(declarator).name;
     if name.kind() == Kind::BindingIdent {
@@ -149,8 +149,8 @@ fn keep_declarator(
     declarator: Part<'_>,
     faults: &mut Vec<Fault>,
 ) -> Result<Option<Tree>, AllocError>
-    ensures kept { IfOk result (λ tree. as_list tree ≡ kept_declarator (Asked-around asked.entry) (seen statement.entry) (seen declarator.entry)) }
-    ensures faults { IfOk result (λ _. faults.new.items ≡ faults.old.items ++ declarator_fault (Asked-around asked.entry) (seen statement.entry) (seen declarator.entry)) }
+    ensures { IfOk result (λ tree.
+        Adds (public_answer (Asked-around asked.entry) (seen statement.entry) (seen declarator.entry)) (as_list tree) faults.old.items faults.new.items) }
 {
     let span = VarDeclarator::of(declarator).span;
     if !asked.public_ranges.contains(&span) {
@@ -170,14 +170,15 @@ fn public_declarators(
     statement: Part<'_>,
     faults: &mut Vec<Fault>,
 ) -> Result<Items<Tree>, AllocError>
-    ensures kept { IfOk result (λ items. items ≡ kept_declarators (Asked-around asked.entry) (seen statement.entry)) }
-    ensures faults { IfOk result (λ _. faults.new.items ≡ faults.old.items ++ declarator_faults (Asked-around asked.entry) (seen statement.entry)) }
+    ensures { IfOk result (λ items.
+        Adds (declarators_answer (Asked-around asked.entry) (seen statement.entry) (parts (VarDecl-decls (seen statement.entry))))
+        items faults.old.items faults.new.items) }
 {
     let mut items = Items::new(alloc);
     for declarator in VarDecl::of(statement).decls.parts() {
         match keep_declarator(alloc, asked, statement, declarator.read(), faults)? {
+            None => continue,
             Some(declarator) => items.push(declarator)?,
-            None => {}
         }
     }
     Ok(items)
@@ -190,8 +191,7 @@ pub fn keep_statement(
     statement: Part<'_>,
     faults: &mut Vec<Fault>,
 ) -> Result<Option<Tree>, AllocError>
-    ensures kept { IfOk result (λ tree. as_list tree ≡ kept_statement (Asked-around asked.entry) (seen statement.entry)) }
-    ensures faults { IfOk result (λ _. faults.new.items ≡ faults.old.items ++ statement_faults (Asked-around asked.entry) (seen statement.entry)) }
+    ensures { IfOk result (λ tree. Adds (statement_answer (Asked-around asked.entry) (seen statement.entry)) (as_list tree) faults.old.items faults.new.items) }
 {
     let decls = public_declarators(alloc, asked, statement, faults)?;
     if decls.is_empty() {

@@ -1,34 +1,18 @@
-ghost use Rattle.std.specs.Prelude.{◌≡◌, IfOk, ◌++◌, ◌∷◌, []};
+ghost use Rattle.std.specs.Prelude.{IfOk, Some};
 ghost use Rattle.fast_check_syntax.specs.Part.{seen};
-ghost use Rattle.fast_check_skeleton.specs.Visible.{own_range, is_standing};
-ghost use Rattle.fast_check_transform.specs.Kept.{Asked-around, as_list, signature_tree, signature_faults, kept_function, function_faults, kept_decl, decl_faults, kept_item, item_faults};
+ghost use Rattle.fast_check_signatures.specs.Answers.{Adds};
+ghost use Rattle.fast_check_transform.specs.PartAnswers.{Asked-around, as_list, signature_answer, function_answer, decl_answer, item_answer};
 
 use crate::asked::Asked;
 use crate::declarations::keep_statement;
-use fast_check_class_forms::Function;
 use fast_check_program_forms::{ExportDecl, Ident};
+use fast_check_ranges::range_of_node;
 use fast_check_signatures::{Fault, FunctionKind};
-use fast_check_statement_forms::{FnDecl, TsInterfaceDecl};
-use fast_check_syntax::{Kind, Part, SourceRange, Tree};
+use fast_check_skeleton::{DeclRule, ItemRule, item_rule};
+use fast_check_statement_forms::FnDecl;
+use fast_check_syntax::{Part, SourceRange, Tree};
 use fast_check_values::{transform_fn, transform_implementation};
 use std::alloc::{AllocError, Global};
-
-/// Whether a declaration of this kind stands as it is written: an interface, a type alias or an enum.
-pub fn is_standing(kind: Kind) -> bool
-    ensures { result ≡ is_standing kind }
-{
-    kind == Kind::TsInterfaceDecl || kind == Kind::TsTypeAliasDecl || kind == Kind::TsEnumDecl
-}
-
-/// The range of an item. A function declaration has none beside its function's, and the other forms begin with it alike.
-pub fn own_range(item: Part<'_>) -> SourceRange
-    ensures { result ≡ own_range (seen item.entry) }
-{
-    if item.kind() == Kind::FnDecl {
-        return Function::of(FnDecl::of(item).function).span;
-    }
-    TsInterfaceDecl::of(item).span
-}
 
 /// The signature of a public function: of an implementation behind overloads the count of its parameters.
 fn transform_signature(
@@ -38,8 +22,7 @@ fn transform_signature(
     decl: Part<'_>,
     faults: &mut Vec<Fault>,
 ) -> Result<Tree, AllocError>
-    ensures kept { IfOk result (λ tree. tree ≡ signature_tree (Asked-around asked.entry) place (seen decl.entry)) }
-    ensures faults { IfOk result (λ _. faults.new.items ≡ faults.old.items ++ signature_faults (Asked-around asked.entry) place (seen decl.entry)) }
+    ensures { IfOk result (λ tree. Adds (signature_answer (Asked-around asked.entry) place (seen decl.entry)) (Some tree) faults.old.items faults.new.items) }
 {
     let FnDecl {
         ident,
@@ -69,8 +52,7 @@ fn keep_function(
     decl: Part<'_>,
     faults: &mut Vec<Fault>,
 ) -> Result<Tree, AllocError>
-    ensures kept { IfOk result (λ tree. tree ∷ [] ≡ kept_function (Asked-around asked.entry) place (seen decl.entry)) }
-    ensures faults { IfOk result (λ _. faults.new.items ≡ faults.old.items ++ function_faults (Asked-around asked.entry) place (seen decl.entry)) }
+    ensures { IfOk result (λ tree. Adds (function_answer (Asked-around asked.entry) place (seen decl.entry)) (Some tree) faults.old.items faults.new.items) }
 {
     if asked.is_declaration_file {
         return decl.to_tree(alloc);
@@ -84,31 +66,35 @@ fn keep_function(
     made.into_tree(alloc)
 }
 
-/// What is public of a declaration, which is public by `place` where it is no variable statement; none where nothing is.
+/// What is public of a declaration with which this is done, and which is public by `place` where it is no variable
+/// statement; none where nothing is.
 fn keep_decl(
     alloc: Global,
     asked: Asked<'_>,
     place: SourceRange,
     decl: Part<'_>,
+    rule: DeclRule,
     faults: &mut Vec<Fault>,
 ) -> Result<Option<Tree>, AllocError>
-    ensures kept { IfOk result (λ tree. as_list tree ≡ kept_decl (Asked-around asked.entry) place (seen decl.entry)) }
-    ensures faults { IfOk result (λ _. faults.new.items ≡ faults.old.items ++ decl_faults (Asked-around asked.entry) place (seen decl.entry)) }
+    ensures { IfOk result (λ tree.
+        Adds (decl_answer (Asked-around asked.entry) place (seen decl.entry) rule) (as_list tree) faults.old.items faults.new.items) }
 {
-    let kind = decl.kind();
-    if kind == Kind::VarDecl {
-        return keep_statement(alloc, asked, decl, faults);
+    match rule {
+        DeclRule::Variables => keep_statement(alloc, asked, decl, faults),
+        DeclRule::Function => {
+            if !asked.public_ranges.contains(&place) {
+                return Ok(None);
+            }
+            Ok(Some(keep_function(alloc, asked, place, decl, faults)?))
+        }
+        DeclRule::Standing => {
+            if !asked.public_ranges.contains(&place) {
+                return Ok(None);
+            }
+            Ok(Some(decl.to_tree(alloc)?))
+        }
+        DeclRule::Untaken => Ok(None),
     }
-    if !asked.public_ranges.contains(&place) {
-        return Ok(None);
-    }
-    if kind == Kind::FnDecl {
-        return Ok(Some(keep_function(alloc, asked, place, decl, faults)?));
-    }
-    if is_standing(kind) {
-        return Ok(Some(decl.to_tree(alloc)?));
-    }
-    Ok(None)
 }
 
 /// What is public of an item of a module; none where nothing is.
@@ -118,17 +104,24 @@ pub fn keep_item(
     item: Part<'_>,
     faults: &mut Vec<Fault>,
 ) -> Result<Option<Tree>, AllocError>
-    ensures kept { IfOk result (λ tree. as_list tree ≡ kept_item (Asked-around asked.entry) (seen item.entry)) }
-    ensures faults { IfOk result (λ _. faults.new.items ≡ faults.old.items ++ item_faults (Asked-around asked.entry) (seen item.entry)) }
+    ensures { IfOk result (λ tree. Adds (item_answer (Asked-around asked.entry) (seen item.entry)) (as_list tree) faults.old.items faults.new.items) }
 {
-    match item.kind() {
-        Kind::ExportDecl => {
+    match item_rule(item) {
+        ItemRule::Declared(rule) => keep_decl(
+            alloc,
+            asked,
+            range_of_node(item),
+            item,
+            rule,
+            faults,
+        ),
+        ItemRule::Exported(rule) => {
             let ExportDecl { span, decl } = ExportDecl::of(item);
-            match keep_decl(alloc, asked, span, decl, faults)? {
+            match keep_decl(alloc, asked, span, decl, rule, faults)? {
                 Some(decl) => Ok(Some(ExportDecl { span, decl }.into_tree(alloc)?)),
                 None => Ok(None),
             }
         }
-        _ => keep_decl(alloc, asked, own_range(item), item, faults),
+        ItemRule::Silent => Ok(None),
     }
 }

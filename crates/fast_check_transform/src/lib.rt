@@ -5,8 +5,6 @@ mod asked;
 mod carried;
 mod declarations;
 mod items;
-#[cfg(test)]
-mod tests;
 mod transformer;
 
 pub use carried::is_carried;

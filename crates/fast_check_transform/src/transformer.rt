@@ -1,18 +1,19 @@
-ghost use Rattle.std.specs.Prelude.{◌≡◌, ◌↔◌, ◌++◌, [], IfOk, IsOk, IfErr};
+ghost use Rattle.std.specs.Prelude.{◌≡◌, ◌↔◌, [], IfOk, IsOk, IfErr};
 ghost use Rattle.fast_check_syntax.specs.Part.{seen};
 ghost use Rattle.std.specs.List.{flat_map};
 ghost use Rattle.fast_check_syntax.specs.Shape.{parts};
+ghost use Rattle.fast_check_signatures.specs.Answers.{Adds};
 ghost use Rattle.fast_check_skeleton.specs.Grammar.{IsSkeleton};
 ghost use Rattle.fast_check_skeleton.specs.KeptComments.{removed_start, removed_starts, without_all_leading};
-ghost use Rattle.fast_check_skeleton.specs.Skeleton.{skeleton_of, faults_of};
 ghost use Rattle.fast_check_tables.specs.MediaType.{is_declaration};
-ghost use Rattle.fast_check_transform.specs.Kept.{Asked-around, kept_items, faults_of_items};
+ghost use Rattle.fast_check_transform.specs.PartAnswers.{Asked-around, items_answer, program_answer};
 ghost use Rattle.fast_check_transform.specs.Transform.{IsCarried, skeleton, comments, faults, told, IsDiagnosticOf, AreDiagnosticsOf};
 
 use crate::asked::Asked;
-use crate::items::{keep_item, own_range};
+use crate::items::keep_item;
 use fast_check_comments::{Comments, CommentsMut};
 use fast_check_program_forms::Module;
+use fast_check_ranges::range_of_node;
 use fast_check_signatures::{Fault, FaultKind};
 use fast_check_syntax::{Atom, Items, Part, SourceRange, Tree};
 use fast_check_tables::{
@@ -74,11 +75,13 @@ pub fn transform(
     requires { IsCarried es_module_info.now }
     ensures ok { IfOk result (λ answer. IsOk answer ↔ (faults es_module_info.now public_ranges.now ≡ [])) }
     ensures skeleton { IfOk result (λ answer. IfOk answer (λ made. made.program ≡ skeleton es_module_info.now public_ranges.now)) }
-    ensures grammar { IfOk result (λ answer. IfOk answer (λ made. IsSkeleton es_module_info.now.source.unresolved_context (is_declaration es_module_info.now.source.media_type) made.program)) }
+    ensures grammar { IfOk result (λ answer. IfOk answer (λ made.
+        IsSkeleton es_module_info.now.source.unresolved_context (is_declaration es_module_info.now.source.media_type) made.program)) }
     ensures comments { IfOk result (λ answer. IfOk answer (λ made. made.comments ≡ comments es_module_info.now public_ranges.now)) }
     ensures sources { IfOk result (λ answer. IfOk answer (λ made. made.module_info.sources.items ≡ [])) }
     ensures faults { IfOk result (λ answer. IfErr answer (λ diagnostics.
-        AreDiagnosticsOf es_module_info.now (told options.now.should_error_on_first_diagnostic (faults es_module_info.now public_ranges.now)) diagnostics.items)) }
+        AreDiagnosticsOf es_module_info.now
+        (told options.now.should_error_on_first_diagnostic (faults es_module_info.now public_ranges.now)) diagnostics.items)) }
 {
     let _ = graph;
     let asked = Asked::of(es_module_info, public_ranges);
@@ -113,9 +116,8 @@ fn keep_program(
     comments: &mut CommentsMut,
     faults: &mut Vec<Fault>,
 ) -> Result<Tree, AllocError>
-    ensures kept { IfOk result (λ tree. tree ≡ skeleton_of (Asked-around asked.entry) (seen program.entry)) }
+    ensures answer { IfOk result (λ tree. Adds (program_answer (Asked-around asked.entry) (seen program.entry)) tree faults.old.items faults.new.items) }
     ensures comments { IfOk result (λ _. comments.new ≡ without_all_leading (removed_starts (Asked-around asked.entry) (seen program.entry)) comments.old) }
-    ensures faults { IfOk result (λ _. faults.new.items ≡ faults.old.items ++ faults_of (Asked-around asked.entry) (seen program.entry)) }
 {
     let Module {
         span,
@@ -139,16 +141,16 @@ fn keep_items(
     comments: &mut CommentsMut,
     faults: &mut Vec<Fault>,
 ) -> Result<Items<Tree>, AllocError>
-    ensures kept { IfOk result (λ items. items ≡ kept_items (Asked-around asked.entry) (seen body.entry)) }
-    ensures comments { IfOk result (λ _. comments.new ≡ without_all_leading (flat_map (removed_start (Asked-around asked.entry)) (parts (seen body.entry))) comments.old) }
-    ensures faults { IfOk result (λ _. faults.new.items ≡ faults.old.items ++ faults_of_items (Asked-around asked.entry) (seen body.entry)) }
+    ensures answer { IfOk result (λ items. Adds (items_answer (Asked-around asked.entry) (parts (seen body.entry))) items faults.old.items faults.new.items) }
+    ensures comments { IfOk result (λ _.
+        comments.new ≡ without_all_leading (flat_map (removed_start (Asked-around asked.entry)) (parts (seen body.entry))) comments.old) }
 {
     let mut items = Items::new(alloc);
     for item in body.parts() {
         let item = item.read();
         match keep_item(alloc, asked, item, faults)? {
             None => {
-                comments.remove_leading(own_range(item).start);
+                comments.remove_leading(range_of_node(item).start);
                 continue;
             }
             Some(tree) => items.push(tree)?,

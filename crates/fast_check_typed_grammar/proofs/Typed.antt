@@ -1,6 +1,6 @@
 -- What stands without a fault is in the grammar: expressions that may stay, functions, arrows and parameters.
-use Rattle.std.specs.Prelude.{◌≡◌, Bool, true, false, is_some, Option, Some, None, List, [], ◌∷◌, map, unwrap_or, refl, codes, if◌then◌else◌}
-use Rattle.std.specs.List.{list_all}
+use Rattle.std.specs.Prelude.{◌≡◌, ℕ, suc, Bool, true, false, is_some, IfSome, Option, None, List, [], ◌∷◌, map, slice_get, unwrap_or, refl, codes}
+use Rattle.std.specs.Prelude.{if◌then◌else◌}
 use Rattle.std.proofs.Common.{ap, ◌∙◌, sym, subst}
 use Rattle.fast_check_syntax.specs.declared.kind.Kind.{Kind}
 use Rattle.fast_check_syntax.specs.declared.kind.Kind.TheVariants as kinds
@@ -8,45 +8,34 @@ use Rattle.fast_check_syntax.specs.declared.source.SourceRange.{SourceRange}
 use Rattle.fast_check_syntax.specs.declared.source.SyntaxContext.{SyntaxContext}
 use Rattle.fast_check_syntax.specs.declared.tree.Tree as tree
 use Rattle.fast_check_syntax.specs.declared.tree.Tree.{Tree}
-use Rattle.fast_check_syntax.specs.Shape.{◌is◌, is_kind, differs, kind_of, parts}
-use Rattle.fast_check_syntax.proofs.Made.{kind_of_node, parts_node, part_node}
+use Rattle.fast_check_syntax.specs.Shape.{kind_of, part, parts}
+use Rattle.fast_check_syntax.proofs.Made.{kind_of_node, parts_node}
 use Rattle.fast_check_class_forms.specs.Functions.{Function-span}
-use Rattle.fast_check_expression_forms.specs.Assertions.{TsAsExpr-span, TsAsExpr-type_ann, ts_as_expr, TsTypeAssertion-span, TsTypeAssertion-type_ann, ts_type_assertion, TsSatisfiesExpr-span, TsSatisfiesExpr-expr, TsSatisfiesExpr-type_ann}
-use Rattle.fast_check_expression_forms.specs.Calls.{CallExpr-span, CallExpr-ctxt, CallExpr-callee, CallExpr-args, CallExpr-type_args}
-use Rattle.fast_check_expression_forms.specs.Expressions.{FnExpr-ident, FnExpr-function}
+use Rattle.fast_check_expression_forms.specs.Calls.{CallExpr-callee, CallExpr-args}
 use Rattle.fast_check_tree.specs.GlobalCalls.{is_global_member, sole_argument}
-use Rattle.fast_check_tree.specs.OptionalParams.{is_optional_param}
 use Rattle.fast_check_signatures.specs.declared.function_kind.FunctionKind.{FunctionKind}
 use Rattle.fast_check_signatures.specs.declared.function_kind.FunctionKind.TheVariants.{ExpressionLike}
-use Rattle.fast_check_signatures.specs.Seen.{Seen, written, range, scope, form, refused, seens}
+use Rattle.fast_check_signatures.specs.declared.rules.TheConstants.{SATISFIES, ASSERTION, FN_EXPR, FREEZE}
+use Rattle.fast_check_signatures.specs.declared.rules.Slot.{Slot}
+use Rattle.fast_check_signatures.specs.declared.rules.Slot.TheVariants as slots
+use Rattle.fast_check_signatures.specs.Seen.{Seen, round, refused, seens}
 use Rattle.fast_check_signatures.specs.NewNodes.{never_in_parens}
 use Rattle.fast_check_signatures.specs.Parameters.{Look, pat_seen, pats_seen}
-use Rattle.fast_check_signatures.specs.Functions.{or_own, function_seen, fn_expr_seen, implementation_seen, arrow_seen}
-use Rattle.fast_check_signatures.specs.Expressions.{is_plain, is_compound, freezes, call_seen, expr_form, expr_seen}
-use Rattle.fast_check_signatures.specs.Answers.{Part, visited, around, default_form, declarator_form, function_form, arrow_form, form_answer, first_or_absent, answer_to, answered, answer_of, kept_tree}
+use Rattle.fast_check_signatures.specs.Functions.{or_own, function_seen, implementation_seen, arrow_seen}
+use Rattle.fast_check_signatures.specs.Expressions.{is_plain, is_compound, freezes, Rule, slotted, other_rule, slot_seen, slots_seen, by_rule, expr_form}
+use Rattle.fast_check_signatures.specs.Expressions.{expr_seen}
+use Rattle.fast_check_signatures.specs.Answers.{answer_to, parts_answer, answer_of}
+use Rattle.fast_check_signatures.proofs.Choices.{of_choice}
 use Rattle.fast_check_typed_grammar.specs.TypedGrammar.{IsLeavable, AllLeavable, IsTypedFunction, IsTypedPat, AllTypedPats}
 use Rattle.fast_check_typed_grammar.proofs.Descending.{by_descent_holds}
-use Rattle.fast_check_typed_grammar.proofs.Staying.{of_choice, no_left, no_right, One, one_first, one_is_first, one_before, Stays, visited_next, around_stays, around_one}
-use Rattle.fast_check_typed_grammar.proofs.TypedPatterns.{pat_is_typed}
-use Rattle.fast_check_typed_grammar.proofs.TypedFunctions.{function_is_typed, implementation_is_typed, implementation_faultless}
-use Rattle.fast_check_typed_grammar.proofs.TypedArrows.{arrow_is_typed}
-
--- ---- kinds
-
--- a kind whose parts may all stay is none that is answered by itself
-not_compound : (kind other : Kind) → is_compound kind ≡ true → is_compound other ≡ false → kind is other ≡ false
-not_compound kind other e n = differs kind other (λ same. cc)
-
-compound_around : (kind : Kind) (ps : List Part) → is_compound kind ≡ true → form_answer kind ps ≡ around kind ps
-compound_around kind ps e =
-    ap (λ b. if b then declarator_form ps else (if kind is kinds.AssignPat then default_form ps else (if kind is kinds.Function then function_form ps else (if kind is kinds.ArrowExpr then arrow_form ps else around kind ps))))
-    (not_compound kind kinds.VarDeclarator e refl)
-    ∙ (ap (λ b. if b then default_form ps else (if kind is kinds.Function then function_form ps else (if kind is kinds.ArrowExpr then arrow_form ps else around kind ps))) (not_compound kind kinds.AssignPat e refl)
-    ∙ (ap (λ b. if b then function_form ps else (if kind is kinds.ArrowExpr then arrow_form ps else around kind ps)) (not_compound kind kinds.Function e refl)
-    ∙ ap (λ b. if b then arrow_form ps else around kind ps) (not_compound kind kinds.ArrowExpr e refl)))
+use Rattle.fast_check_typed_grammar.proofs.Staying.{Holds, Stays, visited_stays, round_stays}
+use Rattle.fast_check_typed_grammar.proofs.TypedPatterns.{LookStays, pat_stays, pats_hold}
+use Rattle.fast_check_typed_grammar.proofs.TypedFunctions.{function_stays, implementation_stays, implementation_faultless}
+use Rattle.fast_check_typed_grammar.proofs.TypedArrows.{arrow_stays}
 
 -- what is frozen is called by its global name
-is_freeze : (unresolved : SyntaxContext) (t : Tree) → freezes unresolved t ≡ true → is_global_member (codes "Object") (codes "freeze") unresolved (CallExpr-callee t) ≡ true
+is_freeze : (unresolved : SyntaxContext) (t : Tree) → freezes unresolved t ≡ true →
+    is_global_member (codes "Object") (codes "freeze") unresolved (CallExpr-callee t) ≡ true
 is_freeze unresolved t = go (is_global_member (codes "Object") (codes "freeze") unresolved (CallExpr-callee t))
   where
     go : (b : Bool) → is_some (if b then sole_argument (parts (CallExpr-args t)) else None) ≡ true → b ≡ true
@@ -58,152 +47,99 @@ module _ (unresolved : SyntaxContext) where
   Leavable = IsLeavable unresolved
 
   abbrev StaysLeavable : Seen → Type 0
-  StaysLeavable s = Stays (One Leavable) (answer_to s)
-
-  refused_stays : StaysLeavable refused
-  refused_stays l f = cc
-
-  -- ---- values with written types
-
-  never_as : (span : SourceRange) (type : Tree) → Leavable (ts_as_expr span never_in_parens type)
-  never_as span type = IsLeavable.as_type (kind_of_node _ _) (part_node 1 _ _)
-
-  never_asserted : (span : SourceRange) (type : Tree) → Leavable (ts_type_assertion span never_in_parens type)
-  never_asserted span type = IsLeavable.assertion (kind_of_node _ _) (part_node 1 _ _)
+  StaysLeavable s = Stays Leavable (answer_to s)
 
   -- ---- values with lower values in them
 
-  module _ (look : Look) (stays : (t : Tree) (place : Option SourceRange) → Stays (One (IsLeavable unresolved)) (answer_to (look t place))) where
-    all_stay : (ts : List Tree) → Stays (AllLeavable unresolved) (visited (map answer_to (map (λ p. look p None) ts)))
-    all_stay [] = λ l f. AllLeavable.none_leavable
-    all_stay (t ∷ ts) = visited_next Leavable (AllLeavable unresolved) (AllLeavable unresolved) (λ u us. AllLeavable.next_leavable)
-        (answer_to (look t None)) (map answer_to (map (λ p. look p None) ts)) (stays t None) (all_stay ts)
+  module _ (look : Look) (stays : LookStays unresolved look) where
+    all_stay : (ts : List Tree) → Stays (AllLeavable unresolved) (parts_answer (seens (map (λ p. look p None) ts)))
+    all_stay [] = λ f. AllLeavable.none_leavable
+    all_stay (t ∷ ts) = visited_stays Leavable (AllLeavable unresolved) (AllLeavable unresolved) (λ u us. AllLeavable.next_leavable)
+        (answer_to (look t None)) (parts_answer (seens (map (λ p. look p None) ts))) (stays t None) (all_stay ts)
 
-    compound_stays : (kind : Kind) (ts : List Tree) → is_compound kind ≡ true → StaysLeavable (form kind (seens (map (λ p. look p None) ts)))
-    compound_stays kind ts e =
-        let ss = map (λ p. look p None) ts in
-        subst (Stays (One Leavable)) (sym (compound_around kind (answered (seens ss)) e))
-        (around_stays kind (AllLeavable unresolved) Leavable
-        (λ us h. IsLeavable.compound (ap is_compound (kind_of_node kind us) ∙ e) (subst (AllLeavable unresolved) (sym (parts_node kind us)) h)) ss (all_stay ts))
+    parts_stay : (kind : Kind) (ts : List Tree) → is_compound kind ≡ true → StaysLeavable (round kind (seens (map (λ p. look p None) ts)))
+    parts_stay kind ts e = round_stays kind (AllLeavable unresolved) Leavable
+        (λ us h. IsLeavable.compound (ap is_compound (kind_of_node kind us) ∙ e) (subst (AllLeavable unresolved) (sym (parts_node kind us)) h))
+        (parts_answer (seens (map (λ p. look p None) ts))) (all_stay ts)
 
-    satisfies_stays : (kind : Kind) (t : Tree) (span : SourceRange) (type : Tree) → kind ≡ kinds.TsSatisfiesExpr → StaysLeavable (form kind (seens (range span ∷ look t None ∷ written type ∷ [])))
-    satisfies_stays kind t span type e =
-        subst (λ k. StaysLeavable (form k (seens (range span ∷ look t None ∷ written type ∷ [])))) {x = kinds.TsSatisfiesExpr} {y = kind} (sym e)
-        (around_one kinds.TsSatisfiesExpr (tree.Range span ∷ []) (type ∷ []) Leavable Leavable made (range span ∷ look t None ∷ written type ∷ []) (answer_to (look t None)) refl (stays t None))
-      where
-        made : (u : Tree) → Leavable u → Leavable (tree.Node kinds.TsSatisfiesExpr (tree.Range span ∷ u ∷ type ∷ []))
-        made u h =
-            let same : TsSatisfiesExpr-expr (tree.Node kinds.TsSatisfiesExpr (tree.Range span ∷ u ∷ type ∷ [])) ≡ u = part_node 1 _ _ in
-            IsLeavable.satisfies (kind_of_node _ _) (subst Leavable (sym same) h)
+    -- what stands for a part, and for each of the parts from a place on
+    abbrev Fits : Slot → Tree → Tree → Type 0
+    Fits slots.Written p u = u ≡ p
+    Fits slots.Never p u = u ≡ never_in_parens
+    Fits slots.Value p u = Leavable u
+    Fits slots.Function p u = IsTypedFunction unresolved u
+    Fits _ p u = Unit {0}
 
-    call_stays : (t : Tree) → StaysLeavable (call_seen unresolved t look)
-    call_stays t = of_choice StaysLeavable (freezes unresolved t) _ _ (λ e.
-        around_one kinds.CallExpr (tree.Range (CallExpr-span t) ∷ tree.Context (CallExpr-ctxt t) ∷ CallExpr-callee t ∷ []) (CallExpr-type_args t ∷ []) Leavable Leavable (made e)
-        (range (CallExpr-span t) ∷ scope (CallExpr-ctxt t) ∷ written (CallExpr-callee t) ∷ look (CallExpr-args t) None ∷ written (CallExpr-type_args t) ∷ [])
-        (answer_to (look (CallExpr-args t) None)) refl (stays (CallExpr-args t) None)) (λ e. refused_stays)
-      where
-        call : Tree → Tree
-        call args = tree.Node kinds.CallExpr (tree.Range (CallExpr-span t) ∷ tree.Context (CallExpr-ctxt t) ∷ CallExpr-callee t ∷ args ∷ CallExpr-type_args t ∷ [])
+    abbrev AllFit : Tree → List Slot → ℕ → (ℕ → Tree) → Type 0
+    AllFit t [] n made = Unit {0}
+    AllFit t (s ∷ row) n made = Fits s (part n t) (made 0) × AllFit t row (suc n) (λ k. made (suc k))
 
-        made : freezes unresolved t ≡ true → (u : Tree) → Leavable u → Leavable (call u)
-        made e u h =
-            let callee : CallExpr-callee (call u) ≡ CallExpr-callee t = part_node 2 _ _ in
-            let same : CallExpr-args (call u) ≡ u = part_node 3 _ _ in
-            IsLeavable.frozen (kind_of_node _ _) (ap (is_global_member (codes "Object") (codes "freeze") unresolved) callee ∙ is_freeze unresolved t e) (subst Leavable (sym same) h)
+    abbrev at : List Tree → ℕ → Tree
+    at us n = unwrap_or (slice_get us n) tree.Absent
 
-    fn_expr_stays : (place : Option SourceRange) (t : Tree) → StaysLeavable (fn_expr_seen unresolved look place t)
-    fn_expr_stays place t =
-        let function = FnExpr-function t in
-        let seen = function_seen unresolved look ExpressionLike (or_own place (Function-span function)) function in
-        let typed = function_is_typed unresolved look stays ExpressionLike (or_own place (Function-span function)) function in
-        around_one kinds.FnExpr (FnExpr-ident t ∷ []) [] (IsTypedFunction unresolved) Leavable made (written (FnExpr-ident t) ∷ seen ∷ []) (answer_to seen) refl (λ l. typed.1)
-      where
-        made : (u : Tree) → IsTypedFunction unresolved u → Leavable (tree.Node kinds.FnExpr (FnExpr-ident t ∷ u ∷ []))
-        made u h =
-            let same : FnExpr-function (tree.Node kinds.FnExpr (FnExpr-ident t ∷ u ∷ [])) ≡ u = part_node 1 _ _ in
-            IsLeavable.function (kind_of_node _ _) (subst (IsTypedFunction unresolved) (sym same) h)
+    slot_stays : (s : Slot) (p : Tree) (place : Option SourceRange) → Stays (Fits s p) (answer_to (slot_seen unresolved s p look place))
+    slot_stays slots.Span p place f = tt
+    slot_stays slots.Scope p place f = tt
+    slot_stays slots.Written p place f = refl
+    slot_stays slots.Never p place f = refl
+    slot_stays slots.Value p place f = stays p None f
+    slot_stays slots.Function p place f = function_stays unresolved look stays ExpressionLike (or_own place (Function-span p)) p f
+
+    slots_stay : (place : Option SourceRange) (t : Tree) (row : List Slot) (n : ℕ) →
+        Stays (λ us. AllFit t row n (at us)) (parts_answer (seens (slots_seen unresolved row n t look place)))
+    slots_stay place t [] n = λ f. tt
+    slots_stay place t (s ∷ row) n =
+        visited_stays (Fits s (part n t)) (λ us. AllFit t row (suc n) (at us)) (λ us. AllFit t (s ∷ row) n (at us)) (λ u us h hs. (h, hs))
+        (answer_to (slot_seen unresolved s (part n t) look place)) (parts_answer (seens (slots_seen unresolved row (suc n) t look place)))
+        (slot_stays s (part n t) place) (slots_stay place t row (suc n))
+
+    -- a node whose parts fit the slots is in the grammar
+    slotted_stays : (row : List Slot) (kind : Kind) (t : Tree) (place : Option SourceRange) →
+        ((u : Tree) → kind_of u ≡ kind → AllFit t row 0 (λ n. part n u) → Leavable u) → StaysLeavable (by_rule unresolved (slotted row) kind t look place)
+    slotted_stays row kind t place made = round_stays kind (λ us. AllFit t row 0 (at us)) Leavable
+        (λ us fit. made (tree.Node kind us) (kind_of_node kind us) (subst (λ us. AllFit t row 0 (at us)) (sym (parts_node kind us)) fit))
+        (parts_answer (seens (slots_seen unresolved row 0 t look place))) (slots_stay place t row 0)
+
+    kind_stays : (kind : Kind) (b : Bool) (t : Tree) (place : Option SourceRange) → freezes unresolved t ≡ b →
+        StaysLeavable (by_rule unresolved (other_rule kind b) kind t look place)
+    kind_stays kinds.TsSatisfiesExpr b t place f = slotted_stays SATISFIES kinds.TsSatisfiesExpr t place (λ u e h. IsLeavable.satisfies e h.1.0)
+    kind_stays kinds.TsAsExpr b t place f = slotted_stays ASSERTION kinds.TsAsExpr t place (λ u e h. IsLeavable.as_type e h.1.0)
+    kind_stays kinds.TsTypeAssertion b t place f = slotted_stays ASSERTION kinds.TsTypeAssertion t place (λ u e h. IsLeavable.assertion e h.1.0)
+    kind_stays kinds.CallExpr true t place f = slotted_stays FREEZE kinds.CallExpr t place
+        (λ u e h. IsLeavable.frozen e (ap (is_global_member (codes "Object") (codes "freeze") unresolved) h.1.1.0 ∙ is_freeze unresolved t f) h.1.1.1.0)
+    kind_stays kinds.FnExpr b t place f = slotted_stays FN_EXPR kinds.FnExpr t place (λ u e h. IsLeavable.function e h.1.0)
+    kind_stays kinds.ArrowExpr b t place f = arrow_stays unresolved look stays place t
+    kind_stays _ b t place f = λ g. tt
 
     form_stays : (t : Tree) (place : Option SourceRange) → StaysLeavable (expr_form unresolved t look place)
-    form_stays t place = let kind = kind_of t in
-        of_choice StaysLeavable (is_plain kind) _ _ (λ e l f. IsLeavable.plain e) (λ plain.
-        of_choice StaysLeavable (is_compound kind) _ _ (λ e. compound_stays kind (parts t) e) (λ compound.
-        of_choice StaysLeavable (kind is kinds.TsSatisfiesExpr) _ _
-        (λ e. satisfies_stays kind (TsSatisfiesExpr-expr t) (TsSatisfiesExpr-span t) (TsSatisfiesExpr-type_ann t) (is_kind kind kinds.TsSatisfiesExpr e)) (λ satisfies.
-        of_choice StaysLeavable (kind is kinds.TsAsExpr) _ _ (λ e l f. never_as (TsAsExpr-span t) (TsAsExpr-type_ann t)) (λ as_type.
-        of_choice StaysLeavable (kind is kinds.TsTypeAssertion) _ _ (λ e l f. never_asserted (TsTypeAssertion-span t) (TsTypeAssertion-type_ann t)) (λ assertion.
-        of_choice StaysLeavable (kind is kinds.CallExpr) _ _ (λ e. call_stays t) (λ call.
-        of_choice StaysLeavable (kind is kinds.FnExpr) _ _ (λ e. fn_expr_stays place t) (λ function.
-        of_choice StaysLeavable (kind is kinds.ArrowExpr) _ _ (λ e l. (arrow_is_typed unresolved look stays place t).1) (λ arrow. refused_stays))))))))
+    form_stays t place = let kind = kind_of t in let P : Rule → Type 0 = λ r. StaysLeavable (by_rule unresolved r kind t look place) in
+        of_choice P (is_compound kind) _ _ (parts_stay kind (parts t)) (λ compound.
+        of_choice P (is_plain kind) _ _ (λ e f. IsLeavable.plain e) (λ plain. kind_stays kind (freezes unresolved t) t place refl))
 
   -- ---- all of it
 
   abbrev look : Look
   look = expr_seen unresolved
 
-  expr_stays : (t : Tree) (place : Option SourceRange) → StaysLeavable (look t place)
+  -- what stays of an expression gives its type, if nothing in it is at fault
+  pub expr_stays : (t : Tree) (place : Option SourceRange) → StaysLeavable (look t place)
   unfolding expr_seen
-  expr_stays = by_descent_holds (λ place. refused) (expr_form unresolved) (λ f. (place : Option SourceRange) → StaysLeavable (f place)) (λ place. refused_stays) (λ t given stays. form_stays given stays t)
+  expr_stays = by_descent_holds (λ place. refused) (expr_form unresolved) (λ f. (place : Option SourceRange) → StaysLeavable (f place)) (λ place f. tt)
+      (λ t given stays. form_stays given stays t)
 
-  -- an expression that may stay, if nothing in it is at fault
-  pub leavable_stands : (t : Tree) (place : Option SourceRange) → (answer_to (look t place)).is_leavable ≡ true → (answer_to (look t place)).faults ≡ [] →
-      IsLeavable unresolved (first_or_absent (answer_to (look t place)).trees)
-  leavable_stands t place l f = one_first Leavable (answer_to (look t place)).trees (expr_stays t place l f)
+  -- what stays of a function, an arrow or a parameter is typed, if nothing in it is at fault
+  pub function_is_typed : (kind : FunctionKind) (place : SourceRange) (t : Tree) →
+      Stays (IsTypedFunction unresolved) (answer_to (function_seen unresolved look kind place t))
+  function_is_typed = function_stays unresolved look expr_stays
 
-  pub leavable_is_one : (t : Tree) (place : Option SourceRange) → (answer_to (look t place)).is_leavable ≡ true → (answer_to (look t place)).faults ≡ [] →
-      (answer_to (look t place)).trees ≡ first_or_absent (answer_to (look t place)).trees ∷ []
-  leavable_is_one t place l f = one_is_first Leavable (answer_to (look t place)).trees (expr_stays t place l f)
+  pub implementation_is_typed : (t : Tree) → IfSome (answer_to (implementation_seen t)).stays (IsTypedFunction unresolved)
+  implementation_is_typed t = implementation_stays unresolved t (implementation_faultless t)
 
-  -- the same of the tree that is kept
-  pub kept_stands : (t : Tree) (place : Option SourceRange) (kept : Tree) → kept_tree (answer_to (look t place)) ≡ Some kept → (answer_to (look t place)).faults ≡ [] → IsLeavable unresolved kept
-  kept_stands t place kept e f = go (answer_to (look t place)).is_leavable refl e
-    where
-      go : (b : Bool) → (answer_to (look t place)).is_leavable ≡ b → (if b then Some (first_or_absent (answer_to (look t place)).trees) else None) ≡ Some kept → IsLeavable unresolved kept
-      go true l e = subst Leavable (ap (λ o. unwrap_or o kept) e) (leavable_stands t place l f)
-      go false l e = cc
+  pub arrow_is_typed : (place : Option SourceRange) (t : Tree) → StaysLeavable (arrow_seen unresolved look place t)
+  arrow_is_typed = arrow_stays unresolved look expr_stays
 
-  -- what is seen of a function, an arrow or a parameter stands as one tree, which is typed, if nothing is at fault
-  pub function_stands : (kind : FunctionKind) (place : SourceRange) (t : Tree) → (answer_to (function_seen unresolved look kind place t)).faults ≡ [] →
-      IsTypedFunction unresolved (first_or_absent (answer_to (function_seen unresolved look kind place t)).trees)
-  function_stands kind place t f =
-      let made = answer_to (function_seen unresolved look kind place t) in
-      one_first (IsTypedFunction unresolved) made.trees ((function_is_typed unresolved look expr_stays kind place t).1 f)
+  pub pat_is_typed : (is_optional : Bool) (pat : Tree) → Stays (IsTypedPat unresolved) (answer_to (pat_seen unresolved look is_optional pat))
+  pat_is_typed = pat_stays unresolved look expr_stays
 
-  pub function_is_one : (kind : FunctionKind) (place : SourceRange) (t : Tree) →
-      (answer_to (function_seen unresolved look kind place t)).trees ≡ first_or_absent (answer_to (function_seen unresolved look kind place t)).trees ∷ []
-  function_is_one kind place t = refl
-
-  pub implementation_stands : (t : Tree) → IsTypedFunction unresolved (first_or_absent (answer_to (implementation_seen t)).trees)
-  implementation_stands t =
-      let made = answer_to (implementation_seen t) in
-      one_first (IsTypedFunction unresolved) made.trees ((implementation_is_typed unresolved t).1 (implementation_faultless t))
-
-  pub implementation_is_one : (t : Tree) → (answer_to (implementation_seen t)).trees ≡ first_or_absent (answer_to (implementation_seen t)).trees ∷ []
-  implementation_is_one t = refl
-
-  pub arrow_stands : (place : Option SourceRange) (t : Tree) → (answer_to (arrow_seen unresolved look place t)).faults ≡ [] →
-      IsLeavable unresolved (first_or_absent (answer_to (arrow_seen unresolved look place t)).trees)
-  arrow_stands place t f = one_first Leavable (answer_to (arrow_seen unresolved look place t)).trees ((arrow_is_typed unresolved look expr_stays place t).1 f)
-
-  pub arrow_is_one : (place : Option SourceRange) (t : Tree) → (answer_to (arrow_seen unresolved look place t)).faults ≡ [] →
-      (answer_to (arrow_seen unresolved look place t)).trees ≡ first_or_absent (answer_to (arrow_seen unresolved look place t)).trees ∷ []
-  arrow_is_one place t f = one_is_first Leavable (answer_to (arrow_seen unresolved look place t)).trees ((arrow_is_typed unresolved look expr_stays place t).1 f)
-
-  pub pat_stands : (is_optional : Bool) (pat : Tree) → (answer_to (pat_seen unresolved look is_optional pat)).faults ≡ [] →
-      IsTypedPat unresolved (first_or_absent (answer_to (pat_seen unresolved look is_optional pat)).trees)
-  pat_stands is_optional pat f =
-      one_first (IsTypedPat unresolved) (answer_to (pat_seen unresolved look is_optional pat)).trees ((pat_is_typed unresolved look expr_stays is_optional pat).1 f)
-
-  pub pat_is_one : (is_optional : Bool) (pat : Tree) → (answer_to (pat_seen unresolved look is_optional pat)).faults ≡ [] →
-      (answer_to (pat_seen unresolved look is_optional pat)).trees ≡ first_or_absent (answer_to (pat_seen unresolved look is_optional pat)).trees ∷ []
-  pat_is_one is_optional pat f =
-      one_is_first (IsTypedPat unresolved) (answer_to (pat_seen unresolved look is_optional pat)).trees ((pat_is_typed unresolved look expr_stays is_optional pat).1 f)
-
-  -- each of several parameters
-  pub pats_stand : (pats : List Tree) → (answer_of (pats_seen unresolved look pats)).faults ≡ [] → AllTypedPats unresolved (answer_of (pats_seen unresolved look pats)).trees
-  pats_stand [] f = AllTypedPats.no_pats
-  pats_stand (pat ∷ pats) f =
-      let first = answer_to (pat_seen unresolved look (list_all is_optional_param (pat ∷ pats)) pat) in
-      let rest = answer_of (pats_seen unresolved look pats) in
-      one_before (IsTypedPat unresolved) (AllTypedPats unresolved) first.trees rest.trees
-      ((pat_is_typed unresolved look expr_stays (list_all is_optional_param (pat ∷ pats)) pat).1 (no_left first.faults rest.faults f))
-      (λ t h. AllTypedPats.next_pat h (pats_stand pats (no_right first.faults rest.faults f)))
+  pub pats_are_typed : (pats : List Tree) → Holds (AllTypedPats unresolved) (answer_of (pats_seen unresolved look pats))
+  pats_are_typed = pats_hold unresolved look expr_stays

@@ -1,14 +1,17 @@
 -- The grammar of values, functions and parameters in a skeleton: what a type checker finds there, whatever the source was.
 use Rattle.std.specs.Prelude.{◌≡◌, true, false, List, [], ◌∷◌, ◌⊎◌, codes}
-use Rattle.fast_check_syntax.specs.declared.kind.Kind.TheVariants.{AssignPat, ArrayPat, ObjectPat, RestPat, BindingIdent, Param, Function, CallExpr, TsSatisfiesExpr, TsAsExpr, TsTypeAssertion, FnExpr, ArrowExpr}
+use Rattle.fast_check_syntax.specs.declared.kind.Kind.TheVariants.{AssignPat, ArrayPat, ObjectPat, RestPat, BindingIdent, Param, Function, CallExpr}
+use Rattle.fast_check_syntax.specs.declared.kind.Kind.TheVariants.{TsSatisfiesExpr, TsAsExpr, TsTypeAssertion, FnExpr, ArrowExpr}
 use Rattle.fast_check_syntax.specs.declared.source.SyntaxContext.{SyntaxContext}
 use Rattle.fast_check_syntax.specs.declared.tree.Tree.{Tree}
 use Rattle.fast_check_syntax.specs.Shape.{kind_of, parts, is_absent, list}
-use Rattle.fast_check_class_forms.specs.Functions.{Function-params, Function-decorators, Function-body, Function-is_generator, Function-is_async, Function-return_type, Param-decorators, Param-pat}
+use Rattle.fast_check_class_forms.specs.Functions.{Function-params, Function-decorators, Function-body, Function-is_generator, Function-is_async}
+use Rattle.fast_check_class_forms.specs.Functions.{Function-return_type, Param-decorators, Param-pat}
 use Rattle.fast_check_expression_forms.specs.Assertions.{TsAsExpr-expr, TsTypeAssertion-expr, TsSatisfiesExpr-expr}
 use Rattle.fast_check_expression_forms.specs.Calls.{CallExpr-callee, CallExpr-args}
 use Rattle.fast_check_expression_forms.specs.Expressions.{ArrowExpr-params, ArrowExpr-body, ArrowExpr-is_async, ArrowExpr-return_type, FnExpr-function}
-use Rattle.fast_check_expression_forms.specs.Patterns.{ArrayPat-elems, ArrayPat-type_ann, ObjectPat-props, ObjectPat-type_ann, RestPat-arg, RestPat-type_ann, AssignPat-left, AssignPat-right}
+use Rattle.fast_check_expression_forms.specs.Patterns.{ArrayPat-elems, ArrayPat-type_ann, ObjectPat-props, ObjectPat-type_ann, RestPat-arg, RestPat-type_ann}
+use Rattle.fast_check_expression_forms.specs.Patterns.{AssignPat-left, AssignPat-right}
 use Rattle.fast_check_program_forms.specs.Names.{BindingIdent-type_ann}
 use Rattle.fast_check_tree.specs.Builders.{never_value}
 use Rattle.fast_check_tree.specs.GlobalCalls.{is_global_member}
@@ -38,7 +41,8 @@ module _ (unresolved : SyntaxContext) where
       as_type : {t : Tree} → kind_of t ≡ TsAsExpr → TsAsExpr-expr t ≡ never_in_parens → IsLeavable t
       assertion : {t : Tree} → kind_of t ≡ TsTypeAssertion → TsTypeAssertion-expr t ≡ never_in_parens → IsLeavable t
       -- `Object.freeze(x)`
-      frozen : {t : Tree} → kind_of t ≡ CallExpr → is_global_member (codes "Object") (codes "freeze") unresolved (CallExpr-callee t) ≡ true → IsLeavable (CallExpr-args t) → IsLeavable t
+      frozen : {t : Tree} → kind_of t ≡ CallExpr → is_global_member (codes "Object") (codes "freeze") unresolved (CallExpr-callee t) ≡ true →
+          IsLeavable (CallExpr-args t) → IsLeavable t
       function : {t : Tree} → kind_of t ≡ FnExpr → IsTypedFunction (FnExpr-function t) → IsLeavable t
       -- an arrow of a written return type
       typed_arrow : {t : Tree} → kind_of t ≡ ArrowExpr → AllTypedPats (parts (ArrowExpr-params t)) → ArrowExpr-is_async t ≡ false →
@@ -58,7 +62,8 @@ module _ (unresolved : SyntaxContext) where
 
     pub data AllTypedParams : List Tree → Type 0 where
       no_params : AllTypedParams []
-      next_param : {t : Tree} {ts : List Tree} → kind_of t ≡ Param → Param-decorators t ≡ list [] → IsTypedPat (Param-pat t) → AllTypedParams ts → AllTypedParams (t ∷ ts)
+      next_param : {t : Tree} {ts : List Tree} → kind_of t ≡ Param → Param-decorators t ≡ list [] → IsTypedPat (Param-pat t) → AllTypedParams ts →
+          AllTypedParams (t ∷ ts)
 
     pub data AllTypedPats : List Tree → Type 0 where
       no_pats : AllTypedPats []
@@ -75,5 +80,7 @@ module _ (unresolved : SyntaxContext) where
       array_default : {t : Tree} → kind_of t ≡ AssignPat → IsEmptiedArray (AssignPat-left t) → IsLeavable (AssignPat-right t) → IsTypedPat t
       object_default : {t : Tree} → kind_of t ≡ AssignPat → IsEmptiedObject (AssignPat-left t) → IsLeavable (AssignPat-right t) → IsTypedPat t
       -- behind a written type, `never` stands for the default
-      array_never : {t : Tree} → kind_of t ≡ AssignPat → IsEmptiedArray (AssignPat-left t) → is_absent (ArrayPat-type_ann (AssignPat-left t)) ≡ false → AssignPat-right t ≡ never_array → IsTypedPat t
-      object_never : {t : Tree} → kind_of t ≡ AssignPat → IsEmptiedObject (AssignPat-left t) → is_absent (ObjectPat-type_ann (AssignPat-left t)) ≡ false → AssignPat-right t ≡ never_value → IsTypedPat t
+      array_never : {t : Tree} → kind_of t ≡ AssignPat → IsEmptiedArray (AssignPat-left t) → is_absent (ArrayPat-type_ann (AssignPat-left t)) ≡ false →
+          AssignPat-right t ≡ never_array → IsTypedPat t
+      object_never : {t : Tree} → kind_of t ≡ AssignPat → IsEmptiedObject (AssignPat-left t) → is_absent (ObjectPat-type_ann (AssignPat-left t)) ≡ false →
+          AssignPat-right t ≡ never_value → IsTypedPat t

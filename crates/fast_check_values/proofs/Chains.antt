@@ -1,5 +1,5 @@
 -- What a mapped slice gives, to a call that takes all of it.
-use Rattle.std.proofs.Common.{◌≡◌, ℕ, ◌<◌, Result, Ok, Err, IfOk, append_assoc, Iter, Option, List, [], ◌++◌, map, refl, sym, ap, ◌∙◌, subst, append-nil}
+use Rattle.std.proofs.Common.{◌≡◌, ℕ, ◌<◌, Iter, Option, List, map, refl, sym, ap, ◌∙◌, subst}
 use Rattle.std.proofs.iter.Yields.{gives_Drains, fronts}
 use Rattle.std.proofs.lemmas.Iterator.{YieldsList-from_slice, YieldsList-from_map_by, maps}
 use Rattle.std.specs.Fn.{Called}
@@ -12,8 +12,7 @@ use Rattle.std.proofs.lemmas.List.{drop-map, length-map}
 use Rattle.fast_check_syntax.specs.declared.tree.Tree.{Tree}
 use Rattle.fast_check_class_forms.specs.Functions.{Param-pat}
 use Rattle.fast_check_tree.specs.OptionalParams.{is_optional_param, IsOptionalStart}
-use Rattle.fast_check_signatures.specs.declared.fault.Fault.{Fault}
-use Rattle.fast_check_values.specs.Kept.{patterns, IsStartOfParams}
+use Rattle.fast_check_values.specs.Looked.{patterns, IsStartOfParams}
 use denote.Param.Members.{Mut}
 use denote.Ref.{Bor}
 
@@ -27,19 +26,3 @@ mapped_slice {g = g} s items drains w h xs rest calls =
 pub start_of_params : (start : Option ℕ) (params : List Tree) → IsOptionalStart start (patterns params) → IsStartOfParams start params
 start_of_params start params says place h =
     says place (subst (λ n. place < n) (sym (length-map params (λ p. Param-pat p))) h) ∙ ap (list_all is_optional_param) (drop-map (λ p. Param-pat p) place params)
-
--- nothing more is wrong
-pub unchanged : (xs ys : List Fault) → ys ≡ [] → xs ≡ xs ++ ys
-unchanged xs ys e = sym (append-nil xs) ∙ ap (λ zs. xs ++ zs) (sym e)
-
--- what is wrong, in two and in three steps
-pub two_steps : (old mid new a b whole : List Fault) → new ≡ mid ++ b → mid ≡ old ++ a → whole ≡ a ++ b → new ≡ old ++ whole
-two_steps old mid new a b whole p q e = p ∙ (ap (λ xs. xs ++ b) q ∙ (append_assoc old a b ∙ ap (λ xs. old ++ xs) (sym e)))
-
-pub three_steps : (old first mid new none a b c whole : List Fault) → new ≡ mid ++ c → mid ≡ first ++ (a ++ b) → first ≡ old ++ none → none ≡ [] → whole ≡ a ++ (b ++ c) → new ≡ old ++ whole
-three_steps old first mid new none a b c whole p q r n e =
-    two_steps old mid new (a ++ b) c whole p (q ∙ ap (λ xs. xs ++ (a ++ b)) (r ∙ (ap (λ xs. old ++ xs) n ∙ append-nil old))) (e ∙ sym (append_assoc a b c))
-
-pub ok_all : {A E : Type 0} (P : Type 0) (r : Result A E) → P → IfOk r (λ x. P)
-ok_all P (Ok x) p = p
-ok_all P (Err e) p = tt

@@ -1,5 +1,5 @@
+pub mod Arrows
+pub mod Behind
 pub mod Chains
-pub mod Answered
-pub mod Patterns
-pub mod Signed
 pub mod Heights
+pub mod Looked

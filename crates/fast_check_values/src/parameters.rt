@@ -1,27 +1,27 @@
-ghost use Rattle.std.specs.Prelude.{◌≡◌, IfOk, ◌++◌, ◌∷◌, []};
+ghost use Rattle.std.specs.Prelude.{◌≡◌, IfOk, Some};
 ghost use Rattle.fast_check_syntax.specs.Part.{seen};
-ghost use Rattle.fast_check_syntax.specs.declared.tree.Tree.{Absent};
-ghost use Rattle.fast_check_syntax.specs.Shape.{parts, list};
-ghost use Rattle.fast_check_class_forms.specs.Functions.{param, Param-span};
-ghost use Rattle.fast_check_expression_forms.specs.Patterns.{AssignPat-span, assign_pat};
-ghost use Rattle.fast_check_program_forms.specs.Names.{BindingIdent-id};
+ghost use Rattle.fast_check_syntax.specs.Shape.{parts};
+ghost use Rattle.fast_check_expression_forms.specs.Patterns.{AssignPat-span, AssignPat-right};
 ghost use Rattle.fast_check_tree.specs.OptionalParams.{IsOptionalStart};
-ghost use Rattle.fast_check_signatures.specs.Answers.{fault_at};
+ghost use Rattle.fast_check_signatures.specs.Answers.{Adds, answer_to, answer_of};
+ghost use Rattle.fast_check_signatures.specs.Seen.{faulty};
 ghost use Rattle.fast_check_signatures.specs.declared.fault.FaultKind.TheVariants.{UnsupportedDestructuring};
-ghost use Rattle.fast_check_signatures.specs.Parameters.{typed, emptied_array, emptied_object, rest_arg, rest_seen, without_default};
-ghost use Rattle.fast_check_values.specs.Kept.{stood, faults_of, default_type, pat_tree, pat_faults, assign_tree, assign_faults, pats_trees, pats_faults, IsStartOfParams, params_trees, params_faults, default_left, default_faults};
+ghost use Rattle.fast_check_signatures.specs.Expressions.{expr_seen};
+ghost use Rattle.fast_check_signatures.specs.Parameters.{typed, rest_seen, default_seen, assign_seen, pat_seen, pats_seen};
+ghost use Rattle.fast_check_values.specs.Looked.{IsStartOfParams, params_looked};
 
 use crate::expressions::leave_value;
-use crate::new_nodes::{empty_object_pat, never_array, or_undefined};
 use fast_check_class_forms::Param;
 use fast_check_expression_forms::{ArrayPat, AssignPat, ObjectPat, RestPat};
+use fast_check_new_nodes::{
+    default_type, emptied_array, emptied_object, never_array, rest_arg, with_default, with_pattern,
+    without_default,
+};
 use fast_check_program_forms::{BindingIdent, Ident};
 use fast_check_ranges::range_of_node;
 use fast_check_signatures::{Fault, FaultKind};
-use fast_check_syntax::{Atom, Items, Kind, Part, SourceRange, SyntaxContext, Tree};
-use fast_check_tree::helpers::{
-    DeclMutabilityKind, ParamsOptionalStartIndex, maybe_infer_type, never_value, type_ann,
-};
+use fast_check_syntax::{Items, Kind, Part, SourceRange, SyntaxContext, Tree};
+use fast_check_tree::helpers::{ParamsOptionalStartIndex, never_value};
 use std::alloc::{AllocError, Global};
 
 /// A parameter that stands if its type is written; else a fault at this place.
@@ -31,8 +31,7 @@ fn typed(
     pat: Tree,
     faults: &mut Vec<Fault>,
 ) -> Result<Tree, AllocError>
-    ensures kept { IfOk result (λ tree. tree ≡ stood (typed (seen ty.entry) place pat)) }
-    ensures faults { IfOk result (λ _. faults.new.items ≡ faults.old.items ++ faults_of (typed (seen ty.entry) place pat)) }
+    ensures { IfOk result (λ tree. Adds (answer_to (typed (seen ty.entry) place pat)) (Some tree) faults.old.items faults.new.items) }
 {
     if ty.is_absent() {
         faults.push(Fault {
@@ -46,8 +45,7 @@ fn typed(
 
 /// A pattern that can't stand: an empty option, and a fault at this place.
 fn unsupported(place: SourceRange, faults: &mut Vec<Fault>) -> Result<Tree, AllocError>
-    ensures kept { IfOk result (λ tree. tree ≡ Absent) }
-    ensures faults { IfOk result (λ _. faults.new.items ≡ faults.old.items ++ fault_at UnsupportedDestructuring place ∷ []) }
+    ensures { IfOk result (λ tree. Adds (answer_to (faulty UnsupportedDestructuring place)) (Some tree) faults.old.items faults.new.items) }
 {
     faults.push(Fault {
         kind: FaultKind::UnsupportedDestructuring,
@@ -56,54 +54,9 @@ fn unsupported(place: SourceRange, faults: &mut Vec<Fault>) -> Result<Tree, Allo
     Ok(Tree::Absent)
 }
 
-/// An array pattern, emptied.
-fn emptied_array(alloc: Global, pat: Part<'_>) -> Result<Tree, AllocError>
-    ensures { IfOk result (λ tree. tree ≡ emptied_array (seen pat.entry)) }
-{
-    let pat = ArrayPat::of(pat);
-    ArrayPat {
-        span: pat.span,
-        elems: Tree::list(Items::new(alloc)),
-        optional: pat.optional,
-        type_ann: pat.type_ann.to_tree(alloc)?,
-    }
-    .into_tree(alloc)
-}
-
-/// An object pattern, emptied.
-fn emptied_object(alloc: Global, pat: Part<'_>) -> Result<Tree, AllocError>
-    ensures { IfOk result (λ tree. tree ≡ emptied_object (seen pat.entry)) }
-{
-    let pat = ObjectPat::of(pat);
-    ObjectPat {
-        span: pat.span,
-        props: Tree::list(Items::new(alloc)),
-        optional: pat.optional,
-        type_ann: pat.type_ann.to_tree(alloc)?,
-    }
-    .into_tree(alloc)
-}
-
-/// What a rest is gathered in: patterns are emptied, and `{}` stands for what can't be there.
-fn rest_arg(alloc: Global, arg: Part<'_>) -> Result<Tree, AllocError>
-    ensures { IfOk result (λ tree. tree ≡ rest_arg (seen arg.entry)) }
-{
-    let kind = arg.kind();
-    if kind == Kind::ArrayPat {
-        emptied_array(alloc, arg)
-    } else if kind == Kind::ObjectPat {
-        emptied_object(alloc, arg)
-    } else if kind == Kind::RestPat || kind == Kind::AssignPat || kind == Kind::PatExpr {
-        empty_object_pat(alloc)
-    } else {
-        arg.to_tree(alloc)
-    }
-}
-
 /// A rest.
 fn transform_rest(alloc: Global, pat: Part<'_>, faults: &mut Vec<Fault>) -> Result<Tree, AllocError>
-    ensures kept { IfOk result (λ tree. tree ≡ stood (rest_seen (seen pat.entry))) }
-    ensures faults { IfOk result (λ _. faults.new.items ≡ faults.old.items ++ faults_of (rest_seen (seen pat.entry))) }
+    ensures { IfOk result (λ tree. Adds (answer_to (rest_seen (seen pat.entry))) (Some tree) faults.old.items faults.new.items) }
 {
     let rest = RestPat::of(pat);
     let emptied = RestPat {
@@ -113,59 +66,6 @@ fn transform_rest(alloc: Global, pat: Part<'_>, faults: &mut Vec<Fault>) -> Resu
         type_ann: rest.type_ann.to_tree(alloc)?,
     };
     typed(rest.type_ann, rest.span, emptied.into_tree(alloc)?, faults)
-}
-
-/// An identifier of a type that had a default: it may be left out where all parameters from it on may, and else takes
-/// `undefined` as well.
-fn without_default(
-    alloc: Global,
-    is_optional: bool,
-    name: Part<'_>,
-    ty: Tree,
-) -> Result<Tree, AllocError>
-    ensures { IfOk result (λ tree. tree ≡ without_default is_optional (BindingIdent-id (seen name.entry)) ty) }
-{
-    let Ident {
-        span,
-        ctxt,
-        sym,
-        ..
-    } = Ident::of(BindingIdent::of(name).id);
-    let id = Ident {
-        span,
-        ctxt,
-        sym: Atom::from_str(alloc, sym)?,
-        optional: is_optional,
-    };
-    let type_ann = if is_optional {
-        ty
-    } else {
-        or_undefined(alloc, ty.read())?
-    };
-    BindingIdent {
-        id: id.into_tree(alloc)?,
-        type_ann,
-    }
-    .into_tree(alloc)
-}
-
-/// The type of an identifier with a default, as `: type`, where it is written, or shown by the default.
-fn default_type(
-    alloc: Global,
-    unresolved: SyntaxContext,
-    pat: Part<'_>,
-) -> Result<Option<Tree>, AllocError>
-    ensures { IfOk result (λ ty. ty ≡ default_type unresolved (seen pat.entry)) }
-{
-    let AssignPat { left, right, .. } = AssignPat::of(pat);
-    let written = BindingIdent::of(left).type_ann;
-    if !written.is_absent() {
-        return Ok(Some(written.to_tree(alloc)?));
-    }
-    match maybe_infer_type(alloc, right, DeclMutabilityKind::Mutable, unresolved)? {
-        Some(ty) => Ok(Some(type_ann(alloc, ty)?)),
-        None => Ok(None),
-    }
 }
 
 /// From where on all parameters of an arrow may be left out.
@@ -184,15 +84,13 @@ fn start_of_params(params: &[Tree]) -> ParamsOptionalStartIndex
 
 /// The patterns of an arrow's parameters, in order.
 #[cycle(leave)]
-#[tactic(auto, using(fast_check_syntax::specs::Height::height_read))]
 pub fn transform_pats(
     alloc: Global,
     unresolved: SyntaxContext,
     params: Part<'_>,
     faults: &mut Vec<Fault>,
 ) -> Result<Items<Tree>, AllocError>
-    ensures kept { IfOk result (λ items. items ≡ pats_trees unresolved (parts (seen params.entry))) }
-    ensures faults { IfOk result (λ _. faults.new.items ≡ faults.old.items ++ pats_faults unresolved (parts (seen params.entry))) }
+    ensures { IfOk result (λ items. Adds (answer_of (pats_seen unresolved (expr_seen unresolved) (parts (seen params.entry)))) items faults.old.items faults.new.items) }
 {
     let pats = params.parts();
     let start = start_of_patterns(pats);
@@ -204,29 +102,15 @@ pub fn transform_pats(
     Ok(items)
 }
 
-/// A parameter with this pattern, and without decorators.
-fn with_pattern(alloc: Global, old: Part<'_>, pat: Tree) -> Result<Tree, AllocError>
-    ensures { IfOk result (λ tree. tree ≡ param (Param-span (seen old.entry)) (list []) pat) }
-{
-    Param {
-        span: Param::of(old).span,
-        decorators: Tree::list(Items::new(alloc)),
-        pat,
-    }
-    .into_tree(alloc)
-}
-
 /// The parameters of a function, in order.
 #[cycle(leave)]
-#[tactic(auto, using(fast_check_syntax::specs::Height::height_read, fast_check_syntax::specs::Height::height_at_most))]
 pub fn transform_params(
     alloc: Global,
     unresolved: SyntaxContext,
     params: Part<'_>,
     faults: &mut Vec<Fault>,
 ) -> Result<Items<Tree>, AllocError>
-    ensures kept { IfOk result (λ items. items ≡ params_trees unresolved (parts (seen params.entry))) }
-    ensures faults { IfOk result (λ _. faults.new.items ≡ faults.old.items ++ params_faults unresolved (parts (seen params.entry))) }
+    ensures { IfOk result (λ items. Adds (answer_of (params_looked unresolved (parts (seen params.entry)))) items faults.old.items faults.new.items) }
 {
     let params = params.parts();
     let start = start_of_params(params);
@@ -244,7 +128,6 @@ pub fn transform_params(
 /// The pattern of a parameter (deno_graph's `handle_param_pat`). `is_optional` says whether all parameters from it on may
 /// be left out. One without a type that is written or shown is a fault; in its place stands an empty option.
 #[cycle(leave)]
-#[tactic(auto, using(crate::proofs::Patterns::pat_ident, crate::proofs::Patterns::pat_ident_faults, crate::proofs::Patterns::pat_assign, crate::proofs::Patterns::pat_assign_faults, crate::proofs::Patterns::pat_rest, crate::proofs::Patterns::pat_rest_faults, crate::proofs::Patterns::pat_array, crate::proofs::Patterns::pat_array_faults, crate::proofs::Patterns::pat_object, crate::proofs::Patterns::pat_object_faults))]
 pub fn transform_param_pat(
     alloc: Global,
     unresolved: SyntaxContext,
@@ -252,8 +135,7 @@ pub fn transform_param_pat(
     pat: Part<'_>,
     faults: &mut Vec<Fault>,
 ) -> Result<Tree, AllocError>
-    ensures kept { IfOk result (λ tree. tree ≡ pat_tree unresolved is_optional (seen pat.entry)) }
-    ensures faults { IfOk result (λ _. faults.new.items ≡ faults.old.items ++ pat_faults unresolved is_optional (seen pat.entry)) }
+    ensures { IfOk result (λ tree. Adds (answer_to (pat_seen unresolved (expr_seen unresolved) is_optional (seen pat.entry))) (Some tree) faults.old.items faults.new.items) }
 {
     match pat.kind() {
         Kind::BindingIdent => {
@@ -276,7 +158,6 @@ pub fn transform_param_pat(
 
 /// A parameter's pattern with a default.
 #[cycle(leave)]
-#[tactic(auto, using(crate::proofs::Patterns::assign_known, crate::proofs::Patterns::assign_known_faults, crate::proofs::Patterns::assign_unknown, crate::proofs::Patterns::assign_unknown_faults, crate::proofs::Patterns::assign_array_typed, crate::proofs::Patterns::assign_array_typed_faults, crate::proofs::Patterns::assign_array, crate::proofs::Patterns::assign_array_faults, crate::proofs::Patterns::assign_object_typed, crate::proofs::Patterns::assign_object_typed_faults, crate::proofs::Patterns::assign_object, crate::proofs::Patterns::assign_object_faults))]
 fn transform_assign_pat(
     alloc: Global,
     unresolved: SyntaxContext,
@@ -284,8 +165,7 @@ fn transform_assign_pat(
     pat: Part<'_>,
     faults: &mut Vec<Fault>,
 ) -> Result<Tree, AllocError>
-    ensures kept { IfOk result (λ tree. tree ≡ assign_tree unresolved is_optional (seen pat.entry)) }
-    ensures faults { IfOk result (λ _. faults.new.items ≡ faults.old.items ++ assign_faults unresolved is_optional (seen pat.entry)) }
+    ensures { IfOk result (λ tree. Adds (answer_to (assign_seen unresolved (expr_seen unresolved) is_optional (seen pat.entry))) (Some tree) faults.old.items faults.new.items) }
 {
     let AssignPat { span, left, .. } = AssignPat::of(pat);
     match left.kind() {
@@ -317,17 +197,8 @@ fn transform_assign_pat(
     }
 }
 
-/// A pattern with this default, round what is left of it.
-fn with_default(alloc: Global, pat: Part<'_>, left: Tree, right: Tree) -> Result<Tree, AllocError>
-    ensures { IfOk result (λ tree. tree ≡ assign_pat (AssignPat-span (seen pat.entry)) left right) }
-{
-    let span = AssignPat::of(pat).span;
-    AssignPat { span, left, right }.into_tree(alloc)
-}
-
 /// A pattern whose default has to stay; where it may not, its type is missing at this place.
 #[cycle(leave)]
-#[tactic(auto, using(fast_check_syntax::specs::Height::height_at_most))]
 fn leave_default(
     alloc: Global,
     unresolved: SyntaxContext,
@@ -337,8 +208,7 @@ fn leave_default(
     place: SourceRange,
     faults: &mut Vec<Fault>,
 ) -> Result<Tree, AllocError>
-    ensures kept { IfOk result (λ tree. tree ≡ default_left unresolved (seen pat.entry) left parent) }
-    ensures faults { IfOk result (λ _. faults.new.items ≡ faults.old.items ++ default_faults unresolved (seen pat.entry) parent place) }
+    ensures { IfOk result (λ tree. Adds (answer_to (default_seen (AssignPat-span (seen pat.entry)) place left (expr_seen unresolved (AssignPat-right (seen pat.entry)) parent))) (Some tree) faults.old.items faults.new.items) }
 {
     let fault = Fault {
         kind: FaultKind::MissingExplicitType,

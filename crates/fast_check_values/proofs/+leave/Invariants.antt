@@ -1,7 +1,12 @@
-use Rattle.std.proofs.Common.{◌≡◌, ◌++◌, ◌+◌, ◌-◌, ◌*◌, option_map, drop}
+use Rattle.std.proofs.Common.{◌+◌, ◌-◌, ◌*◌, None, drop, map, ◌++◌}
 use Rattle.fast_check_syntax.specs.Part.{seen}
 use Rattle.fast_check_syntax.specs.Height.{height}
-use Rattle.fast_check_values.specs.Kept.{parts_left, parts_faults, pats_trees, pats_faults, params_trees, params_faults}
+use Rattle.fast_check_signatures.specs.Seen.{seens}
+use Rattle.fast_check_signatures.specs.Answers.{answer_of, parts_answer}
+use Rattle.fast_check_signatures.specs.Expressions.{expr_seen, slots_seen}
+use Rattle.fast_check_signatures.specs.Parameters.{pats_seen}
+use Rattle.fast_check_values.specs.Looked.{params_looked}
+use Rattle.fast_check_values.proofs.Behind.{Behind, behind}
 use Rattle.fast_check_values.proofs.+leave.Given as goal
 
 abbrev pub decreases-expressions::leave_expr : goal.decreases-expressions::leave_expr
@@ -10,11 +15,11 @@ decreases-expressions::leave_expr l = 16 * height (seen l.expr) + 15
 abbrev pub decreases-expressions::leave_parts : goal.decreases-expressions::leave_parts
 decreases-expressions::leave_parts l = 16 * height (seen l.expr)
 
-abbrev pub decreases-expressions::leave_satisfies : goal.decreases-expressions::leave_satisfies
-decreases-expressions::leave_satisfies l = 16 * (height (seen l.expr) - 1) + 16
+abbrev pub decreases-expressions::leave_slots : goal.decreases-expressions::leave_slots
+decreases-expressions::leave_slots l = 16 * (height (seen l.expr) - 1) + 17
 
-abbrev pub decreases-expressions::leave_call : goal.decreases-expressions::leave_call
-decreases-expressions::leave_call l = 16 * (height (seen l.expr) - 1) + 16
+abbrev pub decreases-expressions::leave_slot : goal.decreases-expressions::leave_slot
+decreases-expressions::leave_slot l = 16 * height (seen l.part) + 16
 
 abbrev pub decreases-expressions::leave_value : goal.decreases-expressions::leave_value
 decreases-expressions::leave_value l = 16 * height (seen l.value) + 16
@@ -40,21 +45,23 @@ decreases-parameters::transform_params l = 16 * height (seen l.params) + 4
 abbrev pub decreases-parameters::transform_pats : goal.decreases-parameters::transform_pats
 decreases-parameters::transform_pats l = 16 * height (seen l.params) + 4
 
--- what the other parts give, behind what was given so far, is what all give
+-- what all parts give is what those give that are left, behind what was given so far
 abbrev pub invariant-expressions::leave_parts-loop-part : goal.invariant-expressions::leave_parts-loop-part
-invariant-expressions::leave_parts-loop-part l = record {
-  kept : parts_left l.unresolved l.part-items ≡ option_map (λ more. l.items ++ more) (parts_left l.unresolved (drop l.part-index l.part-items));
-  faults : l.initial.faults.items ++ parts_faults l.unresolved l.part-items ≡ l.faults.items ++ parts_faults l.unresolved (drop l.part-index l.part-items);
-}
+invariant-expressions::leave_parts-loop-part l =
+    Behind (behind l.items) (parts_answer (seens (map (λ p. expr_seen l.unresolved p None) l.part-items)))
+    (parts_answer (seens (map (λ p. expr_seen l.unresolved p None) (drop l.part-index l.part-items)))) l.initial.faults.items l.faults.items
+
+abbrev pub invariant-expressions::leave_slots-loop-index : goal.invariant-expressions::leave_slots-loop-index
+invariant-expressions::leave_slots-loop-index l =
+    Behind (behind l.stay) (parts_answer (seens (slots_seen l.unresolved l.row 0 (seen l.expr) (expr_seen l.unresolved) l.place)))
+    (parts_answer (seens (slots_seen l.unresolved (drop l.index l.row) l.index (seen l.expr) (expr_seen l.unresolved) l.place))) l.initial.faults.items l.faults.items
 
 abbrev pub invariant-parameters::transform_pats-loop-index : goal.invariant-parameters::transform_pats-loop-index
-invariant-parameters::transform_pats-loop-index l = record {
-  kept : pats_trees l.unresolved l.pats ≡ l.items ++ pats_trees l.unresolved (drop l.index l.pats);
-  faults : l.initial.faults.items ++ pats_faults l.unresolved l.pats ≡ l.faults.items ++ pats_faults l.unresolved (drop l.index l.pats);
-}
+invariant-parameters::transform_pats-loop-index l =
+    Behind (λ ts. l.items ++ ts) (answer_of (pats_seen l.unresolved (expr_seen l.unresolved) l.pats))
+    (answer_of (pats_seen l.unresolved (expr_seen l.unresolved) (drop l.index l.pats))) l.initial.faults.items l.faults.items
 
 abbrev pub invariant-parameters::transform_params-loop-index : goal.invariant-parameters::transform_params-loop-index
-invariant-parameters::transform_params-loop-index l = record {
-  kept : params_trees l.unresolved l.params ≡ l.items ++ params_trees l.unresolved (drop l.index l.params);
-  faults : l.initial.faults.items ++ params_faults l.unresolved l.params ≡ l.faults.items ++ params_faults l.unresolved (drop l.index l.params);
-}
+invariant-parameters::transform_params-loop-index l =
+    Behind (λ ts. l.items ++ ts) (answer_of (params_looked l.unresolved l.params))
+    (answer_of (params_looked l.unresolved (drop l.index l.params))) l.initial.faults.items l.faults.items

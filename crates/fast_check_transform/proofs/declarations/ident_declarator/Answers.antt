@@ -1,32 +1,29 @@
-use Rattle.std.proofs.Common.{◌++◌, ◌∙◌, ap, sym, append-nil, arith}
+use Rattle.std.proofs.Common.{ap, sym, ◌∙◌}
 use Rattle.std.proofs.lemmas.Result.{IfOk-weaker}
-use Rattle.fast_check_syntax.specs.Part.{seen}
+use Rattle.fast_check_program_forms.specs.Names.{BindingIdent-type_ann}
 use Rattle.fast_check_tree.specs.InferredType.{inferred_type}
-use Rattle.fast_check_transform.specs.Kept.{Asked-around}
-use Rattle.fast_check_transform.proofs.Declared.{faults_written, faults_shown, written_ident, shown_ident, valued_ident, faults_valued}
+use Rattle.fast_check_syntax.specs.Part.{seen}
+use Rattle.fast_check_transform.specs.PartAnswers.{Asked-around, retyped}
+use Rattle.fast_check_transform.proofs.Declared.{written_ident, shown_ident, valued_ident}
+use Rattle.fast_check_transform.proofs.Listed.{some_of}
 use Rattle.fast_check_transform.proofs.declarations.ident_declarator.Goals as goal
 
-pub returns-then-not-is_absent-clause-faults : goal.returns-then-not-is_absent-clause-faults
-returns-then-not-is_absent-clause-faults c =
-    let none = faults_written (Asked-around c.args.asked) c.args.mutability (seen c.args.declarator) (cc) in
-    IfOk-weaker c.retyped.result _ _
-    (λ t e. sym (append-nil c.args.faults.now.items) ∙ ap (λ f. c.args.faults.now.items ++ f) (sym none)) c.retyped.ensures
+pub returns-then-not-is_absent : goal.returns-then-not-is_absent
+returns-then-not-is_absent c =
+    let type = c.in_ok-to_tree.ensures ∙ (c.of-2.ensures.type_ann ∙ ap BindingIdent-type_ann c.of.ensures.name) in
+    some_of c.retyped.result c.retyped.ensures
+    (written_ident (Asked-around c.args.asked) c.args.mutability (seen c.args.declarator) (cc) c.args.faults.now.items)
+    (λ i. retyped (seen c.args.declarator) (type i) (c.in_ok-never_value.ensures i))
 
-pub returns-in_ok-never_value-in-Some-clause-faults : goal.returns-in_ok-never_value-in-Some-clause-faults
-returns-in_ok-never_value-in-Some-clause-faults c =
+pub returns-in_ok-never_value-in-Some : goal.returns-in_ok-never_value-in-Some
+returns-in_ok-never_value-in-Some c =
     let shown = ap (inferred_type c.args.mutability c.args.asked.unresolved) (sym c.of.ensures.init) ∙ (sym c.in_ok-ty.ensures.inferred ∙ c.in-Some.is) in
-    let none = faults_shown (Asked-around c.args.asked) c.args.mutability (seen c.args.declarator) c.in-Some.ty (cc) shown in
-    IfOk-weaker c.retyped-in-Some.result _ _
-    (λ t e. sym (append-nil c.args.faults.now.items) ∙ ap (λ f. c.args.faults.now.items ++ f) (sym none)) c.retyped-in-Some.ensures
+    some_of c.retyped-in-Some.result c.retyped-in-Some.ensures
+    (shown_ident (Asked-around c.args.asked) c.args.mutability (seen c.args.declarator) c.in-Some.ty (cc) shown c.args.faults.now.items)
+    (λ i. retyped (seen c.args.declarator) (c.in_ok-type_ann-in-Some.ensures i) (c.in_ok-never_value-in-Some.ensures i))
 
-pub returns-then-not-is_absent-clause-kept : goal.returns-then-not-is_absent-clause-kept
-returns-then-not-is_absent-clause-kept c = grind (arith, written_ident)
-
-pub returns-in_ok-never_value-in-Some-clause-kept : goal.returns-in_ok-never_value-in-Some-clause-kept
-returns-in_ok-never_value-in-Some-clause-kept c = grind (arith, shown_ident)
-
-pub returns-in-None-clause-kept : goal.returns-in-None-clause-kept
-returns-in-None-clause-kept c = grind (arith, valued_ident)
-
-pub returns-in-None-clause-faults : goal.returns-in-None-clause-faults
-returns-in-None-clause-faults c = grind (arith, faults_valued)
+pub returns-in-None : goal.returns-in-None
+returns-in-None c =
+    let shown = ap (inferred_type c.args.mutability c.args.asked.unresolved) (sym c.of.ensures.init) ∙ (sym c.in_ok-ty.ensures.inferred ∙ c.in-None.is) in
+    IfOk-weaker c.valued_declarator.result _ _
+    (λ tree h. valued_ident (Asked-around c.args.asked) c.args.mutability (seen c.args.declarator) (cc) shown h) c.valued_declarator.ensures

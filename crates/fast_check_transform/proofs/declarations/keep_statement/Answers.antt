@@ -1,15 +1,16 @@
-use Rattle.std.proofs.Common.{arith}
-use Rattle.fast_check_transform.proofs.Fused.{kept_statement_is, statement_faults_is, with_declarators_none, with_declarators_some}
+use Rattle.std.proofs.Common.{refl, ◌∙◌}
+use Rattle.std.proofs.lemmas.Bool.{false≢true}
+use Rattle.fast_check_statement_forms.specs.Declarations.{var_decl}
+use Rattle.fast_check_syntax.specs.Part.{seen}
+use Rattle.fast_check_transform.specs.PartAnswers.{Asked-around}
+use Rattle.fast_check_transform.proofs.Declared.{no_statement, made_statement}
 use Rattle.fast_check_transform.proofs.declarations.keep_statement.Goals as goal
 
-pub returns-then-is_empty-clause-kept : goal.returns-then-is_empty-clause-kept
-returns-then-is_empty-clause-kept c = grind (arith, kept_statement_is, with_declarators_none)
+pub returns-then-is_empty : goal.returns-then-is_empty
+returns-then-is_empty c = no_statement (Asked-around c.args.asked) (seen c.args.statement) c.in_ok-decls.ensures (c.if-is_empty.ensures.0 refl)
 
-pub returns-then-is_empty-clause-faults : goal.returns-then-is_empty-clause-faults
-returns-then-is_empty-clause-faults c = grind (arith, statement_faults_is)
-
-pub returns-clause-kept : goal.returns-clause-kept
-returns-clause-kept c = grind (arith, kept_statement_is, with_declarators_some)
-
-pub returns-clause-faults : goal.returns-clause-faults
-returns-clause-faults c = grind (arith, statement_faults_is)
+pub returns : goal.returns
+returns c =
+    made_statement (Asked-around c.args.asked) (seen c.args.statement) c.in_ok-decls.ensures (λ e. false≢true (c.if-is_empty.ensures.1 e))
+    (c.in_ok-into_tree.ensures ∙ (λ i. var_decl (c.of-declare.ensures.span i) (c.of-declare.ensures.ctxt i)
+    ((c.in_ok-to_tree.ensures ∙ c.of-declare.ensures.kind) i) (c.of-declare.ensures.declare i) (c.list.ensures i)))

@@ -1,19 +1,12 @@
-use Rattle.std.proofs.Common.{◌++◌, ◌∙◌, ap, sym, append-nil, arith}
+use Rattle.std.proofs.lemmas.Result.{IfOk-weaker}
 use Rattle.fast_check_syntax.specs.Part.{seen}
-use Rattle.fast_check_transform.specs.Kept.{Asked-around}
-use Rattle.fast_check_transform.proofs.Declared.{absent_faults, absent_value, present_value, present_faults}
+use Rattle.fast_check_transform.specs.PartAnswers.{Asked-around}
+use Rattle.fast_check_transform.proofs.Declared.{absent_value, present_value}
 use Rattle.fast_check_transform.proofs.declarations.keep_value.Goals as goal
 
-pub returns-then-is_absent-clause-faults : goal.returns-then-is_absent-clause-faults
-returns-then-is_absent-clause-faults c =
-    sym (append-nil c.args.faults.now.items)
-    ∙ ap (λ f. c.args.faults.now.items ++ f) (sym (absent_faults (Asked-around c.args.asked) c.args.place (seen c.args.value) (cc)))
+pub returns-then-is_absent : goal.returns-then-is_absent
+returns-then-is_absent c = absent_value (Asked-around c.args.asked) c.args.place (seen c.args.value) (cc) c.args.faults.now.items
 
-pub returns-then-is_absent-clause-kept : goal.returns-then-is_absent-clause-kept
-returns-then-is_absent-clause-kept c = grind (arith, absent_value)
-
-pub returns-clause-kept : goal.returns-clause-kept
-returns-clause-kept c = grind (arith, present_value)
-
-pub returns-clause-faults : goal.returns-clause-faults
-returns-clause-faults c = grind (arith, present_faults)
+pub returns : goal.returns
+returns c = IfOk-weaker c.leave_expr.result _ _
+    (λ tree h. present_value (Asked-around c.args.asked) c.args.place (seen c.args.value) (cc) h) c.leave_expr.ensures

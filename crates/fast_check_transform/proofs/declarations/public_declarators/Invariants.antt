@@ -1,11 +1,10 @@
-use Rattle.std.proofs.Common.{◌≡◌, ◌++◌, take}
-use Rattle.std.specs.List.{flat_map}
+use Rattle.std.proofs.Common.{take}
 use Rattle.fast_check_syntax.specs.Part.{seen}
-use Rattle.fast_check_transform.specs.Kept.{Asked-around, kept_declarator, declarator_fault}
+use Rattle.fast_check_signatures.specs.Answers.{Adds}
+use Rattle.fast_check_transform.specs.PartAnswers.{Asked-around, declarators_answer}
 use Rattle.fast_check_transform.proofs.declarations.public_declarators.Given as goal
 
 abbrev pub invariant-loop-declarator : goal.invariant-loop-declarator
-invariant-loop-declarator l = record {
-  items : l.items ≡ flat_map (kept_declarator (Asked-around l.asked) (seen l.statement)) (take l.declarator-index l.declarator-items);
-  faults : l.faults.items ≡ l.initial.faults.items ++ flat_map (declarator_fault (Asked-around l.asked) (seen l.statement)) (take l.declarator-index l.declarator-items);
-}
+invariant-loop-declarator l =
+    Adds (declarators_answer (Asked-around l.asked) (seen l.statement)
+    (take l.declarator-index l.declarator-items)) l.items l.initial.faults.items l.faults.items

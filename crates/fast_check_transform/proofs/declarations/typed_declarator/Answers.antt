@@ -1,15 +1,20 @@
-use Rattle.std.proofs.Common.{arith}
-use Rattle.fast_check_transform.proofs.Declared.{typed_ident, faults_ident, typed_pattern, faults_pattern}
+use Rattle.std.proofs.Common.{ap, ◌∙◌, ◌++◌, ◌∷◌, [], arith}
+use Rattle.std.proofs.lemmas.Result.{IfOk-weaker}
+use Rattle.fast_check_ranges.specs.Ranges.{range_of_node}
+use Rattle.fast_check_signatures.specs.Answers.{fault_at}
+use Rattle.fast_check_signatures.specs.declared.fault.FaultKind.TheVariants.{UnsupportedDestructuring}
+use Rattle.fast_check_syntax.specs.Part.{seen}
+use Rattle.fast_check_transform.specs.PartAnswers.{Asked-around}
+use Rattle.fast_check_transform.proofs.Declared.{typed_ident, typed_pattern}
 use Rattle.fast_check_transform.proofs.declarations.typed_declarator.Goals as goal
 
-pub returns-then-eq-clause-kept : goal.returns-then-eq-clause-kept
-returns-then-eq-clause-kept c = grind (arith, typed_ident)
+pub returns-then-eq : goal.returns-then-eq
+returns-then-eq c =
+    IfOk-weaker c.ident_declarator.result _ _
+    (λ tree h. typed_ident (Asked-around c.args.asked) c.args.mutability (seen c.args.declarator) (cc) h) c.ident_declarator.ensures
 
-pub returns-then-eq-clause-faults : goal.returns-then-eq-clause-faults
-returns-then-eq-clause-faults c = grind (arith, faults_ident)
-
-pub returns-clause-kept : goal.returns-clause-kept
-returns-clause-kept c = grind (arith, typed_pattern)
-
-pub returns-clause-faults : goal.returns-clause-faults
-returns-clause-faults c = grind (arith, faults_pattern)
+pub returns : goal.returns
+returns c =
+    let place = c.range_of_node.ensures ∙ ap range_of_node c.of.ensures.name in
+    typed_pattern (Asked-around c.args.asked) c.args.mutability (seen c.args.declarator) (grind arith)
+    (c.in_ok-push.ensures.items ∙ ap (λ r. c.args.faults.now.items ++ fault_at UnsupportedDestructuring r ∷ []) place)

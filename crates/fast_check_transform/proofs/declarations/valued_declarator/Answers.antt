@@ -1,16 +1,20 @@
-use Rattle.std.proofs.Common.{arith}
-use Rattle.std.proofs.lemmas.Grind.{common_steps}
-use Rattle.fast_check_transform.proofs.Declared.{stays_tree, stays_faults, goes_tree, goes_faults}
+use Rattle.std.proofs.Common.{ap, ◌∙◌, refl}
+use Rattle.fast_check_program_forms.specs.Names.{Ident-span, BindingIdent-id}
+use Rattle.fast_check_syntax.specs.Part.{seen}
+use Rattle.fast_check_transform.specs.PartAnswers.{Asked-around}
+use Rattle.fast_check_transform.proofs.Declared.{value_stays, value_goes}
+use Rattle.fast_check_transform.proofs.Listed.{some_of}
 use Rattle.fast_check_transform.proofs.declarations.valued_declarator.Goals as goal
 
-pub returns-in-Some-clause-kept : goal.returns-in-Some-clause-kept
-returns-in-Some-clause-kept c = grind (arith, stays_tree)
+pub returns-in-Some : goal.returns-in-Some
+returns-in-Some c =
+    let place = c.of-3.ensures.span ∙ ap Ident-span (c.of-2.ensures.id ∙ ap BindingIdent-id c.of.ensures.name) in
+    some_of c.retyped.result c.retyped.ensures
+    (value_stays (Asked-around c.args.asked) (seen c.args.declarator) c.in_ok-value.ensures place c.of.ensures.init c.in-Some.is) refl
 
-pub returns-in-Some-clause-faults : goal.returns-in-Some-clause-faults
-returns-in-Some-clause-faults c = grind (arith, common_steps, stays_faults)
-
-pub returns-in_ok-push-in-None-clause-kept : goal.returns-in_ok-push-in-None-clause-kept
-returns-in_ok-push-in-None-clause-kept c = grind (arith, goes_tree)
-
-pub returns-in_ok-push-in-None-clause-faults : goal.returns-in_ok-push-in-None-clause-faults
-returns-in_ok-push-in-None-clause-faults c = grind (arith, common_steps, goes_faults)
+pub returns-in_ok-push-in-None : goal.returns-in_ok-push-in-None
+returns-in_ok-push-in-None c =
+    let place = c.of-3.ensures.span ∙ ap Ident-span (c.of-2.ensures.id ∙ ap BindingIdent-id c.of.ensures.name) in
+    some_of c.retyped-in-None.result c.retyped-in-None.ensures
+    (value_goes (Asked-around c.args.asked)
+    (seen c.args.declarator) c.in_ok-value.ensures place c.of.ensures.init c.in-None.is c.in_ok-push-in-None.ensures.items) refl

@@ -1,38 +1,28 @@
-use Rattle.std.proofs.Common.{◌++◌, ◌∙◌, ap, sym, append-nil, arith}
+use Rattle.std.proofs.lemmas.Result.{IfOk-weaker}
 use Rattle.fast_check_syntax.specs.Part.{seen}
-use Rattle.fast_check_transform.specs.Kept.{Asked-around}
-use Rattle.fast_check_transform.proofs.ByKind.{faults_private, faults_other, kept_VarDecl, faults_VarDecl, kept_private, kept_FnDecl, faults_FnDecl, kept_standing, kept_other}
+use Rattle.fast_check_transform.specs.PartAnswers.{Asked-around}
+use Rattle.fast_check_transform.proofs.ByRule.{variables, public_function_stays, private_function, public_standing, private_standing, untaken}
 use Rattle.fast_check_transform.proofs.items.keep_decl.Goals as goal
 
-pub returns-then-not-contains-clause-faults : goal.returns-then-not-contains-clause-faults
-returns-then-not-contains-clause-faults c =
-    sym (append-nil c.args.faults.now.items) ∙ ap (λ f. c.args.faults.now.items ++ f) (sym (faults_private (Asked-around c.args.asked) c.args.place (seen c.args.decl) (cc) (cc)))
+pub returns-then-not-contains : goal.returns-then-not-contains
+returns-then-not-contains c = private_function (Asked-around c.args.asked) c.args.place (seen c.args.decl) c.in-Function.is (cc) c.args.faults.now.items
 
-pub returns-then-is_standing-clause-faults : goal.returns-then-is_standing-clause-faults
-returns-then-is_standing-clause-faults c =
-    sym (append-nil c.args.faults.now.items) ∙ ap (λ f. c.args.faults.now.items ++ f) (sym (faults_other (Asked-around c.args.asked) c.args.place (seen c.args.decl) (cc) (cc)))
+pub returns-then-not-contains-2 : goal.returns-then-not-contains-2
+returns-then-not-contains-2 c = private_standing (Asked-around c.args.asked) c.args.place (seen c.args.decl) c.in-Standing.is (cc) c.args.faults.now.items
 
-pub returns-clause-faults : goal.returns-clause-faults
-returns-clause-faults c =
-    sym (append-nil c.args.faults.now.items) ∙ ap (λ f. c.args.faults.now.items ++ f) (sym (faults_other (Asked-around c.args.asked) c.args.place (seen c.args.decl) (cc) (cc)))
+pub returns-in-Variables : goal.returns-in-Variables
+returns-in-Variables c =
+    IfOk-weaker c.keep_statement.result _ _
+    (λ tree h. variables (Asked-around c.args.asked) c.args.place (seen c.args.decl) c.in-Variables.is h) c.keep_statement.ensures
 
-pub returns-then-eq-clause-kept : goal.returns-then-eq-clause-kept
-returns-then-eq-clause-kept c = grind (arith, kept_VarDecl)
+pub returns-in_ok-keep_function-in-Function : goal.returns-in_ok-keep_function-in-Function
+returns-in_ok-keep_function-in-Function c =
+    public_function_stays (Asked-around c.args.asked) c.args.place (seen c.args.decl) c.in-Function.is (cc) c.in_ok-keep_function-in-Function.ensures
 
-pub returns-then-eq-clause-faults : goal.returns-then-eq-clause-faults
-returns-then-eq-clause-faults c = grind (arith, faults_VarDecl)
+pub returns-in_ok-to_tree-in-Standing : goal.returns-in_ok-to_tree-in-Standing
+returns-in_ok-to_tree-in-Standing c =
+    public_standing (Asked-around c.args.asked) c.args.place (seen c.args.decl) c.in-Standing.is
+    (cc) c.in_ok-to_tree-in-Standing.ensures c.args.faults.now.items
 
-pub returns-then-not-contains-clause-kept : goal.returns-then-not-contains-clause-kept
-returns-then-not-contains-clause-kept c = grind (arith, kept_private)
-
-pub returns-then-eq-2-clause-kept : goal.returns-then-eq-2-clause-kept
-returns-then-eq-2-clause-kept c = grind (arith, kept_FnDecl)
-
-pub returns-then-eq-2-clause-faults : goal.returns-then-eq-2-clause-faults
-returns-then-eq-2-clause-faults c = grind (arith, faults_FnDecl)
-
-pub returns-then-is_standing-clause-kept : goal.returns-then-is_standing-clause-kept
-returns-then-is_standing-clause-kept c = grind (arith, kept_standing)
-
-pub returns-clause-kept : goal.returns-clause-kept
-returns-clause-kept c = grind (arith, kept_other)
+pub returns-in-Untaken : goal.returns-in-Untaken
+returns-in-Untaken c = untaken (Asked-around c.args.asked) c.args.place (seen c.args.decl) c.in-Untaken.is c.args.faults.now.items

@@ -1,21 +1,17 @@
-use Rattle.std.proofs.Common.{◌++◌, ◌∙◌, ap, sym, append-nil, arith}
-use Rattle.std.proofs.lemmas.Result.{IfOk-weaker}
+use Rattle.std.proofs.Common.{refl, ◌∙◌}
+use Rattle.fast_check_statement_forms.specs.Declarations.{fn_decl}
 use Rattle.fast_check_syntax.specs.Part.{seen}
-use Rattle.fast_check_transform.specs.Kept.{Asked-around}
-use Rattle.fast_check_transform.proofs.Declared.{faults_ambient, function_ambient, function_made, faults_made}
+use Rattle.fast_check_transform.specs.PartAnswers.{Asked-around}
+use Rattle.fast_check_transform.proofs.Declared.{ambient_function, made_function}
+use Rattle.fast_check_transform.proofs.Listed.{some_of}
 use Rattle.fast_check_transform.proofs.items.keep_function.Goals as goal
 
-pub returns-then-asked-clause-faults : goal.returns-then-asked-clause-faults
-returns-then-asked-clause-faults c =
-    let none = faults_ambient (Asked-around c.args.asked) c.args.place (seen c.args.decl) (cc) in
-    IfOk-weaker c.to_tree.result _ _
-    (λ t e. sym (append-nil c.args.faults.now.items) ∙ ap (λ f. c.args.faults.now.items ++ f) (sym none)) c.to_tree.ensures
+pub returns-then-asked : goal.returns-then-asked
+returns-then-asked c =
+    some_of c.to_tree.result c.to_tree.ensures (ambient_function (Asked-around c.args.asked) c.args.place (seen c.args.decl) (cc) c.args.faults.now.items) refl
 
-pub returns-then-asked-clause-kept : goal.returns-then-asked-clause-kept
-returns-then-asked-clause-kept c = grind (arith, function_ambient)
-
-pub returns-clause-kept : goal.returns-clause-kept
-returns-clause-kept c = grind (arith, function_made)
-
-pub returns-clause-faults : goal.returns-clause-faults
-returns-clause-faults c = grind (arith, faults_made)
+pub returns : goal.returns
+returns c =
+    some_of c.into_tree.result c.into_tree.ensures
+    (made_function (Asked-around c.args.asked) c.args.place (seen c.args.decl) (cc) c.in_ok-transform_signature.ensures)
+    (λ i. fn_decl ((c.in_ok-to_tree.ensures ∙ c.of-declare.ensures.ident) i) (c.of-declare.ensures.declare i) c.in_ok-transform_signature.field-0)

@@ -1,21 +1,22 @@
-use Rattle.std.proofs.Common.{◌++◌, ◌∙◌, ap, sym, append-nil, arith}
+use Rattle.std.proofs.Common.{ap, sym, ◌∙◌}
 use Rattle.std.proofs.lemmas.Result.{IfOk-weaker}
+use Rattle.fast_check_program_forms.specs.Names.{Ident-span}
+use Rattle.fast_check_signatures.specs.Answers.{answer_to}
+use Rattle.fast_check_signatures.specs.Functions.{implementation_seen}
 use Rattle.fast_check_syntax.specs.Part.{seen}
-use Rattle.fast_check_transform.specs.Kept.{Asked-around}
-use Rattle.fast_check_transform.proofs.Declared.{implementation_faults, implementation_tree, other_tree, other_faults}
+use Rattle.fast_check_transform.specs.PartAnswers.{Asked-around}
+use Rattle.fast_check_transform.proofs.Declared.{implementation, signature}
 use Rattle.fast_check_transform.proofs.items.transform_signature.Goals as goal
 
-pub returns-then-is_impl_with_overloads-clause-faults : goal.returns-then-is_impl_with_overloads-clause-faults
-returns-then-is_impl_with_overloads-clause-faults c =
-    let none = implementation_faults (Asked-around c.args.asked) c.args.place (seen c.args.decl) (cc) in
+pub returns-then-is_impl_with_overloads : goal.returns-then-is_impl_with_overloads
+returns-then-is_impl_with_overloads c =
     IfOk-weaker c.transform_implementation.result _ _
-    (λ t e. sym (append-nil c.args.faults.now.items) ∙ ap (λ f. c.args.faults.now.items ++ f) (sym none)) c.transform_implementation.ensures
+    (λ tree h. implementation (Asked-around c.args.asked) c.args.place (seen c.args.decl) (cc)
+    (ap (λ f. answer_to (implementation_seen f)) (sym c.of.ensures.function) ∙ h) c.args.faults.now.items) c.transform_implementation.ensures
 
-pub returns-then-is_impl_with_overloads-clause-kept : goal.returns-then-is_impl_with_overloads-clause-kept
-returns-then-is_impl_with_overloads-clause-kept c = grind (arith, implementation_tree)
-
-pub returns-clause-kept : goal.returns-clause-kept
-returns-clause-kept c = grind (arith, other_tree)
-
-pub returns-clause-faults : goal.returns-clause-faults
-returns-clause-faults c = grind (arith, other_faults)
+pub returns : goal.returns
+returns c =
+    IfOk-weaker c.transform_fn.result _ _
+    (λ tree h. signature (Asked-around c.args.asked) c.args.place (seen c.args.decl) (cc) h
+    (c.of-2.ensures.span ∙ ap Ident-span c.of.ensures.ident) c.of.ensures.function)
+    c.transform_fn.ensures

@@ -1,0 +1,102 @@
+ghost use Rattle.std.specs.Prelude.{◌≡◌, IfOk};
+ghost use Rattle.fast_check_syntax.specs.Part.{seen};
+ghost use Rattle.fast_check_syntax.specs.Shape.{list};
+ghost use Rattle.fast_check_expression_forms.specs.Expressions.{ArrowExpr-span, ArrowExpr-ctxt, ArrowExpr-is_async, ArrowExpr-is_generator, ArrowExpr-type_params, arrow_expr};
+ghost use Rattle.fast_check_signatures.specs.Answers as answers;
+ghost use Rattle.fast_check_signatures.specs.Functions.{or_own, function_head, arrow_head};
+
+use crate::nodes::{arrow_body, function_body};
+use fast_check_class_forms::Function;
+use fast_check_expression_forms::ArrowExpr;
+use fast_check_syntax::{Items, Part, SourceRange, Tree};
+use std::alloc::{AllocError, Global};
+
+/// The place that a parent gives, or else one's own.
+pub fn or_own(place: Option<SourceRange>, own: SourceRange) -> SourceRange
+    ensures { result ≡ or_own place own }
+{
+    match place {
+        Some(place) => place,
+        None => own,
+    }
+}
+
+/// A function of this return type and these parameters, with a body that stands for its own.
+pub fn signed_function(
+    alloc: Global,
+    function: Part<'_>,
+    return_type: Tree,
+    params: Items<Tree>,
+) -> Result<Tree, AllocError>
+    ensures { IfOk result (λ tree. tree ≡ answers.signed_function (function_head (seen function.entry)) return_type params) }
+{
+    let function = Function::of(function);
+    let body = if function.body.is_absent() {
+        Tree::Absent
+    } else {
+        function_body(alloc, return_type.read())?
+    };
+    Function {
+        span: function.span,
+        params: Tree::list(params),
+        decorators: Tree::list(Items::new(alloc)),
+        ctxt: function.ctxt,
+        body,
+        is_generator: false,
+        is_async: false,
+        type_params: function.type_params.to_tree(alloc)?,
+        return_type,
+    }
+    .into_tree(alloc)
+}
+
+/// An arrow with other parameters, another body, mark and return type.
+fn retyped_arrow(
+    alloc: Global,
+    arrow: Part<'_>,
+    params: Items<Tree>,
+    body: Tree,
+    is_async: bool,
+    return_type: Tree,
+) -> Result<Tree, AllocError>
+    ensures { IfOk result (λ tree. tree ≡ arrow_expr (ArrowExpr-span (seen arrow.entry)) (ArrowExpr-ctxt (seen arrow.entry)) (list params) body is_async (ArrowExpr-is_generator (seen arrow.entry)) (ArrowExpr-type_params (seen arrow.entry)) return_type) }
+{
+    let arrow = ArrowExpr::of(arrow);
+    ArrowExpr {
+        span: arrow.span,
+        ctxt: arrow.ctxt,
+        params: Tree::list(params),
+        body,
+        is_async,
+        is_generator: arrow.is_generator,
+        type_params: arrow.type_params.to_tree(alloc)?,
+        return_type,
+    }
+    .into_tree(alloc)
+}
+
+/// An arrow of this return type and these parameters, with a body that stands for its own.
+pub fn signed_arrow(
+    alloc: Global,
+    arrow: Part<'_>,
+    return_type: Tree,
+    params: Items<Tree>,
+) -> Result<Tree, AllocError>
+    ensures { IfOk result (λ tree. tree ≡ answers.signed_arrow (arrow_head (seen arrow.entry)) return_type params) }
+{
+    let body = arrow_body(alloc, return_type.read())?;
+    retyped_arrow(alloc, arrow, params, body, false, return_type)
+}
+
+/// An arrow with this value, which gives its return type.
+pub fn kept_arrow(
+    alloc: Global,
+    arrow: Part<'_>,
+    value: Tree,
+    params: Items<Tree>,
+) -> Result<Tree, AllocError>
+    ensures { IfOk result (λ tree. tree ≡ answers.kept_arrow (arrow_head (seen arrow.entry)) (ArrowExpr-is_async (seen arrow.entry)) value params) }
+{
+    let is_async = ArrowExpr::of(arrow).is_async;
+    retyped_arrow(alloc, arrow, params, value, is_async, Tree::Absent)
+}

@@ -1,0 +1,74 @@
+//! How expressions stay, kind by kind: the tables that the definitions name, and that the transform walks.
+use fast_check_syntax::Kind;
+
+/// What becomes of a part of an expression that stays slot by slot.
+#[derive(Clone, Copy, PartialEq, Eq, Debug)]
+pub enum Slot {
+    /// A range, as it is.
+    Span,
+    /// A scope number, as it is.
+    Scope,
+    /// A tree, as it is written.
+    Written,
+    /// `({} as never)`, whatever is written.
+    Never,
+    /// An expression, or a list of such, as it stays.
+    Value,
+    /// A function expression's function, by its signature.
+    Function,
+}
+
+/// Expressions that stay as they are, and the names and texts inside of others.
+pub const PLAIN_KINDS: [Kind; 11] = [
+    Kind::Leaf,
+    Kind::ThisExpr,
+    Kind::Ident,
+    Kind::IdentName,
+    Kind::Str,
+    Kind::Bool,
+    Kind::Null,
+    Kind::Number,
+    Kind::BigInt,
+    Kind::Regex,
+    Kind::TplElement,
+];
+
+/// Expressions that stay if their parts do, with the lists, elements, properties and computed names inside of them.
+pub const COMPOUND_KINDS: [Kind; 18] = [
+    Kind::List,
+    Kind::ArrayLit,
+    Kind::ExprOrSpread,
+    Kind::ObjectLit,
+    Kind::SpreadElement,
+    Kind::KeyValueProp,
+    Kind::AssignProp,
+    Kind::ComputedPropName,
+    Kind::UnaryExpr,
+    Kind::UpdateExpr,
+    Kind::AwaitExpr,
+    Kind::ParenExpr,
+    Kind::TsNonNullExpr,
+    Kind::TsConstAssertion,
+    Kind::BinExpr,
+    Kind::CondExpr,
+    Kind::MemberExpr,
+    Kind::Tpl,
+];
+
+/// `value satisfies type`: the value as it stays. A row has a slot for each field of its form, in their order.
+pub const SATISFIES: [Slot; 3] = [Slot::Span, Slot::Value, Slot::Written];
+
+/// `value as type`, `<type>value`: the value does not count.
+pub const ASSERTION: [Slot; 3] = [Slot::Span, Slot::Never, Slot::Written];
+
+/// A function expression.
+pub const FN_EXPR: [Slot; 2] = [Slot::Written, Slot::Function];
+
+/// `Object.freeze(x)`: the arguments as they stay.
+pub const FREEZE: [Slot; 5] = [
+    Slot::Span,
+    Slot::Scope,
+    Slot::Written,
+    Slot::Value,
+    Slot::Written,
+];

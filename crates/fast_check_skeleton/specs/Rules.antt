@@ -1,0 +1,62 @@
+-- What is done with the items of a module, kind by kind. What no row names is not taken so far.
+use Rattle.std.specs.Prelude.{Bool, true, false}
+use Rattle.fast_check_syntax.specs.declared.kind.Kind.{Kind}
+use Rattle.fast_check_syntax.specs.declared.kind.Kind.TheVariants as kinds
+use Rattle.fast_check_syntax.specs.declared.tree.Tree.{Tree}
+use Rattle.fast_check_syntax.specs.Shape.{kind_of}
+use Rattle.fast_check_program_forms.specs.ModuleDecls.{ExportDecl-decl}
+use Rattle.fast_check_statement_forms.specs.Statements.{ExprStmt-expr}
+use Rattle.fast_check_skeleton.specs.declared.rules.DeclRule.{DeclRule}
+use Rattle.fast_check_skeleton.specs.declared.rules.DeclRule.TheVariants.{Variables, Function, Standing, Untaken}
+use Rattle.fast_check_skeleton.specs.declared.rules.ItemRule.{ItemRule}
+use Rattle.fast_check_skeleton.specs.declared.rules.ItemRule.TheVariants.{Declared, Exported, Silent}
+
+-- what is done with a declaration of a kind
+abbrev pub decl_rule : Kind → DeclRule
+decl_rule kinds.VarDecl = Variables
+decl_rule kinds.FnDecl = Function
+decl_rule kinds.TsInterfaceDecl = Standing
+decl_rule kinds.TsTypeAliasDecl = Standing
+decl_rule kinds.TsEnumDecl = Standing
+decl_rule _ = Untaken
+
+-- what is done with an expression that is a statement, by its kind: an assignment is not taken so far
+abbrev pub expr_stmt_rule : Kind → ItemRule
+expr_stmt_rule kinds.AssignExpr = Declared Untaken
+expr_stmt_rule _ = Silent
+
+-- what is done with an item of a kind
+abbrev pub rule_of_kind : Kind → Tree → ItemRule
+rule_of_kind kinds.ExportDecl item = Exported (decl_rule (kind_of (ExportDecl-decl item)))
+rule_of_kind kinds.ExprStmt item = expr_stmt_rule (kind_of (ExprStmt-expr item))
+rule_of_kind kinds.BlockStmt item = Silent
+rule_of_kind kinds.EmptyStmt item = Silent
+rule_of_kind kinds.DebuggerStmt item = Silent
+rule_of_kind kinds.WithStmt item = Silent
+rule_of_kind kinds.ReturnStmt item = Silent
+rule_of_kind kinds.LabeledStmt item = Silent
+rule_of_kind kinds.BreakStmt item = Silent
+rule_of_kind kinds.ContinueStmt item = Silent
+rule_of_kind kinds.IfStmt item = Silent
+rule_of_kind kinds.SwitchStmt item = Silent
+rule_of_kind kinds.ThrowStmt item = Silent
+rule_of_kind kinds.TryStmt item = Silent
+rule_of_kind kinds.WhileStmt item = Silent
+rule_of_kind kinds.DoWhileStmt item = Silent
+rule_of_kind kinds.ForStmt item = Silent
+rule_of_kind kinds.ForInStmt item = Silent
+rule_of_kind kinds.ForOfStmt item = Silent
+rule_of_kind kind item = Declared (decl_rule kind)
+
+abbrev pub item_rule : Tree → ItemRule
+item_rule item = rule_of_kind (kind_of item) item
+
+-- whether a declaration is taken, and an item
+abbrev pub is_taken_decl : DeclRule → Bool
+is_taken_decl Untaken = false
+is_taken_decl _ = true
+
+abbrev pub is_taken : ItemRule → Bool
+is_taken (Declared rule) = is_taken_decl rule
+is_taken (Exported rule) = is_taken_decl rule
+is_taken Silent = true

@@ -1,0 +1,134 @@
+-- What is answered to declarations and items, by what is done with them.
+use Rattle.std.specs.Prelude.{◌≡◌, ℕ, ◌+◌, ◌<◌, ◌≤◌, Bool, true, false, Option, Some, None, List, [], ◌∷◌, ◌++◌, length, take, if◌then◌else◌}
+use lib.ListN.{get_or}
+use Rattle.std.proofs.Common.{ap, ◌∙◌, sym, subst, append-nil}
+use Rattle.fast_check_syntax.specs.declared.source.SourceRange.{SourceRange}
+use Rattle.fast_check_syntax.specs.declared.tree.Tree.{Tree}
+use Rattle.fast_check_program_forms.specs.ModuleDecls.{ExportDecl-span, ExportDecl-decl, export_decl}
+use Rattle.fast_check_ranges.specs.Ranges.{range_of_node}
+use Rattle.fast_check_signatures.specs.declared.fault.Fault.{Fault}
+use Rattle.fast_check_signatures.specs.Answers.{Adds, with_tree, answer_to, answer_of}
+use Rattle.fast_check_signatures.specs.Seen.{Seen, written}
+use Rattle.fast_check_signatures.proofs.Adding.{adds_nothing, adds_same}
+use Rattle.fast_check_skeleton.specs.declared.rules.DeclRule.{DeclRule}
+use Rattle.fast_check_skeleton.specs.declared.rules.DeclRule.TheVariants.{Variables, Function, Standing, Untaken}
+use Rattle.fast_check_skeleton.specs.declared.rules.ItemRule.TheVariants.{Declared, Exported, Silent}
+use Rattle.fast_check_skeleton.specs.Rules.{item_rule}
+use Rattle.fast_check_skeleton.specs.Surroundings.{Surroundings}
+use Rattle.fast_check_skeleton.specs.Visible.{function_decl_seen, decl_seen, exported_seen, seen_by_rule, item_seen}
+use Rattle.fast_check_skeleton.proofs.Standing.{OneTree, decl_one, export_is}
+use Rattle.fast_check_transform.specs.PartAnswers.{statement_answer, function_answer, decl_answer, item_answer, items_answer}
+use Rattle.fast_check_transform.proofs.Listed.{alone, one_more, whole}
+
+module _ (around : Surroundings) (place : SourceRange) (decl : Tree) where
+  abbrev by_rule : DeclRule → List Seen
+  by_rule r = decl_seen around place decl r
+
+  abbrev if_public : Bool → Seen → List Seen
+  if_public p seen = if p then seen ∷ [] else []
+
+  pub variables : {rule : DeclRule} → rule ≡ Variables → {xs : List Tree} {old new : List Fault} →
+      Adds (statement_answer around decl) xs old new → Adds (decl_answer around place decl rule) xs old new
+  unfolding decl_answer statement_answer
+  variables r h = adds_same (ap (λ x. answer_of (by_rule x)) r) h
+
+  pub public_function_stays : {rule : DeclRule} → rule ≡ Function → around.is_public place ≡ true → {t : Tree} {old new : List Fault} →
+      Adds (function_answer around place decl) (Some t) old new → Adds (decl_answer around place decl rule) (t ∷ []) old new
+  unfolding decl_answer function_answer
+  public_function_stays r e h =
+      adds_same (ap (λ x. answer_of (by_rule x)) r ∙ ap (λ p. answer_of (if_public p (function_decl_seen around place decl))) e)
+      (alone (function_decl_seen around place decl) h)
+
+  pub private_function : {rule : DeclRule} → rule ≡ Function → around.is_public place ≡ false → (old : List Fault) →
+      Adds (decl_answer around place decl rule) [] old old
+  unfolding decl_answer
+  private_function r e old =
+      adds_same (ap (λ x. answer_of (by_rule x)) r ∙ ap (λ p. answer_of (if_public p (function_decl_seen around place decl))) e) (adds_nothing [] old)
+
+  pub public_standing : {rule : DeclRule} → rule ≡ Standing → around.is_public place ≡ true → {t : Tree} → t ≡ decl → (old : List Fault) →
+      Adds (decl_answer around place decl rule) (t ∷ []) old old
+  unfolding decl_answer
+  public_standing {rule} r e p old =
+      subst (λ u. Adds (answer_of (by_rule rule)) (u ∷ []) old old) (sym p)
+      (adds_same (ap (λ x. answer_of (by_rule x)) r ∙ ap (λ p. answer_of (if_public p (written decl))) e) (adds_nothing (decl ∷ []) old))
+
+  pub private_standing : {rule : DeclRule} → rule ≡ Standing → around.is_public place ≡ false → (old : List Fault) →
+      Adds (decl_answer around place decl rule) [] old old
+  unfolding decl_answer
+  private_standing r e old =
+      adds_same (ap (λ x. answer_of (by_rule x)) r ∙ ap (λ p. answer_of (if_public p (written decl))) e) (adds_nothing [] old)
+
+  pub untaken : {rule : DeclRule} → rule ≡ Untaken → (old : List Fault) → Adds (decl_answer around place decl rule) [] old old
+  unfolding decl_answer
+  untaken r old = adds_same (ap (λ x. answer_of (by_rule x)) r) (adds_nothing [] old)
+
+module _ (around : Surroundings) (item : Tree) where
+  -- what is seen of a declaration is one form at most
+  none_of : (ss : List Seen) → OneTree around ss → {xs : List Tree} {old new : List Fault} → Adds (answer_of ss) xs old new → xs ≡ [] →
+      Adds (answer_of (exported_seen item ss)) [] old new
+  none_of [] one {old = old} {new = new} h e = subst (λ x. Adds (answer_of []) x old new) e h
+  none_of (s ∷ []) one h e =
+      let f : one.0 ∷ [] ≡ [] = sym (ap (λ o. with_tree o []) one.1) ∙ (ap (λ a. a.stays) h.is ∙ e) in cc
+  none_of (s ∷ t ∷ ss) one h e = absurd one
+
+  export_of : (ss : List Seen) → OneTree around ss → {t : Tree} {old new : List Fault} → Adds (answer_of ss) (t ∷ []) old new →
+      Adds (answer_of (exported_seen item ss)) (export_decl (ExportDecl-span item) t ∷ []) old new
+  export_of [] one h = let e = ap (λ a. a.stays) h.is in cc
+  export_of (s ∷ []) one {t = t} h =
+      let same : one.0 ∷ [] ≡ t ∷ [] = sym (ap (λ o. with_tree o []) one.1) ∙ ap (λ a. a.stays) h.is in
+      let tree : one.0 ≡ t = cc in record {
+        added = h.added;
+        is = export_is around item s one ∙ (λ i. record {
+          stays = export_decl (ExportDecl-span item) (tree i) ∷ [];
+          faults = (sym (append-nil (answer_to s).faults) ∙ ap (λ a. a.faults) h.is) i;
+        });
+        faults = h.faults;
+      }
+  export_of (s ∷ t ∷ ss) one h = absurd one
+
+  pub declared : {rule : DeclRule} → item_rule item ≡ Declared rule → {place : SourceRange} {xs : List Tree} {old new : List Fault} →
+      Adds (decl_answer around place item rule) xs old new → place ≡ range_of_node item → Adds (item_answer around item) xs old new
+  unfolding item_answer decl_answer
+  declared {rule} e h p = adds_same (ap (λ r. answer_of (seen_by_rule around item r)) e ∙ ap (λ q. answer_of (decl_seen around q item rule)) (sym p)) h
+
+  pub no_export : {rule : DeclRule} → item_rule item ≡ Exported rule → {place : SourceRange} {decl : Tree} {xs : List Tree} {old new : List Fault} →
+      Adds (decl_answer around place decl rule) xs old new → place ≡ ExportDecl-span item → decl ≡ ExportDecl-decl item → xs ≡ [] →
+      Adds (item_answer around item) [] old new
+  unfolding item_answer decl_answer
+  no_export {rule} e h p q n =
+      adds_same (ap (λ r. answer_of (seen_by_rule around item r)) e)
+      (none_of (decl_seen around (ExportDecl-span item) (ExportDecl-decl item) rule) (decl_one around (ExportDecl-span item) (ExportDecl-decl item) rule)
+      (adds_same (λ i. answer_of (decl_seen around (sym p i) (sym q i) rule)) h) n)
+
+  pub made_export : {rule : DeclRule} → item_rule item ≡ Exported rule → {place : SourceRange} {decl t : Tree} {xs : List Tree} {old new : List Fault} →
+      Adds (decl_answer around place decl rule) xs old new → place ≡ ExportDecl-span item → decl ≡ ExportDecl-decl item → xs ≡ t ∷ [] →
+      {made : Tree} → made ≡ export_decl (ExportDecl-span item) t → Adds (item_answer around item) (made ∷ []) old new
+  unfolding item_answer decl_answer
+  made_export {rule} e {old = old} {new = new} h p q n m =
+      let seen = decl_seen around (ExportDecl-span item) (ExportDecl-decl item) rule in
+      subst (λ u. Adds (answer_of (item_seen around item)) (u ∷ []) old new) (sym m)
+      (adds_same (ap (λ r. answer_of (seen_by_rule around item r)) e)
+      (export_of seen (decl_one around (ExportDecl-span item) (ExportDecl-decl item) rule)
+      (subst (λ x. Adds (answer_of seen) x old new) n (adds_same (λ i. answer_of (decl_seen around (sym p i) (sym q i) rule)) h))))
+
+  pub silent : item_rule item ≡ Silent → (old : List Fault) → Adds (item_answer around item) [] old old
+  unfolding item_answer
+  silent e old = adds_same (ap (λ r. answer_of (seen_by_rule around item r)) e) (adds_nothing [] old)
+
+-- ---- items
+
+module _ (around : Surroundings) where
+  pub no_items : {xs : List Tree} → xs ≡ [] → (old : List Fault) → Adds (items_answer around []) xs old old
+  unfolding items_answer
+  no_items e old = subst (λ x. Adds (answer_of []) x old old) (sym e) (adds_nothing [] old)
+
+  pub one_more_item : (items : List Tree) (i : ℕ) (item : Tree) → i < length items → item ≡ get_or items i item →
+      {xs ys zs : List Tree} {old mid new : List Fault} → Adds (items_answer around (take i items)) xs old mid → Adds (item_answer around item) ys mid new →
+      zs ≡ xs ++ ys → Adds (items_answer around (take (i + 1) items)) zs old new
+  unfolding items_answer item_answer
+  one_more_item items i item h e g k p = one_more (item_seen around) items i item h e g k p
+
+  pub all_items : {items all : List Tree} (i : ℕ) → length items ≤ i → items ≡ all → {xs : List Tree} {old new : List Fault} →
+      Adds (items_answer around (take i items)) xs old new → Adds (items_answer around all) xs old new
+  unfolding items_answer
+  all_items i h e g = whole (item_seen around) i h e g

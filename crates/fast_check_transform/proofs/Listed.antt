@@ -1,0 +1,48 @@
+-- What calls add for lists of what is seen, one after the other.
+use Rattle.std.specs.Prelude.{◌≡◌, ℕ, ◌+◌, ◌<◌, ◌≤◌, Option, Some, None, Result, IfOk, List, [], ◌∷◌, ◌++◌, flat_map, length, take, refl}
+use lib.ListN.{get_or}
+use Rattle.std.proofs.Common.{ap, ◌∙◌, sym, subst, append-nil, append_assoc}
+use Rattle.std.proofs.lemmas.List.{take_more, take_all}
+use Rattle.std.proofs.lemmas.List.Concat.{flat_map-append}
+use Rattle.std.proofs.lemmas.Result.{IfOk-weaker}
+use Rattle.fast_check_syntax.specs.declared.tree.Tree.{Tree}
+use Rattle.fast_check_signatures.specs.declared.fault.Fault.{Fault}
+use Rattle.fast_check_signatures.specs.Seen.{Seen}
+use Rattle.fast_check_signatures.specs.Answers.{Answer, Adds, faultless, joined, with_tree, answer_to, answer_of}
+use Rattle.fast_check_signatures.proofs.Adding.{adds_nothing, adds_same, adds_joined}
+
+-- a call that makes this tree gives the answer
+pub some_of : {E : Type 0} {a : Answer (Option Tree)} {x y : Tree} {old new : List Fault} (r : Result Tree E) → IfOk r (λ t. t ≡ x) →
+    Adds a (Some y) old new → x ≡ y → IfOk r (λ t. Adds a (Some t) old new)
+some_of {a = a} {old = old} {new = new} r e h q = IfOk-weaker r _ _ (λ t p. subst (λ u. Adds a (Some u) old new) (sym (p ∙ q)) h) e
+
+-- one that is seen alone
+pub alone : (s : Seen) {o : Option Tree} {old new : List Fault} → Adds (answer_to s) o old new → Adds (answer_of (s ∷ [])) (with_tree o []) old new
+alone s {new = new} h = adds_joined with_tree h (adds_nothing [] new)
+
+with_append : (o : Option Tree) (xs ys : List Tree) → with_tree o (xs ++ ys) ≡ with_tree o xs ++ ys
+with_append None xs ys = refl
+with_append (Some t) xs ys = refl
+
+pub answer_append : (xs ys : List Seen) → answer_of (xs ++ ys) ≡ joined ◌++◌ (answer_of xs) (answer_of ys)
+answer_append [] ys = refl
+answer_append (x ∷ xs) ys = ap (joined with_tree (answer_to x)) (answer_append xs ys) ∙ (λ i. record {
+  stays = with_append (answer_to x).stays (answer_of xs).stays (answer_of ys).stays i;
+  faults = sym (append_assoc (answer_to x).faults (answer_of xs).faults (answer_of ys).faults) i;
+})
+
+-- what is seen of one more of a list
+pub one_more : (f : Tree → List Seen) (ts : List Tree) (i : ℕ) (t : Tree) → i < length ts → t ≡ get_or ts i t →
+    {xs ys zs : List Tree} {old mid new : List Fault} → Adds (answer_of (flat_map f (take i ts))) xs old mid → Adds (answer_of (f t)) ys mid new →
+    zs ≡ xs ++ ys → Adds (answer_of (flat_map f (take (i + 1) ts))) zs old new
+one_more f ts i t h e {old = old} {new = new} g k p =
+    let more : flat_map f (take (i + 1) ts) ≡ flat_map f (take i ts) ++ f t =
+    ap (flat_map f) (take_more ts i t h ∙ ap (λ u. take i ts ++ u ∷ []) (sym e))
+    ∙ (flat_map-append f (take i ts) (t ∷ []) ∙ ap (λ ss. flat_map f (take i ts) ++ ss) (append-nil (f t))) in
+    subst (λ x. Adds (answer_of (flat_map f (take (i + 1) ts))) x old new) (sym p)
+    (adds_same (ap answer_of more ∙ answer_append (flat_map f (take i ts)) (f t)) (adds_joined ◌++◌ g k))
+
+-- what is seen of a whole list
+pub whole : (f : Tree → List Seen) {ts us : List Tree} (i : ℕ) → length ts ≤ i → ts ≡ us → {xs : List Tree} {old new : List Fault} →
+    Adds (answer_of (flat_map f (take i ts))) xs old new → Adds (answer_of (flat_map f us)) xs old new
+whole f {ts = ts} i h e g = adds_same (ap (λ us. answer_of (flat_map f us)) (sym (take_all i ts h ∙ e))) g

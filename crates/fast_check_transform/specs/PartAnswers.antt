@@ -1,0 +1,86 @@
+-- The answers to what is seen of the parts of a module.
+use Rattle.std.specs.Prelude.{Option, Some, None, List, [], ◌∷◌}
+use Rattle.std.specs.List.{flat_map}
+use Rattle.fast_check_syntax.specs.declared.source.SourceRange.{SourceRange}
+use Rattle.fast_check_syntax.specs.declared.tree.Tree.{Tree}
+use Rattle.fast_check_syntax.specs.Shape.{list}
+use Rattle.fast_check_program_forms.specs.Names.{Ident-span, binding_ident}
+use Rattle.fast_check_program_forms.specs.Programs.{Module-span, Module-shebang, module'}
+use Rattle.fast_check_statement_forms.specs.Declarations.{VarDeclarator-span, VarDeclarator-init, VarDeclarator-definite, var_declarator}
+use Rattle.fast_check_tables.specs.PublicRanges.{is_public, is_implementation}
+use Rattle.fast_check_tree.specs.declared.helpers.literal_type.DeclMutabilityKind.{DeclMutabilityKind}
+use Rattle.fast_check_signatures.specs.Seen.{declarator}
+use Rattle.fast_check_signatures.specs.Answers.{Answer, made, answer_to, answer_of}
+use Rattle.fast_check_skeleton.specs.declared.rules.DeclRule.{DeclRule}
+use Rattle.fast_check_skeleton.specs.Skeleton.{transformed}
+use Rattle.fast_check_skeleton.specs.Surroundings.{Surroundings}
+use Rattle.fast_check_skeleton.specs.Visible.{declared_ident, declarator_head, value_seen, ident_declarator_seen, declarator_seen, public_declarator}
+use Rattle.fast_check_skeleton.specs.Visible.{public_declarators, statement_seen, signature_of, function_decl_seen, decl_seen, item_seen}
+use Rattle.fast_check_transform.specs.declared.asked.Asked.{Asked}
+
+-- what is asked beside the tree
+abbrev pub Asked-around : Asked → Surroundings
+Asked-around asked = record {
+  is_public = is_public asked.public_ranges.now;
+  is_implementation = is_implementation asked.public_ranges.now;
+  unresolved = asked.unresolved;
+  is_declaration_file = asked.is_declaration_file;
+}
+
+abbrev pub as_list : Option Tree → List Tree
+as_list (Some t) = t ∷ []
+as_list None = []
+
+-- a declarator of another type and value
+abbrev pub retyped : Tree → Tree → Tree → Tree
+retyped d type value = var_declarator (VarDeclarator-span d) (binding_ident (declared_ident d) type) value (VarDeclarator-definite d)
+
+-- to a value that is to give a type, which the identifier at `place` names
+unfoldable pub value_answer : Surroundings → SourceRange → Tree → Answer (Option Tree)
+value_answer around place value = answer_to (value_seen around place value)
+
+-- to a declarator that nothing but its value gives a type
+unfoldable pub valued_answer : Surroundings → Tree → Answer (Option Tree)
+valued_answer around d = answer_to (declarator (declarator_head d) (value_seen around (Ident-span (declared_ident d)) (VarDeclarator-init d)))
+
+-- to a declarator of an identifier
+unfoldable pub ident_answer : Surroundings → DeclMutabilityKind → Tree → Answer (Option Tree)
+ident_answer around mutability d = answer_to (ident_declarator_seen around mutability d)
+
+-- to a declarator that is not ambient
+unfoldable pub declarator_answer : Surroundings → DeclMutabilityKind → Tree → Answer (Option Tree)
+declarator_answer around mutability d = answer_to (declarator_seen around mutability d)
+
+-- to a declarator of a statement, and to some of them
+unfoldable pub public_answer : Surroundings → Tree → Tree → Answer (List Tree)
+public_answer around statement d = answer_of (public_declarator around statement d)
+
+unfoldable pub declarators_answer : Surroundings → Tree → List Tree → Answer (List Tree)
+declarators_answer around statement ds = answer_of (flat_map (public_declarator around statement) ds)
+
+-- to a variable statement
+unfoldable pub statement_answer : Surroundings → Tree → Answer (List Tree)
+statement_answer around statement = answer_of (statement_seen statement (public_declarators around statement))
+
+-- to the signature of a function that is public by `place`, and to the function
+unfoldable pub signature_answer : Surroundings → SourceRange → Tree → Answer (Option Tree)
+signature_answer around place decl = answer_to (signature_of around place decl)
+
+unfoldable pub function_answer : Surroundings → SourceRange → Tree → Answer (Option Tree)
+function_answer around place decl = answer_to (function_decl_seen around place decl)
+
+-- to a declaration, by what is done with it; it is public by the range of its export, or else by its own
+unfoldable pub decl_answer : Surroundings → SourceRange → Tree → DeclRule → Answer (List Tree)
+decl_answer around place decl rule = answer_of (decl_seen around place decl rule)
+
+-- to an item, and to some of them
+unfoldable pub item_answer : Surroundings → Tree → Answer (List Tree)
+item_answer around item = answer_of (item_seen around item)
+
+unfoldable pub items_answer : Surroundings → List Tree → Answer (List Tree)
+items_answer around items = answer_of (flat_map (item_seen around) items)
+
+-- to a module
+unfoldable pub program_answer : Surroundings → Tree → Answer Tree
+program_answer around program =
+    made (λ items. module' (Module-span program) (list items) (Module-shebang program)) (transformed around program)

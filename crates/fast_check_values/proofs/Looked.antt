@@ -1,0 +1,107 @@
+-- What is seen of expressions and of defaults, by what the code asks of them.
+use Rattle.std.specs.Prelude.{◌≡◌, ℕ, ◌+◌, ◌<◌, suc, Bool, true, false, Option, Some, None, List, [], ◌∷◌, map, drop, length, option_map, refl, if◌then◌else◌}
+use Rattle.std.proofs.Common.{ap, ◌∙◌, sym, get_or, add-one}
+use Rattle.std.proofs.Math.Seq.{drop-cons}
+use Rattle.fast_check_syntax.specs.declared.kind.Kind.{Kind}
+use Rattle.fast_check_syntax.specs.declared.kind.Kind.TheVariants as kinds
+use Rattle.fast_check_syntax.specs.declared.source.SourceRange.{SourceRange}
+use Rattle.fast_check_syntax.specs.declared.source.SyntaxContext.{SyntaxContext}
+use Rattle.fast_check_syntax.specs.declared.tree.Tree.{Tree}
+use Rattle.fast_check_syntax.specs.Shape.{◌is◌, kind_of, part, parts, is_absent}
+use Rattle.fast_check_expression_forms.specs.Patterns.{AssignPat-left, AssignPat-right}
+use Rattle.fast_check_program_forms.specs.Names.{BindingIdent-id, BindingIdent-type_ann}
+use Rattle.fast_check_tree.specs.declared.helpers.literal_type.DeclMutabilityKind.TheVariants.{Mutable}
+use Rattle.fast_check_tree.specs.Builders.{type_ann}
+use Rattle.fast_check_tree.specs.InferredType.{inferred_type}
+use Rattle.fast_check_signatures.specs.declared.rules.Slot.{Slot}
+use Rattle.fast_check_signatures.specs.Seen.{Seen, written, round, refused, seens}
+use Rattle.fast_check_signatures.specs.Functions.{arrow_seen}
+use Rattle.fast_check_signatures.specs.Expressions.{is_compound, is_plain, freezes, Rule, whole, parted, slotted, arrow, not_at_all, other_rule, rule, by_rule, slot_seen, slots_seen, expr_seen}
+use Rattle.fast_check_signatures.specs.Answers.{answer_to, parts_answer, visited}
+use Rattle.fast_check_signatures.specs.Parameters.{without_default, by_shown, assign_seen}
+use Rattle.fast_check_signatures.proofs.Looks.{expr_seen_is}
+use Rattle.fast_check_new_nodes.specs.Rows.{row_in, row_of}
+use Rattle.fast_check_new_nodes.specs.Shown.{default_type}
+
+pub not_leaf : (k : Kind) → is_plain k ≡ false → k ≡ kinds.Leaf → ⊥
+not_leaf k plain e = let h : true ≡ false = sym (ap is_plain e) ∙ plain in cc
+
+pub not_arrow : (k : Kind) → k is kinds.ArrowExpr ≡ false → k ≡ kinds.ArrowExpr → ⊥
+not_arrow k other e = let h : true ≡ false = sym (ap (λ x. x is kinds.ArrowExpr) e) ∙ other in cc
+
+-- ---- the next of a list, in a loop
+
+pub next_part : (look : Tree → Seen) (ts : List Tree) (i : ℕ) (d : Tree) → i < length ts →
+    parts_answer (seens (map look (drop i ts))) ≡ visited (answer_to (look (get_or ts i d))) (parts_answer (seens (map look (drop (i + 1) ts))))
+next_part look ts i d h = rw (add-one, drop-cons ts i d) refl
+
+pub next_slot : (unresolved : SyntaxContext) (t : Tree) (place : Option SourceRange) (row : List Slot) (i : ℕ) (d : Slot) → i < length row →
+    parts_answer (seens (slots_seen unresolved (drop i row) i t (expr_seen unresolved) place)) ≡
+    visited (answer_to (slot_seen unresolved (get_or row i d) (part i t) (expr_seen unresolved) place))
+    (parts_answer (seens (slots_seen unresolved (drop (i + 1) row) (i + 1) t (expr_seen unresolved) place)))
+next_slot unresolved t place row i d h = rw (add-one, drop-cons row i d) refl
+
+-- ---- the rule of a kind
+
+slotted_by : (r : Rule) (row : List Slot) → row_in r ≡ Some row → r ≡ slotted row
+slotted_by (slotted slots) row e = ap slotted cc
+slotted_by whole row e = cc
+slotted_by parted row e = cc
+slotted_by arrow row e = cc
+slotted_by not_at_all row e = cc
+
+refused_by : (k : Kind) (freezing : Bool) → row_of k freezing ≡ None → (k ≡ kinds.ArrowExpr → ⊥) → other_rule k freezing ≡ not_at_all
+refused_by kinds.TsSatisfiesExpr freezing e n = cc
+refused_by kinds.TsAsExpr freezing e n = cc
+refused_by kinds.TsTypeAssertion freezing e n = cc
+refused_by kinds.FnExpr freezing e n = cc
+refused_by kinds.CallExpr true e n = cc
+refused_by kinds.CallExpr false e n = refl
+refused_by kinds.ArrowExpr freezing e n = absurd (n refl)
+refused_by _ freezing e n = refl
+
+module _ (unresolved : SyntaxContext) (t : Tree) (place : Option SourceRange) where
+  abbrev by : Rule → Seen
+  by r = by_rule unresolved r (kind_of t) t (expr_seen unresolved) place
+
+  abbrev other : Rule
+  other = other_rule (kind_of t) (freezes unresolved t)
+
+  pub seen_parted : is_compound (kind_of t) ≡ true → expr_seen unresolved t place ≡ round (kind_of t) (seens (map (λ p. expr_seen unresolved p None) (parts t)))
+  seen_parted e = expr_seen_is unresolved t place ∙ ap (λ b. by (if b then parted else (if is_plain (kind_of t) then whole else other))) e
+
+  uncompounded : is_compound (kind_of t) ≡ false → expr_seen unresolved t place ≡ by (if is_plain (kind_of t) then whole else other)
+  uncompounded e = expr_seen_is unresolved t place ∙ ap (λ b. by (if b then parted else (if is_plain (kind_of t) then whole else other))) e
+
+  pub seen_whole : is_compound (kind_of t) ≡ false → is_plain (kind_of t) ≡ true → expr_seen unresolved t place ≡ written t
+  seen_whole e p = uncompounded e ∙ ap (λ b. by (if b then whole else other)) p
+
+  unplain : is_compound (kind_of t) ≡ false → is_plain (kind_of t) ≡ false → expr_seen unresolved t place ≡ by other
+  unplain e p = uncompounded e ∙ ap (λ b. by (if b then whole else other)) p
+
+  pub seen_arrow : kind_of t ≡ kinds.ArrowExpr → expr_seen unresolved t place ≡ arrow_seen unresolved (expr_seen unresolved) place t
+  seen_arrow e = expr_seen_is unresolved t place ∙ ap (λ k. by_rule unresolved (rule k (freezes unresolved t)) k t (expr_seen unresolved) place) e
+
+  pub seen_slotted : (row : List Slot) → is_compound (kind_of t) ≡ false → is_plain (kind_of t) ≡ false → row_of (kind_of t) (freezes unresolved t) ≡ Some row →
+      expr_seen unresolved t place ≡ round (kind_of t) (seens (slots_seen unresolved row 0 t (expr_seen unresolved) place))
+  seen_slotted row e p r = unplain e p ∙ ap by (slotted_by other row r)
+
+  pub seen_refused : is_compound (kind_of t) ≡ false → is_plain (kind_of t) ≡ false → row_of (kind_of t) (freezes unresolved t) ≡ None → (kind_of t ≡ kinds.ArrowExpr → ⊥) →
+      expr_seen unresolved t place ≡ refused
+  seen_refused e p r n = unplain e p ∙ ap by (refused_by (kind_of t) (freezes unresolved t) r n)
+
+-- ---- a default behind a type that is written or shown
+
+module _ (unresolved : SyntaxContext) (b : Bool) (t : Tree) where
+  abbrev typed_ident : Tree → Seen
+  typed_ident type = written (without_default b (BindingIdent-id (AssignPat-left t)) type)
+
+  ident_typed : (type : Tree) (absent : Bool) (shown : Option Tree) → (if absent then option_map type_ann shown else Some (BindingIdent-type_ann (AssignPat-left t))) ≡ Some type →
+      (if absent then by_shown unresolved (expr_seen unresolved) b t shown else typed_ident (BindingIdent-type_ann (AssignPat-left t))) ≡ typed_ident type
+  ident_typed type true (Some shown) d = ap typed_ident cc
+  ident_typed type true None d = cc
+  ident_typed type false shown d = ap typed_ident cc
+
+  pub seen_known : (type : Tree) → kind_of (AssignPat-left t) ≡ kinds.BindingIdent → default_type unresolved t ≡ Some type →
+      assign_seen unresolved (expr_seen unresolved) b t ≡ written (without_default b (BindingIdent-id (AssignPat-left t)) type)
+  seen_known type e d = rw e (ident_typed type (is_absent (BindingIdent-type_ann (AssignPat-left t))) (inferred_type Mutable unresolved (AssignPat-right t)) d)
