@@ -7,9 +7,9 @@ use Rattle.fast_check_forms.proofs.name_choices.Key.of.Goals as goal
 pub returns-in-Other : goal.returns-in-Other
 returns-in-Other c =
     sym (key_else _ (λ p. c.in_default.not-PrivateName (c.kind.ensures ∙ p)) ∙
-        ap (λ this. if_prop_name this Key.Public Key.Other) (sym c.of.ensures ∙ c.in-Other.is))
+    ap (λ this. if_prop_name this Key.Public Key.Other) (sym c.of.ensures ∙ c.in-Other.is))
 
 pub returns-in_default-of : goal.returns-in_default-of
 returns-in_default-of c =
     sym (key_else _ (λ p. c.in_default.not-PrivateName (c.kind.ensures ∙ p)) ∙
-        ap (λ this. if_prop_name this Key.Public Key.Other) (sym c.of.ensures) ∙ is_prop_name c.of.result _ _ c.in_default-of.not-Other)
+    ap (λ this. if_prop_name this Key.Public Key.Other) (sym c.of.ensures) ∙ is_prop_name c.of.result _ _ c.in_default-of.not-Other)

@@ -7,9 +7,9 @@ use Rattle.fast_check_forms.proofs.statement_choices.ForHead.of.Goals as goal
 pub returns-in-Other : goal.returns-in-Other
 returns-in-Other c =
     sym (for_head_else _ (λ p. c.in_default.not-VarDecl (c.kind.ensures ∙ p)) (λ p. c.in_default.not-UsingDecl (c.kind.ensures ∙ p)) ∙
-        ap (λ this. if_pat this ForHead.Pat ForHead.Other) (sym c.of.ensures ∙ c.in-Other.is))
+    ap (λ this. if_pat this ForHead.Pat ForHead.Other) (sym c.of.ensures ∙ c.in-Other.is))
 
 pub returns-in_default-of : goal.returns-in_default-of
 returns-in_default-of c =
     sym (for_head_else _ (λ p. c.in_default.not-VarDecl (c.kind.ensures ∙ p)) (λ p. c.in_default.not-UsingDecl (c.kind.ensures ∙ p)) ∙
-        ap (λ this. if_pat this ForHead.Pat ForHead.Other) (sym c.of.ensures) ∙ is_pat c.of.result _ _ c.in_default-of.not-Other)
+    ap (λ this. if_pat this ForHead.Pat ForHead.Other) (sym c.of.ensures) ∙ is_pat c.of.result _ _ c.in_default-of.not-Other)
