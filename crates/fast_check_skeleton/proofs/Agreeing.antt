@@ -444,10 +444,10 @@ module _ (r : Renaming) (ok : IsRenaming r) where
         sym (answer_of_moved (partners r) (partners_keep r ok) (visible a t))
         ∙ (ap answer_of (visible_alike t u g) ∙ answer_of_moved twice twice_keeps (visible b u)) in (
           record {
-            body = subst₂ (SameTree r) (sym (part_node 1 Module (module_parts a t))) (sym (part_node 1 Module (module_parts b u)))
+            body = subst₂ (SameTree r) (sym (part_node _ Module (module_parts a t))) (sym (part_node _ Module (module_parts b u)))
                 (tree_from r ok (list (transformed a t).stays) (list (transformed b u).stays)
                 (node_moved (partners r) List' (transformed a t).stays ∙ (ap (λ x. list x.stays) e ∙ sym (node_moved twice List' (transformed b u).stays))));
-            shebang = subst₂ (SameTree r) (sym (part_node 2 Module (module_parts a t))) (sym (part_node 2 Module (module_parts b u))) g.shebang;
+            shebang = subst₂ (SameTree r) (sym (part_node _ Module (module_parts a t))) (sym (part_node _ Module (module_parts b u))) g.shebang;
           },
           faults_from (transformed a t).faults (transformed b u).faults (ap (λ x. x.faults) e),
         )

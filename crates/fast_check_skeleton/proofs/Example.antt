@@ -62,42 +62,42 @@ unfolding roll-Tree denote.Hole.Carrier.roll
 context_of_context c = ap context_at (out-roll-Tree (Tree-F.Context c))
 
 span_made : (kind : Kind) (span : SourceRange) (ts : List Tree) → range_of (part 0 (node kind (tree.Range span ∷ ts))) ≡ span
-span_made kind span ts = ap range_of (part_node 0 kind (tree.Range span ∷ ts)) ∙ range_of_range span
+span_made kind span ts = ap range_of (part_node _ kind (tree.Range span ∷ ts)) ∙ range_of_range span
 
 items_made : (span : SourceRange) (items : List Tree) (shebang : Tree) → items_of (module' span (list items) shebang) ≡ items
-items_made span items shebang = ap parts (part_node 1 Module (tree.Range span ∷ list items ∷ shebang ∷ [])) ∙ parts_node List' items
+items_made span items shebang = ap parts (part_node _ Module (tree.Range span ∷ list items ∷ shebang ∷ [])) ∙ parts_node List' items
 
 decl_made : (span : SourceRange) (decl : Tree) → ExportDecl-decl (export_decl span decl) ≡ decl
-decl_made span decl = part_node 1 ExportDecl (tree.Range span ∷ decl ∷ [])
+decl_made span decl = part_node _ ExportDecl (tree.Range span ∷ decl ∷ [])
 
 module _ (span : SourceRange) (ctxt : SyntaxContext) (kind : Tree) (declare : Bool) (ds : List Tree) where
   abbrev statement_parts : List Tree
   statement_parts = tree.Range span ∷ tree.Context ctxt ∷ kind ∷ tree.Flag declare ∷ list ds ∷ []
 
   ctxt_made : VarDecl-ctxt (var_decl span ctxt kind declare (list ds)) ≡ ctxt
-  ctxt_made = ap context_of (part_node 1 VarDecl statement_parts) ∙ context_of_context ctxt
+  ctxt_made = ap context_of (part_node _ VarDecl statement_parts) ∙ context_of_context ctxt
 
   kind_made : VarDecl-kind (var_decl span ctxt kind declare (list ds)) ≡ kind
-  kind_made = part_node 2 VarDecl statement_parts
+  kind_made = part_node _ VarDecl statement_parts
 
   declare_made : VarDecl-declare (var_decl span ctxt kind declare (list ds)) ≡ declare
-  declare_made = ap flag_of (part_node 3 VarDecl statement_parts) ∙ flag_of_flag declare
+  declare_made = ap flag_of (part_node _ VarDecl statement_parts) ∙ flag_of_flag declare
 
   decls_made : parts (VarDecl-decls (var_decl span ctxt kind declare (list ds))) ≡ ds
-  decls_made = ap parts (part_node 4 VarDecl statement_parts) ∙ parts_node List' ds
+  decls_made = ap parts (part_node _ VarDecl statement_parts) ∙ parts_node List' ds
 
 module _ (span : SourceRange) (id type init : Tree) (definite : Bool) where
   abbrev declarator_parts : List Tree
   declarator_parts = tree.Range span ∷ binding_ident id type ∷ init ∷ tree.Flag definite ∷ []
 
   ident_made : declared_ident (var_declarator span (binding_ident id type) init definite) ≡ id
-  ident_made = ap BindingIdent-id (part_node 1 VarDeclarator declarator_parts) ∙ part_node 0 BindingIdent (id ∷ type ∷ [])
+  ident_made = ap BindingIdent-id (part_node _ VarDeclarator declarator_parts) ∙ part_node _ BindingIdent (id ∷ type ∷ [])
 
   type_made : declared_type (var_declarator span (binding_ident id type) init definite) ≡ type
-  type_made = ap BindingIdent-type_ann (part_node 1 VarDeclarator declarator_parts) ∙ part_node 1 BindingIdent (id ∷ type ∷ [])
+  type_made = ap BindingIdent-type_ann (part_node _ VarDeclarator declarator_parts) ∙ part_node _ BindingIdent (id ∷ type ∷ [])
 
   definite_made : VarDeclarator-definite (var_declarator span (binding_ident id type) init definite) ≡ definite
-  definite_made = ap flag_of (part_node 3 VarDeclarator declarator_parts) ∙ flag_of_flag definite
+  definite_made = ap flag_of (part_node _ VarDeclarator declarator_parts) ∙ flag_of_flag definite
 
 -- ---- what agrees
 
@@ -221,8 +221,8 @@ agree = record {
       (sym (items_made (at 10 62) (hidden_function ∷ exported 35 3 name_value 61 ∷ []) Absent))
       (h.SameItems.right silent begins_alone (h.SameItems.next exports h.SameItems.end));
   shebang = subst₂ Same
-      (sym (part_node 2 Module (tree.Range (at 10 39) ∷ list (exported 10 2 text_value 38 ∷ []) ∷ Absent ∷ [])))
-      (sym (part_node 2 Module (tree.Range (at 10 62) ∷ list (hidden_function ∷ exported 35 3 name_value 61 ∷ []) ∷ Absent ∷ [])))
+      (sym (part_node _ Module (tree.Range (at 10 39) ∷ list (exported 10 2 text_value 38 ∷ []) ∷ Absent ∷ [])))
+      (sym (part_node _ Module (tree.Range (at 10 62) ∷ list (hidden_function ∷ exported 35 3 name_value 61 ∷ []) ∷ Absent ∷ [])))
       (same Absent Absent same_absent);
 }
 

@@ -361,6 +361,6 @@ module _ (around : Surroundings) where
   pub skeleton_stands : (program : Tree) → faults_of around program ≡ [] → IsSkeleton around.unresolved around.is_declaration_file (skeleton_of around program)
   skeleton_stands program e = record {
     kind = kind_of_node Module (module_parts program);
-    items = subst (OfAll IsItem) (sym (ap parts (part_node 1 Module (module_parts program)) ∙ parts_node List' (transformed around program).stays))
+    items = subst (OfAll IsItem) (sym (ap parts (part_node _ Module (module_parts program)) ∙ parts_node List' (transformed around program).stays))
         (all_hold IsItem (flat_map (item_seen around) (items_of program)) (all_flat IsItem (item_seen around) (items_of program) item_stays) e);
   }

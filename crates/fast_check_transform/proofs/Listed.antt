@@ -9,7 +9,7 @@ use Rattle.fast_check_syntax.specs.declared.tree.Tree.{Tree}
 use Rattle.fast_check_signatures.specs.declared.fault.Fault.{Fault}
 use Rattle.fast_check_signatures.specs.Seen.{Seen}
 use Rattle.fast_check_signatures.specs.Answers.{Answer, Adds, faultless, joined, with_tree, answer_to, answer_of}
-use Rattle.fast_check_signatures.proofs.Adding.{adds_nothing, adds_same, adds_joined}
+use Rattle.fast_check_signatures.proofs.Adding.{adds_nothing, adds_same, adds_joined, answer_append}
 
 -- a call that makes this tree gives the answer
 pub some_of : {E : Type 0} {a : Answer (Option Tree)} {x y : Tree} {old new : List Fault} (r : Result Tree E) → IfOk r (λ t. t ≡ x) →
@@ -19,17 +19,6 @@ some_of {a = a} {old = old} {new = new} r e h q = IfOk-weaker r _ _ (λ t p. sub
 -- one that is seen alone
 pub alone : (s : Seen) {o : Option Tree} {old new : List Fault} → Adds (answer_to s) o old new → Adds (answer_of (s ∷ [])) (with_tree o []) old new
 alone s {new = new} h = adds_joined with_tree h (adds_nothing [] new)
-
-with_append : (o : Option Tree) (xs ys : List Tree) → with_tree o (xs ++ ys) ≡ with_tree o xs ++ ys
-with_append None xs ys = refl
-with_append (Some t) xs ys = refl
-
-pub answer_append : (xs ys : List Seen) → answer_of (xs ++ ys) ≡ joined ◌++◌ (answer_of xs) (answer_of ys)
-answer_append [] ys = refl
-answer_append (x ∷ xs) ys = ap (joined with_tree (answer_to x)) (answer_append xs ys) ∙ (λ i. record {
-  stays = with_append (answer_to x).stays (answer_of xs).stays (answer_of ys).stays i;
-  faults = sym (append_assoc (answer_to x).faults (answer_of xs).faults (answer_of ys).faults) i;
-})
 
 -- what is seen of one more of a list
 pub one_more : (f : Tree → List Seen) (ts : List Tree) (i : ℕ) (t : Tree) → i < length ts → t ≡ get_or ts i t →
