@@ -1,5 +1,5 @@
 -- What is seen of expressions and of defaults, by what the code asks of them.
-use Rattle.std.specs.Prelude.{◌≡◌, ℕ, ◌+◌, ◌<◌, suc, Bool, true, false, Option, Some, None, List, [], ◌∷◌, map, drop, length, option_map, refl, if◌then◌else◌}
+use Rattle.std.specs.Prelude.{◌≡◌, ℕ, ◌+◌, ◌<◌, Bool, true, false, Option, Some, None, List, map, drop, length, option_map, refl, if◌then◌else◌}
 use Rattle.std.proofs.Common.{ap, ◌∙◌, sym, get_or, add-one}
 use Rattle.std.proofs.Math.Seq.{drop-cons}
 use Rattle.fast_check_syntax.specs.declared.kind.Kind.{Kind}
@@ -16,7 +16,8 @@ use Rattle.fast_check_tree.specs.InferredType.{inferred_type}
 use Rattle.fast_check_signatures.specs.declared.rules.Slot.{Slot}
 use Rattle.fast_check_signatures.specs.Seen.{Seen, written, round, refused, seens}
 use Rattle.fast_check_signatures.specs.Functions.{arrow_seen}
-use Rattle.fast_check_signatures.specs.Expressions.{is_compound, is_plain, freezes, Rule, whole, parted, slotted, arrow, not_at_all, other_rule, rule, by_rule, slot_seen, slots_seen, expr_seen}
+use Rattle.fast_check_signatures.specs.Expressions.{is_compound, is_plain, freezes, Rule, whole, parted, slotted, arrow, not_at_all, other_rule, rule}
+use Rattle.fast_check_signatures.specs.Expressions.{by_rule, slot_seen, slots_seen, expr_seen}
 use Rattle.fast_check_signatures.specs.Answers.{answer_to, parts_answer, visited}
 use Rattle.fast_check_signatures.specs.Parameters.{without_default, by_shown, assign_seen}
 use Rattle.fast_check_signatures.proofs.Looks.{expr_seen_is}
@@ -67,7 +68,8 @@ module _ (unresolved : SyntaxContext) (t : Tree) (place : Option SourceRange) wh
   abbrev other : Rule
   other = other_rule (kind_of t) (freezes unresolved t)
 
-  pub seen_parted : is_compound (kind_of t) ≡ true → expr_seen unresolved t place ≡ round (kind_of t) (seens (map (λ p. expr_seen unresolved p None) (parts t)))
+  pub seen_parted : is_compound (kind_of t) ≡ true →
+      expr_seen unresolved t place ≡ round (kind_of t) (seens (map (λ p. expr_seen unresolved p None) (parts t)))
   seen_parted e = expr_seen_is unresolved t place ∙ ap (λ b. by (if b then parted else (if is_plain (kind_of t) then whole else other))) e
 
   uncompounded : is_compound (kind_of t) ≡ false → expr_seen unresolved t place ≡ by (if is_plain (kind_of t) then whole else other)
@@ -82,11 +84,13 @@ module _ (unresolved : SyntaxContext) (t : Tree) (place : Option SourceRange) wh
   pub seen_arrow : kind_of t ≡ kinds.ArrowExpr → expr_seen unresolved t place ≡ arrow_seen unresolved (expr_seen unresolved) place t
   seen_arrow e = expr_seen_is unresolved t place ∙ ap (λ k. by_rule unresolved (rule k (freezes unresolved t)) k t (expr_seen unresolved) place) e
 
-  pub seen_slotted : (row : List Slot) → is_compound (kind_of t) ≡ false → is_plain (kind_of t) ≡ false → row_of (kind_of t) (freezes unresolved t) ≡ Some row →
+  pub seen_slotted : (row : List Slot) → is_compound (kind_of t) ≡ false → is_plain (kind_of t) ≡ false →
+      row_of (kind_of t) (freezes unresolved t) ≡ Some row →
       expr_seen unresolved t place ≡ round (kind_of t) (seens (slots_seen unresolved row 0 t (expr_seen unresolved) place))
   seen_slotted row e p r = unplain e p ∙ ap by (slotted_by other row r)
 
-  pub seen_refused : is_compound (kind_of t) ≡ false → is_plain (kind_of t) ≡ false → row_of (kind_of t) (freezes unresolved t) ≡ None → (kind_of t ≡ kinds.ArrowExpr → ⊥) →
+  pub seen_refused : is_compound (kind_of t) ≡ false → is_plain (kind_of t) ≡ false → row_of (kind_of t) (freezes unresolved t) ≡ None →
+      (kind_of t ≡ kinds.ArrowExpr → ⊥) →
       expr_seen unresolved t place ≡ refused
   seen_refused e p r n = unplain e p ∙ ap by (refused_by (kind_of t) (freezes unresolved t) r n)
 
@@ -96,7 +100,8 @@ module _ (unresolved : SyntaxContext) (b : Bool) (t : Tree) where
   abbrev typed_ident : Tree → Seen
   typed_ident type = written (without_default b (BindingIdent-id (AssignPat-left t)) type)
 
-  ident_typed : (type : Tree) (absent : Bool) (shown : Option Tree) → (if absent then option_map type_ann shown else Some (BindingIdent-type_ann (AssignPat-left t))) ≡ Some type →
+  ident_typed : (type : Tree) (absent : Bool) (shown : Option Tree) →
+      (if absent then option_map type_ann shown else Some (BindingIdent-type_ann (AssignPat-left t))) ≡ Some type →
       (if absent then by_shown unresolved (expr_seen unresolved) b t shown else typed_ident (BindingIdent-type_ann (AssignPat-left t))) ≡ typed_ident type
   ident_typed type true (Some shown) d = ap typed_ident cc
   ident_typed type true None d = cc
@@ -104,4 +109,5 @@ module _ (unresolved : SyntaxContext) (b : Bool) (t : Tree) where
 
   pub seen_known : (type : Tree) → kind_of (AssignPat-left t) ≡ kinds.BindingIdent → default_type unresolved t ≡ Some type →
       assign_seen unresolved (expr_seen unresolved) b t ≡ written (without_default b (BindingIdent-id (AssignPat-left t)) type)
-  seen_known type e d = rw e (ident_typed type (is_absent (BindingIdent-type_ann (AssignPat-left t))) (inferred_type Mutable unresolved (AssignPat-right t)) d)
+  seen_known type e d = rw e (ident_typed type (is_absent (BindingIdent-type_ann (AssignPat-left t)))
+      (inferred_type Mutable unresolved (AssignPat-right t)) d)
