@@ -8,18 +8,20 @@ use Rattle.fast_check_syntax.specs.declared.source.SourceRange.{SourceRange}
 use Rattle.fast_check_syntax.specs.declared.source.SyntaxContext.{SyntaxContext}
 use Rattle.fast_check_syntax.specs.declared.tree.Tree.{Tree}
 use Rattle.fast_check_syntax.specs.Shape.{◌is◌, kind_of, part, parts, is_absent}
-use Rattle.fast_check_expression_forms.specs.Patterns.{AssignPat-left, AssignPat-right}
+use Rattle.fast_check_expression_forms.specs.Patterns.{AssignPat-span, AssignPat-left, AssignPat-right}
 use Rattle.fast_check_program_forms.specs.Names.{BindingIdent-id, BindingIdent-type_ann}
 use Rattle.fast_check_tree.specs.declared.helpers.literal_type.DeclMutabilityKind.TheVariants.{Mutable}
 use Rattle.fast_check_tree.specs.Builders.{type_ann}
 use Rattle.fast_check_tree.specs.InferredType.{inferred_type}
 use Rattle.fast_check_signatures.specs.declared.rules.Slot.{Slot}
-use Rattle.fast_check_signatures.specs.Seen.{Seen, written, round, refused, seens}
+use Rattle.fast_check_signatures.specs.Seen.{Seen, written, faulty, round, refused, seens}
 use Rattle.fast_check_signatures.specs.Functions.{arrow_seen}
 use Rattle.fast_check_signatures.specs.Expressions.{is_compound, is_plain, freezes, Rule, whole, parted, slotted, arrow, not_at_all, other_rule, rule}
 use Rattle.fast_check_signatures.specs.Expressions.{by_rule, slot_seen, slots_seen, expr_seen}
 use Rattle.fast_check_signatures.specs.Answers.{answer_to, parts_answer, visited}
-use Rattle.fast_check_signatures.specs.Parameters.{without_default, by_shown, assign_seen}
+use Rattle.fast_check_signatures.specs.Parameters.{without_default, by_shown, assign_by_left, assign_seen, pat_by_kind, pat_seen}
+use Rattle.fast_check_signatures.specs.declared.fault.FaultKind.TheVariants.{UnsupportedDestructuring}
+use Rattle.fast_check_ranges.specs.Ranges.{range_of_node}
 use Rattle.fast_check_signatures.proofs.Looks.{expr_seen_is}
 use Rattle.fast_check_new_nodes.specs.Rows.{row_in, row_of}
 use Rattle.fast_check_new_nodes.specs.Shown.{default_type}
@@ -111,3 +113,25 @@ module _ (unresolved : SyntaxContext) (b : Bool) (t : Tree) where
       assign_seen unresolved (expr_seen unresolved) b t ≡ written (without_default b (BindingIdent-id (AssignPat-left t)) type)
   seen_known type e d = rw e (ident_typed type (is_absent (BindingIdent-type_ann (AssignPat-left t)))
       (inferred_type Mutable unresolved (AssignPat-right t)) d)
+
+-- ---- patterns of other kinds
+
+module _ (unresolved : SyntaxContext) (b : Bool) (t : Tree) where
+  pub seen_by_kind : (k : Kind) → kind_of t ≡ k → pat_seen unresolved (expr_seen unresolved) b t ≡ pat_by_kind unresolved (expr_seen unresolved) k b t
+  seen_by_kind k e = ap (λ k. pat_by_kind unresolved (expr_seen unresolved) k b t) e
+
+  pub other_pat : (k : Kind) → (k ≡ kinds.BindingIdent → ⊥) → (k ≡ kinds.AssignPat → ⊥) → (k ≡ kinds.RestPat → ⊥) → (k ≡ kinds.ArrayPat → ⊥) →
+      (k ≡ kinds.ObjectPat → ⊥) → pat_by_kind unresolved (expr_seen unresolved) k b t ≡ faulty UnsupportedDestructuring (range_of_node t)
+  other_pat kinds.BindingIdent n1 n2 n3 n4 n5 = absurd (n1 refl)
+  other_pat kinds.AssignPat n1 n2 n3 n4 n5 = absurd (n2 refl)
+  other_pat kinds.RestPat n1 n2 n3 n4 n5 = absurd (n3 refl)
+  other_pat kinds.ArrayPat n1 n2 n3 n4 n5 = absurd (n4 refl)
+  other_pat kinds.ObjectPat n1 n2 n3 n4 n5 = absurd (n5 refl)
+  other_pat _ n1 n2 n3 n4 n5 = refl
+
+  pub other_left : (k : Kind) → (k ≡ kinds.BindingIdent → ⊥) → (k ≡ kinds.ArrayPat → ⊥) → (k ≡ kinds.ObjectPat → ⊥) →
+      assign_by_left unresolved (expr_seen unresolved) k b t ≡ faulty UnsupportedDestructuring (AssignPat-span t)
+  other_left kinds.BindingIdent n1 n2 n3 = absurd (n1 refl)
+  other_left kinds.ArrayPat n1 n2 n3 = absurd (n2 refl)
+  other_left kinds.ObjectPat n1 n2 n3 = absurd (n3 refl)
+  other_left _ n1 n2 n3 = refl

@@ -11,7 +11,8 @@ use Rattle.fast_check_program_forms.specs.Names.{BindingIdent-id}
 use Rattle.fast_check_expression_forms.specs.Expressions.{ArrowExpr-span}
 use Rattle.fast_check_expression_forms.specs.Patterns.{AssignPat-left}
 use Rattle.fast_check_signatures.specs.declared.rules.Slot.TheVariants as slots
-use Rattle.fast_check_signatures.specs.Seen.{seens}
+use Rattle.fast_check_signatures.specs.Seen.{faulty, seens}
+use Rattle.fast_check_signatures.specs.declared.fault.FaultKind.TheVariants.{UnsupportedDestructuring}
 use Rattle.fast_check_signatures.specs.Answers.{fault_at, answer_to, answer_of, parts_answer, demanded, faultless}
 use Rattle.fast_check_signatures.specs.Expressions.{is_plain, is_compound, expr_seen, slot_seen}
 use Rattle.fast_check_signatures.specs.Functions.{or_own, return_type_missing}
@@ -22,7 +23,7 @@ use Rattle.fast_check_values.specs.Looked.{known_type, known_answer}
 use Rattle.fast_check_values.proofs.Behind.{behind_along, items_are, adds_given, parts_step, parts_refused}
 use Rattle.fast_check_values.proofs.Heights.{height_less}
 use Rattle.fast_check_values.proofs.Looked.{not_leaf, not_arrow, seen_parted, seen_whole, seen_arrow, seen_slotted, seen_refused, seen_known}
-use Rattle.fast_check_values.proofs.Looked.{next_part, next_slot}
+use Rattle.fast_check_values.proofs.Looked.{next_part, next_slot, seen_by_kind, other_pat, other_left}
 use Rattle.fast_check_values.proofs.Arrows.{arrow_known, arrow_valued}
 use Rattle.fast_check_values.proofs.+leave.Goals as goal
 
@@ -168,3 +169,47 @@ parameters::transform_params-transform_param_pat-requires t c = grind (arith, he
 
 pub parameters::transform_pats-transform_param_pat-requires : goal.parameters::transform_pats-transform_param_pat-requires
 parameters::transform_pats-transform_param_pat-requires t c = grind (arith, height_read)
+
+pub expressions::leave_parts-loop-part-preserved : goal.expressions::leave_parts-loop-part-preserved
+expressions::leave_parts-loop-part-preserved t c =
+    let u = c.args.unresolved in
+    let items = c.parts-part-items.result.now in
+    let d = c.part-item.result in
+    let within : c.loop-part.part-index < length items = c.loop-part-test.true in
+    let next = behind_along (next_part (λ p. expr_seen u p None) items c.loop-part.part-index d within) c.loop-part.invariant in
+    let given = adds_same (ap (λ (p : Tree). answer_to (expr_seen u p None)) (sym (c.read.ensures ∙ c.part-item.is)))
+    (adds_given c.in-Some.is c.in_ok-tree.ensures) in
+    items_are (sym c.in_ok-push-in-Some.ensures.ok) (parts_step c.loop-part.items c.in-Some.tree _ _ next given)
+
+pub parameters::transform_param_pat-returns-in-AssignPat : goal.parameters::transform_param_pat-returns-in-AssignPat
+parameters::transform_param_pat-returns-in-AssignPat t c =
+    let kind = sym c.kind.ensures ∙ c.in-AssignPat.is in
+    IfOk-weaker c.transform_assign_pat.result _ _
+    (λ tree h. adds_same (ap answer_to (seen_by_kind c.args.unresolved c.args.is_optional (seen c.args.pat) kinds.AssignPat kind)) h)
+    c.transform_assign_pat.ensures
+
+pub parameters::transform_param_pat-returns-in-RestPat : goal.parameters::transform_param_pat-returns-in-RestPat
+parameters::transform_param_pat-returns-in-RestPat t c =
+    let kind = sym c.kind.ensures ∙ c.in-RestPat.is in
+    IfOk-weaker c.transform_rest.result _ _
+    (λ tree h. adds_same (ap answer_to (seen_by_kind c.args.unresolved c.args.is_optional (seen c.args.pat) kinds.RestPat kind)) h) c.transform_rest.ensures
+
+pub parameters::transform_param_pat-returns-in_default : goal.parameters::transform_param_pat-returns-in_default
+parameters::transform_param_pat-returns-in_default t c =
+    let d = c.in_default in
+    let k = c.kind.ensures in
+    let other = other_pat c.args.unresolved c.args.is_optional (seen c.args.pat) (kind_of (seen c.args.pat)) (λ e. d.not-BindingIdent (k ∙ e))
+    (λ e. d.not-AssignPat (k ∙ e)) (λ e. d.not-RestPat (k ∙ e)) (λ e. d.not-ArrayPat (k ∙ e)) (λ e. d.not-ObjectPat (k ∙ e)) in
+    IfOk-weaker c.unsupported.result _ _
+    (λ tree h. adds_same (ap answer_to (other ∙ ap (λ (p : SourceRange). faulty UnsupportedDestructuring p) (sym c.range_of_node.ensures))) h)
+    c.unsupported.ensures
+
+pub parameters::transform_assign_pat-returns-in_default : goal.parameters::transform_assign_pat-returns-in_default
+parameters::transform_assign_pat-returns-in_default t c =
+    let d = c.in_default in
+    let k = c.kind.ensures ∙ ap kind_of c.of.ensures.left in
+    let other = other_left c.args.unresolved c.args.is_optional (seen c.args.pat) (kind_of (AssignPat-left (seen c.args.pat)))
+    (λ e. d.not-BindingIdent (k ∙ e)) (λ e. d.not-ArrayPat (k ∙ e)) (λ e. d.not-ObjectPat (k ∙ e)) in
+    IfOk-weaker c.unsupported.result _ _
+    (λ tree h. adds_same (ap answer_to (other ∙ ap (λ (p : SourceRange). faulty UnsupportedDestructuring p) (sym c.of.ensures.span))) h)
+    c.unsupported.ensures
