@@ -1,5 +1,6 @@
 use Rattle.std.proofs.Common.{arith, ◌≡◌, ◌<◌, length, get_or, true, false, Some, None, List, sym, ap, ◌∙◌, map}
 use Rattle.std.proofs.Common.{option_map, option_copied}
+use Rattle.std.proofs.lemmas.Grind.{common_steps}
 use Rattle.std.proofs.lemmas.Result.{IfOk-weaker}
 use Rattle.fast_check_syntax.specs.declared.kind.Kind.TheVariants as kinds
 use Rattle.fast_check_syntax.specs.declared.source.SourceRange.{SourceRange}
@@ -213,3 +214,21 @@ parameters::transform_assign_pat-returns-in_default t c =
     IfOk-weaker c.unsupported.result _ _
     (λ tree h. adds_same (ap answer_to (other ∙ ap (λ (p : SourceRange). faulty UnsupportedDestructuring p) (sym c.of.ensures.span))) h)
     c.unsupported.ensures
+
+pub parameters::transform_pats-loop-index-preserved : goal.parameters::transform_pats-loop-index-preserved
+parameters::transform_pats-loop-index-preserved t c = grind (arith, common_steps)
+
+pub parameters::transform_params-loop-index-preserved : goal.parameters::transform_params-loop-index-preserved
+parameters::transform_params-loop-index-preserved t c = grind (arith, common_steps)
+
+pub expressions::leave_slots-returns-in-None : goal.expressions::leave_slots-returns-in-None
+expressions::leave_slots-returns-in-None t c =
+    let u = c.args.unresolved in
+    let e = seen c.args.expr in
+    let row = c.args.row.now in
+    let i = c.loop-index.index in
+    let within : i < length row = c.loop-index-test.true in
+    let next = behind_along (next_slot u e c.args.place row i slots.Span within) c.loop-index.invariant in
+    let given = adds_same (ap (λ (p : Tree). answer_to (slot_seen u (get_or row i slots.Span) p (expr_seen u) c.args.place)) (sym c.part.ensures))
+    (adds_given c.in-None.is c.in_ok-tree.ensures) in
+    adds_made (option_map (node (kind_of e))) (parts_refused c.loop-index.stay _ _ next given)
