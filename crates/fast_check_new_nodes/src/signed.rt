@@ -1,7 +1,8 @@
 ghost use Rattle.std.specs.Prelude.{◌≡◌, IfOk};
 ghost use Rattle.fast_check_syntax.specs.Part.{seen};
 ghost use Rattle.fast_check_syntax.specs.Shape.{list};
-ghost use Rattle.fast_check_expression_forms.specs.Expressions.{ArrowExpr-span, ArrowExpr-ctxt, ArrowExpr-is_async, ArrowExpr-is_generator, ArrowExpr-type_params, arrow_expr};
+ghost use Rattle.fast_check_expression_forms.specs.Expressions.{ArrowExpr-span, ArrowExpr-ctxt, ArrowExpr-is_async, ArrowExpr-is_generator};
+ghost use Rattle.fast_check_expression_forms.specs.Expressions.{ArrowExpr-type_params, arrow_expr};
 ghost use Rattle.fast_check_signatures.specs.Answers as answers;
 ghost use Rattle.fast_check_signatures.specs.Functions.{or_own, function_head, arrow_head};
 
@@ -59,7 +60,9 @@ fn retyped_arrow(
     is_async: bool,
     return_type: Tree,
 ) -> Result<Tree, AllocError>
-    ensures { IfOk result (λ tree. tree ≡ arrow_expr (ArrowExpr-span (seen arrow.entry)) (ArrowExpr-ctxt (seen arrow.entry)) (list params) body is_async (ArrowExpr-is_generator (seen arrow.entry)) (ArrowExpr-type_params (seen arrow.entry)) return_type) }
+    ensures { IfOk result (λ tree. tree ≡
+        arrow_expr (ArrowExpr-span (seen arrow.entry)) (ArrowExpr-ctxt (seen arrow.entry)) (list params) body is_async
+        (ArrowExpr-is_generator (seen arrow.entry)) (ArrowExpr-type_params (seen arrow.entry)) return_type) }
 {
     let arrow = ArrowExpr::of(arrow);
     ArrowExpr {

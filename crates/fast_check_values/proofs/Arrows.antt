@@ -1,5 +1,5 @@
 -- What is added by an arrow: its return type where it is known, or else its value, and its parameters.
-use Rattle.std.specs.Prelude.{◌≡◌, Bool, true, false, Option, Some, None, List, [], ◌++◌, option_map, unwrap_or, refl, if◌then◌else◌}
+use Rattle.std.specs.Prelude.{◌≡◌, Bool, true, false, Option, Some, None, List, ◌++◌, option_map, unwrap_or, refl, if◌then◌else◌}
 use Rattle.std.proofs.Common.{ap, ◌∙◌, sym, subst, append-nil}
 use Rattle.fast_check_syntax.specs.declared.kind.Kind.TheVariants as kinds
 use Rattle.fast_check_syntax.specs.declared.source.SourceRange.{SourceRange}
@@ -16,9 +16,10 @@ use Rattle.fast_check_signatures.specs.declared.function_kind.FunctionKind.TheVa
 use Rattle.fast_check_signatures.specs.Seen.{Seen, written}
 use Rattle.fast_check_signatures.specs.NewNodes.{promised}
 use Rattle.fast_check_signatures.specs.Parameters.{pats_seen}
-use Rattle.fast_check_signatures.specs.Functions.{return_type_missing, class_seen, or_own, arrow_head, typed_arrow_seen, valued_arrow_seen, by_value, arrow_seen}
+use Rattle.fast_check_signatures.specs.Functions.{return_type_missing, class_seen, or_own, arrow_head, typed_arrow_seen, valued_arrow_seen, by_value}
+use Rattle.fast_check_signatures.specs.Functions.{arrow_seen}
 use Rattle.fast_check_signatures.specs.Expressions.{expr_seen}
-use Rattle.fast_check_signatures.specs.Answers.{Answer, Adds, fault_at, answer_to, answer_of, demanded, settled, signed_arrow, kept_arrow}
+use Rattle.fast_check_signatures.specs.Answers.{Adds, fault_at, answer_to, answer_of, demanded, settled, signed_arrow, kept_arrow}
 use Rattle.fast_check_signatures.proofs.Adding.{adds_same, adds_joined}
 use Rattle.fast_check_values.specs.Looked.{known_type, known_answer}
 
@@ -45,7 +46,8 @@ module _ (unresolved : SyntaxContext) (own : Option SourceRange) (t : Tree) wher
       go : (absent block : Bool) (shown : Option Tree) →
           (if absent then (if block then typed_arrow_seen t pats by_class else by_value unresolved (expr_seen unresolved) t at pats shown)
           else typed_arrow_seen t pats (written (ArrowExpr-return_type t))) ≡
-          by_known (if absent then (if block then Some by_class else option_map (λ ty. written (type_ann (promised unresolved (ArrowExpr-is_async t) ty))) shown)
+          by_known (if absent then (if block then Some by_class else option_map (λ ty. written (type_ann (promised unresolved (ArrowExpr-is_async t) ty)))
+          shown)
           else Some (written (ArrowExpr-return_type t)))
       go true true shown = refl
       go true false (Some ty) = refl
@@ -56,11 +58,13 @@ module _ (unresolved : SyntaxContext) (own : Option SourceRange) (t : Tree) wher
   missing = fault_at (return_type_missing false (ArrowExpr-is_async t)) at
 
   module _ {old mid : List Fault} where
-    pub arrow_known : {type : Tree} {items : List Tree} {new : List Fault} → Adds (known_answer (known_type unresolved at t)) (Some type) old mid → Adds (answer_of pats) items mid new →
+    pub arrow_known : {type : Tree} {items : List Tree} {new : List Fault} → Adds (known_answer (known_type unresolved at t)) (Some type) old mid →
+        Adds (answer_of pats) items mid new →
         Adds (answer_to seen_arrow) (Some (signed_arrow (arrow_head t) type items)) old new
     arrow_known {type = type} {items = items} {new = new} g h = adds_same (ap answer_to arrow_is) (go (known_type unresolved at t) g)
       where
-        go : (known : Option Seen) → Adds (known_answer known) (Some type) old mid → Adds (answer_to (by_known known)) (Some (signed_arrow (arrow_head t) type items)) old new
+        go : (known : Option Seen) → Adds (known_answer known) (Some type) old mid →
+            Adds (answer_to (by_known known)) (Some (signed_arrow (arrow_head t) type items)) old new
         go None g = let e : None ≡ Some type = ap (λ a. a.stays) g.is in cc
         go (Some s) g = adds_joined (λ type ps. Some (signed_arrow (arrow_head t) type ps)) (type_known s g) h
           where
@@ -72,7 +76,8 @@ module _ (unresolved : SyntaxContext) (own : Option SourceRange) (t : Tree) wher
         Adds (answer_to seen_arrow) (Some (kept_arrow (arrow_head t) (ArrowExpr-is_async t) value items)) old new
     arrow_valued {value = value} {items = items} {new = new} g v h = adds_same (ap answer_to arrow_is) (go (known_type unresolved at t) g)
       where
-        go : (known : Option Seen) → Adds (known_answer known) None old mid → Adds (answer_to (by_known known)) (Some (kept_arrow (arrow_head t) (ArrowExpr-is_async t) value items)) old new
+        go : (known : Option Seen) → Adds (known_answer known) None old mid →
+            Adds (answer_to (by_known known)) (Some (kept_arrow (arrow_head t) (ArrowExpr-is_async t) value items)) old new
         go (Some s) g = let e : Some (unwrap_or (answer_to s).stays Absent) ≡ None = ap (λ a. a.stays) g.is in cc
         go None g = subst (λ fs. Adds (answer_to (by_known None)) (Some (kept_arrow (arrow_head t) (ArrowExpr-is_async t) value items)) fs new)
             (g.faults ∙ (ap (λ a. old ++ a.faults) (sym g.is) ∙ append-nil old))

@@ -1,6 +1,6 @@
 -- What a loop adds: what all give is what the rest gives, behind what was given so far.
 use Rattle.std.specs.Prelude.{◌≡◌, Option, Some, None, List, [], ◌∷◌, ◌++◌, refl, option_map}
-use Rattle.std.proofs.Common.{ap, ap₂, ◌∙◌, sym, append-nil, append_assoc}
+use Rattle.std.proofs.Common.{ap, ◌∙◌, sym, append-nil, append_assoc}
 use Rattle.fast_check_syntax.specs.declared.tree.Tree.{Tree}
 use Rattle.fast_check_signatures.specs.declared.fault.Fault.{Fault}
 use Rattle.fast_check_signatures.specs.Answers.{Answer, Adds, faultless, joined, visited, with_tree}
@@ -14,14 +14,16 @@ pub record Behind {A : Type 0} (put : A → A) (all rest : Answer A) (old new : 
 abbrev pub behind : List Tree → Option (List Tree) → Option (List Tree)
 behind items more = option_map (λ ts. items ++ ts) more
 
-pub behind_along : {A : Type 0} {put : A → A} {all first rest : Answer A} {old new : List Fault} → first ≡ rest → Behind put all first old new → Behind put all rest old new
+pub behind_along : {A : Type 0} {put : A → A} {all first rest : Answer A} {old new : List Fault} → first ≡ rest → Behind put all first old new →
+    Behind put all rest old new
 behind_along {put = put} e h = record {
   added = h.added;
   is = h.is ∙ ap (λ x. record { stays = put x.stays; faults = h.added ++ x.faults }) e;
   faults = h.faults;
 }
 
-pub items_are : {items more : List Tree} {all rest : Answer (Option (List Tree))} {old new : List Fault} → items ≡ more → Behind (behind items) all rest old new → Behind (behind more) all rest old new
+pub items_are : {items more : List Tree} {all rest : Answer (Option (List Tree))} {old new : List Fault} → items ≡ more →
+    Behind (behind items) all rest old new → Behind (behind more) all rest old new
 items_are {rest = rest} e h = record {
   added = h.added;
   is = h.is ∙ ap (λ ts. record { stays = behind ts rest.stays; faults = h.added ++ rest.faults }) e;
@@ -33,7 +35,8 @@ pub adds_given : {A : Type 0} {a : Answer A} {x y : A} {old new : List Fault} �
 adds_given e h = record { added = h.added; is = h.is ∙ ap (λ s. record { stays = s; faults = h.added }) e; faults = h.faults }
 
 -- one call more
-steps : {A : Type 0} {put after : A → A} {all rest : Answer A} (first : Answer A) {old mid new : List Fault} (fs : List Fault) → Behind put all first old mid →
+steps : {A : Type 0} {put after : A → A} {all rest : Answer A} (first : Answer A) {old mid new : List Fault} (fs : List Fault) →
+    Behind put all first old mid →
     first.faults ≡ fs ++ rest.faults → put first.stays ≡ after rest.stays → new ≡ mid ++ fs → Behind after all rest old new
 steps {rest = rest} first {old = old} fs h p q e = record {
   added = h.added ++ fs;
@@ -54,12 +57,14 @@ one_behind : (items : List Tree) (t : Tree) (o : Option (List Tree)) → behind 
 one_behind items t None = refl
 one_behind items t (Some ts) = ap Some (sym (append_assoc items (t ∷ []) ts))
 
-pub parts_step : (items : List Tree) (t : Tree) {all : Answer (Option (List Tree))} (a : Answer (Option Tree)) (rest : Answer (Option (List Tree))) {old mid new : List Fault} →
+pub parts_step : (items : List Tree) (t : Tree) {all : Answer (Option (List Tree))} (a : Answer (Option Tree)) (rest : Answer (Option (List Tree)))
+    {old mid new : List Fault} →
     Behind (behind items) all (visited a rest) old mid → Adds a (Some t) mid new → Behind (behind (items ++ t ∷ [])) all rest old new
 parts_step items t a rest h g = steps (visited a rest) g.added h (ap (λ x. (visited x rest).faults) g.is)
     (ap (λ x. behind items (visited x rest).stays) g.is ∙ one_behind items t rest.stays) g.faults
 
-pub parts_refused : (items : List Tree) {all : Answer (Option (List Tree))} (a : Answer (Option Tree)) (rest : Answer (Option (List Tree))) {old mid new : List Fault} →
+pub parts_refused : (items : List Tree) {all : Answer (Option (List Tree))} (a : Answer (Option Tree)) (rest : Answer (Option (List Tree)))
+    {old mid new : List Fault} →
     Behind (behind items) all (visited a rest) old mid → Adds a None mid new → Adds all None old new
 parts_refused items a rest {old = old} h g = record {
   added = h.added ++ g.added;
@@ -67,7 +72,8 @@ parts_refused items a rest {old = old} h g = record {
   faults = g.faults ∙ (ap (λ gs. gs ++ g.added) h.faults ∙ append_assoc old h.added g.added);
 }
 
-pub parts_end : (items : List Tree) {all : Answer (Option (List Tree))} {old new : List Fault} → Behind (behind items) all (faultless (Some [])) old new → Adds all (Some items) old new
+pub parts_end : (items : List Tree) {all : Answer (Option (List Tree))} {old new : List Fault} → Behind (behind items) all (faultless (Some [])) old new →
+    Adds all (Some items) old new
 parts_end items h = record {
   added = h.added;
   is = h.is ∙ (λ i. record { stays = Some (append-nil items i); faults = append-nil h.added i });
@@ -84,7 +90,8 @@ pub items_step : (items : List Tree) (t : Tree) {all : Answer (List Tree)} (a : 
 items_step items t a rest h g = steps (joined with_tree a rest) g.added h (ap (λ x. x.faults ++ rest.faults) g.is)
     (ap (λ x. items ++ with_tree x.stays rest.stays) g.is ∙ sym (append_assoc items (t ∷ []) rest.stays)) g.faults
 
-pub items_end : (items : List Tree) {all : Answer (List Tree)} {old new : List Fault} → Behind (λ ts. items ++ ts) all (faultless []) old new → Adds all items old new
+pub items_end : (items : List Tree) {all : Answer (List Tree)} {old new : List Fault} → Behind (λ ts. items ++ ts) all (faultless []) old new →
+    Adds all items old new
 items_end items h = record {
   added = h.added;
   is = h.is ∙ (λ i. record { stays = append-nil items i; faults = append-nil h.added i });

@@ -17,7 +17,8 @@ use denote.Param.Members.{Mut}
 use denote.Ref.{Bor}
 
 pub mapped_slice : {A F R C : Type 0} {g : Mut F (Bor A × Unit {0}) R} (s : Map (Iter A) F) (items : List R) → Drains (maps fronts g) s items →
-    (w : R → C) (h : A → C) (xs : List A) → iter_rest (map_source s) ≡ xs → ((x : Bor A) (r : R) (q : F) → Called g (map_callee s) (x, tt) r q → (q ≡ map_callee s) × (w r ≡ h x.now)) →
+    (w : R → C) (h : A → C) (xs : List A) → iter_rest (map_source s) ≡ xs →
+    ((x : Bor A) (r : R) (q : F) → Called g (map_callee s) (x, tt) r q → (q ≡ map_callee s) × (w r ≡ h x.now)) →
     map w items ≡ map h xs
 mapped_slice {g = g} s items drains w h xs rest calls =
     gives_Drains (maps fronts g) w items _ s (YieldsList-from_map_by g w h (YieldsList-from_slice xs rest) refl calls).runs drains
@@ -25,4 +26,5 @@ mapped_slice {g = g} s items drains w h xs rest calls =
 -- the start of the optional patterns, said of the parameters that have them
 pub start_of_params : (start : Option ℕ) (params : List Tree) → IsOptionalStart start (patterns params) → IsStartOfParams start params
 start_of_params start params says place h =
-    says place (subst (λ n. place < n) (sym (length-map params (λ p. Param-pat p))) h) ∙ ap (list_all is_optional_param) (drop-map (λ p. Param-pat p) place params)
+    says place (subst (λ n. place < n) (sym (length-map params (λ p. Param-pat p))) h) ∙ ap (list_all is_optional_param)
+    (drop-map (λ p. Param-pat p) place params)

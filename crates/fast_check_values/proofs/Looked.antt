@@ -1,5 +1,5 @@
 -- What is seen of expressions and of defaults, by what the code asks of them.
-use Rattle.std.specs.Prelude.{◌≡◌, ℕ, ◌+◌, ◌<◌, suc, Bool, true, false, Option, Some, None, List, [], ◌∷◌, map, drop, length, option_map, refl, if◌then◌else◌}
+use Rattle.std.specs.Prelude.{◌≡◌, ℕ, ◌+◌, ◌<◌, Bool, true, false, Option, Some, None, List, map, drop, length, option_map, refl, if◌then◌else◌}
 use Rattle.std.proofs.Common.{ap, ◌∙◌, sym, get_or, add-one}
 use Rattle.std.proofs.Math.Seq.{drop-cons}
 use Rattle.fast_check_syntax.specs.declared.kind.Kind.{Kind}
@@ -8,17 +8,20 @@ use Rattle.fast_check_syntax.specs.declared.source.SourceRange.{SourceRange}
 use Rattle.fast_check_syntax.specs.declared.source.SyntaxContext.{SyntaxContext}
 use Rattle.fast_check_syntax.specs.declared.tree.Tree.{Tree}
 use Rattle.fast_check_syntax.specs.Shape.{◌is◌, kind_of, part, parts, is_absent}
-use Rattle.fast_check_expression_forms.specs.Patterns.{AssignPat-left, AssignPat-right}
+use Rattle.fast_check_expression_forms.specs.Patterns.{AssignPat-span, AssignPat-left, AssignPat-right}
 use Rattle.fast_check_program_forms.specs.Names.{BindingIdent-id, BindingIdent-type_ann}
 use Rattle.fast_check_tree.specs.declared.helpers.literal_type.DeclMutabilityKind.TheVariants.{Mutable}
 use Rattle.fast_check_tree.specs.Builders.{type_ann}
 use Rattle.fast_check_tree.specs.InferredType.{inferred_type}
 use Rattle.fast_check_signatures.specs.declared.rules.Slot.{Slot}
-use Rattle.fast_check_signatures.specs.Seen.{Seen, written, round, refused, seens}
+use Rattle.fast_check_signatures.specs.Seen.{Seen, written, faulty, round, refused, seens}
 use Rattle.fast_check_signatures.specs.Functions.{arrow_seen}
-use Rattle.fast_check_signatures.specs.Expressions.{is_compound, is_plain, freezes, Rule, whole, parted, slotted, arrow, not_at_all, other_rule, rule, by_rule, slot_seen, slots_seen, expr_seen}
+use Rattle.fast_check_signatures.specs.Expressions.{is_compound, is_plain, freezes, Rule, whole, parted, slotted, arrow, not_at_all, other_rule, rule}
+use Rattle.fast_check_signatures.specs.Expressions.{by_rule, slot_seen, slots_seen, expr_seen}
 use Rattle.fast_check_signatures.specs.Answers.{answer_to, parts_answer, visited}
-use Rattle.fast_check_signatures.specs.Parameters.{without_default, by_shown, assign_seen}
+use Rattle.fast_check_signatures.specs.Parameters.{without_default, by_shown, assign_by_left, assign_seen, pat_by_kind, pat_seen}
+use Rattle.fast_check_signatures.specs.declared.fault.FaultKind.TheVariants.{UnsupportedDestructuring}
+use Rattle.fast_check_ranges.specs.Ranges.{range_of_node}
 use Rattle.fast_check_signatures.proofs.Looks.{expr_seen_is}
 use Rattle.fast_check_new_nodes.specs.Rows.{row_in, row_of}
 use Rattle.fast_check_new_nodes.specs.Shown.{default_type}
@@ -67,7 +70,8 @@ module _ (unresolved : SyntaxContext) (t : Tree) (place : Option SourceRange) wh
   abbrev other : Rule
   other = other_rule (kind_of t) (freezes unresolved t)
 
-  pub seen_parted : is_compound (kind_of t) ≡ true → expr_seen unresolved t place ≡ round (kind_of t) (seens (map (λ p. expr_seen unresolved p None) (parts t)))
+  pub seen_parted : is_compound (kind_of t) ≡ true →
+      expr_seen unresolved t place ≡ round (kind_of t) (seens (map (λ p. expr_seen unresolved p None) (parts t)))
   seen_parted e = expr_seen_is unresolved t place ∙ ap (λ b. by (if b then parted else (if is_plain (kind_of t) then whole else other))) e
 
   uncompounded : is_compound (kind_of t) ≡ false → expr_seen unresolved t place ≡ by (if is_plain (kind_of t) then whole else other)
@@ -82,11 +86,13 @@ module _ (unresolved : SyntaxContext) (t : Tree) (place : Option SourceRange) wh
   pub seen_arrow : kind_of t ≡ kinds.ArrowExpr → expr_seen unresolved t place ≡ arrow_seen unresolved (expr_seen unresolved) place t
   seen_arrow e = expr_seen_is unresolved t place ∙ ap (λ k. by_rule unresolved (rule k (freezes unresolved t)) k t (expr_seen unresolved) place) e
 
-  pub seen_slotted : (row : List Slot) → is_compound (kind_of t) ≡ false → is_plain (kind_of t) ≡ false → row_of (kind_of t) (freezes unresolved t) ≡ Some row →
+  pub seen_slotted : (row : List Slot) → is_compound (kind_of t) ≡ false → is_plain (kind_of t) ≡ false →
+      row_of (kind_of t) (freezes unresolved t) ≡ Some row →
       expr_seen unresolved t place ≡ round (kind_of t) (seens (slots_seen unresolved row 0 t (expr_seen unresolved) place))
   seen_slotted row e p r = unplain e p ∙ ap by (slotted_by other row r)
 
-  pub seen_refused : is_compound (kind_of t) ≡ false → is_plain (kind_of t) ≡ false → row_of (kind_of t) (freezes unresolved t) ≡ None → (kind_of t ≡ kinds.ArrowExpr → ⊥) →
+  pub seen_refused : is_compound (kind_of t) ≡ false → is_plain (kind_of t) ≡ false → row_of (kind_of t) (freezes unresolved t) ≡ None →
+      (kind_of t ≡ kinds.ArrowExpr → ⊥) →
       expr_seen unresolved t place ≡ refused
   seen_refused e p r n = unplain e p ∙ ap by (refused_by (kind_of t) (freezes unresolved t) r n)
 
@@ -96,7 +102,8 @@ module _ (unresolved : SyntaxContext) (b : Bool) (t : Tree) where
   abbrev typed_ident : Tree → Seen
   typed_ident type = written (without_default b (BindingIdent-id (AssignPat-left t)) type)
 
-  ident_typed : (type : Tree) (absent : Bool) (shown : Option Tree) → (if absent then option_map type_ann shown else Some (BindingIdent-type_ann (AssignPat-left t))) ≡ Some type →
+  ident_typed : (type : Tree) (absent : Bool) (shown : Option Tree) →
+      (if absent then option_map type_ann shown else Some (BindingIdent-type_ann (AssignPat-left t))) ≡ Some type →
       (if absent then by_shown unresolved (expr_seen unresolved) b t shown else typed_ident (BindingIdent-type_ann (AssignPat-left t))) ≡ typed_ident type
   ident_typed type true (Some shown) d = ap typed_ident cc
   ident_typed type true None d = cc
@@ -104,4 +111,27 @@ module _ (unresolved : SyntaxContext) (b : Bool) (t : Tree) where
 
   pub seen_known : (type : Tree) → kind_of (AssignPat-left t) ≡ kinds.BindingIdent → default_type unresolved t ≡ Some type →
       assign_seen unresolved (expr_seen unresolved) b t ≡ written (without_default b (BindingIdent-id (AssignPat-left t)) type)
-  seen_known type e d = rw e (ident_typed type (is_absent (BindingIdent-type_ann (AssignPat-left t))) (inferred_type Mutable unresolved (AssignPat-right t)) d)
+  seen_known type e d = rw e (ident_typed type (is_absent (BindingIdent-type_ann (AssignPat-left t)))
+      (inferred_type Mutable unresolved (AssignPat-right t)) d)
+
+-- ---- patterns of other kinds
+
+module _ (unresolved : SyntaxContext) (b : Bool) (t : Tree) where
+  pub seen_by_kind : (k : Kind) → kind_of t ≡ k → pat_seen unresolved (expr_seen unresolved) b t ≡ pat_by_kind unresolved (expr_seen unresolved) k b t
+  seen_by_kind k e = ap (λ k. pat_by_kind unresolved (expr_seen unresolved) k b t) e
+
+  pub other_pat : (k : Kind) → (k ≡ kinds.BindingIdent → ⊥) → (k ≡ kinds.AssignPat → ⊥) → (k ≡ kinds.RestPat → ⊥) → (k ≡ kinds.ArrayPat → ⊥) →
+      (k ≡ kinds.ObjectPat → ⊥) → pat_by_kind unresolved (expr_seen unresolved) k b t ≡ faulty UnsupportedDestructuring (range_of_node t)
+  other_pat kinds.BindingIdent n1 n2 n3 n4 n5 = absurd (n1 refl)
+  other_pat kinds.AssignPat n1 n2 n3 n4 n5 = absurd (n2 refl)
+  other_pat kinds.RestPat n1 n2 n3 n4 n5 = absurd (n3 refl)
+  other_pat kinds.ArrayPat n1 n2 n3 n4 n5 = absurd (n4 refl)
+  other_pat kinds.ObjectPat n1 n2 n3 n4 n5 = absurd (n5 refl)
+  other_pat _ n1 n2 n3 n4 n5 = refl
+
+  pub other_left : (k : Kind) → (k ≡ kinds.BindingIdent → ⊥) → (k ≡ kinds.ArrayPat → ⊥) → (k ≡ kinds.ObjectPat → ⊥) →
+      assign_by_left unresolved (expr_seen unresolved) k b t ≡ faulty UnsupportedDestructuring (AssignPat-span t)
+  other_left kinds.BindingIdent n1 n2 n3 = absurd (n1 refl)
+  other_left kinds.ArrayPat n1 n2 n3 = absurd (n2 refl)
+  other_left kinds.ObjectPat n1 n2 n3 = absurd (n3 refl)
+  other_left _ n1 n2 n3 = refl

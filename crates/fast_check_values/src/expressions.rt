@@ -49,7 +49,9 @@ fn leave_parts(
     expr: Part<'_>,
     faults: &mut Vec<Fault>,
 ) -> Result<Option<Tree>, AllocError>
-    ensures { IfOk result (λ tree. Adds (answer_to (round (kind_of (seen expr.entry)) (seens (map (λ p. expr_seen unresolved p None) (parts (seen expr.entry)))))) tree faults.old.items faults.new.items) }
+    ensures { IfOk result (λ tree.
+        Adds (answer_to (round (kind_of (seen expr.entry)) (seens (map (λ p. expr_seen unresolved p None) (parts (seen expr.entry))))))
+        tree faults.old.items faults.new.items) }
 {
     let mut items = Items::new(alloc);
     for part in expr.parts() {
@@ -71,7 +73,9 @@ fn leave_slots(
     place: Option<SourceRange>,
     faults: &mut Vec<Fault>,
 ) -> Result<Option<Tree>, AllocError>
-    ensures { IfOk result (λ tree. Adds (answer_to (round (kind_of (seen expr.entry)) (seens (slots_seen unresolved row.now 0 (seen expr.entry) (expr_seen unresolved) place)))) tree faults.old.items faults.new.items) }
+    ensures { IfOk result (λ tree.
+        Adds (answer_to (round (kind_of (seen expr.entry)) (seens (slots_seen unresolved row.now 0 (seen expr.entry) (expr_seen unresolved) place))))
+        tree faults.old.items faults.new.items) }
 {
     let mut stay = Items::new(alloc);
     for (index, slot) in row.iter().enumerate() {
@@ -93,7 +97,8 @@ fn leave_slot(
     place: Option<SourceRange>,
     faults: &mut Vec<Fault>,
 ) -> Result<Option<Tree>, AllocError>
-    ensures { IfOk result (λ tree. Adds (answer_to (slot_seen unresolved slot (seen part.entry) (expr_seen unresolved) place)) tree faults.old.items faults.new.items) }
+    ensures { IfOk result (λ tree. Adds (answer_to (slot_seen unresolved slot (seen part.entry) (expr_seen unresolved) place)) tree
+        faults.old.items faults.new.items) }
 {
     match slot {
         Slot::Span => Ok(Some(Tree::Range(part.range()))),

@@ -147,7 +147,8 @@ pub fn transform_fn(
     function: Part<'_>,
     faults: &mut Vec<Fault>,
 ) -> Result<Tree, AllocError>
-    ensures { IfOk result (λ tree. Adds (answer_to (function_seen unresolved (expr_seen unresolved) kind place (seen function.entry))) (Some tree) faults.old.items faults.new.items) }
+    ensures { IfOk result (λ tree. Adds (answer_to (function_seen unresolved (expr_seen unresolved) kind place (seen function.entry))) (Some tree)
+        faults.old.items faults.new.items) }
 {
     let return_type = return_type(alloc, kind, place, function, faults)?;
     let params = transform_params(alloc, unresolved, Function::of(function).params, faults)?;
@@ -165,7 +166,8 @@ pub fn transform_arrow(
     place: Option<SourceRange>,
     faults: &mut Vec<Fault>,
 ) -> Result<Tree, AllocError>
-    ensures { IfOk result (λ tree. Adds (answer_to (arrow_seen unresolved (expr_seen unresolved) place (seen arrow.entry))) (Some tree) faults.old.items faults.new.items) }
+    ensures { IfOk result (λ tree. Adds (answer_to (arrow_seen unresolved (expr_seen unresolved) place (seen arrow.entry))) (Some tree)
+        faults.old.items faults.new.items) }
 {
     let form = ArrowExpr::of(arrow);
     let place = or_own(place, form.span);

@@ -90,7 +90,8 @@ pub fn transform_pats(
     params: Part<'_>,
     faults: &mut Vec<Fault>,
 ) -> Result<Items<Tree>, AllocError>
-    ensures { IfOk result (λ items. Adds (answer_of (pats_seen unresolved (expr_seen unresolved) (parts (seen params.entry)))) items faults.old.items faults.new.items) }
+    ensures { IfOk result (λ items. Adds (answer_of (pats_seen unresolved (expr_seen unresolved) (parts (seen params.entry)))) items
+        faults.old.items faults.new.items) }
 {
     let pats = params.parts();
     let start = start_of_patterns(pats);
@@ -135,7 +136,8 @@ pub fn transform_param_pat(
     pat: Part<'_>,
     faults: &mut Vec<Fault>,
 ) -> Result<Tree, AllocError>
-    ensures { IfOk result (λ tree. Adds (answer_to (pat_seen unresolved (expr_seen unresolved) is_optional (seen pat.entry))) (Some tree) faults.old.items faults.new.items) }
+    ensures { IfOk result (λ tree. Adds (answer_to (pat_seen unresolved (expr_seen unresolved) is_optional (seen pat.entry))) (Some tree)
+        faults.old.items faults.new.items) }
 {
     match pat.kind() {
         Kind::BindingIdent => {
@@ -165,7 +167,8 @@ fn transform_assign_pat(
     pat: Part<'_>,
     faults: &mut Vec<Fault>,
 ) -> Result<Tree, AllocError>
-    ensures { IfOk result (λ tree. Adds (answer_to (assign_seen unresolved (expr_seen unresolved) is_optional (seen pat.entry))) (Some tree) faults.old.items faults.new.items) }
+    ensures { IfOk result (λ tree. Adds (answer_to (assign_seen unresolved (expr_seen unresolved) is_optional (seen pat.entry))) (Some tree)
+        faults.old.items faults.new.items) }
 {
     let AssignPat { span, left, .. } = AssignPat::of(pat);
     match left.kind() {
@@ -208,7 +211,9 @@ fn leave_default(
     place: SourceRange,
     faults: &mut Vec<Fault>,
 ) -> Result<Tree, AllocError>
-    ensures { IfOk result (λ tree. Adds (answer_to (default_seen (AssignPat-span (seen pat.entry)) place left (expr_seen unresolved (AssignPat-right (seen pat.entry)) parent))) (Some tree) faults.old.items faults.new.items) }
+    ensures { IfOk result (λ tree.
+        Adds (answer_to (default_seen (AssignPat-span (seen pat.entry)) place left (expr_seen unresolved (AssignPat-right (seen pat.entry)) parent)))
+        (Some tree) faults.old.items faults.new.items) }
 {
     let fault = Fault {
         kind: FaultKind::MissingExplicitType,

@@ -1,26 +1,30 @@
-use Rattle.std.proofs.Common.{arith, ◌≡◌, ◌<◌, length, get_or, true, false, Option, Some, None, List, [], ◌∷◌, ◌++◌, sym, ap, ◌∙◌, subst, map, option_map, option_copied}
+use Rattle.std.proofs.Common.{arith, ◌≡◌, ◌<◌, length, get_or, true, false, Some, None, List, sym, ap, ◌∙◌, map}
+use Rattle.std.proofs.Common.{option_map, option_copied}
+use Rattle.std.proofs.lemmas.Grind.{common_steps}
 use Rattle.std.proofs.lemmas.Result.{IfOk-weaker}
 use Rattle.fast_check_syntax.specs.declared.kind.Kind.TheVariants as kinds
 use Rattle.fast_check_syntax.specs.declared.source.SourceRange.{SourceRange}
 use Rattle.fast_check_syntax.specs.declared.tree.Tree.{Tree}
 use Rattle.fast_check_syntax.specs.Part.{seen}
-use Rattle.fast_check_syntax.specs.Shape.{◌is◌, is_kind, kind_of, parts, node}
+use Rattle.fast_check_syntax.specs.Shape.{is_kind, kind_of, parts, node}
 use Rattle.fast_check_syntax.specs.Height.{height_part, height_read, height_at_most}
 use Rattle.fast_check_program_forms.specs.Names.{BindingIdent-id}
 use Rattle.fast_check_expression_forms.specs.Expressions.{ArrowExpr-span}
 use Rattle.fast_check_expression_forms.specs.Patterns.{AssignPat-left}
 use Rattle.fast_check_signatures.specs.declared.rules.Slot.TheVariants as slots
-use Rattle.fast_check_signatures.specs.Seen.{seens}
-use Rattle.fast_check_signatures.specs.Answers.{Adds, fault_at, answer_to, answer_of, parts_answer, demanded, faultless}
+use Rattle.fast_check_signatures.specs.Seen.{faulty, seens}
+use Rattle.fast_check_signatures.specs.declared.fault.FaultKind.TheVariants.{UnsupportedDestructuring}
+use Rattle.fast_check_signatures.specs.Answers.{fault_at, answer_to, answer_of, parts_answer, demanded, faultless}
 use Rattle.fast_check_signatures.specs.Expressions.{is_plain, is_compound, expr_seen, slot_seen}
 use Rattle.fast_check_signatures.specs.Functions.{or_own, return_type_missing}
 use Rattle.fast_check_signatures.specs.Parameters.{without_default, pats_seen}
 use Rattle.fast_check_signatures.proofs.Adding.{adds_same, adds_nothing, adds_made}
 use Rattle.fast_check_new_nodes.specs.Shown.{default_type}
 use Rattle.fast_check_values.specs.Looked.{known_type, known_answer}
-use Rattle.fast_check_values.proofs.Behind.{Behind, behind, behind_along, items_are, adds_given, parts_step, parts_refused}
+use Rattle.fast_check_values.proofs.Behind.{behind_along, items_are, adds_given, parts_step, parts_refused}
 use Rattle.fast_check_values.proofs.Heights.{height_less}
-use Rattle.fast_check_values.proofs.Looked.{not_leaf, not_arrow, seen_parted, seen_whole, seen_arrow, seen_slotted, seen_refused, seen_known, next_part, next_slot}
+use Rattle.fast_check_values.proofs.Looked.{not_leaf, not_arrow, seen_parted, seen_whole, seen_arrow, seen_slotted, seen_refused, seen_known}
+use Rattle.fast_check_values.proofs.Looked.{next_part, next_slot, seen_by_kind, other_pat, other_left}
 use Rattle.fast_check_values.proofs.Arrows.{arrow_known, arrow_valued}
 use Rattle.fast_check_values.proofs.+leave.Goals as goal
 
@@ -28,15 +32,18 @@ use Rattle.fast_check_values.proofs.+leave.Goals as goal
 
 pub expressions::leave_expr-returns-then-contains : goal.expressions::leave_expr-returns-then-contains
 expressions::leave_expr-returns-then-contains t c =
-    let compound : is_compound (kind_of (seen c.args.expr)) ≡ true = sym (c.contains.ensures.value ∙ ap is_compound c.kind-kind.ensures) ∙ c.if-contains.true in
-    IfOk-weaker c.leave_parts.result _ _ (λ tree h. adds_same (ap answer_to (seen_parted c.args.unresolved (seen c.args.expr) c.args.place compound)) h) c.leave_parts.ensures
+    let compound : is_compound (kind_of (seen c.args.expr)) ≡ true = sym (c.contains.ensures.value ∙ ap is_compound c.kind-kind.ensures) ∙
+    c.if-contains.true in
+    IfOk-weaker c.leave_parts.result _ _ (λ tree h. adds_same (ap answer_to (seen_parted c.args.unresolved (seen c.args.expr) c.args.place compound)) h)
+    c.leave_parts.ensures
 
 pub expressions::leave_expr-returns-then-contains-2 : goal.expressions::leave_expr-returns-then-contains-2
 expressions::leave_expr-returns-then-contains-2 t c =
     let k = c.kind-kind.ensures in
     let compound : is_compound (kind_of (seen c.args.expr)) ≡ false = sym (c.contains.ensures.value ∙ ap is_compound k) ∙ c.if-contains.false in
     let plain : is_plain (kind_of (seen c.args.expr)) ≡ true = sym (c.contains-2.ensures.value ∙ ap is_plain k) ∙ c.if-contains-2.true in
-    adds_same (ap answer_to (seen_whole c.args.unresolved (seen c.args.expr) c.args.place compound plain) ∙ ap (λ (x : Tree). faultless (Some x)) (sym c.in_ok-to_tree.ensures))
+    adds_same (ap answer_to (seen_whole c.args.unresolved (seen c.args.expr) c.args.place compound plain) ∙ ap (λ (x : Tree). faultless (Some x))
+    (sym c.in_ok-to_tree.ensures))
     (adds_nothing (Some c.in_ok-to_tree.field-0) c.args.faults.now.items)
 
 pub expressions::leave_expr-transform_arrow-requires : goal.expressions::leave_expr-transform_arrow-requires
@@ -46,7 +53,8 @@ expressions::leave_expr-transform_arrow-requires t c =
 
 pub expressions::leave_expr-returns-then-eq : goal.expressions::leave_expr-returns-then-eq
 expressions::leave_expr-returns-then-eq t c =
-    let arrow : kind_of (seen c.args.expr) ≡ kinds.ArrowExpr = sym c.kind-kind.ensures ∙ is_kind c.kind-kind.result kinds.ArrowExpr (sym c.eq.ensures ∙ c.if-eq.true) in
+    let arrow : kind_of (seen c.args.expr) ≡ kinds.ArrowExpr = sym c.kind-kind.ensures ∙ is_kind c.kind-kind.result kinds.ArrowExpr
+    (sym c.eq.ensures ∙ c.if-eq.true) in
     adds_same (ap answer_to (seen_arrow c.args.unresolved (seen c.args.expr) c.args.place arrow)) c.in_ok-transform_arrow.ensures
 
 pub expressions::leave_expr-leave_slots-requires : goal.expressions::leave_expr-leave_slots-requires
@@ -61,7 +69,8 @@ expressions::leave_expr-returns-in-Some t c =
     let plain : is_plain (kind_of (seen c.args.expr)) ≡ false = sym (c.contains-2.ensures.value ∙ ap is_plain k) ∙ c.if-contains-2.false in
     let row = sym c.row_of.ensures ∙ ap option_copied c.in-Some.is in
     IfOk-weaker c.leave_slots.result _ _
-    (λ tree h. adds_same (ap answer_to (seen_slotted c.args.unresolved (seen c.args.expr) c.args.place c.in-Some.row.now compound plain row)) h) c.leave_slots.ensures
+    (λ tree h. adds_same (ap answer_to (seen_slotted c.args.unresolved (seen c.args.expr) c.args.place c.in-Some.row.now compound plain row)) h)
+    c.leave_slots.ensures
 
 pub expressions::leave_expr-returns-in-None : goal.expressions::leave_expr-returns-in-None
 expressions::leave_expr-returns-in-None t c =
@@ -70,7 +79,8 @@ expressions::leave_expr-returns-in-None t c =
     let plain : is_plain (kind_of (seen c.args.expr)) ≡ false = sym (c.contains-2.ensures.value ∙ ap is_plain k) ∙ c.if-contains-2.false in
     let row = sym c.row_of.ensures ∙ ap option_copied c.in-None.is in
     let arrow = λ (e : kind_of (seen c.args.expr) ≡ kinds.ArrowExpr). not_arrow c.kind-kind.result (sym c.eq.ensures ∙ c.if-eq.false) (k ∙ e) in
-    adds_same (ap answer_to (seen_refused c.args.unresolved (seen c.args.expr) c.args.place compound plain row arrow)) (adds_nothing None c.args.faults.now.items)
+    adds_same (ap answer_to (seen_refused c.args.unresolved (seen c.args.expr) c.args.place compound plain row arrow))
+    (adds_nothing None c.args.faults.now.items)
 
 pub expressions::leave_parts-leave_expr-requires : goal.expressions::leave_parts-leave_expr-requires
 expressions::leave_parts-leave_expr-requires t c = grind (arith, height_read)
@@ -82,9 +92,11 @@ expressions::leave_parts-returns-in-None t c =
     let d = c.part-item.result in
     let within : c.loop-part.part-index < length items = c.loop-part-test.true in
     let next = behind_along (next_part (λ p. expr_seen u p None) items c.loop-part.part-index d within) c.loop-part.invariant in
-    let given = adds_same (ap (λ (p : Tree). answer_to (expr_seen u p None)) (sym (c.read.ensures ∙ c.part-item.is))) (adds_given c.in-None.is c.in_ok-tree.ensures) in
+    let given = adds_same (ap (λ (p : Tree). answer_to (expr_seen u p None)) (sym (c.read.ensures ∙ c.part-item.is)))
+    (adds_given c.in-None.is c.in_ok-tree.ensures) in
     adds_made (option_map (node (kind_of (seen c.args.expr))))
-    (adds_same (ap (λ (ts : List Tree). parts_answer (seens (map (λ p. expr_seen u p None) ts))) (sym c.parts-part-items.ensures)) (parts_refused c.loop-part.items _ _ next given))
+    (adds_same (ap (λ (ts : List Tree). parts_answer (seens (map (λ p. expr_seen u p None) ts))) (sym c.parts-part-items.ensures))
+    (parts_refused c.loop-part.items _ _ next given))
 
 pub expressions::leave_slots-leave_slot-requires : goal.expressions::leave_slots-leave_slot-requires
 expressions::leave_slots-leave_slot-requires t c = grind (arith, height_less)
@@ -97,7 +109,8 @@ expressions::leave_slots-loop-index-preserved t c =
     let i = c.loop-index.index in
     let within : i < length row = c.loop-index-test.true in
     let next = behind_along (next_slot u e c.args.place row i slots.Span within) c.loop-index.invariant in
-    let given = adds_same (ap (λ (p : Tree). answer_to (slot_seen u (get_or row i slots.Span) p (expr_seen u) c.args.place)) (sym c.part.ensures)) (adds_given c.in-Some.is c.in_ok-tree.ensures) in
+    let given = adds_same (ap (λ (p : Tree). answer_to (slot_seen u (get_or row i slots.Span) p (expr_seen u) c.args.place)) (sym c.part.ensures))
+    (adds_given c.in-Some.is c.in_ok-tree.ensures) in
     items_are (sym c.in_ok-push-in-Some.ensures.ok) (parts_step c.loop-index.stay c.in-Some.tree _ _ next given)
 
 -- ---- functions
@@ -127,7 +140,8 @@ functions::transform_arrow-returns-in_ok-params-in-None t c =
     let f = c.of-form.ensures in
     let at : c.or_own-place.result ≡ or_own c.args.place (ArrowExpr-span a) = c.or_own-place.ensures ∙ ap (or_own c.args.place) f.span in
     let type = adds_same (ap (λ (p : SourceRange). known_answer (known_type u p a)) (sym at)) (adds_given c.in-None.is c.in_ok-return_type.ensures) in
-    let value = adds_same (λ i. demanded (fault_at (return_type_missing false (sym f.is_async i)) (sym at i)) (answer_to (expr_seen u (sym f.body i) None))) c.in_ok-value-in-None.ensures in
+    let value = adds_same (λ i. demanded (fault_at (return_type_missing false (sym f.is_async i)) (sym at i))
+    (answer_to (expr_seen u (sym f.body i) None))) c.in_ok-value-in-None.ensures in
     let pats = adds_same (ap (λ (p : Tree). answer_of (pats_seen u (expr_seen u) (parts p))) (sym f.params)) c.in_ok-params-in-None.ensures in
     IfOk-weaker c.kept_arrow.result _ _ (λ tree e. adds_given (ap Some (sym e)) (arrow_valued u c.args.place a type value pats)) c.kept_arrow.ensures
 
@@ -156,3 +170,65 @@ parameters::transform_params-transform_param_pat-requires t c = grind (arith, he
 
 pub parameters::transform_pats-transform_param_pat-requires : goal.parameters::transform_pats-transform_param_pat-requires
 parameters::transform_pats-transform_param_pat-requires t c = grind (arith, height_read)
+
+pub expressions::leave_parts-loop-part-preserved : goal.expressions::leave_parts-loop-part-preserved
+expressions::leave_parts-loop-part-preserved t c =
+    let u = c.args.unresolved in
+    let items = c.parts-part-items.result.now in
+    let d = c.part-item.result in
+    let within : c.loop-part.part-index < length items = c.loop-part-test.true in
+    let next = behind_along (next_part (λ p. expr_seen u p None) items c.loop-part.part-index d within) c.loop-part.invariant in
+    let given = adds_same (ap (λ (p : Tree). answer_to (expr_seen u p None)) (sym (c.read.ensures ∙ c.part-item.is)))
+    (adds_given c.in-Some.is c.in_ok-tree.ensures) in
+    items_are (sym c.in_ok-push-in-Some.ensures.ok) (parts_step c.loop-part.items c.in-Some.tree _ _ next given)
+
+pub parameters::transform_param_pat-returns-in-AssignPat : goal.parameters::transform_param_pat-returns-in-AssignPat
+parameters::transform_param_pat-returns-in-AssignPat t c =
+    let kind = sym c.kind.ensures ∙ c.in-AssignPat.is in
+    IfOk-weaker c.transform_assign_pat.result _ _
+    (λ tree h. adds_same (ap answer_to (seen_by_kind c.args.unresolved c.args.is_optional (seen c.args.pat) kinds.AssignPat kind)) h)
+    c.transform_assign_pat.ensures
+
+pub parameters::transform_param_pat-returns-in-RestPat : goal.parameters::transform_param_pat-returns-in-RestPat
+parameters::transform_param_pat-returns-in-RestPat t c =
+    let kind = sym c.kind.ensures ∙ c.in-RestPat.is in
+    IfOk-weaker c.transform_rest.result _ _
+    (λ tree h. adds_same (ap answer_to (seen_by_kind c.args.unresolved c.args.is_optional (seen c.args.pat) kinds.RestPat kind)) h) c.transform_rest.ensures
+
+pub parameters::transform_param_pat-returns-in_default : goal.parameters::transform_param_pat-returns-in_default
+parameters::transform_param_pat-returns-in_default t c =
+    let d = c.in_default in
+    let k = c.kind.ensures in
+    let other = other_pat c.args.unresolved c.args.is_optional (seen c.args.pat) (kind_of (seen c.args.pat)) (λ e. d.not-BindingIdent (k ∙ e))
+    (λ e. d.not-AssignPat (k ∙ e)) (λ e. d.not-RestPat (k ∙ e)) (λ e. d.not-ArrayPat (k ∙ e)) (λ e. d.not-ObjectPat (k ∙ e)) in
+    IfOk-weaker c.unsupported.result _ _
+    (λ tree h. adds_same (ap answer_to (other ∙ ap (λ (p : SourceRange). faulty UnsupportedDestructuring p) (sym c.range_of_node.ensures))) h)
+    c.unsupported.ensures
+
+pub parameters::transform_assign_pat-returns-in_default : goal.parameters::transform_assign_pat-returns-in_default
+parameters::transform_assign_pat-returns-in_default t c =
+    let d = c.in_default in
+    let k = c.kind.ensures ∙ ap kind_of c.of.ensures.left in
+    let other = other_left c.args.unresolved c.args.is_optional (seen c.args.pat) (kind_of (AssignPat-left (seen c.args.pat)))
+    (λ e. d.not-BindingIdent (k ∙ e)) (λ e. d.not-ArrayPat (k ∙ e)) (λ e. d.not-ObjectPat (k ∙ e)) in
+    IfOk-weaker c.unsupported.result _ _
+    (λ tree h. adds_same (ap answer_to (other ∙ ap (λ (p : SourceRange). faulty UnsupportedDestructuring p) (sym c.of.ensures.span))) h)
+    c.unsupported.ensures
+
+pub parameters::transform_pats-loop-index-preserved : goal.parameters::transform_pats-loop-index-preserved
+parameters::transform_pats-loop-index-preserved t c = grind (arith, common_steps)
+
+pub parameters::transform_params-loop-index-preserved : goal.parameters::transform_params-loop-index-preserved
+parameters::transform_params-loop-index-preserved t c = grind (arith, common_steps)
+
+pub expressions::leave_slots-returns-in-None : goal.expressions::leave_slots-returns-in-None
+expressions::leave_slots-returns-in-None t c =
+    let u = c.args.unresolved in
+    let e = seen c.args.expr in
+    let row = c.args.row.now in
+    let i = c.loop-index.index in
+    let within : i < length row = c.loop-index-test.true in
+    let next = behind_along (next_slot u e c.args.place row i slots.Span within) c.loop-index.invariant in
+    let given = adds_same (ap (λ (p : Tree). answer_to (slot_seen u (get_or row i slots.Span) p (expr_seen u) c.args.place)) (sym c.part.ensures))
+    (adds_given c.in-None.is c.in_ok-tree.ensures) in
+    adds_made (option_map (node (kind_of e))) (parts_refused c.loop-index.stay _ _ next given)

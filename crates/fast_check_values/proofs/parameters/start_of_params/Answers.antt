@@ -7,5 +7,6 @@ use Rattle.fast_check_values.proofs.parameters.start_of_params.Goals as goal
 
 pub returns : goal.returns
 returns c =
-    let same = mapped_slice c.map.result c.build.ensures.0 c.build.ensures.1 seen (λ p. Param-pat p) c.args.params.now (search rules) (λ x r q k. search rules) in
+    let same = mapped_slice c.map.result c.build.ensures.0 c.build.ensures.1 seen (λ p. Param-pat p) c.args.params.now (search rules)
+    (λ x r q k. search rules) in
     start_of_params c.build.result c.args.params.now (subst (IsOptionalStart c.build.result) same c.build.ensures.2)
