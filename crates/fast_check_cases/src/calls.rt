@@ -3,11 +3,11 @@
 use crate::faults::write_faults;
 use crate::forms::answer_form;
 use fast_check_expression_forms::{ArrowExpr, CallExpr};
+use fast_check_helpers::*;
 use fast_check_print::write_tree;
 use fast_check_schema::Form;
 use fast_check_signatures::Fault;
 use fast_check_syntax::{Atom, Part, SourceRange, SyntaxContext, Tree};
-use fast_check_tree::helpers::*;
 use fast_check_values::{leave_expr, transform_arrow, transform_implementation};
 use json::Writer;
 use std::alloc::{AllocError, Global};

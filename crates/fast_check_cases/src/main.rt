@@ -8,9 +8,9 @@ mod forms;
 
 use crate::calls::{Given, write_answer};
 use crate::forms::given_form;
+use fast_check_helpers::DeclMutabilityKind;
 use fast_check_read::{ReadError, read_optional_flag, read_range, read_text, read_tree};
 use fast_check_syntax::SourceRange;
-use fast_check_tree::helpers::DeclMutabilityKind;
 use json::Writer;
 use serde_json::Value;
 use std::alloc::Global;

@@ -8,8 +8,8 @@ use Rattle.std.specs.BTreeMap.{BTreeMap}
 use Rattle.std.specs.declared.alloc.Global.{Global}
 use Rattle.indexmap.specs.IndexMap.{IndexMap}
 use Rattle.url.specs.Parts.{Parts, serialize}
-use Rattle.fast_check_names.specs.declared.package.PackageNv.{PackageNv}
-use Rattle.fast_check_names.specs.Package.{Nv, nv_of, nv_cmp}
+use Rattle.fast_check_packages.specs.declared.package.PackageNv.{PackageNv}
+use Rattle.fast_check_packages.specs.Package.{Nv, nv_of, nv_cmp}
 use Rattle.fast_check_graph.specs.declared.graph.ModuleGraph.{ModuleGraph}
 use Rattle.fast_check_graph.specs.declared.module.Module.{Module}
 

@@ -1,10 +1,10 @@
 ghost use Rattle.std.specs.Prelude.{◌≡◌, IsOkAnd, option_map};
 ghost use Rattle.std.specs.Option.{option_copied};
-ghost use Rattle.fast_check_names.specs.Package.{nv_of};
+ghost use Rattle.fast_check_packages.specs.Package.{nv_of};
 ghost use Rattle.fast_check_graph.specs.Graph.{IsGraphOf, module_at, resolved_to, exports_of};
 
 use crate::module::Module;
-use fast_check_names::PackageNv;
+use fast_check_packages::PackageNv;
 use indexmap::IndexMap;
 use std::alloc::{AllocError, Global};
 use std::collections::BTreeMap;

@@ -5,7 +5,7 @@ use Rattle.fast_check_syntax.specs.declared.kind.Kind.TheVariants as kinds
 use Rattle.fast_check_syntax.specs.declared.part.Part as part
 use Rattle.fast_check_syntax.specs.declared.tree.Tree.{Tree}
 use Rattle.fast_check_expression_forms.specs.declared.expressions.ExprOrSpread.{ExprOrSpread}
-use Rattle.fast_check_tree.specs.GlobalCalls.{ReadsArgument}
+use Rattle.fast_check_helpers.specs.GlobalCalls.{ReadsArgument}
 use Rattle.fast_check_new_nodes.specs.Rows.{row_of}
 
 pub reads_some : (read : Option (ExprOrSpread part.Part)) (arg : Option Tree) → ReadsArgument read arg → is_some read ≡ is_some arg

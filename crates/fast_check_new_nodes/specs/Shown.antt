@@ -5,9 +5,9 @@ use Rattle.fast_check_syntax.specs.declared.tree.Tree.{Tree}
 use Rattle.fast_check_syntax.specs.Shape.{is_absent}
 use Rattle.fast_check_expression_forms.specs.Patterns.{AssignPat-left, AssignPat-right}
 use Rattle.fast_check_program_forms.specs.Names.{BindingIdent-type_ann}
-use Rattle.fast_check_tree.specs.declared.helpers.literal_type.DeclMutabilityKind.TheVariants.{Mutable}
-use Rattle.fast_check_tree.specs.Builders.{type_ann}
-use Rattle.fast_check_tree.specs.InferredType.{inferred_type}
+use Rattle.fast_check_helpers.specs.declared.literal_type.DeclMutabilityKind.TheVariants.{Mutable}
+use Rattle.fast_check_helpers.specs.Builders.{type_ann}
+use Rattle.fast_check_helpers.specs.InferredType.{inferred_type}
 
 -- the type of an identifier with a default, as `: type`, where it is written, or shown by the default
 abbrev pub default_type : SyntaxContext → Tree → Option Tree

@@ -4,18 +4,18 @@ ghost use Rattle.fast_check_syntax.specs.Shape.{list, none_range};
 ghost use Rattle.fast_check_syntax.specs.declared.tree.Tree.{Absent};
 ghost use Rattle.fast_check_expression_forms.specs.Patterns.{rest_pat};
 ghost use Rattle.fast_check_program_forms.specs.Names.{binding_ident};
-ghost use Rattle.fast_check_tree.specs.Builders.{any_type_ann, new_ident};
+ghost use Rattle.fast_check_helpers.specs.Builders.{any_type_ann, new_ident};
 ghost use Rattle.fast_check_signatures.specs.NewNodes as new;
 
 use fast_check_class_forms::Param;
 use fast_check_expression_forms::{ArrayLit, ObjectLit, ParenExpr, PatExpr, RestPat, TsAsExpr};
-use fast_check_program_forms::{BindingIdent, Ident};
-use fast_check_statement_forms::{BlockStmt, ReturnStmt};
-use fast_check_syntax::{Atom, DUMMY_SP, Items, Kind, Part, SyntaxContext, Tree};
-use fast_check_tree::helpers::{
+use fast_check_helpers::{
     TsKeywordTypeKind, any_type_ann, is_global, is_void_type, never_value, new_ident,
     ts_keyword_type,
 };
+use fast_check_program_forms::{BindingIdent, Ident};
+use fast_check_statement_forms::{BlockStmt, ReturnStmt};
+use fast_check_syntax::{Atom, DUMMY_SP, Items, Kind, Part, SyntaxContext, Tree};
 use fast_check_type_forms::{TsTypeAnn, TsTypeParamInstantiation, TsTypeRef, TsUnionType};
 use std::alloc::{AllocError, Global};
 

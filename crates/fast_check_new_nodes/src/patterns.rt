@@ -10,9 +10,9 @@ ghost use Rattle.fast_check_new_nodes.specs.Shown.{default_type};
 use crate::nodes::{empty_object_pat, or_undefined};
 use fast_check_class_forms::Param;
 use fast_check_expression_forms::{ArrayPat, AssignPat, ObjectPat};
+use fast_check_helpers::{DeclMutabilityKind, maybe_infer_type, type_ann};
 use fast_check_program_forms::{BindingIdent, Ident};
 use fast_check_syntax::{Atom, Items, Kind, Part, SyntaxContext, Tree};
-use fast_check_tree::helpers::{DeclMutabilityKind, maybe_infer_type, type_ann};
 use std::alloc::{AllocError, Global};
 
 /// An array pattern, emptied.

@@ -5,9 +5,9 @@ ghost use Rattle.fast_check_signatures.specs.Expressions.{freezes};
 ghost use Rattle.fast_check_new_nodes.specs.Rows.{row_of};
 
 use fast_check_expression_forms::CallExpr;
+use fast_check_helpers::object_freeze_call_arg;
 use fast_check_signatures::{ASSERTION, FN_EXPR, FREEZE, SATISFIES, Slot};
 use fast_check_syntax::{Kind, Part, SyntaxContext};
-use fast_check_tree::helpers::object_freeze_call_arg;
 
 /// Whether a call is `Object.freeze(x)`.
 fn freezes(unresolved: SyntaxContext, expr: Part<'_>) -> bool

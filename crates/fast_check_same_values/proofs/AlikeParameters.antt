@@ -16,12 +16,12 @@ use Rattle.fast_check_expression_forms.specs.Patterns.{ArrayPat-span, ArrayPat-o
 use Rattle.fast_check_expression_forms.specs.Patterns.{ObjectPat-type_ann, RestPat-span, RestPat-dot3_token, RestPat-arg, RestPat-type_ann, rest_pat}
 use Rattle.fast_check_expression_forms.specs.Patterns.{AssignPat-span, AssignPat-left, AssignPat-right, assign_pat}
 use Rattle.fast_check_program_forms.specs.Names.{Ident-span, Ident-optional, BindingIdent-id, BindingIdent-type_ann}
-use Rattle.fast_check_tree.specs.declared.helpers.literal_type.DeclMutabilityKind.TheVariants.{Mutable}
-use Rattle.fast_check_tree.specs.Builders.{type_ann, never_value}
-use Rattle.fast_check_tree.specs.InferredType.{inferred_type}
-use Rattle.fast_check_tree.specs.OptionalParams.{is_optional_param}
-use Rattle.fast_check_tree.proofs.BuildersMoved.{type_ann_moved, never_value_moved}
-use Rattle.fast_check_tree.proofs.ReturnsMoved.{is_optional_param_moved}
+use Rattle.fast_check_helpers.specs.declared.literal_type.DeclMutabilityKind.TheVariants.{Mutable}
+use Rattle.fast_check_helpers.specs.Builders.{type_ann, never_value}
+use Rattle.fast_check_helpers.specs.InferredType.{inferred_type}
+use Rattle.fast_check_helpers.specs.OptionalParams.{is_optional_param}
+use Rattle.fast_check_helpers.proofs.BuildersMoved.{type_ann_moved, never_value_moved}
+use Rattle.fast_check_helpers.proofs.ReturnsMoved.{is_optional_param_moved}
 use Rattle.fast_check_signatures.specs.declared.fault.FaultKind.TheVariants.{MissingExplicitType}
 use Rattle.fast_check_signatures.specs.Seen.{Seen, written, default, faulty}
 use Rattle.fast_check_signatures.specs.NewNodes.{never_array}

@@ -20,9 +20,9 @@ use Rattle.fast_check_expression_forms.specs.Patterns.{ArrayPat-span, ArrayPat-o
 use Rattle.fast_check_expression_forms.specs.Patterns.{ObjectPat-type_ann, RestPat-span, RestPat-dot3_token, RestPat-arg, RestPat-type_ann, AssignPat-span}
 use Rattle.fast_check_expression_forms.specs.Patterns.{AssignPat-left, AssignPat-right}
 use Rattle.fast_check_program_forms.specs.Names.{BindingIdent-type_ann}
-use Rattle.fast_check_tree.specs.declared.helpers.literal_type.DeclMutabilityKind.TheVariants.{Mutable}
-use Rattle.fast_check_tree.specs.InferredType.{inferred_type}
-use Rattle.fast_check_tree.specs.ReturnClass.{return_class}
+use Rattle.fast_check_helpers.specs.declared.literal_type.DeclMutabilityKind.TheVariants.{Mutable}
+use Rattle.fast_check_helpers.specs.InferredType.{inferred_type}
+use Rattle.fast_check_helpers.specs.ReturnClass.{return_class}
 use Rattle.fast_check_signatures.specs.Expressions.{is_compound, is_frozen, is_refused}
 
 -- both are of a kind

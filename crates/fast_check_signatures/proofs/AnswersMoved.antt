@@ -14,7 +14,7 @@ use Rattle.fast_check_class_forms.specs.Functions.{function as function_node}
 use Rattle.fast_check_expression_forms.specs.Expressions.{arrow_expr}
 use Rattle.fast_check_expression_forms.specs.Patterns.{assign_pat}
 use Rattle.fast_check_program_forms.specs.Names.{Ident-span}
-use Rattle.fast_check_tree.proofs.GlobalCallsMoved.{moved_scope}
+use Rattle.fast_check_helpers.proofs.GlobalCallsMoved.{moved_scope}
 use Rattle.fast_check_signatures.specs.declared.fault.Fault.{Fault}
 use Rattle.fast_check_signatures.specs.declared.fault.FaultKind.TheVariants.{MissingExplicitType}
 use Rattle.fast_check_signatures.specs.Functions.{return_type_missing}

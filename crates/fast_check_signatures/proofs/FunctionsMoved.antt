@@ -13,16 +13,16 @@ use Rattle.fast_check_class_forms.specs.Functions.{Function-span, Function-param
 use Rattle.fast_check_class_forms.specs.Functions.{Function-type_params, Function-return_type, Param-span, Param-pat}
 use Rattle.fast_check_expression_forms.specs.Expressions.{ArrowExpr-span, ArrowExpr-ctxt, ArrowExpr-params, ArrowExpr-body, ArrowExpr-is_async}
 use Rattle.fast_check_expression_forms.specs.Expressions.{ArrowExpr-is_generator, ArrowExpr-type_params, ArrowExpr-return_type}
-use Rattle.fast_check_tree.specs.declared.helpers.literal_type.DeclMutabilityKind.TheVariants.{Mutable}
-use Rattle.fast_check_tree.specs.declared.helpers.return_class.ReturnStatementAnalysis.{ReturnStatementAnalysis}
-use Rattle.fast_check_tree.specs.declared.helpers.return_class.ReturnStatementAnalysis.TheVariants as class
-use Rattle.fast_check_tree.specs.Builders.{type_ann, any_type_ann}
-use Rattle.fast_check_tree.specs.InferredType.{inferred_type}
-use Rattle.fast_check_tree.specs.ReturnClass.{return_class}
-use Rattle.fast_check_tree.proofs.BuildersMoved.{type_ann_moved, any_type_ann_moved}
-use Rattle.fast_check_tree.proofs.GlobalCallsMoved.{moved_scope}
-use Rattle.fast_check_tree.proofs.InferredMoved.{inferred_type_moved}
-use Rattle.fast_check_tree.proofs.ReturnsMoved.{return_class_moved}
+use Rattle.fast_check_helpers.specs.declared.literal_type.DeclMutabilityKind.TheVariants.{Mutable}
+use Rattle.fast_check_helpers.specs.declared.return_class.ReturnStatementAnalysis.{ReturnStatementAnalysis}
+use Rattle.fast_check_helpers.specs.declared.return_class.ReturnStatementAnalysis.TheVariants as class
+use Rattle.fast_check_helpers.specs.Builders.{type_ann, any_type_ann}
+use Rattle.fast_check_helpers.specs.InferredType.{inferred_type}
+use Rattle.fast_check_helpers.specs.ReturnClass.{return_class}
+use Rattle.fast_check_helpers.proofs.BuildersMoved.{type_ann_moved, any_type_ann_moved}
+use Rattle.fast_check_helpers.proofs.GlobalCallsMoved.{moved_scope}
+use Rattle.fast_check_helpers.proofs.InferredMoved.{inferred_type_moved}
+use Rattle.fast_check_helpers.proofs.ReturnsMoved.{return_class_moved}
 use Rattle.fast_check_signatures.specs.declared.function_kind.FunctionKind.{FunctionKind}
 use Rattle.fast_check_signatures.specs.declared.function_kind.FunctionKind.TheVariants.{DeclarationLike, ExpressionLike}
 use Rattle.fast_check_signatures.specs.Seen.{Seen, written, range, round, function, typed_arrow, valued_arrow, faulty, seens}

@@ -7,7 +7,7 @@ use Rattle.fast_check_syntax.specs.declared.tree.Tree.{Tree}
 use Rattle.fast_check_syntax.specs.Shape.{kind_of, part, parts, is_absent, range_of, flag_of, context_of}
 use Rattle.fast_check_syntax.specs.Moves.{Moves, Keeps, moved, moved_range}
 use Rattle.fast_check_syntax.proofs.Moved.{range_moved, context_moved, kind_of_moved, part_moved, parts_moved, is_absent_moved, flag_of_moved, range_of_moved}
-use Rattle.fast_check_tree.proofs.GlobalCallsMoved.{moved_scope, context_of_moved}
+use Rattle.fast_check_helpers.proofs.GlobalCallsMoved.{moved_scope, context_of_moved}
 use Rattle.fast_check_signatures.specs.Seen.{DeclaratorHead, DefaultHead, FunctionHead, ArrowHead}
 use Rattle.fast_check_signatures.specs.Seen.{Seen, written, round, listed, declarator, default, function, typed_arrow, valued_arrow, faulty, refused, Seens}
 use Rattle.fast_check_signatures.specs.Seen.{end, also, seens, range, scope}

@@ -12,10 +12,10 @@ use Rattle.fast_check_syntax.proofs.Moved.{kind_of_moved, part_moved, is_absent_
 use Rattle.fast_check_statement_forms.specs.Statements.{return_stmt}
 use Rattle.fast_check_type_forms.specs.Types.{TsKeywordType-kind, TsTypeRef-type_name, TsTypeRef-type_params}
 use Rattle.fast_check_type_forms.specs.TypeParams.{TsTypeAnn-type_ann, TsTypeParamInstantiation-params}
-use Rattle.fast_check_tree.specs.Builders.{ts_keyword_type, never_value, is_void_type}
-use Rattle.fast_check_tree.specs.GlobalCalls.{is_global}
-use Rattle.fast_check_tree.proofs.BuildersMoved.{ts_keyword_type_moved}
-use Rattle.fast_check_tree.proofs.GlobalCallsMoved.{moved_scope, is_global_moved}
+use Rattle.fast_check_helpers.specs.Builders.{ts_keyword_type, never_value, is_void_type}
+use Rattle.fast_check_helpers.specs.GlobalCalls.{is_global}
+use Rattle.fast_check_helpers.proofs.BuildersMoved.{ts_keyword_type_moved}
+use Rattle.fast_check_helpers.proofs.GlobalCallsMoved.{moved_scope, is_global_moved}
 use Rattle.fast_check_signatures.proofs.MovedParts.{field_moved, items_moved_at}
 use Rattle.fast_check_signatures.specs.NewNodes.{never_array, never_in_parens, empty_object_pat, new_block, returns_value, function_body, arrow_body}
 use Rattle.fast_check_signatures.specs.NewNodes.{promise_of, is_one, is_promise, promised, void_or_promise_void, or_undefined, param_ident, any_param}

@@ -11,8 +11,8 @@ use Rattle.fast_check_syntax.specs.Moves.{Moves, Keeps, moved, moved_range}
 use Rattle.fast_check_syntax.proofs.Moved.{kind_of_moved, part_moved, parts_moved, range_of_moved}
 use Rattle.fast_check_syntax.proofs.DescentMoved.{by_descent_moved}
 use Rattle.fast_check_expression_forms.specs.Calls.{CallExpr-callee, CallExpr-args}
-use Rattle.fast_check_tree.specs.GlobalCalls.{object_freeze_call_arg}
-use Rattle.fast_check_tree.proofs.GlobalCallsMoved.{moved_scope, context_of_moved, object_freeze_call_arg_moved}
+use Rattle.fast_check_helpers.specs.GlobalCalls.{object_freeze_call_arg}
+use Rattle.fast_check_helpers.proofs.GlobalCallsMoved.{moved_scope, context_of_moved, object_freeze_call_arg_moved}
 use Rattle.fast_check_signatures.specs.declared.function_kind.FunctionKind.{FunctionKind}
 use Rattle.fast_check_signatures.specs.declared.rules.Slot.{Slot}
 use Rattle.fast_check_signatures.specs.declared.rules.Slot.TheVariants as slots

@@ -15,8 +15,8 @@ use Rattle.fast_check_statement_forms.specs.Statements.{block_stmt, return_stmt}
 use Rattle.fast_check_type_forms.specs.Types.{ts_type_ref, ts_union_type, TsTypeRef-type_name, TsTypeRef-type_params}
 use Rattle.fast_check_type_forms.specs.TypeParams.{ts_type_param_instantiation, ts_type_ann, TsTypeAnn-span, TsTypeAnn-type_ann}
 use Rattle.fast_check_type_forms.specs.TypeParams.{TsTypeParamInstantiation-params}
-use Rattle.fast_check_tree.specs.Builders.{ts_keyword_type, any_type_ann, new_ident, never_value, is_void_type}
-use Rattle.fast_check_tree.specs.GlobalCalls.{is_global}
+use Rattle.fast_check_helpers.specs.Builders.{ts_keyword_type, any_type_ann, new_ident, never_value, is_void_type}
+use Rattle.fast_check_helpers.specs.GlobalCalls.{is_global}
 
 abbrev pub no_scope : SyntaxContext
 no_scope = record { 0 = 0 }

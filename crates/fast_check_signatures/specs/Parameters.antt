@@ -12,10 +12,10 @@ use Rattle.fast_check_expression_forms.specs.Patterns.{ObjectPat-type_ann, objec
 use Rattle.fast_check_expression_forms.specs.Patterns.{rest_pat, AssignPat-span, AssignPat-left, AssignPat-right, assign_pat}
 use Rattle.fast_check_ranges.specs.Ranges.{range_of_node}
 use Rattle.fast_check_program_forms.specs.Names.{Ident-span, Ident-ctxt, Ident-sym, ident, BindingIdent-id, BindingIdent-type_ann, binding_ident}
-use Rattle.fast_check_tree.specs.declared.helpers.literal_type.DeclMutabilityKind.TheVariants.{Mutable}
-use Rattle.fast_check_tree.specs.Builders.{type_ann, never_value}
-use Rattle.fast_check_tree.specs.InferredType.{inferred_type}
-use Rattle.fast_check_tree.specs.OptionalParams.{is_optional_param}
+use Rattle.fast_check_helpers.specs.declared.literal_type.DeclMutabilityKind.TheVariants.{Mutable}
+use Rattle.fast_check_helpers.specs.Builders.{type_ann, never_value}
+use Rattle.fast_check_helpers.specs.InferredType.{inferred_type}
+use Rattle.fast_check_helpers.specs.OptionalParams.{is_optional_param}
 use Rattle.fast_check_signatures.specs.declared.fault.FaultKind.TheVariants.{MissingExplicitType, UnsupportedDestructuring}
 use Rattle.fast_check_signatures.specs.Seen.{Seen, written, default, faulty}
 use Rattle.fast_check_signatures.specs.NewNodes.{never_array, empty_object_pat, or_undefined}

@@ -25,15 +25,15 @@ use Rattle.fast_check_program_forms.specs.ModuleDecls.{ExportDecl-span, ExportDe
 use Rattle.fast_check_statement_forms.specs.Declarations.{FnDecl-ident, FnDecl-declare, FnDecl-function}
 use Rattle.fast_check_statement_forms.specs.Declarations.{VarDecl-span, VarDecl-ctxt, VarDecl-kind, VarDecl-declare, VarDecl-decls}
 use Rattle.fast_check_statement_forms.specs.Declarations.{VarDeclarator-span, VarDeclarator-name, VarDeclarator-init, VarDeclarator-definite}
-use Rattle.fast_check_tree.specs.declared.helpers.literal_type.DeclMutabilityKind.{DeclMutabilityKind}
-use Rattle.fast_check_tree.specs.declared.helpers.literal_type.DeclMutabilityKind.TheVariants.{Const, Mutable}
+use Rattle.fast_check_helpers.specs.declared.literal_type.DeclMutabilityKind.{DeclMutabilityKind}
+use Rattle.fast_check_helpers.specs.declared.literal_type.DeclMutabilityKind.TheVariants.{Const, Mutable}
 use Rattle.fast_check_signatures.specs.declared.fault.Fault.{Fault}
 use Rattle.fast_check_signatures.specs.declared.fault.FaultKind.TheVariants.{UnsupportedDestructuring}
 use Rattle.fast_check_signatures.specs.declared.function_kind.FunctionKind.TheVariants.{DeclarationLike}
 use Rattle.fast_check_skeleton.specs.Surroundings.{Surroundings}
-use Rattle.fast_check_tree.specs.Builders.{type_ann, never_value}
-use Rattle.fast_check_tree.specs.InferredType.{inferred_type}
-use Rattle.fast_check_tree.proofs.BuildersMoved.{type_ann_moved, never_value_moved}
+use Rattle.fast_check_helpers.specs.Builders.{type_ann, never_value}
+use Rattle.fast_check_helpers.specs.InferredType.{inferred_type}
+use Rattle.fast_check_helpers.proofs.BuildersMoved.{type_ann_moved, never_value_moved}
 use Rattle.fast_check_skeleton.specs.Mutability.{mutability_of}
 use Rattle.fast_check_signatures.specs.Seen.{Seen, written, range, scope, flag, round, listed, declarator, faulty, refused, seens}
 use Rattle.fast_check_skeleton.specs.Visible.{declared_ident, declared_type, declarator_head, typed_declarator, value_seen, untyped_seen, ident_declarator_seen}
@@ -63,7 +63,7 @@ use Rattle.fast_check_skeleton.specs.declared.rules.DeclRule.TheVariants.{Variab
 use Rattle.fast_check_skeleton.proofs.Ruled.{standing_rule, declared_rule, silent_rule}
 use Rattle.fast_check_skeleton.specs.Hidden as h
 use Rattle.fast_check_skeleton.specs.Worlds.{SameFault, SameSkeleton}
-use Rattle.fast_check_tree.proofs.InferredMoved.{inferred_type_moved}
+use Rattle.fast_check_helpers.proofs.InferredMoved.{inferred_type_moved}
 use Rattle.fast_check_signatures.proofs.AnswersMoved.{moved_fault, moved_items, answer_of_moved}
 
 -- ---- what is silent is not seen

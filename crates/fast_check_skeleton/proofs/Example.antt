@@ -22,7 +22,7 @@ use Rattle.fast_check_program_forms.specs.ModuleDecls.{ExportDecl-span, ExportDe
 use Rattle.fast_check_program_forms.specs.Programs.{module'}
 use Rattle.fast_check_statement_forms.specs.Declarations.{VarDecl-ctxt, VarDecl-kind, VarDecl-declare, VarDecl-decls, VarDeclarator-span}
 use Rattle.fast_check_statement_forms.specs.Declarations.{VarDeclarator-definite, var_decl, var_declarator}
-use Rattle.fast_check_tree.specs.Builders.{never_value}
+use Rattle.fast_check_helpers.specs.Builders.{never_value}
 use Rattle.fast_check_skeleton.specs.Surroundings.{Surroundings}
 use Rattle.fast_check_skeleton.specs.Mutability.{mutability_of}
 use Rattle.fast_check_ranges.specs.Ranges.{range_of_node}

@@ -9,8 +9,8 @@ use Rattle.fast_check_syntax.specs.declared.tree.Tree.{Tree}
 use Rattle.fast_check_syntax.specs.Shape.{◌is◌, kind_of, parts, is_absent}
 use Rattle.fast_check_syntax.specs.Moves.{Renaming, Pairs, IsPair}
 use Rattle.fast_check_syntax.specs.Same.{SameTree, SameRange}
-use Rattle.fast_check_tree.specs.declared.helpers.literal_type.DeclMutabilityKind.{DeclMutabilityKind}
-use Rattle.fast_check_tree.specs.InferredType.{inferred_type}
+use Rattle.fast_check_helpers.specs.declared.literal_type.DeclMutabilityKind.{DeclMutabilityKind}
+use Rattle.fast_check_helpers.specs.InferredType.{inferred_type}
 use Rattle.fast_check_ranges.specs.Ranges.{range_of_node}
 use Rattle.fast_check_program_forms.specs.Programs.{Module-shebang}
 use Rattle.fast_check_program_forms.specs.ModuleDecls.{ExportDecl-span, ExportDecl-decl}

@@ -6,9 +6,9 @@ use Rattle.fast_check_syntax.specs.declared.kind.Kind.TheVariants.{BindingIdent,
 use Rattle.fast_check_syntax.specs.declared.source.SourceRange.{SourceRange}
 use Rattle.fast_check_syntax.specs.declared.tree.Tree.{Tree}
 use Rattle.fast_check_syntax.specs.Shape.{◌is◌, kind_of, parts, is_absent}
-use Rattle.fast_check_tree.specs.declared.helpers.literal_type.DeclMutabilityKind.{DeclMutabilityKind}
-use Rattle.fast_check_tree.specs.Builders.{type_ann, never_value}
-use Rattle.fast_check_tree.specs.InferredType.{inferred_type}
+use Rattle.fast_check_helpers.specs.declared.literal_type.DeclMutabilityKind.{DeclMutabilityKind}
+use Rattle.fast_check_helpers.specs.Builders.{type_ann, never_value}
+use Rattle.fast_check_helpers.specs.InferredType.{inferred_type}
 use Rattle.fast_check_ranges.specs.Ranges.{range_of_node}
 use Rattle.fast_check_program_forms.specs.Names.{Ident-span, BindingIdent-id, BindingIdent-type_ann, binding_ident}
 use Rattle.fast_check_program_forms.specs.Programs.{Module-body}

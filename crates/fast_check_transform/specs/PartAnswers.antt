@@ -8,7 +8,7 @@ use Rattle.fast_check_program_forms.specs.Names.{Ident-span, binding_ident}
 use Rattle.fast_check_program_forms.specs.Programs.{Module-span, Module-shebang, module'}
 use Rattle.fast_check_statement_forms.specs.Declarations.{VarDeclarator-span, VarDeclarator-init, VarDeclarator-definite, var_declarator}
 use Rattle.fast_check_tables.specs.PublicRanges.{is_public, is_implementation}
-use Rattle.fast_check_tree.specs.declared.helpers.literal_type.DeclMutabilityKind.{DeclMutabilityKind}
+use Rattle.fast_check_helpers.specs.declared.literal_type.DeclMutabilityKind.{DeclMutabilityKind}
 use Rattle.fast_check_signatures.specs.Seen.{declarator}
 use Rattle.fast_check_signatures.specs.Answers.{Answer, made, answer_to, answer_of}
 use Rattle.fast_check_skeleton.specs.declared.rules.DeclRule.{DeclRule}

@@ -9,12 +9,12 @@ ghost use Rattle.fast_check_transform.specs.PartAnswers.{Asked-around, as_list, 
 ghost use Rattle.fast_check_transform.specs.PartAnswers.{declarator_answer, public_answer, declarators_answer, statement_answer};
 
 use crate::asked::Asked;
+use fast_check_helpers::{DeclMutabilityKind, maybe_infer_type, never_value, type_ann};
 use fast_check_program_forms::{BindingIdent, Ident};
 use fast_check_ranges::range_of_node;
 use fast_check_signatures::{Fault, FaultKind};
 use fast_check_statement_forms::{VarDecl, VarDeclarator};
 use fast_check_syntax::{Items, Kind, Part, SourceRange, Tree, Word};
-use fast_check_tree::helpers::{DeclMutabilityKind, maybe_infer_type, never_value, type_ann};
 use fast_check_values::leave_expr;
 use std::alloc::{AllocError, Global};
 

@@ -12,7 +12,7 @@ use Rattle.fast_check_syntax.specs.Shape.{kind_of, part, parts}
 use Rattle.fast_check_syntax.proofs.Made.{kind_of_node, parts_node}
 use Rattle.fast_check_class_forms.specs.Functions.{Function-span}
 use Rattle.fast_check_expression_forms.specs.Calls.{CallExpr-callee, CallExpr-args}
-use Rattle.fast_check_tree.specs.GlobalCalls.{is_global_member, sole_argument}
+use Rattle.fast_check_helpers.specs.GlobalCalls.{is_global_member, sole_argument}
 use Rattle.fast_check_signatures.specs.declared.function_kind.FunctionKind.{FunctionKind}
 use Rattle.fast_check_signatures.specs.declared.function_kind.FunctionKind.TheVariants.{ExpressionLike}
 use Rattle.fast_check_signatures.specs.declared.rules.TheConstants.{SATISFIES, ASSERTION, FN_EXPR, FREEZE}

@@ -7,10 +7,10 @@ use Rattle.fast_check_syntax.specs.declared.source.SyntaxContext.{SyntaxContext}
 use Rattle.fast_check_syntax.specs.declared.tree.Tree.{Tree, Absent}
 use Rattle.fast_check_syntax.specs.Shape.{◌is◌, kind_of, parts, is_absent}
 use Rattle.fast_check_expression_forms.specs.Expressions.{ArrowExpr-span, ArrowExpr-params, ArrowExpr-body, ArrowExpr-is_async, ArrowExpr-return_type}
-use Rattle.fast_check_tree.specs.declared.helpers.literal_type.DeclMutabilityKind.TheVariants.{Mutable}
-use Rattle.fast_check_tree.specs.Builders.{type_ann}
-use Rattle.fast_check_tree.specs.InferredType.{inferred_type}
-use Rattle.fast_check_tree.specs.ReturnClass.{return_class}
+use Rattle.fast_check_helpers.specs.declared.literal_type.DeclMutabilityKind.TheVariants.{Mutable}
+use Rattle.fast_check_helpers.specs.Builders.{type_ann}
+use Rattle.fast_check_helpers.specs.InferredType.{inferred_type}
+use Rattle.fast_check_helpers.specs.ReturnClass.{return_class}
 use Rattle.fast_check_signatures.specs.declared.fault.Fault.{Fault}
 use Rattle.fast_check_signatures.specs.declared.function_kind.FunctionKind.TheVariants.{ExpressionLike}
 use Rattle.fast_check_signatures.specs.Seen.{Seen, written}

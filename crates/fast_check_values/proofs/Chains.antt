@@ -11,7 +11,7 @@ use Rattle.std.specs.List.{list_all}
 use Rattle.std.proofs.lemmas.List.{drop-map, length-map}
 use Rattle.fast_check_syntax.specs.declared.tree.Tree.{Tree}
 use Rattle.fast_check_class_forms.specs.Functions.{Param-pat}
-use Rattle.fast_check_tree.specs.OptionalParams.{is_optional_param, IsOptionalStart}
+use Rattle.fast_check_helpers.specs.OptionalParams.{is_optional_param, IsOptionalStart}
 use Rattle.fast_check_values.specs.Looked.{patterns, IsStartOfParams}
 use denote.Param.Members.{Mut}
 use denote.Ref.{Bor}

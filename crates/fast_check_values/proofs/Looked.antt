@@ -10,9 +10,9 @@ use Rattle.fast_check_syntax.specs.declared.tree.Tree.{Tree}
 use Rattle.fast_check_syntax.specs.Shape.{◌is◌, kind_of, part, parts, is_absent}
 use Rattle.fast_check_expression_forms.specs.Patterns.{AssignPat-span, AssignPat-left, AssignPat-right}
 use Rattle.fast_check_program_forms.specs.Names.{BindingIdent-id, BindingIdent-type_ann}
-use Rattle.fast_check_tree.specs.declared.helpers.literal_type.DeclMutabilityKind.TheVariants.{Mutable}
-use Rattle.fast_check_tree.specs.Builders.{type_ann}
-use Rattle.fast_check_tree.specs.InferredType.{inferred_type}
+use Rattle.fast_check_helpers.specs.declared.literal_type.DeclMutabilityKind.TheVariants.{Mutable}
+use Rattle.fast_check_helpers.specs.Builders.{type_ann}
+use Rattle.fast_check_helpers.specs.InferredType.{inferred_type}
 use Rattle.fast_check_signatures.specs.declared.rules.Slot.{Slot}
 use Rattle.fast_check_signatures.specs.Seen.{Seen, written, faulty, round, refused, seens}
 use Rattle.fast_check_signatures.specs.Functions.{arrow_seen}

@@ -10,15 +10,15 @@ use crate::expressions::leave_value;
 use crate::parameters::{transform_params, transform_pats};
 use fast_check_class_forms::{Function, Param};
 use fast_check_expression_forms::ArrowExpr;
+use fast_check_helpers::{
+    DeclMutabilityKind, ReturnStatementAnalysis, analyze_return_stmts_in_function_body,
+    any_type_ann, maybe_infer_type, type_ann,
+};
 use fast_check_new_nodes::{
     any_param, kept_arrow, or_own, promised, signed_arrow, signed_function, void_or_promise_void,
 };
 use fast_check_signatures::{Fault, FaultKind, FunctionKind};
 use fast_check_syntax::{Items, Kind, Part, SourceRange, SyntaxContext, Tree};
-use fast_check_tree::helpers::{
-    DeclMutabilityKind, ReturnStatementAnalysis, analyze_return_stmts_in_function_body,
-    any_type_ann, maybe_infer_type, type_ann,
-};
 use std::alloc::{AllocError, Global};
 
 /// The return type that a body shows by its class; where it shows none, a fault.

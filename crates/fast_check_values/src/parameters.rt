@@ -2,7 +2,7 @@ ghost use Rattle.std.specs.Prelude.{◌≡◌, IfOk, Some};
 ghost use Rattle.fast_check_syntax.specs.Part.{seen};
 ghost use Rattle.fast_check_syntax.specs.Shape.{parts};
 ghost use Rattle.fast_check_expression_forms.specs.Patterns.{AssignPat-span, AssignPat-right};
-ghost use Rattle.fast_check_tree.specs.OptionalParams.{IsOptionalStart};
+ghost use Rattle.fast_check_helpers.specs.OptionalParams.{IsOptionalStart};
 ghost use Rattle.fast_check_signatures.specs.Answers.{Adds, answer_to, answer_of};
 ghost use Rattle.fast_check_signatures.specs.Seen.{faulty};
 ghost use Rattle.fast_check_signatures.specs.declared.fault.FaultKind.TheVariants.{UnsupportedDestructuring};
@@ -13,6 +13,7 @@ ghost use Rattle.fast_check_values.specs.Looked.{IsStartOfParams, params_looked}
 use crate::expressions::leave_value;
 use fast_check_class_forms::Param;
 use fast_check_expression_forms::{ArrayPat, AssignPat, ObjectPat, RestPat};
+use fast_check_helpers::{ParamsOptionalStartIndex, never_value};
 use fast_check_new_nodes::{
     default_type, emptied_array, emptied_object, never_array, rest_arg, with_default, with_pattern,
     without_default,
@@ -21,7 +22,6 @@ use fast_check_program_forms::{BindingIdent, Ident};
 use fast_check_ranges::range_of_node;
 use fast_check_signatures::{Fault, FaultKind};
 use fast_check_syntax::{Items, Kind, Part, SourceRange, SyntaxContext, Tree};
-use fast_check_tree::helpers::{ParamsOptionalStartIndex, never_value};
 use std::alloc::{AllocError, Global};
 
 /// A parameter that stands if its type is written; else a fault at this place.
