@@ -6,8 +6,10 @@ use Rattle.fast_check_transform.proofs.Declared.{absent_value, present_value}
 use Rattle.fast_check_transform.proofs.declarations.keep_value.Goals as goal
 
 pub returns-then-is_absent : goal.returns-then-is_absent
-returns-then-is_absent c = absent_value (Asked-around c.args.asked) c.args.place (seen c.args.value) (sym c.is_absent.ensures ∙ c.if-is_absent.true) c.args.faults.now.items
+returns-then-is_absent c =
+    absent_value (Asked-around c.args.asked) c.args.place (seen c.args.value) (sym c.is_absent.ensures ∙ c.if-is_absent.true) c.args.faults.now.items
 
 pub returns : goal.returns
 returns c = IfOk-weaker c.leave_expr.result _ _
-    (λ tree h. present_value (Asked-around c.args.asked) c.args.place (seen c.args.value) (sym c.is_absent.ensures ∙ c.if-is_absent.false) h) c.leave_expr.ensures
+    (λ tree h. present_value (Asked-around c.args.asked) c.args.place (seen c.args.value) (sym c.is_absent.ensures ∙ c.if-is_absent.false) h)
+    c.leave_expr.ensures

@@ -12,6 +12,7 @@ any_fault = record { kind = MissingExplicitType; range = none_range }
 
 pub loop-fault-preserved : goal.loop-fault-preserved
 loop-fault-preserved c =
-    let more = next_of c.args.es_module_info.now c.args.faults.now c.loop-fault.fault-index c.loop-fault.diagnostics.items any_fault c.in_ok-diagnostic_of.field-0
+    let more = next_of c.args.es_module_info.now c.args.faults.now c.loop-fault.fault-index c.loop-fault.diagnostics.items any_fault
+    c.in_ok-diagnostic_of.field-0
     c.loop-fault-test.true c.loop-fault.invariant c.in_ok-diagnostic_of.ensures in
     subst (AreDiagnosticsOf c.args.es_module_info.now _) (sym {A = List FastCheckDiagnostic} c.in_ok-push.ensures.items) more
