@@ -51,7 +51,7 @@ pub struct ModuleInfo {
 }
 
 /// The skeleton of a module.
-#[derive(Drop)]
+#[derive(Debug, Drop)]
 pub struct FastCheckModule {
     pub module_info: ModuleInfo,
     /// A node of the kind `Module`.
