@@ -1,5 +1,5 @@
 use Rattle.fast_check_print.proofs.Adding.{adds-token, adds-then, adds-last, adds-token_ok}
-use Rattle.fast_check_program.proofs.answer.write_static_source.Goals as goal
+use Rattle.fast_check_answers.proofs.answer.write_static_source.Goals as goal
 
 pub returns : goal.returns
 returns c =

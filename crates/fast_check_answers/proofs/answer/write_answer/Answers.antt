@@ -2,10 +2,10 @@ use Rattle.std.proofs.Common.{[], ◌∷◌, OnOk, sym, subst}
 use Rattle.json.specs.Token.{end_object}
 use Rattle.fast_check_print.specs.Writing.{Adds, WritesData}
 use Rattle.fast_check_print.proofs.Adding.{adds-token, adds-last, adds-token_ok}
-use Rattle.fast_check_program.specs.Answer.{answer_data, diagnostics_data}
-use Rattle.fast_check_program.proofs.answer.write_answer.Goals as goal
-use Rattle.fast_check_program.proofs.answer.write_answer.Goals.{in-Ok+in_ok-key-in-Ok+in_ok-write_module-in-Ok}
-use Rattle.fast_check_program.proofs.answer.write_answer.Goals.{in-Err+in_ok-key-in-Err+in_ok-write_diagnostics-in-Err}
+use Rattle.fast_check_answers.specs.Answer.{answer_data, diagnostics_data}
+use Rattle.fast_check_answers.proofs.answer.write_answer.Goals as goal
+use Rattle.fast_check_answers.proofs.answer.write_answer.Goals.{in-Ok+in_ok-key-in-Ok+in_ok-write_module-in-Ok}
+use Rattle.fast_check_answers.proofs.answer.write_answer.Goals.{in-Err+in_ok-key-in-Err+in_ok-write_diagnostics-in-Err}
 
 pub returns : goal.returns
 returns c =

@@ -3,8 +3,8 @@ use Rattle.json.specs.Token.{end_object}
 use Rattle.fast_check_print.specs.Writing.{tokens_of}
 use Rattle.fast_check_print.proofs.Adding.{Remains}
 use Rattle.fast_check_print.proofs.Items.{rest_of_items}
-use Rattle.fast_check_program.specs.Answer.{source_data, sources_data}
-use Rattle.fast_check_program.proofs.answer.write_module_info.Given as goal
+use Rattle.fast_check_answers.specs.Answer.{source_data, sources_data}
+use Rattle.fast_check_answers.proofs.answer.write_module_info.Given as goal
 
 -- the other sources still have to come
 abbrev pub invariant-loop-source : goal.invariant-loop-source
