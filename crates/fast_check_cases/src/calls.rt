@@ -49,11 +49,8 @@ fn write_made(
     mutability: DeclMutabilityKind,
     out: &mut Writer,
 ) -> Result<(), AllocError> {
-    write_option(
-        out,
-        &made(alloc, call, tree, mutability)?,
-        answer_form(call),
-    )
+    let made = made(alloc, call, tree, mutability)?;
+    write_option(out, &made, answer_form(call))
 }
 
 /// Writes a tree that stands where the form does, or null.
@@ -148,13 +145,22 @@ fn write_left(
 ) -> Result<(), AllocError> {
     let mut faults = Vec::new(alloc);
     let left = left(alloc, call, tree, place, &mut faults)?;
+    write_outcome(&left, faults.as_slice(), answer_form(call), out)
+}
+
+fn write_outcome(
+    left: &Option<Tree>,
+    faults: &[Fault],
+    form: Form,
+    out: &mut Writer,
+) -> Result<(), AllocError> {
     if faults.is_empty() {
-        write_option(out, &left, answer_form(call))?;
+        write_option(out, left, form)?;
     } else {
         out.boolean(left.is_some())?;
     }
     out.key("faults")?;
-    write_faults(out, faults.as_slice())
+    write_faults(out, faults)
 }
 
 fn left(

@@ -13,29 +13,36 @@ use fast_check_read::{ReadError, read_optional_flag, read_range, read_text, read
 use fast_check_syntax::SourceRange;
 use json::Writer;
 use serde_json::Value;
-use std::alloc::Global;
+use std::alloc::{AllocError, Global};
 use std::{fs, io};
 
 fn main(rt: HostRuntime) -> io::Result<()> {
     let cases = fs::read_to_string(&rt, "cases")?;
-    for line in cases.as_str().lines() {
-        match answer_of(rt.alloc(), line) {
-            Ok(answer) => println!(rt; "{answer}")?,
-            Err(error) => println!(rt; "{error}: {line}")?,
-        }
+    run(&rt, cases.as_str())
+}
+
+fn run(rt: &HostRuntime, cases: &str) -> io::Result<()> {
+    for line in cases.lines() {
+        run_line(rt, line)?;
     }
     Ok(())
+}
+
+fn run_line(rt: &HostRuntime, line: &str) -> io::Result<()> {
+    match answer_of(rt.alloc(), line) {
+        Ok(answer) => println!(rt; "{answer}"),
+        Err(error) => println!(rt; "{error}: {line}"),
+    }
 }
 
 /// What the case of a line answers, as a line of JSON.
 fn answer_of(alloc: Global, line: &str) -> Result<String, ReadError> {
     let case = read_case(alloc, line)?;
     let mut out = Writer::new(Vec::new(alloc));
-    write_case(alloc, &case, &mut out)?;
-    match String::from_utf8(out.into_inner()) {
-        Ok(answer) => Ok(answer),
-        Err(_) => Err(ReadError::BadForm),
-    }
+    let written = write_whole_case(alloc, &case, &mut out);
+    let answer = String::from_utf8(out.into_inner());
+    written?;
+    answer.or(Err(ReadError::BadForm))
 }
 
 fn read_case(alloc: Global, line: &str) -> Result<Value, ReadError> {
@@ -49,17 +56,27 @@ fn read_case(alloc: Global, line: &str) -> Result<Value, ReadError> {
 fn write_case(alloc: Global, case: &Value, out: &mut Writer) -> Result<(), ReadError> {
     let name = read_text(member(case, "case")?)?;
     let call = read_text(member(case, "call")?)?;
-    let tree = read_tree(alloc, member(case, "tree")?, given_form(call))?;
     let given = Given {
         mutability: mutability(read_optional_flag(case.get("const"))?),
         place: place(case)?,
     };
+    begin_case(name, out)?;
+    let tree = read_tree(alloc, member(case, "tree")?, given_form(call))?;
+    Ok(write_answer(alloc, call, tree.read(), given, out)?)
+}
+
+/// The same as an object.
+fn write_whole_case(alloc: Global, case: &Value, out: &mut Writer) -> Result<(), ReadError> {
+    write_case(alloc, case, out)?;
+    Ok(out.end_object()?)
+}
+
+/// Writes what stands before an answer.
+fn begin_case(name: &str, out: &mut Writer) -> Result<(), AllocError> {
     out.begin_object()?;
     out.key("case")?;
     out.string(name)?;
-    out.key("answer")?;
-    write_answer(alloc, call, tree.read(), given, out)?;
-    Ok(out.end_object()?)
+    out.key("answer")
 }
 
 fn member<'a>(case: &'a Value, name: &str) -> Result<&'a Value, ReadError> {

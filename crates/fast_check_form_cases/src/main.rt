@@ -18,17 +18,26 @@ mod names;
 mod odd;
 
 use cases::run_case;
-use std::fs;
+use std::{fs, io};
 
-fn main(rt: HostRuntime) -> anyhow::Result<()> {
+fn main(rt: HostRuntime) -> io::Result<()> {
     let cases = fs::read_to_string(&rt, "cases")?;
-    for line in cases.as_str().lines() {
-        if line.starts_with('#') {
-            println!(rt; "{line}")?;
-        } else {
-            let answer = run_case(rt.alloc(), line)?;
-            println!(rt; "{answer}")?;
-        }
+    run(&rt, cases.as_str())
+}
+
+fn run(rt: &HostRuntime, cases: &str) -> io::Result<()> {
+    for line in cases.lines() {
+        run_line(rt, line)?;
     }
     Ok(())
+}
+
+fn run_line(rt: &HostRuntime, line: &str) -> io::Result<()> {
+    if line.starts_with('#') {
+        return println!(rt; "{line}");
+    }
+    match run_case(rt.alloc(), line) {
+        Ok(answer) => println!(rt; "{answer}"),
+        Err(error) => println!(rt; "{error}"),
+    }
 }

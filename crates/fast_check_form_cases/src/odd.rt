@@ -11,40 +11,47 @@ const SPAN: Tree = Tree::Range(SourceRange {
 
 /// The tree of this name, and the form that it is printed as.
 pub fn odd_tree(alloc: Global, name: &str) -> Result<Option<(Tree, Form)>, AllocError> {
-    let odd = match name {
-        "identifier-0" => identifier(alloc, 0)?,
-        "identifier-1" => identifier(alloc, 1)?,
-        "identifier-2" => identifier(alloc, 2)?,
-        "identifier-3" => identifier(alloc, 3)?,
-        "identifier-4" => identifier(alloc, 4)?,
-        "identifier-5" => identifier(alloc, 5)?,
-        "empty-mark" => (
+    match name {
+        "empty-mark" => Ok(Some((
             Tree::Node(Kind::TargetPat, Items::new(alloc)),
             Form::Choice(Choice::AssignTarget),
-        ),
-        "expression-as-type" => (
+        ))),
+        "expression-as-type" => Ok(Some((
             Tree::node(alloc, Kind::ThisExpr, [SPAN])?,
             Form::Choice(Choice::TsType),
-        ),
-        "other-word" => (Tree::Word(Word::Getter), Form::Word(Words::VarDeclKind)),
-        "word-as-flag" => (Tree::Word(Word::Getter), Form::Flag),
-        _ => return Ok(None),
-    };
-    Ok(Some(odd))
+        ))),
+        "other-word" => Ok(Some((Tree::Word(Word::Getter), Form::Word(Words::VarDeclKind)))),
+        "word-as-flag" => Ok(Some((Tree::Word(Word::Getter), Form::Flag))),
+        _ => identifier_named(alloc, name),
+    }
 }
 
-/// An identifier of the first `count` of its parts and one more.
-fn identifier(alloc: Global, count: usize) -> Result<(Tree, Form), AllocError> {
-    let parts = [
-        SPAN,
-        Tree::Context(SyntaxContext(2)),
-        Tree::Text(Atom::from_str(alloc, "ab")?),
-        Tree::Flag(true),
-        Tree::Absent,
-    ];
-    let mut items = Items::new(alloc);
-    for part in parts.into_iter().take(count) {
-        items.push(part)?;
+/// An identifier of so many of its parts and one more as its name says.
+fn identifier_named(alloc: Global, name: &str) -> Result<Option<(Tree, Form)>, AllocError> {
+    match name.strip_prefix("identifier-") {
+        Some(count) => {
+            let parts = parts_of_identifier(alloc, count.parse::<usize>().unwrap_or(0))?;
+            Ok(Some((Tree::Node(Kind::Ident, parts), Form::Struct(Kind::Ident))))
+        }
+        None => Ok(None),
     }
-    Ok((Tree::Node(Kind::Ident, items), Form::Struct(Kind::Ident)))
+}
+
+/// The first `count` parts of an identifier.
+fn parts_of_identifier(alloc: Global, count: usize) -> Result<Items<Tree>, AllocError> {
+    let mut items = Items::new(alloc);
+    for place in 0..count {
+        items.push(part_of_identifier(alloc, place)?)?;
+    }
+    Ok(items)
+}
+
+fn part_of_identifier(alloc: Global, place: usize) -> Result<Tree, AllocError> {
+    Ok(match place {
+        0 => SPAN,
+        1 => Tree::Context(SyntaxContext(2)),
+        2 => Tree::Text(Atom::from_str(alloc, "ab")?),
+        3 => Tree::Flag(true),
+        _ => Tree::Absent,
+    })
 }

@@ -20,7 +20,8 @@ pub struct ModuleGraph {
 }
 
 impl ModuleGraph {
-    /// The graph of these parts: the modules by specifier, what the texts in each module resolve to, and the export texts of packages by their export names. It takes no memory.
+    /// The graph of these parts: the modules by specifier, what the texts in each module resolve to, and the export texts of packages by their
+    /// export names. It takes no memory.
     pub fn from_parts(
         _alloc: Global,
         modules: BTreeMap<Url, Module>,

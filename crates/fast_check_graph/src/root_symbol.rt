@@ -1,7 +1,8 @@
 ghost use Rattle.std.specs.Prelude.{◌≡◌, IfOk, IfErr, OnOk};
 ghost use Rattle.std.specs.Option.{option_copied};
 ghost use Rattle.std.specs.List.{list_any};
-ghost use Rattle.fast_check_graph.specs.Root.{IsRootOf, StandUnderOwnNames, IsRootFault, found_module, module_named, module_aliased, specifier_of, is_misplaced};
+ghost use Rattle.fast_check_graph.specs.Root.{IsRootOf, StandUnderOwnNames, IsRootFault, found_module, module_named, module_aliased};
+ghost use Rattle.fast_check_graph.specs.Root.{specifier_of, is_misplaced};
 
 use fast_check_modules::{EsModuleInfo, JsonModuleInfo, TableFault};
 use std::collections::BTreeMap;
@@ -34,7 +35,8 @@ pub struct RootSymbol {
 }
 
 impl RootSymbol {
-    /// These modules and aliases, where each module stands under its own name; else `ModuleNotUnderOwnName`, and what was handed in is dropped. It takes no memory.
+    /// These modules and aliases, where each module stands under its own name; else `ModuleNotUnderOwnName`, and what was handed in is dropped.
+    /// It takes no memory.
     pub fn new(
         modules: BTreeMap<Url, ModuleInfo>,
         aliases: BTreeMap<Url, Url>,

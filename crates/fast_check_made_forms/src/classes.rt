@@ -1,13 +1,14 @@
 //! Classes, their members, and functions.
 
+use crate::lines::Lines;
 use crate::{CTXT, SPAN};
 use fast_check_class_forms::{
     Class, ClassMethod, ClassProp, Constructor, Function, Param, PrivateProp,
 };
 use fast_check_syntax::Tree;
-use std::alloc::{AllocError, Global};
+use std::alloc::Global;
 
-pub fn first(alloc: Global, made: &mut Vec<Tree>) -> Result<(), AllocError> {
+pub fn first(alloc: Global, lines: &mut Lines) {
     let form = Class {
         span: SPAN,
         ctxt: CTXT,
@@ -19,7 +20,7 @@ pub fn first(alloc: Global, made: &mut Vec<Tree>) -> Result<(), AllocError> {
         super_type_params: Tree::Absent,
         implements: Tree::Absent,
     };
-    made.push(form.into_tree(alloc)?)?;
+    lines.print(form.into_tree(alloc));
     let form = Constructor {
         span: SPAN,
         ctxt: CTXT,
@@ -29,11 +30,10 @@ pub fn first(alloc: Global, made: &mut Vec<Tree>) -> Result<(), AllocError> {
         accessibility: Tree::Absent,
         is_optional: true,
     };
-    made.push(form.into_tree(alloc)?)?;
-    Ok(())
+    lines.print(form.into_tree(alloc));
 }
 
-pub fn second(alloc: Global, made: &mut Vec<Tree>) -> Result<(), AllocError> {
+pub fn second(alloc: Global, lines: &mut Lines) {
     let form = ClassProp {
         span: SPAN,
         key: Tree::Absent,
@@ -49,11 +49,10 @@ pub fn second(alloc: Global, made: &mut Vec<Tree>) -> Result<(), AllocError> {
         declare: true,
         definite: true,
     };
-    made.push(form.into_tree(alloc)?)?;
-    Ok(())
+    lines.print(form.into_tree(alloc));
 }
 
-pub fn third(alloc: Global, made: &mut Vec<Tree>) -> Result<(), AllocError> {
+pub fn third(alloc: Global, lines: &mut Lines) {
     let form = PrivateProp {
         span: SPAN,
         ctxt: CTXT,
@@ -68,7 +67,7 @@ pub fn third(alloc: Global, made: &mut Vec<Tree>) -> Result<(), AllocError> {
         readonly: true,
         definite: true,
     };
-    made.push(form.into_tree(alloc)?)?;
+    lines.print(form.into_tree(alloc));
     let form = Function {
         span: SPAN,
         params: Tree::Absent,
@@ -80,17 +79,16 @@ pub fn third(alloc: Global, made: &mut Vec<Tree>) -> Result<(), AllocError> {
         type_params: Tree::Absent,
         return_type: Tree::Absent,
     };
-    made.push(form.into_tree(alloc)?)?;
-    Ok(())
+    lines.print(form.into_tree(alloc));
 }
 
-pub fn fourth(alloc: Global, made: &mut Vec<Tree>) -> Result<(), AllocError> {
+pub fn fourth(alloc: Global, lines: &mut Lines) {
     let form = Param {
         span: SPAN,
         decorators: Tree::Absent,
         pat: Tree::Absent,
     };
-    made.push(form.into_tree(alloc)?)?;
+    lines.print(form.into_tree(alloc));
     let form = ClassMethod {
         span: SPAN,
         key: Tree::Absent,
@@ -102,6 +100,5 @@ pub fn fourth(alloc: Global, made: &mut Vec<Tree>) -> Result<(), AllocError> {
         is_optional: true,
         is_override: true,
     };
-    made.push(form.into_tree(alloc)?)?;
-    Ok(())
+    lines.print(form.into_tree(alloc));
 }

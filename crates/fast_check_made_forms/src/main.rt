@@ -3,15 +3,15 @@
 
 mod classes;
 mod expressions;
+mod lines;
 mod programs;
 mod statements;
 mod types;
 
-use fast_check_print::write_tree;
-use fast_check_schema::{Choice, Form};
-use fast_check_syntax::{Atom, Kind, SourcePos, SourceRange, SyntaxContext, Tree};
-use json::Writer;
+use crate::lines::Lines;
+use fast_check_syntax::{Atom, SourcePos, SourceRange, SyntaxContext};
 use std::alloc::{AllocError, Global};
+use std::io;
 
 /// The range of each form that has one.
 pub const SPAN: SourceRange = SourceRange {
@@ -22,51 +22,48 @@ pub const SPAN: SourceRange = SourceRange {
 /// The scope number of each form that has one.
 pub const CTXT: SyntaxContext = SyntaxContext(7);
 
-fn main(rt: HostRuntime) -> anyhow::Result<()> {
-    let made = make_all(rt.alloc())?;
-    for tree in made.as_slice() {
-        let printed = print(rt.alloc(), tree)?;
-        println!(rt; "{printed}")?;
-    }
-    Ok(())
-}
-
 /// The text of each form that has one.
 pub fn text(alloc: Global) -> Result<Atom, AllocError> {
     Atom::from_str(alloc, "text")
 }
 
-fn make_all(alloc: Global) -> Result<Vec<Tree>, AllocError> {
-    let mut made = Vec::new(alloc);
-    programs::first(alloc, &mut made)?;
-    programs::second(alloc, &mut made)?;
-    programs::third(alloc, &mut made)?;
-    programs::fourth(alloc, &mut made)?;
-    statements::first(alloc, &mut made)?;
-    statements::second(alloc, &mut made)?;
-    statements::third(alloc, &mut made)?;
-    expressions::first(alloc, &mut made)?;
-    expressions::second(alloc, &mut made)?;
-    expressions::third(alloc, &mut made)?;
-    expressions::fourth(alloc, &mut made)?;
-    classes::first(alloc, &mut made)?;
-    classes::second(alloc, &mut made)?;
-    classes::third(alloc, &mut made)?;
-    classes::fourth(alloc, &mut made)?;
-    types::first(alloc, &mut made)?;
-    types::second(alloc, &mut made)?;
-    Ok(made)
+fn print_programs(alloc: Global, lines: &mut Lines) -> Result<(), AllocError> {
+    programs::first(alloc, lines)?;
+    programs::second(alloc, lines)?;
+    programs::third(alloc, lines)?;
+    programs::fourth(alloc, lines);
+    Ok(())
 }
 
-/// The kind of a tree and its JSON. The mark of a pattern prints as the variant that it marks.
-fn print(alloc: Global, tree: &Tree) -> anyhow::Result<String> {
-    let kind = tree.read().kind();
-    let form = match kind {
-        Kind::PatExpr => Form::Choice(Choice::Pat),
-        _ => Form::Struct(kind),
-    };
-    let mut out = Writer::new(Vec::new(alloc));
-    write_tree(&mut out, tree, form)?;
-    let json = String::from_utf8(out.into_inner())?;
-    Ok(format!(in alloc; "{kind:?} {json}")?)
+fn print_others(alloc: Global, lines: &mut Lines) {
+    statements::first(alloc, lines);
+    statements::second(alloc, lines);
+    statements::third(alloc, lines);
+    expressions::first(alloc, lines);
+    expressions::second(alloc, lines);
+    expressions::third(alloc, lines);
+    expressions::fourth(alloc, lines);
+    classes::first(alloc, lines);
+    classes::second(alloc, lines);
+    classes::third(alloc, lines);
+    classes::fourth(alloc, lines);
+    types::first(alloc, lines);
+    types::second(alloc, lines);
+}
+
+/// The lines of all forms, if memory was there.
+fn print_all(alloc: Global, lines: &mut Lines) -> Option<&str> {
+    if print_programs(alloc, lines).is_err() {
+        return None;
+    }
+    print_others(alloc, lines);
+    lines.text()
+}
+
+fn main(rt: HostRuntime) -> io::Result<()> {
+    let mut lines = Lines::new(rt.alloc());
+    print!(rt;
+        "{}",
+        print_all(rt.alloc(), &mut lines).unwrap_or("out of memory\n")
+    )
 }

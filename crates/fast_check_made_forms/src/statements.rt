@@ -1,26 +1,27 @@
 //! Declarations and statements.
 
+use crate::lines::Lines;
 use crate::{CTXT, SPAN};
 use fast_check_statement_forms::{
     BlockStmt, ClassDecl, FnDecl, ReturnStmt, TsInterfaceDecl, TsModuleBlock, TsModuleDecl,
     VarDecl, VarDeclarator,
 };
 use fast_check_syntax::Tree;
-use std::alloc::{AllocError, Global};
+use std::alloc::Global;
 
-pub fn first(alloc: Global, made: &mut Vec<Tree>) -> Result<(), AllocError> {
+pub fn first(alloc: Global, lines: &mut Lines) {
     let form = ClassDecl {
         ident: Tree::Absent,
         declare: true,
         class: Tree::Absent,
     };
-    made.push(form.into_tree(alloc)?)?;
+    lines.print(form.into_tree(alloc));
     let form = FnDecl {
         ident: Tree::Absent,
         declare: true,
         function: Tree::Absent,
     };
-    made.push(form.into_tree(alloc)?)?;
+    lines.print(form.into_tree(alloc));
     let form = VarDecl {
         span: SPAN,
         ctxt: CTXT,
@@ -28,29 +29,28 @@ pub fn first(alloc: Global, made: &mut Vec<Tree>) -> Result<(), AllocError> {
         declare: true,
         decls: Tree::Absent,
     };
-    made.push(form.into_tree(alloc)?)?;
+    lines.print(form.into_tree(alloc));
     let form = VarDeclarator {
         span: SPAN,
         name: Tree::Absent,
         init: Tree::Absent,
         definite: true,
     };
-    made.push(form.into_tree(alloc)?)?;
-    Ok(())
+    lines.print(form.into_tree(alloc));
 }
 
-pub fn second(alloc: Global, made: &mut Vec<Tree>) -> Result<(), AllocError> {
+pub fn second(alloc: Global, lines: &mut Lines) {
     let form = BlockStmt {
         span: SPAN,
         ctxt: CTXT,
         stmts: Tree::Absent,
     };
-    made.push(form.into_tree(alloc)?)?;
+    lines.print(form.into_tree(alloc));
     let form = ReturnStmt {
         span: SPAN,
         arg: Tree::Absent,
     };
-    made.push(form.into_tree(alloc)?)?;
+    lines.print(form.into_tree(alloc));
     let form = TsInterfaceDecl {
         span: SPAN,
         id: Tree::Absent,
@@ -59,7 +59,7 @@ pub fn second(alloc: Global, made: &mut Vec<Tree>) -> Result<(), AllocError> {
         extends: Tree::Absent,
         body: Tree::Absent,
     };
-    made.push(form.into_tree(alloc)?)?;
+    lines.print(form.into_tree(alloc));
     let form = TsModuleDecl {
         span: SPAN,
         declare: true,
@@ -68,15 +68,13 @@ pub fn second(alloc: Global, made: &mut Vec<Tree>) -> Result<(), AllocError> {
         id: Tree::Absent,
         body: Tree::Absent,
     };
-    made.push(form.into_tree(alloc)?)?;
-    Ok(())
+    lines.print(form.into_tree(alloc));
 }
 
-pub fn third(alloc: Global, made: &mut Vec<Tree>) -> Result<(), AllocError> {
+pub fn third(alloc: Global, lines: &mut Lines) {
     let form = TsModuleBlock {
         span: SPAN,
         body: Tree::Absent,
     };
-    made.push(form.into_tree(alloc)?)?;
-    Ok(())
+    lines.print(form.into_tree(alloc));
 }

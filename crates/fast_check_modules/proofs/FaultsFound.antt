@@ -35,7 +35,8 @@ lacks t e = let w = witness (lacks_declaration t.module_symbol) t.symbols.items 
     record { symbol = w.0; among = w.1; needed = and_right _ _ w.2; undeclared = nil_of w.0.decls.items (and_left _ _ w.2) }
 
 pub lacks_none : (t : ModuleTables) → list_any (lacks_declaration t.module_symbol) t.symbols.items ≡ false → LacksDeclaration t → ⊥
-lacks_none t e l = none_of (lacks_declaration t.module_symbol) t.symbols.items l.symbol e l.among (and_both _ _ (nil_is l.symbol.decls.items l.undeclared) l.needed)
+lacks_none t e l =
+    none_of (lacks_declaration t.module_symbol) t.symbols.items l.symbol e l.among (and_both _ _ (nil_is l.symbol.decls.items l.undeclared) l.needed)
 
 -- ranges that are the same are one
 range_of : ℕ → ℕ → SourceRange
@@ -58,25 +59,31 @@ same_bound t made h id =
     ap (λ o. option_and_then (λ s. symbol_of s made.symbols) o) (h.swc_ids id)
     ∙ ap (λ (ss : List Symbol). option_and_then (λ s. symbol_of s ss) (last_value (same_id id) t.swc_ids.items)) h.symbols
 
-same_ranges : (t : ModuleTables) (made : Tables) → AreMadeOf t made → table_ranges made.symbols made.re_exports ≡ table_ranges t.symbols.items t.re_export_all_nodes.items
+same_ranges : (t : ModuleTables) (made : Tables) → AreMadeOf t made
+    → table_ranges made.symbols made.re_exports ≡ table_ranges t.symbols.items t.re_export_all_nodes.items
 same_ranges t made h =
     ap (λ (ss : List Symbol). table_ranges ss made.re_exports) h.symbols
     ∙ ap (λ (ns : List ReExportAllNode). table_ranges t.symbols.items ns) h.re_exports
 
-pub unbound : (t : ModuleTables) (made : Tables) (program : Tree) → AreMadeOf t made → list_any (is_ranged_unbound made) (expandos program) ≡ true → HasUnboundExpando t program
+pub unbound : (t : ModuleTables) (made : Tables) (program : Tree) → AreMadeOf t made
+    → list_any (is_ranged_unbound made) (expandos program) ≡ true → HasUnboundExpando t program
 unbound t made program h e = let w = witness (is_ranged_unbound made) (expandos program) e in
     record {
       expando = w.0;
       among = w.1;
-      ranged = subst (λ (rs : List SourceRange). Contains rs w.0.range) (same_ranges t made h) (Contains-from_any exact_range w.0.range (table_ranges made.symbols made.re_exports) (and_left _ _ w.2));
+      ranged =
+          subst (λ (rs : List SourceRange). Contains rs w.0.range) (same_ranges t made h)
+          (Contains-from_any exact_range w.0.range (table_ranges made.symbols made.re_exports) (and_left _ _ w.2));
       unbound = sym (same_bound t made h w.0.object) ∙ is_none_of (symbol_of_swc made w.0.object) (and_right _ _ w.2);
     }
 
-pub unbound_none : (t : ModuleTables) (made : Tables) (program : Tree) → AreMadeOf t made → list_any (is_ranged_unbound made) (expandos program) ≡ false → HasUnboundExpando t program → ⊥
+pub unbound_none : (t : ModuleTables) (made : Tables) (program : Tree) → AreMadeOf t made
+    → list_any (is_ranged_unbound made) (expandos program) ≡ false → HasUnboundExpando t program → ⊥
 unbound_none t made program h e u =
     none_of (is_ranged_unbound made) (expandos program) u.expando e u.among
     (and_both _ _
-    (list_any-from_Contains range_equiv u.expando.range (table_ranges made.symbols made.re_exports) (subst (λ (rs : List SourceRange). Contains rs u.expando.range) (sym (same_ranges t made h)) u.ranged))
+    (list_any-from_Contains range_equiv u.expando.range (table_ranges made.symbols made.re_exports)
+    (subst (λ (rs : List SourceRange). Contains rs u.expando.range) (sym (same_ranges t made h)) u.ranged))
     (none_is (symbol_of_swc made u.expando.object) (same_bound t made h u.expando.object ∙ u.unbound)))
 
 -- each expando statement with a public range has an object with a symbol
@@ -98,20 +105,26 @@ admits_none m p h e =
     apart true s n = let f : false ≡ true = n in cc
     apart false s n = cc
 
-pub admits_when : (m : EsModule) (p : PublicRanges) (b : Bool) → b ≡ list_any (is_public_unbound m.tables p) (expandos m.source.program) → IsTrue (not b) ↔ Admits m p
+pub admits_when : (m : EsModule) (p : PublicRanges) (b : Bool) → b ≡ list_any (is_public_unbound m.tables p) (expandos m.source.program)
+    → IsTrue (not b) ↔ Admits m p
 admits_when m p false e = (λ _. admitted m p (sym e), λ _. refl)
 admits_when m p true e = (λ n. absurd (let f : false ≡ true = n in cc), λ h. absurd (admits_none m p h (sym e)))
 
 -- the same tests, of what the table of symbols and the list of identifiers have
-pub misses_is : (t : ModuleTables) (symbols : List Symbol) (ids : List (Id × SymbolId)) (b : Bool) → symbols ≡ t.symbols.items → ids ≡ t.swc_ids.items → b ≡ list_any (is_missing symbols) (t.module_symbol ∷ (flat_map mentioned_by symbols ++ values_of ids)) → b ≡ list_any (is_missing t.symbols.items) (mentioned t)
+pub misses_is : (t : ModuleTables) (symbols : List Symbol) (ids : List (Id × SymbolId)) (b : Bool) → symbols ≡ t.symbols.items
+    → ids ≡ t.swc_ids.items → b ≡ list_any (is_missing symbols) (t.module_symbol ∷ (flat_map mentioned_by symbols ++ values_of ids))
+    → b ≡ list_any (is_missing t.symbols.items) (mentioned t)
 misses_is t symbols ids b e f h =
     h ∙ (ap (λ (ss : List Symbol). list_any (is_missing ss) (t.module_symbol ∷ (flat_map mentioned_by ss ++ values_of ids))) e
-    ∙ ap (λ (is : List (Id × SymbolId)). list_any (is_missing t.symbols.items) (t.module_symbol ∷ (flat_map mentioned_by t.symbols.items ++ values_of is))) f)
+    ∙ ap (λ (is : List (Id × SymbolId)). list_any (is_missing t.symbols.items)
+    (t.module_symbol ∷ (flat_map mentioned_by t.symbols.items ++ values_of is))) f)
 
-pub lacks_is : (t : ModuleTables) (symbols : List Symbol) (b : Bool) → symbols ≡ t.symbols.items → b ≡ list_any (lacks_declaration t.module_symbol) symbols → b ≡ list_any (lacks_declaration t.module_symbol) t.symbols.items
+pub lacks_is : (t : ModuleTables) (symbols : List Symbol) (b : Bool) → symbols ≡ t.symbols.items
+    → b ≡ list_any (lacks_declaration t.module_symbol) symbols → b ≡ list_any (lacks_declaration t.module_symbol) t.symbols.items
 lacks_is t symbols b e h = h ∙ ap (λ (ss : List Symbol). list_any (lacks_declaration t.module_symbol) ss) e
 
-pub own_admitted : (m : EsModule) (p : PublicRanges) (b : Bool) → b ≡ list_any (is_public_unbound m.tables p) (expandos m.source.program) → BindsOwnRanges m.tables m.source.program → AreOwnRanges m.tables p → IsTrue (not b)
+pub own_admitted : (m : EsModule) (p : PublicRanges) (b : Bool) → b ≡ list_any (is_public_unbound m.tables p) (expandos m.source.program)
+    → BindsOwnRanges m.tables m.source.program → AreOwnRanges m.tables p → IsTrue (not b)
 own_admitted m p b e bound own = (admits_when m p b e).1 (λ x among shown. bound x among (own x.range shown))
 
 -- no expando statement without symbol has a range of the tables
@@ -120,4 +133,6 @@ binds_own t program none e among ranged = go (is_some (symbol_of_swc t e.object)
   where
     go : (b : Bool) → is_some (symbol_of_swc t e.object) ≡ b → IsSome (symbol_of_swc t e.object)
     go true h = h
-    go false h = absurd (none_of (is_ranged_unbound t) (expandos program) e none among (and_both _ _ (list_any-from_Contains range_equiv e.range (table_ranges t.symbols t.re_exports) ranged) (ap not h)))
+    go false h =
+        absurd (none_of (is_ranged_unbound t) (expandos program) e none among
+        (and_both _ _ (list_any-from_Contains range_equiv e.range (table_ranges t.symbols t.re_exports) ranged) (ap not h)))

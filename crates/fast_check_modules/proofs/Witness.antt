@@ -1,5 +1,6 @@
 -- What the tests of lists say of single items.
-use Rattle.std.proofs.Common.{◌≡◌, ◌∙◌, sym, ap, refl, ℕ, zero, suc, ◌<◌, Bool, true, false, not, ◌||◌, ◌&&◌, ◌==◌, List, [], ◌∷◌, Option, Some, None, length, get_or, arith}
+use Rattle.std.proofs.Common.{◌≡◌, ◌∙◌, sym, ap, refl, ℕ, zero, suc, ◌<◌, Bool, true, false, not, ◌||◌, ◌&&◌, ◌==◌, List, [], ◌∷◌, Option}
+use Rattle.std.proofs.Common.{Some, None, length, get_or, arith}
 use Rattle.std.specs.Prelude.{is_some}
 use Rattle.std.specs.List.{list_any, Contains, flat_map}
 use Rattle.std.specs.Map.{values_of}
@@ -14,7 +15,8 @@ later_of : {X : Type 0} (x y : X) (xs : List X) → Contains xs y → Contains (
 later_of x y xs h = Contains-append_right (x ∷ []) xs y h
 
 -- some item passes
-witness_at : {X : Type 0} (f : X → Bool) (x : X) (xs : List X) (b : Bool) → f x ≡ b → (list_any f xs ≡ true → (y : X) × Contains xs y × (f y ≡ true)) → (b || list_any f xs) ≡ true → (y : X) × Contains (x ∷ xs) y × (f y ≡ true)
+witness_at : {X : Type 0} (f : X → Bool) (x : X) (xs : List X) (b : Bool) → f x ≡ b
+    → (list_any f xs ≡ true → (y : X) × Contains xs y × (f y ≡ true)) → (b || list_any f xs) ≡ true → (y : X) × Contains (x ∷ xs) y × (f y ≡ true)
 witness_at f x xs true h rest e = (x, first_of x xs, h)
 witness_at f x xs false h rest e = let w = rest e in (w.0, later_of x w.0 xs w.1, w.2)
 
@@ -85,8 +87,10 @@ any_inside f g (x ∷ xs) = list_any-append f (g x) (flat_map g xs) ∙ ap (λ b
 pub found_at : {X : Type 0} (f : X → Bool) (xs : List X) (i : ℕ) (x : X) → i < length xs → x ≡ get_or xs i x → f x ≡ true → true ≡ list_any f xs
 found_at f xs i x lt is e = sym (present f xs x (i, lt, sym is) e)
 
-pub found_value_at : {K X : Type 0} (f : X → Bool) (es : List (K × X)) (i : ℕ) (e : K × X) → i < length es → e ≡ get_or es i e → f e.1 ≡ true → true ≡ list_any f (values_of es)
+pub found_value_at : {K X : Type 0} (f : X → Bool) (es : List (K × X)) (i : ℕ) (e : K × X) → i < length es → e ≡ get_or es i e
+    → f e.1 ≡ true → true ≡ list_any f (values_of es)
 found_value_at f es i e lt is h = found_at (λ e. f e.1) es i e lt is h ∙ sym (any_value f es)
 
-pub found_inside_at : {X Y : Type 0} (f : Y → Bool) (g : X → List Y) (xs : List X) (i : ℕ) (x : X) → i < length xs → x ≡ get_or xs i x → list_any f (g x) ≡ true → true ≡ list_any f (flat_map g xs)
+pub found_inside_at : {X Y : Type 0} (f : Y → Bool) (g : X → List Y) (xs : List X) (i : ℕ) (x : X) → i < length xs → x ≡ get_or xs i x
+    → list_any f (g x) ≡ true → true ≡ list_any f (flat_map g xs)
 found_inside_at f g xs i x lt is h = found_at (λ x. list_any f (g x)) xs i x lt is h ∙ sym (any_inside f g xs)

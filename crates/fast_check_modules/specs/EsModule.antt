@@ -23,11 +23,13 @@ pub record JsonModule : Type 0 where
 
 -- each expando statement with a public range has an object with a symbol
 abbrev pub Admits : EsModule → PublicRanges → Type 0
-Admits m public = (e : Expando) → Contains (expandos m.source.program) e → IsTrue (is_public public e.range) → IsSome (symbol_of_swc m.tables e.object)
+Admits m public =
+    (e : Expando) → Contains (expandos m.source.program) e → IsTrue (is_public public e.range) → IsSome (symbol_of_swc m.tables e.object)
 
 -- the same of the ranges of the tables themselves
 abbrev pub BindsOwnRanges : Tables → Tree → Type 0
-BindsOwnRanges t program = (e : Expando) → Contains (expandos program) e → Contains (table_ranges t.symbols t.re_exports) e.range → IsSome (symbol_of_swc t e.object)
+BindsOwnRanges t program =
+    (e : Expando) → Contains (expandos program) e → Contains (table_ranges t.symbols t.re_exports) e.range → IsSome (symbol_of_swc t e.object)
 
 -- all that is public is a range of the tables
 abbrev pub AreOwnRanges : Tables → PublicRanges → Type 0

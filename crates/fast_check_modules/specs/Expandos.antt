@@ -15,7 +15,8 @@ use Rattle.fast_check_modules.specs.declared.expandos.Expando.{Expando}
 
 -- a plain identifier property of an identifier
 abbrev pub is_expando_target : Tree → Bool
-is_expando_target t = (kind_of t is kinds.MemberExpr) && ((kind_of (MemberExpr-obj t) is kinds.Ident) && (kind_of (MemberExpr-prop t) is kinds.IdentName))
+is_expando_target t =
+    (kind_of t is kinds.MemberExpr) && ((kind_of (MemberExpr-obj t) is kinds.Ident) && (kind_of (MemberExpr-prop t) is kinds.IdentName))
 
 -- such a property is assigned to, by `=`
 abbrev pub is_expando_assignment : Tree → Bool

@@ -12,7 +12,8 @@ use Rattle.fast_check_symbols.specs.declared.symbol.Symbol.{Symbol}
 use Rattle.fast_check_symbols.specs.Symbols.{symbol_of}
 use Rattle.fast_check_modules.specs.declared.tables.ReExportAllNode.{ReExportAllNode}
 
--- the symbols, the one that stands for the module, those of resolved identifiers, the re-exports of all, and the exported names with the modules that answer them
+-- the symbols, the one that stands for the module, those of resolved identifiers, the re-exports of all, and the exported names with the
+-- modules that answer them
 pub record Tables : Type 0 where
   pub symbols : List Symbol
   pub module_symbol : SymbolId

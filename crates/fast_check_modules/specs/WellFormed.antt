@@ -13,7 +13,8 @@ use Rattle.fast_check_symbols.specs.Entries.{last_value}
 use Rattle.fast_check_symbols.specs.Symbols.{symbol_of, mentioned_by}
 use Rattle.fast_check_modules.specs.declared.expandos.Expando.{Expando}
 use Rattle.fast_check_modules.specs.declared.fault.TableFault.{TableFault}
-use Rattle.fast_check_modules.specs.declared.fault.TableFault.TheVariants.{MissingSymbol, SymbolWithoutDecl, ModuleNotUnderOwnName, ExpandoWithoutSymbol, OutOfMemory}
+use Rattle.fast_check_modules.specs.declared.fault.TableFault.TheVariants.{MissingSymbol, SymbolWithoutDecl, ModuleNotUnderOwnName}
+use Rattle.fast_check_modules.specs.declared.fault.TableFault.TheVariants.{ExpandoWithoutSymbol, OutOfMemory}
 use Rattle.fast_check_modules.specs.declared.tables.ModuleTables.{ModuleTables}
 use Rattle.fast_check_modules.specs.Expandos.{expandos}
 use Rattle.fast_check_modules.specs.Faults.{needs_declaration}
@@ -79,4 +80,5 @@ pub record AreMadeOf (t : ModuleTables) (made : Tables) : Type 0 where
   pub module_symbol : made.module_symbol ≡ t.module_symbol
   pub swc_ids : (id : Id) → symbol_id_of made id ≡ last_value (same_id id) t.swc_ids.items
   pub re_exports : made.re_exports ≡ t.re_export_all_nodes.items
-  pub resolved : (name : String Global) → resolved_export made (string_bytes name) ≡ last_value (λ k. bytes_eq (string_bytes name) (string_bytes k)) t.resolved_exports.items
+  pub resolved : (name : String Global)
+      → resolved_export made (string_bytes name) ≡ last_value (λ k. bytes_eq (string_bytes name) (string_bytes k)) t.resolved_exports.items

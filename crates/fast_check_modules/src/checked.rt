@@ -30,7 +30,13 @@ impl Model for CheckedTables {
 
     ghost Value = { Tables };
 
-    ghost view = { λ t. record { symbols = t.symbols; module_symbol = t.module_symbol; swc_ids = t.swc_ids.entries; re_exports = t.re_export_all_nodes.items; resolved = map (λ e. (string_bytes e.0, e.1)) t.resolved_exports.entries } };
+    ghost view = { λ t. record {
+      symbols = t.symbols;
+      module_symbol = t.module_symbol;
+      swc_ids = t.swc_ids.entries;
+      re_exports = t.re_export_all_nodes.items;
+      resolved = map (λ e. (string_bytes e.0, e.1)) t.resolved_exports.entries;
+    } };
 }
 
 impl CheckedTables {
@@ -114,7 +120,8 @@ impl CheckedTables {
 
     /// The ranges of the declarations and of the re-exports of all.
     pub fn ranges(&self, alloc: Global) -> Result<BTreeSet<SourceRange>, AllocError>
-        ensures { IfOk result (λ set. (r : _) → list_any (same_range r) set.keys ≡ list_any (same_range r) (table_ranges self.now.symbols self.now.re_exports)) }
+        ensures { IfOk result (λ set. (r : _)
+            → list_any (same_range r) set.keys ≡ list_any (same_range r) (table_ranges self.now.symbols self.now.re_exports)) }
     {
         let mut ranges = Vec::new(alloc);
         push_declarations(self.symbols.as_slice(), &mut ranges)?;

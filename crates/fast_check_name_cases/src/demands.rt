@@ -1,110 +1,136 @@
 //! Calls on what is demanded of a module, and on the modules that were followed or wait to be.
 
 use crate::packages::package_of;
-use crate::sets::{name_and_rest, set_of, shown};
-use anyhow::Result;
+use crate::said::Said;
+use crate::sets::{name_and_rest, set_of, tell_set};
 use fast_check_names::{FileDepName, ImportedExports};
-use fast_check_packages::{HandledExports, PendingTraces};
-use std::alloc::{AllocError, Global};
+use fast_check_packages::{HandledExports, PendingTrace, PendingTraces};
+use std::alloc::Global;
 use url::Url;
 
 /// What is demanded of a module, as it is written.
-fn demand_of(alloc: Global, words: &[String]) -> Result<ImportedExports, AllocError> {
+fn demand_of(alloc: Global, words: &[String], said: &mut Said) -> ImportedExports {
     match words {
-        [word] if word.as_str() == "*" => Ok(ImportedExports::star()),
-        [word] if word.as_str() == "**" => Ok(ImportedExports::star_with_default()),
-        _ => Ok(ImportedExports::subset(set_of(alloc, words)?)),
+        [word] if word.as_str() == "*" => ImportedExports::star(),
+        [word] if word.as_str() == "**" => ImportedExports::star_with_default(),
+        _ => ImportedExports::subset(set_of(alloc, words, said)),
     }
 }
 
-fn shown_demand(alloc: Global, demand: &ImportedExports) -> Result<String, AllocError> {
+fn tell_demand(alloc: Global, demand: &ImportedExports, said: &mut Said) {
     match demand {
-        ImportedExports::Star => String::from_str(alloc, "*"),
-        ImportedExports::StarWithDefault => String::from_str(alloc, "**"),
-        ImportedExports::Subset(set) => shown(alloc, set),
+        ImportedExports::Star => said.tell(" *"),
+        ImportedExports::StarWithDefault => said.tell(" **"),
+        ImportedExports::Subset(set) => tell_set(alloc, set, said),
     }
 }
 
-fn shown_answer(alloc: Global, answer: &Option<ImportedExports>) -> Result<String, AllocError> {
+fn tell_answer(alloc: Global, answer: &Option<ImportedExports>, said: &mut Said) {
+    said.tell("answers");
     match answer {
-        None => String::from_str(alloc, "nothing"),
-        Some(demand) => shown_demand(alloc, demand),
+        None => said.tell(" nothing"),
+        Some(demand) => tell_demand(alloc, demand, said),
     }
 }
 
-fn leaves(alloc: Global, demand: &ImportedExports) -> Result<String, AllocError> {
-    let demand = shown_demand(alloc, demand)?;
-    format!(in alloc; "leaves {demand}")
-}
-
-fn file_dep_name(alloc: Global, words: &[String]) -> Result<FileDepName, AllocError> {
+fn file_dep_name(alloc: Global, words: &[String], said: &mut Said) -> FileDepName {
     let (name, _) = name_and_rest(words);
     if name == "*" {
-        return Ok(FileDepName::Star);
+        FileDepName::Star
+    } else {
+        FileDepName::Name(said.copy(alloc, name))
     }
-    Ok(FileDepName::Name(String::from_str(alloc, name)?))
 }
 
-fn add(
+fn from_file_dep_name(
     alloc: Global,
     demand: &mut ImportedExports,
     words: &[String],
-) -> Result<String, AllocError> {
-    let answer = demand.add(alloc, demand_of(alloc, words)?)?;
-    let answer = shown_answer(alloc, &answer)?;
-    let state = leaves(alloc, demand)?;
-    format!(in alloc; "answers {answer}, {state}")
+    said: &mut Said,
+) {
+    let name = file_dep_name(alloc, words, said);
+    match ImportedExports::from_file_dep_name(alloc, &name) {
+        Ok(made) => *demand = made,
+        Err(_) => said.lack(),
+    }
 }
 
-/// What a call on what is demanded of a module answers and leaves; None where it is none.
+fn add(alloc: Global, demand: &mut ImportedExports, words: &[String], said: &mut Said) {
+    match demand.add(alloc, demand_of(alloc, words, said)) {
+        Ok(answer) => {
+            tell_answer(alloc, &answer, said);
+            said.tell(", ");
+        }
+        Err(_) => said.lack(),
+    }
+}
+
+/// Tells what a call on what is demanded of a module answers and leaves, and says whether it is such a call.
 pub fn call(
     alloc: Global,
     demand: &mut ImportedExports,
     command: &str,
     words: &[String],
-) -> Result<Option<String>, AllocError> {
-    let said = match command {
-        "demand" => {
-            *demand = demand_of(alloc, words)?;
-            leaves(alloc, demand)?
-        }
-        "from_file_dep_name" => {
-            *demand = ImportedExports::from_file_dep_name(alloc, &file_dep_name(alloc, words)?)?;
-            leaves(alloc, demand)?
-        }
-        "add_demand" => add(alloc, demand, words)?,
-        _ => return Ok(None),
-    };
-    Ok(Some(said))
+    said: &mut Said,
+) -> bool {
+    match command {
+        "demand" => *demand = demand_of(alloc, words, said),
+        "from_file_dep_name" => from_file_dep_name(alloc, demand, words, said),
+        "add_demand" => add(alloc, demand, words, said),
+        _ => return false,
+    }
+    said.tell("leaves");
+    tell_demand(alloc, demand, said);
+    true
 }
 
 /// Follows a module: its URL, and what is demanded of it.
-pub fn handle(alloc: Global, handled: &mut HandledExports, words: &[String]) -> Result<String> {
+pub fn handle(alloc: Global, handled: &mut HandledExports, words: &[String], said: &mut Said) {
     let (module, demand) = name_and_rest(words);
-    let module = Url::parse(alloc, module)?;
-    let answer = handled.add(alloc, &module, demand_of(alloc, demand)?)?;
-    let answer = shown_answer(alloc, &answer)?;
-    Ok(format!(in alloc; "answers {answer}")?)
+    match Url::parse(alloc, module) {
+        Ok(module) => follow(alloc, handled, &module, demand, said),
+        Err(_) => said.tell("no URL"),
+    }
+}
+
+fn follow(
+    alloc: Global,
+    handled: &mut HandledExports,
+    module: &Url,
+    demand: &[String],
+    said: &mut Said,
+) {
+    match handled.add(alloc, module, demand_of(alloc, demand, said)) {
+        Ok(answer) => tell_answer(alloc, &answer, said),
+        Err(_) => said.lack(),
+    }
 }
 
 /// Lets a module wait: the package by name and major number, its URL, and what is demanded of it.
-pub fn wait(alloc: Global, pending: &mut PendingTraces, words: &[String]) -> Result<String> {
+pub fn wait(alloc: Global, pending: &mut PendingTraces, words: &[String], said: &mut Said) {
     let (name, words) = name_and_rest(words);
     let (major, words) = name_and_rest(words);
     let (module, demand) = name_and_rest(words);
-    let package = package_of(alloc, name, major)?;
-    let module = Url::parse(alloc, module)?;
-    pending.add(alloc, package, module, demand_of(alloc, demand)?)?;
-    Ok(String::from_str(alloc, "waits")?)
+    match Url::parse(alloc, module) {
+        Ok(module) => {
+            let package = package_of(alloc, name, major, said);
+            let added = pending.add(alloc, package, module, demand_of(alloc, demand, said));
+            said.note(added);
+            said.tell("waits");
+        }
+        Err(_) => said.tell("no URL"),
+    }
 }
 
-/// The package, the module and the demand that are taken.
-pub fn pop(alloc: Global, pending: &mut PendingTraces) -> Result<String, AllocError> {
+/// Tells the package, the module and the demand that are taken.
+pub fn pop(alloc: Global, pending: &mut PendingTraces, said: &mut Said) {
     match pending.pop() {
-        None => String::from_str(alloc, "answers nothing"),
-        Some(trace) => {
-            let demand = shown_demand(alloc, &trace.exports_to_trace)?;
-            format!(in alloc; "answers {} {} {demand}", trace.package_nv, trace.specifier)
-        }
+        None => said.tell("answers nothing"),
+        Some(trace) => tell_trace(alloc, &trace, said),
     }
+}
+
+fn tell_trace(alloc: Global, trace: &PendingTrace, said: &mut Said) {
+    said.tell_made(format!(in alloc; "answers {} {}", trace.package_nv, trace.specifier));
+    tell_demand(alloc, &trace.exports_to_trace, said);
 }

@@ -7,13 +7,14 @@
 mod demands;
 mod packages;
 mod pairs;
+mod said;
 mod sets;
 
-use anyhow::{Result, bail};
+use crate::said::Said;
 use fast_check_names::{Exports, ImportedExports, NamedSubset};
 use fast_check_packages::{HandledExports, PendingTraces};
 use std::alloc::Global;
-use std::fs;
+use std::{fs, io};
 
 /// The values that the calls go to.
 #[derive(Drop)]
@@ -25,25 +26,22 @@ struct Case {
     pending: PendingTraces,
 }
 
-/// What the call of a line answers and leaves.
-fn call(alloc: Global, case: &mut Case, command: &str, words: &[String]) -> Result<String> {
-    if let Some(said) = sets::call(alloc, &mut case.set, command, words)? {
-        return Ok(said);
-    }
-    if let Some(said) = sets::call_below(alloc, &mut case.below, command, words)? {
-        return Ok(said);
-    }
-    if let Some(said) = demands::call(alloc, &mut case.demand, command, words)? {
-        return Ok(said);
+/// Tells what the call of a line answers and leaves.
+fn call(alloc: Global, case: &mut Case, command: &str, words: &[String], said: &mut Said) {
+    if sets::call(alloc, &mut case.set, command, words, said)
+        || sets::call_below(alloc, &mut case.below, command, words, said)
+        || demands::call(alloc, &mut case.demand, command, words, said)
+    {
+        return;
     }
     match command {
-        "handle" => demands::handle(alloc, &mut case.handled, words),
-        "wait" => demands::wait(alloc, &mut case.pending, words),
-        "pop" => Ok(demands::pop(alloc, &mut case.pending)?),
-        "compare" => packages::compare(alloc, words),
-        "as_nv" => packages::as_nv(alloc, words),
-        "each_pair" => pairs::each_pair(alloc),
-        _ => bail!("no call: {command}"),
+        "handle" => demands::handle(alloc, &mut case.handled, words, said),
+        "wait" => demands::wait(alloc, &mut case.pending, words, said),
+        "pop" => demands::pop(alloc, &mut case.pending, said),
+        "compare" => packages::compare(alloc, words, said),
+        "as_nv" => packages::as_nv(alloc, words, said),
+        "each_pair" => pairs::each_pair(alloc, said),
+        _ => said.tell("no such call"),
     }
 }
 
@@ -58,26 +56,43 @@ fn start(alloc: Global) -> Case {
     }
 }
 
-/// Prints a line, and what its call answers and leaves.
-fn run_line(rt: &HostRuntime, case: &mut Case, line: &str) -> Result<()> {
-    let alloc = rt.alloc();
-    println!(rt; "{line}")?;
+fn words_of(alloc: Global, line: &str, said: &mut Said) -> Vec<String> {
     let mut words = Vec::new(alloc);
     for word in line.split_whitespace() {
-        words.push(String::from_str(alloc, word)?)?;
+        if words.push(said.copy(alloc, word)).is_err() {
+            said.lack();
+        }
     }
-    let (command, words) = sets::name_and_rest(words.as_slice());
-    if !command.is_empty() && command != "#" {
-        println!(rt; "    {}", call(alloc, case, command, words)?)?;
+    words
+}
+
+/// Tells what the call of a line answers and leaves, if it has one.
+fn tell_line(alloc: Global, case: &mut Case, line: &str, said: &mut Said) {
+    let words = words_of(alloc, line, said);
+    if let Some((command, words)) = words.split_first() {
+        if command.as_str() != "#" {
+            said.tell("\n    ");
+            call(alloc, case, command.as_str(), words, said);
+        }
+    }
+}
+
+/// Prints a line, and what is told of it.
+fn run_line(rt: &HostRuntime, case: &mut Case, line: &str) -> io::Result<()> {
+    let mut said = Said::new(rt.alloc());
+    tell_line(rt.alloc(), case, line, &mut said);
+    println!(rt; "{line}{}", said.text().unwrap_or("\n    out of memory"))
+}
+
+fn run(rt: &HostRuntime, case: &mut Case, cases: &str) -> io::Result<()> {
+    for line in cases.lines() {
+        run_line(rt, case, line)?;
     }
     Ok(())
 }
 
-fn main(rt: HostRuntime) -> Result<()> {
+fn main(rt: HostRuntime) -> io::Result<()> {
     let cases = fs::read_to_string(&rt, "cases")?;
     let mut case = start(rt.alloc());
-    for line in cases.as_str().lines() {
-        run_line(&rt, &mut case, line)?;
-    }
-    Ok(())
+    run(&rt, &mut case, cases.as_str())
 }

@@ -1,53 +1,73 @@
 //! Calls on packages and members of a workspace.
 
+use crate::said::Said;
 use crate::sets::name_and_rest;
-use anyhow::{Context, Result};
 use fast_check_packages::{PackageNv, WorkspaceMember};
 use indexmap::IndexMap;
 use semver::Version;
-use std::alloc::Global;
+use std::alloc::{AllocError, Global};
 use std::cmp::Ordering;
 use url::Url;
 
-/// The package of this name, and of the first version under this major number.
-pub fn package_of(alloc: Global, name: &str, major: &str) -> Result<PackageNv> {
-    let major = major.parse::<u64>().context("a number")?;
-    Ok(PackageNv {
-        name: String::from_str(alloc, name)?,
-        version: Version::new(major, 0, 0),
-    })
+/// The first version under a major number, 0 where it is none.
+fn version_of(major: &str) -> Version {
+    Version::new(major.parse::<u64>().unwrap_or(0), 0, 0)
 }
 
-/// How two packages compare, each by name and major number.
-pub fn compare(alloc: Global, words: &[String]) -> Result<String> {
+/// The package of this name, and of the first version under this major number.
+pub fn package_of(alloc: Global, name: &str, major: &str, said: &mut Said) -> PackageNv {
+    PackageNv {
+        name: said.copy(alloc, name),
+        version: version_of(major),
+    }
+}
+
+/// Tells how two packages compare, each by name and major number.
+pub fn compare(alloc: Global, words: &[String], said: &mut Said) {
     let (name, words) = name_and_rest(words);
     let (major, words) = name_and_rest(words);
     let (other, words) = name_and_rest(words);
-    let first = package_of(alloc, name, major)?;
-    let second = package_of(alloc, other, name_and_rest(words).0)?;
-    let order = match first.cmp(&second) {
+    let first = package_of(alloc, name, major, said);
+    let second = package_of(alloc, other, name_and_rest(words).0, said);
+    tell_order(alloc, &first, &second, said);
+}
+
+fn tell_order(alloc: Global, first: &PackageNv, second: &PackageNv, said: &mut Said) {
+    let order = match first.cmp(second) {
         Ordering::Less => "before",
         Ordering::Equal => "beside",
         Ordering::Greater => "behind",
     };
-    let equal = first == second;
-    Ok(format!(in alloc; "{first} {order} {second}, equal {equal}")?)
+    said.tell_made(format!(in alloc; "{first} {order} {second}, equal "));
+    said.tell_flag(first == second);
 }
 
-/// The package of a workspace member, by its base, its name, and its major number if it has a version.
-pub fn as_nv(alloc: Global, words: &[String]) -> Result<String> {
+/// Tells the package of a workspace member, by its base, its name, and its major number if it has a version.
+pub fn as_nv(alloc: Global, words: &[String], said: &mut Said) {
     let (base, words) = name_and_rest(words);
     let (name, version) = name_and_rest(words);
-    let version = match version.first() {
-        Some(major) => Some(package_of(alloc, name, major.as_str())?.version),
-        None => None,
-    };
-    let member = WorkspaceMember {
-        base: Url::parse(alloc, base)?,
-        name: String::from_str(alloc, name)?,
-        version,
-        exports: IndexMap::new(alloc),
-    };
-    let nv = member.clone()?.as_nv(alloc)?;
-    Ok(format!(in alloc; "{nv}")?)
+    match Url::parse(alloc, base) {
+        Ok(base) => {
+            let member = WorkspaceMember {
+                base,
+                name: said.copy(alloc, name),
+                version: version.first().map(|major| version_of(major.as_str())),
+                exports: IndexMap::new(alloc),
+            };
+            tell_nv(alloc, &member, said);
+        }
+        Err(_) => said.tell("no URL"),
+    }
+}
+
+fn tell_nv(alloc: Global, member: &WorkspaceMember, said: &mut Said) {
+    match copied_nv(alloc, member) {
+        Ok(nv) => said.tell_made(format!(in alloc; "{nv}")),
+        Err(_) => said.lack(),
+    }
+}
+
+/// The package of a copy of a member.
+fn copied_nv(alloc: Global, member: &WorkspaceMember) -> Result<PackageNv, AllocError> {
+    member.clone()?.as_nv(alloc)
 }

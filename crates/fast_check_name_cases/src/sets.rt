@@ -1,93 +1,91 @@
 //! Calls on sets of names, and on what stands below a name.
 
+use crate::said::Said;
 use fast_check_names::{Exports, NamedSubset};
-use std::alloc::{AllocError, Global};
+use std::alloc::Global;
 
 /// How deep below its first names a set is shown.
 const LEVELS: u8 = 4;
 
 /// Adds a path as it is written.
-fn add_path(alloc: Global, set: &mut NamedSubset, path: &str) -> Result<(), AllocError> {
-    if let Some(name) = path.strip_suffix('.') {
-        return set.add_named(
-            alloc,
-            String::from_str(alloc, name)?,
-            Exports::subset(alloc),
-        );
-    }
-    let Some((name, rest)) = path.split_once('.') else {
-        return set.add(alloc, String::from_str(alloc, path)?);
+fn add_path(alloc: Global, set: &mut NamedSubset, path: &str, said: &mut Said) {
+    let added = match (path.strip_suffix('.'), path.split_once('.')) {
+        (Some(name), _) => { set.add_named(alloc, said.copy(alloc, name), Exports::subset(alloc)) }
+        (None, None) => set.add(alloc, said.copy(alloc, path)),
+        (None, Some((name, rest))) => {
+            let parts = parts_of(alloc, rest, said);
+            set.add_qualified(alloc, said.copy(alloc, name), parts.as_slice())
+        }
     };
+    said.note(added);
+}
+
+fn parts_of(alloc: Global, path: &str, said: &mut Said) -> Vec<String> {
     let mut parts = Vec::new(alloc);
-    for part in rest.split('.') {
-        parts.push(String::from_str(alloc, part)?)?;
+    for part in path.split('.') {
+        if parts.push(said.copy(alloc, part)).is_err() {
+            said.lack();
+        }
     }
-    set.add_qualified(alloc, String::from_str(alloc, name)?, parts.as_slice())
+    parts
 }
 
 /// The set of these paths.
-pub fn set_of(alloc: Global, paths: &[String]) -> Result<NamedSubset, AllocError> {
+pub fn set_of(alloc: Global, paths: &[String], said: &mut Said) -> NamedSubset {
     let mut set = NamedSubset::default(alloc);
     for path in paths {
-        add_path(alloc, &mut set, path.as_str())?;
+        add_path(alloc, &mut set, path.as_str(), said);
     }
-    Ok(set)
+    set
 }
 
-/// Lists the paths of a set, each behind `before`.
-fn list_paths(
-    alloc: Global,
-    set: NamedSubset,
-    before: &str,
-    levels: u8,
-    paths: &mut Vec<String>,
-) -> Result<(), AllocError> {
-    for (name, exports) in set.into_names(alloc)? {
+/// Tells the paths of a set in the order of their names, each behind `before`.
+fn tell_paths(alloc: Global, set: NamedSubset, before: &str, levels: u8, said: &mut Said) {
+    let Ok(names) = set.into_names(alloc) else {
+        said.lack();
+        return;
+    };
+    for (name, exports) in names {
         match exports {
-            Exports::All => paths.push(format!(in alloc; "{before}{name}")?)?,
+            Exports::All => said.tell_path(before, name.as_str(), ""),
             Exports::Subset(below) => {
-                let path = format!(in alloc; "{before}{name}.")?;
                 if below.is_empty() || levels == 0 {
-                    paths.push(path)?;
+                    said.tell_path(before, name.as_str(), ".");
                 } else {
-                    list_paths(alloc, below, path.as_str(), levels - 1, paths)?;
+                    match format!(in alloc; "{before}{name}.") {
+                        Ok(path) => tell_paths(alloc, below, path.as_str(), levels - 1, said),
+                        Err(_) => said.lack(),
+                    }
                 }
             }
         }
     }
-    Ok(())
 }
 
-/// The paths of a set in the order of their bytes.
-pub fn shown(alloc: Global, set: &NamedSubset) -> Result<String, AllocError> {
-    let mut paths = Vec::new(alloc);
-    list_paths(alloc, set.clone()?, "", LEVELS, &mut paths)?;
-    paths.sort()?;
-    if paths.is_empty() {
-        return String::from_str(alloc, "no name");
+/// Tells the paths of a set, each behind a space.
+pub fn tell_set(alloc: Global, set: &NamedSubset, said: &mut Said) {
+    if set.is_empty() {
+        said.tell(" no name");
+        return;
     }
-    let mut text = String::new(alloc);
-    for path in &paths {
-        if !text.is_empty() {
-            text.push_str(" ")?;
-        }
-        text.push_str(path.as_str())?;
+    match set.clone() {
+        Ok(copy) => tell_paths(alloc, copy, " ", LEVELS, said),
+        Err(_) => said.lack(),
     }
-    Ok(text)
 }
 
 /// What is demanded below a name, as it is written: `all`, or the paths of a subset.
-fn below_of(alloc: Global, words: &[String]) -> Result<Exports, AllocError> {
+fn below_of(alloc: Global, words: &[String], said: &mut Said) -> Exports {
     match words {
-        [word] if word.as_str() == "all" => Ok(Exports::All),
-        _ => Ok(Exports::Subset(set_of(alloc, words)?)),
+        [word] if word.as_str() == "all" => Exports::All,
+        _ => Exports::Subset(set_of(alloc, words, said)),
     }
 }
 
-fn shown_below(alloc: Global, exports: &Exports) -> Result<String, AllocError> {
+fn tell_below(alloc: Global, exports: &Exports, said: &mut Said) {
     match exports {
-        Exports::All => String::from_str(alloc, "all"),
-        Exports::Subset(set) => shown(alloc, set),
+        Exports::All => said.tell(" all"),
+        Exports::Subset(set) => tell_set(alloc, set, said),
     }
 }
 
@@ -99,127 +97,121 @@ pub fn name_and_rest(words: &[String]) -> (&str, &[String]) {
     }
 }
 
-/// Says what a call leaves.
-fn leaves(alloc: Global, set: &NamedSubset) -> Result<String, AllocError> {
-    let paths = shown(alloc, set)?;
-    format!(in alloc; "leaves {paths}")
+fn from_parts(alloc: Global, set: &mut NamedSubset, words: &[String], said: &mut Said) {
+    match NamedSubset::from_parts(alloc, words) {
+        Ok(made) => *set = made,
+        Err(_) => said.lack(),
+    }
 }
 
-fn leaves_below(alloc: Global, exports: &Exports) -> Result<String, AllocError> {
-    let paths = shown_below(alloc, exports)?;
-    format!(in alloc; "leaves {paths}")
+fn add_named(alloc: Global, set: &mut NamedSubset, words: &[String], said: &mut Said) {
+    let (name, below) = name_and_rest(words);
+    let below = below_of(alloc, below, said);
+    let added = set.add_named(alloc, said.copy(alloc, name), below);
+    said.note(added);
 }
 
-fn add_qualified(
+fn extend(alloc: Global, set: &mut NamedSubset, words: &[String], said: &mut Said) {
+    match set.extend(alloc, set_of(alloc, words, said)) {
+        Ok(answer) => {
+            said.tell("answers");
+            tell_set(alloc, &answer, said);
+            said.tell(", ");
+        }
+        Err(_) => said.lack(),
+    }
+}
+
+/// Changes a set as a call says, and says whether it is such a call.
+fn change(
     alloc: Global,
     set: &mut NamedSubset,
+    command: &str,
     words: &[String],
-) -> Result<String, AllocError> {
-    let (name, qualified) = name_and_rest(words);
-    set.add_qualified(alloc, String::from_str(alloc, name)?, qualified)?;
-    leaves(alloc, set)
+    said: &mut Said,
+) -> bool {
+    let (name, rest) = name_and_rest(words);
+    match command {
+        "set" => *set = set_of(alloc, words, said),
+        "from_parts" => from_parts(alloc, set, words, said),
+        "add" => {
+            let added = set.add(alloc, said.copy(alloc, name));
+            said.note(added);
+        }
+        "add_qualified" => {
+            let added = set.add_qualified(alloc, said.copy(alloc, name), rest);
+            said.note(added);
+        }
+        "add_named" => add_named(alloc, set, words, said),
+        "extend" => extend(alloc, set, words, said),
+        _ => return false,
+    }
+    true
 }
 
-fn add_named(alloc: Global, set: &mut NamedSubset, words: &[String]) -> Result<String, AllocError> {
-    let (name, below) = name_and_rest(words);
-    set.add_named(
-        alloc,
-        String::from_str(alloc, name)?,
-        below_of(alloc, below)?,
-    )?;
-    leaves(alloc, set)
-}
-
-fn add(alloc: Global, set: &mut NamedSubset, words: &[String]) -> Result<String, AllocError> {
-    let (name, _) = name_and_rest(words);
-    set.add(alloc, String::from_str(alloc, name)?)?;
-    leaves(alloc, set)
-}
-
-fn extend(alloc: Global, set: &mut NamedSubset, words: &[String]) -> Result<String, AllocError> {
-    let answer = set.extend(alloc, set_of(alloc, words)?)?;
-    let answer = shown(alloc, &answer)?;
-    let state = leaves(alloc, set)?;
-    format!(in alloc; "answers {answer}, {state}")
-}
-
-fn equals(alloc: Global, set: &NamedSubset, words: &[String]) -> Result<String, AllocError> {
-    let equal = *set == set_of(alloc, words)?;
-    format!(in alloc; "{equal}")
-}
-
-/// What a call on a set answers and leaves; None where it is none.
+/// Tells what a call on a set answers and leaves, and says whether it is such a call.
 pub fn call(
     alloc: Global,
     set: &mut NamedSubset,
     command: &str,
     words: &[String],
-) -> Result<Option<String>, AllocError> {
-    let said = match command {
-        "set" => {
-            *set = set_of(alloc, words)?;
-            leaves(alloc, set)?
+    said: &mut Said,
+) -> bool {
+    match command {
+        "equals" => {
+            let other = set_of(alloc, words, said);
+            said.tell_flag(*set == other);
         }
-        "from_parts" => {
-            *set = NamedSubset::from_parts(alloc, words)?;
-            leaves(alloc, set)?
+        "contains_name" => said.tell_flag(set.contains_name(name_and_rest(words).0)),
+        "is_empty" => said.tell_flag(set.is_empty()),
+        _ => {
+            if !change(alloc, set, command, words, said) {
+                return false;
+            }
+            said.tell("leaves");
+            tell_set(alloc, set, said);
         }
-        "add" => add(alloc, set, words)?,
-        "add_qualified" => add_qualified(alloc, set, words)?,
-        "add_named" => add_named(alloc, set, words)?,
-        "extend" => extend(alloc, set, words)?,
-        "equals" => equals(alloc, set, words)?,
-        "contains_name" => format!(in alloc; "{}", set.contains_name(name_and_rest(words).0))?,
-        "is_empty" => format!(in alloc; "{}", set.is_empty())?,
-        _ => return Ok(None),
-    };
-    Ok(Some(said))
+    }
+    true
 }
 
-fn extend_below(
-    alloc: Global,
-    exports: &mut Exports,
-    words: &[String],
-) -> Result<String, AllocError> {
-    let answer = match exports.extend(alloc, below_of(alloc, words)?)? {
-        None => String::from_str(alloc, "nothing")?,
-        Some(exports) => shown_below(alloc, &exports)?,
-    };
-    let state = leaves_below(alloc, exports)?;
-    format!(in alloc; "answers {answer}, {state}")
+fn extend_below(alloc: Global, exports: &mut Exports, words: &[String], said: &mut Said) {
+    match exports.extend(alloc, below_of(alloc, words, said)) {
+        Ok(None) => said.tell("answers nothing, "),
+        Ok(Some(answer)) => {
+            said.tell("answers");
+            tell_below(alloc, &answer, said);
+            said.tell(", ");
+        }
+        Err(_) => said.lack(),
+    }
 }
 
-fn add_qualified_below(
-    alloc: Global,
-    exports: &mut Exports,
-    words: &[String],
-) -> Result<String, AllocError> {
+fn add_qualified_below(alloc: Global, exports: &mut Exports, words: &[String], said: &mut Said) {
     let (name, qualified) = name_and_rest(words);
-    exports.add_qualified(alloc, name, qualified)?;
-    leaves_below(alloc, exports)
+    said.note(exports.add_qualified(alloc, name, qualified));
 }
 
-fn equals_below(alloc: Global, exports: &Exports, words: &[String]) -> Result<String, AllocError> {
-    let equal = *exports == below_of(alloc, words)?;
-    format!(in alloc; "{equal}")
-}
-
-/// What a call on what is demanded below a name answers and leaves; None where it is none.
+/// Tells what a call on what is demanded below a name answers and leaves, and says whether it is such a call.
 pub fn call_below(
     alloc: Global,
     exports: &mut Exports,
     command: &str,
     words: &[String],
-) -> Result<Option<String>, AllocError> {
-    let said = match command {
-        "below_set" => {
-            *exports = below_of(alloc, words)?;
-            leaves_below(alloc, exports)?
+    said: &mut Said,
+) -> bool {
+    match command {
+        "below_equals" => {
+            let other = below_of(alloc, words, said);
+            said.tell_flag(*exports == other);
+            return true;
         }
-        "below_add_qualified" => add_qualified_below(alloc, exports, words)?,
-        "below_extend" => extend_below(alloc, exports, words)?,
-        "below_equals" => equals_below(alloc, exports, words)?,
-        _ => return Ok(None),
-    };
-    Ok(Some(said))
+        "below_set" => *exports = below_of(alloc, words, said),
+        "below_add_qualified" => add_qualified_below(alloc, exports, words, said),
+        "below_extend" => extend_below(alloc, exports, words, said),
+        _ => return false,
+    }
+    said.tell("leaves");
+    tell_below(alloc, exports, said);
+    true
 }

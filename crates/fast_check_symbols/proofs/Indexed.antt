@@ -1,5 +1,6 @@
 -- The index of a module's symbols, as it grows.
-use Rattle.std.proofs.Common.{◌≡◌, ◌∙◌, sym, ap, refl, ℕ, ◌+◌, ◌<◌, true, false, cond, List, [], ◌∷◌, ◌++◌, Option, Some, None, length, take, get_or, arith, ◌==◌}
+use Rattle.std.proofs.Common.{◌≡◌, ◌∙◌, sym, ap, refl, ℕ, ◌+◌, ◌<◌, true, false, cond, List, [], ◌∷◌, ◌++◌, Option, Some, None, length}
+use Rattle.std.proofs.Common.{take, get_or, arith, ◌==◌}
 use Rattle.std.specs.Option.{option_copied}
 use Rattle.std.specs.Borrow.{Bor}
 use Rattle.std.specs.Slice.{IsItemAt}
@@ -17,11 +18,13 @@ same_number : (k q : ℕ) → eq_by_cmp nat_cmp k q ≡ (q == k)
 same_number k q = sym (unsigned_ties k q) ∙ nat_eq_equiv.symm k q
 
 -- one more symbol
-pub indexed_more : (symbols : List Symbol) (i : ℕ) (s : Symbol) (old new : BTreeMap ℕ ℕ) → i < length symbols → s ≡ get_or symbols i s → Updates nat_cmp old new s.id.0 (Some i) → IsIndexed (take i symbols) old → IsIndexed (take (i + 1) symbols) new
+pub indexed_more : (symbols : List Symbol) (i : ℕ) (s : Symbol) (old new : BTreeMap ℕ ℕ) → i < length symbols → s ≡ get_or symbols i s
+    → Updates nat_cmp old new s.id.0 (Some i) → IsIndexed (take i symbols) old → IsIndexed (take (i + 1) symbols) new
 indexed_more symbols i s old new lt read u h = record {
   says = λ id.
       let now : get nat_cmp new id.0 ≡ cond (eq_by_cmp nat_cmp s.id.0 id.0) (Some i) (get nat_cmp old id.0) = u.0 id.0 in
-      let longer : take (i + 1) symbols ≡ take i symbols ++ s ∷ [] = take_more symbols i s lt ∙ ap (λ (x : Symbol). take i symbols ++ x ∷ []) (sym read) in
+      let longer : take (i + 1) symbols ≡ take i symbols ++ s ∷ [] = take_more symbols i s lt
+      ∙ ap (λ (x : Symbol). take i symbols ++ x ∷ []) (sym read) in
       let long : length (take i symbols) ≡ i = length-take-le i symbols (omega arith) in
       now ∙ (ap (λ b. cond b (Some i) (get nat_cmp old id.0)) (same_number s.id.0 id.0)
       ∙ (ap (λ o. cond (has_id id s) (Some i) o) (h.says id)

@@ -6,13 +6,18 @@ use Rattle.std.specs.Map.{update, update_all}
 use Rattle.fast_check_symbols.specs.Entries.{last_that, last_place, last_value}
 
 -- the last item of a longer list
-last_or : (deep : Option ℕ) (b c : Bool) (n : ℕ) → option_or (option_map suc (cond b (Some n) deep)) (cond c (Some 0) None) ≡ cond b (Some (suc n)) (option_or (option_map suc deep) (cond c (Some 0) None))
+last_or : (deep : Option ℕ) (b c : Bool) (n : ℕ)
+    → option_or (option_map suc (cond b (Some n) deep)) (cond c (Some 0) None)
+    ≡ cond b (Some (suc n)) (option_or (option_map suc deep) (cond c (Some 0) None))
 last_or deep true c n = refl
 last_or deep false c n = refl
 
-pub last_place_push : {X : Type 0} (test : X → Bool) (xs : List X) (x : X) → last_place test (xs ++ x ∷ []) ≡ cond (test x) (Some (length xs)) (last_place test xs)
+pub last_place_push : {X : Type 0} (test : X → Bool) (xs : List X) (x : X)
+    → last_place test (xs ++ x ∷ []) ≡ cond (test x) (Some (length xs)) (last_place test xs)
 last_place_push test [] x = refl
-last_place_push test (y ∷ xs) x = ap (λ o. option_or (option_map suc o) (cond (test y) (Some 0) None)) (last_place_push test xs x) ∙ last_or (last_place test xs) (test x) (test y) (length xs)
+last_place_push test (y ∷ xs) x =
+    ap (λ o. option_or (option_map suc o) (cond (test y) (Some 0) None)) (last_place_push test xs x)
+    ∙ last_or (last_place test xs) (test x) (test y) (length xs)
 
 -- an item and its place, or neither
 abbrev pub IsFound : {X : Type 0} → List X → Option X → Option ℕ → Type 0
@@ -21,7 +26,8 @@ IsFound xs None (Some i) = ⊥
 IsFound xs (Some x) None = ⊥
 IsFound xs (Some x) (Some i) = slice_get xs i ≡ Some x
 
-found_below : {X : Type 0} (x : X) (xs : List X) (o : Option X) (p : Option ℕ) (b : Bool) → IsFound xs o p → IsFound (x ∷ xs) (option_or o (cond b (Some x) None)) (option_or (option_map suc p) (cond b (Some 0) None))
+found_below : {X : Type 0} (x : X) (xs : List X) (o : Option X) (p : Option ℕ) (b : Bool) → IsFound xs o p
+    → IsFound (x ∷ xs) (option_or o (cond b (Some x) None)) (option_or (option_map suc p) (cond b (Some 0) None))
 found_below x xs None None true h = refl
 found_below x xs None None false h = tt
 found_below x xs None (Some i) b h = absurd h
@@ -42,9 +48,13 @@ or_cond true x o = refl
 or_cond false x o = refl
 
 -- entries that are put one after another leave the last of each key
-pub last_of_all : {K X : Type 0} (e : K → K → Bool) (f : K → Option X) (xs : List (K × X)) (q : K) → update_all e f xs q ≡ option_or (last_value (λ k. e k q) xs) (f q)
+pub last_of_all : {K X : Type 0} (e : K → K → Bool) (f : K → Option X) (xs : List (K × X)) (q : K)
+    → update_all e f xs q ≡ option_or (last_value (λ k. e k q) xs) (f q)
 last_of_all e f [] q = refl
-last_of_all e f (x ∷ xs) q = last_of_all e (update e f x.0 (Some x.1)) xs q ∙ (ap (λ o. option_or (last_value (λ k. e k q) xs) o) (sym (or_cond (e x.0 q) x.1 (f q))) ∙ sym (or_or (last_value (λ k. e k q) xs) (cond (e x.0 q) (Some x.1) None) (f q)))
+last_of_all e f (x ∷ xs) q =
+    last_of_all e (update e f x.0 (Some x.1)) xs q
+    ∙ (ap (λ o. option_or (last_value (λ k. e k q) xs) o) (sym (or_cond (e x.0 q) x.1 (f q)))
+    ∙ sym (or_or (last_value (λ k. e k q) xs) (cond (e x.0 q) (Some x.1) None) (f q)))
 
 or_none : {X : Type 0} (o : Option X) → option_or o None ≡ o
 or_none None = refl

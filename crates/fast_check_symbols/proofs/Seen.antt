@@ -19,10 +19,14 @@ pub lookup_seen : (name : List ℕ) (es : List Entry) → lookup (bytes_eq name)
 lookup_seen name [] = refl
 lookup_seen name (e ∷ es) = ap (λ o. cond (bytes_eq name (string_bytes e.0)) (Some e.1) o) (lookup_seen name es)
 
-put_seen : (k : String Global) (v : SymbolId) (e : Entry) (es : List Entry) (b : Bool) → map seen (insert_entry string_eq es k v) ≡ put_export (string_bytes k) v (map seen es) → map seen (cond b ((e.0, v) ∷ es) (e ∷ insert_entry string_eq es k v)) ≡ cond b ((string_bytes e.0, v) ∷ map seen es) (seen e ∷ put_export (string_bytes k) v (map seen es))
+put_seen : (k : String Global) (v : SymbolId) (e : Entry) (es : List Entry) (b : Bool)
+    → map seen (insert_entry string_eq es k v) ≡ put_export (string_bytes k) v (map seen es)
+    → map seen (cond b ((e.0, v) ∷ es) (e ∷ insert_entry string_eq es k v))
+    ≡ cond b ((string_bytes e.0, v) ∷ map seen es) (seen e ∷ put_export (string_bytes k) v (map seen es))
 put_seen k v e es true h = refl
 put_seen k v e es false h = ap (λ rest. seen e ∷ rest) h
 
-pub inserted_seen : (k : String Global) (v : SymbolId) (es : List Entry) → map seen (insert_entry string_eq es k v) ≡ put_export (string_bytes k) v (map seen es)
+pub inserted_seen : (k : String Global) (v : SymbolId) (es : List Entry)
+    → map seen (insert_entry string_eq es k v) ≡ put_export (string_bytes k) v (map seen es)
 inserted_seen k v [] = refl
 inserted_seen k v (e ∷ es) = put_seen k v e es (bytes_eq (string_bytes k) (string_bytes e.0)) (inserted_seen k v es)

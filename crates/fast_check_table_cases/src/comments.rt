@@ -1,6 +1,7 @@
 //! Calls on the comments of a module. A comment is written with its opening sign alone, as `// note` or `/** text `.
 
 use crate::Call;
+use crate::said::Said;
 use fast_check_comments::{Comment, CommentKind, CommentList, CommentMap, Comments, CommentsMut};
 use fast_check_syntax::{Atom, DUMMY_SP, SourcePos};
 use std::alloc::{AllocError, Global};
@@ -29,85 +30,89 @@ fn list_of(alloc: Global, texts: &[String]) -> Result<CommentList, AllocError> {
     Ok(CommentList::from_vec(comments))
 }
 
-/// Adds a line for each comment of a map.
-fn show(alloc: Global, map: &CommentMap, place: &str, text: &mut String) -> Result<(), AllocError> {
+/// Tells a line for each comment of a map.
+fn tell_map(alloc: Global, map: &CommentMap, place: &str, said: &mut Said) {
     for (position, list) in map.iter() {
         for comment in list.as_slice() {
             let sign = match comment.kind {
                 CommentKind::Line => "//",
                 CommentKind::Block => "/*",
             };
-            let line = format!(in alloc;
-                "{place} {}: {sign}{}\n",
-                position.0,
-                comment.text.as_str()
-            )?;
-            text.push_str(line.as_str())?;
+            said.tell_made(format!(in alloc; "{place} {}: {sign}", position.0));
+            said.tell(comment.text.as_str());
+            said.tell("\n");
         }
     }
-    Ok(())
 }
 
-/// All comments, and whether there are none.
-fn shown(alloc: Global, comments: &Comments) -> Result<String, AllocError> {
-    let mut text = String::new(alloc);
-    show(alloc, &comments.leading, "before", &mut text)?;
-    show(alloc, &comments.trailing, "after", &mut text)?;
+/// Tells all comments, or that there are none.
+fn tell_comments(alloc: Global, comments: &Comments, said: &mut Said) {
+    tell_map(alloc, &comments.leading, "before", said);
+    tell_map(alloc, &comments.trailing, "after", said);
     if comments.is_empty() {
-        text.push_str("no comment")?;
+        said.tell("no comment");
     }
-    Ok(text)
 }
 
 /// Lays comments at a position, before or after the token there.
 fn lay(
     alloc: Global,
     comments: &mut CommentMap,
-    position: u32,
+    position: SourcePos,
     texts: &[String],
 ) -> Result<(), AllocError> {
-    comments.insert(SourcePos(position), list_of(alloc, texts)?)
+    comments.insert(position, list_of(alloc, texts)?)
 }
 
 /// Leaves what a skeleton keeps without the item at a position.
-fn keep_without(comments: &mut Comments, start: u32) -> Result<(), AllocError> {
+fn keep_without(comments: &mut Comments, start: SourcePos) -> Result<(), AllocError> {
     let mut kept = CommentsMut::new(comments.clone()?);
-    kept.remove_leading(SourcePos(start));
+    kept.remove_leading(start);
     *comments = kept.into_comments();
     Ok(())
 }
 
-/// Goes on with a copy, and says whether it is equal.
-fn copy(alloc: Global, comments: &mut Comments) -> Result<String, AllocError> {
+/// Goes on with a copy, and tells whether it is equal.
+fn copy(comments: &mut Comments, said: &mut Said) -> Result<(), AllocError> {
     let copy = comments.clone()?;
-    let equal = copy == *comments;
+    said.tell("equal ");
+    said.tell_flag(copy == *comments);
     *comments = copy;
-    format!(in alloc; "equal {equal}")
+    Ok(())
 }
 
-/// Says whether comments stand at a position.
-fn stands(alloc: Global, comments: &CommentMap, position: u32) -> Result<String, AllocError> {
-    let found = comments.get(SourcePos(position)).is_some();
-    format!(in alloc; "{found}")
-}
-
-/// What a call answers; None where it is no call on comments. Most have a position as their first word.
-pub fn call(
-    alloc: Global,
-    comments: &mut Comments,
-    call: &Call,
-) -> Result<Option<String>, AllocError> {
-    let position = call.number(1);
+/// Changes comments as a call says, and says whether it is such a call.
+fn change(alloc: Global, comments: &mut Comments, call: &Call) -> Result<bool, AllocError> {
+    let position = SourcePos(call.number(1));
     match call.word(0) {
         "no_comments" => *comments = Comments::new(alloc),
         "before" => lay(alloc, &mut comments.leading, position, call.texts())?,
         "after" => lay(alloc, &mut comments.trailing, position, call.texts())?,
-        "remove_before" => comments.leading.remove(SourcePos(position)),
+        "remove_before" => comments.leading.remove(position),
         "keep_without" => keep_without(comments, position)?,
-        "copy" => return Ok(Some(copy(alloc, comments)?)),
-        "stands_before" => return Ok(Some(stands(alloc, &comments.leading, position)?)),
-        "stands_after" => return Ok(Some(stands(alloc, &comments.trailing, position)?)),
-        _ => return Ok(None),
+        _ => return Ok(false),
     }
-    Ok(Some(shown(alloc, comments)?))
+    Ok(true)
+}
+
+/// Tells what a call answers, and says whether it is a call on comments. Most have a position as their first word.
+pub fn call(
+    alloc: Global,
+    comments: &mut Comments,
+    call: &Call,
+    said: &mut Said,
+) -> Result<bool, AllocError> {
+    let position = SourcePos(call.number(1));
+    match call.word(0) {
+        "copy" => copy(comments, said)?,
+        "stands_before" => said.tell_flag(comments.leading.get(position).is_some()),
+        "stands_after" => said.tell_flag(comments.trailing.get(position).is_some()),
+        _ => {
+            if !change(alloc, comments, call)? {
+                return Ok(false);
+            }
+            tell_comments(alloc, comments, said);
+        }
+    }
+    Ok(true)
 }

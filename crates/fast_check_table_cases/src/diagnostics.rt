@@ -1,6 +1,7 @@
 //! Calls on diagnostics: all that a reader is told, and when two places are one.
 
 use crate::Call;
+use crate::said::Said;
 use anyhow::{Result, bail};
 use fast_check_tables::{
     Diagnostic, DiagnosticLocation, DiagnosticSnippet, FastCheckDiagnostic,
@@ -13,23 +14,12 @@ use url::Url;
 
 /// The place of a call: its module at 1, its range at 2, and the module's text.
 fn place_of(alloc: Global, call: &Call) -> Result<FastCheckDiagnosticRange> {
+    let text_info = RcStr::from_str(alloc, call.text())?;
     Ok(FastCheckDiagnosticRange {
         specifier: Url::parse(alloc, call.word(1))?,
         range: call.range(2),
-        text_info: RcStr::from_str(alloc, call.text())?,
+        text_info,
     })
-}
-
-fn return_type(
-    range: FastCheckDiagnosticRange,
-    is_definitely_void_or_never: bool,
-    is_async: bool,
-) -> FastCheckDiagnostic {
-    FastCheckDiagnostic::MissingExplicitReturnType {
-        range,
-        is_definitely_void_or_never,
-        is_async,
-    }
 }
 
 /// The diagnostic of the kind at 4.
@@ -38,7 +28,11 @@ fn diagnostic_of(alloc: Global, call: &Call) -> Result<FastCheckDiagnostic> {
     match call.word(4) {
         "type" => Ok(FastCheckDiagnostic::MissingExplicitType { range }),
         "destructuring" => Ok(FastCheckDiagnostic::UnsupportedDestructuring { range }),
-        "return" => Ok(return_type(range, call.has_word("void"), call.has_word("async"))),
+        "return" => Ok(FastCheckDiagnostic::MissingExplicitReturnType {
+            range,
+            is_definitely_void_or_never: call.has_word("void"),
+            is_async: call.has_word("async"),
+        }),
         other => bail!("no such kind: {other}"),
     }
 }
@@ -71,73 +65,48 @@ fn snippet(alloc: Global, snippet: Option<DiagnosticSnippet<'_>>) -> Result<Stri
     }
 }
 
-/// Adds a line.
-fn say(alloc: Global, text: &mut String, name: &str, said: &str) -> Result<(), AllocError> {
-    text.push_str(format!(in alloc; "{name}: {said}\n")?.as_str())
+/// Tells all that a reader is told by the trait.
+fn tell_by_trait(alloc: Global, told: &dyn Diagnostic, said: &mut Said) {
+    said.line_made("level", format!(in alloc; "{:?}", told.level()));
+    said.line("code", told.code());
+    said.line_made("message", told.message(alloc));
+    said.line_made("location", location(alloc, told.location()));
+    said.line_made("snippet", snippet(alloc, told.snippet()));
+    said.line_if_any("hint", told.hint(alloc));
+    said.line_made("mended", snippet(alloc, told.snippet_fixed()));
+    tell_info(alloc, told, said);
+    said.line_if_any("page", told.docs_url(alloc));
 }
 
-/// All that a reader is told by the trait.
-fn told(alloc: Global, told: &dyn Diagnostic) -> Result<String, AllocError> {
-    let mut text = String::new(alloc);
-    say(
-        alloc,
-        &mut text,
-        "level",
-        format!(in alloc; "{:?}", told.level())?.as_str(),
-    )?;
-    say(alloc, &mut text, "code", told.code())?;
-    say(alloc, &mut text, "message", told.message(alloc)?.as_str())?;
-    say(
-        alloc,
-        &mut text,
-        "location",
-        location(alloc, told.location())?.as_str(),
-    )?;
-    say(
-        alloc,
-        &mut text,
-        "snippet",
-        snippet(alloc, told.snippet())?.as_str(),
-    )?;
-    if let Some(hint) = told.hint(alloc)? {
-        say(alloc, &mut text, "hint", hint.as_str())?;
+fn tell_info(alloc: Global, told: &dyn Diagnostic, said: &mut Said) {
+    match told.info(alloc) {
+        Ok(lines) => {
+            for line in &lines {
+                said.line("info", line.as_str());
+            }
+        }
+        Err(_) => said.lack(),
     }
-    say(
-        alloc,
-        &mut text,
-        "mended",
-        snippet(alloc, told.snippet_fixed())?.as_str(),
-    )?;
-    for line in &told.info(alloc)? {
-        say(alloc, &mut text, "info", line.as_str())?;
-    }
-    if let Some(page) = told.docs_url(alloc)? {
-        say(alloc, &mut text, "page", page.as_str())?;
-    }
-    Ok(text)
 }
 
-/// The same and what the diagnostic itself says.
-fn tell(alloc: Global, diagnostic: &FastCheckDiagnostic) -> Result<String, AllocError> {
-    let mut text = told(alloc, diagnostic)?;
-    say(
-        alloc,
-        &mut text,
-        "prints as",
-        format!(in alloc; "{diagnostic}")?.as_str(),
-    )?;
-    let module = format!(in alloc; "{}", diagnostic.specifier())?;
-    say(alloc, &mut text, "module", module.as_str())?;
+/// The range that a diagnostic speaks of, and what is there.
+fn range(alloc: Global, diagnostic: &FastCheckDiagnostic) -> Result<String, AllocError> {
     let description = diagnostic.range_description().unwrap_or("(nothing)");
-    let range = match diagnostic.range() {
-        None => String::from_str(alloc, "none")?,
+    match diagnostic.range() {
+        None => String::from_str(alloc, "none"),
         Some(place) => format!(in alloc;
             "{} to {}: {description}",
             place.range.start.0, place.range.end.0
-        )?,
-    };
-    say(alloc, &mut text, "range", range.as_str())?;
-    Ok(text)
+        ),
+    }
+}
+
+/// Tells the same and what the diagnostic itself says.
+fn tell(alloc: Global, diagnostic: &FastCheckDiagnostic, said: &mut Said) {
+    tell_by_trait(alloc, diagnostic, said);
+    said.line_made("prints as", format!(in alloc; "{diagnostic}"));
+    said.line_made("module", format!(in alloc; "{}", diagnostic.specifier()));
+    said.line_made("range", range(alloc, diagnostic));
 }
 
 fn hash_of(place: &FastCheckDiagnosticRange) -> u64 {
@@ -146,34 +115,51 @@ fn hash_of(place: &FastCheckDiagnosticRange) -> u64 {
     state.finish()
 }
 
-/// Whether two places are equal, and hash alike where they are.
-fn compared(
-    alloc: Global,
+/// Tells whether two places are equal, and hash alike where they are.
+fn tell_compared(
     place: &FastCheckDiagnosticRange,
     other: &FastCheckDiagnosticRange,
-) -> Result<String, AllocError> {
-    if place != other {
-        return String::from_str(alloc, "not equal");
+    said: &mut Said,
+) {
+    if place == other {
+        said.tell("equal, hashed alike ");
+        said.tell_flag(hash_of(place) == hash_of(other));
+    } else {
+        said.tell("not equal");
     }
-    let alike = hash_of(place) == hash_of(other);
-    format!(in alloc; "equal, hashed alike {alike}")
 }
 
 /// Compares the place of a call with the one here.
-pub fn compare(alloc: Global, place: &FastCheckDiagnosticRange, call: &Call) -> Result<String> {
+pub fn compare(
+    alloc: Global,
+    place: &FastCheckDiagnosticRange,
+    call: &Call,
+    said: &mut Said,
+) -> Result<()> {
     let other = place_of(alloc, call)?;
-    Ok(compared(alloc, place, &other)?)
+    tell_compared(place, &other, said);
+    Ok(())
 }
 
 /// Takes the place of a call in place of the one here, and compares it with its copy.
-pub fn take(alloc: Global, place: &mut FastCheckDiagnosticRange, call: &Call) -> Result<String> {
+pub fn take(
+    alloc: Global,
+    place: &mut FastCheckDiagnosticRange,
+    call: &Call,
+    said: &mut Said,
+) -> Result<()> {
     *place = place_of(alloc, call)?;
     let copy = place.clone()?;
-    Ok(compared(alloc, place, &copy)?)
+    tell_compared(place, &copy, said);
+    Ok(())
 }
 
 /// Tells a copy of the diagnostic of a call.
-pub fn tell_call(alloc: Global, call: &Call) -> Result<String> {
-    let diagnostic = diagnostic_of(alloc, call)?.clone()?;
-    Ok(tell(alloc, &diagnostic)?)
+pub fn tell_call(alloc: Global, call: &Call, said: &mut Said) -> Result<()> {
+    let diagnostic = diagnostic_of(alloc, call)?;
+    match diagnostic.clone() {
+        Ok(copy) => tell(alloc, &copy, said),
+        Err(_) => said.lack(),
+    }
+    Ok(())
 }

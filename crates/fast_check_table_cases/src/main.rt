@@ -5,9 +5,11 @@
 
 mod comments;
 mod diagnostics;
+mod said;
 mod tables;
 
-use anyhow::{Result, bail};
+use crate::said::Said;
+use anyhow::{Context, Result, bail};
 use fast_check_comments::Comments;
 use fast_check_syntax::{DUMMY_SP, SourcePos, SourceRange};
 use fast_check_tables::{FastCheckDiagnosticRange, ModulePublicRanges};
@@ -34,10 +36,7 @@ pub struct Call {
 impl Call {
     fn of(alloc: Global, line: &str) -> Result<Call, AllocError> {
         let (words, written) = line.split_once('|').unwrap_or((line, ""));
-        let mut texts = Vec::new(alloc);
-        for text in written.split('|') {
-            texts.push(String::from_str(alloc, text)?)?;
-        }
+        let texts = texts_of(alloc, written)?;
         Ok(Call {
             words: words_of(alloc, words)?,
             texts,
@@ -89,6 +88,14 @@ impl Call {
     }
 }
 
+fn texts_of(alloc: Global, written: &str) -> Result<Vec<String>, AllocError> {
+    let mut texts = Vec::new(alloc);
+    for text in written.split('|') {
+        texts.push(String::from_str(alloc, text)?)?;
+    }
+    Ok(texts)
+}
+
 fn words_of(alloc: Global, text: &str) -> Result<Vec<String>, AllocError> {
     let mut words = Vec::new(alloc);
     for word in text.split_whitespace() {
@@ -97,57 +104,91 @@ fn words_of(alloc: Global, text: &str) -> Result<Vec<String>, AllocError> {
     Ok(words)
 }
 
-/// What a call answers.
-fn answer(alloc: Global, case: &mut Case, call: &Call) -> Result<String> {
-    if let Some(said) = comments::call(alloc, &mut case.comments, call)? {
-        return Ok(said);
+/// Tells what a call answers.
+fn answer(alloc: Global, case: &mut Case, call: &Call, said: &mut Said) -> Result<()> {
+    if comments::call(alloc, &mut case.comments, call, said)? {
+        return Ok(());
     }
     match call.word(0) {
-        "tell" => diagnostics::tell_call(alloc, call),
-        "place" => diagnostics::take(alloc, &mut case.place, call),
-        "compare" => diagnostics::compare(alloc, &case.place, call),
+        "tell" => diagnostics::tell_call(alloc, call, said),
+        "place" => diagnostics::take(alloc, &mut case.place, call, said),
+        "compare" => diagnostics::compare(alloc, &case.place, call, said),
+        "module" => tables::module(alloc, call, said),
+        "media_type" => tables::media_type(call, said),
+        _ => answer_public(alloc, &mut case.public, call, said),
+    }
+}
+
+/// The same of calls on public ranges.
+fn answer_public(
+    alloc: Global,
+    public: &mut ModulePublicRanges,
+    call: &Call,
+    said: &mut Said,
+) -> Result<()> {
+    match call.word(0) {
         "public" => {
-            case.public = tables::public(alloc, call)?;
-            Ok(String::from_str(alloc, "taken")?)
+            *public = tables::public(alloc, call)?;
+            said.tell("taken");
         }
-        "contains" => Ok(format!(in alloc; "{}", case.public.contains(&call.range(1)))?),
-        "is_impl_with_overloads" => {
-            Ok(format!(in alloc; "{}", case.public.is_impl_with_overloads(&call.range(1)))?)
-        }
-        "module" => tables::module(alloc, call),
-        "media_type" => tables::media_type(alloc, call),
+        "contains" => said.tell_flag(public.contains(&call.range(1))),
+        "is_impl_with_overloads" => said.tell_flag(public.is_impl_with_overloads(&call.range(1))),
         other => bail!("no call: {other}"),
     }
+    Ok(())
+}
+
+/// A place that is none.
+fn no_place(alloc: Global) -> Result<FastCheckDiagnosticRange> {
+    let text_info = RcStr::from_str(alloc, "")?;
+    Ok(FastCheckDiagnosticRange {
+        specifier: Url::parse(alloc, "file:///")?,
+        range: DUMMY_SP,
+        text_info,
+    })
+}
+
+/// Nothing that is public.
+fn nothing_public(alloc: Global) -> Result<ModulePublicRanges, AllocError> {
+    ModulePublicRanges::from_parts(alloc, Vec::new(alloc), Vec::new(alloc), Vec::new(alloc))
 }
 
 /// No comments, a place that is none, and nothing public.
 fn start(alloc: Global) -> Result<Case> {
+    let place = no_place(alloc)?;
     Ok(Case {
+        public: nothing_public(alloc)?,
         comments: Comments::new(alloc),
-        place: FastCheckDiagnosticRange {
-            specifier: Url::parse(alloc, "file:///")?,
-            range: DUMMY_SP,
-            text_info: RcStr::from_str(alloc, "")?,
-        },
-        public: ModulePublicRanges::from_parts(
-            alloc,
-            Vec::new(alloc),
-            Vec::new(alloc),
-            Vec::new(alloc),
-        )?,
+        place,
     })
 }
 
-/// Prints a line, and what its call answers.
+/// Prints a line, and what is told of its call.
 fn run_line(rt: &HostRuntime, case: &mut Case, line: &str) -> Result<()> {
     println!(rt; "{line}")?;
     if line.is_empty() || line.starts_with('#') {
         return Ok(());
     }
-    let call = Call::of(rt.alloc(), line)?;
-    let said = answer(rt.alloc(), case, &call)?;
-    for line in said.as_str().lines() {
+    let mut said = Said::new(rt.alloc());
+    run_call(rt.alloc(), case, line, &mut said)?;
+    print_said(rt, &said)
+}
+
+fn run_call(alloc: Global, case: &mut Case, line: &str, said: &mut Said) -> Result<()> {
+    let call = Call::of(alloc, line)?;
+    answer(alloc, case, &call, said)
+}
+
+fn print_said(rt: &HostRuntime, said: &Said) -> Result<()> {
+    for line in said.text().context("memory")?.lines() {
         println!(rt; "    {line}")?;
+    }
+    Ok(())
+}
+
+fn run(rt: &HostRuntime, case: &mut Case, cases: &str) -> Result<()> {
+    for line in cases.lines() {
+        run_line(rt, case, line)?;
     }
     Ok(())
 }
@@ -155,8 +196,5 @@ fn run_line(rt: &HostRuntime, case: &mut Case, line: &str) -> Result<()> {
 fn main(rt: HostRuntime) -> Result<()> {
     let cases = fs::read_to_string(&rt, "cases")?;
     let mut case = start(rt.alloc())?;
-    for line in cases.as_str().lines() {
-        run_line(&rt, &mut case, line)?;
-    }
-    Ok(())
+    run(&rt, &mut case, cases.as_str())
 }

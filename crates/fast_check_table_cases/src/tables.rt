@@ -1,6 +1,7 @@
 //! Calls on public ranges, modules and their types.
 
 use crate::Call;
+use crate::said::Said;
 use anyhow::{Result, bail};
 use fast_check_comments::Comments;
 use fast_check_syntax::{SourceRange, SyntaxContext, Tree};
@@ -46,24 +47,58 @@ fn ranges_of(
     Ok(ranges)
 }
 
-/// The module of this name, scope number and text, as it is told.
-pub fn module(alloc: Global, call: &Call) -> Result<String> {
-    let _graph = ModuleGraph::from_parts(alloc)?;
-    let source = ParsedSource {
+/// The source of this scope number and text.
+fn source_of(alloc: Global, call: &Call) -> Result<ParsedSource, AllocError> {
+    Ok(ParsedSource {
         media_type: MediaType::TypeScript,
         text: RcStr::from_str(alloc, call.text())?,
         program: Tree::Absent,
         comments: Comments::new(alloc),
         unresolved_context: SyntaxContext(call.number(2)),
-    };
-    let module = EsModuleInfo::new(Url::parse(alloc, call.word(1))?, source);
+    })
+}
+
+/// The module of this name, scope number and text.
+fn module_of(alloc: Global, call: &Call) -> Result<EsModuleInfo> {
+    let specifier = Url::parse(alloc, call.word(1))?;
+    Ok(EsModuleInfo::new(specifier, source_of(alloc, call)?))
+}
+
+/// Tells the module of a call, beside the graph of no modules.
+pub fn module(alloc: Global, call: &Call, said: &mut Said) -> Result<()> {
+    let _graph = ModuleGraph::from_parts(alloc)?;
+    let module = module_of(alloc, call)?;
+    tell_module(alloc, &module, said);
+    Ok(())
+}
+
+fn tell_module(alloc: Global, module: &EsModuleInfo, said: &mut Said) {
     let source = module.source();
-    Ok(format!(in alloc;
+    said.tell_made(format!(in alloc;
         "{} is `{}`, unresolved {}",
         module.specifier(),
         source.text,
         source.unresolved_context.0
-    )?)
+    ));
+}
+
+/// The diagnostic that comes with public ranges.
+fn diagnostic_at(alloc: Global, range: SourceRange) -> Result<FastCheckDiagnostic> {
+    let text_info = RcStr::from_str(alloc, "export let z;")?;
+    Ok(FastCheckDiagnostic::MissingExplicitType {
+        range: FastCheckDiagnosticRange {
+            specifier: Url::parse(alloc, "file:///p/mod.ts")?,
+            range,
+            text_info,
+        },
+    })
+}
+
+fn diagnostics_at(alloc: Global, range: SourceRange) -> Result<Vec<FastCheckDiagnostic>> {
+    let diagnostic = diagnostic_at(alloc, range)?;
+    let mut diagnostics = Vec::new(alloc);
+    diagnostics.push(diagnostic)?;
+    Ok(diagnostics)
 }
 
 /// The public ranges of a call: as many as the word at 1 says, then those of implementations. They come with a diagnostic.
@@ -71,23 +106,18 @@ pub fn public(alloc: Global, call: &Call) -> Result<ModulePublicRanges> {
     let first = (call.number(1) as usize)
         .saturating_mul(2)
         .saturating_add(2);
-    let mut diagnostics = Vec::new(alloc);
-    diagnostics.push(FastCheckDiagnostic::MissingExplicitType {
-        range: FastCheckDiagnosticRange {
-            specifier: Url::parse(alloc, "file:///p/mod.ts")?,
-            range: call.range(2),
-            text_info: RcStr::from_str(alloc, "export let z;")?,
-        },
-    })?;
     let ranges = ranges_of(alloc, call, 2, first)?;
     let implementations = ranges_of(alloc, call, first, call.length())?;
+    let diagnostics = diagnostics_at(alloc, call.range(2))?;
     Ok(ModulePublicRanges::from_parts(alloc, ranges, implementations, diagnostics)?)
 }
 
-/// What a media type is.
-pub fn media_type(alloc: Global, call: &Call) -> Result<String> {
+/// Tells what a media type is.
+pub fn media_type(call: &Call, said: &mut Said) -> Result<()> {
     let media_type = media_type_of(call.word(1))?;
-    let declaration = media_type.is_declaration();
-    let typed = media_type.is_typed();
-    Ok(format!(in alloc; "declaration {declaration}, typed {typed}")?)
+    said.tell("declaration ");
+    said.tell_flag(media_type.is_declaration());
+    said.tell(", typed ");
+    said.tell_flag(media_type.is_typed());
+    Ok(())
 }

@@ -13,4 +13,6 @@ alike : (r : SourceRange) (xs : List SourceRange) → list_any (λ k. is_eq (ord
 alike r xs = search rules
 
 pub returns : goal.returns
-returns c = IfOk-weaker c.collect.result (sorted.IsFromIterResult order.cmp-value.it c.args.ranges.items) _ (λ set h r. sym (alike r set.keys) ∙ h.0 r ∙ alike r c.args.ranges.items) (search rules)
+returns c =
+    IfOk-weaker c.collect.result (sorted.IsFromIterResult order.cmp-value.it c.args.ranges.items) _
+    (λ set h r. sym (alike r set.keys) ∙ h.0 r ∙ alike r c.args.ranges.items) (search rules)

@@ -5,4 +5,5 @@ use Rattle.fast_check_modules.specs.EsModule.{is_unbound}
 use Rattle.fast_check_modules.proofs.unbound.any_unbound_within.Given as goal
 
 abbrev pub invariant-loop-expando : goal.invariant-loop-expando
-invariant-loop-expando l = list_any (λ e. list_any (same_range e.range) l.ranges.keys && is_unbound l.tables e) (take l.expando-index l.expandos) ≡ false
+invariant-loop-expando l =
+    list_any (λ e. list_any (same_range e.range) l.ranges.keys && is_unbound l.tables e) (take l.expando-index l.expandos) ≡ false

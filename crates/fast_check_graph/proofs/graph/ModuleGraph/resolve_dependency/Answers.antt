@@ -11,11 +11,14 @@ use Rattle.fast_check_graph.proofs.graph.ModuleGraph.resolve_dependency.Goals as
 pub returns-in_err-get : goal.returns-in_err-get
 returns-in_err-get c =
     let found = c.get.ensures.value ∙ at_specifier c.args.referrer.now c.args.self.now.resolutions.entries in
-    rw c.from_residual.ensures (sym (ap (λ (o : Option (BTreeMap (String Global) Parts)). option_and_then (text_resolved c.args.specifier_text.now) o) (sym found ∙ ap option_copied c.in_err-get.was)))
+    rw c.from_residual.ensures
+    (sym (ap (λ (o : Option (BTreeMap (String Global) Parts)). option_and_then (text_resolved c.args.specifier_text.now) o)
+    (sym found ∙ ap option_copied c.in_err-get.was)))
 
 pub returns : goal.returns
 returns c =
     let found = c.get.ensures.value ∙ at_specifier c.args.referrer.now c.args.self.now.resolutions.entries in
     c.get-2.ensures.value
     ∙ (at_text c.args.specifier_text.now c.in_ok-get.field-0.now.entries
-    ∙ sym (ap (λ (o : Option (BTreeMap (String Global) Parts)). option_and_then (text_resolved c.args.specifier_text.now) o) (sym found ∙ ap option_copied c.in_ok-get.was)))
+    ∙ sym (ap (λ (o : Option (BTreeMap (String Global) Parts)). option_and_then (text_resolved c.args.specifier_text.now) o)
+    (sym found ∙ ap option_copied c.in_ok-get.was)))

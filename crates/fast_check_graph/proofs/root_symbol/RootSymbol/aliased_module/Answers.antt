@@ -8,9 +8,12 @@ use Rattle.fast_check_graph.proofs.root_symbol.RootSymbol.aliased_module.Goals a
 pub returns-in_err-get : goal.returns-in_err-get
 returns-in_err-get c =
     let found = c.get.ensures.value ∙ at_specifier c.args.specifier.now c.args.self.now.aliases.entries in
-    rw c.from_residual.ensures (sym (ap (λ (o : Option Parts). option_and_then (module_named c.args.self.now.modules.entries) o) (sym found ∙ ap option_copied c.in_err-get.was)))
+    rw c.from_residual.ensures
+    (sym (ap (λ (o : Option Parts). option_and_then (module_named c.args.self.now.modules.entries) o)
+    (sym found ∙ ap option_copied c.in_err-get.was)))
 
 pub returns : goal.returns
 returns c =
     let found = c.get.ensures.value ∙ at_specifier c.args.specifier.now c.args.self.now.aliases.entries in
-    c.own_module.ensures ∙ sym (ap (λ (o : Option Parts). option_and_then (module_named c.args.self.now.modules.entries) o) (sym found ∙ ap option_copied c.in_ok-get.was))
+    c.own_module.ensures ∙ sym
+    (ap (λ (o : Option Parts). option_and_then (module_named c.args.self.now.modules.entries) o) (sym found ∙ ap option_copied c.in_ok-get.was))

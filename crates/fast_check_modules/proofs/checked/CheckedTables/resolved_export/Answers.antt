@@ -6,4 +6,5 @@ use Rattle.fast_check_modules.proofs.checked.CheckedTables.resolved_export.Goals
 pub returns : goal.returns
 returns c =
     let es = c.self.inside.resolved_exports.entries in
-    rw (← c.self.view_is) (c.get.ensures.value ∙ (lookup_alike _ _ es (λ k. sym (texts_ties c.args.name.now (string_bytes k))) ∙ sym (lookup_seen c.args.name.now es)))
+    rw (← c.self.view_is) (c.get.ensures.value
+    ∙ (lookup_alike _ _ es (λ k. sym (texts_ties c.args.name.now (string_bytes k))) ∙ sym (lookup_seen c.args.name.now es)))

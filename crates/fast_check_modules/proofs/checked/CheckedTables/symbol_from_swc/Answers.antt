@@ -9,10 +9,14 @@ pub returns-in_err-symbol : goal.returns-in_err-symbol
 returns-in_err-symbol c =
     let es = c.self.inside.swc_ids.entries in
     let found = c.get.ensures.value ∙ lookup_alike _ _ es (λ k. sym (ids_tie c.args.id.now k)) in
-    rw (c.from_residual.ensures, ← c.self.view_is) (sym (ap (λ (o : Option SymbolId). option_and_then (λ s. symbol_of s c.self.inside.symbols) o) (sym found ∙ ap option_copied c.in_err-symbol.was)))
+    rw (c.from_residual.ensures, ← c.self.view_is)
+    (sym (ap (λ (o : Option SymbolId). option_and_then (λ s. symbol_of s c.self.inside.symbols) o)
+    (sym found ∙ ap option_copied c.in_err-symbol.was)))
 
 pub returns : goal.returns
 returns c =
     let es = c.self.inside.swc_ids.entries in
     let found = c.get.ensures.value ∙ lookup_alike _ _ es (λ k. sym (ids_tie c.args.id.now k)) in
-    rw (← c.self.view_is) (c.get-2.ensures ∙ sym (ap (λ (o : Option SymbolId). option_and_then (λ s. symbol_of s c.self.inside.symbols) o) (sym found ∙ ap option_copied c.in_ok-symbol.was)))
+    rw (← c.self.view_is) (c.get-2.ensures
+    ∙ sym (ap (λ (o : Option SymbolId). option_and_then (λ s. symbol_of s c.self.inside.symbols) o)
+    (sym found ∙ ap option_copied c.in_ok-symbol.was)))

@@ -12,7 +12,8 @@ returns-then-branch-clause-fault c =
       tables.well_formed.mentioned_have_symbols,
       tables.well_formed.symbols_have_declarations,
       unbound c.args.tables c.in_ok-tables.tables c.args.source.program tables.made
-          (ap (λ (es : List Expando). list_any (is_ranged_unbound c.in_ok-tables.tables) es) (sym read) ∙ (sym c.in_ok-any_unbound.ensures ∙ c.if-branch.true)),
+          (ap (λ (es : List Expando). list_any (is_ranged_unbound c.in_ok-tables.tables) es) (sym read)
+          ∙ (sym c.in_ok-any_unbound.ensures ∙ c.if-branch.true)),
     )
 
 pub returns-clause-well_formed : goal.returns-clause-well_formed
@@ -22,7 +23,8 @@ returns-clause-well_formed c =
     record {
       well_formed = tables.well_formed;
       expandos_are_bound = unbound_none c.args.tables c.in_ok-tables.tables c.args.source.program tables.made
-          (ap (λ (es : List Expando). list_any (is_ranged_unbound c.in_ok-tables.tables) es) (sym read) ∙ (sym c.in_ok-any_unbound.ensures ∙ c.if-branch.false));
+          (ap (λ (es : List Expando). list_any (is_ranged_unbound c.in_ok-tables.tables) es) (sym read)
+          ∙ (sym c.in_ok-any_unbound.ensures ∙ c.if-branch.false));
     }
 
 pub invariant_of-result : goal.invariant_of-result
@@ -31,5 +33,6 @@ invariant_of-result c =
     record {
       read = c.in_ok-expando_statements.ensures;
       bound = binds_own c.in_ok-tables.tables c.args.source.program
-          (ap (λ (es : List Expando). list_any (is_ranged_unbound c.in_ok-tables.tables) es) (sym read) ∙ (sym c.in_ok-any_unbound.ensures ∙ c.if-branch.false));
+          (ap (λ (es : List Expando). list_any (is_ranged_unbound c.in_ok-tables.tables) es) (sym read)
+          ∙ (sym c.in_ok-any_unbound.ensures ∙ c.if-branch.false));
     }

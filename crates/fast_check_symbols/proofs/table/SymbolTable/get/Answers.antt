@@ -9,7 +9,10 @@ use Rattle.fast_check_symbols.proofs.table.SymbolTable.get.Goals as goal
 pub returns-in_err-place : goal.returns-in_err-place
 returns-in_err-place c =
     let xs = c.args.self.now in
-    rw c.from_residual.ensures (got_none xs (symbol_of c.args.id xs) (subst (λ (p : Option ℕ). IsFound xs (symbol_of c.args.id xs) p) (sym c.place.ensures ∙ c.in_err-place.was) (last_found (has_id c.args.id) xs)))
+    rw c.from_residual.ensures
+    (got_none xs (symbol_of c.args.id xs)
+    (subst (λ (p : Option ℕ). IsFound xs (symbol_of c.args.id xs) p) (sym c.place.ensures ∙ c.in_err-place.was)
+    (last_found (has_id c.args.id) xs)))
 
 pub returns : goal.returns
 returns c =
