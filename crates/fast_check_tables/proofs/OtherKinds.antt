@@ -1,5 +1,5 @@
 -- What is told of the diagnostics whose kinds have no rule of their own.
-use Rattle.std.proofs.Common.{◌≡◌, refl, Bool}
+use Rattle.std.proofs.Common.{◌≡◌, refl}
 use Rattle.fast_check_tables.specs.declared.diagnostics.FastCheckDiagnostic.{FastCheckDiagnostic}
 use Rattle.fast_check_tables.specs.declared.diagnostics.FastCheckDiagnostic.TheVariants.{MissingExplicitReturnType, UnsupportedExpandoProperty}
 use Rattle.fast_check_tables.specs.declared.diagnostics.FastCheckDiagnostic.TheVariants.{UnsupportedJavaScriptEntrypoint}
@@ -7,7 +7,9 @@ use Rattle.fast_check_tables.specs.declared.diagnostics.report.DiagnosticLevel.T
 use Rattle.fast_check_tables.specs.Diagnostic.{level_of, hint_of, info_of, texts_of}
 
 -- they are errors
-pub other_levels : (d : FastCheckDiagnostic) → ((specifier : _) → d ≡ UnsupportedJavaScriptEntrypoint specifier → ⊥) → Error ≡ level_of d
+pub other_levels : (d : FastCheckDiagnostic)
+    → ((specifier : _) → d ≡ UnsupportedJavaScriptEntrypoint specifier → ⊥)
+    → Error ≡ level_of d
 unfolding level_of
 other_levels (UnsupportedJavaScriptEntrypoint specifier) none = absurd (none specifier refl)
 other_levels _ none = refl

@@ -5,13 +5,17 @@ use Rattle.std.specs.Rc.{rc_str_bytes}
 use Rattle.url.specs.Parts.{Parts, serialize}
 use Rattle.fast_check_tables.specs.declared.diagnostics.range.FastCheckDiagnosticRange.{FastCheckDiagnosticRange}
 use Rattle.fast_check_tables.specs.declared.diagnostics.FastCheckDiagnostic.{FastCheckDiagnostic}
-use Rattle.fast_check_tables.specs.declared.diagnostics.FastCheckDiagnostic.TheVariants.{NotFoundReference, MissingExplicitType, MissingExplicitReturnType}
-use Rattle.fast_check_tables.specs.declared.diagnostics.FastCheckDiagnostic.TheVariants.{UnsupportedAmbientModule, UnsupportedComplexReference, UnsupportedDefaultExportExpr}
-use Rattle.fast_check_tables.specs.declared.diagnostics.FastCheckDiagnostic.TheVariants.{UnsupportedDestructuring, UnsupportedExpandoProperty, UnsupportedGlobalModule}
-use Rattle.fast_check_tables.specs.declared.diagnostics.FastCheckDiagnostic.TheVariants.{UnsupportedRequire, UnsupportedPrivateMemberReference, UnsupportedSuperClassExpr}
-use Rattle.fast_check_tables.specs.declared.diagnostics.FastCheckDiagnostic.TheVariants.{UnsupportedTsExportAssignment, UnsupportedTsNamespaceExport, UnsupportedUsing}
-use Rattle.fast_check_tables.specs.declared.diagnostics.FastCheckDiagnostic.TheVariants.{UnsupportedNestedJavaScript, UnsupportedJavaScriptEntrypoint, Emit}
-use Rattle.fast_check_tables.specs.declared.diagnostics.FastCheckDiagnostic.TheVariants.{ExportNotFound, Cached}
+use Rattle.fast_check_tables.specs.declared.diagnostics.FastCheckDiagnostic.TheVariants.{NotFoundReference, MissingExplicitType}
+use Rattle.fast_check_tables.specs.declared.diagnostics.FastCheckDiagnostic.TheVariants.{MissingExplicitReturnType, UnsupportedAmbientModule}
+use Rattle.fast_check_tables.specs.declared.diagnostics.FastCheckDiagnostic.TheVariants.{UnsupportedComplexReference, UnsupportedDefaultExportExpr}
+use Rattle.fast_check_tables.specs.declared.diagnostics.FastCheckDiagnostic.TheVariants.{UnsupportedDestructuring, UnsupportedExpandoProperty}
+use Rattle.fast_check_tables.specs.declared.diagnostics.FastCheckDiagnostic.TheVariants.{UnsupportedGlobalModule, UnsupportedRequire}
+use Rattle.fast_check_tables.specs.declared.diagnostics.FastCheckDiagnostic.TheVariants.{UnsupportedPrivateMemberReference}
+use Rattle.fast_check_tables.specs.declared.diagnostics.FastCheckDiagnostic.TheVariants.{UnsupportedSuperClassExpr, UnsupportedTsExportAssignment}
+use Rattle.fast_check_tables.specs.declared.diagnostics.FastCheckDiagnostic.TheVariants.{UnsupportedTsNamespaceExport, UnsupportedUsing}
+use Rattle.fast_check_tables.specs.declared.diagnostics.FastCheckDiagnostic.TheVariants.{UnsupportedNestedJavaScript}
+use Rattle.fast_check_tables.specs.declared.diagnostics.FastCheckDiagnostic.TheVariants.{UnsupportedJavaScriptEntrypoint, Emit, ExportNotFound}
+use Rattle.fast_check_tables.specs.declared.diagnostics.FastCheckDiagnostic.TheVariants.{Cached}
 use Rattle.fast_check_tables.specs.declared.diagnostics.report.DiagnosticLevel.{DiagnosticLevel}
 use Rattle.fast_check_tables.specs.declared.diagnostics.report.DiagnosticLevel.TheVariants.{Error, Warning}
 use Rattle.fast_check_tables.specs.Report.{Report, Snippet, Location, AtPosition, AtModule}
@@ -141,7 +145,8 @@ texts_of (UnsupportedPrivateMemberReference _ _ _) = record {
   code = codes "unsupported-private-member-reference";
   range_description = Some is_reference;
   hint = Some (codes "extract the type of the private member to a type alias and reference the type alias instead");
-  info = codes "private members can not be referenced from public API members" ∷ codes "this is because fast check removes private members from the types" ∷ [];
+  info = codes "private members can not be referenced from public API members" ∷
+      codes "this is because fast check removes private members from the types" ∷ [];
 }
 texts_of (UnsupportedSuperClassExpr _) = record {
   code = codes "unsupported-super-class-expr";
@@ -171,13 +176,15 @@ texts_of (UnsupportedNestedJavaScript _) = record {
   code = codes "unsupported-nested-javascript";
   range_description = None;
   hint = Some declare_or_rewrite;
-  info = needs_inference ∷ codes "fast check avoids type inference, so referencing a JavaScript file with no type declarations is not supported" ∷ [];
+  info = needs_inference ∷
+      codes "fast check avoids type inference, so referencing a JavaScript file with no type declarations is not supported" ∷ [];
 }
 texts_of (UnsupportedJavaScriptEntrypoint _) = record {
   code = codes "unsupported-javascript-entrypoint";
   range_description = None;
   hint = Some declare_or_rewrite;
-  info = needs_inference ∷ codes "fast check avoids type inference, so JavaScript entrypoints should be avoided" ∷ [];
+  info = needs_inference ∷
+      codes "fast check avoids type inference, so JavaScript entrypoints should be avoided" ∷ [];
 }
 texts_of (Emit _ _) = record {
   code = codes "emit";

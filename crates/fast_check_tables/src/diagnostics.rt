@@ -7,9 +7,9 @@ mod report;
 mod texts;
 mod told;
 
+use crate::diagnostics::texts::Texts;
 pub use range::FastCheckDiagnosticRange;
 pub use report::{Diagnostic, DiagnosticLevel, DiagnosticLocation, DiagnosticSnippet};
-use crate::diagnostics::texts::Texts;
 use std::alloc::AllocError;
 use std::error::Error;
 use std::fmt;
@@ -163,26 +163,26 @@ impl FastCheckDiagnostic {
         ensures { shown_subject result ≡ subject_of self.now }
     {
         match self {
-            FastCheckDiagnostic::NotFoundReference { range, .. }
-            | FastCheckDiagnostic::MissingExplicitType { range }
-            | FastCheckDiagnostic::MissingExplicitReturnType { range, .. }
-            | FastCheckDiagnostic::UnsupportedAmbientModule { range }
-            | FastCheckDiagnostic::UnsupportedComplexReference { range, .. }
-            | FastCheckDiagnostic::UnsupportedDefaultExportExpr { range }
-            | FastCheckDiagnostic::UnsupportedDestructuring { range }
-            | FastCheckDiagnostic::UnsupportedExpandoProperty { range, .. }
-            | FastCheckDiagnostic::UnsupportedGlobalModule { range }
-            | FastCheckDiagnostic::UnsupportedRequire { range }
-            | FastCheckDiagnostic::UnsupportedPrivateMemberReference { range, .. }
-            | FastCheckDiagnostic::UnsupportedSuperClassExpr { range }
-            | FastCheckDiagnostic::UnsupportedTsExportAssignment { range }
-            | FastCheckDiagnostic::UnsupportedTsNamespaceExport { range }
-            | FastCheckDiagnostic::UnsupportedUsing { range } => Subject::Range(range),
-            FastCheckDiagnostic::UnsupportedNestedJavaScript { specifier }
-            | FastCheckDiagnostic::UnsupportedJavaScriptEntrypoint { specifier }
-            | FastCheckDiagnostic::Emit { specifier, .. }
-            | FastCheckDiagnostic::ExportNotFound { specifier }
-            | FastCheckDiagnostic::Cached { specifier } => Subject::Module(specifier),
+            Self::NotFoundReference { range, .. }
+            | Self::MissingExplicitType { range }
+            | Self::MissingExplicitReturnType { range, .. }
+            | Self::UnsupportedAmbientModule { range }
+            | Self::UnsupportedComplexReference { range, .. }
+            | Self::UnsupportedDefaultExportExpr { range }
+            | Self::UnsupportedDestructuring { range }
+            | Self::UnsupportedExpandoProperty { range, .. }
+            | Self::UnsupportedGlobalModule { range }
+            | Self::UnsupportedRequire { range }
+            | Self::UnsupportedPrivateMemberReference { range, .. }
+            | Self::UnsupportedSuperClassExpr { range }
+            | Self::UnsupportedTsExportAssignment { range }
+            | Self::UnsupportedTsNamespaceExport { range }
+            | Self::UnsupportedUsing { range } => Subject::Range(range),
+            Self::UnsupportedNestedJavaScript { specifier }
+            | Self::UnsupportedJavaScriptEntrypoint { specifier }
+            | Self::Emit { specifier, .. }
+            | Self::ExportNotFound { specifier }
+            | Self::Cached { specifier } => Subject::Module(specifier),
         }
     }
 
@@ -190,26 +190,28 @@ impl FastCheckDiagnostic {
         ensures { shown_texts result ≡ texts_of self.now }
     {
         match self {
-            FastCheckDiagnostic::NotFoundReference { .. } => texts::NOT_FOUND_REFERENCE,
-            FastCheckDiagnostic::MissingExplicitType { .. } => texts::MISSING_EXPLICIT_TYPE,
-            FastCheckDiagnostic::MissingExplicitReturnType { .. } => texts::MISSING_EXPLICIT_RETURN_TYPE,
-            FastCheckDiagnostic::UnsupportedAmbientModule { .. } => texts::UNSUPPORTED_AMBIENT_MODULE,
-            FastCheckDiagnostic::UnsupportedComplexReference { .. } => texts::UNSUPPORTED_COMPLEX_REFERENCE,
-            FastCheckDiagnostic::UnsupportedDefaultExportExpr { .. } => texts::UNSUPPORTED_DEFAULT_EXPORT_EXPR,
-            FastCheckDiagnostic::UnsupportedDestructuring { .. } => texts::UNSUPPORTED_DESTRUCTURING,
-            FastCheckDiagnostic::UnsupportedExpandoProperty { .. } => texts::UNSUPPORTED_EXPANDO_PROPERTY,
-            FastCheckDiagnostic::UnsupportedGlobalModule { .. } => texts::UNSUPPORTED_GLOBAL_MODULE,
-            FastCheckDiagnostic::UnsupportedRequire { .. } => texts::UNSUPPORTED_REQUIRE,
-            FastCheckDiagnostic::UnsupportedPrivateMemberReference { .. } => texts::UNSUPPORTED_PRIVATE_MEMBER_REFERENCE,
-            FastCheckDiagnostic::UnsupportedSuperClassExpr { .. } => texts::UNSUPPORTED_SUPER_CLASS_EXPR,
-            FastCheckDiagnostic::UnsupportedTsExportAssignment { .. } => texts::UNSUPPORTED_TS_EXPORT_ASSIGNMENT,
-            FastCheckDiagnostic::UnsupportedTsNamespaceExport { .. } => texts::UNSUPPORTED_TS_NAMESPACE_EXPORT,
-            FastCheckDiagnostic::UnsupportedUsing { .. } => texts::UNSUPPORTED_USING,
-            FastCheckDiagnostic::UnsupportedNestedJavaScript { .. } => texts::UNSUPPORTED_NESTED_JAVASCRIPT,
-            FastCheckDiagnostic::UnsupportedJavaScriptEntrypoint { .. } => texts::UNSUPPORTED_JAVASCRIPT_ENTRYPOINT,
-            FastCheckDiagnostic::Emit { .. } => texts::EMIT,
-            FastCheckDiagnostic::ExportNotFound { .. } => texts::EXPORT_NOT_FOUND,
-            FastCheckDiagnostic::Cached { .. } => texts::CACHED,
+            Self::NotFoundReference { .. } => texts::NOT_FOUND_REFERENCE,
+            Self::MissingExplicitType { .. } => texts::MISSING_EXPLICIT_TYPE,
+            Self::MissingExplicitReturnType { .. } => texts::MISSING_EXPLICIT_RETURN_TYPE,
+            Self::UnsupportedAmbientModule { .. } => texts::UNSUPPORTED_AMBIENT_MODULE,
+            Self::UnsupportedComplexReference { .. } => texts::UNSUPPORTED_COMPLEX_REFERENCE,
+            Self::UnsupportedDefaultExportExpr { .. } => texts::UNSUPPORTED_DEFAULT_EXPORT_EXPR,
+            Self::UnsupportedDestructuring { .. } => texts::UNSUPPORTED_DESTRUCTURING,
+            Self::UnsupportedExpandoProperty { .. } => texts::UNSUPPORTED_EXPANDO_PROPERTY,
+            Self::UnsupportedGlobalModule { .. } => texts::UNSUPPORTED_GLOBAL_MODULE,
+            Self::UnsupportedRequire { .. } => texts::UNSUPPORTED_REQUIRE,
+            Self::UnsupportedPrivateMemberReference { .. } =>
+                texts::UNSUPPORTED_PRIVATE_MEMBER_REFERENCE,
+            Self::UnsupportedSuperClassExpr { .. } => texts::UNSUPPORTED_SUPER_CLASS_EXPR,
+            Self::UnsupportedTsExportAssignment { .. } => texts::UNSUPPORTED_TS_EXPORT_ASSIGNMENT,
+            Self::UnsupportedTsNamespaceExport { .. } => texts::UNSUPPORTED_TS_NAMESPACE_EXPORT,
+            Self::UnsupportedUsing { .. } => texts::UNSUPPORTED_USING,
+            Self::UnsupportedNestedJavaScript { .. } => texts::UNSUPPORTED_NESTED_JAVASCRIPT,
+            Self::UnsupportedJavaScriptEntrypoint { .. } =>
+                texts::UNSUPPORTED_JAVASCRIPT_ENTRYPOINT,
+            Self::Emit { .. } => texts::EMIT,
+            Self::ExportNotFound { .. } => texts::EXPORT_NOT_FOUND,
+            Self::Cached { .. } => texts::CACHED,
         }
     }
 }
@@ -221,26 +223,68 @@ impl fmt::Display for FastCheckDiagnostic {
 
     fn fmt<W: fmt::Write>(&self, f: &mut fmt::Formatter<W>) -> fmt::Result {
         match self {
-            FastCheckDiagnostic::NotFoundReference { name, referrer, .. } => write!(f, "could not resolve '{name}' referenced from '{referrer}'"),
-            FastCheckDiagnostic::MissingExplicitType { .. } => write!(f, "missing explicit type in the public API"),
-            FastCheckDiagnostic::MissingExplicitReturnType { .. } => write!(f, "missing explicit return type in the public API"),
-            FastCheckDiagnostic::UnsupportedAmbientModule { .. } => write!(f, "found an ambient module, which is a global augmentation, which are not unsupported"),
-            FastCheckDiagnostic::UnsupportedComplexReference { name, referrer, .. } => write!(f, "the reference '{name}' from '{referrer}' was too complex"),
-            FastCheckDiagnostic::UnsupportedDefaultExportExpr { .. } => write!(f, "default export expression was too complex"),
-            FastCheckDiagnostic::UnsupportedDestructuring { .. } => write!(f, "found destructuring, which is not supported in the public API"),
-            FastCheckDiagnostic::UnsupportedExpandoProperty { object_name, reference_name, .. } => write!(f, "expando property referencing '{reference_name}' conflicts with '{object_name}.{reference_name}'"),
-            FastCheckDiagnostic::UnsupportedGlobalModule { .. } => write!(f, "found global augmentations, which are not supported"),
-            FastCheckDiagnostic::UnsupportedRequire { .. } => write!(f, "require statements are a CommonJS feature, which are not supported in ES modules"),
-            FastCheckDiagnostic::UnsupportedPrivateMemberReference { name, referrer, .. } => write!(f, "public API member ({referrer}) is referencing or transitively referencing a class private member ({name})"),
-            FastCheckDiagnostic::UnsupportedSuperClassExpr { .. } => write!(f, "super class expression was too complex"),
-            FastCheckDiagnostic::UnsupportedTsExportAssignment { .. } => write!(f, "export assignments are a Common JS feature, which are not supported in ES modules"),
-            FastCheckDiagnostic::UnsupportedTsNamespaceExport { .. } => write!(f, "found namespace export, which is a global augmentation, which are not unsupported"),
-            FastCheckDiagnostic::UnsupportedUsing { .. } => write!(f, "using declarations are not supproted in the public API"),
-            FastCheckDiagnostic::UnsupportedNestedJavaScript { .. } => write!(f, "referenced a JavaScript module without type declarations from a TypeScript module"),
-            FastCheckDiagnostic::UnsupportedJavaScriptEntrypoint { .. } => write!(f, "used a JavaScript module without type declarations as an entrypoint"),
-            FastCheckDiagnostic::Emit { inner, .. } => write!(f, "failed to emit fast check module: {inner}"),
-            FastCheckDiagnostic::ExportNotFound { specifier } => write!(f, "export not found: {specifier}"),
-            FastCheckDiagnostic::Cached { .. } => write!(f, "diagnostic was cached"),
+            Self::NotFoundReference { name, referrer, .. } => write!(
+                f,
+                "could not resolve '{name}' referenced from '{referrer}'"
+            ),
+            Self::MissingExplicitType { .. } => f.write_str(
+                "missing explicit type in the public API",
+            ),
+            Self::MissingExplicitReturnType { .. } => f.write_str(
+                "missing explicit return type in the public API",
+            ),
+            Self::UnsupportedAmbientModule { .. } => f.write_str(
+                "found an ambient module, which is a global augmentation, which are not unsupported",
+            ),
+            Self::UnsupportedComplexReference { name, referrer, .. } => write!(
+                f,
+                "the reference '{name}' from '{referrer}' was too complex"
+            ),
+            Self::UnsupportedDefaultExportExpr { .. } => f.write_str(
+                "default export expression was too complex",
+            ),
+            Self::UnsupportedDestructuring { .. } => f.write_str(
+                "found destructuring, which is not supported in the public API",
+            ),
+            Self::UnsupportedExpandoProperty {
+                object_name,
+                reference_name,
+                ..
+            } => write!(
+                f,
+                "expando property referencing '{reference_name}' conflicts with '{object_name}.{reference_name}'"
+            ),
+            Self::UnsupportedGlobalModule { .. } => f.write_str(
+                "found global augmentations, which are not supported",
+            ),
+            Self::UnsupportedRequire { .. } => f.write_str(
+                "require statements are a CommonJS feature, which are not supported in ES modules",
+            ),
+            Self::UnsupportedPrivateMemberReference { name, referrer, .. } => write!(
+                f,
+                "public API member ({referrer}) is referencing or transitively referencing a class private member ({name})"
+            ),
+            Self::UnsupportedSuperClassExpr { .. } => f.write_str(
+                "super class expression was too complex",
+            ),
+            Self::UnsupportedTsExportAssignment { .. } => f.write_str(
+                "export assignments are a Common JS feature, which are not supported in ES modules",
+            ),
+            Self::UnsupportedTsNamespaceExport { .. } => f.write_str(
+                "found namespace export, which is a global augmentation, which are not unsupported",
+            ),
+            Self::UnsupportedUsing { .. } => f.write_str(
+                "using declarations are not supproted in the public API",
+            ),
+            Self::UnsupportedNestedJavaScript { .. } => f.write_str(
+                "referenced a JavaScript module without type declarations from a TypeScript module",
+            ),
+            Self::UnsupportedJavaScriptEntrypoint { .. } => f.write_str(
+                "used a JavaScript module without type declarations as an entrypoint",
+            ),
+            Self::Emit { inner, .. } => write!(f, "failed to emit fast check module: {inner}"),
+            Self::ExportNotFound { specifier } => write!(f, "export not found: {specifier}"),
+            Self::Cached { .. } => f.write_str("diagnostic was cached"),
         }
     }
 }

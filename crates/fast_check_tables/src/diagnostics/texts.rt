@@ -13,13 +13,17 @@ pub(crate) struct Texts {
     pub info: &'static [&'static str],
 }
 
-const MAY_BE_A_BUG: &str = "this error may be the result of a bug in Deno - if you think this is the case, please open an issue";
+const MAY_BE_A_BUG: &str =
+    "this error may be the result of a bug in Deno - if you think this is the case, please open an issue";
 
-const IS_A_BUG: &str = "this error is the result of a bug in Deno and you don't be seeing it - please open an issue if one doesn't exist";
+const IS_A_BUG: &str =
+    "this error is the result of a bug in Deno and you don't be seeing it - please open an issue if one doesn't exist";
 
-const NEEDS_INFERENCE: &str = "JavaScript files with no corresponding declaration require type inference to be type checked";
+const NEEDS_INFERENCE: &str =
+    "JavaScript files with no corresponding declaration require type inference to be type checked";
 
-const DECLARE_OR_REWRITE: &str = "add a type declaration (d.ts) for the JavaScript module, or rewrite it to TypeScript";
+const DECLARE_OR_REWRITE: &str =
+    "add a type declaration (d.ts) for the JavaScript module, or rewrite it to TypeScript";
 
 const IS_REFERENCE: &str = "this is the reference";
 
@@ -48,7 +52,9 @@ pub(crate) const UNSUPPORTED_AMBIENT_MODULE: Texts = Texts {
     code: "unsupported-ambient-module",
     range_description: None,
     hint: Some("remove the ambient module declaration"),
-    info: &["ambient modules are not supported because they can modify the types of a module from outside of that module"],
+    info: &[
+        "ambient modules are not supported because they can modify the types of a module from outside of that module",
+    ],
 };
 
 pub(crate) const UNSUPPORTED_COMPLEX_REFERENCE: Texts = Texts {
@@ -61,7 +67,9 @@ pub(crate) const UNSUPPORTED_COMPLEX_REFERENCE: Texts = Texts {
 pub(crate) const UNSUPPORTED_DEFAULT_EXPORT_EXPR: Texts = Texts {
     code: "unsupported-default-export-expr",
     range_description: None,
-    hint: Some("add an 'as' clause with an explicit type after the expression, or extract to a variable"),
+    hint: Some(
+        "add an 'as' clause with an explicit type after the expression, or extract to a variable",
+    ),
     info: &["fast check was unable to infer the type of the default export expression"],
 };
 
@@ -76,14 +84,18 @@ pub(crate) const UNSUPPORTED_EXPANDO_PROPERTY: Texts = Texts {
     code: "unsupported-expando-property",
     range_description: None,
     hint: None,
-    info: &["expando properties get converted to a namespace and the reference conflicts with a namespace export"],
+    info: &[
+        "expando properties get converted to a namespace and the reference conflicts with a namespace export",
+    ],
 };
 
 pub(crate) const UNSUPPORTED_GLOBAL_MODULE: Texts = Texts {
     code: "unsupported-global-module",
     range_description: None,
     hint: Some("remove the 'global' augmentation"),
-    info: &["global augmentations are not supported because they can modify global types, which can affect other modules type checking"],
+    info: &[
+        "global augmentations are not supported because they can modify global types, which can affect other modules type checking",
+    ],
 };
 
 pub(crate) const UNSUPPORTED_REQUIRE: Texts = Texts {
@@ -96,8 +108,13 @@ pub(crate) const UNSUPPORTED_REQUIRE: Texts = Texts {
 pub(crate) const UNSUPPORTED_PRIVATE_MEMBER_REFERENCE: Texts = Texts {
     code: "unsupported-private-member-reference",
     range_description: Some(IS_REFERENCE),
-    hint: Some("extract the type of the private member to a type alias and reference the type alias instead"),
-    info: &["private members can not be referenced from public API members", "this is because fast check removes private members from the types"],
+    hint: Some(
+        "extract the type of the private member to a type alias and reference the type alias instead",
+    ),
+    info: &[
+        "private members can not be referenced from public API members",
+        "this is because fast check removes private members from the types",
+    ],
 };
 
 pub(crate) const UNSUPPORTED_SUPER_CLASS_EXPR: Texts = Texts {
@@ -118,28 +135,39 @@ pub(crate) const UNSUPPORTED_TS_NAMESPACE_EXPORT: Texts = Texts {
     code: "unsupported-ts-namespace-export",
     range_description: None,
     hint: Some("remove the namespace export"),
-    info: &["namespace exports are not supported because they can modify the types of a module from outside of that module"],
+    info: &[
+        "namespace exports are not supported because they can modify the types of a module from outside of that module",
+    ],
 };
 
 pub(crate) const UNSUPPORTED_USING: Texts = Texts {
     code: "unsupported-using",
     range_description: None,
     hint: Some("use 'const' instead of 'using'"),
-    info: &["using declarations have unclear semantics in the public API", "they are thus not supported in the public API"],
+    info: &[
+        "using declarations have unclear semantics in the public API",
+        "they are thus not supported in the public API",
+    ],
 };
 
 pub(crate) const UNSUPPORTED_NESTED_JAVASCRIPT: Texts = Texts {
     code: "unsupported-nested-javascript",
     range_description: None,
     hint: Some(DECLARE_OR_REWRITE),
-    info: &[NEEDS_INFERENCE, "fast check avoids type inference, so referencing a JavaScript file with no type declarations is not supported"],
+    info: &[
+        NEEDS_INFERENCE,
+        "fast check avoids type inference, so referencing a JavaScript file with no type declarations is not supported",
+    ],
 };
 
 pub(crate) const UNSUPPORTED_JAVASCRIPT_ENTRYPOINT: Texts = Texts {
     code: "unsupported-javascript-entrypoint",
     range_description: None,
     hint: Some(DECLARE_OR_REWRITE),
-    info: &[NEEDS_INFERENCE, "fast check avoids type inference, so JavaScript entrypoints should be avoided"],
+    info: &[
+        NEEDS_INFERENCE,
+        "fast check avoids type inference, so JavaScript entrypoints should be avoided",
+    ],
 };
 
 pub(crate) const EMIT: Texts = Texts {

@@ -19,7 +19,7 @@ impl Diagnostic for FastCheckDiagnostic {
 
     fn level(&self) -> DiagnosticLevel {
         match self {
-            FastCheckDiagnostic::UnsupportedJavaScriptEntrypoint { .. } => DiagnosticLevel::Warning,
+            Self::UnsupportedJavaScriptEntrypoint { .. } => DiagnosticLevel::Warning,
             _ => DiagnosticLevel::Error,
         }
     }
@@ -56,7 +56,7 @@ impl Diagnostic for FastCheckDiagnostic {
 
     fn hint(&self, alloc: Global) -> Result<Option<String>, AllocError> {
         match self {
-            FastCheckDiagnostic::MissingExplicitReturnType {
+            Self::MissingExplicitReturnType {
                 is_definitely_void_or_never,
                 is_async,
                 ..
@@ -64,8 +64,11 @@ impl Diagnostic for FastCheckDiagnostic {
                 let hint = return_type_hint(*is_definitely_void_or_never, *is_async);
                 optional(alloc, Some(hint))
             }
-            FastCheckDiagnostic::UnsupportedExpandoProperty { reference_name, .. } => {
-                let hint = format!(in alloc; "rename '{reference_name}' to something else to avoid conflicts or create a temporary variable with a different name to use in the expando property reference")?;
+            Self::UnsupportedExpandoProperty { reference_name, .. } => {
+                let hint = format!(in alloc;
+                    "rename '{reference_name}' to something else to avoid conflicts or create a temporary variable \
+                     with a different name to use in the expando property reference"
+                )?;
                 Ok(Some(hint))
             }
             _ => optional(alloc, self.texts().hint),
@@ -78,7 +81,7 @@ impl Diagnostic for FastCheckDiagnostic {
 
     fn info(&self, alloc: Global) -> Result<Vec<String>, AllocError> {
         match self {
-            FastCheckDiagnostic::MissingExplicitReturnType {
+            Self::MissingExplicitReturnType {
                 is_definitely_void_or_never,
                 is_async,
                 ..
