@@ -3,7 +3,9 @@
 # For each size: the time to grow both, the time with `extend`, and the most memory that the run held.
 set -eu
 cd "$(dirname "$0")/../crates/fast_check_name_cases"
-rt run >/dev/null
+# This builds the program. Run here, it ends at once, for want of a file of cases.
+rt run >/dev/null 2>&1 || true
+[ -x out/fast_check_name_cases ] || { echo "fast_check_name_cases is not built: 'rt run' in its folder says why" >&2; exit 1; }
 python3 - "$PWD/out/fast_check_name_cases" <<'PY'
 import os, sys, tempfile, time
 
