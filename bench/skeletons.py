@@ -1,29 +1,10 @@
-"""The skeleton of a module of functions and variables, by rules of its own: what `fast-check transform` has to answer.
+"""The skeleton of a module of functions, variables and classes, by rules of its own: what `fast-check transform` has to answer.
 
 Trees are JSON as `trees` makes them. No tree is changed: what is answered is made anew, of parts of the source.
 """
-from trees import DUMMY, KEYWORDS
-
-
-def new(variant, **fields):
-    return {variant: {"span": DUMMY, **fields}}
-
-
-def keyword(written):
-    return new("TsKeywordType", kind=KEYWORDS[written])
-
-
-def annotated(written):
-    return {"span": DUMMY, "type_ann": written}
-
-
-def never(value):
-    return new("TsAs", expr=value, type_ann=keyword("never"))
-
-
-EMPTY_OBJECT, EMPTY_ARRAY = new("Object", props=[]), new("Array", elems=[])
-NEVER, NEVER_ARRAY = never(EMPTY_OBJECT), never(EMPTY_ARRAY)
-NEVER_IN_PARENTHESES = new("Paren", expr=NEVER)
+from class_skeletons import Classes
+from nodes import EMPTY_OBJECT, NEVER, NEVER_ARRAY, NEVER_IN_PARENTHESES, annotated, keyword, new, variant
+from trees import DUMMY
 
 
 def name_of(text):
@@ -32,11 +13,6 @@ def name_of(text):
 
 def reference(name, *params):
     return new("TsTypeRef", type_name={"Ident": name_of(name)}, type_params={"span": DUMMY, "params": list(params)} if params else None)
-
-
-def variant(node):
-    (name, inside), = node.items()
-    return name, inside
 
 
 # ---- types that values show
@@ -168,7 +144,7 @@ def is_void(written):
     return written["type_ann"].get("TsKeywordType", {}).get("kind") == "TsVoidKeyword"
 
 
-class Skeleton:
+class Skeleton(Classes):
     """The items that a skeleton has, and the faults that were met in making them, each a code, a range and two flags."""
 
     def __init__(self, body, ranges, impls=(), media_type="TypeScript", unresolved=1):
@@ -199,12 +175,14 @@ class Skeleton:
         kind, node = variant(decl)
         if kind == "Var":
             return self.statement(node)
-        place = exported or node["function"]["span"]
+        place = exported or node["class" if kind == "Class" else "function"]["span"]
         if place not in self.ranges:
             return None
+        if kind == "Class":
+            return {"Class": dict(node, **{"class": self.class_(node["class"], node["declare"] or self.is_declaration_file)})}
         if self.is_declaration_file:
             return decl
-        return {"Fn": dict(node, function=self.function(node["function"], node["ident"]["span"], True, place in self.impls))}
+        return {"Fn": dict(node, function=self.function(node["function"], node["ident"]["span"], "Method", place in self.impls))}
 
     def statement(self, var):
         decls = [decl for decl in var["decls"] if decl["span"] in self.ranges]
@@ -232,15 +210,17 @@ class Skeleton:
 
     # -- functions
 
-    def function(self, function, place, is_declared, is_overloaded=False):
+    def function(self, function, place, how, is_overloaded=False):
+        """A function that is declared or a method (`Method`), a `Getter`, a `Setter`, or an expression (None)."""
         params, written = function["params"], function["return_type"]
         if is_overloaded:
             params = [self.overloaded(number, param) for number, param in enumerate(params)]
             written = annotated(keyword("any"))
-        if written is None and function["is_generator"]:
-            self.fault("missing-explicit-return-type", place, False, function["is_async"])
-        elif written is None and function["body"] is not None:
-            written = self.of_body(function, function["body"], place, is_declared)
+        if written is None and how != "Setter":
+            if function["is_generator"]:
+                self.fault("missing-explicit-return-type", place, False, function["is_async"])
+            elif function["body"] is not None:
+                written = self.of_body(function, function["body"], place, how)
         body = function["body"] and NEW_BLOCK
         if body and written is not None and not is_void(written):
             body = dict(NEW_BLOCK, stmts=[new("Return", arg=NEVER)])
@@ -254,18 +234,18 @@ class Skeleton:
         pat = new("Rest", dot3_token=DUMMY, arg=bound(False, None), type_ann=some) if "Rest" in param["pat"] else bound(True, some)
         return {"span": DUMMY, "decorators": [], "pat": pat}
 
-    def of_body(self, function, body, place, is_declared):
+    def of_body(self, function, body, place, how):
         """The return type that a body shows. A fault and None where it shows none."""
-        how = return_class(body)
-        if how == "Void" or how == "None" and is_declared:
+        returns = return_class(body)
+        if how != "Getter" and (returns == "Void" or returns == "None" and how == "Method"):
             return annotated(reference("Promise", keyword("void")) if function["is_async"] else keyword("void"))
-        self.fault("missing-explicit-return-type", place, how == "None", function["is_async"])
+        self.fault("missing-explicit-return-type", place, returns == "None" and how is None, function["is_async"])
         return None
 
     def arrow(self, arrow, place):
         body, written, is_async = arrow["body"], arrow["return_type"], arrow["is_async"]
         if written is None and "BlockStmt" in body:
-            written = self.of_body(arrow, body["BlockStmt"], place, False)
+            written = self.of_body(arrow, body["BlockStmt"], place, None)
         elif written is None:
             of_value = self.shown(False, body["Expr"])
             if of_value is not None:
@@ -350,7 +330,7 @@ class Skeleton:
         if kind in ("TsAs", "TsTypeAssertion"):
             return {kind: dict(node, expr=NEVER_IN_PARENTHESES)}
         if kind == "Fn":
-            return {kind: dict(node, function=self.function(node["function"], place or node["function"]["span"], False))}
+            return {kind: dict(node, function=self.function(node["function"], place or node["function"]["span"], None))}
         if kind == "Arrow":
             return {kind: self.arrow(node, place or node["span"])}
         if kind in ALL_PARTS:
@@ -454,6 +434,9 @@ def texts(code, is_definitely, is_async):
     if code == "unsupported-destructuring":
         return ("found destructuring, which is not supported in the public API", "separate each destructured symbol into its own export statement",
                 ["destructuring can not be inferred by fast check"])
+    if code == "unsupported-super-class-expr":
+        return ("super class expression was too complex", "extract the superclass expression into a variable",
+                ["fast check was unable to infer the type of the superclass expression"])
     message, hint, info = "missing explicit return type in the public API", "add an explicit return type to the function", [ALL_FUNCTIONS]
     if is_definitely:
         hint = "add an explicit return type of 'void' or 'never' to the function"

@@ -17,6 +17,7 @@ import time
 
 sys.dont_write_bytecode = True
 
+import class_cases
 import function_cases as cases
 import trees
 
@@ -73,6 +74,22 @@ def functions():
     return trees.lay_items([typed, untyped, cases.const("v", trees.arrow([string, trees.default(trees.name("b"), one)], trees.paren(value)))])
 
 
+def classes():
+    """A class of every kind of member, laid out, with bodies of some statements, and an ambient one."""
+    string, one, first = trees.name("first", "string"), trees.lit("1"), trees.ref("first")
+    call = trees.call(trees.ref("g"), first)
+    body = [trees.var_stmt("Const", trees.declarator("sum", trees.binary(first, "+", one))), cases.if_(first, trees.run(call))]
+    members = [
+        trees.hash_prop("x", value=one), trees.prop("a", value=one, readonly=True), trees.prop("b", "string", trees.lit('"b"'), access="private"),
+        trees.constructor([string, trees.param_prop(trees.default(trees.name("c"), one), "private", readonly=True)], trees.super_call(first, call), *body),
+        trees.class_method("m", [string, trees.default(trees.name("second", "number"), one)], *body, trees.returned(call), ret="string"),
+        trees.class_method("n", [trees.name("a")], *body, access="private"), trees.class_method("n", [], *body, access="private"),
+        trees.class_method("size", [], *body, trees.returned(call), kind="Getter", ret="number"), trees.accessor("d", value=one),
+        trees.prop("e", value=trees.array(one, first)), trees.index_signature("k", "string", "any"), trees.static_block(*body)]
+    ambient = [trees.prop("a", "string"), trees.class_method("m", [string], body=False, ret="void")]
+    return trees.lay_items([class_cases.public(*members, super_class=trees.ref("B")), class_cases.public(*ambient, name="D", declare=True)])
+
+
 def moved(node, by):
     """A tree that stands further on in the text."""
     if isinstance(node, dict):
@@ -80,9 +97,8 @@ def moved(node, by):
     return [moved(part, by) for part in node] if isinstance(node, list) else node
 
 
-def module_of_functions(size):
-    """A module of about `size` bytes of functions and arrows, all of which are public."""
-    items, text = functions()
+def module_of_items(items, text, size):
+    """A module of about `size` bytes of these items again and again, all of which are public."""
     step, body, ranges = len(text) + 1, [], []
     for number in range(max(1, size // len(json.dumps(items, separators=(",", ":"))))):
         body += [moved(item, number * step) for item in items]
@@ -94,9 +110,9 @@ def module_of_functions(size):
 
 def module(shape, size):
     """A module of about `size` bytes: a statement for each declarator (`items`), one statement for all (`wide`), values
-    nested deep behind written types (`deep`), or `functions`. Every second declarator of the first three is public."""
-    if shape == "functions":
-        return module_of_functions(size)
+    nested deep behind written types (`deep`), `functions`, or `classes`. Every second declarator of the first three is public."""
+    if shape in ("functions", "classes"):
+        return module_of_items(*(functions() if shape == "functions" else classes()), size)
     one = len(json.dumps(statement([declarator(100000, 5000000, shape)], 4999990, 5000030)))
     count = max(1, size // one)
     ranges, declarators, place = [], [], 1
@@ -143,7 +159,7 @@ def peak_of(path):
 def main():
     sizes = [int(word) for word in sys.argv[1:]] or [1, 2, 5, 10, 20]
     print(f"shape       MB in   seconds   MB peak   {NAME} load+dump   ratio")
-    for shape in ("items", "wide", "deep", "functions"):
+    for shape in ("items", "wide", "deep", "functions", "classes"):
         for size in sizes:
             with tempfile.NamedTemporaryFile(suffix=".json") as file:
                 file.write(json.dumps(module(shape, size * 1000000), separators=(",", ":")).encode())

@@ -277,8 +277,98 @@ def function(params, *stmts, name=None, **more):
     return {"Fn": {"ident": ident(name, FUNCTION) if name else None, "function": fn(params, *stmts, **more)}}
 
 
-def class_(super_class=None):
-    return form(ctxt=FUNCTION, decorators=[], body=[], super_class=super_class, is_abstract=False, type_params=None, super_type_params=None, implements=[])
+# ---- classes
+
+
+def class_(super_class=None, *members, decorators=(), is_abstract=False, generics=None, super_args=None, implements=()):
+    return form(ctxt=FUNCTION, decorators=list(decorators), body=list(members), super_class=super_class, is_abstract=is_abstract, type_params=generics,
+        super_type_params=super_args, implements=list(implements))
+
+
+def class_stmt(name, *members, super_class=None, declare=False, **more):
+    return {"Decl": {"Class": {"ident": ident(name), "declare": declare, "class": class_(super_class, *members, **more)}}}
+
+
+def implemented(name, *args):
+    return form(expr=ref(name), type_args=instantiation(*args) if args else None)
+
+
+def decorator(name="d"):
+    return form(expr=ref(name))
+
+
+def member_key(key):
+    """A key by its text, as a name, or as it is."""
+    return {"Ident": ident_name(key)} if isinstance(key, str) else key
+
+
+def hash_key(name):
+    return form(name=name)
+
+
+def word_of(access):
+    return access and access.capitalize()
+
+
+def prop(key, written=None, value=None, access=None, **flags):
+    """A property; the flags are decorators, static, abstract, optional, override, readonly, declare and definite."""
+    is_ = lambda flag: flags.get(flag, False)
+    return {"ClassProp": form(key=member_key(key), value=value, type_ann=ann(written), is_static=is_("static"), decorators=list(flags.get("decorators", ())),
+        accessibility=word_of(access), is_abstract=is_("abstract"), is_optional=is_("optional"), is_override=is_("override"), readonly=is_("readonly"),
+        declare=is_("declare"), definite=is_("definite"))}
+
+
+def hash_prop(name, written=None, value=None, static=False, readonly=False):
+    return {"PrivateProp": form(ctxt=0, key=hash_key(name), value=value, type_ann=ann(written), is_static=static, decorators=[], accessibility=None,
+        is_optional=False, is_override=False, readonly=readonly, definite=False)}
+
+
+def accessor(key, written=None, value=None, access=None, **flags):
+    """An accessor; a key `#x` is a hash name."""
+    key = {"Private": hash_key(key[1:])} if isinstance(key, str) and key.startswith("#") else {"Public": member_key(key)}
+    is_ = lambda flag: flags.get(flag, False)
+    return {"AutoAccessor": form(key=key, value=value, type_ann=ann(written), is_static=is_("static"), decorators=list(flags.get("decorators", ())),
+        accessibility=word_of(access), is_abstract=is_("abstract"), is_override=is_("override"), definite=is_("definite"))}
+
+
+def class_method(key, params=(), *stmts, kind="Method", access=None, static=False, abstract=False, optional=False, override=False, decorators=(), **more):
+    function = fn(params, *stmts, **more)
+    function["decorators"] = list(decorators)
+    return {"Method": form(key=member_key(key), function=function, kind=kind, is_static=static, accessibility=word_of(access), is_abstract=abstract,
+        is_optional=optional, is_override=override)}
+
+
+def hash_method(name, *stmts, kind="Method"):
+    return {"PrivateMethod": form(key=hash_key(name), function=fn([], *stmts), kind=kind, is_static=False, accessibility=None, is_abstract=False,
+        is_optional=False, is_override=False)}
+
+
+def constructor(params=(), *stmts, access=None, body=True):
+    params = [param if "TsParamProp" in param else {"Param": param if "decorators" in param else form(decorators=[], pat=param)} for param in params]
+    return {"Constructor": form(ctxt=FUNCTION, key={"Ident": ident_name("constructor")}, params=params, body=block(*stmts) if body else None,
+        accessibility=word_of(access), is_optional=False)}
+
+
+def param_prop(pattern, access=None, readonly=False, override=False, decorators=()):
+    (variant, node), = pattern.items()
+    return {"TsParamProp": form(decorators=list(decorators), accessibility=word_of(access), is_override=override, readonly=readonly, param={variant: node})}
+
+
+def super_call(*args, type_args=None):
+    return run(expr("Call", ctxt=0, callee={"Super": form()}, args=[element(arg) for arg in args], type_args=type_args))
+
+
+def index_signature(name, of, written, static=False, readonly=False):
+    param = {"Ident": {"id": ident(name, FUNCTION), "type_ann": ann(of)}}
+    return {"TsIndexSignature": form(params=[param], type_ann=ann(written), readonly=readonly, is_static=static)}
+
+
+def static_block(*stmts):
+    return {"StaticBlock": form(body=block(*stmts))}
+
+
+def empty_member():
+    return {"Empty": form()}
 
 
 # ---- patterns
@@ -467,7 +557,29 @@ def lay_declared(source, node):
 
 
 def lay_declared_class(source, node):
-    lay(source, ["class ", lambda source, _: lay_as(source, "ident", node["ident"]), *HERITAGE], node["class"])
+    named = lambda source, _: lay_as(source, "ident", node["ident"])
+    declare = "declare " if node["declare"] else ""
+    lay(source, [*DECORATORS, declare, when("is_abstract", "abstract "), "class ", named, *HERITAGE], node["class"])
+
+
+def accessibility(source, node):
+    source.write(f"{node['accessibility'].lower()} " if node["accessibility"] else "")
+
+
+def lay_class_method(source, node):
+    function = node["function"]
+    lay(source, [*DECORATORS], {"decorators": function["decorators"]})
+    for piece in [accessibility, *when_all("static", "abstract", "override")]:
+        piece(source, node)
+    source.write({"Getter": "get ", "Setter": "set "}.get(node["kind"], ""))
+    source.write("async " * function["is_async"] + "*" * function["is_generator"])
+    lay_as(source, "hash_name" if "name" in node["key"] else "key", node["key"])
+    source.write("?" if node["is_optional"] else "")
+    lay(source, SIGNATURE, function)
+
+
+def when_all(*flags):
+    return [when(f"is_{flag}", f"{flag} ") for flag in flags]
 
 
 def lay_method(source, node):
@@ -494,7 +606,21 @@ def lay_chain(source, node):
 
 SIGNATURE = [one("type_params", "type_params"), "(", many("params", "param"), ")", one("return_type", "ann"),
              lambda source, node: source.write(" " if node["body"] else ";"), one("body", "block")]
-HERITAGE = [when("super_class", " extends "), one("super_class", "expr"), " {}"]
+DECORATORS = [many("decorators", "decorator", " "), when("decorators", " ")]
+HERITAGE = [one("type_params", "type_params"), when("super_class", " extends "), one("super_class", "expr"), one("super_type_params", "instantiation"),
+            when("implements", " implements "), many("implements", "implemented"), " ", braces("body", "member", " ")]
+MARKS = [when("definite", "!"), one("type_ann", "ann"), when("value", " = "), one("value", "expr"), ";"]
+MEMBERS = {
+    "Constructor": [accessibility, one("key", "key"), "(", many("params", "constructor_param"), ")",
+                    lambda source, node: source.write(" " if node["body"] else ";"), one("body", "block")],
+    "Method": [lay_class_method], "PrivateMethod": [lay_class_method],
+    "ClassProp": [*DECORATORS, when("declare", "declare "), accessibility, *when_all("static", "abstract", "override"), when("readonly", "readonly "),
+                  one("key", "key"), when("is_optional", "?"), *MARKS],
+    "PrivateProp": [*DECORATORS, accessibility, *when_all("static", "override"), when("readonly", "readonly "), one("key", "hash_name"),
+                    when("is_optional", "?"), *MARKS],
+    "AutoAccessor": [*DECORATORS, accessibility, *when_all("static", "abstract", "override"), "accessor ", one("key", "accessor_key"), *MARKS],
+    "TsIndexSignature": [when("is_static", "static "), when("readonly", "readonly "), "[", many("params", "pattern"), "]", one("type_ann", "ann"), ";"],
+    "StaticBlock": ["static ", one("body", "block")], "Empty": [";"]}
 JSX = [word("raw")]
 LAYOUTS = {
     "ident": [word("sym")],
@@ -535,6 +661,11 @@ LAYOUTS = {
         "TsSatisfies": [one("expr", "expr"), " satisfies ", one("type_ann", "type")],
         "PrivateName": "hash_name", "OptChain": [lay_chain], "Invalid": ["@"]},
     "class": ["class", *HERITAGE],
+    "member": MEMBERS,
+    "accessor_key": {"Private": "hash_name", "Public": "key"},
+    "constructor_param": {"Param": "param", "TsParamProp": [*DECORATORS, accessibility, when("is_override", "override "), when("readonly", "readonly "),
+        one("param", "pattern")]},
+    "implemented": [one("expr", "expr"), one("type_args", "instantiation")],
     "tpl": [lay_template],
     "element": [lay_element],
     "callee": {"Super": ["super"], "Import": ["import"], "Expr": "expr"},

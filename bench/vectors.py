@@ -2,7 +2,7 @@
 """Writes the vectors of `crates/fast_check_vectors`: its inputs (`data/`), and what it must print (`stdout`).
 
 Each case stands here as TypeScript with what is public of it and what has to come out. The trees of the sources and of
-the skeletons are laid out by the rules of this script and its modules alone (`trees`, `skeletons`, `function_cases`): the
+the skeletons are laid out by the rules of this script and its modules alone (`trees`, `skeletons`, `function_cases`, `class_cases`): the
 program's own output is nowhere taken for right.
 
 Usage: bench/vectors.py
@@ -14,6 +14,7 @@ import sys
 
 sys.dont_write_bytecode = True
 
+import class_cases
 import function_cases
 from skeletons import Skeleton, diagnostic
 from trees import DUMMY, Source, lay_items
@@ -533,14 +534,15 @@ def left_out():
     pattern = {"Err": [diagnostic(("unsupported-destructuring", DUMMY, None, None), SPECIFIER, DOCS)]}
     answered("pattern", changed(FIRST_VAR + ("decls", 0, "name"), {"Array": {"elems": []}}), pattern)
     declared_class = {"Class": {"ident": ident(DUMMY, "C"), "class": {"body": []}}}
-    refused("class", changed(BODY + (0,), {"Stmt": {"Decl": declared_class}}))
-    refused("exported_class", changed(BODY + (0,), {"ModuleDecl": {"ExportDecl": {"decl": declared_class}}}))
+    answered("class", changed(BODY + (0,), {"Stmt": {"Decl": declared_class}}), rest.answer())
+    answered("exported_class", changed(BODY + (0,), {"ModuleDecl": {"ExportDecl": {"decl": declared_class}}}), rest.answer())
 
 
 # ---- functions and values of all forms: what is stated by hand has to agree with what the rules give
 
 # each group of cases with what it shows
 functions = function_cases.GROUPS
+classes = class_cases.GROUPS
 
 
 def public_ranges(case, places, own_ranges=False):
@@ -552,15 +554,27 @@ def public_ranges(case, places, own_ranges=False):
         decl = export["decl"] if export else item["Stmt"]["Decl"]
         if "Var" in decl:
             ranges += [declarator["span"] for declarator in decl["Var"]["decls"]]
+        elif export is None or own_ranges:
+            ranges.append((decl["Class"]["class"] if "Class" in decl else decl["Fn"]["function"])["span"])
         else:
-            ranges.append(decl["Fn"]["function"]["span"] if export is None or own_ranges else export["span"])
+            ranges.append(export["span"])
     return ranges
+
+
+def ranges_of_members(case):
+    """The ranges of the members of classes that are implementations with overloads, by the places of their items and their own."""
+    found = []
+    for place, at in case.more.get("members", []):
+        (_, member), = case.items[place]["ModuleDecl"]["ExportDecl"]["decl"]["Class"]["class"]["body"][at].items()
+        found.append(member["span"])
+    return found
 
 
 def stated(fault, text):
     """A fault in words, with the text of its range and with its positions."""
     code, (start, end), is_definitely, is_async = fault
-    words = {"missing-explicit-type": "type", "missing-explicit-return-type": "return", "unsupported-destructuring": "destructuring"}[code]
+    words = {"missing-explicit-type": "type", "missing-explicit-return-type": "return", "unsupported-destructuring": "destructuring",
+             "unsupported-super-class-expr": "superclass"}[code]
     words += " definitely" * bool(is_definitely) + " async" * bool(is_async)
     return {f"{words} {text.encode()[start - 1:end - 1].decode()}", f"{words} {start}-{end}"}
 
@@ -581,7 +595,7 @@ def function_case(case):
     media_type, first = case.more.get("media_type", "TypeScript"), case.more.get("first", False)
     agree(case.name, "source", case.source or text, text)
     ranges = public_ranges(case, [place for place in range(len(case.items)) if place not in case.private], case.own_ranges)
-    impls = public_ranges(case, case.implementations)
+    impls = public_ranges(case, case.implementations) + ranges_of_members(case)
     made = Skeleton(case.items, ranges, impls, media_type)
     faults = made.faults[:1] if first else made.faults
     given = [stated(fault, text) for fault in faults] if faults else lay_items(made.items)[1]
@@ -613,12 +627,36 @@ def comments_of_functions():
     answered(case.name, content, answer)
 
 
+def comments_of_classes():
+    title("comments before members that go, go with them, but for those of ambient classes")
+    doc = lambda place: [place, [{"kind": "Block", "span": [place, place + 9], "text": "* doc "}]]
+    for case_name, declare in [("comments_of_members", False), ("comments_of_members_of_an_ambient_class", True)]:
+        members = class_cases.members_with_comments()
+        items, text = lay_items([class_cases.public(*[member for member, _ in members], declare=declare)])
+        case = function_cases.Case(case_name, items, None)
+        ranges = public_ranges(case, [0])
+        content, answer = request(text, items, ranges), {"Ok": module_answer(program(Skeleton(items, ranges).items, text))}
+        starts = [next(iter(member.values()))["span"][0] for member in items[0]["ModuleDecl"]["ExportDecl"]["decl"]["Class"]["class"]["body"]]
+        stay = [declare or not goes for _, goes in members]
+        content["module"]["source"]["comments"] = {"leading": [doc(start) for start in starts], "trailing": [doc(start) for start in starts]}
+        answer["Ok"]["comments"] = {"leading": [doc(start) for start, stays in zip(starts, stay) if stays], "trailing": [doc(start) for start in starts]}
+        answered(case_name, content, answer)
+
+
 def all_functions():
     for words, cases in functions:
         title(words)
         for case in cases():
             function_case(case)
     comments_of_functions()
+
+
+def all_classes():
+    for words, cases in classes:
+        title(words)
+        for case in cases():
+            function_case(case)
+    comments_of_classes()
 
 
 def words():
@@ -649,6 +687,7 @@ def main():
     types()
     comments()
     all_functions()
+    all_classes()
     defaults()
     refusals()
     words()
