@@ -1,8 +1,8 @@
 """Modules of classes, each with its skeleton as TypeScript or with its faults, stated by hand. Faults are stated as `function_cases` says."""
 from function_cases import Case, F, ONE, T, THROW, const, func, unknown
 from trees import (
-    accessor, array, array_pattern, arrow, as_, assign, binary, call, class_, class_method, class_stmt, computed, constructor, decorator, decorated, default,
-    empty_member, expr, exported, free, function, function_type, hash_method, hash_prop, ident, implemented, index, index_signature, key_literal, lit,
+    accessor, array, array_pattern, arrow, as_, binary, call, class_, class_method, class_stmt, computed, constructor, decorator, decorated, default,
+    empty_member, expr, exported, free, function, function_type, hash_method, hash_prop, implemented, index, index_signature, key_literal, lit,
     member, name, named, new, object_, object_pattern, param_prop, paren, prop, ref, rest, returned, run, shorthand, spread, static_block, super_call,
     template, type_params, unexported,
 )
