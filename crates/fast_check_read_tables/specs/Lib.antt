@@ -1,0 +1,5 @@
+pub mod Modules
+pub mod Reads
+pub mod Seen
+pub mod Symbols
+pub mod Tables
