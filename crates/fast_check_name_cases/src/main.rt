@@ -5,6 +5,7 @@
 #![tactic(auto)]
 
 mod demands;
+mod grown;
 mod packages;
 mod pairs;
 mod sets;
@@ -30,6 +31,7 @@ fn call(alloc: Global, case: &mut Case, command: &str, words: &[String], said: &
     if sets::call(alloc, &mut case.set, command, words, said)
         || sets::call_below(alloc, &mut case.below, command, words, said)
         || demands::call(alloc, &mut case.demand, command, words, said)
+        || grown::call(alloc, command, words, said)
     {
         return;
     }

@@ -12,7 +12,7 @@ use Rattle.fast_check_requests.specs.declared.refusal.Refusal.TheVariants as ref
 use Rattle.fast_check_requests.specs.Call.{is_call, File, OfFile}
 use Rattle.fast_check_requests.specs.Input.{IsNotJson}
 use Rattle.fast_check_requests.specs.Request.{Request, request_of, IsModule, IsPublic}
-use Rattle.fast_check_program.specs.Answer.{IsAnswer}
+use Rattle.fast_check_program.specs.Line.{IsAnswer}
 
 -- ---- the bytes of the file
 

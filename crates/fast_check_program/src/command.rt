@@ -3,7 +3,7 @@ ghost use Rattle.std.specs.String.{string_bytes};
 ghost use Rattle.fast_check_transform.specs.Transform.{IsCarried};
 ghost use Rattle.fast_check_requests.specs.Call.{is_call};
 ghost use Rattle.fast_check_requests.specs.Refusal.{IsTold};
-ghost use Rattle.fast_check_program.specs.Answer.{IsAnswer};
+ghost use Rattle.fast_check_program.specs.Line.{IsAnswer};
 ghost use Rattle.fast_check_program.specs.Program.{IsAnswerTo, RefusesBytes, RefusesCall, AnswersCall, HasAnswer, IsAnswered};
 
 use crate::answer::print_line;

@@ -14,4 +14,7 @@ pub use fast_check_packages::{
     HandledExports, PackageNv, PendingTrace, PendingTraces, WorkspaceMember,
 };
 pub use public_ranges::ModulePublicRanges;
-pub use tables::{EsModuleInfo, MediaType, ModuleGraph, ModuleSpecifier, ParsedSource};
+pub use tables::{
+    EsModuleInfo, FastCheckModule, MediaType, ModuleGraph, ModuleInfo, ModuleSpecifier,
+    ParsedSource, StaticSource,
+};

@@ -8,4 +8,5 @@ mod items;
 mod transformer;
 
 pub use carried::is_carried;
-pub use transformer::{FastCheckModule, ModuleInfo, StaticSource, TransformOptions, transform};
+pub use fast_check_tables::{FastCheckModule, ModuleInfo, StaticSource};
+pub use transformer::{TransformOptions, transform};

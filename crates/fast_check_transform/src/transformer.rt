@@ -17,8 +17,8 @@ use fast_check_ranges::range_of_node;
 use fast_check_signatures::{Fault, FaultKind};
 use fast_check_syntax::{Atom, Items, Part, SourceRange, Tree};
 use fast_check_tables::{
-    EsModuleInfo, FastCheckDiagnostic, FastCheckDiagnosticRange, ModuleGraph, ModulePublicRanges,
-    WorkspaceMember,
+    EsModuleInfo, FastCheckDiagnostic, FastCheckDiagnosticRange, FastCheckModule, ModuleGraph,
+    ModuleInfo, ModulePublicRanges, WorkspaceMember,
 };
 use std::alloc::{AllocError, Global};
 
@@ -29,35 +29,6 @@ pub struct TransformOptions {
     pub workspace_members: Vec<WorkspaceMember>,
     /// Whether the first fault of a module is answered alone.
     pub should_error_on_first_diagnostic: bool,
-}
-
-/// An import or export of a skeleton that names another module.
-#[derive(Debug, Drop)]
-pub struct StaticSource {
-    /// The text that names the other module.
-    pub specifier: Atom,
-    /// The range of that text.
-    pub range: SourceRange,
-    pub is_export: bool,
-    /// Whether only types are taken from it.
-    pub type_only: bool,
-}
-
-/// What a skeleton depends on.
-#[derive(Debug, Drop)]
-pub struct ModuleInfo {
-    /// Its imports, and its exports from other modules, in order.
-    pub sources: Vec<StaticSource>,
-}
-
-/// The skeleton of a module.
-#[derive(Debug, Drop)]
-pub struct FastCheckModule {
-    pub module_info: ModuleInfo,
-    /// A node of the kind `Module`.
-    pub program: Tree,
-    /// The comments that stay.
-    pub comments: Comments,
 }
 
 /// The skeleton of a module: what is public of it, with a type in place of each value. Where a public declaration shows

@@ -1,6 +1,6 @@
 use Rattle.std.proofs.Common.{rules, inr, subst}
 use Rattle.std.proofs.lemmas.Result.{err_from_is_err_and}
-use Rattle.fast_check_program.specs.Answer.{IsAnswer}
+use Rattle.fast_check_program.specs.Line.{IsAnswer}
 use Rattle.fast_check_program.proofs.Refused.{refused}
 use Rattle.fast_check_program.proofs.command.answer_transform.Goals as goal
 
