@@ -138,6 +138,15 @@ takes_apart p = if kind_of (param_target p) is kinds.BindingIdent then false els
 abbrev pub param_properties : Tree → List Tree
 param_properties m = filter is_param_property (parts (Constructor-params m))
 
+-- those of them that are patterns
+abbrev pub patterns_among : List Tree → List Tree
+patterns_among properties = filter takes_apart properties
+
+-- what there is where there are none of these
+abbrev pub unless_any : List Tree → List Tree → List Tree
+unless_any [] made = made
+unless_any (p ∷ ps) made = []
+
 -- the accessibility of a property; `public` goes
 abbrev pub shown_accessibility : Tree → Tree
 shown_accessibility accessibility = if has_word words.Public accessibility then Absent else accessibility
@@ -280,7 +289,7 @@ module _ (unresolved : SyntaxContext) (is_implementation : SourceRange → Bool)
 
   -- a constructor
   abbrev pub constructor_seen : Tree → Seen
-  constructor_seen m = unless_taken_apart (filter takes_apart (param_properties m)) (constructor_of m (constructor_params_seen m))
+  constructor_seen m = unless_taken_apart (patterns_among (param_properties m)) (constructor_of m (constructor_params_seen m))
 
   -- a member that stays, by its kind; an index signature stands as it is written
   abbrev pub member_of_kind : Kind → Tree → Seen
@@ -294,23 +303,24 @@ module _ (unresolved : SyntaxContext) (is_implementation : SourceRange → Bool)
   member_seen m = member_of_kind (kind_of m) m
 
   -- the type that the default of a parameter shows, if it has one
-  abbrev pub shown_by_default : Tree → DeclMutabilityKind → Tree
-  shown_by_default pat mutability = if kind_of pat is kinds.AssignPat then type_or_none (inferred_type mutability unresolved (AssignPat-right pat)) else Absent
+  abbrev pub default_type : DeclMutabilityKind → Tree → Option Tree
+  default_type mutability pat = if kind_of pat is kinds.AssignPat then inferred_type mutability unresolved (AssignPat-right pat) else None
 
   -- the type of a parameter property: a private one is of any type; else the written type, or the one that the default shows, or none
   abbrev pub param_property_type : Tree → Tree
   param_property_type p =
       let type = BindingIdent-type_ann (param_target p) in
       if is_private (TsParamProp-accessibility p) then any_type_ann
-      else (if is_absent type then shown_by_default (TsParamProp-param p) (mutability_of_property (TsParamProp-readonly p)) else type)
+      else (if is_absent type then type_or_none (default_type (mutability_of_property (TsParamProp-readonly p)) (TsParamProp-param p)) else type)
 
   -- `declare name: type;` for a parameter property
   abbrev pub param_property : Tree → Tree
   param_property p = declared_property (param_property_head p) (param_property_type p)
 
-  -- the properties that a member declares by its parameters
+  -- the properties that a constructor declares by its parameters, if it is not at fault, and no other member
   abbrev pub declared_by_params : Tree → List Tree
-  declared_by_params m = if kind_of m is kinds.Constructor then map param_property (param_properties m) else []
+  declared_by_params m =
+      if kind_of m is kinds.Constructor then unless_any (patterns_among (param_properties m)) (map param_property (param_properties m)) else []
 
   -- the members of a class: the mark for hash names, the properties that are declared by parameters, and what stays of the others
   abbrev pub members_seen : List Tree → List Seen
