@@ -1,50 +1,251 @@
 -- The faults that leave a module without skeleton, and what a reader is told of each.
 use Rattle.std.specs.Prelude.{ℕ, Bool, true, false, List, [], ◌∷◌, ◌++◌, Option, Some, None, option_map, codes}
+use Rattle.std.specs.String.{string_bytes}
 use Rattle.std.specs.Rc.{rc_str_bytes}
-use Rattle.url.specs.Parts.{Parts}
+use Rattle.url.specs.Parts.{Parts, serialize}
 use Rattle.fast_check_tables.specs.declared.diagnostics.range.FastCheckDiagnosticRange.{FastCheckDiagnosticRange}
 use Rattle.fast_check_tables.specs.declared.diagnostics.FastCheckDiagnostic.{FastCheckDiagnostic}
-use Rattle.fast_check_tables.specs.declared.diagnostics.FastCheckDiagnostic.TheVariants.{MissingExplicitType, MissingExplicitReturnType}
-use Rattle.fast_check_tables.specs.declared.diagnostics.FastCheckDiagnostic.TheVariants.{UnsupportedDestructuring}
+use Rattle.fast_check_tables.specs.declared.diagnostics.FastCheckDiagnostic.TheVariants.{NotFoundReference, MissingExplicitType}
+use Rattle.fast_check_tables.specs.declared.diagnostics.FastCheckDiagnostic.TheVariants.{MissingExplicitReturnType, UnsupportedAmbientModule}
+use Rattle.fast_check_tables.specs.declared.diagnostics.FastCheckDiagnostic.TheVariants.{UnsupportedComplexReference, UnsupportedDefaultExportExpr}
+use Rattle.fast_check_tables.specs.declared.diagnostics.FastCheckDiagnostic.TheVariants.{UnsupportedDestructuring, UnsupportedExpandoProperty}
+use Rattle.fast_check_tables.specs.declared.diagnostics.FastCheckDiagnostic.TheVariants.{UnsupportedGlobalModule, UnsupportedRequire}
+use Rattle.fast_check_tables.specs.declared.diagnostics.FastCheckDiagnostic.TheVariants.{UnsupportedPrivateMemberReference}
+use Rattle.fast_check_tables.specs.declared.diagnostics.FastCheckDiagnostic.TheVariants.{UnsupportedSuperClassExpr, UnsupportedTsExportAssignment}
+use Rattle.fast_check_tables.specs.declared.diagnostics.FastCheckDiagnostic.TheVariants.{UnsupportedTsNamespaceExport, UnsupportedUsing}
+use Rattle.fast_check_tables.specs.declared.diagnostics.FastCheckDiagnostic.TheVariants.{UnsupportedNestedJavaScript}
+use Rattle.fast_check_tables.specs.declared.diagnostics.FastCheckDiagnostic.TheVariants.{UnsupportedJavaScriptEntrypoint, Emit, ExportNotFound}
+use Rattle.fast_check_tables.specs.declared.diagnostics.FastCheckDiagnostic.TheVariants.{Cached}
 use Rattle.fast_check_tables.specs.declared.diagnostics.report.DiagnosticLevel.{DiagnosticLevel}
-use Rattle.fast_check_tables.specs.declared.diagnostics.report.DiagnosticLevel.TheVariants.{Error}
+use Rattle.fast_check_tables.specs.declared.diagnostics.report.DiagnosticLevel.TheVariants.{Error, Warning}
 use Rattle.fast_check_tables.specs.Report.{Report, Snippet, Location, AtPosition, AtModule}
+use Rattle.fast_check_tables.specs.Subject.{Subject, Part, Whole}
+use Rattle.fast_check_tables.specs.KindTexts.{KindTexts}
+
+-- what it speaks of
+unfoldable pub subject_of : FastCheckDiagnostic → Subject
+subject_of (NotFoundReference range _ _) = Part range
+subject_of (MissingExplicitType range) = Part range
+subject_of (MissingExplicitReturnType range _ _) = Part range
+subject_of (UnsupportedAmbientModule range) = Part range
+subject_of (UnsupportedComplexReference range _ _) = Part range
+subject_of (UnsupportedDefaultExportExpr range) = Part range
+subject_of (UnsupportedDestructuring range) = Part range
+subject_of (UnsupportedExpandoProperty range _ _) = Part range
+subject_of (UnsupportedGlobalModule range) = Part range
+subject_of (UnsupportedRequire range) = Part range
+subject_of (UnsupportedPrivateMemberReference range _ _) = Part range
+subject_of (UnsupportedSuperClassExpr range) = Part range
+subject_of (UnsupportedTsExportAssignment range) = Part range
+subject_of (UnsupportedTsNamespaceExport range) = Part range
+subject_of (UnsupportedUsing range) = Part range
+subject_of (UnsupportedNestedJavaScript specifier) = Whole specifier
+subject_of (UnsupportedJavaScriptEntrypoint specifier) = Whole specifier
+subject_of (Emit specifier _) = Whole specifier
+subject_of (ExportNotFound specifier) = Whole specifier
+subject_of (Cached specifier) = Whole specifier
 
 -- the part of the source text that it speaks of, if any
+abbrev pub range_of_subject : Subject → Option FastCheckDiagnosticRange
+range_of_subject (Part range) = Some range
+range_of_subject (Whole _) = None
+
 abbrev pub range_of : FastCheckDiagnostic → Option FastCheckDiagnosticRange
-range_of (MissingExplicitType range) = Some range
-range_of (MissingExplicitReturnType range _ _) = Some range
-range_of (UnsupportedDestructuring range) = Some range
+range_of d = range_of_subject (subject_of d)
 
 -- the module that it speaks of
+abbrev pub specifier_of_subject : Subject → Parts
+specifier_of_subject (Part range) = range.specifier
+specifier_of_subject (Whole specifier) = specifier
+
 abbrev pub specifier_of : FastCheckDiagnostic → Parts
-specifier_of (MissingExplicitType range) = range.specifier
-specifier_of (MissingExplicitReturnType range _ _) = range.specifier
-specifier_of (UnsupportedDestructuring range) = range.specifier
+specifier_of d = specifier_of_subject (subject_of d)
 
--- what that part of the source text is to the reader
-abbrev pub range_description_of : FastCheckDiagnostic → Option (List ℕ)
-range_description_of (MissingExplicitType _) = Some (codes "this symbol is missing an explicit type")
-range_description_of (MissingExplicitReturnType _ _ _) = Some (codes "this function is missing an explicit return type")
-range_description_of (UnsupportedDestructuring _) = None
+-- texts that several kinds share
 
--- how grave it is
-abbrev pub level_of : FastCheckDiagnostic → DiagnosticLevel
-level_of (MissingExplicitType _) = Error
-level_of (MissingExplicitReturnType _ _ _) = Error
-level_of (UnsupportedDestructuring _) = Error
+abbrev pub may_be_a_bug : List ℕ
+may_be_a_bug = codes "this error may be the result of a bug in Deno - if you think this is the case, please open an issue"
+
+abbrev pub is_a_bug : List ℕ
+is_a_bug = codes "this error is the result of a bug in Deno and you don't be seeing it - please open an issue if one doesn't exist"
+
+abbrev pub needs_inference : List ℕ
+needs_inference = codes "JavaScript files with no corresponding declaration require type inference to be type checked"
+
+abbrev pub declare_or_rewrite : List ℕ
+declare_or_rewrite = codes "add a type declaration (d.ts) for the JavaScript module, or rewrite it to TypeScript"
+
+abbrev pub is_reference : List ℕ
+is_reference = codes "this is the reference"
+
+-- what is told of all diagnostics of its kind: code, range description, hint and lines (None and empty where they go
+-- by what the diagnostic holds)
+unfoldable pub texts_of : FastCheckDiagnostic → KindTexts
+texts_of (NotFoundReference _ _ _) = record {
+  code = codes "not-found-reference";
+  range_description = Some is_reference;
+  hint = Some (codes "fix the reference to point to a symbol that exists");
+  info = may_be_a_bug ∷ [];
+}
+texts_of (MissingExplicitType _) = record {
+  code = codes "missing-explicit-type";
+  range_description = Some (codes "this symbol is missing an explicit type");
+  hint = Some (codes "add an explicit type annotation to the symbol");
+  info = codes "all symbols in the public API must have an explicit type" ∷ [];
+}
+texts_of (MissingExplicitReturnType _ _ _) = record {
+  code = codes "missing-explicit-return-type";
+  range_description = Some (codes "this function is missing an explicit return type");
+  hint = None;
+  info = [];
+}
+texts_of (UnsupportedAmbientModule _) = record {
+  code = codes "unsupported-ambient-module";
+  range_description = None;
+  hint = Some (codes "remove the ambient module declaration");
+  info = codes "ambient modules are not supported because they can modify the types of a module from outside of that module" ∷ [];
+}
+texts_of (UnsupportedComplexReference _ _ _) = record {
+  code = codes "unsupported-complex-reference";
+  range_description = Some is_reference;
+  hint = Some (codes "extract the shared type to a type alias and reference the type alias instead");
+  info = codes "the reference was too complex to be resolved by fast check" ∷ [];
+}
+texts_of (UnsupportedDefaultExportExpr _) = record {
+  code = codes "unsupported-default-export-expr";
+  range_description = None;
+  hint = Some (codes "add an 'as' clause with an explicit type after the expression, or extract to a variable");
+  info = codes "fast check was unable to infer the type of the default export expression" ∷ [];
+}
+texts_of (UnsupportedDestructuring _) = record {
+  code = codes "unsupported-destructuring";
+  range_description = None;
+  hint = Some (codes "separate each destructured symbol into its own export statement");
+  info = codes "destructuring can not be inferred by fast check" ∷ [];
+}
+texts_of (UnsupportedExpandoProperty _ _ _) = record {
+  code = codes "unsupported-expando-property";
+  range_description = None;
+  hint = None;
+  info = codes "expando properties get converted to a namespace and the reference conflicts with a namespace export" ∷ [];
+}
+texts_of (UnsupportedGlobalModule _) = record {
+  code = codes "unsupported-global-module";
+  range_description = None;
+  hint = Some (codes "remove the 'global' augmentation");
+  info = codes "global augmentations are not supported because they can modify global types, which can affect other modules type checking" ∷ [];
+}
+texts_of (UnsupportedRequire _) = record {
+  code = codes "unsupported-require";
+  range_description = None;
+  hint = Some (codes "use an import statement instead");
+  info = codes "CommonJS features such as require are not supported in ES modules" ∷ [];
+}
+texts_of (UnsupportedPrivateMemberReference _ _ _) = record {
+  code = codes "unsupported-private-member-reference";
+  range_description = Some is_reference;
+  hint = Some (codes "extract the type of the private member to a type alias and reference the type alias instead");
+  info = codes "private members can not be referenced from public API members" ∷
+      codes "this is because fast check removes private members from the types" ∷ [];
+}
+texts_of (UnsupportedSuperClassExpr _) = record {
+  code = codes "unsupported-super-class-expr";
+  range_description = Some (codes "this is the superclass expression");
+  hint = Some (codes "extract the superclass expression into a variable");
+  info = codes "fast check was unable to infer the type of the superclass expression" ∷ [];
+}
+texts_of (UnsupportedTsExportAssignment _) = record {
+  code = codes "unsupported-ts-export-assignment";
+  range_description = None;
+  hint = Some (codes "use an export statement instead");
+  info = codes "CommonJS features such as export assignments are not supported in ES modules" ∷ [];
+}
+texts_of (UnsupportedTsNamespaceExport _) = record {
+  code = codes "unsupported-ts-namespace-export";
+  range_description = None;
+  hint = Some (codes "remove the namespace export");
+  info = codes "namespace exports are not supported because they can modify the types of a module from outside of that module" ∷ [];
+}
+texts_of (UnsupportedUsing _) = record {
+  code = codes "unsupported-using";
+  range_description = None;
+  hint = Some (codes "use 'const' instead of 'using'");
+  info = codes "using declarations have unclear semantics in the public API" ∷ codes "they are thus not supported in the public API" ∷ [];
+}
+texts_of (UnsupportedNestedJavaScript _) = record {
+  code = codes "unsupported-nested-javascript";
+  range_description = None;
+  hint = Some declare_or_rewrite;
+  info = needs_inference ∷
+      codes "fast check avoids type inference, so referencing a JavaScript file with no type declarations is not supported" ∷ [];
+}
+texts_of (UnsupportedJavaScriptEntrypoint _) = record {
+  code = codes "unsupported-javascript-entrypoint";
+  range_description = None;
+  hint = Some declare_or_rewrite;
+  info = needs_inference ∷
+      codes "fast check avoids type inference, so JavaScript entrypoints should be avoided" ∷ [];
+}
+texts_of (Emit _ _) = record {
+  code = codes "emit";
+  range_description = None;
+  hint = Some may_be_a_bug;
+  info = may_be_a_bug ∷ [];
+}
+texts_of (ExportNotFound _) = record {
+  code = codes "export-not-found";
+  range_description = None;
+  hint = Some is_a_bug;
+  info = is_a_bug ∷ [];
+}
+texts_of (Cached _) = record {
+  code = codes "cached";
+  range_description = None;
+  hint = Some is_a_bug;
+  info = is_a_bug ∷ [];
+}
 
 -- the name of its kind, in lower case with hyphens
 abbrev pub code_of : FastCheckDiagnostic → List ℕ
-code_of (MissingExplicitType _) = codes "missing-explicit-type"
-code_of (MissingExplicitReturnType _ _ _) = codes "missing-explicit-return-type"
-code_of (UnsupportedDestructuring _) = codes "unsupported-destructuring"
+code_of d = (texts_of d).code
+
+-- what that part of the source text is to the reader
+abbrev pub range_description_of : FastCheckDiagnostic → Option (List ℕ)
+range_description_of d = (texts_of d).range_description
+
+-- how grave it is
+unfoldable pub level_of : FastCheckDiagnostic → DiagnosticLevel
+level_of (UnsupportedJavaScriptEntrypoint _) = Warning
+level_of _ = Error
 
 -- what is wrong
-abbrev pub message_of : FastCheckDiagnostic → List ℕ
+unfoldable pub message_of : FastCheckDiagnostic → List ℕ
+message_of (NotFoundReference _ name referrer) =
+    codes "could not resolve '" ++ (string_bytes name ++ (codes "' referenced from '" ++ (string_bytes referrer ++ codes "'")))
 message_of (MissingExplicitType _) = codes "missing explicit type in the public API"
 message_of (MissingExplicitReturnType _ _ _) = codes "missing explicit return type in the public API"
+message_of (UnsupportedAmbientModule _) = codes "found an ambient module, which is a global augmentation, which are not unsupported"
+message_of (UnsupportedComplexReference _ name referrer) =
+    codes "the reference '" ++ (string_bytes name ++ (codes "' from '" ++ (string_bytes referrer ++ codes "' was too complex")))
+message_of (UnsupportedDefaultExportExpr _) = codes "default export expression was too complex"
 message_of (UnsupportedDestructuring _) = codes "found destructuring, which is not supported in the public API"
+message_of (UnsupportedExpandoProperty _ object_name reference_name) =
+    codes "expando property referencing '" ++ (string_bytes reference_name ++ (codes "' conflicts with '" ++ (string_bytes object_name ++
+    (codes "." ++ (string_bytes reference_name ++ codes "'")))))
+message_of (UnsupportedGlobalModule _) = codes "found global augmentations, which are not supported"
+message_of (UnsupportedRequire _) = codes "require statements are a CommonJS feature, which are not supported in ES modules"
+message_of (UnsupportedPrivateMemberReference _ name referrer) =
+    codes "public API member (" ++ (string_bytes referrer ++
+    (codes ") is referencing or transitively referencing a class private member (" ++ (string_bytes name ++ codes ")")))
+message_of (UnsupportedSuperClassExpr _) = codes "super class expression was too complex"
+message_of (UnsupportedTsExportAssignment _) = codes "export assignments are a Common JS feature, which are not supported in ES modules"
+message_of (UnsupportedTsNamespaceExport _) = codes "found namespace export, which is a global augmentation, which are not unsupported"
+message_of (UnsupportedUsing _) = codes "using declarations are not supproted in the public API"
+message_of (UnsupportedNestedJavaScript _) = codes "referenced a JavaScript module without type declarations from a TypeScript module"
+message_of (UnsupportedJavaScriptEntrypoint _) = codes "used a JavaScript module without type declarations as an entrypoint"
+message_of (Emit _ inner) = codes "failed to emit fast check module: " ++ string_bytes inner
+message_of (ExportNotFound specifier) = codes "export not found: " ++ serialize specifier
+message_of (Cached _) = codes "diagnostic was cached"
 
 -- what can be done about a function without return type: is it definitely void or never, and is it asynchronous?
 abbrev pub hint_of_return_type : Bool → Bool → List ℕ
@@ -52,11 +253,16 @@ hint_of_return_type true _ = codes "add an explicit return type of 'void' or 'ne
 hint_of_return_type false true = codes "add an explicit return type of 'Promise<void>' or 'Promise<never>' to the function"
 hint_of_return_type false false = codes "add an explicit return type to the function"
 
+-- what can be done about an expando property whose value mentions a name that another one has
+abbrev pub hint_of_expando : List ℕ → List ℕ
+hint_of_expando name = codes "rename '" ++ (name ++
+    codes "' to something else to avoid conflicts or create a temporary variable with a different name to use in the expando property reference")
+
 -- what can be done about it
-abbrev pub hint_of : FastCheckDiagnostic → Option (List ℕ)
-hint_of (MissingExplicitType _) = Some (codes "add an explicit type annotation to the symbol")
+unfoldable pub hint_of : FastCheckDiagnostic → Option (List ℕ)
 hint_of (MissingExplicitReturnType _ is_definitely_void_or_never is_async) = Some (hint_of_return_type is_definitely_void_or_never is_async)
-hint_of (UnsupportedDestructuring _) = Some (codes "separate each destructured symbol into its own export statement")
+hint_of (UnsupportedExpandoProperty _ _ reference_name) = Some (hint_of_expando (string_bytes reference_name))
+hint_of d = (texts_of d).hint
 
 -- what types there are for a function that returns no value: is it asynchronous?
 abbrev pub types_without_value : Bool → List ℕ
@@ -70,10 +276,9 @@ info_of_return_type true is_async = codes "all functions in the public API must 
     codes "this function has no return statements, so a return type could not be inferred automatically" ∷ []
 
 -- lines that say more
-abbrev pub info_of : FastCheckDiagnostic → List (List ℕ)
-info_of (MissingExplicitType _) = codes "all symbols in the public API must have an explicit type" ∷ []
+unfoldable pub info_of : FastCheckDiagnostic → List (List ℕ)
 info_of (MissingExplicitReturnType _ is_definitely_void_or_never is_async) = info_of_return_type is_definitely_void_or_never is_async
-info_of (UnsupportedDestructuring _) = codes "destructuring can not be inferred by fast check" ∷ []
+info_of d = (texts_of d).info
 
 -- where the pages that explain the kinds stand, and the page of each: the name of its kind follows
 abbrev pub docs_url : List ℕ

@@ -1,6 +1,8 @@
 pub mod PublicRanges
 pub mod DiagnosticRange
 pub mod Report
+pub mod Subject
+pub mod KindTexts
 pub mod Diagnostic
 pub mod MediaType
 pub mod EsModule

@@ -54,6 +54,7 @@ IsDiagnosticOf info fault (MissingExplicitType place) = (fault.kind ≡ kinds.Mi
 IsDiagnosticOf info fault (MissingExplicitReturnType place is_definitely_void_or_never is_async) =
     (fault.kind ≡ kinds.MissingExplicitReturnType is_definitely_void_or_never is_async) × IsPlaceOf info fault place
 IsDiagnosticOf info fault (UnsupportedDestructuring place) = (fault.kind ≡ kinds.UnsupportedDestructuring) × IsPlaceOf info fault place
+IsDiagnosticOf _ _ _ = ⊥
 
 -- faults one by one as diagnostics
 abbrev pub AreDiagnosticsOf : EsModule → List Fault → List FastCheckDiagnostic → Type 0

@@ -1,5 +1,6 @@
 //! What a reader is told of each of the faults that leave a module without skeleton.
-ghost use Rattle.std.specs.Prelude.{◌≡◌, IfOk, map};
+ghost use Rattle.std.specs.Prelude.{◌≡◌, IfOk, map, option_map};
+ghost use Rattle.std.specs.Option.{option_copied};
 ghost use Rattle.std.specs.String.{string_bytes};
 ghost use Rattle.fast_check_tables.specs.Diagnostic.{hint_of_return_type, info_of_return_type};
 
@@ -18,18 +19,13 @@ impl Diagnostic for FastCheckDiagnostic {
 
     fn level(&self) -> DiagnosticLevel {
         match self {
-            FastCheckDiagnostic::MissingExplicitType { .. }
-            | FastCheckDiagnostic::MissingExplicitReturnType { .. }
-            | FastCheckDiagnostic::UnsupportedDestructuring { .. } => DiagnosticLevel::Error,
+            Self::UnsupportedJavaScriptEntrypoint { .. } => DiagnosticLevel::Warning,
+            _ => DiagnosticLevel::Error,
         }
     }
 
     fn code(&self) -> &'static str {
-        match self {
-            FastCheckDiagnostic::MissingExplicitType { .. } => "missing-explicit-type",
-            FastCheckDiagnostic::MissingExplicitReturnType { .. } => "missing-explicit-return-type",
-            FastCheckDiagnostic::UnsupportedDestructuring { .. } => "unsupported-destructuring",
-        }
+        self.texts().code
     }
 
     fn message(&self, alloc: Global) -> Result<String, AllocError> {
@@ -59,20 +55,24 @@ impl Diagnostic for FastCheckDiagnostic {
     }
 
     fn hint(&self, alloc: Global) -> Result<Option<String>, AllocError> {
-        let hint = match self {
-            FastCheckDiagnostic::MissingExplicitType { .. } => {
-                "add an explicit type annotation to the symbol"
-            }
-            FastCheckDiagnostic::MissingExplicitReturnType {
+        match self {
+            Self::MissingExplicitReturnType {
                 is_definitely_void_or_never,
                 is_async,
                 ..
-            } => return_type_hint(*is_definitely_void_or_never, *is_async),
-            FastCheckDiagnostic::UnsupportedDestructuring { .. } => {
-                "separate each destructured symbol into its own export statement"
+            } => {
+                let hint = return_type_hint(*is_definitely_void_or_never, *is_async);
+                optional(alloc, Some(hint))
             }
-        };
-        Ok(Some(String::from_str(alloc, hint)?))
+            Self::UnsupportedExpandoProperty { reference_name, .. } => {
+                let hint = format!(in alloc;
+                    "rename '{reference_name}' to something else to avoid conflicts or create a temporary variable \
+                     with a different name to use in the expando property reference"
+                )?;
+                Ok(Some(hint))
+            }
+            _ => optional(alloc, self.texts().hint),
+        }
     }
 
     fn snippet_fixed(&self) -> Option<DiagnosticSnippet<'_>> {
@@ -81,19 +81,12 @@ impl Diagnostic for FastCheckDiagnostic {
 
     fn info(&self, alloc: Global) -> Result<Vec<String>, AllocError> {
         match self {
-            FastCheckDiagnostic::MissingExplicitType { .. } => lines(
-                alloc,
-                &["all symbols in the public API must have an explicit type"],
-            ),
-            FastCheckDiagnostic::MissingExplicitReturnType {
+            Self::MissingExplicitReturnType {
                 is_definitely_void_or_never,
                 is_async,
                 ..
             } => return_type_info(alloc, *is_definitely_void_or_never, *is_async),
-            FastCheckDiagnostic::UnsupportedDestructuring { .. } => lines(
-                alloc,
-                &["destructuring can not be inferred by fast check"],
-            ),
+            _ => lines(alloc, self.texts().info),
         }
     }
 
@@ -136,6 +129,15 @@ fn return_type_info(
     let reason =
         "this function has no return statements, so a return type could not be inferred automatically";
     lines(alloc, &[wanted, offered, reason])
+}
+
+fn optional(alloc: Global, text: Option<&str>) -> Result<Option<String>, AllocError>
+    ensures { IfOk result (λ owned. option_map string_bytes owned ≡ option_copied text.entry) }
+{
+    match text {
+        Some(text) => Ok(Some(String::from_str(alloc, text)?)),
+        None => Ok(None),
+    }
 }
 
 fn lines(alloc: Global, texts: &[&str]) -> Result<Vec<String>, AllocError>

@@ -1,11 +1,11 @@
-use Rattle.std.proofs.Common.{rules}
+use Rattle.std.proofs.Common.{ap, sym}
+use Rattle.fast_check_tables.specs.Diagnostic.{level_of}
+use Rattle.fast_check_tables.proofs.OtherKinds.{other_levels}
 use Rattle.fast_check_tables.proofs.diagnostics.told.FastCheckDiagnosticDiagnostic.level.Goals as goal
 
-pub returns-in-MissingExplicitType : goal.returns-in-MissingExplicitType
-returns-in-MissingExplicitType c = search rules
+pub returns-in-UnsupportedJavaScriptEntrypoint : goal.returns-in-UnsupportedJavaScriptEntrypoint
+unfolding level_of
+returns-in-UnsupportedJavaScriptEntrypoint c = sym (ap level_of c.in-UnsupportedJavaScriptEntrypoint.is)
 
-pub returns-in-MissingExplicitType-2 : goal.returns-in-MissingExplicitType-2
-returns-in-MissingExplicitType-2 c = search rules
-
-pub returns-in-MissingExplicitType-3 : goal.returns-in-MissingExplicitType-3
-returns-in-MissingExplicitType-3 c = search rules
+pub returns-in_default : goal.returns-in_default
+returns-in_default c = other_levels c.args.self.now c.in_default.not-UnsupportedJavaScriptEntrypoint
