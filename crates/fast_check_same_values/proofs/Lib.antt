@@ -7,3 +7,4 @@ pub mod AlikeExpressions
 pub mod Alike
 pub mod AlikePresent
 pub mod AlikeProperties
+pub mod AlikeClasses

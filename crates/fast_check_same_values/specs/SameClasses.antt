@@ -56,7 +56,6 @@ pub data IsSilentMember (earlier : List Tree) : Tree → Type 0 where
   -- one with a body behind another
   another : {m : Tree} → is_private_implementation m ≡ true → list_any is_private_implementation earlier ≡ true → IsSilentMember earlier m
 
-
 -- `c` and `d` are the scope numbers of the names that nothing in either source binds, `f` and `g` say which ranges are implementations behind overloads
 module _ (r : Renaming) (c d : SyntaxContext) (f g : SourceRange → Bool) where
   -- ---- properties
