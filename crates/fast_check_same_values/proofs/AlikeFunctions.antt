@@ -134,7 +134,7 @@ module _ (r : Renaming) (ok : IsRenaming r) where
         ap (λ x. written (moved (partners r) (any_param n x))) e ∙ written_alike r ok (any_param n b) (any_param n b)
         (new_alike r ok (any_param n b) (λ m keeps. any_param_moved m keeps n b))
 
-    any_params_alike : (n : ℕ) (ts us : List Tree) → map (λ p. kind_of (Param-pat p) is RestPat) ts ≡ map (λ p. kind_of (Param-pat p) is RestPat) us →
+    pub any_params_alike : (n : ℕ) (ts us : List Tree) → map (λ p. kind_of (Param-pat p) is RestPat) ts ≡ map (λ p. kind_of (Param-pat p) is RestPat) us →
         AllAlike r ok (any_params_from n ts) (any_params_from n us)
     any_params_alike n [] [] e = refl
     any_params_alike n (t ∷ ts) (u ∷ us) e =

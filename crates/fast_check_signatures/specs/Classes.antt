@@ -211,7 +211,7 @@ unless_taken_apart (p ∷ ps) constructor = faulty UnsupportedDestructuring (ran
 
 -- what a method is, by the word for its kind
 abbrev pub method_kind : Tree → FunctionKind
-method_kind kind = if has_word words.Getter kind then Getter else (if has_word words.Setter kind then Setter else DeclarationLike)
+method_kind kind = if has_word words.Setter kind then Setter else (if has_word words.Getter kind then Getter else DeclarationLike)
 
 -- a method over what is seen of its function
 abbrev pub method_of : Tree → Seen → Seen
