@@ -1,7 +1,7 @@
 -- What a JSON value is read as, and what is left out.
 use Rattle.std.specs.Prelude.{◌≡◌, ℕ, List, [], Bool, Option, Some, None, option_map, option_and_then, Result, MatchResult}
 use Rattle.std.specs.Result.{result_ok}
-use Rattle.serde_json.specs.Data.{Data, null, boolean, number, string, array, object, Members, no_members, member}
+use Rattle.serde_json.specs.Data.{Data, null, boolean, number, string, array, object, Items, no_items, item, Members, no_members, member}
 use Rattle.serde_json.specs.Find.{get, as_array, as_object, as_str}
 use Rattle.url.specs.Parser.{parse_url}
 use Rattle.url.specs.Parts.{Parts}
@@ -30,6 +30,21 @@ list_of read value = given (as_array value) (λ items. each read (items_list ite
 -- an array of two
 abbrev pub both_of : {A B : Type 0} → (Data → Option A) → (Data → Option B) → Data → Option (A × B)
 both_of first second value = given (pair_of value) (λ p. given (first p.0) (λ a. option_map (λ b. (a, b)) (second p.1)))
+
+-- an array of three
+abbrev pub only_three : Items → Option (Data × Data × Data)
+only_three no_items = None
+only_three (item a no_items) = None
+only_three (item a (item b no_items)) = None
+only_three (item a (item b (item c no_items))) = Some (a, b, c)
+only_three (item a (item b (item c (item d ds)))) = None
+
+abbrev pub three_of : {A B C : Type 0} → (Data → Option A) → (Data → Option B) → (Data → Option C) → Data → Option (A × B × C)
+three_of first second third value =
+    given (given (as_array value) only_three) (λ t.
+    given (first t.0) (λ a.
+    given (second t.1) (λ b.
+    option_map (λ c. (a, b, c)) (third t.2))))
 
 -- null, or a value
 abbrev pub or_null : {A : Type 0} → (Data → Option A) → Data → Option (Option A)

@@ -1,8 +1,9 @@
-ghost use Rattle.std.specs.Prelude.{List, Option, map, option_map, string_bytes};
+ghost use Rattle.std.specs.Prelude.{◌≡◌, List, Option, map, option_map, string_bytes, IfErr};
+ghost use Rattle.std.specs.Result.{result_ok};
 ghost use Rattle.serde_json.specs.Data.{Data};
-ghost use Rattle.serde_json.specs.Find.{as_str};
+ghost use Rattle.serde_json.specs.Find.{as_array, as_str};
 ghost use Rattle.serde_json.specs.View.{view};
-ghost use Rattle.fast_check_read_tables.specs.Reads.{Reads, list_of, both_of, or_null};
+ghost use Rattle.fast_check_read_tables.specs.Reads.{Reads, given, list_of, both_of, only_three, three_of, or_null};
 
 use fast_check_read::{ReadError, read_array, read_pair, read_text};
 use serde_json::Value;
@@ -52,6 +53,34 @@ impl<A: FromJson, B: FromJson> FromJson for (A, B) {
         let (first, second) = read_pair(value)?;
         let first = A::from_json(alloc, first)?;
         Ok((first, B::from_json(alloc, second)?))
+    }
+}
+
+/// An array of three.
+impl<A: FromJson, B: FromJson, C: FromJson> FromJson for (A, B, C) {
+    ghost Seen = { A.Seen × B.Seen × C.Seen };
+
+    ghost seen = { λ p. (A.seen p.0, B.seen p.1, C.seen p.2) };
+
+    ghost read_of = { three_of A.read_of B.read_of C.read_of };
+
+    fn from_json(alloc: Global, value: &Value) -> Result<(A, B, C), ReadError> {
+        let (first, second, third) = read_three(value)?;
+        let first = A::from_json(alloc, first)?;
+        let second = B::from_json(alloc, second)?;
+        Ok((first, second, C::from_json(alloc, third)?))
+    }
+}
+
+/// The items of an array of three.
+fn read_three(value: &Value) -> Result<(&Value, &Value, &Value), ReadError>
+    ensures items { option_map (λ t. (view t.0.now, view t.1.now, view t.2.now)) (result_ok result) ≡ given (as_array (view value.now)) only_three }
+    ensures err { IfErr result (λ error. error ≡ ReadError.BadForm) }
+{
+    let mut items = read_array(value)?.iter();
+    match (items.next(), items.next(), items.next(), items.next()) {
+        (Some(first), Some(second), Some(third), None) => Ok((first, second, third)),
+        _ => Err(ReadError::BadForm),
     }
 }
 

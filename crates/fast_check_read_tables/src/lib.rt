@@ -2,6 +2,7 @@
 #![tactic(auto)]
 
 mod from_json;
+mod graph;
 mod members;
 mod modules;
 mod names;
@@ -9,5 +10,6 @@ mod symbols;
 mod tables;
 
 pub use from_json::FromJson;
+pub use graph::{GraphEntries, read_graph_entries};
 pub use members::{read_list, read_member, read_option};
 pub use tables::read_module_tables;
