@@ -75,24 +75,28 @@ impl CheckedTables {
         })
     }
 
+    /// The symbols, in the order in which they were handed in.
     pub fn symbols(&self) -> &[Symbol]
         ensures { result.now ≡ self.now.symbols }
     {
         self.symbols.as_slice()
     }
 
+    /// The symbol of an id.
     pub fn symbol(&self, id: SymbolId) -> Option<&Symbol>
         ensures { option_copied result ≡ symbol_of id self.now.symbols }
     {
         self.symbols.get(id)
     }
 
+    /// The place of a symbol among `symbols`.
     pub fn symbol_place(&self, id: SymbolId) -> Option<usize>
         ensures { result ≡ place_of id self.now.symbols }
     {
         self.symbols.place(id)
     }
 
+    /// The symbol of a resolved identifier.
     pub fn symbol_from_swc(&self, id: &Id) -> Option<&Symbol>
         ensures { option_copied result ≡ symbol_of_swc self.now id.now }
     {
@@ -100,18 +104,21 @@ impl CheckedTables {
         self.symbols.get(*symbol)
     }
 
+    /// The id of the symbol that stands for the module.
     pub fn module_symbol(&self) -> SymbolId
         ensures { result ≡ self.now.module_symbol }
     {
         self.module_symbol
     }
 
+    /// The re-exports of all, in order.
     pub fn re_export_all_nodes(&self) -> &[ReExportAllNode]
         ensures { result.now ≡ self.now.re_exports }
     {
         &self.re_export_all_nodes
     }
 
+    /// The module that answers an exported name.
     pub fn resolved_export(&self, name: &str) -> Option<&Url>
         ensures { option_copied result ≡ resolved_export self.now name.now }
     {

@@ -83,6 +83,13 @@ impl EsModuleInfo {
         &self.source
     }
 
+    /// Its tables.
+    pub fn tables(&self) -> &CheckedTables
+        ensures { result.now ≡ self.now.tables }
+    {
+        &self.tables
+    }
+
     /// The id of the symbol that stands for it.
     pub fn module_symbol(&self) -> SymbolId
         ensures { result ≡ self.now.tables.module_symbol }

@@ -52,6 +52,13 @@ impl JsonModuleInfo {
         &self.specifier
     }
 
+    /// Its tables.
+    pub fn tables(&self) -> &CheckedTables
+        ensures { result.now ≡ self.now.tables }
+    {
+        &self.tables
+    }
+
     /// The id of the symbol that stands for it.
     pub fn module_symbol(&self) -> SymbolId
         ensures { result ≡ self.now.tables.module_symbol }

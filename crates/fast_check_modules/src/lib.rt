@@ -11,6 +11,7 @@ mod ranges;
 mod tables;
 mod unbound;
 
+pub use checked::CheckedTables;
 pub use es_module::EsModuleInfo;
 pub use expandos::{Expando, expandos_of};
 pub use fast_check_symbols::{

@@ -1,10 +1,10 @@
 //! Calls on what is demanded of a module, and on the modules that were followed or wait to be.
 
 use crate::packages::package_of;
-use crate::said::Said;
 use crate::sets::{name_and_rest, set_of, tell_set};
 use fast_check_names::{FileDepName, ImportedExports};
 use fast_check_packages::{HandledExports, PendingTrace, PendingTraces};
+use fast_check_said::Said;
 use std::alloc::Global;
 use url::Url;
 

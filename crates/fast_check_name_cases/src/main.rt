@@ -8,12 +8,11 @@ mod demands;
 mod grown;
 mod packages;
 mod pairs;
-mod said;
 mod sets;
 
-use crate::said::Said;
 use fast_check_names::{Exports, ImportedExports, NamedSubset};
 use fast_check_packages::{HandledExports, PendingTraces};
+use fast_check_said::Said;
 use std::alloc::Global;
 use std::{fs, io};
 

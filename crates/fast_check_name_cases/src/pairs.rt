@@ -2,8 +2,8 @@
 
 ghost use Rattle.std.specs.Prelude.{◌<◌, ◌≤◌};
 
-use crate::said::Said;
 use fast_check_names::{Exports, NamedSubset};
+use fast_check_said::Said;
 use std::alloc::Global;
 
 /// For each of the paths a, b, a.a, a.b, b.a and b.b: 0 where it is not touched, 1 where it is touched and 2 where it is covered too.

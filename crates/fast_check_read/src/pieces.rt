@@ -56,7 +56,7 @@ pub fn read_range(value: &Value) -> Result<SourceRange, ReadError>
 }
 
 /// The items of an array of two.
-pub(crate) fn read_pair(value: &Value) -> Result<(&Value, &Value), ReadError>
+pub fn read_pair(value: &Value) -> Result<(&Value, &Value), ReadError>
     ensures pair { option_map (λ p. (view p.0.now, view p.1.now)) (result_ok result) ≡ pair_of (view value.now) }
     ensures err { IfErr result (λ error. error ≡ ReadError.BadForm) }
 {
@@ -89,7 +89,7 @@ pub fn read_ranges(alloc: Global, value: &Value) -> Result<Items<SourceRange>, R
 }
 
 /// The members of an object.
-pub(crate) fn read_members(value: &Value) -> Result<&Map<String, Value>, ReadError>
+pub fn read_members(value: &Value) -> Result<&Map<String, Value>, ReadError>
     ensures ok { IfOk result (λ members. value.now ≡ Object members.now) }
     ensures err { IfErr result (λ error. (error ≡ ReadError.BadForm) × (as_object (view value.now) ≡ None)) }
 {
@@ -100,7 +100,7 @@ pub(crate) fn read_members(value: &Value) -> Result<&Map<String, Value>, ReadErr
 }
 
 /// The items of an array.
-pub(crate) fn read_array(value: &Value) -> Result<&Vec<Value>, ReadError>
+pub fn read_array(value: &Value) -> Result<&Vec<Value>, ReadError>
     ensures ok { IfOk result (λ items. value.now ≡ Array items.now) }
     ensures err { IfErr result (λ error. (error ≡ ReadError.BadForm) × (as_array (view value.now) ≡ None)) }
 {

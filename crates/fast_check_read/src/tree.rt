@@ -19,7 +19,6 @@ use std::alloc::Global;
 
 /// The tree of a JSON value that stands where `form` does.
 #[cycle(read)]
-#[tactic(auto, using(crate::proofs::Words::tree_of_word))]
 pub fn read_tree(alloc: Global, value: &Value, form: Form) -> Result<Tree, ReadError>
     ensures { Answers (tree_of (view value.now) form) result }
 {

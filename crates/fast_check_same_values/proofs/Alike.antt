@@ -140,12 +140,12 @@ module _ (r : Renaming) (ok : IsRenaming r) (c d : SyntaxContext) (pair : IsPair
     function_alike (s.typed_function {t = t} {u = u} h n w ps) kind p q e =
         signature_of_alike r ok c d kind p q t u (params_seen (parts (Function-params t))
         (pats_seen c (expr_seen c) (map (λ x. Param-pat x) (parts (Function-params t)))))
-        (params_seen (parts (Function-params u)) (pats_seen d (expr_seen d) (map (λ x. Param-pat x) (parts (Function-params u))))) e h n (λ a. cc)
+        (params_seen (parts (Function-params u)) (pats_seen d (expr_seen d) (map (λ x. Param-pat x) (parts (Function-params u))))) e h n (λ a setter. cc)
         (params_alike ps)
     function_alike (s.classed_function {t = t} {u = u} h n f ps) kind p q e =
         signature_of_alike r ok c d kind p q t u (params_seen (parts (Function-params t))
         (pats_seen c (expr_seen c) (map (λ x. Param-pat x) (parts (Function-params t)))))
-        (params_seen (parts (Function-params u)) (pats_seen d (expr_seen d) (map (λ x. Param-pat x) (parts (Function-params u))))) e h n (λ a. f)
+        (params_seen (parts (Function-params u)) (pats_seen d (expr_seen d) (map (λ x. Param-pat x) (parts (Function-params u))))) e h n (λ a setter. f)
         (params_alike ps)
 
     pub params_alike : {ts us : List Tree} → SameParams r c d ts us →

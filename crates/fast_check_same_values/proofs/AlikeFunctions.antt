@@ -23,11 +23,12 @@ use Rattle.fast_check_helpers.specs.InferredType.{inferred_type}
 use Rattle.fast_check_helpers.specs.ReturnClass.{return_class}
 use Rattle.fast_check_helpers.proofs.BuildersMoved.{type_ann_moved, any_type_ann_moved}
 use Rattle.fast_check_signatures.specs.declared.function_kind.FunctionKind.{FunctionKind}
-use Rattle.fast_check_signatures.specs.declared.function_kind.FunctionKind.TheVariants.{DeclarationLike, ExpressionLike}
+use Rattle.fast_check_signatures.specs.declared.function_kind.FunctionKind.TheVariants.{DeclarationLike, ExpressionLike, Getter}
 use Rattle.fast_check_signatures.specs.Seen.{Seen, written, range, function, typed_arrow, valued_arrow, faulty}
 use Rattle.fast_check_signatures.specs.NewNodes.{promised, void_or_promise_void, any_param}
 use Rattle.fast_check_signatures.specs.Parameters.{Look}
-use Rattle.fast_check_signatures.specs.Functions.{return_type_missing, void_seen, class_seen, return_type_seen, function_head, signature_seen, any_params_from}
+use Rattle.fast_check_signatures.specs.Functions.{return_type_missing, void_seen, void_class_seen, no_return_seen, class_seen, is_setter}
+use Rattle.fast_check_signatures.specs.Functions.{shown_return_seen, return_type_seen, function_head, signature_seen, any_params_from}
 use Rattle.fast_check_signatures.specs.Functions.{implementation_seen, param_seen, arrow_head, typed_arrow_seen, valued_arrow_seen, or_own, by_value}
 use Rattle.fast_check_signatures.specs.Functions.{untyped_arrow_seen}
 use Rattle.fast_check_signatures.specs.Functions.{arrow_by_type}
@@ -54,11 +55,21 @@ module _ (r : Renaming) (ok : IsRenaming r) where
       written_alike r ok type type (new_alike r ok type (λ m keeps. type_ann_moved m keeps (void_or_promise_void is_async)
       ∙ ap type_ann (void_or_promise_void_moved m keeps is_async)))
 
+  void_class_alike : (kind : FunctionKind) (is_async : Bool) (p q : SourceRange) → RangeAlike r ok p q →
+      Alike r ok (void_class_seen kind is_async p) (void_class_seen kind is_async q)
+  void_class_alike Getter is_async p q e = faulty_alike r ok (return_type_missing false is_async) p q e
+  void_class_alike _ is_async p q e = void_alike is_async
+
+  no_return_alike : (kind : FunctionKind) (is_async : Bool) (p q : SourceRange) → RangeAlike r ok p q →
+      Alike r ok (no_return_seen kind is_async p) (no_return_seen kind is_async q)
+  no_return_alike DeclarationLike is_async p q e = void_alike is_async
+  no_return_alike ExpressionLike is_async p q e = faulty_alike r ok (return_type_missing true is_async) p q e
+  no_return_alike _ is_async p q e = faulty_alike r ok (return_type_missing false is_async) p q e
+
   class_alike : (kind : FunctionKind) (is_async : Bool) (p q : SourceRange) (c : ReturnStatementAnalysis) → RangeAlike r ok p q →
       Alike r ok (class_seen kind is_async p c) (class_seen kind is_async q c)
-  class_alike kind is_async p q class.Void e = void_alike is_async
-  class_alike DeclarationLike is_async p q class.None e = void_alike is_async
-  class_alike ExpressionLike is_async p q class.None e = faulty_alike r ok (return_type_missing true is_async) p q e
+  class_alike kind is_async p q class.Void e = void_class_alike kind is_async p q e
+  class_alike kind is_async p q class.None e = no_return_alike kind is_async p q e
   class_alike kind is_async p q class.Single e = faulty_alike r ok (return_type_missing false is_async) p q e
   class_alike kind is_async p q class.Multiple e = faulty_alike r ok (return_type_missing false is_async) p q e
 
@@ -78,7 +89,7 @@ module _ (r : Renaming) (ok : IsRenaming r) where
     signature_alike t u type type' params params' h e ps = λ i. function (function_head_alike t u h i) (e i) (seens_alike r ok params params' ps i)
 
     return_type_alike : (kind : FunctionKind) (p q : SourceRange) (t u : Tree) → RangeAlike r ok p q → SameFunctionHead r c d t u → SameReturn r c d t u →
-        (is_absent (Function-return_type t) ≡ true → return_class (Function-body t) ≡ return_class (Function-body u)) →
+        (is_absent (Function-return_type t) ≡ true → is_setter kind ≡ false → return_class (Function-body t) ≡ return_class (Function-body u)) →
         Alike r ok (return_type_seen kind p t) (return_type_seen kind q u)
     return_type_alike kind p q t u e h s classes =
         let missing = return_type_missing false (Function-is_async t) in
@@ -87,22 +98,25 @@ module _ (r : Renaming) (ok : IsRenaming r) where
         let classed' = class_seen kind (Function-is_async u) q (return_class (Function-body u)) in
         let bodied = if is_absent (Function-body t) then written Absent else classed in
         let bodied' = if is_absent (Function-body u) then written Absent else classed' in
+        let returned = if Function-is_generator t then faulty missing p else bodied in
+        let returned' = if Function-is_generator u then faulty missing' q else bodied' in
+        let none = written_alike r ok Absent Absent (new_alike r ok Absent (λ m keeps. absent_moved m)) in
         alike_if r ok (is_absent (Function-return_type t)) (is_absent (Function-return_type u))
-        (if Function-is_generator t then faulty missing p else bodied) (written (Function-return_type t))
-        (if Function-is_generator u then faulty missing' q else bodied') (written (Function-return_type u))
+        (shown_return_seen kind p t) (written (Function-return_type t)) (shown_return_seen kind q u) (written (Function-return_type u))
         (absent_alike r ok (Function-return_type t) (Function-return_type u) (tree_to r ok s.return_type))
-        (λ absent. alike_if r ok (Function-is_generator t) (Function-is_generator u) (faulty missing p) bodied (faulty missing' q) bodied' s.is_generator
+        (λ absent. alike_if r ok (is_setter kind) (is_setter kind) (written Absent) returned (written Absent) returned' refl (λ setter. none)
+        (λ setter. alike_if r ok (Function-is_generator t) (Function-is_generator u) (faulty missing p) bodied (faulty missing' q) bodied' s.is_generator
         (λ g. λ i. faulty (return_type_missing false (s.is_async i)) (e i))
         (λ g. alike_if r ok (is_absent (Function-body t)) (is_absent (Function-body u)) (written Absent) classed (written Absent) classed' h.has_body
-        (λ a. written_alike r ok Absent Absent (new_alike r ok Absent (λ m keeps. absent_moved m)))
-        (λ a. subst₂ (λ x y. Alike r ok classed (class_seen kind x q y)) s.is_async (classes absent)
-        (class_alike kind (Function-is_async t) p q (return_class (Function-body t)) e))))
+        (λ a. none)
+        (λ a. subst₂ (λ x y. Alike r ok classed (class_seen kind x q y)) s.is_async (classes absent setter)
+        (class_alike kind (Function-is_async t) p q (return_class (Function-body t)) e)))))
         (λ w. same_written r ok s.return_type)
 
     -- a function, by its parameters, where its body has the class of the other's if no type is written
     pub signature_of_alike : (kind : FunctionKind) (p q : SourceRange) (t u : Tree) (params params' : List Seen) → RangeAlike r ok p q →
         SameFunctionHead r c d t u → SameReturn r c d t u →
-        (is_absent (Function-return_type t) ≡ true → return_class (Function-body t) ≡ return_class (Function-body u)) → AllAlike r ok params params' →
+        (is_absent (Function-return_type t) ≡ true → is_setter kind ≡ false → return_class (Function-body t) ≡ return_class (Function-body u)) → AllAlike r ok params params' →
         Alike r ok (signature_seen t (return_type_seen kind p t) params) (signature_seen u (return_type_seen kind q u) params')
     signature_of_alike kind p q t u params params' e h s classes ps =
         signature_alike t u (return_type_seen kind p t) (return_type_seen kind q u) params params' h (return_type_alike kind p q t u e h s classes) ps
@@ -120,7 +134,7 @@ module _ (r : Renaming) (ok : IsRenaming r) where
         ap (λ x. written (moved (partners r) (any_param n x))) e ∙ written_alike r ok (any_param n b) (any_param n b)
         (new_alike r ok (any_param n b) (λ m keeps. any_param_moved m keeps n b))
 
-    any_params_alike : (n : ℕ) (ts us : List Tree) → map (λ p. kind_of (Param-pat p) is RestPat) ts ≡ map (λ p. kind_of (Param-pat p) is RestPat) us →
+    pub any_params_alike : (n : ℕ) (ts us : List Tree) → map (λ p. kind_of (Param-pat p) is RestPat) ts ≡ map (λ p. kind_of (Param-pat p) is RestPat) us →
         AllAlike r ok (any_params_from n ts) (any_params_from n us)
     any_params_alike n [] [] e = refl
     any_params_alike n (t ∷ ts) (u ∷ us) e =

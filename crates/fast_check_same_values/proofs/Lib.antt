@@ -1,6 +1,10 @@
 pub mod AlikeTrees
+pub mod AlikeMembers
 pub mod AlikeSeen
 pub mod AlikeParameters
 pub mod AlikeFunctions
 pub mod AlikeExpressions
 pub mod Alike
+pub mod AlikePresent
+pub mod AlikeProperties
+pub mod AlikeClasses

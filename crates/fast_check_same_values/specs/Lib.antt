@@ -1,1 +1,2 @@
 pub mod SameValues
+pub mod SameClasses

@@ -14,21 +14,25 @@ use Rattle.fast_check_class_forms.specs.Functions.{function as function_node}
 use Rattle.fast_check_expression_forms.specs.Expressions.{arrow_expr}
 use Rattle.fast_check_expression_forms.specs.Patterns.{assign_pat}
 use Rattle.fast_check_program_forms.specs.Names.{Ident-span}
+use Rattle.fast_check_ranges.specs.Ranges.{range_of_node}
+use Rattle.fast_check_ranges.proofs.RangesMoved.{range_of_node_moved}
 use Rattle.fast_check_helpers.proofs.GlobalCallsMoved.{moved_scope}
 use Rattle.fast_check_signatures.specs.declared.fault.Fault.{Fault}
 use Rattle.fast_check_signatures.specs.declared.fault.FaultKind.TheVariants.{MissingExplicitType}
 use Rattle.fast_check_signatures.specs.Functions.{return_type_missing}
 use Rattle.fast_check_signatures.specs.NewNodes.{function_body, arrow_body}
-use Rattle.fast_check_signatures.specs.Seen.{DeclaratorHead, DefaultHead, FunctionHead, ArrowHead}
-use Rattle.fast_check_signatures.specs.Seen.{Seen, written, round, listed, declarator, default, function, typed_arrow, valued_arrow, faulty, refused}
-use Rattle.fast_check_signatures.specs.Seen.{Seens, end, also, seens}
+use Rattle.fast_check_signatures.specs.Seen.{DeclaratorHead, DefaultHead, FunctionHead, ArrowHead, ClassHead, PropertyHead}
+use Rattle.fast_check_signatures.specs.Seen.{Seen, written, round, listed, declarator, default, function, typed_arrow, valued_arrow, class, property}
+use Rattle.fast_check_signatures.specs.Seen.{faulty, refused, Seens, end, also, seens}
 use Rattle.fast_check_signatures.specs.Answers.{Answer, fault_at, made, joined, settled, unless_stays, demanded, before, visited, with_tree}
-use Rattle.fast_check_signatures.specs.Answers.{valued_declarator, signed_function, signed_arrow, kept_arrow}
+use Rattle.fast_check_signatures.specs.Answers.{valued_declarator, signed_function, signed_arrow, kept_arrow, class_of, declared_property}
+use Rattle.fast_check_signatures.specs.Answers.{valued_property, class_answer, property_answer}
 use Rattle.fast_check_signatures.specs.Answers.{round_answer, list_answer, declarator_answer, default_answer, function_answer, typed_arrow_answer}
 use Rattle.fast_check_signatures.specs.Answers.{valued_arrow_answer}
 use Rattle.fast_check_signatures.specs.Answers.{answer_to, parts_answer, items_answer, answer_of}
 use Rattle.fast_check_signatures.proofs.NewNodesMoved.{function_body_moved, arrow_body_moved}
-use Rattle.fast_check_signatures.proofs.MovedParts.{moved_declarator, moved_default, moved_function, moved_arrow, moved_seen, moved_seens}
+use Rattle.fast_check_signatures.proofs.MovedParts.{moved_declarator, moved_default, moved_function, moved_arrow, moved_class, moved_property}
+use Rattle.fast_check_signatures.proofs.MovedParts.{moved_seen, moved_seens}
 use Rattle.fast_check_signatures.proofs.MovedParts.{seens_moved, range_field_moved, tree_chosen}
 
 abbrev pub moved_fault : Moves → Fault → Fault
@@ -138,6 +142,16 @@ module _ (m : Moves) (ok : Keeps m) where
       (λ i. arrow_expr (moved_range m a.span) (moved_scope m a.ctxt) (list (map (moved m) params)) (moved m value) is_async a.is_generator
       (moved m a.type_params) (sym (absent_moved m) i)) ∙ sym (arrow_expr_moved a params value is_async Absent)
 
+  pub class_of_moved : (c : ClassHead) (superclass : Tree) (members : List Tree) →
+      moved m (class_of c superclass members) ≡ class_of (moved_class m c) (moved m superclass) (map (moved m) members)
+  class_of_moved c superclass members = simp (node_moved, range_moved, context_moved, flag_moved)
+
+  pub valued_property_moved : (p : PropertyHead) (value : Tree) → moved m (valued_property p value) ≡ valued_property (moved_property m p) (moved m value)
+  valued_property_moved p value = simp (node_moved, range_moved, flag_moved, absent_moved)
+
+  pub declared_property_moved : (p : PropertyHead) (type : Tree) → moved m (declared_property p type) ≡ declared_property (moved_property m p) (moved m type)
+  declared_property_moved p type = simp (node_moved, range_moved, flag_moved, absent_moved)
+
   -- ---- answers
 
   round_answer_moved : (kind : Kind) (a : Answer (Option (List Tree))) → round_answer kind (moved_parts m a) ≡ moved_answer m (round_answer kind a)
@@ -195,6 +209,24 @@ module _ (m : Moves) (ok : Keeps m) where
       ∙ joined_moved m make make' (moved m) (map (moved m)) (option_map (moved m))
       (demanded fault a) b (ap Some (kept_arrow_moved h is_async (demanded fault a).stays b.stays))
 
+  class_answer_moved : (c : ClassHead) (a : Answer (Option Tree)) (b : Answer (List Tree)) →
+      class_answer (moved_class m c) (moved_answer m a) (moved_items m b) ≡ moved_answer m (class_answer c a b)
+  class_answer_moved c a b =
+      let make : Tree → List Tree → Option Tree = λ s ms. Some (class_of c s ms) in
+      let make' : Tree → List Tree → Option Tree = λ s ms. Some (class_of (moved_class m c) s ms) in
+      ap (λ superclass. joined make' superclass (moved_items m b)) (settled_moved m a)
+      ∙ joined_moved m make make' (moved m) (map (moved m)) (option_map (moved m)) (settled a) b (ap Some (sym (class_of_moved c (settled a).stays b.stays)))
+
+  property_answer_moved : (p : PropertyHead) (a : Answer (Option Tree)) →
+      property_answer (moved_property m p) (moved_answer m a) ≡ moved_answer m (property_answer p a)
+  property_answer_moved p a =
+      let fault = fault_at MissingExplicitType (range_of_node p.key) in
+      let make : Tree → Option Tree = λ v. Some (valued_property p v) in
+      let make' : Tree → Option Tree = λ v. Some (valued_property (moved_property m p) v) in
+      (λ i. made make' ((ap (λ q. demanded (fault_at MissingExplicitType q) (moved_answer m a)) (range_of_node_moved m ok p.key)
+      ∙ demanded_moved m fault a) i))
+      ∙ made_moved m make make' (moved m) (option_map (moved m)) (demanded fault a) (ap Some (sym (valued_property_moved p (demanded fault a).stays)))
+
   -- ---- all
 
   mutual
@@ -213,6 +245,10 @@ module _ (m : Moves) (ok : Keeps m) where
     answer_to_moved (valued_arrow a is_async place value params) =
         (λ i. valued_arrow_answer (moved_arrow m a) is_async (moved_range m place) (answer_to_moved value i) (items_moved params i))
         ∙ valued_arrow_answer_moved a is_async place (answer_to value) (items_answer params)
+    answer_to_moved (class c superclass members) =
+        (λ i. class_answer (moved_class m c) (answer_to_moved superclass i) (items_moved members i))
+        ∙ class_answer_moved c (answer_to superclass) (items_answer members)
+    answer_to_moved (property p value) = ap (property_answer (moved_property m p)) (answer_to_moved value) ∙ property_answer_moved p (answer_to value)
     answer_to_moved (faulty kind place) = λ i. record { stays = Some (sym (absent_moved m) i); faults = fault_at kind (moved_range m place) ∷ [] }
     answer_to_moved refused = refl
 

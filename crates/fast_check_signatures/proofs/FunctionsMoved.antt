@@ -24,11 +24,11 @@ use Rattle.fast_check_helpers.proofs.GlobalCallsMoved.{moved_scope}
 use Rattle.fast_check_helpers.proofs.InferredMoved.{inferred_type_moved}
 use Rattle.fast_check_helpers.proofs.ReturnsMoved.{return_class_moved}
 use Rattle.fast_check_signatures.specs.declared.function_kind.FunctionKind.{FunctionKind}
-use Rattle.fast_check_signatures.specs.declared.function_kind.FunctionKind.TheVariants.{DeclarationLike, ExpressionLike}
+use Rattle.fast_check_signatures.specs.declared.function_kind.FunctionKind.TheVariants.{DeclarationLike, ExpressionLike, Getter, Setter}
 use Rattle.fast_check_signatures.specs.Seen.{Seen, written, range, round, function, typed_arrow, valued_arrow, faulty, seens}
 use Rattle.fast_check_signatures.specs.NewNodes.{promised, void_or_promise_void, any_param}
 use Rattle.fast_check_signatures.specs.Parameters.{Look, pats_seen}
-use Rattle.fast_check_signatures.specs.Functions.{return_type_missing, void_seen, class_seen, return_type_seen, function_head, signature_seen, any_params_from}
+use Rattle.fast_check_signatures.specs.Functions.{return_type_missing, void_seen, class_seen, is_setter, return_type_seen, function_head, signature_seen, any_params_from}
 use Rattle.fast_check_signatures.specs.Functions.{implementation_seen, param_seen, params_seen, arrow_head, typed_arrow_seen, valued_arrow_seen, or_own}
 use Rattle.fast_check_signatures.specs.Functions.{function_seen}
 use Rattle.fast_check_signatures.specs.Functions.{by_value, untyped_arrow_seen, arrow_by_type, arrow_seen}
@@ -56,9 +56,14 @@ module _ (m : Moves) (ok : Keeps m) where
 
   pub class_seen_moved : (kind : FunctionKind) (is_async : Bool) (place : SourceRange) (of_body : ReturnStatementAnalysis) →
       class_seen kind is_async (moved_range m place) of_body ≡ moved_seen m (class_seen kind is_async place of_body)
-  class_seen_moved kind is_async place class.Void = void_seen_moved is_async
+  class_seen_moved DeclarationLike is_async place class.Void = void_seen_moved is_async
+  class_seen_moved ExpressionLike is_async place class.Void = void_seen_moved is_async
+  class_seen_moved Getter is_async place class.Void = refl
+  class_seen_moved Setter is_async place class.Void = void_seen_moved is_async
   class_seen_moved DeclarationLike is_async place class.None = void_seen_moved is_async
   class_seen_moved ExpressionLike is_async place class.None = refl
+  class_seen_moved Getter is_async place class.None = refl
+  class_seen_moved Setter is_async place class.None = refl
   class_seen_moved kind is_async place class.Single = refl
   class_seen_moved kind is_async place class.Multiple = refl
 
@@ -67,6 +72,7 @@ module _ (m : Moves) (ok : Keeps m) where
   return_type_seen_moved kind place t =
       let is_async = flag_field_moved m Function-is_async _ (λ t. refl) t in
       (seen_chosen m _ (is_absent (Function-return_type t)) _ _ _ _ (absent_moved_at m Function-return_type _ (λ t. refl) t)
+      (seen_chosen m _ (is_setter kind) _ _ _ _ refl (record { path = ap written (sym (absent_moved m)) })
       (seen_chosen m _ (Function-is_generator t) _ _ _ _ (flag_field_moved m Function-is_generator _ (λ t. refl) t)
       (record { path = ap (λ b. faulty (return_type_missing false b) (moved_range m place)) is_async })
       (seen_chosen m _ (is_absent (Function-body t)) _ _ _ _ (absent_moved_at m Function-body _ (λ t. refl) t)
@@ -76,7 +82,7 @@ module _ (m : Moves) (ok : Keeps m) where
             ap₂ (λ b c. class_seen kind b (moved_range m place) c) is_async
             (ap return_class (field_moved m Function-body _ (λ t. refl) t) ∙ return_class_moved m (Function-body t))
             ∙ class_seen_moved kind (Function-is_async t) place (return_class (Function-body t));
-      })))
+      }))))
       (record { path = ap written (field_moved m Function-return_type _ (λ t. refl) t) })).path
 
   -- ---- functions

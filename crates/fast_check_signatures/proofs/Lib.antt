@@ -8,4 +8,5 @@ pub mod Refused
 pub mod Looks
 pub mod Adding
 pub mod Choices
+pub mod References
 pub mod Rows

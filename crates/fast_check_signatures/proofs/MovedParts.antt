@@ -8,9 +8,9 @@ use Rattle.fast_check_syntax.specs.Shape.{kind_of, part, parts, is_absent, range
 use Rattle.fast_check_syntax.specs.Moves.{Moves, Keeps, moved, moved_range}
 use Rattle.fast_check_syntax.proofs.Moved.{range_moved, context_moved, kind_of_moved, part_moved, parts_moved, is_absent_moved, flag_of_moved, range_of_moved}
 use Rattle.fast_check_helpers.proofs.GlobalCallsMoved.{moved_scope, context_of_moved}
-use Rattle.fast_check_signatures.specs.Seen.{DeclaratorHead, DefaultHead, FunctionHead, ArrowHead}
-use Rattle.fast_check_signatures.specs.Seen.{Seen, written, round, listed, declarator, default, function, typed_arrow, valued_arrow, faulty, refused, Seens}
-use Rattle.fast_check_signatures.specs.Seen.{end, also, seens, range, scope}
+use Rattle.fast_check_signatures.specs.Seen.{DeclaratorHead, DefaultHead, FunctionHead, ArrowHead, ClassHead, PropertyHead}
+use Rattle.fast_check_signatures.specs.Seen.{Seen, written, round, listed, declarator, default, function, typed_arrow, valued_arrow, class, property}
+use Rattle.fast_check_signatures.specs.Seen.{faulty, refused, Seens, end, also, seens, range, scope}
 
 abbrev pub moved_declarator : Moves → DeclaratorHead → DeclaratorHead
 moved_declarator m d = record { span = moved_range m d.span; ident = moved m d.ident; definite = d.definite }
@@ -26,6 +26,28 @@ abbrev pub moved_arrow : Moves → ArrowHead → ArrowHead
 moved_arrow m a =
     record { span = moved_range m a.span; ctxt = moved_scope m a.ctxt; is_generator = a.is_generator; type_params = moved m a.type_params }
 
+abbrev pub moved_class : Moves → ClassHead → ClassHead
+moved_class m c = record {
+  span = moved_range m c.span;
+  ctxt = moved_scope m c.ctxt;
+  is_abstract = c.is_abstract;
+  type_params = moved m c.type_params;
+  super_type_params = moved m c.super_type_params;
+  implements = moved m c.implements;
+}
+
+abbrev pub moved_property : Moves → PropertyHead → PropertyHead
+moved_property m p = record {
+  span = moved_range m p.span;
+  key = moved m p.key;
+  is_static = p.is_static;
+  accessibility = moved m p.accessibility;
+  is_abstract = p.is_abstract;
+  is_optional = p.is_optional;
+  is_override = p.is_override;
+  readonly = p.readonly;
+}
+
 abbrev mutual
   pub moved_seen : Moves → Seen → Seen
   moved_seen m (written t) = written (moved m t)
@@ -37,6 +59,8 @@ abbrev mutual
   moved_seen m (typed_arrow a type params) = typed_arrow (moved_arrow m a) (moved_seen m type) (moved_seens m params)
   moved_seen m (valued_arrow a is_async place value params) =
       valued_arrow (moved_arrow m a) is_async (moved_range m place) (moved_seen m value) (moved_seens m params)
+  moved_seen m (class c superclass members) = class (moved_class m c) (moved_seen m superclass) (moved_seens m members)
+  moved_seen m (property p value) = property (moved_property m p) (moved_seen m value)
   moved_seen m (faulty kind place) = faulty kind (moved_range m place)
   moved_seen m refused = refused
 

@@ -17,7 +17,7 @@ use Rattle.fast_check_helpers.specs.GlobalCalls.{is_global}
 use Rattle.fast_check_helpers.proofs.BuildersMoved.{ts_keyword_type_moved}
 use Rattle.fast_check_helpers.proofs.GlobalCallsMoved.{moved_scope, is_global_moved}
 use Rattle.fast_check_signatures.proofs.MovedParts.{field_moved, items_moved_at}
-use Rattle.fast_check_signatures.specs.NewNodes.{never_array, never_in_parens, empty_object_pat, new_block, returns_value, function_body, arrow_body}
+use Rattle.fast_check_signatures.specs.NewNodes.{never_array, never_in_parens, never_array_in_parens, hash_private, empty_object_pat, new_block, returns_value, function_body, arrow_body}
 use Rattle.fast_check_signatures.specs.NewNodes.{promise_of, is_one, is_promise, promised, void_or_promise_void, or_undefined, param_ident, any_param}
 
 -- a choice of trees
@@ -47,6 +47,12 @@ module _ (m : Moves) (ok : Keeps m) where
 
   pub never_in_parens_moved : moved m never_in_parens ≡ never_in_parens
   never_in_parens_moved = simp (node_moved, range_moved, none_moved m ok, word_moved)
+
+  pub never_array_in_parens_moved : moved m never_array_in_parens ≡ never_array_in_parens
+  never_array_in_parens_moved = simp (node_moved, range_moved, none_moved m ok, word_moved)
+
+  pub hash_private_moved : moved m hash_private ≡ hash_private
+  hash_private_moved = simp (node_moved, range_moved, none_moved m ok, context_moved, text_moved, word_moved, flag_moved, absent_moved, ok.scope_zero)
 
   pub empty_object_pat_moved : moved m empty_object_pat ≡ empty_object_pat
   empty_object_pat_moved = simp (node_moved, range_moved, none_moved m ok)

@@ -1,23 +1,26 @@
 -- What becomes of what is seen: what stays of it, and the faults, by cases on what is seen. Nothing is asked outside, and nothing that is hidden is there to
 -- be read.
-use Rattle.std.specs.Prelude.{◌≡◌, Bool, false, Option, Some, None, List, [], ◌∷◌, ◌++◌, is_some, unwrap_or, option_map, if◌then◌else◌}
+use Rattle.std.specs.Prelude.{◌≡◌, Bool, true, false, Option, Some, None, List, [], ◌∷◌, ◌++◌, is_some, unwrap_or, option_map, if◌then◌else◌}
 use Rattle.fast_check_syntax.specs.declared.kind.Kind.{Kind}
 use Rattle.fast_check_syntax.specs.declared.source.SourceRange.{SourceRange}
 use Rattle.fast_check_syntax.specs.declared.tree.Tree.{Tree, Absent}
 use Rattle.fast_check_syntax.specs.Shape.{node, list}
+use Rattle.fast_check_class_forms.specs.Classes.{class as class_node}
+use Rattle.fast_check_class_forms.specs.Fields.{class_prop}
 use Rattle.fast_check_class_forms.specs.Functions.{function as function_node}
 use Rattle.fast_check_expression_forms.specs.Expressions.{arrow_expr}
 use Rattle.fast_check_expression_forms.specs.Patterns.{assign_pat}
 use Rattle.fast_check_program_forms.specs.Names.{Ident-span, binding_ident}
+use Rattle.fast_check_ranges.specs.Ranges.{range_of_node}
 use Rattle.fast_check_statement_forms.specs.Declarations.{var_declarator}
 use Rattle.fast_check_signatures.specs.declared.fault.Fault.{Fault}
 use Rattle.fast_check_signatures.specs.declared.fault.FaultKind.{FaultKind}
 use Rattle.fast_check_signatures.specs.declared.fault.FaultKind.TheVariants.{MissingExplicitType}
 use Rattle.fast_check_signatures.specs.NewNodes.{function_body, arrow_body}
 use Rattle.fast_check_signatures.specs.Functions.{return_type_missing}
-use Rattle.fast_check_signatures.specs.Seen.{DeclaratorHead, DefaultHead, FunctionHead, ArrowHead}
-use Rattle.fast_check_signatures.specs.Seen.{Seen, written, round, listed, declarator, default, function, typed_arrow, valued_arrow, faulty, refused, Seens}
-use Rattle.fast_check_signatures.specs.Seen.{end, also, seens}
+use Rattle.fast_check_signatures.specs.Seen.{DeclaratorHead, DefaultHead, FunctionHead, ArrowHead, ClassHead, PropertyHead}
+use Rattle.fast_check_signatures.specs.Seen.{Seen, written, round, listed, declarator, default, function, typed_arrow, valued_arrow, class, property}
+use Rattle.fast_check_signatures.specs.Seen.{faulty, refused, Seens, end, also, seens}
 
 -- ---- answers
 
@@ -91,6 +94,21 @@ signed_arrow a type params = arrow_expr a.span a.ctxt (list params) (arrow_body 
 abbrev pub kept_arrow : ArrowHead → Bool → Tree → List Tree → Tree
 kept_arrow a is_async value params = arrow_expr a.span a.ctxt (list params) value is_async a.is_generator a.type_params Absent
 
+-- a class of this superclass and these members, without decorators
+abbrev pub class_of : ClassHead → Tree → List Tree → Tree
+class_of c superclass members =
+    class_node c.span c.ctxt (list []) (list members) superclass c.is_abstract c.type_params c.super_type_params c.implements
+
+-- `declare key: type;`: a property of this type, without a value
+abbrev pub declared_property : PropertyHead → Tree → Tree
+declared_property p type =
+    class_prop p.span p.key Absent type p.is_static (list []) p.accessibility p.is_abstract p.is_optional false p.readonly true false
+
+-- `key = value;`: a property without type, which its value gives
+abbrev pub valued_property : PropertyHead → Tree → Tree
+valued_property p value =
+    class_prop p.span p.key value Absent p.is_static (list []) p.accessibility p.is_abstract p.is_optional p.is_override p.readonly false false
+
 -- ---- what is answered to what is seen
 
 -- a node round its parts
@@ -118,6 +136,13 @@ abbrev pub valued_arrow_answer : ArrowHead → Bool → SourceRange → Answer (
 valued_arrow_answer a is_async place value params =
     joined (λ v ps. Some (kept_arrow a is_async v ps)) (demanded (fault_at (return_type_missing false is_async) place) value) params
 
+-- what is wrong with a superclass comes before what is wrong with the members
+abbrev pub class_answer : ClassHead → Answer (Option Tree) → Answer (List Tree) → Answer (Option Tree)
+class_answer c superclass members = joined (λ s ms. Some (class_of c s ms)) (settled superclass) members
+
+abbrev pub property_answer : PropertyHead → Answer (Option Tree) → Answer (Option Tree)
+property_answer p value = made (λ v. Some (valued_property p v)) (demanded (fault_at MissingExplicitType (range_of_node p.key)) value)
+
 abbrev mutual
   pub answer_to : Seen → Answer (Option Tree)
   answer_to (written t) = faultless (Some t)
@@ -128,6 +153,8 @@ abbrev mutual
   answer_to (function f type params) = function_answer f (answer_to type) (items_answer params)
   answer_to (typed_arrow a type params) = typed_arrow_answer a (answer_to type) (items_answer params)
   answer_to (valued_arrow a is_async place value params) = valued_arrow_answer a is_async place (answer_to value) (items_answer params)
+  answer_to (class c superclass members) = class_answer c (answer_to superclass) (items_answer members)
+  answer_to (property p value) = property_answer p (answer_to value)
   answer_to (faulty kind place) = record { stays = Some Absent; faults = fault_at kind place ∷ [] }
   answer_to refused = faultless None
 

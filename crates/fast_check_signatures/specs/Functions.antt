@@ -19,7 +19,7 @@ use Rattle.fast_check_helpers.specs.ReturnClass.{return_class}
 use Rattle.fast_check_signatures.specs.declared.fault.FaultKind.{FaultKind}
 use Rattle.fast_check_signatures.specs.declared.fault.FaultKind.TheVariants.{MissingExplicitReturnType}
 use Rattle.fast_check_signatures.specs.declared.function_kind.FunctionKind.{FunctionKind}
-use Rattle.fast_check_signatures.specs.declared.function_kind.FunctionKind.TheVariants.{DeclarationLike, ExpressionLike}
+use Rattle.fast_check_signatures.specs.declared.function_kind.FunctionKind.TheVariants.{DeclarationLike, ExpressionLike, Getter, Setter}
 use Rattle.fast_check_signatures.specs.Seen.{FunctionHead, ArrowHead, Seen, written, range, round, function, typed_arrow, valued_arrow, faulty, seens}
 use Rattle.fast_check_signatures.specs.NewNodes.{promised, void_or_promise_void, any_param}
 use Rattle.fast_check_signatures.specs.Parameters.{Look, pats_seen}
@@ -31,22 +31,38 @@ return_type_missing is_definitely_void_or_never is_async = MissingExplicitReturn
 abbrev pub void_seen : Bool → Seen
 void_seen is_async = written (type_ann (void_or_promise_void is_async))
 
--- The return type that a body shows by its class: that of one that returns nothing. With no `return` at all a declaration returns nothing, and an
--- expression may also never return.
+-- the return type of a body of which no `return` has an argument; a getter has to give something
+abbrev pub void_class_seen : FunctionKind → Bool → SourceRange → Seen
+void_class_seen Getter is_async place = faulty (return_type_missing false is_async) place
+void_class_seen _ is_async place = void_seen is_async
+
+-- of one with no `return` at all: a declaration returns nothing, and an expression may also never return
+abbrev pub no_return_seen : FunctionKind → Bool → SourceRange → Seen
+no_return_seen DeclarationLike is_async place = void_seen is_async
+no_return_seen ExpressionLike is_async place = faulty (return_type_missing true is_async) place
+no_return_seen _ is_async place = faulty (return_type_missing false is_async) place
+
+-- the return type that a body shows by its class: that of one that returns nothing
 abbrev pub class_seen : FunctionKind → Bool → SourceRange → ReturnStatementAnalysis → Seen
-class_seen kind is_async place class.Void = void_seen is_async
-class_seen DeclarationLike is_async place class.None = void_seen is_async
-class_seen ExpressionLike is_async place class.None = faulty (return_type_missing true is_async) place
+class_seen kind is_async place class.Void = void_class_seen kind is_async place
+class_seen kind is_async place class.None = no_return_seen kind is_async place
 class_seen kind is_async place _ = faulty (return_type_missing false is_async) place
 
--- the return type of a function: the written one, or that its body shows; of a generator it must be written
-abbrev pub return_type_seen : FunctionKind → SourceRange → Tree → Seen
-return_type_seen kind place t =
-    if is_absent (Function-return_type t) then
-    (if Function-is_generator t then faulty (return_type_missing false (Function-is_async t)) place
+abbrev pub is_setter : FunctionKind → Bool
+is_setter Setter = true
+is_setter _ = false
+
+-- the return type of a function where none is written: that its body shows; of a generator it must be written, and a setter has none
+abbrev pub shown_return_seen : FunctionKind → SourceRange → Tree → Seen
+shown_return_seen kind place t =
+    if is_setter kind then written Absent
+    else (if Function-is_generator t then faulty (return_type_missing false (Function-is_async t)) place
     else (if is_absent (Function-body t) then written Absent
     else class_seen kind (Function-is_async t) place (return_class (Function-body t))))
-    else written (Function-return_type t)
+
+-- the return type of a function: the written one, or that its body shows
+abbrev pub return_type_seen : FunctionKind → SourceRange → Tree → Seen
+return_type_seen kind place t = if is_absent (Function-return_type t) then shown_return_seen kind place t else written (Function-return_type t)
 
 -- a function, but for its return type and its parameters
 abbrev pub function_head : Tree → FunctionHead

@@ -4,3 +4,5 @@ pub mod Parameters
 pub mod Functions
 pub mod Expressions
 pub mod Answers
+pub mod Members
+pub mod Classes

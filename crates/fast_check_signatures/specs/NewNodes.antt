@@ -1,22 +1,34 @@
 -- New nodes that stand for what is taken out of a signature. No text stands for them: their ranges and scope numbers are 0.
 use Rattle.std.specs.Prelude.{ℕ, Bool, true, false, ◌&&◌, List, [], ◌∷◌, ◌++◌, codes, if◌then◌else◌}
 use Rattle.std.specs.Fmt.{decimal}
-use Rattle.fast_check_syntax.specs.declared.kind.Kind.TheVariants.{TsTypeRef}
-use Rattle.fast_check_syntax.specs.declared.kind.Word.TheVariants.{TsVoidKeyword, TsNeverKeyword, TsUndefinedKeyword}
+use Rattle.fast_check_syntax.specs.declared.kind.Kind.TheVariants.{TsTypeRef, TsArrayType, ExprStmt, IdentName}
+use Rattle.fast_check_syntax.specs.declared.kind.Word.TheVariants.{TsVoidKeyword, TsNeverKeyword, TsUndefinedKeyword, TsUnknownKeyword}
+use Rattle.fast_check_syntax.specs.declared.source.SourceRange.{SourceRange}
 use Rattle.fast_check_syntax.specs.declared.source.SyntaxContext.{SyntaxContext}
-use Rattle.fast_check_syntax.specs.declared.tree.Tree.{Tree, Absent}
-use Rattle.fast_check_syntax.specs.Shape.{◌is◌, kind_of, parts, is_absent, none_range, list}
+use Rattle.fast_check_syntax.specs.declared.tree.Tree.{Tree, Absent, Range, Text}
+use Rattle.fast_check_syntax.specs.Shape.{◌is◌, kind_of, parts, is_absent, none_range, node, list}
 use Rattle.fast_check_expression_forms.specs.Assertions.{ts_as_expr}
 use Rattle.fast_check_expression_forms.specs.Expressions.{array_lit, object_lit, paren_expr}
 use Rattle.fast_check_expression_forms.specs.Patterns.{pat_expr, rest_pat}
+use Rattle.fast_check_class_forms.specs.Fields.{private_prop}
 use Rattle.fast_check_class_forms.specs.Functions.{param}
-use Rattle.fast_check_program_forms.specs.Names.{ident, binding_ident}
+use Rattle.fast_check_program_forms.specs.Names.{ident, binding_ident, private_name}
 use Rattle.fast_check_statement_forms.specs.Statements.{block_stmt, return_stmt}
 use Rattle.fast_check_type_forms.specs.Types.{ts_type_ref, ts_union_type, TsTypeRef-type_name, TsTypeRef-type_params}
 use Rattle.fast_check_type_forms.specs.TypeParams.{ts_type_param_instantiation, ts_type_ann, TsTypeAnn-span, TsTypeAnn-type_ann}
 use Rattle.fast_check_type_forms.specs.TypeParams.{TsTypeParamInstantiation-params}
-use Rattle.fast_check_helpers.specs.Builders.{ts_keyword_type, any_type_ann, new_ident, never_value, is_void_type}
+use Rattle.fast_check_helpers.specs.Builders.{ts_keyword_type, type_ann, any_type_ann, new_ident, never_value, is_void_type}
 use Rattle.fast_check_helpers.specs.GlobalCalls.{is_global}
+
+-- `elem_type[]`, `expr;` and a name, as nodes of their fields
+abbrev pub ts_array_type : SourceRange → Tree → Tree
+ts_array_type span elem_type = node TsArrayType (Range span ∷ elem_type ∷ [])
+
+abbrev pub expr_stmt : SourceRange → Tree → Tree
+expr_stmt span expr = node ExprStmt (Range span ∷ expr ∷ [])
+
+abbrev pub ident_name : SourceRange → List ℕ → Tree
+ident_name span sym = node IdentName (Range span ∷ Text sym ∷ [])
 
 abbrev pub no_scope : SyntaxContext
 no_scope = record { 0 = 0 }
@@ -28,6 +40,10 @@ never_array = ts_as_expr none_range (array_lit none_range (list [])) (ts_keyword
 -- `({} as never)`
 abbrev pub never_in_parens : Tree
 never_in_parens = paren_expr none_range never_value
+
+-- `([] as never[])`
+abbrev pub never_array_in_parens : Tree
+never_array_in_parens = paren_expr none_range (ts_as_expr none_range (array_lit none_range (list [])) (ts_array_type none_range (ts_keyword_type TsNeverKeyword)))
 
 -- `{}`, where a pattern stands
 abbrev pub empty_object_pat : Tree
@@ -86,3 +102,8 @@ abbrev pub any_param : ℕ → Bool → Tree
 any_param place is_rest =
     param none_range (list []) (if is_rest then rest_pat none_range none_range (binding_ident (param_ident place false) Absent) any_type_ann
     else binding_ident (param_ident place true) any_type_ann)
+
+-- `#private!: unknown`
+abbrev pub hash_private : Tree
+hash_private = private_prop none_range no_scope (private_name none_range (codes "private")) Absent (type_ann (ts_keyword_type TsUnknownKeyword)) false (list [])
+    Absent false false false true

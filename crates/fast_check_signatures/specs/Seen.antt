@@ -33,6 +33,26 @@ pub record ArrowHead : Type 0 where
   pub is_generator : Bool
   pub type_params : Tree
 
+-- a class, but for its superclass and its members
+pub record ClassHead : Type 0 where
+  pub span : SourceRange
+  pub ctxt : SyntaxContext
+  pub is_abstract : Bool
+  pub type_params : Tree
+  pub super_type_params : Tree
+  pub implements : Tree
+
+-- a property of a class, but for its type and its value, and for `declare` and `!`, which go by these
+pub record PropertyHead : Type 0 where
+  pub span : SourceRange
+  pub key : Tree
+  pub is_static : Bool
+  pub accessibility : Tree
+  pub is_abstract : Bool
+  pub is_optional : Bool
+  pub is_override : Bool
+  pub readonly : Bool
+
 mutual
   pub data Seen : Type 0 where
     -- a tree that counts as it is written
@@ -51,6 +71,10 @@ mutual
     typed_arrow : ArrowHead → (type : Seen) → (params : Seens) → Seen
     -- an arrow whose value gives its return type; where that may not stay, the type is missing at the place
     valued_arrow : ArrowHead → (is_async : Bool) → (place : SourceRange) → (value : Seen) → (params : Seens) → Seen
+    -- a class, with its superclass and its members
+    class : ClassHead → (superclass : Seen) → (members : Seens) → Seen
+    -- a property whose value gives its type
+    property : PropertyHead → (value : Seen) → Seen
     -- what no skeleton can have, by what is wrong with it and where
     faulty : FaultKind → SourceRange → Seen
     -- an expression that may not stay

@@ -13,6 +13,8 @@ pub enum FaultKind {
     },
     /// A pattern takes a value apart, where a public variable, a parameter or a parameter property has to have a name.
     UnsupportedDestructuring,
+    /// A public class extends an expression that is no name and no chain of members on one.
+    UnsupportedSuperClassExpr,
 }
 
 /// A fault with its place in the source.

@@ -51,6 +51,7 @@ use Rattle.fast_check_same_values.proofs.AlikeSeen.{Alike, AllAlike, written_ali
 use Rattle.fast_check_same_values.proofs.AlikeSeen.{alike_if, all_alike_if, listed_alike, round_alike, append_alike}
 use Rattle.fast_check_signatures.proofs.Choices.{both_true}
 use Rattle.fast_check_signatures.proofs.MovedParts.{moved_declarator}
+use Rattle.fast_check_same_values.proofs.AlikePresent.{expr_absent}
 use Rattle.fast_check_same_values.proofs.Alike.{expr_alike, function_alike}
 use Rattle.fast_check_same_values.proofs.AlikeFunctions.{implementation_alike}
 use Rattle.fast_check_skeleton.specs.Skeleton.{transformed, skeleton_of, faults_of}
@@ -112,24 +113,6 @@ module _ (around : Surroundings) where
   silent_item t (h.IsSilent.statement s) = ap (seen_by_rule around t) (silent_rule t s)
   silent_item t (h.IsSilent.exported k s) = export_of t k ∙ ap (exported_seen t) (silent_decl (ExportDecl-span t) (ExportDecl-decl t) s)
 
--- ---- what is an expression is there
-
-there : (t : Tree) (k : Kind) → kind_of t ≡ k → (k ≡ Leaf → ⊥) → is_absent t ≡ false
-there t k e n = not_absent t k e n
-
-both_there : (k : Kind) (t u : Tree) → Both k t u → (k ≡ Leaf → ⊥) → is_absent t ≡ is_absent u
-both_there k t u d n = there t k d.left n ∙ sym (there u k d.right n)
-
-compound_there : (k : Kind) → is_compound k ≡ true → k ≡ Leaf → ⊥
-compound_there k e l = true≢false (sym e ∙ ap is_compound l)
-
-refused_there : (c : SyntaxContext) (t : Tree) → is_refused c t ≡ true → is_absent t ≡ false
-refused_there c t e = there t (kind_of t) refl
-    (λ l. true≢false (sym e ∙ ap (λ k. not (is_plain k || (is_compound (kind_of t) || (is_among other_kinds (kind_of t) || is_frozen c t)))) l))
-
-frozen_there : (c : SyntaxContext) (t : Tree) → is_frozen c t ≡ true → is_absent t ≡ false
-frozen_there c t e = there t CallExpr (is_kind (kind_of t) CallExpr (both_true (kind_of t is CallExpr) (freezes c t) e).0) (λ l. cc)
-
 -- ---- what agrees is seen alike
 
 module _ (r : Renaming) (ok : IsRenaming r) where
@@ -188,18 +171,6 @@ module _ (r : Renaming) (ok : IsRenaming r) where
     shown_alike t u x y d e =
         typed_alike t u (type_ann x) (type_ann y) d (image_alike r ok type_ann (λ m keeps t. sym (type_ann_moved m keeps t)) x y e)
 
-    -- neither is absent, or both are
-    expr_absent : {t u : Tree} → SameExpr r a.unresolved b.unresolved t u → is_absent t ≡ is_absent u
-    expr_absent (v.SameExpr.same {t = t} {u = u} s) = absent_same t u s
-    expr_absent (v.SameExpr.refused {t = t} {u = u} e f) = refused_there a.unresolved t e ∙ sym (refused_there b.unresolved u f)
-    expr_absent (v.SameExpr.compound {t = t} {u = u} k d e xs) = both_there k t u d (compound_there k e)
-    expr_absent (v.SameExpr.satisfies {t = t} {u = u} d x y z) = both_there TsSatisfiesExpr t u d (λ l. cc)
-    expr_absent (v.SameExpr.as_type {t = t} {u = u} d x y) = both_there TsAsExpr t u d (λ l. cc)
-    expr_absent (v.SameExpr.assertion {t = t} {u = u} d x y) = both_there TsTypeAssertion t u d (λ l. cc)
-    expr_absent (v.SameExpr.frozen {t = t} {u = u} e f x y z w m) = frozen_there a.unresolved t e ∙ sym (frozen_there b.unresolved u f)
-    expr_absent (v.SameExpr.function {t = t} {u = u} d x y) = both_there FnExpr t u d (λ l. cc)
-    expr_absent (v.SameExpr.arrow {t = t} {u = u} d x y z) = both_there ArrowExpr t u d (λ l. cc)
-
     ident_place : (t u : Tree) → SameTree r t u → SameRange r (Ident-span t) (Ident-span u)
     ident_place t u s = range_from r ok (Ident-span t) (Ident-span u) (range_field_alike r ok Ident-span _ (λ t. refl) t u (tree_to r ok s))
 
@@ -214,7 +185,7 @@ module _ (r : Renaming) (ok : IsRenaming r) where
         let same : Alike r ok (value_seen a place value) (value_seen b place' value') =
         alike_if r ok (is_absent value) (is_absent value') refused (expr_seen a.unresolved value (Some place)) refused
         (expr_seen b.unresolved value' (Some place'))
-        (expr_absent f) (λ e. refl)
+        (expr_absent r ok a.unresolved b.unresolved f) (λ e. refl)
         (λ e. expr_alike r ok a.unresolved b.unresolved c f (Some place) (Some place')
         (ap Some (range_to r ok place place' (ident_place (declared_ident t) (declared_ident u) d.ident)))) in
         λ i. declarator (head_alike t u d i) (same i)

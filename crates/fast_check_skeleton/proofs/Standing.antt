@@ -230,7 +230,7 @@ module _ (around : Surroundings) where
   signature_stays place decl =
       of_choice (λ s. Stays (IsTypedFunction around.unresolved) (answer_to s)) (around.is_implementation place) _ _
       (λ e f. implementation_is_typed around.unresolved (FnDecl-function decl))
-      (λ e. function_is_typed around.unresolved DeclarationLike (Ident-span (FnDecl-ident decl)) (FnDecl-function decl))
+      (λ e. function_is_typed around.unresolved DeclarationLike (Ident-span (FnDecl-ident decl)) (FnDecl-function decl) refl)
 
   function_stays : (place : SourceRange) (decl : Tree) → kind_of decl ≡ FnDecl → AllStay Function' (public_function around place decl)
   function_stays place decl k = all_if Function' (around.is_public place) (function_decl_seen around place decl) (go around.is_declaration_file refl)

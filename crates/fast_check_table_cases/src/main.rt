@@ -5,12 +5,11 @@
 
 mod comments;
 mod diagnostics;
-mod said;
 mod tables;
 
-use crate::said::Said;
 use anyhow::{Context, Result, bail};
 use fast_check_comments::Comments;
+use fast_check_said::Said;
 use fast_check_syntax::{DUMMY_SP, SourcePos, SourceRange};
 use fast_check_tables::{FastCheckDiagnosticRange, ModulePublicRanges};
 use std::alloc::{AllocError, Global};

@@ -1,9 +1,9 @@
 //! Calls on public ranges, modules and their types.
 
 use crate::Call;
-use crate::said::Said;
 use anyhow::{Result, bail};
 use fast_check_comments::Comments;
+use fast_check_said::Said;
 use fast_check_syntax::{SourceRange, SyntaxContext, Tree};
 use fast_check_tables::{
     EsModuleInfo, FastCheckDiagnostic, FastCheckDiagnosticRange, MediaType, ModuleGraph,

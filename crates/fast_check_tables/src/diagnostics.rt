@@ -18,12 +18,13 @@ use url::Url;
 /// Why a module has no skeleton. It prints as its message.
 #[derive(Debug, Clone, Drop)]
 pub enum FastCheckDiagnostic {
-    /// A public declaration mentions a name that is not found.
+    /// A public declaration refers to a member of a class or a namespace that is not there.
     NotFoundReference {
+        /// The first declaration of the class or the namespace.
         range: FastCheckDiagnosticRange,
-        /// The name that is mentioned.
+        /// The whole name, as `C.prototype.m`.
         name: String,
-        /// The declaration that mentions it.
+        /// The whole name of what refers to it.
         referrer: String,
     },
     /// A public declaration without written type, from whose value none is inferred.
@@ -41,12 +42,13 @@ pub enum FastCheckDiagnostic {
     UnsupportedAmbientModule {
         range: FastCheckDiagnosticRange,
     },
-    /// A public declaration mentions a name in a way that is not followed.
+    /// A public declaration refers to a part of a class's member.
     UnsupportedComplexReference {
+        /// The first declaration of the class.
         range: FastCheckDiagnosticRange,
-        /// The name that is mentioned.
+        /// The whole name, as `C.prototype.m.x`.
         name: String,
-        /// The declaration that mentions it.
+        /// The whole name of what refers to it.
         referrer: String,
     },
     /// A default export of an expression, from which no type is inferred.
@@ -57,10 +59,10 @@ pub enum FastCheckDiagnostic {
     UnsupportedDestructuring {
         range: FastCheckDiagnosticRange,
     },
-    /// A property is assigned to a public function, and its value mentions a name that such a property of the function has too.
+    /// The value of an expando property mentions a name that the same object has as such a property, as in `f.a = 1; f.b = a;`.
     UnsupportedExpandoProperty {
+        /// The name in the value.
         range: FastCheckDiagnosticRange,
-        /// The function's name.
         object_name: String,
         /// The name that the value mentions.
         reference_name: String,
@@ -73,12 +75,13 @@ pub enum FastCheckDiagnostic {
     UnsupportedRequire {
         range: FastCheckDiagnosticRange,
     },
-    /// A public declaration mentions a private member of a class.
+    /// A public declaration refers to a private member of a class.
     UnsupportedPrivateMemberReference {
+        /// The member's first declaration.
         range: FastCheckDiagnosticRange,
-        /// The member's name, behind that of its class.
+        /// The member's whole name.
         name: String,
-        /// The declaration that mentions it.
+        /// The whole name of what refers to it.
         referrer: String,
     },
     /// A public class extends an expression that is not followed.

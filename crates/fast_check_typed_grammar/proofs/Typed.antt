@@ -21,7 +21,7 @@ use Rattle.fast_check_signatures.specs.declared.rules.Slot.TheVariants as slots
 use Rattle.fast_check_signatures.specs.Seen.{Seen, round, refused, seens}
 use Rattle.fast_check_signatures.specs.NewNodes.{never_in_parens}
 use Rattle.fast_check_signatures.specs.Parameters.{Look, pat_seen, pats_seen}
-use Rattle.fast_check_signatures.specs.Functions.{or_own, function_seen, implementation_seen, arrow_seen}
+use Rattle.fast_check_signatures.specs.Functions.{or_own, is_setter, function_seen, implementation_seen, arrow_seen}
 use Rattle.fast_check_signatures.specs.Expressions.{is_plain, is_compound, freezes, Rule, slotted, other_rule, slot_seen, slots_seen, by_rule, expr_form}
 use Rattle.fast_check_signatures.specs.Expressions.{expr_seen}
 use Rattle.fast_check_signatures.specs.Answers.{answer_to, parts_answer, answer_of}
@@ -83,7 +83,7 @@ module _ (unresolved : SyntaxContext) where
     slot_stays slots.Written p place f = refl
     slot_stays slots.Never p place f = refl
     slot_stays slots.Value p place f = stays p None f
-    slot_stays slots.Function p place f = function_stays unresolved look stays ExpressionLike (or_own place (Function-span p)) p f
+    slot_stays slots.Function p place f = function_stays unresolved look stays ExpressionLike (or_own place (Function-span p)) p refl f
 
     slots_stay : (place : Option SourceRange) (t : Tree) (row : List Slot) (n : ℕ) →
         Stays (λ us. AllFit t row n (at us)) (parts_answer (seens (slots_seen unresolved row n t look place)))
@@ -128,7 +128,7 @@ module _ (unresolved : SyntaxContext) where
       (λ t given stays. form_stays given stays t)
 
   -- what stays of a function, an arrow or a parameter is typed, if nothing in it is at fault
-  pub function_is_typed : (kind : FunctionKind) (place : SourceRange) (t : Tree) →
+  pub function_is_typed : (kind : FunctionKind) (place : SourceRange) (t : Tree) → is_setter kind ≡ false →
       Stays (IsTypedFunction unresolved) (answer_to (function_seen unresolved look kind place t))
   function_is_typed = function_stays unresolved look expr_stays
 

@@ -2,6 +2,7 @@
 use Rattle.std.specs.Prelude.{◌≡◌, ℕ, suc, Bool, true, false, ◌⊎◌, Some, List, [], ◌∷◌, map, refl, if◌then◌else◌}
 use Rattle.std.specs.List.{list_all}
 use Rattle.std.proofs.Common.{ap, ◌∙◌, sym, subst, inl, inr}
+use Rattle.std.proofs.lemmas.Bool.{false≢true}
 use Rattle.fast_check_syntax.specs.declared.kind.Kind.TheVariants.{Param, RestPat}
 use Rattle.fast_check_syntax.specs.declared.source.SourceRange.{SourceRange}
 use Rattle.fast_check_syntax.specs.declared.source.SyntaxContext.{SyntaxContext}
@@ -20,11 +21,12 @@ use Rattle.fast_check_helpers.specs.Builders.{any_type_ann}
 use Rattle.fast_check_helpers.specs.OptionalParams.{is_optional_param}
 use Rattle.fast_check_helpers.specs.ReturnClass.{return_class}
 use Rattle.fast_check_signatures.specs.declared.function_kind.FunctionKind.{FunctionKind}
-use Rattle.fast_check_signatures.specs.declared.function_kind.FunctionKind.TheVariants.{DeclarationLike, ExpressionLike}
+use Rattle.fast_check_signatures.specs.declared.function_kind.FunctionKind.TheVariants.{DeclarationLike, Getter}
 use Rattle.fast_check_signatures.specs.Seen.{FunctionHead, Seen, written, seens}
 use Rattle.fast_check_signatures.specs.NewNodes.{function_body, param_ident, any_param}
 use Rattle.fast_check_signatures.specs.Parameters.{Look, pat_seen, pats_seen}
-use Rattle.fast_check_signatures.specs.Functions.{class_seen, return_type_seen, function_head, signature_seen, any_params_from, implementation_seen, param_seen}
+use Rattle.fast_check_signatures.specs.Functions.{void_class_seen, no_return_seen, class_seen, is_setter, return_type_seen, function_head}
+use Rattle.fast_check_signatures.specs.Functions.{signature_seen, any_params_from, implementation_seen, param_seen}
 use Rattle.fast_check_signatures.specs.Functions.{params_seen, function_seen}
 use Rattle.fast_check_signatures.specs.Answers.{settled, visited, faultless, signed_function, answer_to, parts_answer, answer_of}
 use Rattle.fast_check_signatures.proofs.Choices.{of_choice, not_empty}
@@ -42,10 +44,17 @@ absent = ap is_absent_at (out-roll-Tree Tree-F.Absent)
 abbrev pub IsType : Seen → Type 0
 IsType type = Holds (λ t. is_absent t ≡ false) (settled (answer_to type))
 
+void_class_shows : (kind : FunctionKind) (is_async : Bool) (place : SourceRange) → IsType (void_class_seen kind is_async place)
+void_class_shows Getter is_async place f = not_empty f
+void_class_shows _ is_async place f = is_absent_node _ _
+
+no_return_shows : (kind : FunctionKind) (is_async : Bool) (place : SourceRange) → IsType (no_return_seen kind is_async place)
+no_return_shows DeclarationLike is_async place f = is_absent_node _ _
+no_return_shows _ is_async place f = not_empty f
+
 pub class_shows : (kind : FunctionKind) (is_async : Bool) (place : SourceRange) (c : ReturnStatementAnalysis) → IsType (class_seen kind is_async place c)
-class_shows kind is_async place class.Void f = is_absent_node _ _
-class_shows DeclarationLike is_async place class.None f = is_absent_node _ _
-class_shows ExpressionLike is_async place class.None f = not_empty f
+class_shows kind is_async place class.Void f = void_class_shows kind is_async place f
+class_shows kind is_async place class.None f = no_return_shows kind is_async place f
 class_shows kind is_async place class.Single f = not_empty f
 class_shows kind is_async place class.Multiple f = not_empty f
 
@@ -56,12 +65,14 @@ Shows lacks_body type = (lacks_body ≡ true) ⊎ (is_absent type ≡ false)
 abbrev IsTypeOrBodiless : Tree → Seen → Type 0
 IsTypeOrBodiless body type = Holds (Shows (is_absent body)) (settled (answer_to type))
 
-return_type_shows : (kind : FunctionKind) (place : SourceRange) (t : Tree) → IsTypeOrBodiless (Function-body t) (return_type_seen kind place t)
-return_type_shows kind place t = let P : Seen → Type 0 = IsTypeOrBodiless (Function-body t) in
+return_type_shows : (kind : FunctionKind) (place : SourceRange) (t : Tree) → is_setter kind ≡ false →
+    IsTypeOrBodiless (Function-body t) (return_type_seen kind place t)
+return_type_shows kind place t n = let P : Seen → Type 0 = IsTypeOrBodiless (Function-body t) in
     of_choice P (is_absent (Function-return_type t)) _ _ (λ none.
+    of_choice P (is_setter kind) _ _ (λ setter f. absurd (false≢true (sym n ∙ setter))) (λ gives.
     of_choice P (Function-is_generator t) _ _ (λ generator f. not_empty f) (λ plain.
     of_choice P (is_absent (Function-body t)) _ _ (λ bodiless f. inl bodiless) (λ body f.
-    inr (class_shows kind (Function-is_async t) place (return_class (Function-body t)) f)))) (λ type f. inr type)
+    inr (class_shows kind (Function-is_async t) place (return_class (Function-body t)) f))))) (λ type f. inr type)
 
 -- a body that stands behind a return type
 abbrev Behind : Tree → Tree → Type 0
@@ -165,9 +176,10 @@ module _ (unresolved : SyntaxContext) where
         next_holds (param_seen p seen) (params_seen ps (pats_seen unresolved look pats))
         (param_stays p seen (pat_stays unresolved look stays is_optional pat)) (params_hold ps pats)
 
-    pub function_stays : (kind : FunctionKind) (place : SourceRange) (t : Tree) → StaysFunction (function_seen unresolved look kind place t)
-    function_stays kind place t =
+    pub function_stays : (kind : FunctionKind) (place : SourceRange) (t : Tree) → is_setter kind ≡ false →
+        StaysFunction (function_seen unresolved look kind place t)
+    function_stays kind place t n =
         let params = parts (Function-params t) in
         let pats = map (λ p. Param-pat p) params in
-        signature_stays t (return_type_seen kind place t) (params_seen params (pats_seen unresolved look pats)) (return_type_shows kind place t)
+        signature_stays t (return_type_seen kind place t) (params_seen params (pats_seen unresolved look pats)) (return_type_shows kind place t n)
         (params_hold params pats)

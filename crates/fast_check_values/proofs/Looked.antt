@@ -8,18 +8,20 @@ use Rattle.fast_check_syntax.specs.declared.source.SourceRange.{SourceRange}
 use Rattle.fast_check_syntax.specs.declared.source.SyntaxContext.{SyntaxContext}
 use Rattle.fast_check_syntax.specs.declared.tree.Tree.{Tree}
 use Rattle.fast_check_syntax.specs.Shape.{◌is◌, kind_of, part, parts, is_absent}
-use Rattle.fast_check_expression_forms.specs.Patterns.{AssignPat-span, AssignPat-left, AssignPat-right}
+use Rattle.fast_check_expression_forms.specs.Patterns.{AssignPat-span, AssignPat-left, AssignPat-right, assign_pat}
+use Rattle.fast_check_expression_forms.specs.Patterns.{ArrayPat-span, ArrayPat-type_ann, ObjectPat-span, ObjectPat-type_ann}
 use Rattle.fast_check_program_forms.specs.Names.{BindingIdent-id, BindingIdent-type_ann}
 use Rattle.fast_check_helpers.specs.declared.literal_type.DeclMutabilityKind.TheVariants.{Mutable}
-use Rattle.fast_check_helpers.specs.Builders.{type_ann}
+use Rattle.fast_check_helpers.specs.Builders.{type_ann, never_value}
 use Rattle.fast_check_helpers.specs.InferredType.{inferred_type}
 use Rattle.fast_check_signatures.specs.declared.rules.Slot.{Slot}
 use Rattle.fast_check_signatures.specs.Seen.{Seen, written, faulty, round, refused, seens}
+use Rattle.fast_check_signatures.specs.NewNodes.{never_array}
 use Rattle.fast_check_signatures.specs.Functions.{arrow_seen}
 use Rattle.fast_check_signatures.specs.Expressions.{is_compound, is_plain, freezes, Rule, whole, parted, slotted, arrow, not_at_all, other_rule, rule}
 use Rattle.fast_check_signatures.specs.Expressions.{by_rule, slot_seen, slots_seen, expr_seen}
 use Rattle.fast_check_signatures.specs.Answers.{answer_to, parts_answer, visited}
-use Rattle.fast_check_signatures.specs.Parameters.{without_default, by_shown, assign_by_left, assign_seen, pat_by_kind, pat_seen}
+use Rattle.fast_check_signatures.specs.Parameters.{emptied_array, emptied_object, default_seen, without_default, by_shown, assign_by_left, assign_seen, pat_by_kind, pat_seen}
 use Rattle.fast_check_signatures.specs.declared.fault.FaultKind.TheVariants.{UnsupportedDestructuring}
 use Rattle.fast_check_ranges.specs.Ranges.{range_of_node}
 use Rattle.fast_check_signatures.proofs.Looks.{expr_seen_is}
@@ -43,6 +45,10 @@ pub next_slot : (unresolved : SyntaxContext) (t : Tree) (place : Option SourceRa
     visited (answer_to (slot_seen unresolved (get_or row i d) (part i t) (expr_seen unresolved) place))
     (parts_answer (seens (slots_seen unresolved (drop (i + 1) row) (i + 1) t (expr_seen unresolved) place)))
 next_slot unresolved t place row i d h = rw (add-one, drop-cons row i d) refl
+
+pub slot_is : (unresolved : SyntaxContext) (a b : Slot) (p : Tree) (place : Option SourceRange) → a ≡ b →
+    answer_to (slot_seen unresolved a p (expr_seen unresolved) place) ≡ answer_to (slot_seen unresolved b p (expr_seen unresolved) place)
+slot_is unresolved a b p place e = ap (λ s. answer_to (slot_seen unresolved s p (expr_seen unresolved) place)) e
 
 -- ---- the rule of a kind
 
@@ -113,6 +119,47 @@ module _ (unresolved : SyntaxContext) (b : Bool) (t : Tree) where
       assign_seen unresolved (expr_seen unresolved) b t ≡ written (without_default b (BindingIdent-id (AssignPat-left t)) type)
   seen_known type e d = rw e (ident_typed type (is_absent (BindingIdent-type_ann (AssignPat-left t)))
       (inferred_type Mutable unresolved (AssignPat-right t)) d)
+
+  ident_untyped : (absent : Bool) (shown : Option Tree) →
+      (if absent then option_map type_ann shown else Some (BindingIdent-type_ann (AssignPat-left t))) ≡ None →
+      (if absent then by_shown unresolved (expr_seen unresolved) b t shown else typed_ident (BindingIdent-type_ann (AssignPat-left t))) ≡
+      by_shown unresolved (expr_seen unresolved) b t None
+  ident_untyped true (Some shown) d = cc
+  ident_untyped true None d = refl
+  ident_untyped false shown d = cc
+
+  -- an identifier whose default is left out of what is known
+  pub seen_left_out : kind_of (AssignPat-left t) ≡ kinds.BindingIdent → default_type unresolved t ≡ None →
+      assign_seen unresolved (expr_seen unresolved) b t ≡ by_shown unresolved (expr_seen unresolved) b t None
+  seen_left_out e d = rw e (ident_untyped (is_absent (BindingIdent-type_ann (AssignPat-left t)))
+      (inferred_type Mutable unresolved (AssignPat-right t)) d)
+
+  abbrev left : Tree
+  left = AssignPat-left t
+
+  -- array and object patterns, without and with a written type
+  pub seen_untyped_array : kind_of left ≡ kinds.ArrayPat → is_absent (ArrayPat-type_ann left) ≡ true →
+      assign_seen unresolved (expr_seen unresolved) b t ≡
+      default_seen (AssignPat-span t) (ArrayPat-span left) (emptied_array left) (expr_seen unresolved (AssignPat-right t) None)
+  seen_untyped_array e a = rw (e, a) refl
+
+  pub seen_typed_array : kind_of left ≡ kinds.ArrayPat → is_absent (ArrayPat-type_ann left) ≡ false →
+      assign_seen unresolved (expr_seen unresolved) b t ≡ written (assign_pat (AssignPat-span t) (emptied_array left) never_array)
+  seen_typed_array e a = rw (e, a) refl
+
+  pub seen_untyped_object : kind_of left ≡ kinds.ObjectPat → is_absent (ObjectPat-type_ann left) ≡ true →
+      assign_seen unresolved (expr_seen unresolved) b t ≡
+      default_seen (AssignPat-span t) (ObjectPat-span left) (emptied_object left) (expr_seen unresolved (AssignPat-right t) None)
+  seen_untyped_object e a = rw (e, a) refl
+
+  pub seen_typed_object : kind_of left ≡ kinds.ObjectPat → is_absent (ObjectPat-type_ann left) ≡ false →
+      assign_seen unresolved (expr_seen unresolved) b t ≡ written (assign_pat (AssignPat-span t) (emptied_object left) never_value)
+  seen_typed_object e a = rw (e, a) refl
+
+-- what is no tree is none
+pub none_of : (o : Option Tree) → ((t : Tree) → o ≡ Some t → ⊥) → o ≡ None
+none_of None without = refl
+none_of (Some t) without = absurd (without t refl)
 
 -- ---- patterns of other kinds
 

@@ -33,14 +33,16 @@ fn type_by_class(
     ensures { IfOk result (λ tree. Adds (answer_to (class_seen kind is_async place class)) (Some tree) faults.old.items faults.new.items) }
 {
     let is_definitely_void_or_never = match class {
-        ReturnStatementAnalysis::Void => {
-            return type_ann(alloc, void_or_promise_void(alloc, is_async)?);
-        }
+        ReturnStatementAnalysis::Void => match kind {
+            FunctionKind::Getter => false,
+            _ => return type_ann(alloc, void_or_promise_void(alloc, is_async)?),
+        },
         ReturnStatementAnalysis::None => match kind {
             FunctionKind::DeclarationLike => {
                 return type_ann(alloc, void_or_promise_void(alloc, is_async)?);
             }
             FunctionKind::ExpressionLike => true,
+            _ => false,
         },
         ReturnStatementAnalysis::Single => false,
         ReturnStatementAnalysis::Multiple => false,
@@ -55,7 +57,8 @@ fn type_by_class(
     Ok(Tree::Absent)
 }
 
-/// The return type of a function, as `: type`: the written one, or that its body shows. Of a generator it must be written.
+/// The return type of a function, as `: type`: the written one, or that its body shows. Of a generator it must be written,
+/// and a setter has none.
 fn return_type(
     alloc: Global,
     kind: FunctionKind,
@@ -68,6 +71,9 @@ fn return_type(
     let function = Function::of(function);
     if !function.return_type.is_absent() {
         return function.return_type.to_tree(alloc);
+    }
+    if matches!(kind, FunctionKind::Setter) {
+        return Ok(Tree::Absent);
     }
     if function.is_generator {
         faults.push(Fault {
@@ -124,7 +130,8 @@ pub fn transform_implementation(alloc: Global, function: Part<'_>) -> Result<Tre
     signed_function(alloc, function, any_type_ann(alloc)?, params)
 }
 
-fn any_params(alloc: Global, params: Part<'_>) -> Result<Items<Tree>, AllocError>
+/// The parameters of an implementation behind overloads: `paramN?: any`, or `...paramN: any` for a rest, for each `Param`.
+pub fn any_params(alloc: Global, params: Part<'_>) -> Result<Items<Tree>, AllocError>
     ensures { IfOk result (λ items. answer_of (any_params_from 0 (parts (seen params.entry))) ≡ faultless items) }
 {
     let mut items = Items::new(alloc);

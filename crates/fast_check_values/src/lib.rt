@@ -6,5 +6,5 @@ mod functions;
 mod parameters;
 
 pub use expressions::{leave_expr, leave_value};
-pub use functions::{transform_arrow, transform_fn, transform_implementation};
-pub use parameters::transform_param_pat;
+pub use functions::{any_params, transform_arrow, transform_fn, transform_implementation};
+pub use parameters::{transform_param_pat, transform_params};

@@ -4,27 +4,33 @@ use Rattle.std.proofs.lemmas.Grind.{common_steps}
 use Rattle.std.proofs.lemmas.Result.{IfOk-weaker}
 use Rattle.fast_check_syntax.specs.declared.kind.Kind.TheVariants as kinds
 use Rattle.fast_check_syntax.specs.declared.source.SourceRange.{SourceRange}
+use Rattle.fast_check_syntax.specs.declared.source.SyntaxContext.{SyntaxContext}
+use Rattle.fast_check_syntax.specs.declared.tree.Tree as tree
 use Rattle.fast_check_syntax.specs.declared.tree.Tree.{Tree}
+use Rattle.fast_check_class_forms.specs.Functions.{Function-span}
+use Rattle.fast_check_signatures.specs.declared.function_kind.FunctionKind.TheVariants.{ExpressionLike}
 use Rattle.fast_check_syntax.specs.Part.{seen}
-use Rattle.fast_check_syntax.specs.Shape.{is_kind, kind_of, parts, node}
+use Rattle.fast_check_syntax.specs.Shape.{is_kind, kind_of, parts, node, is_absent}
 use Rattle.fast_check_syntax.specs.Height.{height_part, height_read, height_at_most}
-use Rattle.fast_check_program_forms.specs.Names.{BindingIdent-id}
+use Rattle.fast_check_program_forms.specs.Names.{Ident-span, BindingIdent-id}
 use Rattle.fast_check_expression_forms.specs.Expressions.{ArrowExpr-span}
-use Rattle.fast_check_expression_forms.specs.Patterns.{AssignPat-left}
+use Rattle.fast_check_expression_forms.specs.Patterns.{AssignPat-span, AssignPat-left, AssignPat-right, assign_pat}
+use Rattle.fast_check_expression_forms.specs.Patterns.{ArrayPat-span, ArrayPat-type_ann, ObjectPat-span, ObjectPat-type_ann}
 use Rattle.fast_check_signatures.specs.declared.rules.Slot.TheVariants as slots
 use Rattle.fast_check_signatures.specs.Seen.{faulty, seens}
 use Rattle.fast_check_signatures.specs.declared.fault.FaultKind.TheVariants.{UnsupportedDestructuring}
-use Rattle.fast_check_signatures.specs.Answers.{fault_at, answer_to, answer_of, parts_answer, demanded, faultless}
+use Rattle.fast_check_signatures.specs.Answers.{fault_at, answer_to, answer_of, parts_answer, demanded, faultless, signed_function}
 use Rattle.fast_check_signatures.specs.Expressions.{is_plain, is_compound, expr_seen, slot_seen}
-use Rattle.fast_check_signatures.specs.Functions.{or_own, return_type_missing}
-use Rattle.fast_check_signatures.specs.Parameters.{without_default, pats_seen}
-use Rattle.fast_check_signatures.proofs.Adding.{adds_same, adds_nothing, adds_made}
+use Rattle.fast_check_signatures.specs.Functions.{or_own, return_type_missing, function_head, function_seen}
+use Rattle.fast_check_signatures.specs.Parameters.{typed, emptied_array, emptied_object, without_default, default_seen, pats_seen}
+use Rattle.fast_check_signatures.proofs.Adding.{adds_same, adds_nothing, adds_made, adds_joined, adds_settled}
 use Rattle.fast_check_new_nodes.specs.Shown.{default_type}
-use Rattle.fast_check_values.specs.Looked.{known_type, known_answer}
+use Rattle.fast_check_values.specs.Looked.{known_type, known_answer, params_looked}
 use Rattle.fast_check_values.proofs.Behind.{behind_along, items_are, adds_given, parts_step, parts_refused}
 use Rattle.fast_check_values.proofs.Heights.{height_less}
+use Rattle.fast_check_values.proofs.Looked.{seen_left_out, seen_untyped_array, seen_typed_array, seen_untyped_object, seen_typed_object, none_of}
 use Rattle.fast_check_values.proofs.Looked.{not_leaf, not_arrow, seen_parted, seen_whole, seen_arrow, seen_slotted, seen_refused, seen_known}
-use Rattle.fast_check_values.proofs.Looked.{next_part, next_slot, seen_by_kind, other_pat, other_left}
+use Rattle.fast_check_values.proofs.Looked.{next_part, next_slot, seen_by_kind, other_pat, other_left, slot_is}
 use Rattle.fast_check_values.proofs.Arrows.{arrow_known, arrow_valued}
 use Rattle.fast_check_values.proofs.+leave.Goals as goal
 
@@ -232,3 +238,142 @@ expressions::leave_slots-returns-in-None t c =
     let given = adds_same (ap (λ (p : Tree). answer_to (slot_seen u (get_or row i slots.Span) p (expr_seen u) c.args.place)) (sym c.part.ensures))
     (adds_given c.in-None.is c.in_ok-tree.ensures) in
     adds_made (option_map (node (kind_of e))) (parts_refused c.loop-index.stay _ _ next given)
+
+-- ---- slots
+
+pub expressions::leave_slot-returns-in-Span : goal.expressions::leave_slot-returns-in-Span
+expressions::leave_slot-returns-in-Span t c =
+    adds_same (slot_is c.args.unresolved c.args.slot slots.Span (seen c.args.part) c.args.place c.in-Span.is
+    ∙ ap (λ (r : SourceRange). faultless (Some (tree.Range r))) (sym c.range.ensures)) (adds_nothing (Some (tree.Range c.range.result)) c.args.faults.now.items)
+
+pub expressions::leave_slot-returns-in-Scope : goal.expressions::leave_slot-returns-in-Scope
+expressions::leave_slot-returns-in-Scope t c =
+    adds_same (slot_is c.args.unresolved c.args.slot slots.Scope (seen c.args.part) c.args.place c.in-Scope.is
+    ∙ ap (λ (x : SyntaxContext). faultless (Some (tree.Context x))) (sym c.context.ensures))
+    (adds_nothing (Some (tree.Context c.context.result)) c.args.faults.now.items)
+
+pub expressions::leave_slot-returns-in_ok-to_tree-in-Written : goal.expressions::leave_slot-returns-in_ok-to_tree-in-Written
+expressions::leave_slot-returns-in_ok-to_tree-in-Written t c =
+    adds_same (slot_is c.args.unresolved c.args.slot slots.Written (seen c.args.part) c.args.place c.in-Written.is
+    ∙ ap (λ (x : Tree). faultless (Some x)) (sym c.in_ok-to_tree-in-Written.ensures))
+    (adds_nothing (Some c.in_ok-to_tree-in-Written.field-0) c.args.faults.now.items)
+
+pub expressions::leave_slot-returns-in_ok-never_in_parens-in-Never : goal.expressions::leave_slot-returns-in_ok-never_in_parens-in-Never
+expressions::leave_slot-returns-in_ok-never_in_parens-in-Never t c =
+    adds_same (slot_is c.args.unresolved c.args.slot slots.Never (seen c.args.part) c.args.place c.in-Never.is
+    ∙ ap (λ (x : Tree). faultless (Some x)) (sym c.in_ok-never_in_parens-in-Never.ensures))
+    (adds_nothing (Some c.in_ok-never_in_parens-in-Never.field-0) c.args.faults.now.items)
+
+pub expressions::leave_slot-returns-in-Value : goal.expressions::leave_slot-returns-in-Value
+expressions::leave_slot-returns-in-Value t c =
+    IfOk-weaker c.leave_expr.result _ _
+    (λ tree h. adds_same (slot_is c.args.unresolved c.args.slot slots.Value (seen c.args.part) c.args.place c.in-Value.is) h) c.leave_expr.ensures
+
+pub expressions::leave_slot-returns-in_ok-transform_fn-in-Function : goal.expressions::leave_slot-returns-in_ok-transform_fn-in-Function
+expressions::leave_slot-returns-in_ok-transform_fn-in-Function t c =
+    let u = c.args.unresolved in
+    let f = seen c.args.part in
+    let at : c.or_own-place.result ≡ or_own c.args.place (Function-span f) = c.or_own-place.ensures ∙ ap (or_own c.args.place) c.of.ensures.span in
+    adds_same (slot_is u c.args.slot slots.Function f c.args.place c.in-Function.is
+    ∙ ap (λ (p : SourceRange). answer_to (function_seen u (expr_seen u) ExpressionLike p f)) (sym at)) c.in_ok-transform_fn-in-Function.ensures
+
+-- ---- functions
+
+pub functions::transform_fn-returns : goal.functions::transform_fn-returns
+functions::transform_fn-returns t c =
+    let u = c.args.unresolved in
+    let f = seen c.args.function in
+    let params = adds_same (ap (λ (ps : Tree). answer_of (params_looked u (parts ps))) (sym c.of.ensures.params)) c.in_ok-params.ensures in
+    IfOk-weaker c.signed_function.result _ _ (λ tree e. adds_given (ap Some (sym e))
+    (adds_joined (λ type ps. Some (signed_function (function_head f) type ps)) (adds_settled c.in_ok-return_type.ensures) params)) c.signed_function.ensures
+
+-- ---- patterns by their kind
+
+pub parameters::transform_param_pat-returns-in_ok-to_tree-in-BindingIdent : goal.parameters::transform_param_pat-returns-in_ok-to_tree-in-BindingIdent
+parameters::transform_param_pat-returns-in_ok-to_tree-in-BindingIdent t c =
+    let kind = sym c.kind.ensures ∙ c.in-BindingIdent.is in
+    let at = c.of-in-BindingIdent.ensures.span ∙ ap Ident-span c.of.ensures.id in
+    IfOk-weaker c.typed.result _ _
+    (λ tree h. adds_same (ap answer_to (seen_by_kind c.args.unresolved c.args.is_optional (seen c.args.pat) kinds.BindingIdent kind) ∙
+    sym (λ i. answer_to (typed (c.of.ensures.type_ann i) (at i) (c.in_ok-to_tree-in-BindingIdent.ensures i)))) h) c.typed.ensures
+
+pub parameters::transform_param_pat-returns-in_ok-emptied_array-in-ArrayPat : goal.parameters::transform_param_pat-returns-in_ok-emptied_array-in-ArrayPat
+parameters::transform_param_pat-returns-in_ok-emptied_array-in-ArrayPat t c =
+    let kind = sym c.kind.ensures ∙ c.in-ArrayPat.is in
+    let of = c.of-in-ArrayPat.ensures in
+    IfOk-weaker c.typed-in-ArrayPat.result _ _
+    (λ tree h. adds_same (ap answer_to (seen_by_kind c.args.unresolved c.args.is_optional (seen c.args.pat) kinds.ArrayPat kind) ∙
+    sym (λ i. answer_to (typed (of.type_ann i) (of.span i) (c.in_ok-emptied_array-in-ArrayPat.ensures i)))) h) c.typed-in-ArrayPat.ensures
+
+pub parameters::transform_param_pat-returns-in_ok-emptied_object-in-ObjectPat : goal.parameters::transform_param_pat-returns-in_ok-emptied_object-in-ObjectPat
+parameters::transform_param_pat-returns-in_ok-emptied_object-in-ObjectPat t c =
+    let kind = sym c.kind.ensures ∙ c.in-ObjectPat.is in
+    let of = c.of-in-ObjectPat.ensures in
+    IfOk-weaker c.typed-in-ObjectPat.result _ _
+    (λ tree h. adds_same (ap answer_to (seen_by_kind c.args.unresolved c.args.is_optional (seen c.args.pat) kinds.ObjectPat kind) ∙
+    sym (λ i. answer_to (typed (of.type_ann i) (of.span i) (c.in_ok-emptied_object-in-ObjectPat.ensures i)))) h) c.typed-in-ObjectPat.ensures
+
+pub parameters::transform_assign_pat-returns-in_ok-left-in-BindingIdent : goal.parameters::transform_assign_pat-returns-in_ok-left-in-BindingIdent
+parameters::transform_assign_pat-returns-in_ok-left-in-BindingIdent t c =
+    let u = c.args.unresolved in
+    let pat = seen c.args.pat in
+    let left = c.of.ensures.left in
+    let ident : kind_of (AssignPat-left pat) ≡ kinds.BindingIdent = sym (c.kind.ensures ∙ ap kind_of left) ∙ c.in-BindingIdent.is in
+    let unknown : default_type u pat ≡ None = none_of (default_type u pat) (λ type e. c.in_default-2.not-Some type (c.in_ok-ty-in-BindingIdent.ensures ∙ e)) in
+    let at = c.of-in-BindingIdent-2.ensures.span ∙ ap Ident-span (c.of-in-BindingIdent.ensures.id ∙ ap BindingIdent-id left) in
+    IfOk-weaker c.leave_default.result _ _
+    (λ tree h. adds_same (ap answer_to (seen_left_out u c.args.is_optional pat ident unknown) ∙ sym (λ i. answer_to
+    (default_seen (AssignPat-span pat) (at i) ((c.in_ok-left-in-BindingIdent.ensures ∙ left) i) (expr_seen u (AssignPat-right pat) (Some (at i)))))) h)
+    c.leave_default.ensures
+
+pub parameters::transform_assign_pat-returns-then-is_absent : goal.parameters::transform_assign_pat-returns-then-is_absent
+parameters::transform_assign_pat-returns-then-is_absent t c =
+    let u = c.args.unresolved in
+    let pat = seen c.args.pat in
+    let left = c.of.ensures.left in
+    let of = c.of-in-ArrayPat.ensures in
+    let kind : kind_of (AssignPat-left pat) ≡ kinds.ArrayPat = sym (c.kind.ensures ∙ ap kind_of left) ∙ c.in-ArrayPat.is in
+    let absent = ap is_absent (sym (of.type_ann ∙ ap ArrayPat-type_ann left)) ∙ (sym c.is_absent.ensures ∙ c.if-is_absent.true) in
+    IfOk-weaker c.leave_default-then-is_absent.result _ _
+    (λ tree h. adds_same (ap answer_to (seen_untyped_array u c.args.is_optional pat kind absent) ∙ sym (λ i. answer_to
+    (default_seen (AssignPat-span pat) ((of.span ∙ ap ArrayPat-span left) i) ((c.in_ok-left-in-ArrayPat.ensures ∙ ap emptied_array left) i)
+    (expr_seen u (AssignPat-right pat) None)))) h) c.leave_default-then-is_absent.ensures
+
+pub parameters::transform_assign_pat-returns-in_ok-never_array-in-ArrayPat : goal.parameters::transform_assign_pat-returns-in_ok-never_array-in-ArrayPat
+parameters::transform_assign_pat-returns-in_ok-never_array-in-ArrayPat t c =
+    let u = c.args.unresolved in
+    let pat = seen c.args.pat in
+    let left = c.of.ensures.left in
+    let of = c.of-in-ArrayPat.ensures in
+    let kind : kind_of (AssignPat-left pat) ≡ kinds.ArrayPat = sym (c.kind.ensures ∙ ap kind_of left) ∙ c.in-ArrayPat.is in
+    let absent = ap is_absent (sym (of.type_ann ∙ ap ArrayPat-type_ann left)) ∙ (sym c.is_absent.ensures ∙ c.if-is_absent.false) in
+    IfOk-weaker c.with_default.result _ _
+    (λ tree e. adds_same (ap answer_to (seen_typed_array u c.args.is_optional pat kind absent) ∙ ap (λ (x : Tree). faultless (Some x))
+    (sym (e ∙ (λ i. assign_pat (AssignPat-span pat) ((c.in_ok-left-in-ArrayPat.ensures ∙ ap emptied_array left) i) (c.in_ok-never_array-in-ArrayPat.ensures i)))))
+    (adds_nothing (Some tree) c.args.faults.now.items)) c.with_default.ensures
+
+pub parameters::transform_assign_pat-returns-then-is_absent-2 : goal.parameters::transform_assign_pat-returns-then-is_absent-2
+parameters::transform_assign_pat-returns-then-is_absent-2 t c =
+    let u = c.args.unresolved in
+    let pat = seen c.args.pat in
+    let left = c.of.ensures.left in
+    let of = c.of-in-ObjectPat.ensures in
+    let kind : kind_of (AssignPat-left pat) ≡ kinds.ObjectPat = sym (c.kind.ensures ∙ ap kind_of left) ∙ c.in-ObjectPat.is in
+    let absent = ap is_absent (sym (of.type_ann ∙ ap ObjectPat-type_ann left)) ∙ (sym c.is_absent-in-ObjectPat.ensures ∙ c.if-is_absent-2.true) in
+    IfOk-weaker c.leave_default-then-is_absent-2.result _ _
+    (λ tree h. adds_same (ap answer_to (seen_untyped_object u c.args.is_optional pat kind absent) ∙ sym (λ i. answer_to
+    (default_seen (AssignPat-span pat) ((of.span ∙ ap ObjectPat-span left) i) ((c.in_ok-left-in-ObjectPat.ensures ∙ ap emptied_object left) i)
+    (expr_seen u (AssignPat-right pat) None)))) h) c.leave_default-then-is_absent-2.ensures
+
+pub parameters::transform_assign_pat-returns-in_ok-never_value-in-ObjectPat : goal.parameters::transform_assign_pat-returns-in_ok-never_value-in-ObjectPat
+parameters::transform_assign_pat-returns-in_ok-never_value-in-ObjectPat t c =
+    let u = c.args.unresolved in
+    let pat = seen c.args.pat in
+    let left = c.of.ensures.left in
+    let of = c.of-in-ObjectPat.ensures in
+    let kind : kind_of (AssignPat-left pat) ≡ kinds.ObjectPat = sym (c.kind.ensures ∙ ap kind_of left) ∙ c.in-ObjectPat.is in
+    let absent = ap is_absent (sym (of.type_ann ∙ ap ObjectPat-type_ann left)) ∙ (sym c.is_absent-in-ObjectPat.ensures ∙ c.if-is_absent-2.false) in
+    IfOk-weaker c.with_default-in-ObjectPat.result _ _
+    (λ tree e. adds_same (ap answer_to (seen_typed_object u c.args.is_optional pat kind absent) ∙ ap (λ (x : Tree). faultless (Some x))
+    (sym (e ∙ (λ i. assign_pat (AssignPat-span pat) ((c.in_ok-left-in-ObjectPat.ensures ∙ ap emptied_object left) i) (c.in_ok-never_value-in-ObjectPat.ensures i)))))
+    (adds_nothing (Some tree) c.args.faults.now.items)) c.with_default-in-ObjectPat.ensures

@@ -2,20 +2,27 @@ use Rattle.std.proofs.Common.{ap, ◌∙◌, sym}
 use Rattle.fast_check_signatures.proofs.Adding.{adds_same}
 use Rattle.fast_check_skeleton.specs.Mutability.{mutability_of}
 use Rattle.fast_check_syntax.specs.Part.{seen}
+use Rattle.fast_check_tables.specs.PublicRanges.{is_public}
 use Rattle.fast_check_transform.specs.PartAnswers.{Asked-around, declarator_answer}
 use Rattle.fast_check_transform.proofs.Declared.{private_declarator, ambient_declarator, public_declarator_stays}
 use Rattle.fast_check_transform.proofs.declarations.keep_declarator.Goals as goal
 
 pub returns-then-not-contains : goal.returns-then-not-contains
-returns-then-not-contains c = private_declarator (Asked-around c.args.asked) (seen c.args.statement) (seen c.args.declarator) (cc) c.args.faults.now.items
+returns-then-not-contains c =
+    let public = ap (is_public c.args.asked.public_ranges.now) (sym c.of.ensures.span) ∙ (sym c.contains.ensures ∙ c.if-not-contains.true) in
+    private_declarator (Asked-around c.args.asked) (seen c.args.statement) (seen c.args.declarator) public c.args.faults.now.items
 
 pub returns-then-is_ambient : goal.returns-then-is_ambient
 returns-then-is_ambient c =
-    ambient_declarator (Asked-around c.args.asked) (seen c.args.statement) (seen c.args.declarator) (cc) (cc) c.in_ok-to_tree.ensures c.args.faults.now.items
+    let public = ap (is_public c.args.asked.public_ranges.now) (sym c.of.ensures.span) ∙ (sym c.contains.ensures ∙ c.if-not-contains.false) in
+    ambient_declarator (Asked-around c.args.asked) (seen c.args.statement) (seen c.args.declarator) public
+    (sym c.is_ambient.ensures ∙ c.if-is_ambient.true) c.in_ok-to_tree.ensures c.args.faults.now.items
 
 pub returns : goal.returns
 returns c =
-    public_declarator_stays (Asked-around c.args.asked) (seen c.args.statement) (seen c.args.declarator) (cc) (cc)
+    let public = ap (is_public c.args.asked.public_ranges.now) (sym c.of.ensures.span) ∙ (sym c.contains.ensures ∙ c.if-not-contains.false) in
+    public_declarator_stays (Asked-around c.args.asked) (seen c.args.statement) (seen c.args.declarator) public
+    (sym c.is_ambient.ensures ∙ c.if-is_ambient.false)
     (adds_same (ap (λ m. declarator_answer (Asked-around c.args.asked) m (seen c.args.declarator))
     (sym (c.mutability_of-mutability.ensures ∙ ap mutability_of c.of-2.ensures.kind)))
     c.in_ok-typed_declarator.ensures)

@@ -1,3 +1,4 @@
+use Rattle.std.proofs.Common.{sym, ◌∙◌}
 use Rattle.std.proofs.lemmas.Result.{IfOk-weaker}
 use Rattle.fast_check_syntax.specs.Part.{seen}
 use Rattle.fast_check_transform.specs.PartAnswers.{Asked-around}
@@ -5,10 +6,10 @@ use Rattle.fast_check_transform.proofs.ByRule.{variables, public_function_stays,
 use Rattle.fast_check_transform.proofs.items.keep_decl.Goals as goal
 
 pub returns-then-not-contains : goal.returns-then-not-contains
-returns-then-not-contains c = private_function (Asked-around c.args.asked) c.args.place (seen c.args.decl) c.in-Function.is (cc) c.args.faults.now.items
+returns-then-not-contains c = private_function (Asked-around c.args.asked) c.args.place (seen c.args.decl) c.in-Function.is (sym c.contains.ensures ∙ c.if-not-contains.true) c.args.faults.now.items
 
 pub returns-then-not-contains-2 : goal.returns-then-not-contains-2
-returns-then-not-contains-2 c = private_standing (Asked-around c.args.asked) c.args.place (seen c.args.decl) c.in-Standing.is (cc) c.args.faults.now.items
+returns-then-not-contains-2 c = private_standing (Asked-around c.args.asked) c.args.place (seen c.args.decl) c.in-Standing.is (sym c.contains-in-Standing.ensures ∙ c.if-not-contains-2.true) c.args.faults.now.items
 
 pub returns-in-Variables : goal.returns-in-Variables
 returns-in-Variables c =
@@ -17,12 +18,13 @@ returns-in-Variables c =
 
 pub returns-in_ok-keep_function-in-Function : goal.returns-in_ok-keep_function-in-Function
 returns-in_ok-keep_function-in-Function c =
-    public_function_stays (Asked-around c.args.asked) c.args.place (seen c.args.decl) c.in-Function.is (cc) c.in_ok-keep_function-in-Function.ensures
+    public_function_stays (Asked-around c.args.asked) c.args.place (seen c.args.decl) c.in-Function.is
+    (sym c.contains.ensures ∙ c.if-not-contains.false) c.in_ok-keep_function-in-Function.ensures
 
 pub returns-in_ok-to_tree-in-Standing : goal.returns-in_ok-to_tree-in-Standing
 returns-in_ok-to_tree-in-Standing c =
     public_standing (Asked-around c.args.asked) c.args.place (seen c.args.decl) c.in-Standing.is
-    (cc) c.in_ok-to_tree-in-Standing.ensures c.args.faults.now.items
+    (sym c.contains-in-Standing.ensures ∙ c.if-not-contains-2.false) c.in_ok-to_tree-in-Standing.ensures c.args.faults.now.items
 
 pub returns-in-Untaken : goal.returns-in-Untaken
 returns-in-Untaken c = untaken (Asked-around c.args.asked) c.args.place (seen c.args.decl) c.in-Untaken.is c.args.faults.now.items

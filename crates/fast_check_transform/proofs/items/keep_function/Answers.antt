@@ -8,10 +8,10 @@ use Rattle.fast_check_transform.proofs.items.keep_function.Goals as goal
 
 pub returns-then-asked : goal.returns-then-asked
 returns-then-asked c =
-    some_of c.to_tree.result c.to_tree.ensures (ambient_function (Asked-around c.args.asked) c.args.place (seen c.args.decl) (cc) c.args.faults.now.items) refl
+    some_of c.to_tree.result c.to_tree.ensures (ambient_function (Asked-around c.args.asked) c.args.place (seen c.args.decl) c.if-asked.true c.args.faults.now.items) refl
 
 pub returns : goal.returns
 returns c =
     some_of c.into_tree.result c.into_tree.ensures
-    (made_function (Asked-around c.args.asked) c.args.place (seen c.args.decl) (cc) c.in_ok-transform_signature.ensures)
+    (made_function (Asked-around c.args.asked) c.args.place (seen c.args.decl) c.if-asked.false c.in_ok-transform_signature.ensures)
     (λ i. fn_decl ((c.in_ok-to_tree.ensures ∙ c.of-declare.ensures.ident) i) (c.of-declare.ensures.declare i) c.in_ok-transform_signature.field-0)

@@ -1,8 +1,8 @@
 //! Calls on diagnostics: all that a reader is told, and when two places are one.
 
 use crate::Call;
-use crate::said::Said;
 use anyhow::{Result, bail};
+use fast_check_said::Said;
 use fast_check_tables::{
     Diagnostic, DiagnosticLocation, DiagnosticSnippet, FastCheckDiagnostic,
     FastCheckDiagnosticRange,

@@ -1,4 +1,4 @@
-//! What is told of a call.
+//! A text that is told piece by piece.
 
 use std::alloc::{AllocError, Global};
 
@@ -19,17 +19,23 @@ impl Said {
 
     /// Tells a text.
     pub fn tell(&mut self, text: &str) {
-        if self.text.push_str(text).is_err() {
-            self.lacks = true;
-        }
+        let told = self.text.push_str(text);
+        self.note(told);
     }
 
     /// Tells a text that was made, if it was.
     pub fn tell_made(&mut self, made: Result<String, AllocError>) {
         match made {
             Ok(text) => self.tell(text.as_str()),
-            Err(_) => self.lacks = true,
+            Err(_) => self.lack(),
         }
+    }
+
+    /// Tells a path of three pieces.
+    pub fn tell_path(&mut self, before: &str, name: &str, after: &str) {
+        self.tell(before);
+        self.tell(name);
+        self.tell(after);
     }
 
     /// Tells a flag.
@@ -49,7 +55,7 @@ impl Said {
     pub fn line_made(&mut self, name: &str, made: Result<String, AllocError>) {
         match made {
             Ok(text) => self.line(name, text.as_str()),
-            Err(_) => self.lacks = true,
+            Err(_) => self.lack(),
         }
     }
 
@@ -58,11 +64,29 @@ impl Said {
         match made {
             Ok(Some(text)) => self.line(name, text.as_str()),
             Ok(None) => {}
-            Err(_) => self.lacks = true,
+            Err(_) => self.lack(),
         }
     }
 
-    /// Leaves a piece out.
+    /// A copy of a text.
+    pub fn copy(&mut self, alloc: Global, text: &str) -> String {
+        match String::from_str(alloc, text) {
+            Ok(copy) => copy,
+            Err(_) => {
+                self.lack();
+                String::new(alloc)
+            }
+        }
+    }
+
+    /// Notes whether a call had memory.
+    pub fn note(&mut self, done: Result<(), AllocError>) {
+        if done.is_err() {
+            self.lack();
+        }
+    }
+
+    /// Notes that memory is wanting.
     pub fn lack(&mut self) {
         self.lacks = true;
     }

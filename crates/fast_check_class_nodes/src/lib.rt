@@ -1,0 +1,16 @@
+//! The members of a class that stay, and the new nodes that stand in a class: properties that are declared, parameters without
+//! modifiers, and the calls of the constructor of the superclass.
+#![tactic(auto)]
+
+mod constructors;
+mod earlier;
+mod keys;
+mod properties;
+
+pub use constructors::{constructor_body, plain_params};
+pub use earlier::{Earlier, kept_members};
+pub use keys::{is_computed, is_hash_named, is_private, key_text};
+pub use properties::{
+    PropertyHead, accessor_head, hash_private, mutability_of_property, param_property,
+    param_target, private_method_head, property_head, takes_apart,
+};

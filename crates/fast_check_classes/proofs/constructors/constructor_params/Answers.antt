@@ -1,0 +1,32 @@
+use Rattle.std.proofs.Common.{ap, ◌∙◌, sym, map}
+use Rattle.std.proofs.lemmas.Result.{IfOk-weaker}
+use Rattle.fast_check_syntax.specs.Part.{seen}
+use Rattle.fast_check_syntax.specs.Shape.{parts, list}
+use Rattle.fast_check_tables.specs.PublicRanges.{is_implementation}
+use Rattle.fast_check_signatures.specs.Classes.{plain_param}
+use Rattle.fast_check_signatures.specs.Members.{is_private}
+use Rattle.fast_check_classes.proofs.Constructed.{private_params, implementation_params, own_params}
+use Rattle.fast_check_classes.proofs.constructors.constructor_params.Goals as goal
+
+pub returns-then-is_private : goal.returns-then-is_private
+returns-then-is_private c =
+    private_params c.args.unresolved (is_implementation c.args.public_ranges.now) (seen c.args.member)
+    (ap is_private (sym c.of.ensures.accessibility) ∙ (sym c.is_private.ensures ∙ c.if-is_private.true)) c.new.ensures c.args.faults.now.items
+
+pub returns-then-is_impl_with_overloads : goal.returns-then-is_impl_with_overloads
+returns-then-is_impl_with_overloads c =
+    let private = ap is_private (sym c.of.ensures.accessibility) ∙ (sym c.is_private.ensures ∙ c.if-is_private.false) in
+    let plain = c.in_ok-params.ensures ∙ ap (λ ps. list (map (λ p. plain_param p) (parts ps))) c.of.ensures.params in
+    let asked = ap (is_implementation c.args.public_ranges.now) (sym c.of.ensures.span) ∙ (sym c.is_impl_with_overloads.ensures ∙ c.if-is_impl_with_overloads.true) in
+    IfOk-weaker c.any_params.result _ _
+    (λ items h. implementation_params c.args.unresolved (is_implementation c.args.public_ranges.now) (seen c.args.member) private asked
+    (c.read.ensures ∙ plain) h c.args.faults.now.items) c.any_params.ensures
+
+pub returns : goal.returns
+returns c =
+    let private = ap is_private (sym c.of.ensures.accessibility) ∙ (sym c.is_private.ensures ∙ c.if-is_private.false) in
+    let plain = c.in_ok-params.ensures ∙ ap (λ ps. list (map (λ p. plain_param p) (parts ps))) c.of.ensures.params in
+    let asked = ap (is_implementation c.args.public_ranges.now) (sym c.of.ensures.span) ∙ (sym c.is_impl_with_overloads.ensures ∙ c.if-is_impl_with_overloads.false) in
+    IfOk-weaker c.transform_params.result _ _
+    (λ items h. own_params c.args.unresolved (is_implementation c.args.public_ranges.now) (seen c.args.member) private asked
+    (c.read-2.ensures ∙ plain) h) c.transform_params.ensures

@@ -1,0 +1,24 @@
+use Rattle.std.proofs.Common.{ap, ◌∙◌, sym}
+use Rattle.fast_check_syntax.specs.Part.{seen}
+use Rattle.fast_check_helpers.specs.InferredType.{inferred_type}
+use Rattle.fast_check_signatures.specs.Answers.{declared_property, valued_property}
+use Rattle.fast_check_signatures.specs.Classes.{mutability_of_property}
+use Rattle.fast_check_classes.proofs.Making.{some_of}
+use Rattle.fast_check_classes.proofs.PropertyCases.{shown_property, valued_property_stays}
+use Rattle.fast_check_classes.proofs.properties.untyped_property.Goals as goal
+
+pub returns-in_ok-property_head-in-Some : goal.returns-in_ok-property_head-in-Some
+returns-in_ok-property_head-in-Some c =
+    let mutability = c.mutability_of_property-mutability.ensures ∙ ap mutability_of_property c.of-readonly.ensures.readonly in
+    let shown = (λ i. inferred_type (sym mutability i) c.args.unresolved (sym c.of-readonly.ensures.value i)) ∙ (sym c.in_ok-ty.ensures.inferred ∙ c.in-Some.is) in
+    some_of c.declared.result c.declared.ensures
+    (shown_property c.args.unresolved (seen c.args.member) c.in-Some.ty shown c.args.faults.now.items)
+    (λ i. declared_property (c.in_ok-property_head-in-Some.ensures i) (c.in_ok-ty-in-Some.ensures i))
+
+pub returns-in_ok-property_head-in-None : goal.returns-in_ok-property_head-in-None
+returns-in_ok-property_head-in-None c =
+    let mutability = c.mutability_of_property-mutability.ensures ∙ ap mutability_of_property c.of-readonly.ensures.readonly in
+    let shown = (λ i. inferred_type (sym mutability i) c.args.unresolved (sym c.of-readonly.ensures.value i)) ∙ (sym c.in_ok-ty.ensures.inferred ∙ c.in-None.is) in
+    some_of c.valued.result c.valued.ensures
+    (valued_property_stays c.args.unresolved (seen c.args.member) shown c.in_ok-value-in-None.ensures)
+    (ap (λ h. valued_property h c.in_ok-value-in-None.value) c.in_ok-property_head-in-None.ensures)

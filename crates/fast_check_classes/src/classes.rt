@@ -1,0 +1,131 @@
+ghost use Rattle.std.specs.Prelude.{◌≡◌, IfOk, Some};
+ghost use Rattle.fast_check_syntax.specs.Part.{seen};
+ghost use Rattle.fast_check_syntax.specs.Shape.{parts, list};
+ghost use Rattle.fast_check_signatures.specs.Answers.{Adds, answer_to};
+ghost use Rattle.fast_check_signatures.specs.Answers as answers;
+ghost use Rattle.fast_check_signatures.specs.Classes.{class_head, plain_class_seen, ambient_class};
+ghost use Rattle.fast_check_signatures.specs.Members.{ambient_members, is_private_computed};
+ghost use Rattle.fast_check_tables.specs.PublicRanges.{is_implementation};
+
+use crate::members::transform_members;
+use crate::superclasses::transform_superclass;
+use fast_check_class_forms::{AutoAccessor, Class, ClassMethod, ClassProp};
+use fast_check_class_nodes::{is_computed, is_private};
+use fast_check_signatures::Fault;
+use fast_check_syntax::{Items, Kind, Part, SyntaxContext, Tree};
+use fast_check_tables::ModulePublicRanges;
+use std::alloc::{AllocError, Global};
+
+/// A class of this superclass and these members, without decorators.
+fn class_of(
+    alloc: Global,
+    class: Part<'_>,
+    super_class: Tree,
+    members: Items<Tree>,
+) -> Result<Tree, AllocError>
+    ensures { IfOk result (λ tree. tree ≡ answers.class_of (class_head (seen class.entry)) super_class members) }
+{
+    let class = Class::of(class);
+    Class {
+        span: class.span,
+        ctxt: class.ctxt,
+        decorators: Tree::list(Items::new(alloc)),
+        body: Tree::list(members),
+        super_class,
+        is_abstract: class.is_abstract,
+        type_params: class.type_params.to_tree(alloc)?,
+        super_type_params: class.super_type_params.to_tree(alloc)?,
+        implements: class.implements.to_tree(alloc)?,
+    }
+    .into_tree(alloc)
+}
+
+/// A class that is not ambient, a `Class` (deno_graph's `transform_class`). A superclass that is no name and no chain of
+/// members on one is a fault at it, before those of the members. `unresolved` is the scope number of the names that nothing
+/// in the module binds.
+pub fn transform_class(
+    alloc: Global,
+    public_ranges: &ModulePublicRanges,
+    unresolved: SyntaxContext,
+    class: Part<'_>,
+    faults: &mut Vec<Fault>,
+) -> Result<Tree, AllocError>
+    ensures { IfOk result (λ tree.
+        Adds (answer_to (plain_class_seen unresolved (is_implementation public_ranges.now) (seen class.entry))) (Some tree) faults.old.items faults.new.items) }
+{
+    let Class {
+        body,
+        super_class,
+        ..
+    } = Class::of(class);
+    let super_class = transform_superclass(alloc, super_class, faults)?;
+    let members = transform_members(alloc, public_ranges, unresolved, body, faults)?;
+    class_of(alloc, class, super_class, members)
+}
+
+/// Whether a member is a private method, property or accessor with a computed key.
+fn is_private_computed(member: Part<'_>) -> bool
+    ensures { result ≡ is_private_computed (seen member.entry) }
+{
+    match member.kind() {
+        Kind::ClassMethod => {
+            let ClassMethod {
+                key,
+                accessibility,
+                ..
+            } = ClassMethod::of(member);
+            is_private(accessibility) && is_computed(key)
+        }
+        Kind::ClassProp => {
+            let ClassProp {
+                key,
+                accessibility,
+                ..
+            } = ClassProp::of(member);
+            is_private(accessibility) && is_computed(key)
+        }
+        Kind::AutoAccessor => {
+            let AutoAccessor {
+                key,
+                accessibility,
+                ..
+            } = AutoAccessor::of(member);
+            is_private(accessibility) && is_computed(key)
+        }
+        _ => false,
+    }
+}
+
+/// The members of an ambient class that stay, as they are written.
+fn ambient_members(alloc: Global, body: Part<'_>) -> Result<Items<Tree>, AllocError>
+    ensures { IfOk result (λ items. items ≡ ambient_members (parts (seen body.entry))) }
+{
+    let mut items = Items::new(alloc);
+    for member in body.parts() {
+        let member = member.read();
+        if is_private_computed(member) {
+            continue;
+        }
+        items.push(member.to_tree(alloc)?)?;
+    }
+    Ok(items)
+}
+
+/// An ambient class, a `Class`: it loses private members with computed keys, and no more.
+pub fn ambient_class(alloc: Global, class: Part<'_>) -> Result<Tree, AllocError>
+    ensures { IfOk result (λ tree. tree ≡ ambient_class (seen class.entry)) }
+{
+    let class = Class::of(class);
+    Class {
+        span: class.span,
+        ctxt: class.ctxt,
+        decorators: class.decorators.to_tree(alloc)?,
+        body: Tree::list(ambient_members(alloc, class.body)?),
+        super_class: class.super_class.to_tree(alloc)?,
+        is_abstract: class.is_abstract,
+        type_params: class.type_params.to_tree(alloc)?,
+        super_type_params: class.super_type_params.to_tree(alloc)?,
+        implements: class.implements.to_tree(alloc)?,
+    }
+    .into_tree(alloc)
+}

@@ -1,0 +1,10 @@
+//! What stands of classes and their members where a type checker is to read them without inference.
+#![tactic(auto)]
+
+mod classes;
+mod constructors;
+mod members;
+mod properties;
+mod superclasses;
+
+pub use classes::{ambient_class, transform_class};

@@ -1,0 +1,5 @@
+pub mod Demands
+pub mod Decls
+pub mod Rules
+pub mod Yields
+pub mod Account

@@ -1,0 +1,264 @@
+ghost use Rattle.std.specs.Prelude.{◌≡◌, ◌∷◌, [], ◌++◌, OnOk, cond, string_bytes};
+ghost use Rattle.std.specs.List.{flat_map};
+ghost use Rattle.fast_check_names.specs.Names.{path_of};
+ghost use Rattle.fast_check_demands.specs.Demands.{demand_of};
+ghost use Rattle.fast_check_demands.specs.Rules.{each_of, qualified, parts_names, alias_names, member_names, prototype_names, export_names, first_names, path_names};
+
+use crate::bindings::{bound, push_path, push_references};
+use crate::decls::{has_alias, is_closed};
+use crate::demand::{Extent, SymbolDemand};
+use crate::list::Demands;
+use crate::names::{is_prototype, member_named};
+use fast_check_modules::CheckedTables;
+use fast_check_symbols::{Symbol, SymbolDecl, SymbolDeclKind, SymbolId};
+use std::alloc::AllocError;
+use std::slice;
+
+fn push_parts<'a>(
+    demand: SymbolDemand<'_>,
+    symbol: SymbolId,
+    parts: &'a [String],
+    out: &mut Demands<'a>,
+) -> Result<(), AllocError>
+    ensures { OnOk result (out.new ≡ out.old ++ parts_names (demand_of demand.entry) symbol parts.now) }
+{
+    for part in parts {
+        push_path(
+            symbol,
+            slice::from_ref(part),
+            Extent::Whole,
+            demand.referrer,
+            out,
+        )?;
+    }
+    Ok(())
+}
+
+fn push_path_at<'a>(
+    demand: SymbolDemand<'_>,
+    symbol: Option<SymbolId>,
+    names: &'a [String],
+    extent: Extent,
+    out: &mut Demands<'a>,
+) -> Result<(), AllocError>
+    ensures { OnOk result (out.new ≡ out.old ++ each_of (λ x. qualified x (path_of names.now) extent demand.entry.referrer ∷ []) symbol) }
+{
+    match symbol {
+        None => Ok(()),
+        Some(symbol) => push_path(symbol, names, extent, demand.referrer, out),
+    }
+}
+
+fn push_path_and_parts<'a>(
+    demand: SymbolDemand<'_>,
+    symbol: Option<SymbolId>,
+    names: &'a [String],
+    extent: Extent,
+    parts: &'a [String],
+    out: &mut Demands<'a>,
+) -> Result<(), AllocError>
+    ensures { OnOk result (out.new ≡ out.old ++ each_of (λ x. qualified x (path_of names.now) extent demand.entry.referrer ∷ parts_names (demand_of demand.entry) x parts.now) symbol) }
+{
+    match symbol {
+        None => Ok(()),
+        Some(symbol) => {
+            push_path(symbol, names, extent, demand.referrer, out)?;
+            push_parts(demand, symbol, parts, out)
+        }
+    }
+}
+
+fn push_alias<'a>(
+    module: &CheckedTables,
+    demand: SymbolDemand<'_>,
+    names: &'a [String],
+    extent: Extent,
+    kind: &'a SymbolDeclKind,
+    out: &mut Demands<'a>,
+) -> Result<(), AllocError>
+    ensures { OnOk result (out.new ≡ out.old ++ alias_names module.now (demand_of demand.entry) (path_of names.now) extent kind.now) }
+{
+    match kind {
+        SymbolDeclKind::Target(id) => push_path_at(demand, bound(module, id), names, extent, out),
+        SymbolDeclKind::QualifiedTarget(id, parts) => {
+            push_path_and_parts(
+                demand,
+                bound(module, id),
+                names,
+                extent,
+                parts.as_slice(),
+                out,
+            )
+        }
+        SymbolDeclKind::FileRef { .. } | SymbolDeclKind::Definition(_) => Ok(()),
+    }
+}
+
+fn push_aliases<'a>(
+    module: &CheckedTables,
+    demand: SymbolDemand<'_>,
+    names: &'a [String],
+    extent: Extent,
+    decls: &'a [SymbolDecl],
+    out: &mut Demands<'a>,
+) -> Result<(), AllocError>
+    ensures { OnOk result (out.new ≡ out.old ++ flat_map (λ x. alias_names module.now (demand_of demand.entry) (path_of names.now) extent x.kind) decls.now) }
+{
+    for decl in decls {
+        push_alias(module, demand, names, extent, &decl.kind, out)?;
+    }
+    Ok(())
+}
+
+fn push_member(
+    demand: SymbolDemand<'_>,
+    below: &[String],
+    extent: Extent,
+    member: Option<SymbolId>,
+    out: &mut Demands<'_>,
+) -> Result<(), AllocError>
+    ensures { OnOk result (out.new ≡ out.old ++ member_names (demand_of demand.entry) (path_of below.now) extent member) }
+{
+    match below.split_first() {
+        Some(_) => Ok(()),
+        None => push_whole_member(demand, extent, member, out),
+    }
+}
+
+fn push_whole_member(
+    demand: SymbolDemand<'_>,
+    extent: Extent,
+    member: Option<SymbolId>,
+    out: &mut Demands<'_>,
+) -> Result<(), AllocError>
+    ensures { OnOk result (out.new ≡ out.old ++ member_names (demand_of demand.entry) [] extent member) }
+{
+    match (extent, member) {
+        (Extent::Whole, Some(member)) => push_references(member, demand.referrer, out),
+        _ => Ok(()),
+    }
+}
+
+fn push_prototype(
+    module: &CheckedTables,
+    demand: SymbolDemand<'_>,
+    below: &[String],
+    extent: Extent,
+    symbol: &Symbol,
+    out: &mut Demands<'_>,
+) -> Result<(), AllocError>
+    ensures { OnOk result (out.new ≡ out.old ++ prototype_names module.now (demand_of demand.entry) (path_of below.now) extent symbol.now) }
+{
+    match below.split_first() {
+        Some((name, deeper)) => {
+            let member = member_named(module, name.as_str(), symbol.members.as_slice());
+            push_member(demand, deeper, extent, member, out)
+        }
+        None => push_class(demand, extent, out),
+    }
+}
+
+fn push_class(
+    demand: SymbolDemand<'_>,
+    extent: Extent,
+    out: &mut Demands<'_>,
+) -> Result<(), AllocError>
+    ensures { OnOk result (out.new ≡ out.old ++ whole_names (demand_of demand.entry) extent) }
+{
+    match extent {
+        Extent::Touched => Ok(()),
+        Extent::Whole => push_references(demand.symbol, demand.referrer, out),
+    }
+}
+
+ghost use Rattle.fast_check_demands.specs.Rules.{whole_names, export_part_names};
+
+fn push_export<'a>(
+    demand: SymbolDemand<'_>,
+    below: &'a [String],
+    extent: Extent,
+    closed: bool,
+    export: Option<SymbolId>,
+    out: &mut Demands<'a>,
+) -> Result<(), AllocError>
+    ensures { OnOk result (out.new ≡ out.old ++ export_names (demand_of demand.entry) (path_of below.now) extent closed export) }
+{
+    match export {
+        Some(export) => push_export_part(demand, below, extent, export, out),
+        None => {
+            if closed {
+                return Ok(());
+            }
+            push_references(demand.symbol, demand.referrer, out)
+        }
+    }
+}
+
+fn push_export_part<'a>(
+    demand: SymbolDemand<'_>,
+    below: &'a [String],
+    extent: Extent,
+    export: SymbolId,
+    out: &mut Demands<'a>,
+) -> Result<(), AllocError>
+    ensures { OnOk result (out.new ≡ out.old ++ export_part_names (demand_of demand.entry) (path_of below.now) extent export) }
+{
+    match extent {
+        Extent::Whole if below.is_empty() => push_references(export, demand.referrer, out),
+        _ => push_path(export, below, extent, demand.referrer, out),
+    }
+}
+
+fn push_first<'a>(
+    module: &CheckedTables,
+    demand: SymbolDemand<'_>,
+    names: &'a [String],
+    extent: Extent,
+    symbol: &Symbol,
+    out: &mut Demands<'a>,
+) -> Result<(), AllocError>
+    ensures { OnOk result (out.new ≡ out.old ++ first_names module.now (demand_of demand.entry) (path_of names.now) extent symbol.now) }
+{
+    match names.split_first() {
+        None => Ok(()),
+        Some((name, below)) => {
+            push_below(module, demand, name.as_str(), below, extent, symbol, out)
+        }
+    }
+}
+
+fn push_below<'a>(
+    module: &CheckedTables,
+    demand: SymbolDemand<'_>,
+    name: &str,
+    below: &'a [String],
+    extent: Extent,
+    symbol: &Symbol,
+    out: &mut Demands<'a>,
+) -> Result<(), AllocError>
+    ensures { OnOk result (out.new ≡ out.old ++ first_names module.now (demand_of demand.entry) (name.now ∷ path_of below.now) extent symbol.now) }
+{
+    if is_prototype(name, symbol.decls.as_slice()) {
+        return push_prototype(module, demand, below, extent, symbol, out);
+    }
+    let closed = is_closed(symbol.decls.as_slice());
+    push_export(demand, below, extent, closed, symbol.exports.get(name), out)
+}
+
+/// What a path below a symbol demands.
+pub fn push_path_demands<'a>(
+    module: &CheckedTables,
+    demand: SymbolDemand<'_>,
+    names: &'a [String],
+    extent: Extent,
+    symbol: &'a Symbol,
+    out: &mut Demands<'a>,
+) -> Result<(), AllocError>
+    ensures { OnOk result (out.new ≡ out.old ++ path_names module.now (demand_of demand.entry) (path_of names.now) extent symbol.now) }
+{
+    if has_alias(symbol.decls.as_slice()) {
+        push_aliases(module, demand, names, extent, symbol.decls.as_slice(), out)
+    } else {
+        push_first(module, demand, names, extent, symbol, out)
+    }
+}

@@ -1,0 +1,111 @@
+ghost use Rattle.std.specs.Prelude.{◌≡◌, ◌++◌, option_map, OnOk};
+ghost use Rattle.fast_check_symbols.specs.Exports.{seen_export};
+ghost use Rattle.std.specs.List.{flat_map};
+ghost use Rattle.fast_check_demands.specs.Demands.{demand_of};
+ghost use Rattle.fast_check_demands.specs.Rules.{each_of, children, decl_names, exports_names, members_names, symbol_names};
+
+use crate::bindings::push_children;
+use crate::decls::{binds, is_implementation};
+use crate::demand::{Namespace, SymbolDemand};
+use crate::dependencies::push_kind;
+use crate::list::Demands;
+use fast_check_modules::CheckedTables;
+use fast_check_symbols::{Symbol, SymbolDecl, SymbolExports, SymbolId};
+use std::alloc::AllocError;
+
+fn push_decl<'a>(
+    module: &CheckedTables,
+    demand: SymbolDemand<'_>,
+    namespace: Namespace,
+    parent: Option<SymbolId>,
+    decl: &'a SymbolDecl,
+    out: &mut Demands<'a>,
+) -> Result<(), AllocError>
+    ensures { OnOk result (out.new ≡ out.old ++ decl_names module.now (demand_of demand.entry) namespace parent decl.now) }
+{
+    if binds(decl, namespace) && !is_implementation(decl) {
+        push_kind(module, demand, namespace, parent, &decl.kind, out)
+    } else {
+        Ok(())
+    }
+}
+
+fn push_decls<'a>(
+    module: &CheckedTables,
+    demand: SymbolDemand<'_>,
+    namespace: Namespace,
+    parent: Option<SymbolId>,
+    decls: &'a [SymbolDecl],
+    out: &mut Demands<'a>,
+) -> Result<(), AllocError>
+    ensures { OnOk result (out.new ≡ out.old ++ flat_map (decl_names module.now (demand_of demand.entry) namespace parent) decls.now) }
+{
+    for decl in decls {
+        push_decl(module, demand, namespace, parent, decl, out)?;
+    }
+    Ok(())
+}
+
+fn push_export(
+    demand: SymbolDemand<'_>,
+    export: Option<(&str, SymbolId)>,
+    out: &mut Demands<'_>,
+) -> Result<(), AllocError>
+    ensures { OnOk result (out.new ≡ out.old ++ each_of (λ e. children e.1 demand.entry.symbol) (option_map seen_export export.entry)) }
+{
+    match export {
+        None => Ok(()),
+        Some((_, export)) => push_children(export, demand.symbol, out),
+    }
+}
+
+fn push_exports(
+    demand: SymbolDemand<'_>,
+    exports: &SymbolExports,
+    out: &mut Demands<'_>,
+) -> Result<(), AllocError>
+    ensures { OnOk result (out.new ≡ out.old ++ exports_names (demand_of demand.entry) exports.now) }
+{
+    for place in 0..exports.len() {
+        push_export(demand, exports.at(place), out)?;
+    }
+    Ok(())
+}
+
+fn push_members(
+    demand: SymbolDemand<'_>,
+    members: &[SymbolId],
+    out: &mut Demands<'_>,
+) -> Result<(), AllocError>
+    ensures { OnOk result (out.new ≡ out.old ++ members_names (demand_of demand.entry) members.now) }
+{
+    for member in members {
+        push_children(*member, demand.symbol, out)?;
+    }
+    Ok(())
+}
+
+/// What a symbol demands where it is demanded in a namespace.
+pub fn push_symbol<'a>(
+    module: &CheckedTables,
+    demand: SymbolDemand<'_>,
+    namespace: Namespace,
+    symbol: &'a Symbol,
+    out: &mut Demands<'a>,
+) -> Result<(), AllocError>
+    ensures { OnOk result (out.new ≡ out.old ++ symbol_names module.now (demand_of demand.entry) namespace symbol.now) }
+{
+    if symbol.is_private_member {
+        return Ok(());
+    }
+    push_decls(
+        module,
+        demand,
+        namespace,
+        symbol.parent_id,
+        symbol.decls.as_slice(),
+        out,
+    )?;
+    push_exports(demand, &symbol.exports, out)?;
+    push_members(demand, symbol.members.as_slice(), out)
+}

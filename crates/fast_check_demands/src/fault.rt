@@ -1,0 +1,174 @@
+ghost use Rattle.std.specs.Prelude.{◌≡◌, option_map};
+ghost use Rattle.fast_check_names.specs.Names.{path_of};
+ghost use Rattle.fast_check_symbols.specs.Symbols.{symbol_of};
+ghost use Rattle.fast_check_demands.specs.Demands.{demand_of, asked_of};
+ghost use Rattle.fast_check_demands.specs.Yields.{fault_seen, fault_at as fault_there, is_parent, private_fault, member_fault, prototype_fault, export_fault, first_fault, path_fault, asked_fault, fault_in};
+
+use crate::decls::{has_alias, is_closed};
+use crate::demand::{Ask, SymbolDemand};
+use crate::dependencies::is_same;
+use crate::names::{is_prototype, member_named, start_of};
+use fast_check_modules::CheckedTables;
+use fast_check_symbols::{Symbol, SymbolId};
+
+/// What is wrong with a demand.
+#[derive(Clone, Copy, Debug, PartialEq, Eq)]
+pub enum FaultKind {
+    /// A private member is referred to.
+    PrivateMember,
+    /// A class or a namespace has no such name.
+    NotFound,
+    /// A name below a member of a class.
+    TooComplex,
+}
+
+/// A fault of a demand: at a symbol, with the names below it that were asked for, by another symbol.
+#[derive(Clone, Copy)]
+pub struct SymbolFault<'a> {
+    pub kind: FaultKind,
+    pub symbol: SymbolId,
+    pub names: &'a [String],
+    pub referrer: SymbolId,
+}
+
+fn fault_at<'a>(kind: FaultKind, names: &'a [String], demand: SymbolDemand<'_>) -> SymbolFault<'a>
+    ensures { fault_seen result ≡ fault_there kind (path_of names.now) (demand_of demand.entry) }
+{
+    SymbolFault {
+        kind,
+        symbol: demand.symbol,
+        names,
+        referrer: demand.referrer,
+    }
+}
+
+fn is_parent(id: SymbolId, parent: Option<SymbolId>) -> bool
+    ensures { result ≡ is_parent id parent }
+{
+    match parent {
+        None => false,
+        Some(parent) => is_same(parent, id),
+    }
+}
+
+fn private_fault<'a>(demand: SymbolDemand<'a>, symbol: &Symbol) -> Option<SymbolFault<'a>>
+    ensures { option_map fault_seen result ≡ private_fault (demand_of demand.entry) symbol.now }
+{
+    if symbol.is_private_member && !is_parent(demand.referrer, symbol.parent_id) {
+        return Some(fault_at(FaultKind::PrivateMember, &[], demand));
+    }
+    None
+}
+
+fn member_fault<'a>(
+    demand: SymbolDemand<'_>,
+    names: &'a [String],
+    member: Option<SymbolId>,
+) -> Option<SymbolFault<'a>>
+    ensures { option_map fault_seen result ≡ member_fault (demand_of demand.entry) (path_of names.now) member }
+{
+    match member {
+        None => Some(fault_at(FaultKind::NotFound, start_of(names, 2), demand)),
+        Some(_) => {
+            if names.len() <= 2 {
+                return None;
+            }
+            Some(fault_at(FaultKind::TooComplex, start_of(names, 3), demand))
+        }
+    }
+}
+
+fn prototype_fault<'a>(
+    module: &CheckedTables,
+    demand: SymbolDemand<'_>,
+    names: &'a [String],
+    below: &[String],
+    symbol: &Symbol,
+) -> Option<SymbolFault<'a>>
+    ensures { option_map fault_seen result ≡ prototype_fault module.now (demand_of demand.entry) (path_of names.now) (path_of below.now) symbol.now }
+{
+    match below.split_first() {
+        None => None,
+        Some((name, _)) => {
+            let member = member_named(module, name.as_str(), symbol.members.as_slice());
+            member_fault(demand, names, member)
+        }
+    }
+}
+
+fn export_fault<'a>(
+    demand: SymbolDemand<'_>,
+    names: &'a [String],
+    closed: bool,
+    export: Option<SymbolId>,
+) -> Option<SymbolFault<'a>>
+    ensures { option_map fault_seen result ≡ export_fault (demand_of demand.entry) (path_of names.now) closed export }
+{
+    match export {
+        None => {
+            if closed {
+                return Some(fault_at(FaultKind::NotFound, start_of(names, 1), demand));
+            }
+            None
+        }
+        Some(_) => None,
+    }
+}
+
+fn first_fault<'a>(
+    module: &CheckedTables,
+    demand: SymbolDemand<'_>,
+    names: &'a [String],
+    rest: &[String],
+    symbol: &Symbol,
+) -> Option<SymbolFault<'a>>
+    ensures { option_map fault_seen result ≡ first_fault module.now (demand_of demand.entry) (path_of names.now) (path_of rest.now) symbol.now }
+{
+    match rest.split_first() {
+        None => None,
+        Some((first, below)) => {
+            if is_prototype(first.as_str(), symbol.decls.as_slice()) {
+                return prototype_fault(module, demand, names, below, symbol);
+            }
+            let closed = is_closed(symbol.decls.as_slice());
+            export_fault(demand, names, closed, symbol.exports.get(first.as_str()))
+        }
+    }
+}
+
+fn path_fault<'a>(
+    module: &CheckedTables,
+    demand: SymbolDemand<'_>,
+    names: &'a [String],
+    symbol: &Symbol,
+) -> Option<SymbolFault<'a>>
+    ensures { option_map fault_seen result ≡ path_fault module.now (demand_of demand.entry) (path_of names.now) symbol.now }
+{
+    if has_alias(symbol.decls.as_slice()) {
+        return None;
+    }
+    first_fault(module, demand, names, names, symbol)
+}
+
+fn asked_fault<'a>(
+    module: &CheckedTables,
+    demand: SymbolDemand<'a>,
+    symbol: &Symbol,
+) -> Option<SymbolFault<'a>>
+    ensures { option_map fault_seen result ≡ asked_fault module.now (demand_of demand.entry) (asked_of demand.entry.ask) symbol.now }
+{
+    match demand.ask {
+        Ask::Reference(_) | Ask::Child(_) => private_fault(demand, symbol),
+        Ask::Path(names, _) => path_fault(module, demand, names, symbol),
+    }
+}
+
+/// What is wrong with a demand, if anything is.
+pub fn fault_of<'a>(module: &CheckedTables, demand: SymbolDemand<'a>) -> Option<SymbolFault<'a>>
+    ensures { option_map fault_seen result ≡ fault_in module.now (demand_of demand.entry) (symbol_of demand.entry.symbol module.now.symbols) }
+{
+    match module.symbol(demand.symbol) {
+        None => None,
+        Some(symbol) => asked_fault(module, demand, symbol),
+    }
+}

@@ -1,0 +1,42 @@
+ghost use Rattle.std.specs.Prelude.{◌≡◌, ◌++◌, IfOk, OnOk};
+ghost use Rattle.fast_check_demands.specs.Demands.{demand_of, asked_of};
+ghost use Rattle.fast_check_demands.specs.Rules.{names, asked_names};
+
+use crate::aliases::push_path_demands;
+use crate::children::push_symbol;
+use crate::demand::{Ask, SymbolDemand};
+use crate::list::Demands;
+use fast_check_modules::CheckedTables;
+use fast_check_symbols::Symbol;
+use std::alloc::{AllocError, Global};
+
+fn push_asked<'a>(
+    module: &CheckedTables,
+    demand: SymbolDemand<'a>,
+    symbol: &'a Symbol,
+    out: &mut Demands<'a>,
+) -> Result<(), AllocError>
+    ensures { OnOk result (out.new ≡ out.old ++ asked_names module.now (demand_of demand.entry) (asked_of demand.entry.ask) symbol.now) }
+{
+    match demand.ask {
+        Ask::Reference(namespace) | Ask::Child(namespace) => {
+            push_symbol(module, demand, namespace, symbol, out)
+        }
+        Ask::Path(names, extent) => push_path_demands(module, demand, names, extent, symbol, out),
+    }
+}
+
+/// The demands that follow from a demand within its module, in order.
+pub fn demands_of<'a>(
+    alloc: Global,
+    module: &'a CheckedTables,
+    demand: SymbolDemand<'a>,
+) -> Result<Demands<'a>, AllocError>
+    ensures { IfOk result (λ out. out ≡ names module.now (demand_of demand.entry)) }
+{
+    let mut out = Demands::new(alloc);
+    if let Some(symbol) = module.symbol(demand.symbol) {
+        push_asked(module, demand, symbol, &mut out)?;
+    }
+    Ok(out)
+}

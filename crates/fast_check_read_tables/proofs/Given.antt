@@ -1,0 +1,48 @@
+-- What is read with what is there.
+use Rattle.std.proofs.Common.{◌≡◌, ◌∙◌, true, false, List, [], ◌∷◌, Option, Some, None, option_map, Result, Ok, Err, ap, refl, map}
+use Rattle.std.proofs.Common.{String, BTreeMap, Global}
+use Rattle.std.specs.Option.{ok_or}
+use Rattle.std.specs.Result.{IsErr}
+use Rattle.serde_json.specs.Find.{as_object}
+use Rattle.serde_json.specs.View.{view, members_view}
+use Rattle.serde_json.specs.declared.value.Value.{Value, Object}
+use Rattle.serde_json.proofs.Views.{view-Object}
+use Rattle.fast_check_read.specs.declared.error.ReadError.{ReadError}
+use Rattle.fast_check_read_tables.specs.Reads.{given, Reads}
+
+pub given_some : {A B : Type 0} {a : Option A} {x : A} (f : A → Option B) → a ≡ Some x → given a f ≡ f x
+given_some f e = ap (λ o. given o f) e
+
+pub given_none : {A B : Type 0} {a : Option A} (f : A → Option B) → a ≡ None → given a f ≡ None
+given_none f e = ap (λ o. given o f) e
+
+-- an answer was there
+pub some_of_ok : {A E : Type 0} (a : Option A) (x : A) (error : E) → Ok x ≡ ok_or a error → a ≡ Some x
+some_of_ok None x error e = cc
+some_of_ok (Some y) x error e = cc
+
+-- and none was
+pub none_of_err : {A E : Type 0} (a : Option A) (thrown error : E) → Err thrown ≡ ok_or a error → a ≡ None
+none_of_err None thrown error e = refl
+none_of_err (Some y) thrown error e = cc
+
+-- items that are seen as themselves
+pub map_same : {A : Type 0} (f : A → A) (xs : List A) → ((x : A) → f x ≡ x) → map f xs ≡ xs
+map_same f [] h = refl
+map_same f (x ∷ xs) h = ap (λ y. y ∷ map f xs) (h x) ∙ ap (λ ys. x ∷ ys) (map_same f xs h)
+
+pub option_same : {A : Type 0} (o : Option A) → option_map (λ x. x) o ≡ o
+option_same None = refl
+option_same (Some x) = refl
+
+pub map_some : {A B : Type 0} {a : Option A} {x : A} (f : A → B) → a ≡ Some x → option_map f a ≡ Some (f x)
+map_some f e = ap (option_map f) e
+
+-- where nothing is expected, an error is right
+pub reads_none : {A B : Type 0} (seen : B → A) (expected : Option A) (result : Result B ReadError) → expected ≡ None → IsErr result → Reads seen expected result
+reads_none seen expected (Ok b) none err = absurd (let f : false ≡ true = err in cc)
+reads_none seen expected (Err error) none err = λ _. none
+
+-- an object has members
+pub members_there : (v : Value) (m : BTreeMap (String Global) Value) → v ≡ Object m → as_object (view v) ≡ Some (members_view m.entries)
+members_there v m e = ap (λ w. as_object (view w)) e ∙ ap as_object (view-Object m)

@@ -1,0 +1,6 @@
+pub mod Graph
+pub mod Modules
+pub mod Reads
+pub mod Seen
+pub mod Symbols
+pub mod Tables

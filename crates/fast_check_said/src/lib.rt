@@ -1,0 +1,6 @@
+//! What the drivers of cases tell.
+#![tactic(auto)]
+
+mod said;
+
+pub use said::Said;

@@ -1,0 +1,133 @@
+-- The turns of the search, from its beginning to an account.
+use Rattle.std.proofs.Common.{◌≡◌, ◌∙◌, sym, ap, refl, subst, ℕ, ◌+◌, ◌<◌, ◌≤◌, Bool, true, List, [], ◌∷◌, ◌++◌, length, map, get_or, take, ⊎_elim, arith, length-append, append-nil, append_assoc}
+use Rattle.std.specs.List.{Contains, list_any}
+use Rattle.std.proofs.lemmas.Bool.{or_left, or_right, or_cases}
+use Rattle.std.proofs.lemmas.List.{take_more, take_all, take-append-le}
+use Rattle.std.proofs.lemmas.List.Folds.{list_any-append}
+use Rattle.std.proofs.lemmas.List.Elements.{Contains-get_or, Contains-push_cases, Contains-push, Contains-append_left, Contains-append_right, Contains-append_cases}
+use Rattle.fast_check_modules.specs.Tables.{Tables}
+use Rattle.fast_check_demands.specs.Demands.{Demand}
+use Rattle.fast_check_demands.specs.Rules.{names}
+use Rattle.fast_check_demands.specs.Yields.{ranges, implementations, faults, fault_seen}
+use Rattle.fast_check_demands.specs.Account.{root, step, alike, referred, IsCovered, IsAccount, IsYield}
+use Rattle.fast_check_search.specs.declared.turns.Found.{Found}
+use Rattle.fast_check_search.specs.Worklist.{Grows, CoversEach}
+use Rattle.fast_check_search.specs.Turn.{IsFound, Gains, IsOnTheWay}
+use Rattle.fast_check_search.proofs.Each.{Contains_none, Contains_only}
+
+-- lists that grow
+
+any_more : {X : Type 0} (test : X → Bool) (xs more : List X) → list_any test xs ≡ true → list_any test (xs ++ more) ≡ true
+any_more test xs more h = rw list_any-append (or_left (list_any test xs) (list_any test more) h)
+
+-- what was covered stays covered
+pub covered_more : (account more : List Demand) (d : Demand) → IsCovered account d → IsCovered (account ++ more) d
+covered_more account more d h = ⊎_elim
+    (λ t. or_left (list_any (alike d) (account ++ more)) (list_any (alike (referred d)) (account ++ more)) (any_more (alike d) account more t))
+    (λ t. or_right (list_any (alike d) (account ++ more)) (list_any (alike (referred d)) (account ++ more)) (any_more (alike (referred d)) account more t))
+    (or_cases (list_any (alike d) account) (list_any (alike (referred d)) account) h)
+
+pub grows_none : (asks asked : List Demand) → Grows asks asked asked
+grows_none asks asked = record { more = []; is = sym (append-nil asked); parts = λ x h. absurd (Contains_none x h) }
+
+pub grows_one : (d : Demand) (asked : List Demand) → Grows (d ∷ []) asked (asked ++ d ∷ [])
+grows_one d asked = record { more = d ∷ []; is = refl; parts = λ x h. h }
+
+pub grows_more : (asks a b c : List Demand) → Grows asks a b → Grows asks b c → Grows asks a c
+grows_more asks a b c g h = record {
+  more = g.more ++ h.more;
+  is = h.is ∙ (ap (λ x. x ++ h.more) g.is ∙ append_assoc a g.more h.more);
+  parts = λ x t. ⊎_elim (g.parts x) (h.parts x) (Contains-append_cases g.more h.more x t);
+}
+
+grows_within : (few many a b : List Demand) → ((d : Demand) → Contains few d → Contains many d) → Grows few a b → Grows many a b
+grows_within few many a b f g = record { more = g.more; is = g.is; parts = λ x t. f x (g.parts x t) }
+
+pub grows_covers : (asks a b : List Demand) (d : Demand) → Grows asks a b → IsCovered a d → IsCovered b d
+grows_covers asks a b d g h = subst (λ (x : List Demand). IsCovered x d) (sym g.is) (covered_more a g.more d h)
+
+-- one turn of a loop that asks for each of the demands
+pub asked_more : (asks a b c : List Demand) (i : ℕ) (d : Demand) → i < length asks → get_or asks i d ≡ d → Grows asks a b → CoversEach (take i asks) b → Grows (d ∷ []) b c → IsCovered c d →
+    Grows asks a c × CoversEach (take (i + 1) asks) c
+asked_more asks a b c i d lt e g h more now = (
+  grows_more asks a b c g (grows_within (d ∷ []) asks b c (λ x t. subst (Contains asks) (e ∙ Contains_only d x t) (Contains-get_or asks i d lt)) more),
+  (λ x inside. ⊎_elim
+      (λ before. grows_covers (d ∷ []) b c x more (h x before))
+      (λ here. subst (λ (y : Demand). IsCovered c y) (sym e ∙ here) now)
+      (Contains-push_cases (take i asks) (get_or asks i d) x (subst (λ (y : List Demand). Contains y x) (take_more asks i d lt) inside))),
+)
+
+-- a loop that has asked for all
+pub asked_all : (asks : List Demand) (i : ℕ) (account : List Demand) → length asks ≤ i → CoversEach (take i asks) account → CoversEach asks account
+asked_all asks i account le h = subst (λ (x : List Demand). CoversEach x account) (take_all i asks le) h
+
+-- what is found
+
+yielded_more : {X : Type 0} (gives : Demand → List X) (account : List Demand) (d : Demand) (old new : List X) → IsYield gives account old → new ≡ old ++ gives d → IsYield gives (account ++ d ∷ []) new
+yielded_more {X} gives account d old new y e = record {
+  sound = λ r t. ⊎_elim
+      (λ before. let h = y.sound r before in (h.0, Contains-append_left account (d ∷ []) h.0 h.1, h.2))
+      (λ now. (d, Contains-push account d, now))
+      (Contains-append_cases old (gives d) r (subst (λ (x : List X). Contains x r) e t));
+  complete = λ f r t u. subst (λ (x : List X). Contains x r) (sym e) (⊎_elim
+      (λ before. Contains-append_left old (gives d) r (y.complete f r before u))
+      (λ here. Contains-append_right old (gives d) r (subst (λ (x : Demand). Contains (gives x) r) (sym here) u))
+      (Contains-push_cases account d f t));
+}
+
+nothing_yet : {X : Type 0} (gives : Demand → List X) → IsYield gives [] []
+nothing_yet gives = record { sound = λ r t. absurd (Contains_none r t); complete = λ d r t u. absurd (Contains_none d t) }
+
+-- before the first demand
+pub nothing_found : (t : Tables) (found : Found) → found.ranges.items ≡ [] → found.implementations.items ≡ [] → map fault_seen found.faults.items ≡ [] → IsFound t [] found
+nothing_found t found e f g = record {
+  public = rw e (nothing_yet (ranges t));
+  implementing = rw f (nothing_yet (implementations t));
+  faulty = rw g (nothing_yet (faults t));
+}
+
+found_more : (t : Tables) (account : List Demand) (d : Demand) (old new : Found) → IsFound t account old → Gains t d old new → IsFound t (account ++ d ∷ []) new
+found_more t account d old new f g = record {
+  public = yielded_more (ranges t) account d _ _ f.public g.public;
+  implementing = yielded_more (implementations t) account d _ _ f.implementing g.implementing;
+  faulty = yielded_more (faults t) account d _ _ f.faulty g.faulty;
+}
+
+module _ (t : Tables) (roots : List Demand) where
+  -- after the first demands were asked for
+  pub begun : (asked : List Demand) (found : Found) → Grows roots [] asked → CoversEach roots asked → IsFound t [] found → IsOnTheWay t roots asked 0 found
+  begun asked found g h f = record {
+    reached = omega arith;
+    chained = λ d u. root (g.parts d (subst (λ (x : List Demand). Contains x d) g.is u));
+    has_roots = h;
+    closed = λ d e u v. absurd (Contains_none d u);
+    found = f;
+  }
+
+  module _ (asked after : List Demand) (next : ℕ) (d : Demand) (old new : Found) (w : IsOnTheWay t roots asked next old) (lt : next < length asked) (here : get_or asked next d ≡ d) where
+    -- after the demand d, at next, was followed
+    pub turned : Grows (names t d) asked after → CoversEach (names t d) after → Gains t d old new → IsOnTheWay t roots after (next + 1) new
+    turned g h j =
+        let front : take (next + 1) after ≡ take next asked ++ d ∷ [] =
+        ap (λ x. take (next + 1) x) g.is ∙ (take-append-le (next + 1) asked g.more (omega (arith, lt)) ∙
+        (take_more asked next d lt ∙ ap (λ x. take next asked ++ x ∷ []) here)) in
+        record {
+          reached = omega (arith, lt, ap length g.is, length-append asked g.more);
+          chained = λ e u. ⊎_elim (w.chained e)
+              (λ v. step (w.chained d (next, lt, here)) (g.parts e v))
+              (Contains-append_cases asked g.more e (subst (λ (x : List Demand). Contains x e) g.is u));
+          has_roots = λ e r. grows_covers (names t d) asked after e g (w.has_roots e r);
+          closed = λ e f u v. ⊎_elim
+              (λ before. grows_covers (names t d) asked after f g (w.closed e f before v))
+              (λ same. h f (subst (λ (x : Demand). Contains (names t x) f) (sym same) v))
+              (Contains-push_cases (take next asked) d e (subst (λ (x : List Demand). Contains x e) front u));
+          found = subst (λ (x : List Demand). IsFound t x new) (sym front) (found_more t (take next asked) d old new w.found j);
+        }
+
+  -- at the end
+  pub ended : (asked : List Demand) (next : ℕ) (found : Found) → length asked ≤ next → IsOnTheWay t roots asked next found → IsAccount t roots asked × IsFound t asked found
+  ended asked next found le w =
+      let all : take next asked ≡ asked = take_all next asked le in (
+        record { chained = w.chained; has_roots = w.has_roots; closed = λ d e u v. w.closed d e (subst (λ (x : List Demand). Contains x d) (sym all) u) v },
+        subst (λ (x : List Demand). IsFound t x found) all w.found,
+      )

@@ -1,0 +1,6 @@
+pub mod Same
+pub mod Each
+pub mod Inside
+pub mod Closure
+pub mod Compared
+pub mod Kept

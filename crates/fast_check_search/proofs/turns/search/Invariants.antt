@@ -1,0 +1,15 @@
+use Rattle.std.proofs.Common.{◌-◌, map}
+use Rattle.fast_check_demands.specs.Demands.{demand_of}
+use Rattle.fast_check_search.specs.Universe.{limit}
+use Rattle.fast_check_search.specs.Worklist.{asked, IsKept}
+use Rattle.fast_check_search.specs.Turn.{IsOnTheWay}
+use Rattle.fast_check_search.proofs.turns.search.Given as goal
+
+abbrev pub invariant-loop-next : goal.invariant-loop-next
+invariant-loop-next l = record {
+  way : IsOnTheWay l.module (map demand_of l.roots) (asked l.work) l.next l.found;
+  kept : IsKept l.work;
+}
+
+abbrev pub decreases-loop-next : goal.decreases-loop-next
+decreases-loop-next l = limit l.module (map demand_of l.roots) - l.next

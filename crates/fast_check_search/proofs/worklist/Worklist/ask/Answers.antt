@@ -1,0 +1,20 @@
+use Rattle.std.proofs.Common.{◌≡◌, ◌∙◌, sym, false}
+use Rattle.std.specs.List.{list_any}
+use Rattle.fast_check_demands.specs.Demands.{demand_of}
+use Rattle.fast_check_demands.specs.Account.{alike}
+use Rattle.fast_check_search.specs.declared.worklist.Worklist.{Worklist}
+use Rattle.fast_check_search.specs.Worklist.{asked}
+use Rattle.fast_check_search.proofs.Kept.{kept_one, covered_one}
+use Rattle.fast_check_search.proofs.worklist.Worklist.ask.Goals as goal
+
+abbrev after : goal.In_ok-insert → Worklist
+after c = record { demands = c.push.new.self; done = c.insert.new.self }
+
+fresh : (c : goal.In_ok-insert) → list_any (alike (demand_of c.args.demand)) (asked c.args.self.now) ≡ false
+fresh c = sym c.has.ensures ∙ c.if-has.false
+
+pub returns-clause-kept : goal.returns-clause-kept
+returns-clause-kept c = kept_one c.args.self.now (after c) c.args.demand c.essence.result c.requires c.in_ok-push.ensures.items c.essence.ensures c.in_ok-insert.ensures.updates (fresh c)
+
+pub returns-clause-covered : goal.returns-clause-covered
+returns-clause-covered c = covered_one c.args.self.now (after c) c.args.demand c.in_ok-push.ensures.items

@@ -1,0 +1,3 @@
+pub mod Worklist
+pub mod Turn
+pub mod Universe

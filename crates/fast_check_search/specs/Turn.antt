@@ -1,0 +1,29 @@
+-- What holds between two turns of the search.
+use Rattle.std.specs.Prelude.{◌≡◌, ℕ, ◌≤◌, List, ◌++◌, length, take, map}
+use Rattle.std.specs.List.{Contains}
+use Rattle.fast_check_modules.specs.Tables.{Tables}
+use Rattle.fast_check_demands.specs.Demands.{Demand}
+use Rattle.fast_check_demands.specs.Rules.{names}
+use Rattle.fast_check_demands.specs.Account.{Chained, IsCovered, IsYield}
+use Rattle.fast_check_demands.specs.Yields.{ranges, implementations, faults, fault_seen}
+use Rattle.fast_check_search.specs.declared.turns.Found.{Found}
+
+-- what was found is exactly what these demands make public and what is wrong with them
+pub record IsFound (t : Tables) (account : List Demand) (found : Found) : Type 0 where
+  pub public : IsYield (ranges t) account found.ranges.items
+  pub implementing : IsYield (implementations t) account found.implementations.items
+  pub faulty : IsYield (faults t) account (map fault_seen found.faults.items)
+
+-- what one more demand adds
+pub record Gains (t : Tables) (d : Demand) (old new : Found) : Type 0 where
+  pub public : new.ranges.items ≡ old.ranges.items ++ ranges t d
+  pub implementing : new.implementations.items ≡ old.implementations.items ++ implementations t d
+  pub faulty : map fault_seen new.faults.items ≡ map fault_seen old.faults.items ++ faults t d
+
+-- all demands are chained, the first ones are covered, and what follows from those before the next is covered and found
+pub record IsOnTheWay (t : Tables) (roots asked : List Demand) (next : ℕ) (so_far : Found) : Type 0 where
+  pub reached : next ≤ length asked
+  pub chained : (d : Demand) → Contains asked d → Chained t roots d
+  pub has_roots : (d : Demand) → Contains roots d → IsCovered asked d
+  pub closed : (d e : Demand) → Contains (take next asked) d → Contains (names t d) e → IsCovered asked e
+  pub found : IsFound t (take next asked) so_far

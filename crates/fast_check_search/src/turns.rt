@@ -1,0 +1,98 @@
+ghost use Rattle.std.specs.Prelude.{◌≡◌, List, [], map, IfOk, OnOk, ◌++◌, option_map, option_to_list};
+ghost use Rattle.fast_check_demands.specs.Demands.{Demand, demand_of};
+ghost use Rattle.fast_check_demands.specs.Account.{IsAccount, IsYield};
+ghost use Rattle.fast_check_demands.specs.Yields.{fault_seen};
+ghost use Rattle.fast_check_demands.specs.Rules.{names};
+ghost use Rattle.fast_check_search.specs.Turn.{IsFound, Gains};
+ghost use Rattle.fast_check_search.specs.Worklist.{asked, IsKept, Grows, CoversEach};
+
+use crate::worklist::Worklist;
+use fast_check_demands::{
+    CheckedTables, SourceRange, SymbolDemand, SymbolFault, demands_of, fault_of,
+    push_implementations, push_ranges,
+};
+use std::alloc::{AllocError, Global};
+
+/// What the demands of a module make public, and what is wrong with them. A range may stand here more than once, and so may a fault.
+#[derive(Drop)]
+pub struct Found<'a> {
+    pub ranges: Vec<SourceRange>,
+    /// Those of the implementations of overloads.
+    pub implementations: Vec<SourceRange>,
+    pub faults: Vec<SymbolFault<'a>>,
+}
+
+fn push_fault<'a>(
+    fault: Option<SymbolFault<'a>>,
+    out: &mut Vec<SymbolFault<'a>>,
+) -> Result<(), AllocError>
+    ensures { OnOk result (map fault_seen out.new.items ≡ map fault_seen out.old.items ++ option_to_list (option_map fault_seen fault.entry)) }
+{
+    match fault {
+        None => Ok(()),
+        Some(fault) => {
+            out.push(fault)?;
+            Ok(())
+        }
+    }
+}
+
+impl<'a> Found<'a> {
+    fn new(alloc: Global) -> Found<'a>
+        ensures ranges { result.ranges.items ≡ [] }
+        ensures implementations { result.implementations.items ≡ [] }
+        ensures faults { result.faults.items ≡ [] }
+    {
+        Found {
+            ranges: Vec::new(alloc),
+            implementations: Vec::new(alloc),
+            faults: Vec::new(alloc),
+        }
+    }
+
+    /// Adds what one demand makes public, and what is wrong with it.
+    fn add(&mut self, module: &CheckedTables, demand: SymbolDemand<'a>) -> Result<(), AllocError>
+        ensures { OnOk result (Gains module.now (demand_of demand.entry) self.old self.new) }
+    {
+        push_ranges(module, demand, &mut self.ranges)?;
+        push_implementations(module, demand, &mut self.implementations)?;
+        push_fault(fault_of(module, demand), &mut self.faults)
+    }
+}
+
+/// Asks for what follows from a demand.
+fn ask_named<'a>(
+    alloc: Global,
+    module: &'a CheckedTables,
+    demand: SymbolDemand<'a>,
+    work: &mut Worklist<'a>,
+) -> Result<(), AllocError>
+    requires { IsKept work.old }
+    ensures kept { OnOk result (IsKept work.new) }
+    ensures grown { OnOk result (Grows (names module.now (demand_of demand.entry)) (asked work.old) (asked work.new)) }
+    ensures covered { OnOk result (CoversEach (names module.now (demand_of demand.entry)) (asked work.new)) }
+{
+    let named = demands_of(alloc, module, demand)?;
+    work.ask_all(named.as_slice())
+}
+
+/// All that follows from these demands within a module: what it makes public, and what is wrong with it.
+pub fn search<'a>(
+    alloc: Global,
+    module: &'a CheckedTables,
+    roots: &[SymbolDemand<'a>],
+) -> Result<Found<'a>, AllocError>
+    ensures { IfOk result (λ found. (account : List Demand) × IsAccount module.now (map demand_of roots.now) account × IsFound module.now account found) }
+{
+    let mut work = Worklist::new(alloc);
+    work.ask_all(roots)?;
+    let mut found = Found::new(alloc);
+    let mut next = 0;
+    while next < work.len() {
+        let demand = work.at(next);
+        found.add(module, demand)?;
+        ask_named(alloc, module, demand, &mut work)?;
+        next += 1;
+    }
+    Ok(found)
+}
