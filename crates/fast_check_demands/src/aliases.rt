@@ -69,21 +69,21 @@ fn push_path_and_parts<'a>(
 }
 
 fn push_alias<'a>(
-    module: &CheckedTables,
+    tables: &CheckedTables,
     demand: SymbolDemand<'_>,
     names: &'a [String],
     extent: Extent,
     kind: &'a SymbolDeclKind,
     out: &mut Demands<'a>,
 ) -> Result<(), AllocError>
-    ensures { OnOk result (out.new ≡ out.old ++ alias_names module.now (demand_of demand.entry) (path_of names.now) extent kind.now) }
+    ensures { OnOk result (out.new ≡ out.old ++ alias_names tables.now (demand_of demand.entry) (path_of names.now) extent kind.now) }
 {
     match kind {
-        SymbolDeclKind::Target(id) => push_path_at(demand, bound(module, id), names, extent, out),
+        SymbolDeclKind::Target(id) => push_path_at(demand, bound(tables, id), names, extent, out),
         SymbolDeclKind::QualifiedTarget(id, parts) => {
             push_path_and_parts(
                 demand,
-                bound(module, id),
+                bound(tables, id),
                 names,
                 extent,
                 parts.as_slice(),
@@ -95,17 +95,17 @@ fn push_alias<'a>(
 }
 
 fn push_aliases<'a>(
-    module: &CheckedTables,
+    tables: &CheckedTables,
     demand: SymbolDemand<'_>,
     names: &'a [String],
     extent: Extent,
     decls: &'a [SymbolDecl],
     out: &mut Demands<'a>,
 ) -> Result<(), AllocError>
-    ensures { OnOk result (out.new ≡ out.old ++ flat_map (λ x. alias_names module.now (demand_of demand.entry) (path_of names.now) extent x.kind) decls.now) }
+    ensures { OnOk result (out.new ≡ out.old ++ flat_map (λ x. alias_names tables.now (demand_of demand.entry) (path_of names.now) extent x.kind) decls.now) }
 {
     for decl in decls {
-        push_alias(module, demand, names, extent, &decl.kind, out)?;
+        push_alias(tables, demand, names, extent, &decl.kind, out)?;
     }
     Ok(())
 }
@@ -140,18 +140,18 @@ fn push_whole_member(
 }
 
 fn push_prototype(
-    module: &CheckedTables,
+    tables: &CheckedTables,
     demand: SymbolDemand<'_>,
     below: &[String],
     extent: Extent,
     symbol: &Symbol,
     out: &mut Demands<'_>,
 ) -> Result<(), AllocError>
-    ensures { OnOk result (out.new ≡ out.old ++ prototype_names module.now (demand_of demand.entry) (path_of below.now) extent symbol.now) }
+    ensures { OnOk result (out.new ≡ out.old ++ prototype_names tables.now (demand_of demand.entry) (path_of below.now) extent symbol.now) }
 {
     match below.split_first() {
         Some((name, deeper)) => {
-            let member = member_named(module, name.as_str(), symbol.members.as_slice());
+            let member = member_named(tables, name.as_str(), symbol.members.as_slice());
             push_member(demand, deeper, extent, member, out)
         }
         None => push_class(demand, extent, out),
@@ -210,25 +210,25 @@ fn push_export_part<'a>(
 }
 
 fn push_first<'a>(
-    module: &CheckedTables,
+    tables: &CheckedTables,
     demand: SymbolDemand<'_>,
     names: &'a [String],
     extent: Extent,
     symbol: &Symbol,
     out: &mut Demands<'a>,
 ) -> Result<(), AllocError>
-    ensures { OnOk result (out.new ≡ out.old ++ first_names module.now (demand_of demand.entry) (path_of names.now) extent symbol.now) }
+    ensures { OnOk result (out.new ≡ out.old ++ first_names tables.now (demand_of demand.entry) (path_of names.now) extent symbol.now) }
 {
     match names.split_first() {
         None => Ok(()),
         Some((name, below)) => {
-            push_below(module, demand, name.as_str(), below, extent, symbol, out)
+            push_below(tables, demand, name.as_str(), below, extent, symbol, out)
         }
     }
 }
 
 fn push_below<'a>(
-    module: &CheckedTables,
+    tables: &CheckedTables,
     demand: SymbolDemand<'_>,
     name: &str,
     below: &'a [String],
@@ -236,10 +236,10 @@ fn push_below<'a>(
     symbol: &Symbol,
     out: &mut Demands<'a>,
 ) -> Result<(), AllocError>
-    ensures { OnOk result (out.new ≡ out.old ++ first_names module.now (demand_of demand.entry) (name.now ∷ path_of below.now) extent symbol.now) }
+    ensures { OnOk result (out.new ≡ out.old ++ first_names tables.now (demand_of demand.entry) (name.now ∷ path_of below.now) extent symbol.now) }
 {
     if is_prototype(name, symbol.decls.as_slice()) {
-        return push_prototype(module, demand, below, extent, symbol, out);
+        return push_prototype(tables, demand, below, extent, symbol, out);
     }
     let closed = is_closed(symbol.decls.as_slice());
     push_export(demand, below, extent, closed, symbol.exports.get(name), out)
@@ -247,18 +247,18 @@ fn push_below<'a>(
 
 /// What a path below a symbol demands.
 pub fn push_path_demands<'a>(
-    module: &CheckedTables,
+    tables: &CheckedTables,
     demand: SymbolDemand<'_>,
     names: &'a [String],
     extent: Extent,
     symbol: &'a Symbol,
     out: &mut Demands<'a>,
 ) -> Result<(), AllocError>
-    ensures { OnOk result (out.new ≡ out.old ++ path_names module.now (demand_of demand.entry) (path_of names.now) extent symbol.now) }
+    ensures { OnOk result (out.new ≡ out.old ++ path_names tables.now (demand_of demand.entry) (path_of names.now) extent symbol.now) }
 {
     if has_alias(symbol.decls.as_slice()) {
-        push_aliases(module, demand, names, extent, symbol.decls.as_slice(), out)
+        push_aliases(tables, demand, names, extent, symbol.decls.as_slice(), out)
     } else {
-        push_first(module, demand, names, extent, symbol, out)
+        push_first(tables, demand, names, extent, symbol, out)
     }
 }

@@ -10,10 +10,10 @@ use fast_check_syntax::Id;
 use std::alloc::AllocError;
 
 /// The symbol that an identifier is bound to.
-pub fn bound(module: &CheckedTables, id: &Id) -> Option<SymbolId>
-    ensures { result ≡ bound module.now id.now }
+pub fn bound(tables: &CheckedTables, id: &Id) -> Option<SymbolId>
+    ensures { result ≡ bound tables.now id.now }
 {
-    let symbol = module.symbol_from_swc(id)?;
+    let symbol = tables.symbol_from_swc(id)?;
     Some(symbol.id)
 }
 

@@ -14,34 +14,34 @@ use fast_check_symbols::{Symbol, SymbolDecl, SymbolExports, SymbolId};
 use std::alloc::AllocError;
 
 fn push_decl<'a>(
-    module: &CheckedTables,
+    tables: &CheckedTables,
     demand: SymbolDemand<'_>,
     namespace: Namespace,
     parent: Option<SymbolId>,
     decl: &'a SymbolDecl,
     out: &mut Demands<'a>,
 ) -> Result<(), AllocError>
-    ensures { OnOk result (out.new ≡ out.old ++ decl_names module.now (demand_of demand.entry) namespace parent decl.now) }
+    ensures { OnOk result (out.new ≡ out.old ++ decl_names tables.now (demand_of demand.entry) namespace parent decl.now) }
 {
     if binds(decl, namespace) && !is_implementation(decl) {
-        push_kind(module, demand, namespace, parent, &decl.kind, out)
+        push_kind(tables, demand, namespace, parent, &decl.kind, out)
     } else {
         Ok(())
     }
 }
 
 fn push_decls<'a>(
-    module: &CheckedTables,
+    tables: &CheckedTables,
     demand: SymbolDemand<'_>,
     namespace: Namespace,
     parent: Option<SymbolId>,
     decls: &'a [SymbolDecl],
     out: &mut Demands<'a>,
 ) -> Result<(), AllocError>
-    ensures { OnOk result (out.new ≡ out.old ++ flat_map (decl_names module.now (demand_of demand.entry) namespace parent) decls.now) }
+    ensures { OnOk result (out.new ≡ out.old ++ flat_map (decl_names tables.now (demand_of demand.entry) namespace parent) decls.now) }
 {
     for decl in decls {
-        push_decl(module, demand, namespace, parent, decl, out)?;
+        push_decl(tables, demand, namespace, parent, decl, out)?;
     }
     Ok(())
 }
@@ -87,19 +87,19 @@ fn push_members(
 
 /// What a symbol demands where it is demanded in a namespace.
 pub fn push_symbol<'a>(
-    module: &CheckedTables,
+    tables: &CheckedTables,
     demand: SymbolDemand<'_>,
     namespace: Namespace,
     symbol: &'a Symbol,
     out: &mut Demands<'a>,
 ) -> Result<(), AllocError>
-    ensures { OnOk result (out.new ≡ out.old ++ symbol_names module.now (demand_of demand.entry) namespace symbol.now) }
+    ensures { OnOk result (out.new ≡ out.old ++ symbol_names tables.now (demand_of demand.entry) namespace symbol.now) }
 {
     if symbol.is_private_member {
         return Ok(());
     }
     push_decls(
-        module,
+        tables,
         demand,
         namespace,
         symbol.parent_id,

@@ -40,32 +40,32 @@ fn push_references_at(
 }
 
 fn push_dep<'a>(
-    module: &CheckedTables,
+    tables: &CheckedTables,
     referrer: SymbolId,
     dep: &'a SymbolNodeDep,
     out: &mut Demands<'a>,
 ) -> Result<(), AllocError>
-    ensures { OnOk result (out.new ≡ out.old ++ dep_names module.now referrer dep.now.namespace dep.now.dep) }
+    ensures { OnOk result (out.new ≡ out.old ++ dep_names tables.now referrer dep.now.namespace dep.now.dep) }
 {
     match &dep.dep {
-        SymbolDep::Id(id) => push_references_at(bound(module, id), dep.namespace, referrer, out),
+        SymbolDep::Id(id) => push_references_at(bound(tables, id), dep.namespace, referrer, out),
         SymbolDep::QualifiedId(id, parts) => {
-            push_named_at(bound(module, id), parts.as_slice(), referrer, out)
+            push_named_at(bound(tables, id), parts.as_slice(), referrer, out)
         }
         SymbolDep::ImportType(_, _) => Ok(()),
     }
 }
 
 fn push_deps<'a>(
-    module: &CheckedTables,
+    tables: &CheckedTables,
     referrer: SymbolId,
     deps: &'a [SymbolNodeDep],
     out: &mut Demands<'a>,
 ) -> Result<(), AllocError>
-    ensures { OnOk result (out.new ≡ out.old ++ deps_names module.now referrer deps.now) }
+    ensures { OnOk result (out.new ≡ out.old ++ deps_names tables.now referrer deps.now) }
 {
     for dep in deps {
-        push_dep(module, referrer, dep, out)?;
+        push_dep(tables, referrer, dep, out)?;
     }
     Ok(())
 }
@@ -111,37 +111,37 @@ fn push_parent(
 }
 
 fn push_node<'a>(
-    module: &CheckedTables,
+    tables: &CheckedTables,
     demand: SymbolDemand<'_>,
     parent: Option<SymbolId>,
     node: &'a SymbolNode,
     out: &mut Demands<'a>,
 ) -> Result<(), AllocError>
-    ensures { OnOk result (out.new ≡ out.old ++ (parent_names (demand_of demand.entry) node.now.is_member parent ++ deps_names module.now demand.entry.symbol node.now.deps.items)) }
+    ensures { OnOk result (out.new ≡ out.old ++ (parent_names (demand_of demand.entry) node.now.is_member parent ++ deps_names tables.now demand.entry.symbol node.now.deps.items)) }
 {
     push_parent(demand, node.is_member, parent, out)?;
-    push_deps(module, demand.symbol, node.deps.as_slice(), out)
+    push_deps(tables, demand.symbol, node.deps.as_slice(), out)
 }
 
 /// What a declaration of a symbol demands, where the symbol is demanded in a namespace.
 pub fn push_kind<'a>(
-    module: &CheckedTables,
+    tables: &CheckedTables,
     demand: SymbolDemand<'_>,
     namespace: Namespace,
     parent: Option<SymbolId>,
     kind: &'a SymbolDeclKind,
     out: &mut Demands<'a>,
 ) -> Result<(), AllocError>
-    ensures { OnOk result (out.new ≡ out.old ++ kind_names module.now (demand_of demand.entry) namespace parent kind.now) }
+    ensures { OnOk result (out.new ≡ out.old ++ kind_names tables.now (demand_of demand.entry) namespace parent kind.now) }
 {
     match kind {
         SymbolDeclKind::Target(id) => {
-            push_reference_at(bound(module, id), namespace, demand.symbol, out)
+            push_reference_at(bound(tables, id), namespace, demand.symbol, out)
         }
         SymbolDeclKind::QualifiedTarget(id, parts) => {
-            push_named_at(bound(module, id), parts.as_slice(), demand.symbol, out)
+            push_named_at(bound(tables, id), parts.as_slice(), demand.symbol, out)
         }
         SymbolDeclKind::FileRef { .. } | SymbolDeclKind::Definition(None) => Ok(()),
-        SymbolDeclKind::Definition(Some(node)) => push_node(module, demand, parent, node, out),
+        SymbolDeclKind::Definition(Some(node)) => push_node(tables, demand, parent, node, out),
     }
 }

@@ -79,18 +79,18 @@ fn member_fault<'a>(
 }
 
 fn prototype_fault<'a>(
-    module: &CheckedTables,
+    tables: &CheckedTables,
     demand: SymbolDemand<'_>,
     names: &'a [String],
     below: &[String],
     symbol: &Symbol,
 ) -> Option<SymbolFault<'a>>
-    ensures { option_map fault_seen result ≡ prototype_fault module.now (demand_of demand.entry) (path_of names.now) (path_of below.now) symbol.now }
+    ensures { option_map fault_seen result ≡ prototype_fault tables.now (demand_of demand.entry) (path_of names.now) (path_of below.now) symbol.now }
 {
     match below.split_first() {
         None => None,
         Some((name, _)) => {
-            let member = member_named(module, name.as_str(), symbol.members.as_slice());
+            let member = member_named(tables, name.as_str(), symbol.members.as_slice());
             member_fault(demand, names, member)
         }
     }
@@ -116,19 +116,19 @@ fn export_fault<'a>(
 }
 
 fn first_fault<'a>(
-    module: &CheckedTables,
+    tables: &CheckedTables,
     demand: SymbolDemand<'_>,
     names: &'a [String],
     rest: &[String],
     symbol: &Symbol,
 ) -> Option<SymbolFault<'a>>
-    ensures { option_map fault_seen result ≡ first_fault module.now (demand_of demand.entry) (path_of names.now) (path_of rest.now) symbol.now }
+    ensures { option_map fault_seen result ≡ first_fault tables.now (demand_of demand.entry) (path_of names.now) (path_of rest.now) symbol.now }
 {
     match rest.split_first() {
         None => None,
         Some((first, below)) => {
             if is_prototype(first.as_str(), symbol.decls.as_slice()) {
-                return prototype_fault(module, demand, names, below, symbol);
+                return prototype_fault(tables, demand, names, below, symbol);
             }
             let closed = is_closed(symbol.decls.as_slice());
             export_fault(demand, names, closed, symbol.exports.get(first.as_str()))
@@ -137,38 +137,38 @@ fn first_fault<'a>(
 }
 
 fn path_fault<'a>(
-    module: &CheckedTables,
+    tables: &CheckedTables,
     demand: SymbolDemand<'_>,
     names: &'a [String],
     symbol: &Symbol,
 ) -> Option<SymbolFault<'a>>
-    ensures { option_map fault_seen result ≡ path_fault module.now (demand_of demand.entry) (path_of names.now) symbol.now }
+    ensures { option_map fault_seen result ≡ path_fault tables.now (demand_of demand.entry) (path_of names.now) symbol.now }
 {
     if has_alias(symbol.decls.as_slice()) {
         return None;
     }
-    first_fault(module, demand, names, names, symbol)
+    first_fault(tables, demand, names, names, symbol)
 }
 
 fn asked_fault<'a>(
-    module: &CheckedTables,
+    tables: &CheckedTables,
     demand: SymbolDemand<'a>,
     symbol: &Symbol,
 ) -> Option<SymbolFault<'a>>
-    ensures { option_map fault_seen result ≡ asked_fault module.now (demand_of demand.entry) (asked_of demand.entry.ask) symbol.now }
+    ensures { option_map fault_seen result ≡ asked_fault tables.now (demand_of demand.entry) (asked_of demand.entry.ask) symbol.now }
 {
     match demand.ask {
         Ask::Reference(_) | Ask::Child(_) => private_fault(demand, symbol),
-        Ask::Path(names, _) => path_fault(module, demand, names, symbol),
+        Ask::Path(names, _) => path_fault(tables, demand, names, symbol),
     }
 }
 
 /// What is wrong with a demand, if anything is.
-pub fn fault_of<'a>(module: &CheckedTables, demand: SymbolDemand<'a>) -> Option<SymbolFault<'a>>
-    ensures { option_map fault_seen result ≡ fault_in module.now (demand_of demand.entry) (symbol_of demand.entry.symbol module.now.symbols) }
+pub fn fault_of<'a>(tables: &CheckedTables, demand: SymbolDemand<'a>) -> Option<SymbolFault<'a>>
+    ensures { option_map fault_seen result ≡ fault_in tables.now (demand_of demand.entry) (symbol_of demand.entry.symbol tables.now.symbols) }
 {
-    match module.symbol(demand.symbol) {
+    match tables.symbol(demand.symbol) {
         None => None,
-        Some(symbol) => asked_fault(module, demand, symbol),
+        Some(symbol) => asked_fault(tables, demand, symbol),
     }
 }

@@ -11,32 +11,32 @@ use fast_check_symbols::Symbol;
 use std::alloc::{AllocError, Global};
 
 fn push_asked<'a>(
-    module: &CheckedTables,
+    tables: &CheckedTables,
     demand: SymbolDemand<'a>,
     symbol: &'a Symbol,
     out: &mut Demands<'a>,
 ) -> Result<(), AllocError>
-    ensures { OnOk result (out.new ≡ out.old ++ asked_names module.now (demand_of demand.entry) (asked_of demand.entry.ask) symbol.now) }
+    ensures { OnOk result (out.new ≡ out.old ++ asked_names tables.now (demand_of demand.entry) (asked_of demand.entry.ask) symbol.now) }
 {
     match demand.ask {
         Ask::Reference(namespace) | Ask::Child(namespace) => {
-            push_symbol(module, demand, namespace, symbol, out)
+            push_symbol(tables, demand, namespace, symbol, out)
         }
-        Ask::Path(names, extent) => push_path_demands(module, demand, names, extent, symbol, out),
+        Ask::Path(names, extent) => push_path_demands(tables, demand, names, extent, symbol, out),
     }
 }
 
 /// The demands that follow from a demand within its module, in order.
 pub fn demands_of<'a>(
     alloc: Global,
-    module: &'a CheckedTables,
+    tables: &'a CheckedTables,
     demand: SymbolDemand<'a>,
 ) -> Result<Demands<'a>, AllocError>
-    ensures { IfOk result (λ out. out ≡ names module.now (demand_of demand.entry)) }
+    ensures { IfOk result (λ out. out ≡ names tables.now (demand_of demand.entry)) }
 {
     let mut out = Demands::new(alloc);
-    if let Some(symbol) = module.symbol(demand.symbol) {
-        push_asked(module, demand, symbol, &mut out)?;
+    if let Some(symbol) = tables.symbol(demand.symbol) {
+        push_asked(tables, demand, symbol, &mut out)?;
     }
     Ok(out)
 }

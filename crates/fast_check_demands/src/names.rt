@@ -26,29 +26,29 @@ fn symbol_is_named(name: &str, symbol: Option<&Symbol>) -> bool
     }
 }
 
-fn is_member_named(module: &CheckedTables, name: &str, member: SymbolId) -> bool
-    ensures { result ≡ symbol_is_named name.now (symbol_of member module.now.symbols) }
+fn is_member_named(tables: &CheckedTables, name: &str, member: SymbolId) -> bool
+    ensures { result ≡ symbol_is_named name.now (symbol_of member tables.now.symbols) }
 {
-    symbol_is_named(name, module.symbol(member))
+    symbol_is_named(name, tables.symbol(member))
 }
 
 fn find_member<'a>(
-    module: &CheckedTables,
+    tables: &CheckedTables,
     name: &str,
     members: &'a [SymbolId],
 ) -> Option<&'a SymbolId>
-    ensures { option_copied result ≡ member_named module.now name.now members.now }
+    ensures { option_copied result ≡ member_named tables.now name.now members.now }
 {
     members
         .iter()
-        .find(|member| is_member_named(module, name, **member))
+        .find(|member| is_member_named(tables, name, **member))
 }
 
 /// The first of the members that has a name.
-pub fn member_named(module: &CheckedTables, name: &str, members: &[SymbolId]) -> Option<SymbolId>
-    ensures { result ≡ member_named module.now name.now members.now }
+pub fn member_named(tables: &CheckedTables, name: &str, members: &[SymbolId]) -> Option<SymbolId>
+    ensures { result ≡ member_named tables.now name.now members.now }
 {
-    find_member(module, name, members).copied()
+    find_member(tables, name, members).copied()
 }
 
 /// Whether a name is `prototype`, of a class.

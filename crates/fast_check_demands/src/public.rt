@@ -59,80 +59,80 @@ fn push_outside_at(
 }
 
 fn push_expando(
-    module: &CheckedTables,
+    tables: &CheckedTables,
     range: SourceRange,
     export: Option<(&str, SymbolId)>,
     out: &mut Vec<SourceRange>,
 ) -> Result<(), AllocError>
-    ensures { OnOk result (out.new.items ≡ out.old.items ++ each_of (λ e. each_of (outside range) (symbol_of e.1 module.now.symbols)) (option_map seen_export export.entry)) }
+    ensures { OnOk result (out.new.items ≡ out.old.items ++ each_of (λ e. each_of (outside range) (symbol_of e.1 tables.now.symbols)) (option_map seen_export export.entry)) }
 {
     match export {
         None => Ok(()),
-        Some((_, export)) => push_outside_at(range, module.symbol(export), out),
+        Some((_, export)) => push_outside_at(range, tables.symbol(export), out),
     }
 }
 
 fn push_expandos(
-    module: &CheckedTables,
+    tables: &CheckedTables,
     range: SourceRange,
     exports: &SymbolExports,
     out: &mut Vec<SourceRange>,
 ) -> Result<(), AllocError>
-    ensures { OnOk result (out.new.items ≡ out.old.items ++ expando_ranges module.now range exports.now) }
+    ensures { OnOk result (out.new.items ≡ out.old.items ++ expando_ranges tables.now range exports.now) }
 {
     for place in 0..exports.len() {
-        push_expando(module, range, exports.at(place), out)?;
+        push_expando(tables, range, exports.at(place), out)?;
     }
     Ok(())
 }
 
 fn push_decl(
-    module: &CheckedTables,
+    tables: &CheckedTables,
     namespace: Namespace,
     exports: &SymbolExports,
     decl: &SymbolDecl,
     out: &mut Vec<SourceRange>,
 ) -> Result<(), AllocError>
-    ensures { OnOk result (out.new.items ≡ out.old.items ++ decl_yields module.now namespace exports.now decl.now) }
+    ensures { OnOk result (out.new.items ≡ out.old.items ++ decl_yields tables.now namespace exports.now decl.now) }
 {
     if !binds(decl, namespace) {
         return Ok(());
     }
     out.push(decl.range)?;
     if is_function(decl) && !is_implementation(decl) {
-        return push_expandos(module, decl.range, exports, out);
+        return push_expandos(tables, decl.range, exports, out);
     }
     Ok(())
 }
 
 fn push_decls(
-    module: &CheckedTables,
+    tables: &CheckedTables,
     namespace: Namespace,
     exports: &SymbolExports,
     decls: &[SymbolDecl],
     out: &mut Vec<SourceRange>,
 ) -> Result<(), AllocError>
-    ensures { OnOk result (out.new.items ≡ out.old.items ++ flat_map (decl_yields module.now namespace exports.now) decls.now) }
+    ensures { OnOk result (out.new.items ≡ out.old.items ++ flat_map (decl_yields tables.now namespace exports.now) decls.now) }
 {
     for decl in decls {
-        push_decl(module, namespace, exports, decl, out)?;
+        push_decl(tables, namespace, exports, decl, out)?;
     }
     Ok(())
 }
 
 fn push_symbol(
-    module: &CheckedTables,
+    tables: &CheckedTables,
     namespace: Namespace,
     symbol: &Symbol,
     out: &mut Vec<SourceRange>,
 ) -> Result<(), AllocError>
-    ensures { OnOk result (out.new.items ≡ out.old.items ++ symbol_ranges module.now namespace symbol.now) }
+    ensures { OnOk result (out.new.items ≡ out.old.items ++ symbol_ranges tables.now namespace symbol.now) }
 {
     if symbol.is_private_member {
         return Ok(());
     }
     push_decls(
-        module,
+        tables,
         namespace,
         &symbol.exports,
         symbol.decls.as_slice(),
@@ -141,16 +141,16 @@ fn push_symbol(
 }
 
 fn push_asked(
-    module: &CheckedTables,
+    tables: &CheckedTables,
     demand: SymbolDemand<'_>,
     symbol: &Symbol,
     out: &mut Vec<SourceRange>,
 ) -> Result<(), AllocError>
-    ensures { OnOk result (out.new.items ≡ out.old.items ++ asked_ranges module.now (asked_of demand.entry.ask) symbol.now) }
+    ensures { OnOk result (out.new.items ≡ out.old.items ++ asked_ranges tables.now (asked_of demand.entry.ask) symbol.now) }
 {
     match demand.ask {
         Ask::Reference(namespace) | Ask::Child(namespace) => {
-            push_symbol(module, namespace, symbol, out)
+            push_symbol(tables, namespace, symbol, out)
         }
         Ask::Path(_, _) => push_all(symbol.decls.as_slice(), out),
     }
@@ -158,15 +158,15 @@ fn push_asked(
 
 /// Pushes the ranges that a demand makes public.
 pub fn push_ranges(
-    module: &CheckedTables,
+    tables: &CheckedTables,
     demand: SymbolDemand<'_>,
     out: &mut Vec<SourceRange>,
 ) -> Result<(), AllocError>
-    ensures { OnOk result (out.new.items ≡ out.old.items ++ ranges module.now (demand_of demand.entry)) }
+    ensures { OnOk result (out.new.items ≡ out.old.items ++ ranges tables.now (demand_of demand.entry)) }
 {
-    match module.symbol(demand.symbol) {
+    match tables.symbol(demand.symbol) {
         None => Ok(()),
-        Some(symbol) => push_asked(module, demand, symbol, out),
+        Some(symbol) => push_asked(tables, demand, symbol, out),
     }
 }
 
@@ -215,13 +215,13 @@ fn push_asked_implementations(
 
 /// Pushes the ranges that a demand makes public as implementations of overloads.
 pub fn push_implementations(
-    module: &CheckedTables,
+    tables: &CheckedTables,
     demand: SymbolDemand<'_>,
     out: &mut Vec<SourceRange>,
 ) -> Result<(), AllocError>
-    ensures { OnOk result (out.new.items ≡ out.old.items ++ implementations module.now (demand_of demand.entry)) }
+    ensures { OnOk result (out.new.items ≡ out.old.items ++ implementations tables.now (demand_of demand.entry)) }
 {
-    match module.symbol(demand.symbol) {
+    match tables.symbol(demand.symbol) {
         None => Ok(()),
         Some(symbol) => push_asked_implementations(demand, symbol, out),
     }

@@ -51,38 +51,38 @@ impl<'a> Found<'a> {
     }
 
     /// Adds what one demand makes public, and what is wrong with it.
-    fn add(&mut self, module: &CheckedTables, demand: SymbolDemand<'a>) -> Result<(), AllocError>
-        ensures { OnOk result (Gains module.now (demand_of demand.entry) self.old self.new) }
+    fn add(&mut self, tables: &CheckedTables, demand: SymbolDemand<'a>) -> Result<(), AllocError>
+        ensures { OnOk result (Gains tables.now (demand_of demand.entry) self.old self.new) }
     {
-        push_ranges(module, demand, &mut self.ranges)?;
-        push_implementations(module, demand, &mut self.implementations)?;
-        push_fault(fault_of(module, demand), &mut self.faults)
+        push_ranges(tables, demand, &mut self.ranges)?;
+        push_implementations(tables, demand, &mut self.implementations)?;
+        push_fault(fault_of(tables, demand), &mut self.faults)
     }
 }
 
 /// Asks for what follows from a demand.
 fn ask_named<'a>(
     alloc: Global,
-    module: &'a CheckedTables,
+    tables: &'a CheckedTables,
     demand: SymbolDemand<'a>,
     work: &mut Worklist<'a>,
 ) -> Result<(), AllocError>
     requires { IsKept work.old }
     ensures kept { OnOk result (IsKept work.new) }
-    ensures grown { OnOk result (Grows (names module.now (demand_of demand.entry)) (asked work.old) (asked work.new)) }
-    ensures covered { OnOk result (CoversEach (names module.now (demand_of demand.entry)) (asked work.new)) }
+    ensures grown { OnOk result (Grows (names tables.now (demand_of demand.entry)) (asked work.old) (asked work.new)) }
+    ensures covered { OnOk result (CoversEach (names tables.now (demand_of demand.entry)) (asked work.new)) }
 {
-    let named = demands_of(alloc, module, demand)?;
+    let named = demands_of(alloc, tables, demand)?;
     work.ask_all(named.as_slice())
 }
 
 /// All that follows from these demands within a module: what it makes public, and what is wrong with it.
 pub fn search<'a>(
     alloc: Global,
-    module: &'a CheckedTables,
+    tables: &'a CheckedTables,
     roots: &[SymbolDemand<'a>],
 ) -> Result<Found<'a>, AllocError>
-    ensures { IfOk result (λ found. (account : List Demand) × IsAccount module.now (map demand_of roots.now) account × IsFound module.now account found) }
+    ensures { IfOk result (λ found. (account : List Demand) × IsAccount tables.now (map demand_of roots.now) account × IsFound tables.now account found) }
 {
     let mut work = Worklist::new(alloc);
     work.ask_all(roots)?;
@@ -90,8 +90,8 @@ pub fn search<'a>(
     let mut next = 0;
     while next < work.len() {
         let demand = work.at(next);
-        found.add(module, demand)?;
-        ask_named(alloc, module, demand, &mut work)?;
+        found.add(tables, demand)?;
+        ask_named(alloc, tables, demand, &mut work)?;
         next += 1;
     }
     Ok(found)

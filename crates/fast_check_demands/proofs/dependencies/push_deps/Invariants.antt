@@ -3,4 +3,4 @@ use Rattle.fast_check_demands.specs.Rules.{deps_names}
 use Rattle.fast_check_demands.proofs.dependencies.push_deps.Given as goal
 
 abbrev pub invariant-loop-dep : goal.invariant-loop-dep
-invariant-loop-dep l = l.out ≡ l.initial.out ++ deps_names l.module l.referrer (take l.dep-index l.deps)
+invariant-loop-dep l = l.out ≡ l.initial.out ++ deps_names l.tables l.referrer (take l.dep-index l.deps)

@@ -13,8 +13,8 @@ loop-next-init c =
     let a = c.in_ok-ask_all.ensures in
     let f = c.new-found.ensures in
     record {
-      way = begun c.args.module.now (map demand_of c.args.roots.now) (asked c.ask_all.new.self) c.new-found.result (rw c.new-work.ensures.demands at a.grown) a.covered
-          (nothing_found c.args.module.now c.new-found.result f.ranges f.implementations (ap (map fault_seen) f.faults));
+      way = begun c.args.tables.now (map demand_of c.args.roots.now) (asked c.ask_all.new.self) c.new-found.result (rw c.new-work.ensures.demands at a.grown) a.covered
+          (nothing_found c.args.tables.now c.new-found.result f.ranges f.implementations (ap (map fault_seen) f.faults));
       kept = a.kept;
     }
 
@@ -23,19 +23,19 @@ loop-next-preserved c =
     let a = c.in_ok-ask_named.ensures in
     let i = c.loop-next.invariant in
     record {
-      way = turned c.args.module.now (map demand_of c.args.roots.now) (asked c.loop-next.work) (asked c.ask_named.new.work) c.loop-next.next (demand_of c.at-demand.result) c.loop-next.found c.add.new.self
+      way = turned c.args.tables.now (map demand_of c.args.roots.now) (asked c.loop-next.work) (asked c.ask_named.new.work) c.loop-next.next (demand_of c.at-demand.result) c.loop-next.found c.add.new.self
           i.way (omega (arith, c.len.ensures, c.loop-next-test.true)) (get_or_from_slice_get (asked c.loop-next.work) c.loop-next.next _ _ c.at-demand.ensures) a.grown a.covered c.in_ok-add.ensures;
       kept = a.kept;
     }
 
 pub returns : goal.returns
 returns c =
-    let e = ended c.args.module.now (map demand_of c.args.roots.now) (asked c.loop-next.work) c.loop-next.next c.loop-next.found (omega (arith, c.len.ensures, c.loop-next-test.false)) c.loop-next.invariant.way in
+    let e = ended c.args.tables.now (map demand_of c.args.roots.now) (asked c.loop-next.work) c.loop-next.next c.loop-next.found (omega (arith, c.len.ensures, c.loop-next-test.false)) c.loop-next.invariant.way in
     (asked c.loop-next.work, e.0, e.1)
 
 pub loop-next-smaller : goal.loop-next-smaller
 loop-next-smaller c =
     let i = c.loop-next.invariant in
-    let few : length (asked c.loop-next.work) ≤ limit c.args.module.now (map demand_of c.args.roots.now) =
-    few_asked c.args.module.now (map demand_of c.args.roots.now) (asked c.loop-next.work) i.way.chained i.kept.distinct in
+    let few : length (asked c.loop-next.work) ≤ limit c.args.tables.now (map demand_of c.args.roots.now) =
+    few_asked c.args.tables.now (map demand_of c.args.roots.now) (asked c.loop-next.work) i.way.chained i.kept.distinct in
     omega (arith, few, c.len.ensures, c.loop-next-test.true)

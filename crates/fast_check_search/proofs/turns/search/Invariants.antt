@@ -7,9 +7,9 @@ use Rattle.fast_check_search.proofs.turns.search.Given as goal
 
 abbrev pub invariant-loop-next : goal.invariant-loop-next
 invariant-loop-next l = record {
-  way : IsOnTheWay l.module (map demand_of l.roots) (asked l.work) l.next l.found;
+  way : IsOnTheWay l.tables (map demand_of l.roots) (asked l.work) l.next l.found;
   kept : IsKept l.work;
 }
 
 abbrev pub decreases-loop-next : goal.decreases-loop-next
-decreases-loop-next l = limit l.module (map demand_of l.roots) - l.next
+decreases-loop-next l = limit l.tables (map demand_of l.roots) - l.next
