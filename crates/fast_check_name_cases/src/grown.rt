@@ -1,7 +1,7 @@
 //! Large sets that are grown name by name, for the bench of names.
 
-use crate::said::Said;
 use fast_check_names::NamedSubset;
+use fast_check_said::Said;
 use std::alloc::{AllocError, Global};
 
 /// Adds a name, or one of its own below it, which each second name has.

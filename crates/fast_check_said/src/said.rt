@@ -43,31 +43,6 @@ impl Said {
         self.tell(if flag { "true" } else { "false" });
     }
 
-    /// Tells a line of a name and a text.
-    pub fn line(&mut self, name: &str, text: &str) {
-        self.tell(name);
-        self.tell(": ");
-        self.tell(text);
-        self.tell("\n");
-    }
-
-    /// Tells a line of a name and a text that was made, if it was.
-    pub fn line_made(&mut self, name: &str, made: Result<String, AllocError>) {
-        match made {
-            Ok(text) => self.line(name, text.as_str()),
-            Err(_) => self.lack(),
-        }
-    }
-
-    /// Tells a line of a name and a text, if there is one.
-    pub fn line_if_any(&mut self, name: &str, made: Result<Option<String>, AllocError>) {
-        match made {
-            Ok(Some(text)) => self.line(name, text.as_str()),
-            Ok(None) => {}
-            Err(_) => self.lack(),
-        }
-    }
-
     /// A copy of a text.
     pub fn copy(&mut self, alloc: Global, text: &str) -> String {
         match String::from_str(alloc, text) {

@@ -1,10 +1,10 @@
-//! Runs the calls of the file `cases` on comments, diagnostics and tables, and prints what each answers.
+//! Runs the calls of the file `cases` on comments, places of diagnostics and tables, and prints what each answers.
 //!
 //! A line is a call: its name and its words, and behind the first `|` texts, which are parted by `|`.
 #![tactic(auto)]
 
 mod comments;
-mod diagnostics;
+mod places;
 mod tables;
 
 use anyhow::{Context, Result, bail};
@@ -48,11 +48,6 @@ impl Call {
             Some(word) => word.as_str(),
             None => "",
         }
-    }
-
-    /// Whether a word stands anywhere.
-    pub fn has_word(&self, word: &str) -> bool {
-        self.words.iter().any(|own| own.as_str() == word)
     }
 
     /// The number at a place, 0 where there is none.
@@ -109,9 +104,8 @@ fn answer(alloc: Global, case: &mut Case, call: &Call, said: &mut Said) -> Resul
         return Ok(());
     }
     match call.word(0) {
-        "tell" => diagnostics::tell_call(alloc, call, said),
-        "place" => diagnostics::take(alloc, &mut case.place, call, said),
-        "compare" => diagnostics::compare(alloc, &case.place, call, said),
+        "place" => places::take(alloc, &mut case.place, call, said),
+        "compare" => places::compare(alloc, &case.place, call, said),
         "module" => tables::module(alloc, call, said),
         "media_type" => tables::media_type(call, said),
         _ => answer_public(alloc, &mut case.public, call, said),

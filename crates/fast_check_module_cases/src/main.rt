@@ -1,0 +1,74 @@
+//! Runs the cases of the file `cases` on the tables of modules and on the graph of modules, and prints what each answers.
+//!
+//! A line is an object that says what is made (`module`, `json_module`, `root` or `graph`), and in `ask` what it is asked: pairs of a call and what it
+//! is given. An answer is a line each.
+#![tactic(auto)]
+
+mod graphs;
+mod modules;
+mod roots;
+mod symbols;
+
+use fast_check_read::{ReadError, read_array, read_pair, read_text};
+use fast_check_said::Said;
+use serde_json::Value;
+use std::alloc::Global;
+use std::{fs, io};
+
+/// The pairs of a call and what it is given.
+pub fn asks(case: &Value) -> Result<&Vec<Value>, ReadError> {
+    read_array(case.get("ask").ok_or(ReadError::BadForm)?)
+}
+
+/// A call, and what it is given.
+pub fn read_ask(ask: &Value) -> Result<(&str, &Value), ReadError> {
+    let (call, given) = read_pair(ask)?;
+    Ok((read_text(call)?, given))
+}
+
+/// Makes what a case says, and tells what it answers.
+fn tell_case(alloc: Global, case: &Value, said: &mut Said) -> Result<(), ReadError> {
+    if let Some(module) = case.get("module") {
+        return modules::tell_module(alloc, module, asks(case)?, said);
+    }
+    if let Some(module) = case.get("json_module") {
+        return modules::tell_json_module(alloc, module, asks(case)?, said);
+    }
+    if let Some(root) = case.get("root") {
+        return roots::tell_root(alloc, root, asks(case)?, said);
+    }
+    if let Some(graph) = case.get("graph") {
+        return graphs::tell_graph(alloc, graph, asks(case)?, said);
+    }
+    Err(ReadError::BadForm)
+}
+
+fn tell_line(alloc: Global, line: &str, said: &mut Said) -> Result<(), ReadError> {
+    match Value::from_str(alloc, line) {
+        Ok(case) => tell_case(alloc, &case, said),
+        Err(_) => Err(ReadError::BadForm),
+    }
+}
+
+/// Prints a line, and what is told of it.
+fn run_line(rt: &HostRuntime, line: &str) -> io::Result<()> {
+    let mut said = Said::new(rt.alloc());
+    if !line.starts_with('#') {
+        if let Err(error) = tell_line(rt.alloc(), line, &mut said) {
+            return println!(rt; "{line}\n    {error}");
+        }
+    }
+    println!(rt; "{line}{}", said.text().unwrap_or("\n    out of memory"))
+}
+
+fn run(rt: &HostRuntime, cases: &str) -> io::Result<()> {
+    for line in cases.lines() {
+        run_line(rt, line)?;
+    }
+    Ok(())
+}
+
+fn main(rt: HostRuntime) -> io::Result<()> {
+    let cases = fs::read_to_string(&rt, "cases")?;
+    run(&rt, cases.as_str())
+}
