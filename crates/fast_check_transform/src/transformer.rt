@@ -184,6 +184,9 @@ fn diagnostic_of(
         FaultKind::UnsupportedDestructuring => {
             FastCheckDiagnostic::UnsupportedDestructuring { range }
         }
+        FaultKind::UnsupportedSuperClassExpr => {
+            FastCheckDiagnostic::UnsupportedSuperClassExpr { range }
+        }
     })
 }
 
