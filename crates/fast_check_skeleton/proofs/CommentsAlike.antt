@@ -24,7 +24,8 @@ use Rattle.fast_check_signatures.specs.Seen.{Seen}
 use Rattle.fast_check_skeleton.specs.Visible.{item_seen, items_of}
 use Rattle.fast_check_skeleton.specs.KeptComments.{start_of_unseen, removed_start, removed_starts, without_all_leading, kept_comments}
 use Rattle.fast_check_skeleton.specs.SameComments.{all_comments_at, SameComment, SameAtPairs, SameComments}
-use Rattle.fast_check_skeleton.specs.Hidden.{HasNoPartner, IsNoPartner, SameDecl, SameItem, SameItems, AgreeHidden}
+use Rattle.fast_check_skeleton.specs.Hidden.{SameDecl, SameItem, SameItems, AgreeHidden}
+use Rattle.fast_check_same_values.specs.SameClasses.{HasNoPartner, IsNoPartner}
 use Rattle.fast_check_skeleton.specs.Hidden as h
 use Rattle.fast_check_same_values.specs.SameValues.{Both}
 use Rattle.fast_check_same_values.specs.SameValues as v
