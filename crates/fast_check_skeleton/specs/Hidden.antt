@@ -127,7 +127,6 @@ module _ (r : Renaming) (a b : Surroundings) where
         SameImplementation r a.unresolved b.unresolved (FnDecl-function t) (FnDecl-function u) → SameDecl p q t u
     -- functions of declaration files
     ambient_function : {t u : Tree} → Both FnDecl t u → a.is_public p ≡ b.is_public q → a.is_declaration_file ≡ true → SameTree r t u → SameDecl p q t u
-
     class : {t u : Tree} → SameClassDecl p q t u → is_ambient_class a t ≡ false →
         SameClass r a.unresolved b.unresolved a.is_implementation b.is_implementation (ClassDecl-class t) (ClassDecl-class u) → SameDecl p q t u
     -- ambient classes stand as they are written, but for private members of computed keys
