@@ -5,7 +5,7 @@ use Rattle.std.specs.List.{list_all}
 use Rattle.std.proofs.Common.{ap, ap₂, ◌∙◌, sym, subst, subst₂, true≢false}
 use Rattle.fast_check_syntax.specs.declared.kind.Kind.{Kind}
 use Rattle.fast_check_syntax.specs.declared.kind.Kind.TheVariants.{Leaf, CallExpr, TsSatisfiesExpr, TsAsExpr, TsTypeAssertion, FnExpr, ArrowExpr}
-use Rattle.fast_check_syntax.specs.declared.kind.Kind.TheVariants.{Module, BindingIdent, VarDeclarator, VarDecl, ExportDecl, FnDecl, List as List'}
+use Rattle.fast_check_syntax.specs.declared.kind.Kind.TheVariants.{Module, BindingIdent, VarDeclarator, VarDecl, ExportDecl, FnDecl, ClassDecl, List as List'}
 use Rattle.fast_check_syntax.specs.declared.kind.Word.TheVariants.{Const as ConstWord}
 use Rattle.fast_check_syntax.specs.declared.source.SourceRange.{SourceRange}
 use Rattle.fast_check_syntax.specs.declared.source.SyntaxContext.{SyntaxContext}
@@ -22,6 +22,7 @@ use Rattle.fast_check_ranges.specs.Ranges.{range_of_node}
 use Rattle.fast_check_program_forms.specs.Names.{Ident-span, binding_ident}
 use Rattle.fast_check_program_forms.specs.Programs.{Module-span, Module-shebang}
 use Rattle.fast_check_program_forms.specs.ModuleDecls.{ExportDecl-span, ExportDecl-decl}
+use Rattle.fast_check_statement_forms.specs.Declarations.{ClassDecl-ident, ClassDecl-declare, ClassDecl-class}
 use Rattle.fast_check_statement_forms.specs.Declarations.{FnDecl-ident, FnDecl-declare, FnDecl-function}
 use Rattle.fast_check_statement_forms.specs.Declarations.{VarDecl-span, VarDecl-ctxt, VarDecl-kind, VarDecl-declare, VarDecl-decls}
 use Rattle.fast_check_statement_forms.specs.Declarations.{VarDeclarator-span, VarDeclarator-name, VarDeclarator-init, VarDeclarator-definite}
@@ -38,9 +39,11 @@ use Rattle.fast_check_skeleton.specs.Mutability.{mutability_of}
 use Rattle.fast_check_signatures.specs.Seen.{Seen, written, range, scope, flag, round, listed, declarator, faulty, refused, seens}
 use Rattle.fast_check_skeleton.specs.Visible.{declared_ident, declared_type, declarator_head, typed_declarator, value_seen, untyped_seen, ident_declarator_seen}
 use Rattle.fast_check_skeleton.specs.Visible.{declarator_seen, is_ambient, is_public_declarator, declarator_in, public_declarator, public_declarators}
-use Rattle.fast_check_skeleton.specs.Visible.{statement_seen, signature_of, function_decl_seen, public_function, decl_seen, exported_seen}
+use Rattle.fast_check_skeleton.specs.Visible.{statement_seen, signature_of, function_decl_seen, public_function, is_ambient_class, class_in, class_decl_seen}
+use Rattle.fast_check_skeleton.specs.Visible.{public_class, decl_seen, exported_seen}
 use Rattle.fast_check_skeleton.specs.Visible.{seen_by_rule, item_seen, items_of, visible}
 use Rattle.fast_check_signatures.specs.Answers.{answer_of}
+use Rattle.fast_check_signatures.specs.Classes.{plain_class_seen, ambient_class}
 use Rattle.fast_check_signatures.specs.Expressions.{is_plain, is_compound, is_among, other_kinds, freezes, is_frozen, is_refused, expr_seen}
 use Rattle.fast_check_signatures.specs.Functions.{function_seen, implementation_seen}
 use Rattle.fast_check_same_values.specs.SameValues.{Both, SameExpr}
@@ -53,14 +56,15 @@ use Rattle.fast_check_signatures.proofs.Choices.{both_true}
 use Rattle.fast_check_signatures.proofs.MovedParts.{moved_declarator}
 use Rattle.fast_check_same_values.proofs.AlikePresent.{expr_absent}
 use Rattle.fast_check_same_values.proofs.Alike.{expr_alike, function_alike}
+use Rattle.fast_check_same_values.proofs.AlikeClasses.{class_alike, ambient_class_alike}
 use Rattle.fast_check_same_values.proofs.AlikeFunctions.{implementation_alike}
 use Rattle.fast_check_skeleton.specs.Skeleton.{transformed, skeleton_of, faults_of}
 use Rattle.fast_check_skeleton.specs.Hidden.{IsSilentDecl, IsSilent, SameHead, SameDeclarator, SameAmbient, SameDeclarators, SameStatement}
-use Rattle.fast_check_skeleton.specs.Hidden.{SameFunctionDecl, SameDecl, SameItem, SameItems, AgreeHidden}
+use Rattle.fast_check_skeleton.specs.Hidden.{SameFunctionDecl, SameClassDecl, SameDecl, SameItem, SameItems, AgreeHidden}
 use Rattle.fast_check_skeleton.specs.Kinds.{is_standing}
 use Rattle.fast_check_skeleton.specs.Rules.{decl_rule, rule_of_kind, is_taken_decl}
 use Rattle.fast_check_skeleton.specs.declared.rules.DeclRule.{DeclRule}
-use Rattle.fast_check_skeleton.specs.declared.rules.DeclRule.TheVariants.{Variables, Function, Standing}
+use Rattle.fast_check_skeleton.specs.declared.rules.DeclRule.TheVariants.{Variables, Function, Class, Standing}
 use Rattle.fast_check_skeleton.proofs.Ruled.{standing_rule, declared_rule, silent_rule}
 use Rattle.fast_check_skeleton.specs.Hidden as h
 use Rattle.fast_check_skeleton.specs.Worlds.{SameFault, SameSkeleton}
@@ -92,6 +96,7 @@ module _ (around : Surroundings) where
   silent_taken p t (h.IsSilentDecl.variable k e) = ap (λ j. is_taken_decl (decl_rule j)) k
   silent_taken p t (h.IsSilentDecl.standing s e) = ap is_taken_decl (standing_rule (kind_of t) s)
   silent_taken p t (h.IsSilentDecl.function k e) = ap (λ j. is_taken_decl (decl_rule j)) k
+  silent_taken p t (h.IsSilentDecl.class k e) = ap (λ j. is_taken_decl (decl_rule j)) k
 
   silent_decl : (p : SourceRange) (t : Tree) → IsSilentDecl around p t → decl_seen around p t (rule_of t) ≡ []
   silent_decl p t (h.IsSilentDecl.variable k e) =
@@ -100,6 +105,8 @@ module _ (around : Surroundings) where
       ap (decl_seen around p t) (standing_rule (kind_of t) s) ∙ ap (λ b. if b then written t ∷ [] else []) e
   silent_decl p t (h.IsSilentDecl.function k e) =
       ap (λ j. decl_seen around p t (decl_rule j)) k ∙ ap (λ b. if b then function_decl_seen around p t ∷ [] else []) e
+  silent_decl p t (h.IsSilentDecl.class k e) =
+      ap (λ j. decl_seen around p t (decl_rule j)) k ∙ ap (λ b. if b then class_decl_seen around t ∷ [] else []) e
 
   item_of : (t : Tree) → is_taken_decl (rule_of t) ≡ true → item_seen around t ≡ decl_seen around (range_of_node t) t (rule_of t)
   item_of t e = ap (seen_by_rule around t) (declared_rule (kind_of t) t e)
@@ -288,6 +295,23 @@ module _ (r : Renaming) (ok : IsRenaming r) where
         AllAlike r ok (public_function a p t) (public_function b q u)
     public_alike p q t u e s = all_alike_if r ok (a.is_public p) (b.is_public q) (function_decl_seen a p t) (function_decl_seen b q u) e s
 
+    -- ---- classes
+
+    pub ambient_class_same : (t u : Tree) → a.is_declaration_file ≡ b.is_declaration_file → ClassDecl-declare t ≡ ClassDecl-declare u →
+        is_ambient_class a t ≡ is_ambient_class b u
+    ambient_class_same t u e f = ap₂ (λ x y. x || y) e f
+
+    abbrev class_if : Surroundings → Tree → Bool → Seen
+    class_if around t is_ambient' =
+        if is_ambient' then written (ambient_class (ClassDecl-class t)) else plain_class_seen around.unresolved around.is_implementation (ClassDecl-class t)
+
+    classes_alike : (p q : SourceRange) (t u : Tree) → SameClassDecl r a b p q t u → Alike r ok (class_in a t) (class_in b u) →
+        AllAlike r ok (public_class a p t) (public_class b q u)
+    classes_alike p q t u d s = all_alike_if r ok (a.is_public p) (b.is_public q) (class_decl_seen a t) (class_decl_seen b u) d.is_public
+        (round_alike r ok ClassDecl (written (ClassDecl-ident t) ∷ flag (ClassDecl-declare t) ∷ class_in a t ∷ [])
+        (written (ClassDecl-ident u) ∷ flag (ClassDecl-declare u) ∷ class_in b u ∷ [])
+        (λ i. same_written r ok d.ident i ∷ flag_alike r ok (ClassDecl-declare t) (ClassDecl-declare u) d.declare i ∷ s i ∷ []))
+
     -- both are taken, and what is seen is alike
     record DeclsAlike (p q : SourceRange) (t u : Tree) : Type 0 where
       left : is_taken_decl (decl_rule (kind_of t)) ≡ true
@@ -304,6 +328,9 @@ module _ (r : Renaming) (ok : IsRenaming r) where
 
     of_functions : (p q : SourceRange) (t u : Tree) → Both FnDecl t u → AllAlike r ok (public_function a p t) (public_function b q u) → DeclsAlike p q t u
     of_functions p q t u k s = by_rule p q t u Function (ap decl_rule k.left) (ap decl_rule k.right) refl s
+
+    of_classes : (p q : SourceRange) (t u : Tree) → Both ClassDecl t u → AllAlike r ok (public_class a p t) (public_class b q u) → DeclsAlike p q t u
+    of_classes p q t u k s = by_rule p q t u Class (ap decl_rule k.left) (ap decl_rule k.right) refl s
 
     of_variables : (p q : SourceRange) (t u : Tree) (Same : Tree → Tree → Type 0) → SameStatement r a b t u →
         ((x y : Tree) → Same x y → (is_public_declarator a x ≡ is_public_declarator b y) × Alike r ok (declarator_in a t x) (declarator_in b u y)) →
@@ -357,6 +384,21 @@ module _ (r : Renaming) (ok : IsRenaming r) where
         of_functions p q t u k (public_alike p q t u e
         (subst₂ (λ x y. Alike r ok (if x then written t else function_form a p t) (if y then written u else function_form b q u))
         (sym f) (sym f ∙ m) (same_written r ok s)))
+    decl_alike c m p q t u (h.SameDecl.class d n s) =
+        let n' = sym (ambient_class_same t u m d.declare) ∙ n in
+        of_classes p q t u d.kinds (classes_alike p q t u d (subst₂ (λ x y. Alike r ok (class_if a t x) (class_if b u y)) (sym n) (sym n')
+        (class_alike r ok a.unresolved b.unresolved a.is_implementation b.is_implementation c (ClassDecl-class t) (ClassDecl-class u) s)))
+    decl_alike c m p q t u (h.SameDecl.ambient_class d n s) =
+        let n' = sym (ambient_class_same t u m d.declare) ∙ n in
+        of_classes p q t u d.kinds (classes_alike p q t u d (subst₂ (λ x y. Alike r ok (class_if a t x) (class_if b u y)) (sym n) (sym n')
+        (written_alike r ok _ _ (ambient_class_alike r ok a.unresolved b.unresolved a.is_implementation b.is_implementation (ClassDecl-class t)
+        (ClassDecl-class u) s))))
+
+    -- declarations that agree are taken
+    pub decl_taken : IsPair r.scopes a.unresolved.0 b.unresolved.0 → a.is_declaration_file ≡ b.is_declaration_file →
+        (p q : SourceRange) (t u : Tree) → SameDecl r a b p q t u →
+        (is_taken_decl (decl_rule (kind_of t)) ≡ true) × (is_taken_decl (decl_rule (kind_of u)) ≡ true)
+    decl_taken c m p q t u d = let e = decl_alike c m p q t u d in (e.left, e.right)
 
     -- ---- items
 

@@ -1,37 +1,48 @@
 -- Modules that agree but for what is hidden, and so do their comments, keep the same comments.
-use Rattle.std.specs.Prelude.{◌≡◌, ℕ, ◌==◌, Bool, true, false, not, ◌||◌, List, [], ◌∷◌, ◌++◌, flat_map, refl, if◌then◌else◌}
+use Rattle.std.specs.Prelude.{◌≡◌, ℕ, ◌==◌, Bool, true, false, not, ◌&&◌, ◌||◌, List, [], ◌∷◌, ◌++◌, flat_map, refl, if◌then◌else◌}
 use Rattle.std.specs.Bool.{one_answer}
 use Rattle.std.specs.Cmp.{unsigned_ties, unsigned_Decides}
 use Rattle.std.specs.List.{list_any}
 use Rattle.std.specs.Ordering.{is_eq, nat_cmp}
 use Rattle.std.proofs.Common.{ap, ap₂, ◌∙◌, sym, subst, subst₂, cond, eqb-true, eq-eqb}
 use Rattle.std.proofs.lemmas.List.Folds.{list_any-append}
-use Rattle.fast_check_syntax.specs.declared.kind.Kind.TheVariants.{VarDecl, FnDecl}
+use Rattle.fast_check_syntax.specs.declared.kind.Kind.{Kind}
+use Rattle.fast_check_syntax.specs.declared.kind.Kind.TheVariants as kinds
+use Rattle.fast_check_syntax.specs.declared.kind.Kind.TheVariants.{VarDecl, FnDecl, ClassDecl}
 use Rattle.fast_check_syntax.specs.declared.source.SourcePos.{SourcePos}
 use Rattle.fast_check_syntax.specs.declared.source.SourceRange.{SourceRange}
 use Rattle.fast_check_syntax.specs.declared.tree.Tree.{Tree}
+use Rattle.fast_check_syntax.specs.Shape.{◌is◌, kind_of}
 use Rattle.fast_check_syntax.specs.Moves.{Renaming, IsRenaming, IsPair}
 use Rattle.fast_check_syntax.specs.Same.{SameRange, Each}
 use Rattle.fast_check_comments.specs.declared.comment.Comment.{Comment}
 use Rattle.fast_check_comments.specs.declared.comments.Comments.{Comments}
 use Rattle.fast_check_comments.specs.Kept.{kept, without_leading}
 use Rattle.fast_check_comments.specs.Places.{Places, is_place_at, without_comments}
+use Rattle.fast_check_class_forms.specs.Classes.{Class-span}
 use Rattle.fast_check_class_forms.specs.Functions.{Function-span}
-use Rattle.fast_check_statement_forms.specs.Declarations.{FnDecl-function, VarDecl-span}
+use Rattle.fast_check_program_forms.specs.ModuleDecls.{ExportDecl-span, ExportDecl-decl}
+use Rattle.fast_check_statement_forms.specs.Declarations.{ClassDecl-class, FnDecl-function, VarDecl-span}
 use Rattle.fast_check_ranges.specs.Ranges.{range_of_node}
 use Rattle.fast_check_skeleton.specs.Surroundings.{Surroundings}
 use Rattle.fast_check_signatures.specs.Seen.{Seen}
-use Rattle.fast_check_skeleton.specs.Visible.{item_seen, items_of}
-use Rattle.fast_check_skeleton.specs.KeptComments.{start_of_unseen, removed_start, removed_starts, without_all_leading, kept_comments}
+use Rattle.fast_check_skeleton.specs.Visible.{is_ambient_class, item_seen, items_of}
+use Rattle.fast_check_skeleton.specs.KeptComments.{start_of_unseen, starts_of_removed, starts_in_decl, starts_inside, removed_start, removed_starts}
+use Rattle.fast_check_skeleton.specs.KeptComments.{without_all_leading, kept_comments}
 use Rattle.fast_check_skeleton.specs.SameComments.{all_comments_at, SameComment, SameAtPairs, SameComments}
-use Rattle.fast_check_skeleton.specs.Hidden.{HasNoPartner, IsNoPartner, SameDecl, SameItem, SameItems, AgreeHidden}
+use Rattle.fast_check_skeleton.specs.Hidden.{SameDecl, SameItem, SameItems, AgreeHidden}
+use Rattle.fast_check_same_values.specs.SameClasses.{HasNoPartner, IsNoPartner}
 use Rattle.fast_check_skeleton.specs.Hidden as h
 use Rattle.fast_check_same_values.specs.SameValues.{Both}
 use Rattle.fast_check_same_values.specs.SameValues as v
 use Rattle.fast_check_skeleton.specs.Worlds.{TwoWorlds}
 use Rattle.fast_check_same_values.proofs.AlikeSeen.{AllAlike}
-use Rattle.fast_check_skeleton.proofs.Agreeing.{silent_item, item_alike, same_trees}
-use Rattle.fast_check_skeleton.proofs.ItemRanges.{range_of_variables, range_of_function, range_of_export, range_alike}
+use Rattle.fast_check_skeleton.specs.Kinds.{is_standing}
+use Rattle.fast_check_skeleton.specs.Rules.{decl_rule, rule_of_kind, item_rule}
+use Rattle.fast_check_skeleton.proofs.Ruled.{declared_rule, silent_rule}
+use Rattle.fast_check_skeleton.proofs.RemovedMembers.{is_among, one_start, no_left, no_right, class_removed}
+use Rattle.fast_check_skeleton.proofs.Agreeing.{silent_taken, silent_item, ambient_class_same, decl_taken, item_alike, same_trees}
+use Rattle.fast_check_skeleton.proofs.ItemRanges.{range_of_variables, range_of_function, range_of_class, range_of_export, range_alike}
 
 -- ---- what is left at a position
 
@@ -64,10 +75,6 @@ without_at p s (x ∷ xs) =
     go false true f g e = e ∙ ap (λ b. (if b then x.1 else []) ++ all_comments_at p xs) (sym (g refl refl))
     go false false f g e = ap (λ cs. (if is_place_at (record { 0 = p }) x then x.1 else []) ++ cs) e
 
--- whether a position is one of the starts
-abbrev is_among : ℕ → List SourcePos → Bool
-is_among p starts = list_any (λ s. s.0 == p) starts
-
 -- at the starts nothing, elsewhere what stood there
 all_without : (p : ℕ) (starts : List SourcePos) (c : Comments) →
     all_comments_at p (without_all_leading starts c).leading ≡ (if is_among p starts then [] else all_comments_at p c.leading)
@@ -85,34 +92,54 @@ trailing_stay : (starts : List SourcePos) (c : Comments) → (without_all_leadin
 trailing_stay [] c = refl
 trailing_stay (s ∷ ss) c = trailing_stay ss (without_leading s c)
 
+-- ---- what goes inside of items
+
+abbrev is_class_kind : Kind → Bool
+is_class_kind k = k is ClassDecl
+
+-- nothing goes inside of other declarations than classes
+nothing_by_kind : (around : Surroundings) (place : SourceRange) (t : Tree) (k : Kind) → is_class_kind k ≡ false → starts_in_decl around place t (decl_rule k) ≡ []
+nothing_by_kind around place t kinds.ClassDecl e = cc
+nothing_by_kind around place t _ e = refl
+
+nothing_inside : (around : Surroundings) (place : SourceRange) (t : Tree) (k : Kind) → kind_of t ≡ k → is_class_kind k ≡ false →
+    starts_in_decl around place t (decl_rule (kind_of t)) ≡ []
+nothing_inside around place t k d e = ap (λ j. starts_in_decl around place t (decl_rule j)) d ∙ nothing_by_kind around place t k e
+
+standing_no_class : (k : Kind) → is_standing k ≡ true → is_class_kind k ≡ false
+standing_no_class kinds.ClassDecl e = cc
+standing_no_class _ e = refl
+
+-- nor inside of a silent one
+silent_decl_inside : (around : Surroundings) (place : SourceRange) (t : Tree) → h.IsSilentDecl around place t →
+    starts_in_decl around place t (decl_rule (kind_of t)) ≡ []
+silent_decl_inside around place t (h.IsSilentDecl.variable k e) = nothing_inside around place t VarDecl k refl
+silent_decl_inside around place t (h.IsSilentDecl.standing k e) = nothing_inside around place t (kind_of t) refl (standing_no_class (kind_of t) k)
+silent_decl_inside around place t (h.IsSilentDecl.function k e) = nothing_inside around place t FnDecl k refl
+silent_decl_inside around place t (h.IsSilentDecl.class k e) =
+    ap (λ j. starts_in_decl around place t (decl_rule j)) k
+    ∙ ap (λ b. if b && not (is_ambient_class around t) then starts_of_removed (ClassDecl-class t) else []) e
+
+silent_inside : (around : Surroundings) (t : Tree) → h.IsSilent around t → starts_inside around t (item_rule t) ≡ []
+silent_inside around t (h.IsSilent.decl s) =
+    ap (starts_inside around t) (declared_rule (kind_of t) t (silent_taken around (range_of_node t) t s)) ∙ silent_decl_inside around (range_of_node t) t s
+silent_inside around t (h.IsSilent.statement s) = ap (starts_inside around t) (silent_rule t s)
+silent_inside around t (h.IsSilent.exported k s) =
+    ap (λ j. starts_inside around t (rule_of_kind j t)) k ∙ silent_decl_inside around (ExportDecl-span t) (ExportDecl-decl t) s
+
 -- ---- where items begin
 
 module _ (r : Renaming) (ok : IsRenaming r) where
-  one_start : (p q x y : ℕ) → IsPair r.starts p q → IsPair r.starts x y → (x == p) ≡ (y == q)
-  one_start p q x y h k =
-      let same = ok.starts.same x p y q k h in
-      one_answer (x == p) (y == q) (unsigned_Decides x p) (λ e. same.1 (eqb-true y q e), λ e. eq-eqb y q (same.0 e))
-
-  no_left : (p q x : ℕ) → IsPair r.starts p q → HasNoPartner r.starts x → (x == p) ≡ false
-  no_left p q x h n = go (x == p) refl
-    where
-      go : (b : Bool) → (x == p) ≡ b → b ≡ false
-      go false e = refl
-      go true e = absurd (n q (subst (λ z. IsPair r.starts z q) (sym (eqb-true x p e)) h))
-
-  no_right : (p q y : ℕ) → IsPair r.starts p q → IsNoPartner r.starts y → (y == q) ≡ false
-  no_right p q y h n = go (y == q) refl
-    where
-      go : (b : Bool) → (y == q) ≡ b → b ≡ false
-      go false e = refl
-      go true e = absurd (n p (subst (λ z. IsPair r.starts p z) (sym (eqb-true y q e)) h))
-
   of_variables : (t u : Tree) → Both VarDecl t u → SameRange r (VarDecl-span t) (VarDecl-span u) → SameRange r (range_of_node t) (range_of_node u)
   of_variables t u k s = subst₂ (SameRange r) (sym (range_of_variables t k.left)) (sym (range_of_variables u k.right)) s
 
   of_functions : (t u : Tree) → Both FnDecl t u → SameRange r (Function-span (FnDecl-function t)) (Function-span (FnDecl-function u)) →
       SameRange r (range_of_node t) (range_of_node u)
   of_functions t u k s = subst₂ (SameRange r) (sym (range_of_function t k.left)) (sym (range_of_function u k.right)) s
+
+  of_classes : (t u : Tree) → Both ClassDecl t u → SameRange r (Class-span (ClassDecl-class t)) (Class-span (ClassDecl-class u)) →
+      SameRange r (range_of_node t) (range_of_node u)
+  of_classes t u k s = subst₂ (SameRange r) (sym (range_of_class t k.left)) (sym (range_of_class u k.right)) s
 
   module _ (a b : Surroundings) where
     decl_begins : (p q : SourceRange) (t u : Tree) → SameDecl r a b p q t u → SameRange r (range_of_node t) (range_of_node u)
@@ -123,6 +150,8 @@ module _ (r : Renaming) (ok : IsRenaming r) where
     decl_begins p q t u (h.SameDecl.function d e f (v.SameFunction.classed_function g x y z)) = of_functions t u d.kinds g.span
     decl_begins p q t u (h.SameDecl.implementation d e f g) = of_functions t u d.kinds g.head.span
     decl_begins p q t u (h.SameDecl.ambient_function k e f s) = range_alike r ok t u s
+    decl_begins p q t u (h.SameDecl.class d n s) = of_classes t u d.kinds s.head.span
+    decl_begins p q t u (h.SameDecl.ambient_class d n s) = of_classes t u d.kinds s.head.span
 
     item_begins : (t u : Tree) → SameItem r a b t u → SameRange r (range_of_node t) (range_of_node u)
     item_begins t u (h.SameItem.decl d) = decl_begins (range_of_node t) (range_of_node u) t u d
@@ -133,18 +162,77 @@ module _ (r : Renaming) (ok : IsRenaming r) where
     module _ (p q : ℕ) (pair : IsPair r.starts p q) where
       unseen_alike : (t u : Tree) (ss ts : List Seen) → SameRange r (range_of_node t) (range_of_node u) → AllAlike r ok ss ts →
           is_among p (start_of_unseen t ss) ≡ is_among q (start_of_unseen u ts)
-      unseen_alike t u [] [] s e = ap (λ m. m || false) (one_start p q (range_of_node t).start.0 (range_of_node u).start.0 pair s.start)
+      unseen_alike t u [] [] s e = ap (λ m. m || false) (one_start r ok p q (range_of_node t).start.0 (range_of_node u).start.0 pair s.start)
       unseen_alike t u (x ∷ xs) (y ∷ ys) s e = refl
       unseen_alike t u [] (y ∷ ys) s e = cc
       unseen_alike t u (x ∷ xs) [] s e = cc
 
+      among_parts : (n : ℕ) (xs ys : List SourcePos) → is_among n (xs ++ ys) ≡ (is_among n xs || is_among n ys)
+      among_parts n xs ys = list_any-append (λ (s : SourcePos). s.0 == n) xs ys
+
       removed_left : (t : Tree) → h.IsSilent a t → HasNoPartner r.starts (range_of_node t).start.0 → is_among p (removed_start a t) ≡ false
-      removed_left t s n = ap (λ ss. is_among p (start_of_unseen t ss)) (silent_item a t s)
-          ∙ ap (λ m. m || false) (no_left p q (range_of_node t).start.0 pair n)
+      removed_left t s n =
+          ap₂ (λ ss inside. is_among p (start_of_unseen t ss ++ inside)) (silent_item a t s) (silent_inside a t s)
+          ∙ ap (λ m. m || false) (no_left r ok p q (range_of_node t).start.0 pair n)
 
       removed_right : (u : Tree) → h.IsSilent b u → IsNoPartner r.starts (range_of_node u).start.0 → is_among q (removed_start b u) ≡ false
-      removed_right u s n = ap (λ ss. is_among q (start_of_unseen u ss)) (silent_item b u s)
-          ∙ ap (λ m. m || false) (no_right p q (range_of_node u).start.0 pair n)
+      removed_right u s n =
+          ap₂ (λ ss inside. is_among q (start_of_unseen u ss ++ inside)) (silent_item b u s) (silent_inside b u s)
+          ∙ ap (λ m. m || false) (no_right r ok p q (range_of_node u).start.0 pair n)
+
+      -- inside of declarations that agree
+      abbrev InsideAlike : SourceRange → SourceRange → Tree → Tree → Type 0
+      InsideAlike x y t u = is_among p (starts_in_decl a x t (decl_rule (kind_of t))) ≡ is_among q (starts_in_decl b y u (decl_rule (kind_of u)))
+
+      none_inside : (x y : SourceRange) (t u : Tree) (k : Kind) → Both k t u → is_class_kind k ≡ false → InsideAlike x y t u
+      none_inside x y t u k d n =
+          ap (λ z. is_among p z) (nothing_inside a x t k d.left n) ∙ sym (ap (λ z. is_among q z) (nothing_inside b y u k d.right n))
+
+      inside_if : (i j m n : Bool) (xs ys : List SourcePos) → i ≡ j → m ≡ n → (m ≡ false → is_among p xs ≡ is_among q ys) →
+          is_among p (if i && not m then xs else []) ≡ is_among q (if j && not n then ys else [])
+      inside_if true true false false xs ys e f g = g refl
+      inside_if true true true true xs ys e f g = refl
+      inside_if false false m n xs ys e f g = refl
+      inside_if true false m n xs ys e f g = cc
+      inside_if false true m n xs ys e f g = cc
+      inside_if true true true false xs ys e f g = cc
+      inside_if true true false true xs ys e f g = cc
+
+      class_inside : (x y : SourceRange) (t u : Tree) → a.is_declaration_file ≡ b.is_declaration_file → h.SameClassDecl r a b x y t u →
+          (is_ambient_class a t ≡ false → is_among p (starts_of_removed (ClassDecl-class t)) ≡ is_among q (starts_of_removed (ClassDecl-class u))) →
+          InsideAlike x y t u
+      class_inside x y t u m d e =
+          subst₂ (λ k j. is_among p (starts_in_decl a x t (decl_rule k)) ≡ is_among q (starts_in_decl b y u (decl_rule j))) (sym d.kinds.left)
+          (sym d.kinds.right) (inside_if (a.is_public x) (b.is_public y) (is_ambient_class a t) (is_ambient_class b u) _ _ d.is_public
+          (ambient_class_same r ok a b t u m d.declare) e)
+
+      decl_inside : (x y : SourceRange) (t u : Tree) → a.is_declaration_file ≡ b.is_declaration_file → SameDecl r a b x y t u → InsideAlike x y t u
+      decl_inside x y t u m (h.SameDecl.variable d n rest) = none_inside x y t u VarDecl d.kinds refl
+      decl_inside x y t u m (h.SameDecl.ambient d n rest) = none_inside x y t u VarDecl d.kinds refl
+      decl_inside x y t u m (h.SameDecl.standing k d e f g) = none_inside x y t u k d (standing_no_class k e)
+      decl_inside x y t u m (h.SameDecl.function d e f g) = none_inside x y t u FnDecl d.kinds refl
+      decl_inside x y t u m (h.SameDecl.implementation d e f g) = none_inside x y t u FnDecl d.kinds refl
+      decl_inside x y t u m (h.SameDecl.ambient_function k e f g) = none_inside x y t u FnDecl k refl
+      decl_inside x y t u m (h.SameDecl.class d n s) = class_inside x y t u m d (λ k.
+          class_removed r ok a.unresolved b.unresolved a.is_implementation b.is_implementation p q pair (ClassDecl-class t) (ClassDecl-class u) s)
+      decl_inside x y t u m (h.SameDecl.ambient_class d n s) = class_inside x y t u m d (λ k. cc)
+
+      item_inside : IsPair r.scopes a.unresolved.0 b.unresolved.0 → a.is_declaration_file ≡ b.is_declaration_file → (t u : Tree) → SameItem r a b t u →
+          is_among p (starts_inside a t (item_rule t)) ≡ is_among q (starts_inside b u (item_rule u))
+      item_inside c m t u (h.SameItem.decl d) =
+          let e = decl_taken r ok a b c m (range_of_node t) (range_of_node u) t u d in
+          subst₂ (λ x y. is_among p (starts_inside a t x) ≡ is_among q (starts_inside b u y)) (sym (declared_rule (kind_of t) t e.0))
+          (sym (declared_rule (kind_of u) u e.1)) (decl_inside (range_of_node t) (range_of_node u) t u m d)
+      item_inside c m t u (h.SameItem.exported k s d) =
+          subst₂ (λ x y. is_among p (starts_inside a t (rule_of_kind x t)) ≡ is_among q (starts_inside b u (rule_of_kind y u))) (sym k.left) (sym k.right)
+          (decl_inside (ExportDecl-span t) (ExportDecl-span u) (ExportDecl-decl t) (ExportDecl-decl u) m d)
+
+      item_removed : IsPair r.scopes a.unresolved.0 b.unresolved.0 → a.is_declaration_file ≡ b.is_declaration_file → (t u : Tree) → SameItem r a b t u →
+          is_among p (removed_start a t) ≡ is_among q (removed_start b u)
+      item_removed c m t u s =
+          among_parts p (start_of_unseen t (item_seen a t)) (starts_inside a t (item_rule t))
+          ∙ (ap₂ (λ x y. x || y) (unseen_alike t u (item_seen a t) (item_seen b u) (item_begins t u s) (item_alike r ok a b c m t u s))
+          (item_inside c m t u s) ∙ sym (among_parts q (start_of_unseen u (item_seen b u)) (starts_inside b u (item_rule u))))
 
       among_more : (n : ℕ) (around : Surroundings) (t : Tree) (ts : List Tree) →
           is_among n (flat_map (removed_start around) (t ∷ ts)) ≡ (is_among n (removed_start around t) || is_among n (flat_map (removed_start around) ts))
@@ -159,8 +247,7 @@ module _ (r : Renaming) (ok : IsRenaming r) where
       removed_alike c m ts (u ∷ us) (h.SameItems.right s n rest) =
           removed_alike c m ts us rest ∙ sym (among_more q b u us ∙ ap (λ x. x || is_among q (flat_map (removed_start b) us)) (removed_right u s n))
       removed_alike c m (t ∷ ts) (u ∷ us) (h.SameItems.next s rest) =
-          among_more p a t ts ∙ (ap₂ (λ x y. x || y) (unseen_alike t u (item_seen a t) (item_seen b u) (item_begins t u s) (item_alike r ok a b c m t u s))
-          (removed_alike c m ts us rest)
+          among_more p a t ts ∙ (ap₂ (λ x y. x || y) (item_removed c m t u s) (removed_alike c m ts us rest)
           ∙ sym (among_more q b u us))
 
     -- ---- the comments that stay

@@ -9,10 +9,13 @@ use Rattle.fast_check_syntax.specs.Moves.{Renaming, IsRenaming, partners, twice}
 use Rattle.fast_check_syntax.specs.Same.{SameTree, SameRange}
 use Rattle.fast_check_syntax.proofs.Partners.{partners-keep as partners_keep, twice-keeps as twice_keeps}
 use Rattle.fast_check_syntax.proofs.Same.{tree_to, range_from}
+use Rattle.fast_check_class_forms.specs.Classes.{Class-span, Constructor-span}
+use Rattle.fast_check_class_forms.specs.Fields.{ClassProp-span, AutoAccessor-span}
 use Rattle.fast_check_class_forms.specs.Functions.{Function-span}
+use Rattle.fast_check_class_forms.specs.Methods.{ClassMethod-span}
 use Rattle.fast_check_expression_forms.specs.Patterns.{PatExpr-expr, TargetPat-pat}
 use Rattle.fast_check_program_forms.specs.ModuleDecls.{ExportDecl-span}
-use Rattle.fast_check_statement_forms.specs.Declarations.{FnDecl-function, VarDecl-span}
+use Rattle.fast_check_statement_forms.specs.Declarations.{ClassDecl-class, FnDecl-function, VarDecl-span}
 use Rattle.fast_check_ranges.specs.Ranges.{without_marks, range_of_form, range_of_node}
 use Rattle.fast_check_ranges.proofs.RangesMoved.{range_of_node_moved}
 
@@ -33,6 +36,22 @@ range_of_function t e = of_form t kinds.FnDecl e refl refl ∙ rw e refl
 
 pub range_of_export : (t : Tree) → kind_of t ≡ kinds.ExportDecl → range_of_node t ≡ ExportDecl-span t
 range_of_export t e = of_form t kinds.ExportDecl e refl refl ∙ rw e refl
+
+pub range_of_class : (t : Tree) → kind_of t ≡ kinds.ClassDecl → range_of_node t ≡ Class-span (ClassDecl-class t)
+range_of_class t e = of_form t kinds.ClassDecl e refl refl ∙ rw e refl
+
+-- members of classes
+pub range_of_constructor : (t : Tree) → kind_of t ≡ kinds.Constructor → range_of_node t ≡ Constructor-span t
+range_of_constructor t e = of_form t kinds.Constructor e refl refl ∙ rw e refl
+
+pub range_of_method : (t : Tree) → kind_of t ≡ kinds.ClassMethod → range_of_node t ≡ ClassMethod-span t
+range_of_method t e = of_form t kinds.ClassMethod e refl refl ∙ rw e refl
+
+pub range_of_property : (t : Tree) → kind_of t ≡ kinds.ClassProp → range_of_node t ≡ ClassProp-span t
+range_of_property t e = of_form t kinds.ClassProp e refl refl ∙ rw e refl
+
+pub range_of_accessor : (t : Tree) → kind_of t ≡ kinds.AutoAccessor → range_of_node t ≡ AutoAccessor-span t
+range_of_accessor t e = of_form t kinds.AutoAccessor e refl refl ∙ rw e refl
 
 -- trees that agree begin and end at places that agree
 pub range_alike : (r : Renaming) → IsRenaming r → (t u : Tree) → SameTree r t u → SameRange r (range_of_node t) (range_of_node u)

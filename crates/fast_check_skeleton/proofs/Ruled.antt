@@ -8,7 +8,7 @@ use Rattle.fast_check_syntax.specs.declared.tree.Tree.{Tree}
 use Rattle.fast_check_syntax.specs.Shape.{◌is◌, is_kind, kind_of}
 use Rattle.fast_check_statement_forms.specs.Statements.{ExprStmt-expr}
 use Rattle.fast_check_skeleton.specs.declared.rules.DeclRule.{DeclRule}
-use Rattle.fast_check_skeleton.specs.declared.rules.DeclRule.TheVariants.{Function, Standing}
+use Rattle.fast_check_skeleton.specs.declared.rules.DeclRule.TheVariants.{Function, Class, Standing}
 use Rattle.fast_check_skeleton.specs.declared.rules.ItemRule.{ItemRule}
 use Rattle.fast_check_skeleton.specs.declared.rules.ItemRule.TheVariants.{Declared, Silent}
 use Rattle.fast_check_skeleton.specs.Hidden.{is_plain_statement}
@@ -23,6 +23,10 @@ abbrev is_signature : DeclRule → Bool
 is_signature Function = true
 is_signature _ = false
 
+abbrev is_class : DeclRule → Bool
+is_class Class = true
+is_class _ = false
+
 -- by the kind
 
 standing_by_kind : (k : Kind) → stands (decl_rule k) ≡ is_standing k
@@ -32,6 +36,10 @@ standing_by_kind _ = refl
 function_by_kind : (k : Kind) → is_signature (decl_rule k) ≡ k is kinds.FnDecl
 function_by_kind kinds.FnDecl = refl
 function_by_kind _ = refl
+
+class_by_kind : (k : Kind) → is_class (decl_rule k) ≡ k is kinds.ClassDecl
+class_by_kind kinds.ClassDecl = refl
+class_by_kind _ = refl
 
 -- by the rule
 
@@ -48,10 +56,14 @@ standing_kind k e = sym (standing_by_kind k) ∙ ap stands e
 pub function_kind : (k : Kind) → decl_rule k ≡ Function → k ≡ kinds.FnDecl
 function_kind k e = is_kind k kinds.FnDecl (sym (function_by_kind k) ∙ ap is_signature e)
 
+pub class_kind : (k : Kind) → decl_rule k ≡ Class → k ≡ kinds.ClassDecl
+class_kind k e = is_kind k kinds.ClassDecl (sym (class_by_kind k) ∙ ap is_class e)
+
 -- a declaration that is taken is an item of its own
 pub declared_rule : (k : Kind) (t : Tree) → is_taken_decl (decl_rule k) ≡ true → rule_of_kind k t ≡ Declared (decl_rule k)
 declared_rule kinds.VarDecl t e = refl
 declared_rule kinds.FnDecl t e = refl
+declared_rule kinds.ClassDecl t e = refl
 declared_rule kinds.TsInterfaceDecl t e = refl
 declared_rule kinds.TsTypeAliasDecl t e = refl
 declared_rule kinds.TsEnumDecl t e = refl

@@ -4,7 +4,7 @@ use Rattle.std.specs.Prelude.{if◌then◌else◌}
 use Rattle.std.proofs.Common.{ap, ◌∙◌, sym, subst, subst₂, inl, inr, append-nil}
 use Rattle.fast_check_syntax.specs.declared.kind.Kind.{Kind}
 use Rattle.fast_check_syntax.specs.declared.kind.Kind.TheVariants as kinds
-use Rattle.fast_check_syntax.specs.declared.kind.Kind.TheVariants.{Module, VarDecl, FnDecl, ExportDecl, BindingIdent, List as List'}
+use Rattle.fast_check_syntax.specs.declared.kind.Kind.TheVariants.{Module, VarDecl, FnDecl, ClassDecl, ExportDecl, BindingIdent, List as List'}
 use Rattle.fast_check_syntax.specs.declared.source.SourceRange.{SourceRange}
 use Rattle.fast_check_syntax.specs.declared.source.SyntaxContext.{SyntaxContext}
 use Rattle.fast_check_syntax.specs.declared.tree.Tree as tree
@@ -14,6 +14,7 @@ use Rattle.fast_check_syntax.proofs.Made.{kind_of_node, parts_node, part_node, i
 use Rattle.fast_check_program_forms.specs.Names.{Ident-span, BindingIdent-type_ann, binding_ident}
 use Rattle.fast_check_program_forms.specs.ModuleDecls.{ExportDecl-span, ExportDecl-decl}
 use Rattle.fast_check_program_forms.specs.Programs.{Module-span, Module-shebang}
+use Rattle.fast_check_statement_forms.specs.Declarations.{ClassDecl-ident, ClassDecl-declare, ClassDecl-class, class_decl}
 use Rattle.fast_check_statement_forms.specs.Declarations.{FnDecl-ident, FnDecl-declare, FnDecl-function, fn_decl}
 use Rattle.fast_check_statement_forms.specs.Declarations.{VarDecl-span, VarDecl-ctxt, VarDecl-kind, VarDecl-declare, VarDecl-decls, var_decl}
 use Rattle.fast_check_statement_forms.specs.Declarations.{VarDeclarator-name, VarDeclarator-init, var_declarator}
@@ -29,11 +30,15 @@ use Rattle.fast_check_signatures.specs.Answers.{Answer, faultless, joined, visit
 use Rattle.fast_check_signatures.specs.Expressions.{expr_seen}
 use Rattle.fast_check_signatures.proofs.Choices.{of_choice, no_left, not_empty}
 use Rattle.fast_check_typed_grammar.specs.TypedGrammar.{IsLeavable, IsTypedFunction}
+use Rattle.fast_check_typed_grammar.specs.ClassGrammar.{IsAmbientClass, IsTypedClass}
+use Rattle.fast_check_signatures.specs.Classes.{plain_class_seen, ambient_class}
 use Rattle.fast_check_typed_grammar.proofs.Staying.{Holds, Stays, round_stays, written_before, last_stays, items_hold, demanded_holds}
+use Rattle.fast_check_typed_grammar.proofs.StayingLists.{AllStay, all_flat, all_hold, some_weaker, all_weaker, all_if, both_some}
+use Rattle.fast_check_typed_grammar.proofs.TypedClasses.{ambient_stands, class_stays}
 use Rattle.fast_check_typed_grammar.proofs.Present.{stays_there}
 use Rattle.fast_check_typed_grammar.proofs.Typed.{expr_stays, function_is_typed, implementation_is_typed}
 use Rattle.fast_check_skeleton.specs.declared.rules.DeclRule.{DeclRule}
-use Rattle.fast_check_skeleton.specs.declared.rules.DeclRule.TheVariants.{Variables, Function, Standing, Untaken}
+use Rattle.fast_check_skeleton.specs.declared.rules.DeclRule.TheVariants.{Variables, Function, Class, Standing, Untaken}
 use Rattle.fast_check_skeleton.specs.declared.rules.ItemRule.{ItemRule}
 use Rattle.fast_check_skeleton.specs.declared.rules.ItemRule.TheVariants.{Declared, Exported, Silent}
 use Rattle.fast_check_skeleton.specs.Mutability.{mutability_of}
@@ -41,47 +46,13 @@ use Rattle.fast_check_skeleton.specs.Rules.{decl_rule, expr_stmt_rule, rule_of_k
 use Rattle.fast_check_skeleton.specs.Surroundings.{Surroundings}
 use Rattle.fast_check_skeleton.specs.Visible.{declared_ident, declared_type, value_seen, untyped_seen}
 use Rattle.fast_check_skeleton.specs.Visible.{declarator_seen, is_ambient, is_public_declarator, declarator_in, public_declarator, public_declarators}
-use Rattle.fast_check_skeleton.specs.Visible.{statement_seen, signature_of, function_decl_seen, public_function, decl_seen, exported_seen}
+use Rattle.fast_check_skeleton.specs.Visible.{statement_seen, signature_of, function_decl_seen, public_function, is_ambient_class, class_in, class_decl_seen}
+use Rattle.fast_check_skeleton.specs.Visible.{public_class, decl_seen, exported_seen}
 use Rattle.fast_check_skeleton.specs.Visible.{seen_by_rule, item_seen, items_of}
 use Rattle.fast_check_skeleton.specs.Skeleton.{transformed, skeleton_of, faults_of}
-use Rattle.fast_check_skeleton.specs.Grammar.{HasTypedValue, IsTypedDeclarator, IsTypedStatement, IsTypedFunctionDecl, IsTypedDecl, IsTypedItem, IsSkeleton}
+use Rattle.fast_check_skeleton.specs.Grammar.{HasTypedValue, IsTypedDeclarator, IsTypedStatement, IsTypedFunctionDecl, IsTypedClassDecl, IsTypedDecl}
+use Rattle.fast_check_skeleton.specs.Grammar.{IsTypedItem, IsSkeleton}
 use Rattle.fast_check_skeleton.proofs.Ruled.{standing_kind, function_kind}
-
--- ---- lists of what is seen
-
--- each stays with a property, if nothing of it is at fault
-abbrev AllStay : (Tree → Type 0) → List Seen → Type 0
-AllStay P [] = Unit {0}
-AllStay P (s ∷ ss) = Stays P (answer_to s) × AllStay P ss
-
-all_append : (P : Tree → Type 0) (xs ys : List Seen) → AllStay P xs → AllStay P ys → AllStay P (xs ++ ys)
-all_append P [] ys p q = q
-all_append P (x ∷ xs) ys p q = (p.0, all_append P xs ys p.1 q)
-
-all_flat : (P : Tree → Type 0) (f : Tree → List Seen) (ts : List Tree) → ((t : Tree) → AllStay P (f t)) → AllStay P (flat_map f ts)
-all_flat P f [] p = tt
-all_flat P f (t ∷ ts) p = all_append P (f t) (flat_map f ts) (p t) (all_flat P f ts p)
-
--- so has each tree that stands
-all_hold : (P : Tree → Type 0) (ss : List Seen) → AllStay P ss → Holds (OfAll P) (answer_of ss)
-all_hold P [] h = λ f. tt
-all_hold P (s ∷ ss) h = items_hold P (OfAll P) (λ t ts p q. (p, q)) (answer_to s) (answer_of ss) h.0 (all_hold P ss h.1)
-
-some_weaker : (P Q : Tree → Type 0) → ((t : Tree) → P t → Q t) → (o : Option Tree) → IfSome o P → IfSome o Q
-some_weaker P Q w None p = tt
-some_weaker P Q w (Some t) p = w t p
-
-all_weaker : (P Q : Tree → Type 0) → ((t : Tree) → P t → Q t) → (ss : List Seen) → AllStay P ss → AllStay Q ss
-all_weaker P Q w [] h = tt
-all_weaker P Q w (s ∷ ss) h = (λ f. some_weaker P Q w (answer_to s).stays (h.0 f), all_weaker P Q w ss h.1)
-
-all_if : (P : Tree → Type 0) (b : Bool) (s : Seen) → Stays P (answer_to s) → AllStay P (if b then s ∷ [] else [])
-all_if P true s p = (p, tt)
-all_if P false s p = tt
-
-both_some : (P Q : Tree → Type 0) (o : Option Tree) → IfSome o P → IfSome o Q → IfSome o (λ t. P t × Q t)
-both_some P Q None p q = tt
-both_some P Q (Some t) p q = (p, q)
 
 -- ---- declarators
 
@@ -239,6 +210,53 @@ module _ (around : Surroundings) where
       go true q = λ f. record { kind = k; function = inl q }
       go false q = signed_stays decl (signature_of around place decl) (signature_stays place decl)
 
+  -- ---- classes
+
+  abbrev Class' : Tree → Type 0
+  Class' = IsTypedClassDecl around.unresolved around.is_declaration_file
+
+  -- the class of a declaration, by whether it is ambient
+  abbrev FitsClass : Tree → Tree → Type 0
+  FitsClass decl class =
+      (IsTrue (is_ambient_class around decl) × IsAmbientClass class) ⊎ IsTypedClass around.unresolved class
+
+  class_made : (decl class : Tree) → FitsClass decl class → Class' (class_decl (ClassDecl-ident decl) (ClassDecl-declare decl) class)
+  class_made decl class h =
+      let made = class_decl (ClassDecl-ident decl) (ClassDecl-declare decl) class in
+      let same : ClassDecl-class made ≡ class = part_node _ _ _ in
+      let declare : ClassDecl-declare made ≡ ClassDecl-declare decl = ap flag_of (part_node _ _ _) ∙ flag_of_flag (ClassDecl-declare decl) in
+      record {
+        kind = kind_of_node _ _;
+        class = subst₂ (λ d c. (IsTrue (around.is_declaration_file || d) × IsAmbientClass c) ⊎ IsTypedClass around.unresolved c) (sym declare) (sym same) h;
+      }
+
+  abbrev classed : Tree → Seen → Seen
+  classed decl s = round ClassDecl (seens (written (ClassDecl-ident decl) ∷ flag (ClassDecl-declare decl) ∷ s ∷ []))
+
+  classed_stays : (decl : Tree) (s : Seen) → Stays (FitsClass decl) (answer_to s) → Stays Class' (answer_to (classed decl s))
+  classed_stays decl s p =
+      let ident = ClassDecl-ident decl in
+      let declare = tree.Flag (ClassDecl-declare decl) in
+      let last = visited (answer_to s) (faultless (Some [])) in
+      round_stays ClassDecl (λ ts. Class' (node ClassDecl ts)) Class' (λ ts h. h)
+      (parts_answer (seens (written ident ∷ written declare ∷ s ∷ [])))
+      (written_before (λ ts. Class' (node ClassDecl ts)) ident (visited (faultless (Some declare)) last)
+      (written_before (λ ts. Class' (node ClassDecl (ident ∷ ts))) declare last
+      (last_stays (FitsClass decl) (λ ts. Class' (node ClassDecl (ident ∷ declare ∷ ts))) (class_made decl) (answer_to s) p)))
+
+  class_fits : (decl : Tree) → Stays (FitsClass decl) (answer_to (class_in around decl))
+  class_fits decl =
+      let class = ClassDecl-class decl in
+      let seen = plain_class_seen around.unresolved around.is_implementation class in
+      of_choice (λ s. Stays (FitsClass decl) (answer_to s)) (is_ambient_class around decl) (written (ambient_class class)) seen
+      (λ e f. inl (e, ambient_stands class))
+      (λ e f. some_weaker (IsTypedClass around.unresolved) (FitsClass decl) (λ t h. inr h) (answer_to seen).stays
+      (class_stays around.unresolved around.is_implementation class f))
+
+  class_decl_stays : (place : SourceRange) (decl : Tree) → AllStay Class' (public_class around place decl)
+  class_decl_stays place decl = all_if Class' (around.is_public place) (class_decl_seen around decl)
+      (classed_stays decl (class_in around decl) (class_fits decl))
+
   -- ---- declarations
 
   abbrev IsDecl : Tree → Type 0
@@ -253,7 +271,9 @@ module _ (around : Surroundings) where
       (statement_stays decl (public_declarators around decl) (λ n. all_hold Typed' (public_declarators around decl) (declarators_stay decl n)))
   decl_stays place decl Function q =
       all_weaker Function' IsDecl (λ t h. inr (inl h)) (public_function around place decl) (function_stays place decl (function_kind (kind_of decl) q))
-  decl_stays place decl Standing q = all_if IsDecl (around.is_public place) (written decl) (λ f. inr (inr (standing_kind (kind_of decl) q)))
+  decl_stays place decl Class q =
+      all_weaker Class' IsDecl (λ t h. inr (inr (inl h))) (public_class around place decl) (class_decl_stays place decl)
+  decl_stays place decl Standing q = all_if IsDecl (around.is_public place) (written decl) (λ f. inr (inr (inr (standing_kind (kind_of decl) q))))
   decl_stays place decl Untaken q = tt
 
   -- what is seen of a declaration is one form at most, of which one tree stays
@@ -278,9 +298,14 @@ module _ (around : Surroundings) where
       P : Seen → Type 0
       P s = OneTree (s ∷ [])
 
+  class_one : (place : SourceRange) (decl : Tree) → OneTree (public_class around place decl)
+  class_one place decl = one_if (around.is_public place) (class_decl_seen around decl)
+      (of_choice (λ s. OneTree (classed decl s ∷ [])) (is_ambient_class around decl) _ _ (λ e. (_, refl)) (λ e. (_, refl)))
+
   pub decl_one : (place : SourceRange) (decl : Tree) (rule : DeclRule) → OneTree (decl_seen around place decl rule)
   decl_one place decl Variables = statement_one decl (public_declarators around decl)
   decl_one place decl Function = function_one place decl
+  decl_one place decl Class = class_one place decl
   decl_one place decl Standing = one_if (around.is_public place) (written decl) (decl, refl)
   decl_one place decl Untaken = tt
 

@@ -1,6 +1,6 @@
 -- The grammar of skeletons: what a type checker finds there, whatever the source was.
 use Rattle.std.specs.Prelude.{◌≡◌, Bool, true, false, ◌||◌, IsTrue, ◌⊎◌}
-use Rattle.fast_check_syntax.specs.declared.kind.Kind.TheVariants.{Module, ExportDecl, VarDecl, VarDeclarator, FnDecl, BindingIdent}
+use Rattle.fast_check_syntax.specs.declared.kind.Kind.TheVariants.{Module, ExportDecl, VarDecl, VarDeclarator, FnDecl, ClassDecl, BindingIdent}
 use Rattle.fast_check_syntax.specs.declared.source.SyntaxContext.{SyntaxContext}
 use Rattle.fast_check_syntax.specs.declared.tree.Tree.{Tree}
 use Rattle.fast_check_syntax.specs.Shape.{kind_of, parts, is_absent, OfAll}
@@ -9,7 +9,8 @@ use Rattle.fast_check_program_forms.specs.Names.{BindingIdent-type_ann}
 use Rattle.fast_check_program_forms.specs.Programs.{Module-body}
 use Rattle.fast_check_program_forms.specs.ModuleDecls.{ExportDecl-decl}
 use Rattle.fast_check_typed_grammar.specs.TypedGrammar.{IsLeavable, IsTypedFunction}
-use Rattle.fast_check_statement_forms.specs.Declarations.{FnDecl-function, VarDecl-declare, VarDecl-decls, VarDeclarator-name, VarDeclarator-init}
+use Rattle.fast_check_typed_grammar.specs.ClassGrammar.{IsAmbientClass, IsTypedClass}
+use Rattle.fast_check_statement_forms.specs.Declarations.{ClassDecl-declare, ClassDecl-class, FnDecl-function, VarDecl-declare, VarDecl-decls, VarDeclarator-name, VarDeclarator-init}
 use Rattle.fast_check_skeleton.specs.Kinds.{is_standing}
 
 -- a value behind a written type is `{} as never`; else there is one that gives the type
@@ -35,10 +36,17 @@ module _ (unresolved : SyntaxContext) where
     pub kind : kind_of decl ≡ FnDecl
     pub function : IsTrue is_declaration_file ⊎ IsTypedFunction unresolved (FnDecl-function decl)
 
-  -- a declaration of a skeleton: a variable statement, a function, or an interface, type alias or enum, which stands as it was written
+  -- a class, of typed members; an ambient one stands as it was written, but for private members of computed keys
+  pub record IsTypedClassDecl (is_declaration_file : Bool) (decl : Tree) : Type 0 where
+    pub kind : kind_of decl ≡ ClassDecl
+    pub class : (IsTrue (is_declaration_file || ClassDecl-declare decl) × IsAmbientClass (ClassDecl-class decl)) ⊎
+        IsTypedClass unresolved (ClassDecl-class decl)
+
+  -- a declaration of a skeleton: a variable statement, a function, a class, or an interface, type alias or enum, which stands as it was written
   abbrev pub IsTypedDecl : Bool → Tree → Type 0
   IsTypedDecl is_declaration_file decl =
-      IsTypedStatement is_declaration_file decl ⊎ (IsTypedFunctionDecl is_declaration_file decl ⊎ (is_standing (kind_of decl) ≡ true))
+      IsTypedStatement is_declaration_file decl ⊎ (IsTypedFunctionDecl is_declaration_file decl ⊎ (IsTypedClassDecl is_declaration_file decl ⊎
+      (is_standing (kind_of decl) ≡ true)))
 
   -- an item of a skeleton: a declaration, exported or not
   abbrev pub IsTypedItem : Bool → Tree → Type 0

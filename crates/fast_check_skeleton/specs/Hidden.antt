@@ -1,28 +1,30 @@
 -- Agreement of two sources but for what is hidden: one rule for each part that may differ.
 -- All else agrees node by node, under a renaming of positions and scope numbers.
-use Rattle.std.specs.Prelude.{◌≡◌, ℕ, Bool, true, false, not, ◌&&◌, ◌||◌, Some, None, List, [], ◌∷◌}
+use Rattle.std.specs.Prelude.{◌≡◌, Bool, true, false, not, ◌&&◌, ◌||◌, Some, None, List, [], ◌∷◌}
 use Rattle.std.specs.List.{list_all}
 use Rattle.fast_check_syntax.specs.declared.kind.Kind.{Kind}
-use Rattle.fast_check_syntax.specs.declared.kind.Kind.TheVariants.{BindingIdent, VarDecl, ExportDecl, FnDecl, ExprStmt, AssignExpr}
+use Rattle.fast_check_syntax.specs.declared.kind.Kind.TheVariants.{BindingIdent, VarDecl, ExportDecl, FnDecl, ClassDecl, ExprStmt, AssignExpr}
 use Rattle.fast_check_syntax.specs.declared.source.SourceRange.{SourceRange}
 use Rattle.fast_check_syntax.specs.declared.tree.Tree.{Tree}
 use Rattle.fast_check_syntax.specs.Shape.{◌is◌, kind_of, parts, is_absent}
-use Rattle.fast_check_syntax.specs.Moves.{Renaming, Pairs, IsPair}
+use Rattle.fast_check_syntax.specs.Moves.{Renaming, IsPair}
 use Rattle.fast_check_syntax.specs.Same.{SameTree, SameRange}
 use Rattle.fast_check_helpers.specs.declared.literal_type.DeclMutabilityKind.{DeclMutabilityKind}
 use Rattle.fast_check_helpers.specs.InferredType.{inferred_type}
 use Rattle.fast_check_ranges.specs.Ranges.{range_of_node}
 use Rattle.fast_check_program_forms.specs.Programs.{Module-shebang}
 use Rattle.fast_check_program_forms.specs.ModuleDecls.{ExportDecl-span, ExportDecl-decl}
+use Rattle.fast_check_statement_forms.specs.Declarations.{ClassDecl-ident, ClassDecl-declare, ClassDecl-class}
 use Rattle.fast_check_statement_forms.specs.Declarations.{FnDecl-ident, FnDecl-declare, FnDecl-function}
 use Rattle.fast_check_statement_forms.specs.Declarations.{VarDecl-span, VarDecl-ctxt, VarDecl-kind, VarDecl-declare, VarDecl-decls}
 use Rattle.fast_check_statement_forms.specs.Declarations.{VarDeclarator-span, VarDeclarator-name, VarDeclarator-init, VarDeclarator-definite}
 use Rattle.fast_check_statement_forms.specs.Statements.{ExprStmt-expr}
 use Rattle.fast_check_same_values.specs.SameValues.{Both, Neither, SameExpr, SameFunction, SameImplementation}
+use Rattle.fast_check_same_values.specs.SameClasses.{HasNoPartner, IsNoPartner, SameClass, SameAmbientClass}
 use Rattle.fast_check_skeleton.specs.Kinds.{is_standing, is_statement}
 use Rattle.fast_check_skeleton.specs.Mutability.{mutability_of}
 use Rattle.fast_check_skeleton.specs.Surroundings.{Surroundings}
-use Rattle.fast_check_skeleton.specs.Visible.{declared_ident, declared_type, is_ambient, is_public_declarator, items_of}
+use Rattle.fast_check_skeleton.specs.Visible.{declared_ident, declared_type, is_ambient, is_public_declarator, is_ambient_class, items_of}
 
 -- a statement that is no declaration and no assignment
 abbrev pub is_plain_statement : Tree → Bool
@@ -37,6 +39,8 @@ pub data IsSilentDecl (around : Surroundings) (place : SourceRange) : Tree → T
   standing : {t : Tree} → is_standing (kind_of t) ≡ true → around.is_public place ≡ false → IsSilentDecl around place t
   -- a function that is not public
   function : {t : Tree} → kind_of t ≡ FnDecl → around.is_public place ≡ false → IsSilentDecl around place t
+  -- a class that is not public
+  class : {t : Tree} → kind_of t ≡ ClassDecl → around.is_public place ≡ false → IsSilentDecl around place t
 
 -- an item that goes without a word
 pub data IsSilent (around : Surroundings) : Tree → Type 0 where
@@ -44,13 +48,6 @@ pub data IsSilent (around : Surroundings) : Tree → Type 0 where
   -- a statement that declares and assigns nothing
   statement : {t : Tree} → is_plain_statement t ≡ true → IsSilent around t
   exported : {t : Tree} → kind_of t ≡ ExportDecl → IsSilentDecl around (ExportDecl-span t) (ExportDecl-decl t) → IsSilent around t
-
--- a has no partner; b is the partner of none
-abbrev pub HasNoPartner : Pairs → ℕ → Type 0
-HasNoPartner pairs a = (b : ℕ) → IsPair pairs a b → ⊥
-
-abbrev pub IsNoPartner : Pairs → ℕ → Type 0
-IsNoPartner pairs b = (a : ℕ) → IsPair pairs a b → ⊥
 
 module _ (r : Renaming) (a b : Surroundings) where
   -- what agrees of two declarators, whatever their values
@@ -108,6 +105,13 @@ module _ (r : Renaming) (a b : Surroundings) where
     pub ident : SameTree r (FnDecl-ident t) (FnDecl-ident u)
     pub declare : FnDecl-declare t ≡ FnDecl-declare u
 
+  -- what agrees of two class declarations, whatever their classes
+  pub record SameClassDecl (p q : SourceRange) (t u : Tree) : Type 0 where
+    pub kinds : Both ClassDecl t u
+    pub is_public : a.is_public p ≡ b.is_public q
+    pub ident : SameTree r (ClassDecl-ident t) (ClassDecl-ident u)
+    pub declare : ClassDecl-declare t ≡ ClassDecl-declare u
+
   -- declarations; `p` and `q` are the ranges of their exports, or else their own
   pub data SameDecl (p q : SourceRange) : Tree → Tree → Type 0 where
     variable : {t u : Tree} → SameStatement t u → is_ambient a t ≡ false →
@@ -123,6 +127,11 @@ module _ (r : Renaming) (a b : Surroundings) where
         SameImplementation r a.unresolved b.unresolved (FnDecl-function t) (FnDecl-function u) → SameDecl p q t u
     -- functions of declaration files
     ambient_function : {t u : Tree} → Both FnDecl t u → a.is_public p ≡ b.is_public q → a.is_declaration_file ≡ true → SameTree r t u → SameDecl p q t u
+    class : {t u : Tree} → SameClassDecl p q t u → is_ambient_class a t ≡ false →
+        SameClass r a.unresolved b.unresolved a.is_implementation b.is_implementation (ClassDecl-class t) (ClassDecl-class u) → SameDecl p q t u
+    -- ambient classes stand as they are written, but for private members of computed keys
+    ambient_class : {t u : Tree} → SameClassDecl p q t u → is_ambient_class a t ≡ true →
+        SameAmbientClass r a.unresolved b.unresolved a.is_implementation b.is_implementation (ClassDecl-class t) (ClassDecl-class u) → SameDecl p q t u
 
   pub data SameItem : Tree → Tree → Type 0 where
     decl : {t u : Tree} → SameDecl (range_of_node t) (range_of_node u) t u → SameItem t u

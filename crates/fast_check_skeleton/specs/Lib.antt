@@ -9,5 +9,6 @@ pub mod KeptComments
 pub mod Carried
 pub mod SameComments
 pub mod Hidden
+pub mod HashMark
 pub mod Worlds
 pub mod Example

@@ -7,7 +7,7 @@ use Rattle.fast_check_syntax.specs.Shape.{kind_of}
 use Rattle.fast_check_program_forms.specs.ModuleDecls.{ExportDecl-decl}
 use Rattle.fast_check_statement_forms.specs.Statements.{ExprStmt-expr}
 use Rattle.fast_check_skeleton.specs.declared.rules.DeclRule.{DeclRule}
-use Rattle.fast_check_skeleton.specs.declared.rules.DeclRule.TheVariants.{Variables, Function, Standing, Untaken}
+use Rattle.fast_check_skeleton.specs.declared.rules.DeclRule.TheVariants.{Variables, Function, Class, Standing, Untaken}
 use Rattle.fast_check_skeleton.specs.declared.rules.ItemRule.{ItemRule}
 use Rattle.fast_check_skeleton.specs.declared.rules.ItemRule.TheVariants.{Declared, Exported, Silent}
 
@@ -15,6 +15,7 @@ use Rattle.fast_check_skeleton.specs.declared.rules.ItemRule.TheVariants.{Declar
 abbrev pub decl_rule : Kind → DeclRule
 decl_rule kinds.VarDecl = Variables
 decl_rule kinds.FnDecl = Function
+decl_rule kinds.ClassDecl = Class
 decl_rule kinds.TsInterfaceDecl = Standing
 decl_rule kinds.TsTypeAliasDecl = Standing
 decl_rule kinds.TsEnumDecl = Standing

@@ -2,7 +2,7 @@
 -- All that is asked outside the tree is asked here. What follows sees nothing that is hidden.
 use Rattle.std.specs.Prelude.{Bool, ◌||◌, if◌then◌else◌, Option, Some, None, List, [], ◌∷◌}
 use Rattle.std.specs.List.{flat_map}
-use Rattle.fast_check_syntax.specs.declared.kind.Kind.TheVariants.{BindingIdent, VarDecl, FnDecl, ExportDecl}
+use Rattle.fast_check_syntax.specs.declared.kind.Kind.TheVariants.{BindingIdent, VarDecl, FnDecl, ClassDecl, ExportDecl}
 use Rattle.fast_check_syntax.specs.declared.source.SourceRange.{SourceRange}
 use Rattle.fast_check_syntax.specs.declared.tree.Tree.{Tree}
 use Rattle.fast_check_syntax.specs.Shape.{◌is◌, kind_of, parts, is_absent}
@@ -13,16 +13,18 @@ use Rattle.fast_check_ranges.specs.Ranges.{range_of_node}
 use Rattle.fast_check_program_forms.specs.Names.{Ident-span, BindingIdent-id, BindingIdent-type_ann, binding_ident}
 use Rattle.fast_check_program_forms.specs.Programs.{Module-body}
 use Rattle.fast_check_program_forms.specs.ModuleDecls.{ExportDecl-span, ExportDecl-decl}
+use Rattle.fast_check_statement_forms.specs.Declarations.{ClassDecl-ident, ClassDecl-declare, ClassDecl-class}
 use Rattle.fast_check_statement_forms.specs.Declarations.{FnDecl-ident, FnDecl-declare, FnDecl-function}
 use Rattle.fast_check_statement_forms.specs.Declarations.{VarDecl-span, VarDecl-ctxt, VarDecl-kind, VarDecl-declare, VarDecl-decls}
 use Rattle.fast_check_statement_forms.specs.Declarations.{VarDeclarator-span, VarDeclarator-name, VarDeclarator-init, VarDeclarator-definite, var_declarator}
 use Rattle.fast_check_signatures.specs.declared.fault.FaultKind.TheVariants.{UnsupportedDestructuring}
 use Rattle.fast_check_signatures.specs.declared.function_kind.FunctionKind.TheVariants.{DeclarationLike}
+use Rattle.fast_check_signatures.specs.Classes.{plain_class_seen, ambient_class}
 use Rattle.fast_check_signatures.specs.Expressions.{expr_seen}
 use Rattle.fast_check_signatures.specs.Functions.{function_seen, implementation_seen}
 use Rattle.fast_check_signatures.specs.Seen.{DeclaratorHead, Seen, written, range, scope, flag, round, listed, declarator, faulty, refused, seens}
 use Rattle.fast_check_skeleton.specs.declared.rules.DeclRule.{DeclRule}
-use Rattle.fast_check_skeleton.specs.declared.rules.DeclRule.TheVariants.{Variables, Function, Standing, Untaken}
+use Rattle.fast_check_skeleton.specs.declared.rules.DeclRule.TheVariants.{Variables, Function, Class, Standing, Untaken}
 use Rattle.fast_check_skeleton.specs.declared.rules.ItemRule.{ItemRule}
 use Rattle.fast_check_skeleton.specs.declared.rules.ItemRule.TheVariants.{Declared, Exported, Silent}
 use Rattle.fast_check_skeleton.specs.Mutability.{mutability_of}
@@ -110,11 +112,30 @@ function_decl_seen around place decl =
 abbrev pub public_function : Surroundings → SourceRange → Tree → List Seen
 public_function around place decl = if around.is_public place then function_decl_seen around place decl ∷ [] else []
 
+-- ambient classes: those of a declaration file, and those that are declared
+abbrev pub is_ambient_class : Surroundings → Tree → Bool
+is_ambient_class around decl = around.is_declaration_file || ClassDecl-declare decl
+
+-- the class of a declaration; an ambient one stands as it is written, but for private members of computed keys
+abbrev pub class_in : Surroundings → Tree → Seen
+class_in around decl =
+    if is_ambient_class around decl then written (ambient_class (ClassDecl-class decl))
+    else plain_class_seen around.unresolved around.is_implementation (ClassDecl-class decl)
+
+abbrev pub class_decl_seen : Surroundings → Tree → Seen
+class_decl_seen around decl =
+    round ClassDecl (seens (written (ClassDecl-ident decl) ∷ flag (ClassDecl-declare decl) ∷ class_in around decl ∷ []))
+
+-- a class declaration, whose members are public by it
+abbrev pub public_class : Surroundings → SourceRange → Tree → List Seen
+public_class around place decl = if around.is_public place then class_decl_seen around decl ∷ [] else []
+
 -- A declaration, by what is done with it. Of a variable statement the declarators are public, by their own ranges; another is public by `place`, which is the
 -- range of its export, or else its own. Of one that is not taken nothing is seen.
 abbrev pub decl_seen : Surroundings → SourceRange → Tree → DeclRule → List Seen
 decl_seen around place decl Variables = statement_seen decl (public_declarators around decl)
 decl_seen around place decl Function = public_function around place decl
+decl_seen around place decl Class = public_class around place decl
 decl_seen around place decl Standing = standing_seen around place decl
 decl_seen around place decl Untaken = []
 

@@ -7,4 +7,4 @@ mod worlds;
 
 pub use fast_check_signatures::{Fault, FaultKind, FunctionKind};
 pub use rules::{DeclRule, ItemRule, decl_rule, item_rule};
-pub use worlds::two_worlds;
+pub use worlds::{hash_mark, two_worlds};

@@ -13,6 +13,8 @@ pub enum DeclRule {
     Variables,
     /// A function stays by its signature.
     Function,
+    /// A class stays by its superclass and its members.
+    Class,
     /// A declaration that stands as it is written.
     Standing,
     /// A declaration that is not taken so far.
@@ -37,6 +39,7 @@ pub fn decl_rule(kind: Kind) -> DeclRule
     match kind {
         Kind::VarDecl => DeclRule::Variables,
         Kind::FnDecl => DeclRule::Function,
+        Kind::ClassDecl => DeclRule::Class,
         Kind::TsInterfaceDecl | Kind::TsTypeAliasDecl | Kind::TsEnumDecl => DeclRule::Standing,
         _ => DeclRule::Untaken,
     }

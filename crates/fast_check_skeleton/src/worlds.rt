@@ -2,6 +2,7 @@ ghost use Rattle.fast_check_comments.specs.declared.comments.Comments.{Comments}
 ghost use Rattle.fast_check_skeleton.specs.Surroundings.{Surroundings};
 ghost use Rattle.fast_check_skeleton.specs.Worlds.{TwoWorlds};
 ghost use Rattle.fast_check_skeleton.specs.Example.{Example};
+ghost use Rattle.fast_check_skeleton.specs.HashMark.{HashMarked};
 
 use fast_check_syntax::Tree;
 
@@ -17,4 +18,13 @@ pub fn two_worlds(first: &Tree, second: &Tree)
 {
     let _ = first;
     let _ = second;
+}
+
+/// The law on `#private`: in the skeleton of a class that is not ambient `#private!: unknown` stands, once, exactly if the
+/// class had a method, a property or an accessor with a hash name, and no other member with a hash name stands there. `class`
+/// is a `Class`. It holds of the definitions, and so of what `transform` answers; it does nothing when it is called.
+pub fn hash_mark(class: &Tree)
+    ensures law { HashMarked class.now }
+{
+    let _ = class;
 }

@@ -11,13 +11,13 @@ use Rattle.fast_check_signatures.specs.Answers.{Adds, with_tree, answer_to, answ
 use Rattle.fast_check_signatures.specs.Seen.{Seen, written}
 use Rattle.fast_check_signatures.proofs.Adding.{adds_nothing, adds_same}
 use Rattle.fast_check_skeleton.specs.declared.rules.DeclRule.{DeclRule}
-use Rattle.fast_check_skeleton.specs.declared.rules.DeclRule.TheVariants.{Variables, Function, Standing, Untaken}
+use Rattle.fast_check_skeleton.specs.declared.rules.DeclRule.TheVariants.{Variables, Function, Class, Standing, Untaken}
 use Rattle.fast_check_skeleton.specs.declared.rules.ItemRule.TheVariants.{Declared, Exported, Silent}
 use Rattle.fast_check_skeleton.specs.Rules.{item_rule}
 use Rattle.fast_check_skeleton.specs.Surroundings.{Surroundings}
-use Rattle.fast_check_skeleton.specs.Visible.{function_decl_seen, decl_seen, exported_seen, seen_by_rule, item_seen}
+use Rattle.fast_check_skeleton.specs.Visible.{function_decl_seen, class_decl_seen, decl_seen, exported_seen, seen_by_rule, item_seen}
 use Rattle.fast_check_skeleton.proofs.Standing.{OneTree, decl_one, export_is}
-use Rattle.fast_check_transform.specs.PartAnswers.{statement_answer, function_answer, decl_answer, item_answer, items_answer}
+use Rattle.fast_check_transform.specs.PartAnswers.{statement_answer, function_answer, class_answer, decl_answer, item_answer, items_answer}
 use Rattle.fast_check_transform.proofs.Listed.{alone, one_more, whole}
 
 module _ (around : Surroundings) (place : SourceRange) (decl : Tree) where
@@ -57,6 +57,19 @@ module _ (around : Surroundings) (place : SourceRange) (decl : Tree) where
   unfolding decl_answer
   private_standing r e old =
       adds_same (ap (λ x. answer_of (by_rule x)) r ∙ ap (λ p. answer_of (if_public p (written decl))) e) (adds_nothing [] old)
+
+  pub public_class_stays : {rule : DeclRule} → rule ≡ Class → around.is_public place ≡ true → {t : Tree} {old new : List Fault} →
+      Adds (class_answer around decl) (Some t) old new → Adds (decl_answer around place decl rule) (t ∷ []) old new
+  unfolding decl_answer class_answer
+  public_class_stays r e h =
+      adds_same (ap (λ x. answer_of (by_rule x)) r ∙ ap (λ p. answer_of (if_public p (class_decl_seen around decl))) e)
+      (alone (class_decl_seen around decl) h)
+
+  pub private_class : {rule : DeclRule} → rule ≡ Class → around.is_public place ≡ false → (old : List Fault) →
+      Adds (decl_answer around place decl rule) [] old old
+  unfolding decl_answer
+  private_class r e old =
+      adds_same (ap (λ x. answer_of (by_rule x)) r ∙ ap (λ p. answer_of (if_public p (class_decl_seen around decl))) e) (adds_nothing [] old)
 
   pub untaken : {rule : DeclRule} → rule ≡ Untaken → (old : List Fault) → Adds (decl_answer around place decl rule) [] old old
   unfolding decl_answer

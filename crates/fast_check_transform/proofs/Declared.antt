@@ -215,10 +215,11 @@ module _ (around : Surroundings) (place : SourceRange) (decl : Tree) where
       if b then implementation_seen (FnDecl-function decl)
       else function_seen around.unresolved (expr_seen around.unresolved) DeclarationLike (Ident-span (FnDecl-ident decl)) (FnDecl-function decl)
 
-  pub implementation : around.is_implementation place ≡ true → {t : Tree} → answer_to (implementation_seen (FnDecl-function decl)) ≡ faultless (Some t) →
-      (old : List Fault) → Adds (signature_answer around place decl) (Some t) old old
+  pub implementation : around.is_implementation place ≡ true → {f t : Tree} → f ≡ FnDecl-function decl →
+      answer_to (implementation_seen f) ≡ faultless (Some t) → (old : List Fault) → Adds (signature_answer around place decl) (Some t) old old
   unfolding signature_answer
-  implementation e p old = adds_same (ap (λ b. answer_to (signature_if b)) e ∙ p) (adds_nothing _ old)
+  implementation e q p old =
+      adds_same (ap (λ b. answer_to (signature_if b)) e ∙ (ap (λ f. answer_to (implementation_seen f)) (sym q) ∙ p)) (adds_nothing _ old)
 
   pub signature : around.is_implementation place ≡ false → {name : SourceRange} {function t : Tree} {old new : List Fault} →
       Adds (answer_to (function_seen around.unresolved (expr_seen around.unresolved) DeclarationLike name function)) (Some t) old new →

@@ -1,5 +1,6 @@
 pub mod Listed
 pub mod Declared
+pub mod ClassCases
 pub mod ByRule
 pub mod Removed
 pub mod Diagnosed

@@ -15,7 +15,7 @@ use Rattle.fast_check_skeleton.specs.Rules.{item_rule}
 use Rattle.fast_check_skeleton.specs.Visible.{item_seen}
 use Rattle.fast_check_signatures.specs.declared.fault.Fault.{Fault}
 use Rattle.fast_check_signatures.specs.Answers.{Adds, with_tree, answer_to, answer_of}
-use Rattle.fast_check_skeleton.specs.KeptComments.{start_of_unseen, removed_start, without_all_leading}
+use Rattle.fast_check_skeleton.specs.KeptComments.{start_of_unseen, starts_inside, removed_start, without_all_leading}
 use Rattle.fast_check_skeleton.proofs.Standing.{OneTree, item_one}
 use Rattle.fast_check_transform.specs.PartAnswers.{item_answer}
 
@@ -33,15 +33,18 @@ module _ (around : Surroundings) (item : Tree) where
   seen_one [] t e = cc
   seen_one (s ∷ ss) t e = refl
 
+  abbrev pub inside : List SourcePos
+  inside = starts_inside around item (item_rule item)
+
   pub removed_if_none : {xs : List Tree} {old new : List Fault} → Adds (item_answer around item) xs old new → xs ≡ [] →
-      removed_start around item ≡ (range_of_node item).start ∷ []
+      removed_start around item ≡ (range_of_node item).start ∷ inside
   unfolding item_answer
-  removed_if_none h e = unseen (item_seen around item) (item_one around item (item_rule item)) (ap (λ a. a.stays) h.is ∙ e)
+  removed_if_none h e = ap (λ ps. ps ++ inside) (unseen (item_seen around item) (item_one around item (item_rule item)) (ap (λ a. a.stays) h.is ∙ e))
 
   pub removed_if_some : {t : Tree} {xs : List Tree} {old new : List Fault} → Adds (item_answer around item) xs old new → xs ≡ t ∷ [] →
-      removed_start around item ≡ []
+      removed_start around item ≡ inside
   unfolding item_answer
-  removed_if_some {t} h e = seen_one (item_seen around item) t (ap (λ a. a.stays) h.is ∙ e)
+  removed_if_some {t} h e = ap (λ ps. ps ++ inside) (seen_one (item_seen around item) t (ap (λ a. a.stays) h.is ∙ e))
 
 -- the comments without those before one more item
 pub one_more : (around : Surroundings) (items : List Tree) (i : ℕ) (item : Tree) (starts : List SourcePos) (c : Comments) → i < length items →

@@ -15,7 +15,7 @@ use Rattle.fast_check_skeleton.specs.declared.rules.DeclRule.{DeclRule}
 use Rattle.fast_check_skeleton.specs.Skeleton.{transformed}
 use Rattle.fast_check_skeleton.specs.Surroundings.{Surroundings}
 use Rattle.fast_check_skeleton.specs.Visible.{declared_ident, declarator_head, value_seen, ident_declarator_seen, declarator_seen, public_declarator}
-use Rattle.fast_check_skeleton.specs.Visible.{public_declarators, statement_seen, signature_of, function_decl_seen, decl_seen, item_seen}
+use Rattle.fast_check_skeleton.specs.Visible.{public_declarators, statement_seen, signature_of, function_decl_seen, class_in, class_decl_seen, decl_seen, item_seen}
 use Rattle.fast_check_transform.specs.declared.asked.Asked.{Asked}
 
 -- what is asked beside the tree
@@ -68,6 +68,13 @@ signature_answer around place decl = answer_to (signature_of around place decl)
 
 unfoldable pub function_answer : Surroundings → SourceRange → Tree → Answer (Option Tree)
 function_answer around place decl = answer_to (function_decl_seen around place decl)
+
+-- to the class of a declaration, and to the declaration
+unfoldable pub class_in_answer : Surroundings → Tree → Answer (Option Tree)
+class_in_answer around decl = answer_to (class_in around decl)
+
+unfoldable pub class_answer : Surroundings → Tree → Answer (Option Tree)
+class_answer around decl = answer_to (class_decl_seen around decl)
 
 -- to a declaration, by what is done with it; it is public by the range of its export, or else by its own
 unfoldable pub decl_answer : Surroundings → SourceRange → Tree → DeclRule → Answer (List Tree)

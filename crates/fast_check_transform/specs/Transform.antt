@@ -7,7 +7,7 @@ use Rattle.fast_check_tables.specs.MediaType.{is_declaration}
 use Rattle.fast_check_tables.specs.PublicRanges.{PublicRanges, is_public, is_implementation}
 use Rattle.fast_check_tables.specs.declared.diagnostics.FastCheckDiagnostic.{FastCheckDiagnostic}
 use Rattle.fast_check_tables.specs.declared.diagnostics.FastCheckDiagnostic.TheVariants.{MissingExplicitType, MissingExplicitReturnType}
-use Rattle.fast_check_tables.specs.declared.diagnostics.FastCheckDiagnostic.TheVariants.{UnsupportedDestructuring}
+use Rattle.fast_check_tables.specs.declared.diagnostics.FastCheckDiagnostic.TheVariants.{UnsupportedDestructuring, UnsupportedSuperClassExpr}
 use Rattle.fast_check_tables.specs.declared.diagnostics.range.FastCheckDiagnosticRange.{FastCheckDiagnosticRange}
 use Rattle.fast_check_signatures.specs.declared.fault.Fault.{Fault}
 use Rattle.fast_check_signatures.specs.declared.fault.FaultKind.TheVariants as kinds
@@ -54,6 +54,7 @@ IsDiagnosticOf info fault (MissingExplicitType place) = (fault.kind ≡ kinds.Mi
 IsDiagnosticOf info fault (MissingExplicitReturnType place is_definitely_void_or_never is_async) =
     (fault.kind ≡ kinds.MissingExplicitReturnType is_definitely_void_or_never is_async) × IsPlaceOf info fault place
 IsDiagnosticOf info fault (UnsupportedDestructuring place) = (fault.kind ≡ kinds.UnsupportedDestructuring) × IsPlaceOf info fault place
+IsDiagnosticOf info fault (UnsupportedSuperClassExpr place) = (fault.kind ≡ kinds.UnsupportedSuperClassExpr) × IsPlaceOf info fault place
 IsDiagnosticOf _ _ _ = ⊥
 
 -- faults one by one as diagnostics

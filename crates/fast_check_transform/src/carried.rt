@@ -11,7 +11,7 @@ use fast_check_skeleton::{DeclRule, ItemRule, item_rule};
 use fast_check_syntax::{Kind, Part};
 use fast_check_tables::EsModuleInfo;
 
-/// Whether a module is one that `transform` takes so far: of nothing but functions, variable statements, interfaces,
+/// Whether a module is one that `transform` takes so far: of nothing but functions, classes, variable statements, interfaces,
 /// type aliases and enums, exported or not, and of statements that declare and assign nothing. A tree without items is
 /// one. It takes no memory.
 pub fn is_carried(es_module_info: &EsModuleInfo) -> bool
@@ -54,7 +54,7 @@ fn is_taken_decl(rule: DeclRule) -> bool
     ensures { result ≡ is_taken_decl rule }
 {
     match rule {
-        DeclRule::Variables | DeclRule::Function | DeclRule::Standing => true,
+        DeclRule::Variables | DeclRule::Function | DeclRule::Class | DeclRule::Standing => true,
         DeclRule::Untaken => false,
     }
 }

@@ -4,6 +4,7 @@ ghost use Rattle.fast_check_signatures.specs.Answers.{Adds};
 ghost use Rattle.fast_check_transform.specs.PartAnswers.{Asked-around, as_list, signature_answer, function_answer, decl_answer, item_answer};
 
 use crate::asked::Asked;
+use crate::classes::keep_class;
 use crate::declarations::keep_statement;
 use fast_check_program_forms::{ExportDecl, Ident};
 use fast_check_ranges::range_of_node;
@@ -92,6 +93,12 @@ fn keep_decl(
                 return Ok(None);
             }
             Ok(Some(decl.to_tree(alloc)?))
+        }
+        DeclRule::Class => {
+            if !asked.public_ranges.contains(&place) {
+                return Ok(None);
+            }
+            Ok(Some(keep_class(alloc, asked, decl, faults)?))
         }
         DeclRule::Untaken => Ok(None),
     }

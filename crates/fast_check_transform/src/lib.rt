@@ -3,6 +3,7 @@
 
 mod asked;
 mod carried;
+mod classes;
 mod declarations;
 mod items;
 mod transformer;

@@ -10,6 +10,7 @@ ghost use Rattle.fast_check_transform.specs.PartAnswers.{Asked-around, items_ans
 ghost use Rattle.fast_check_transform.specs.Transform.{IsCarried, skeleton, comments, faults, told, IsDiagnosticOf, AreDiagnosticsOf};
 
 use crate::asked::Asked;
+use crate::classes::remove_inside;
 use crate::items::keep_item;
 use fast_check_comments::{Comments, CommentsMut};
 use fast_check_program_forms::Module;
@@ -122,9 +123,13 @@ fn keep_items(
         match keep_item(alloc, asked, item, faults)? {
             None => {
                 comments.remove_leading(range_of_node(item).start);
+                remove_inside(alloc, asked, item, comments)?;
                 continue;
             }
-            Some(tree) => items.push(tree)?,
+            Some(tree) => {
+                remove_inside(alloc, asked, item, comments)?;
+                items.push(tree)?;
+            }
         }
     }
     Ok(items)
@@ -154,6 +159,9 @@ fn diagnostic_of(
         },
         FaultKind::UnsupportedDestructuring => {
             FastCheckDiagnostic::UnsupportedDestructuring { range }
+        }
+        FaultKind::UnsupportedSuperClassExpr => {
+            FastCheckDiagnostic::UnsupportedSuperClassExpr { range }
         }
     })
 }

@@ -1,7 +1,9 @@
 pub mod Descending
 pub mod Staying
+pub mod StayingLists
 pub mod TypedPatterns
 pub mod TypedFunctions
 pub mod TypedArrows
 pub mod Typed
 pub mod Present
+pub mod TypedClasses

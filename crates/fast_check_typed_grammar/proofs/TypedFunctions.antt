@@ -21,7 +21,7 @@ use Rattle.fast_check_helpers.specs.Builders.{any_type_ann}
 use Rattle.fast_check_helpers.specs.OptionalParams.{is_optional_param}
 use Rattle.fast_check_helpers.specs.ReturnClass.{return_class}
 use Rattle.fast_check_signatures.specs.declared.function_kind.FunctionKind.{FunctionKind}
-use Rattle.fast_check_signatures.specs.declared.function_kind.FunctionKind.TheVariants.{DeclarationLike, Getter}
+use Rattle.fast_check_signatures.specs.declared.function_kind.FunctionKind.TheVariants.{DeclarationLike, Getter, Setter}
 use Rattle.fast_check_signatures.specs.Seen.{FunctionHead, Seen, written, seens}
 use Rattle.fast_check_signatures.specs.NewNodes.{function_body, param_ident, any_param}
 use Rattle.fast_check_signatures.specs.Parameters.{Look, pat_seen, pats_seen}
@@ -31,12 +31,13 @@ use Rattle.fast_check_signatures.specs.Functions.{params_seen, function_seen}
 use Rattle.fast_check_signatures.specs.Answers.{settled, visited, faultless, signed_function, answer_to, parts_answer, answer_of}
 use Rattle.fast_check_signatures.proofs.Choices.{of_choice, not_empty}
 use Rattle.fast_check_typed_grammar.specs.TypedGrammar.{IsTypedFunction, IsTypedPat, AllTypedParams}
+use Rattle.fast_check_typed_grammar.specs.ClassGrammar.{IsTypedSetter}
 use Rattle.fast_check_typed_grammar.proofs.Staying.{Holds, Stays, round_stays, written_before, last_stays, items_hold, joined_stays}
 use Rattle.fast_check_typed_grammar.proofs.TypedPatterns.{LookStays, pat_stays, typed_ident, typed_rest, ident_gathered}
 
 -- ---- return types
 
-absent : is_absent Absent ≡ true
+pub absent : is_absent Absent ≡ true
 unfolding roll-Tree denote.Hole.Carrier.roll
 absent = ap is_absent_at (out-roll-Tree Tree-F.Absent)
 
@@ -83,6 +84,14 @@ stands_behind true type shown = inl absent
 stands_behind false type (inl e) = cc
 stands_behind false type (inr e) = inr (e, refl)
 
+-- the body of a setter
+abbrev IsSetterBody : Tree → Tree → Type 0
+IsSetterBody type body = (is_absent body ≡ true) ⊎ (body ≡ function_body type)
+
+setter_body : (lacks_body : Bool) (type : Tree) → IsSetterBody type (if lacks_body then Absent else function_body type)
+setter_body true type = inl absent
+setter_body false type = inr refl
+
 -- ---- nothing is at fault in an implementation behind overloads
 
 any_params_faultless : (place : ℕ) (params : List Tree) → (answer_of (any_params_from place params)).faults ≡ []
@@ -117,7 +126,7 @@ module _ (unresolved : SyntaxContext) where
       (last_stays (IsTypedPat unresolved) (λ ts. IsTypedParam (node Param (span ∷ list [] ∷ ts))) (typed_param (Param-span p)) (answer_to pat) stays)))
 
   -- parameters are typed
-  abbrev ParamsHold : List Seen → Type 0
+  abbrev pub ParamsHold : List Seen → Type 0
   ParamsHold params = Holds (AllTypedParams unresolved) (answer_of params)
 
   next_holds : (param : Seen) (params : List Seen) → Stays IsTypedParam (answer_to param) → ParamsHold params → ParamsHold (param ∷ params)
@@ -156,7 +165,7 @@ module _ (unresolved : SyntaxContext) where
       (is_absent_node _ _))
   any_param_typed place false = typed_param none_range _ (typed_ident unresolved (param_ident place true) any_type_ann (is_absent_node _ _))
 
-  any_params_hold : (place : ℕ) (params : List Tree) → ParamsHold (any_params_from place params)
+  pub any_params_hold : (place : ℕ) (params : List Tree) → ParamsHold (any_params_from place params)
   any_params_hold place [] = λ f. AllTypedParams.no_params
   any_params_hold place (p ∷ ps) = let is_rest = kind_of (Param-pat p) is RestPat in
       next_holds (written (any_param place is_rest)) (any_params_from (suc place) ps) (λ f. any_param_typed place is_rest) (any_params_hold (suc place) ps)
@@ -168,7 +177,7 @@ module _ (unresolved : SyntaxContext) where
   -- ---- a function
 
   module _ (look : Look) (stays : LookStays unresolved look) where
-    params_hold : (params pats : List Tree) → ParamsHold (params_seen params (pats_seen unresolved look pats))
+    pub params_hold : (params pats : List Tree) → ParamsHold (params_seen params (pats_seen unresolved look pats))
     params_hold [] pats = λ f. AllTypedParams.no_params
     params_hold (p ∷ ps) [] = λ f. AllTypedParams.no_params
     params_hold (p ∷ ps) (pat ∷ pats) =
@@ -183,3 +192,30 @@ module _ (unresolved : SyntaxContext) where
         let pats = map (λ p. Param-pat p) params in
         signature_stays t (return_type_seen kind place t) (params_seen params (pats_seen unresolved look pats)) (return_type_shows kind place t n)
         (params_hold params pats)
+
+    -- the function of a setter: no type shows its body
+    typed_setter : (f : FunctionHead) (type : Tree) (params : List Tree) → Unit {0} → AllTypedParams unresolved params →
+        IsTypedSetter unresolved (signed_function f type params)
+    typed_setter f type params shown typed =
+        let made = signed_function f type params in
+        let body = if f.lacks_body then Absent else function_body type in
+        let same_body : Function-body made ≡ body = part_node _ _ _ in
+        let same_type : Function-return_type made ≡ type = part_node _ _ _ in
+        let same_params : Function-params made ≡ list params = part_node _ _ _ in
+        record {
+          kind = kind_of_node _ _;
+          decorators = part_node _ _ _;
+          is_async = ap flag_of (part_node _ _ _) ∙ flag_of_flag false;
+          is_generator = ap flag_of (part_node _ _ _) ∙ flag_of_flag false;
+          body = subst (λ b. IsSetterBody (Function-return_type made) b) (sym same_body) (subst (λ u. IsSetterBody u body) (sym same_type)
+              (setter_body f.lacks_body type));
+          params = subst (AllTypedParams unresolved) (sym (ap parts same_params ∙ parts_node _ _)) typed;
+        }
+
+    pub setter_stays : (place : SourceRange) (t : Tree) → Stays (IsTypedSetter unresolved) (answer_to (function_seen unresolved look Setter place t))
+    setter_stays place t =
+        let params = parts (Function-params t) in
+        let pats = map (λ p. Param-pat p) params in
+        joined_stays (λ (type : Tree). Unit {0}) (AllTypedParams unresolved) (IsTypedSetter unresolved) (signed_function (function_head t))
+        (typed_setter (function_head t)) (settled (answer_to (return_type_seen Setter place t)))
+        (answer_of (params_seen params (pats_seen unresolved look pats))) (λ f. tt) (params_hold params pats)

@@ -1,1 +1,2 @@
 pub mod TypedGrammar
+pub mod ClassGrammar

@@ -2,7 +2,8 @@ use Rattle.std.proofs.Common.{sym, ◌∙◌}
 use Rattle.std.proofs.lemmas.Result.{IfOk-weaker}
 use Rattle.fast_check_syntax.specs.Part.{seen}
 use Rattle.fast_check_transform.specs.PartAnswers.{Asked-around}
-use Rattle.fast_check_transform.proofs.ByRule.{variables, public_function_stays, private_function, public_standing, private_standing, untaken}
+use Rattle.fast_check_transform.proofs.ByRule.{variables, public_function_stays, private_function, public_standing, private_standing}
+use Rattle.fast_check_transform.proofs.ByRule.{public_class_stays, private_class, untaken}
 use Rattle.fast_check_transform.proofs.items.keep_decl.Goals as goal
 
 pub returns-then-not-contains : goal.returns-then-not-contains
@@ -28,3 +29,13 @@ returns-in_ok-to_tree-in-Standing c =
 
 pub returns-in-Untaken : goal.returns-in-Untaken
 returns-in-Untaken c = untaken (Asked-around c.args.asked) c.args.place (seen c.args.decl) c.in-Untaken.is c.args.faults.now.items
+
+pub returns-then-not-contains-3 : goal.returns-then-not-contains-3
+returns-then-not-contains-3 c =
+    private_class (Asked-around c.args.asked) c.args.place (seen c.args.decl) c.in-Class.is
+    (sym c.contains-in-Class.ensures ∙ c.if-not-contains-3.true) c.args.faults.now.items
+
+pub returns-in_ok-keep_class-in-Class : goal.returns-in_ok-keep_class-in-Class
+returns-in_ok-keep_class-in-Class c =
+    public_class_stays (Asked-around c.args.asked) c.args.place (seen c.args.decl) c.in-Class.is
+    (sym c.contains-in-Class.ensures ∙ c.if-not-contains-3.false) c.in_ok-keep_class-in-Class.ensures

@@ -1,8 +1,6 @@
 use Rattle.std.proofs.Common.{ap, sym, ◌∙◌}
 use Rattle.std.proofs.lemmas.Result.{IfOk-weaker}
 use Rattle.fast_check_program_forms.specs.Names.{Ident-span}
-use Rattle.fast_check_signatures.specs.Answers.{answer_to}
-use Rattle.fast_check_signatures.specs.Functions.{implementation_seen}
 use Rattle.fast_check_syntax.specs.Part.{seen}
 use Rattle.fast_check_transform.specs.PartAnswers.{Asked-around}
 use Rattle.fast_check_transform.proofs.Declared.{implementation, signature}
@@ -13,12 +11,12 @@ returns-then-is_impl_with_overloads c =
     IfOk-weaker c.transform_implementation.result _ _
     (λ tree h. implementation (Asked-around c.args.asked) c.args.place (seen c.args.decl)
     (sym c.is_impl_with_overloads.ensures ∙ c.if-is_impl_with_overloads.true)
-    (ap (λ f. answer_to (implementation_seen f)) (sym c.of.ensures.function) ∙ h) c.args.faults.now.items) c.transform_implementation.ensures
+    {f = seen c.of.result.function} {t = tree} c.of.ensures.function h c.args.faults.now.items) c.transform_implementation.ensures
 
 pub returns : goal.returns
 returns c =
     IfOk-weaker c.transform_fn.result _ _
     (λ tree h. signature (Asked-around c.args.asked) c.args.place (seen c.args.decl)
-    (sym c.is_impl_with_overloads.ensures ∙ c.if-is_impl_with_overloads.false) {name = c.of-2.result.span} {function = seen c.of.result.function} h
+    (sym c.is_impl_with_overloads.ensures ∙ c.if-is_impl_with_overloads.false) {name = c.of-2.result.span} {function = seen c.of.result.function} {t = tree} h
     (c.of-2.ensures.span ∙ ap Ident-span c.of.ensures.ident) c.of.ensures.function)
     c.transform_fn.ensures

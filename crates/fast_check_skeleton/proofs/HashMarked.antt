@@ -1,0 +1,208 @@
+-- The law on `#private` holds.
+use Rattle.std.specs.Prelude.{◌≡◌, Bool, true, false, IfSome, Option, Some, None, List, [], ◌∷◌, ◌++◌, map, flat_map, refl, unwrap_or, option_map}
+use Rattle.std.specs.Prelude.{if◌then◌else◌}
+use Rattle.std.specs.List.{list_any, filter}
+use Rattle.std.proofs.Common.{ap, ap₂, ◌∙◌, sym, subst}
+use Rattle.std.proofs.lemmas.List.{append-nil}
+use Rattle.std.proofs.lemmas.List.Elements.{filter-append}
+use Rattle.fast_check_syntax.specs.declared.kind.Kind.{Kind}
+use Rattle.fast_check_syntax.specs.declared.kind.Kind.TheVariants as kinds
+use Rattle.fast_check_syntax.specs.declared.source.SourceRange.{SourceRange}
+use Rattle.fast_check_syntax.specs.declared.source.SyntaxContext.{SyntaxContext}
+use Rattle.fast_check_syntax.specs.declared.tree.Tree.{Tree, Absent, roll-Tree, out-roll-Tree}
+use Rattle.fast_check_syntax.specs.declared.tree.Tree.TheOpen.{Tree-F}
+use Rattle.fast_check_syntax.specs.Shape.{◌is◌, kind_at, kind_of, parts, is_absent, node, list, OfAll}
+use Rattle.fast_check_syntax.proofs.Made.{kind_of_node, parts_node, part_node}
+use Rattle.fast_check_class_forms.specs.Classes.{Class-body, Class-super_class, Constructor-span, Constructor-ctxt, Constructor-key, Constructor-body}
+use Rattle.fast_check_class_forms.specs.Classes.{Constructor-accessibility, Constructor-is_optional}
+use Rattle.fast_check_class_forms.specs.Fields.{ClassProp-value, ClassProp-type_ann, AutoAccessor-value, AutoAccessor-type_ann}
+use Rattle.fast_check_class_forms.specs.Methods.{ClassMethod-span, ClassMethod-key, ClassMethod-kind, ClassMethod-is_static, ClassMethod-accessibility}
+use Rattle.fast_check_class_forms.specs.Methods.{ClassMethod-is_abstract, ClassMethod-is_optional, ClassMethod-is_override}
+use Rattle.fast_check_helpers.specs.declared.literal_type.DeclMutabilityKind.TheVariants.{Mutable}
+use Rattle.fast_check_helpers.specs.Builders.{type_ann, any_type_ann}
+use Rattle.fast_check_helpers.specs.InferredType.{inferred_type}
+use Rattle.fast_check_signatures.specs.NewNodes.{hash_private}
+use Rattle.fast_check_signatures.specs.Seen.{PropertyHead, Seen, written, range, scope, flag, listed, seens}
+use Rattle.fast_check_signatures.specs.Answers.{settled, with_tree, class_of, declared_property, valued_property, answer_to, parts_answer, answer_of}
+use Rattle.fast_check_signatures.specs.Members.{is_private, is_hash_named_kind, is_hash_named, hash_mark, stays_by_kind, stays_behind, each_behind, if_kept}
+use Rattle.fast_check_signatures.specs.Members.{kept_members}
+use Rattle.fast_check_signatures.specs.Classes.{superclass_seen, typed_property, mutability_of_property, property_head, accessor_head, private_method_head}
+use Rattle.fast_check_signatures.specs.Classes.{param_properties, patterns_among, param_property_head, constructor_body, method_function_seen}
+use Rattle.fast_check_signatures.specs.Classes.{unless_any, constructor_of, unless_taken_apart, class_head, untyped_property_seen, property_seen}
+use Rattle.fast_check_signatures.specs.Classes.{untyped_accessor_seen, accessor_seen, method_seen, constructor_params_seen, constructor_seen, member_of_kind}
+use Rattle.fast_check_signatures.specs.Classes.{member_seen, param_property_type, param_property, declared_by_params, members_seen, plain_class_seen}
+use Rattle.fast_check_signatures.proofs.Adding.{answer_append}
+use Rattle.fast_check_signatures.proofs.Choices.{of_choice}
+use Rattle.fast_check_skeleton.specs.HashMark.{hash_named_members, HashMarked}
+
+-- ---- trees without a hash name
+
+abbrev Plain : Tree → Type 0
+Plain t = is_hash_named t ≡ false
+
+plain_kind : (t : Tree) (k : Kind) → kind_of t ≡ k → is_hash_named_kind k t ≡ false → Plain t
+plain_kind t k e n = ap (λ j. is_hash_named_kind j t) e ∙ n
+
+plain_absent : Plain Absent
+unfolding roll-Tree denote.Hole.Carrier.roll
+plain_absent = plain_kind Absent kinds.Leaf (ap kind_at (out-roll-Tree Tree-F.Absent)) refl
+
+-- what stays of what is seen has none
+abbrev PlainSeen : Seen → Type 0
+PlainSeen s = IfSome (answer_to s).stays Plain
+
+of_node : (k : Kind) (o : Option (List Tree)) → ((t : Tree) → is_hash_named_kind k t ≡ false) → IfSome (option_map (node k) o) Plain
+of_node k None n = tt
+of_node k (Some ts) n = plain_kind (node k ts) k (kind_of_node k ts) (n (node k ts))
+
+property_plain : (p : PropertyHead) (type : Tree) → Plain (declared_property p type)
+property_plain p type = plain_kind (declared_property p type) kinds.ClassProp (kind_of_node _ _) refl
+
+valued_plain : (p : PropertyHead) (value : Tree) → Plain (valued_property p value)
+valued_plain p value = plain_kind (valued_property p value) kinds.ClassProp (kind_of_node _ _) refl
+
+none_of : (ts : List Tree) → OfAll Plain ts → filter is_hash_named ts ≡ []
+none_of [] h = refl
+none_of (t ∷ ts) h = rw h.0 (none_of ts h.1)
+
+all_of : (xs ys : List Tree) → OfAll Plain xs → OfAll Plain ys → OfAll Plain (xs ++ ys)
+all_of [] ys p q = q
+all_of (x ∷ xs) ys p q = (p.0, all_of xs ys p.1 q)
+
+written_stay : (ts : List Tree) → (answer_of (map written ts)).stays ≡ ts
+written_stay [] = refl
+written_stay (t ∷ ts) = ap (λ us. t ∷ us) (written_stay ts)
+
+marked : filter is_hash_named (hash_private ∷ []) ≡ hash_private ∷ []
+marked =
+    let kind : kind_of hash_private ≡ kinds.PrivateProp = kind_of_node _ _ in
+    let named : is_hash_named hash_private ≡ true = ap (λ k. is_hash_named_kind k hash_private) kind in
+    rw named refl
+
+mark_stays : (b : Bool) → filter is_hash_named (if b then hash_private ∷ [] else []) ≡ (if b then hash_private ∷ [] else [])
+mark_stays true = marked
+mark_stays false = refl
+
+module _ (unresolved : SyntaxContext) (is_implementation : SourceRange → Bool) where
+  -- ---- members
+
+  untyped_plain : (p : PropertyHead) (value : Tree) (o : Option Tree) → PlainSeen (untyped_property_seen unresolved is_implementation p value o)
+  untyped_plain p value (Some type) = property_plain p (type_ann type)
+  untyped_plain p value None = valued_plain p _
+
+  property_seen_plain : (m : Tree) → PlainSeen (property_seen unresolved is_implementation m)
+  property_seen_plain m =
+      of_choice PlainSeen (is_private (property_head m).accessibility) _ _ (λ e. property_plain (property_head m) any_type_ann)
+      (λ e. of_choice PlainSeen (is_absent (ClassProp-type_ann m)) _ _
+      (λ n. untyped_plain (property_head m) (ClassProp-value m)
+      (inferred_type (mutability_of_property (property_head m).readonly) unresolved (ClassProp-value m))) (λ w. property_plain (property_head m) (ClassProp-type_ann m)))
+
+  shown_plain : (p : PropertyHead) (o : Option Tree) → PlainSeen (untyped_accessor_seen unresolved is_implementation p o)
+  shown_plain p (Some type) = property_plain p (type_ann type)
+  shown_plain p None = plain_absent
+
+  accessor_seen_plain : (m : Tree) → PlainSeen (accessor_seen unresolved is_implementation m)
+  accessor_seen_plain m =
+      of_choice PlainSeen (is_private (accessor_head m).accessibility) _ _ (λ e. property_plain (accessor_head m) any_type_ann)
+      (λ e. of_choice PlainSeen (is_absent (AutoAccessor-type_ann m))
+      (untyped_accessor_seen unresolved is_implementation (accessor_head m) (inferred_type Mutable unresolved (AutoAccessor-value m)))
+      (typed_property (accessor_head m) (AutoAccessor-type_ann m)) (λ n. shown_plain (accessor_head m) (inferred_type Mutable unresolved (AutoAccessor-value m)))
+      (λ w. property_plain (accessor_head m) (AutoAccessor-type_ann m)))
+
+  -- what is seen of a method that is not private, and of a constructor, part by part
+  abbrev method_parts : Tree → List Seen
+  method_parts m =
+      range (ClassMethod-span m) ∷ written (ClassMethod-key m) ∷ method_function_seen unresolved is_implementation m ∷ written (ClassMethod-kind m) ∷
+      flag (ClassMethod-is_static m) ∷ written (ClassMethod-accessibility m) ∷ flag (ClassMethod-is_abstract m) ∷ flag (ClassMethod-is_optional m) ∷
+      flag (ClassMethod-is_override m) ∷ []
+
+  abbrev constructor_parts : Tree → List Seen
+  constructor_parts m =
+      range (Constructor-span m) ∷ scope (Constructor-ctxt m) ∷ written (Constructor-key m) ∷
+      listed (seens (constructor_params_seen unresolved is_implementation m)) ∷ written (constructor_body (Constructor-body m)) ∷
+      written (Constructor-accessibility m) ∷ flag (Constructor-is_optional m) ∷ []
+
+  method_seen_plain : (m : Tree) → PlainSeen (method_seen unresolved is_implementation m)
+  method_seen_plain m =
+      of_choice PlainSeen (is_private (ClassMethod-accessibility m)) _ _ (λ e. property_plain (private_method_head m) any_type_ann)
+      (λ n. of_node kinds.ClassMethod (parts_answer (seens (method_parts m))).stays (λ t. refl))
+
+  constructor_seen_plain : (m : Tree) → PlainSeen (constructor_seen unresolved is_implementation m)
+  constructor_seen_plain m = go (patterns_among (param_properties m))
+    where
+      go : (apart : List Tree) → PlainSeen (unless_taken_apart apart (constructor_of m (constructor_params_seen unresolved is_implementation m)))
+      go [] = of_node kinds.Constructor (parts_answer (seens (constructor_parts m))).stays (λ t. refl)
+      go (p ∷ ps) = plain_absent
+
+  by_kind : (k : Kind) (earlier : List Tree) (m : Tree) → kind_of m ≡ k → stays_by_kind k earlier m ≡ true →
+      PlainSeen (member_of_kind unresolved is_implementation k m)
+  by_kind kinds.Constructor earlier m k e = constructor_seen_plain m
+  by_kind kinds.ClassMethod earlier m k e = method_seen_plain m
+  by_kind kinds.ClassProp earlier m k e = property_seen_plain m
+  by_kind kinds.AutoAccessor earlier m k e = accessor_seen_plain m
+  by_kind kinds.TsIndexSignature earlier m k e = plain_kind m kinds.TsIndexSignature k refl
+  by_kind _ earlier m k e = cc
+
+  with_plain : (s : Seen) (ss : List Seen) → PlainSeen s → OfAll Plain (answer_of ss).stays → OfAll Plain (answer_of (s ∷ ss)).stays
+  with_plain s ss p h = go (answer_to s).stays p
+    where
+      go : (o : Option Tree) → IfSome o Plain → OfAll Plain (with_tree o (answer_of ss).stays)
+      go None p = h
+      go (Some t) p = (p, h)
+
+  kept_plain : (earlier ms : List Tree) → OfAll Plain (answer_of (map (member_seen unresolved is_implementation) (each_behind if_kept earlier ms))).stays
+  kept_plain earlier [] = tt
+  kept_plain earlier (m ∷ ms) = go (stays_behind earlier m) refl (kept_plain (m ∷ earlier) ms)
+    where
+      go : (b : Bool) → stays_behind earlier m ≡ b →
+          OfAll Plain (answer_of (map (member_seen unresolved is_implementation) (each_behind if_kept (m ∷ earlier) ms))).stays →
+          OfAll Plain (answer_of (map (member_seen unresolved is_implementation) ((if b then m ∷ [] else []) ++ each_behind if_kept (m ∷ earlier) ms))).stays
+      go true e rest = with_plain (member_seen unresolved is_implementation m) (map (member_seen unresolved is_implementation) (each_behind if_kept (m ∷ earlier) ms))
+          (by_kind (kind_of m) earlier m refl e) rest
+      go false e rest = rest
+
+  param_properties_plain : (ps : List Tree) → OfAll Plain (map (param_property unresolved is_implementation) ps)
+  param_properties_plain [] = tt
+  param_properties_plain (p ∷ ps) =
+      (property_plain (param_property_head p) (param_property_type unresolved is_implementation p), param_properties_plain ps)
+
+  declared_plain : (m : Tree) → OfAll Plain (declared_by_params unresolved is_implementation m)
+  declared_plain m = of_choice (OfAll Plain) (kind_of m is kinds.Constructor) _ _ (λ e. go (patterns_among (param_properties m))) (λ e. tt)
+    where
+      go : (apart : List Tree) → OfAll Plain (unless_any apart (map (param_property unresolved is_implementation) (param_properties m)))
+      go [] = param_properties_plain (param_properties m)
+      go (p ∷ ps) = tt
+
+  all_declared : (ms : List Tree) → OfAll Plain (flat_map (declared_by_params unresolved is_implementation) ms)
+  all_declared [] = tt
+  all_declared (m ∷ ms) = all_of (declared_by_params unresolved is_implementation m) _ (declared_plain m) (all_declared ms)
+
+  -- ---- classes
+
+  abbrev made_by : List Tree → List Tree
+  made_by ms = flat_map (declared_by_params unresolved is_implementation) (kept_members ms)
+
+  members_marked : (ms : List Tree) → filter is_hash_named (answer_of (members_seen unresolved is_implementation ms)).stays ≡ hash_mark ms
+  members_marked ms =
+      let kept = map (member_seen unresolved is_implementation) (kept_members ms) in
+      let rest = (answer_of kept).stays in
+      let mark : filter is_hash_named (hash_mark ms) ≡ hash_mark ms = mark_stays (list_any is_hash_named ms) in
+      let made : filter is_hash_named (hash_mark ms ++ made_by ms) ≡ hash_mark ms =
+      filter-append is_hash_named (hash_mark ms) (made_by ms) ∙ (ap₂ (λ x y. x ++ y) mark (none_of (made_by ms) (all_declared (kept_members ms)))
+      ∙ append-nil (hash_mark ms)) in
+      ap (λ a. filter is_hash_named a.stays) (answer_append (map written (hash_mark ms ++ made_by ms)) kept)
+      ∙ (ap (λ ts. filter is_hash_named (ts ++ rest)) (written_stay (hash_mark ms ++ made_by ms))
+      ∙ (filter-append is_hash_named (hash_mark ms ++ made_by ms) rest ∙ (ap₂ (λ x y. x ++ y) made (none_of rest (kept_plain [] ms))
+      ∙ append-nil (hash_mark ms))))
+
+  class_marked : (t : Tree) → hash_named_members (class_of (class_head t) (settled (answer_to (superclass_seen (Class-super_class t)))).stays
+      (answer_of (members_seen unresolved is_implementation (parts (Class-body t)))).stays) ≡ hash_mark (parts (Class-body t))
+  class_marked t =
+      let members = (answer_of (members_seen unresolved is_implementation (parts (Class-body t)))).stays in
+      let superclass = (settled (answer_to (superclass_seen (Class-super_class t)))).stays in
+      let body : Class-body (class_of (class_head t) superclass members) ≡ list members = part_node _ _ _ in
+      ap (filter is_hash_named) (ap parts body ∙ parts_node _ _) ∙ members_marked (parts (Class-body t))
+
+pub hash_marked : (class : Tree) → HashMarked class
+hash_marked class unresolved is_implementation skeleton e =
+    ap hash_named_members (sym (ap (λ o. unwrap_or o Absent) e)) ∙ class_marked unresolved is_implementation class

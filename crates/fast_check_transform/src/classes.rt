@@ -1,0 +1,126 @@
+ghost use Rattle.std.specs.Prelude.{◌≡◌, IfOk, Some};
+ghost use Rattle.fast_check_syntax.specs.Part.{seen};
+ghost use Rattle.fast_check_syntax.specs.Shape.{parts};
+ghost use Rattle.fast_check_signatures.specs.Answers.{Adds};
+ghost use Rattle.fast_check_skeleton.specs.KeptComments.{starts_of_removed, starts_in_decl, starts_inside, without_all_leading};
+ghost use Rattle.fast_check_skeleton.specs.Rules.{item_rule};
+ghost use Rattle.fast_check_skeleton.specs.Visible.{is_ambient_class};
+ghost use Rattle.fast_check_transform.specs.PartAnswers.{Asked-around, class_in_answer, class_answer};
+
+use crate::asked::Asked;
+use fast_check_class_forms::Class;
+use fast_check_class_nodes::Earlier;
+use fast_check_classes::{ambient_class, transform_class};
+use fast_check_comments::CommentsMut;
+use fast_check_program_forms::ExportDecl;
+use fast_check_ranges::range_of_node;
+use fast_check_signatures::Fault;
+use fast_check_skeleton::{DeclRule, ItemRule, item_rule};
+use fast_check_statement_forms::ClassDecl;
+use fast_check_syntax::{Part, SourceRange, Tree};
+use std::alloc::{AllocError, Global};
+
+/// Whether a class is ambient.
+fn is_ambient_class(asked: Asked<'_>, decl: Part<'_>) -> bool
+    ensures { result ≡ is_ambient_class (Asked-around asked.entry) (seen decl.entry) }
+{
+    asked.is_declaration_file || ClassDecl::of(decl).declare
+}
+
+/// The class of a declaration; an ambient one as it is written, but for private members with computed keys.
+fn keep_class_of(
+    alloc: Global,
+    asked: Asked<'_>,
+    decl: Part<'_>,
+    faults: &mut Vec<Fault>,
+) -> Result<Tree, AllocError>
+    ensures { IfOk result (λ tree. Adds (class_in_answer (Asked-around asked.entry) (seen decl.entry)) (Some tree) faults.old.items faults.new.items) }
+{
+    let class = ClassDecl::of(decl).class;
+    if is_ambient_class(asked, decl) {
+        return ambient_class(alloc, class);
+    }
+    transform_class(alloc, asked.public_ranges, asked.unresolved, class, faults)
+}
+
+/// A public class.
+pub fn keep_class(
+    alloc: Global,
+    asked: Asked<'_>,
+    decl: Part<'_>,
+    faults: &mut Vec<Fault>,
+) -> Result<Tree, AllocError>
+    ensures { IfOk result (λ tree. Adds (class_answer (Asked-around asked.entry) (seen decl.entry)) (Some tree) faults.old.items faults.new.items) }
+{
+    let ClassDecl { ident, declare, .. } = ClassDecl::of(decl);
+    let made = ClassDecl {
+        ident: ident.to_tree(alloc)?,
+        declare,
+        class: keep_class_of(alloc, asked, decl, faults)?,
+    };
+    made.into_tree(alloc)
+}
+
+/// Removes the comments before the members of a class that go.
+fn remove_before_members(
+    alloc: Global,
+    class: Part<'_>,
+    comments: &mut CommentsMut,
+) -> Result<(), AllocError>
+    ensures { IfOk result (λ _. comments.new ≡ without_all_leading (starts_of_removed (seen class.entry)) comments.old) }
+{
+    let mut earlier = Earlier::new(alloc);
+    for member in Class::of(class).body.parts() {
+        let member = member.read();
+        if earlier.stays(member)? {
+            continue;
+        }
+        comments.remove_leading(range_of_node(member).start);
+    }
+    Ok(())
+}
+
+/// Removes the comments before what goes inside of a declaration that stays and with which this is done.
+fn remove_in_decl(
+    alloc: Global,
+    asked: Asked<'_>,
+    place: SourceRange,
+    decl: Part<'_>,
+    rule: DeclRule,
+    comments: &mut CommentsMut,
+) -> Result<(), AllocError>
+    ensures { IfOk result (λ _.
+        comments.new ≡ without_all_leading (starts_in_decl (Asked-around asked.entry) place (seen decl.entry) rule) comments.old) }
+{
+    match rule {
+        DeclRule::Class => {
+            if !asked.public_ranges.contains(&place) || is_ambient_class(asked, decl) {
+                return Ok(());
+            }
+            remove_before_members(alloc, ClassDecl::of(decl).class, comments)
+        }
+        DeclRule::Variables | DeclRule::Function | DeclRule::Standing | DeclRule::Untaken => Ok(()),
+    }
+}
+
+/// Removes the comments before what goes inside of an item.
+pub fn remove_inside(
+    alloc: Global,
+    asked: Asked<'_>,
+    item: Part<'_>,
+    comments: &mut CommentsMut,
+) -> Result<(), AllocError>
+    ensures { IfOk result (λ _.
+        comments.new ≡ without_all_leading (starts_inside (Asked-around asked.entry) (seen item.entry) (item_rule (seen item.entry))) comments.old) }
+{
+    match item_rule(item) {
+        ItemRule::Declared(rule) => {
+            remove_in_decl(alloc, asked, range_of_node(item), item, rule, comments)
+        }
+        ItemRule::Exported(rule) => {
+            let ExportDecl { span, decl } = ExportDecl::of(item);
+            remove_in_decl(alloc, asked, span, decl, rule, comments)
+        }
+        ItemRule::Silent => Ok(()),
+    }
+}
