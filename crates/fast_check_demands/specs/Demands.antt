@@ -1,6 +1,5 @@
 -- Demands of the symbols of a module.
-use Rattle.std.specs.Prelude.{ℕ, Bool, true, false, ◌&&◌, ◌==◌, List, String}
-use Rattle.std.specs.declared.alloc.Global.{Global}
+use Rattle.std.specs.Prelude.{Bool, ◌==◌}
 use Rattle.fast_check_names.specs.Names.{Path, path_of}
 use Rattle.fast_check_symbols.specs.declared.symbol_id.SymbolId.{SymbolId}
 use Rattle.fast_check_demands.specs.declared.demand.Namespace.{Namespace}

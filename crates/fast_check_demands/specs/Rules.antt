@@ -2,7 +2,7 @@
 --
 -- A demand names the demands of a list. An identifier that no symbol of the module is bound to names nothing. What a declaration
 -- refers to in another file follows from the demand in that file, and is no matter of the module.
-use Rattle.std.specs.Prelude.{ℕ, Bool, true, false, cond, not, ◌&&◌, List, [], ◌∷◌, ◌++◌, map, Option, Some, None, option_map, codes, String, string_bytes}
+use Rattle.std.specs.Prelude.{Bool, false, cond, not, ◌&&◌, List, [], ◌∷◌, ◌++◌, map, Option, Some, None, option_map, codes, String, string_bytes}
 use Rattle.std.specs.List.{flat_map, find}
 use Rattle.std.specs.Str.{bytes_eq}
 use Rattle.std.specs.declared.alloc.Global.{Global}
@@ -18,7 +18,6 @@ use Rattle.fast_check_symbols.specs.declared.node.ReferenceNamespace.TheVariants
 use Rattle.fast_check_symbols.specs.declared.node.SymbolDep.{SymbolDep}
 use Rattle.fast_check_symbols.specs.declared.node.SymbolDep.TheVariants as deps
 use Rattle.fast_check_symbols.specs.declared.node.SymbolNodeDep.{SymbolNodeDep}
-use Rattle.fast_check_symbols.specs.declared.node.SymbolNode.{SymbolNode}
 use Rattle.fast_check_symbols.specs.Symbols.{symbol_of}
 use Rattle.fast_check_symbols.specs.Exports.{export_named}
 use Rattle.fast_check_modules.specs.Tables.{Tables, symbol_of_swc}

@@ -1,5 +1,5 @@
 -- What a demand makes public, and what is wrong with it.
-use Rattle.std.specs.Prelude.{ℕ, Bool, false, cond, not, ◌&&◌, List, [], ◌∷◌, map, Option, Some, None, length, take, option_to_list, leb}
+use Rattle.std.specs.Prelude.{Bool, false, cond, not, ◌&&◌, List, [], ◌∷◌, map, Option, Some, None, length, take, option_to_list, leb}
 use Rattle.std.specs.List.{flat_map, filter}
 use Rattle.fast_check_names.specs.Names.{Name, Path, path_of}
 use Rattle.fast_check_syntax.specs.declared.source.SourceRange.{SourceRange}

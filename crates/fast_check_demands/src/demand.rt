@@ -1,14 +1,14 @@
 use fast_check_symbols::SymbolId;
 
 /// One of TypeScript's two namespaces.
-#[derive(Clone, Copy, Debug, PartialEq, Eq, PartialOrd, Ord)]
+#[derive(Clone, Copy, PartialEq, Eq, PartialOrd, Ord)]
 pub enum Namespace {
     Value,
     Type_,
 }
 
 /// How much is demanded of what a path leads to.
-#[derive(Clone, Copy, Debug, PartialEq, Eq, PartialOrd, Ord)]
+#[derive(Clone, Copy, PartialEq, Eq, PartialOrd, Ord)]
 pub enum Extent {
     /// That it is there, and no more.
     Touched,

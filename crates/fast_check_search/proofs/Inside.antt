@@ -53,7 +53,7 @@ last_or_this None false y x e = inl e
 last_or_this (Some z) b y x e = inl e
 
 -- what is found is there
-last_inside : {X : Type 0} (test : X → Bool) (xs : List X) (x : X) → last_that test xs ≡ Some x → Contains xs x
+pub last_inside : {X : Type 0} (test : X → Bool) (xs : List X) (x : X) → last_that test xs ≡ Some x → Contains xs x
 last_inside test [] x e = absurd (no x e)
   where
     no : {X : Type 0} (x : X) → None ≡ Some x → ⊥

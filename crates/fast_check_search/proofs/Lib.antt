@@ -4,3 +4,4 @@ pub mod Inside
 pub mod Closure
 pub mod Compared
 pub mod Kept
+pub mod Own

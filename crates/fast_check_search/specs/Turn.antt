@@ -1,7 +1,8 @@
 -- What holds between two turns of the search.
 use Rattle.std.specs.Prelude.{◌≡◌, ℕ, ◌≤◌, List, ◌++◌, length, take, map}
 use Rattle.std.specs.List.{Contains}
-use Rattle.fast_check_modules.specs.Tables.{Tables}
+use Rattle.fast_check_syntax.specs.declared.source.SourceRange.{SourceRange}
+use Rattle.fast_check_modules.specs.Tables.{Tables, table_ranges}
 use Rattle.fast_check_demands.specs.Demands.{Demand}
 use Rattle.fast_check_demands.specs.Rules.{names}
 use Rattle.fast_check_demands.specs.Account.{Chained, IsCovered, IsYield}
@@ -13,6 +14,10 @@ pub record IsFound (t : Tables) (account : List Demand) (found : Found) : Type 0
   pub public : IsYield (ranges t) account found.ranges.items
   pub implementing : IsYield (implementations t) account found.implementations.items
   pub faulty : IsYield (faults t) account (map fault_seen found.faults.items)
+
+-- these are ranges of the module's own tables
+abbrev pub AreTableRanges : Tables → List SourceRange → Type 0
+AreTableRanges t found = (r : SourceRange) → Contains found r → Contains (table_ranges t.symbols t.re_exports) r
 
 -- what one more demand adds
 pub record Gains (t : Tables) (d : Demand) (old new : Found) : Type 0 where

@@ -3,7 +3,7 @@ ghost use Rattle.fast_check_demands.specs.Demands.{Demand, demand_of};
 ghost use Rattle.fast_check_demands.specs.Account.{IsAccount, IsYield};
 ghost use Rattle.fast_check_demands.specs.Yields.{fault_seen};
 ghost use Rattle.fast_check_demands.specs.Rules.{names};
-ghost use Rattle.fast_check_search.specs.Turn.{IsFound, Gains};
+ghost use Rattle.fast_check_search.specs.Turn.{IsFound, Gains, AreTableRanges};
 ghost use Rattle.fast_check_search.specs.Worklist.{asked, IsKept, Grows, CoversEach};
 
 use crate::worklist::Worklist;
@@ -82,7 +82,11 @@ pub fn search<'a>(
     tables: &'a CheckedTables,
     roots: &[SymbolDemand<'a>],
 ) -> Result<Found<'a>, AllocError>
-    ensures { IfOk result (λ found. (account : List Demand) × IsAccount tables.now (map demand_of roots.now) account × IsFound tables.now account found) }
+    ensures account { IfOk result (λ found. (account : List Demand) × IsAccount tables.now (map demand_of roots.now) account × IsFound tables.now account found) }
+
+    // What is found is of the tables' own ranges, so a module of these tables admits it.
+    ensures own_ranges { IfOk result (λ found. AreTableRanges tables.now found.ranges.items) }
+    ensures own_implementations { IfOk result (λ found. AreTableRanges tables.now found.implementations.items) }
 {
     let mut work = Worklist::new(alloc);
     work.ask_all(roots)?;

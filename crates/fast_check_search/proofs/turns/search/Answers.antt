@@ -6,6 +6,7 @@ use Rattle.fast_check_search.specs.Universe.{limit}
 use Rattle.fast_check_search.specs.Worklist.{asked}
 use Rattle.fast_check_search.proofs.Closure.{begun, turned, ended, nothing_found}
 use Rattle.fast_check_search.proofs.Inside.{few_asked}
+use Rattle.fast_check_search.proofs.Own.{own_found, own_found_implementations}
 use Rattle.fast_check_search.proofs.turns.search.Goals as goal
 
 pub loop-next-init : goal.loop-next-init
@@ -28,10 +29,20 @@ loop-next-preserved c =
       kept = a.kept;
     }
 
-pub returns : goal.returns
-returns c =
+pub returns-clause-account : goal.returns-clause-account
+returns-clause-account c =
     let e = ended c.args.tables.now (map demand_of c.args.roots.now) (asked c.loop-next.work) c.loop-next.next c.loop-next.found (omega (arith, c.len.ensures, c.loop-next-test.false)) c.loop-next.invariant.way in
     (asked c.loop-next.work, e.0, e.1)
+
+pub returns-clause-own_ranges : goal.returns-clause-own_ranges
+returns-clause-own_ranges c =
+    let e = ended c.args.tables.now (map demand_of c.args.roots.now) (asked c.loop-next.work) c.loop-next.next c.loop-next.found (omega (arith, c.len.ensures, c.loop-next-test.false)) c.loop-next.invariant.way in
+    own_found c.args.tables.now (asked c.loop-next.work) c.loop-next.found.ranges.items e.1.public
+
+pub returns-clause-own_implementations : goal.returns-clause-own_implementations
+returns-clause-own_implementations c =
+    let e = ended c.args.tables.now (map demand_of c.args.roots.now) (asked c.loop-next.work) c.loop-next.next c.loop-next.found (omega (arith, c.len.ensures, c.loop-next-test.false)) c.loop-next.invariant.way in
+    own_found_implementations c.args.tables.now (asked c.loop-next.work) c.loop-next.found.implementations.items e.1.implementing
 
 pub loop-next-smaller : goal.loop-next-smaller
 loop-next-smaller c =
