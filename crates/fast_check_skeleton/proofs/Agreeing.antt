@@ -305,9 +305,9 @@ module _ (r : Renaming) (ok : IsRenaming r) where
     class_if around t is_ambient' =
         if is_ambient' then written (ambient_class (ClassDecl-class t)) else plain_class_seen around.unresolved around.is_implementation (ClassDecl-class t)
 
-    classes_alike : (p q : SourceRange) (t u : Tree) → SameClassDecl r a b p q t u → Alike r ok (class_in a t) (class_in b u) →
+    classes_alike : (p q : SourceRange) (t u : Tree) → SameClassDecl r a b t u → a.is_public p ≡ b.is_public q → Alike r ok (class_in a t) (class_in b u) →
         AllAlike r ok (public_class a p t) (public_class b q u)
-    classes_alike p q t u d s = all_alike_if r ok (a.is_public p) (b.is_public q) (class_decl_seen a t) (class_decl_seen b u) d.is_public
+    classes_alike p q t u d e s = all_alike_if r ok (a.is_public p) (b.is_public q) (class_decl_seen a t) (class_decl_seen b u) e
         (round_alike r ok ClassDecl (written (ClassDecl-ident t) ∷ flag (ClassDecl-declare t) ∷ class_in a t ∷ [])
         (written (ClassDecl-ident u) ∷ flag (ClassDecl-declare u) ∷ class_in b u ∷ [])
         (λ i. same_written r ok d.ident i ∷ flag_alike r ok (ClassDecl-declare t) (ClassDecl-declare u) d.declare i ∷ s i ∷ []))
@@ -384,13 +384,13 @@ module _ (r : Renaming) (ok : IsRenaming r) where
         of_functions p q t u k (public_alike p q t u e
         (subst₂ (λ x y. Alike r ok (if x then written t else function_form a p t) (if y then written u else function_form b q u))
         (sym f) (sym f ∙ m) (same_written r ok s)))
-    decl_alike c m p q t u (h.SameDecl.class d n s) =
+    decl_alike c m p q t u (h.SameDecl.class d e n s) =
         let n' = sym (ambient_class_same t u m d.declare) ∙ n in
-        of_classes p q t u d.kinds (classes_alike p q t u d (subst₂ (λ x y. Alike r ok (class_if a t x) (class_if b u y)) (sym n) (sym n')
+        of_classes p q t u d.kinds (classes_alike p q t u d e (subst₂ (λ x y. Alike r ok (class_if a t x) (class_if b u y)) (sym n) (sym n')
         (class_alike r ok a.unresolved b.unresolved a.is_implementation b.is_implementation c (ClassDecl-class t) (ClassDecl-class u) s)))
-    decl_alike c m p q t u (h.SameDecl.ambient_class d n s) =
+    decl_alike c m p q t u (h.SameDecl.ambient_class d e n s) =
         let n' = sym (ambient_class_same t u m d.declare) ∙ n in
-        of_classes p q t u d.kinds (classes_alike p q t u d (subst₂ (λ x y. Alike r ok (class_if a t x) (class_if b u y)) (sym n) (sym n')
+        of_classes p q t u d.kinds (classes_alike p q t u d e (subst₂ (λ x y. Alike r ok (class_if a t x) (class_if b u y)) (sym n) (sym n')
         (written_alike r ok _ _ (ambient_class_alike r ok a.unresolved b.unresolved a.is_implementation b.is_implementation (ClassDecl-class t)
         (ClassDecl-class u) s))))
 

@@ -150,8 +150,8 @@ module _ (r : Renaming) (ok : IsRenaming r) where
     decl_begins p q t u (h.SameDecl.function d e f (v.SameFunction.classed_function g x y z)) = of_functions t u d.kinds g.span
     decl_begins p q t u (h.SameDecl.implementation d e f g) = of_functions t u d.kinds g.head.span
     decl_begins p q t u (h.SameDecl.ambient_function k e f s) = range_alike r ok t u s
-    decl_begins p q t u (h.SameDecl.class d n s) = of_classes t u d.kinds s.head.span
-    decl_begins p q t u (h.SameDecl.ambient_class d n s) = of_classes t u d.kinds s.head.span
+    decl_begins p q t u (h.SameDecl.class d e n s) = of_classes t u d.kinds s.head.span
+    decl_begins p q t u (h.SameDecl.ambient_class d e n s) = of_classes t u d.kinds s.head.span
 
     item_begins : (t u : Tree) → SameItem r a b t u → SameRange r (range_of_node t) (range_of_node u)
     item_begins t u (h.SameItem.decl d) = decl_begins (range_of_node t) (range_of_node u) t u d
@@ -198,12 +198,12 @@ module _ (r : Renaming) (ok : IsRenaming r) where
       inside_if true true true false xs ys e f g = cc
       inside_if true true false true xs ys e f g = cc
 
-      class_inside : (x y : SourceRange) (t u : Tree) → a.is_declaration_file ≡ b.is_declaration_file → h.SameClassDecl r a b x y t u →
+      class_inside : (x y : SourceRange) (t u : Tree) → a.is_declaration_file ≡ b.is_declaration_file → h.SameClassDecl r a b t u → a.is_public x ≡ b.is_public y →
           (is_ambient_class a t ≡ false → is_among p (starts_of_removed (ClassDecl-class t)) ≡ is_among q (starts_of_removed (ClassDecl-class u))) →
           InsideAlike x y t u
-      class_inside x y t u m d e =
+      class_inside x y t u m d f e =
           subst₂ (λ k j. is_among p (starts_in_decl a x t (decl_rule k)) ≡ is_among q (starts_in_decl b y u (decl_rule j))) (sym d.kinds.left)
-          (sym d.kinds.right) (inside_if (a.is_public x) (b.is_public y) (is_ambient_class a t) (is_ambient_class b u) _ _ d.is_public
+          (sym d.kinds.right) (inside_if (a.is_public x) (b.is_public y) (is_ambient_class a t) (is_ambient_class b u) _ _ f
           (ambient_class_same r ok a b t u m d.declare) e)
 
       decl_inside : (x y : SourceRange) (t u : Tree) → a.is_declaration_file ≡ b.is_declaration_file → SameDecl r a b x y t u → InsideAlike x y t u
@@ -213,9 +213,9 @@ module _ (r : Renaming) (ok : IsRenaming r) where
       decl_inside x y t u m (h.SameDecl.function d e f g) = none_inside x y t u FnDecl d.kinds refl
       decl_inside x y t u m (h.SameDecl.implementation d e f g) = none_inside x y t u FnDecl d.kinds refl
       decl_inside x y t u m (h.SameDecl.ambient_function k e f g) = none_inside x y t u FnDecl k refl
-      decl_inside x y t u m (h.SameDecl.class d n s) = class_inside x y t u m d (λ k.
+      decl_inside x y t u m (h.SameDecl.class d e n s) = class_inside x y t u m d e (λ k.
           class_removed r ok a.unresolved b.unresolved a.is_implementation b.is_implementation p q pair (ClassDecl-class t) (ClassDecl-class u) s)
-      decl_inside x y t u m (h.SameDecl.ambient_class d n s) = class_inside x y t u m d (λ k. cc)
+      decl_inside x y t u m (h.SameDecl.ambient_class d e n s) = class_inside x y t u m d e (λ k. cc)
 
       item_inside : IsPair r.scopes a.unresolved.0 b.unresolved.0 → a.is_declaration_file ≡ b.is_declaration_file → (t u : Tree) → SameItem r a b t u →
           is_among p (starts_inside a t (item_rule t)) ≡ is_among q (starts_inside b u (item_rule u))

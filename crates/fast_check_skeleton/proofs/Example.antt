@@ -58,7 +58,7 @@ is_renaming = record {
 
 -- ---- what the forms read as
 
-context_of_context : (c : SyntaxContext) → context_of (tree.Context c) ≡ c
+pub context_of_context : (c : SyntaxContext) → context_of (tree.Context c) ≡ c
 unfolding roll-Tree denote.Hole.Carrier.roll
 context_of_context c = ap context_at (out-roll-Tree (Tree-F.Context c))
 

@@ -3,7 +3,7 @@ use Rattle.std.specs.Prelude.{◌≡◌, Bool, true, false, IfSome, Option, Some
 use Rattle.std.specs.Prelude.{if◌then◌else◌}
 use Rattle.std.specs.List.{list_any, filter}
 use Rattle.std.proofs.Common.{ap, ap₂, ◌∙◌, sym, subst}
-use Rattle.std.proofs.lemmas.List.{append-nil}
+use Rattle.std.proofs.lemmas.List.{append_assoc}
 use Rattle.std.proofs.lemmas.List.Elements.{filter-append}
 use Rattle.fast_check_syntax.specs.declared.kind.Kind.{Kind}
 use Rattle.fast_check_syntax.specs.declared.kind.Kind.TheVariants as kinds
@@ -33,7 +33,7 @@ use Rattle.fast_check_signatures.specs.Classes.{untyped_accessor_seen, accessor_
 use Rattle.fast_check_signatures.specs.Classes.{member_seen, param_property_type, param_property, declared_by_params, members_seen, plain_class_seen}
 use Rattle.fast_check_signatures.proofs.Adding.{answer_append}
 use Rattle.fast_check_signatures.proofs.Choices.{of_choice}
-use Rattle.fast_check_skeleton.specs.HashMark.{hash_named_members, HashMarked}
+use Rattle.fast_check_skeleton.specs.HashMark.{IsMarked, HashMarked}
 
 -- ---- trees without a hash name
 
@@ -72,16 +72,6 @@ all_of (x ∷ xs) ys p q = (p.0, all_of xs ys p.1 q)
 written_stay : (ts : List Tree) → (answer_of (map written ts)).stays ≡ ts
 written_stay [] = refl
 written_stay (t ∷ ts) = ap (λ us. t ∷ us) (written_stay ts)
-
-marked : filter is_hash_named (hash_private ∷ []) ≡ hash_private ∷ []
-marked =
-    let kind : kind_of hash_private ≡ kinds.PrivateProp = kind_of_node _ _ in
-    let named : is_hash_named hash_private ≡ true = ap (λ k. is_hash_named_kind k hash_private) kind in
-    rw named refl
-
-mark_stays : (b : Bool) → filter is_hash_named (if b then hash_private ∷ [] else []) ≡ (if b then hash_private ∷ [] else [])
-mark_stays true = marked
-mark_stays false = refl
 
 module _ (unresolved : SyntaxContext) (is_implementation : SourceRange → Bool) where
   -- ---- members
@@ -182,27 +172,33 @@ module _ (unresolved : SyntaxContext) (is_implementation : SourceRange → Bool)
   abbrev made_by : List Tree → List Tree
   made_by ms = flat_map (declared_by_params unresolved is_implementation) (kept_members ms)
 
-  members_marked : (ms : List Tree) → filter is_hash_named (answer_of (members_seen unresolved is_implementation ms)).stays ≡ hash_mark ms
-  members_marked ms =
-      let kept = map (member_seen unresolved is_implementation) (kept_members ms) in
-      let rest = (answer_of kept).stays in
-      let mark : filter is_hash_named (hash_mark ms) ≡ hash_mark ms = mark_stays (list_any is_hash_named ms) in
-      let made : filter is_hash_named (hash_mark ms ++ made_by ms) ≡ hash_mark ms =
-      filter-append is_hash_named (hash_mark ms) (made_by ms) ∙ (ap₂ (λ x y. x ++ y) mark (none_of (made_by ms) (all_declared (kept_members ms)))
-      ∙ append-nil (hash_mark ms)) in
-      ap (λ a. filter is_hash_named a.stays) (answer_append (map written (hash_mark ms ++ made_by ms)) kept)
-      ∙ (ap (λ ts. filter is_hash_named (ts ++ rest)) (written_stay (hash_mark ms ++ made_by ms))
-      ∙ (filter-append is_hash_named (hash_mark ms ++ made_by ms) rest ∙ (ap₂ (λ x y. x ++ y) made (none_of rest (kept_plain [] ms))
-      ∙ append-nil (hash_mark ms))))
+  abbrev others_of : List Tree → List Tree
+  others_of ms = made_by ms ++ (answer_of (map (member_seen unresolved is_implementation) (kept_members ms))).stays
 
-  class_marked : (t : Tree) → hash_named_members (class_of (class_head t) (settled (answer_to (superclass_seen (Class-super_class t)))).stays
-      (answer_of (members_seen unresolved is_implementation (parts (Class-body t)))).stays) ≡ hash_mark (parts (Class-body t))
+  members_are : (ms : List Tree) → (answer_of (members_seen unresolved is_implementation ms)).stays ≡ hash_mark ms ++ others_of ms
+  members_are ms =
+      let kept = map (member_seen unresolved is_implementation) (kept_members ms) in
+      ap (λ a. a.stays) (answer_append (map written (hash_mark ms ++ made_by ms)) kept)
+      ∙ (ap (λ ts. ts ++ (answer_of kept).stays) (written_stay (hash_mark ms ++ made_by ms))
+      ∙ append_assoc (hash_mark ms) (made_by ms) (answer_of kept).stays)
+
+  abbrev class_tree : Tree → Tree
+  class_tree t = class_of (class_head t) (settled (answer_to (superclass_seen (Class-super_class t)))).stays
+      (answer_of (members_seen unresolved is_implementation (parts (Class-body t)))).stays
+
+  class_marked : (t : Tree) → IsMarked t (class_tree t)
   class_marked t =
-      let members = (answer_of (members_seen unresolved is_implementation (parts (Class-body t)))).stays in
-      let superclass = (settled (answer_to (superclass_seen (Class-super_class t)))).stays in
-      let body : Class-body (class_of (class_head t) superclass members) ≡ list members = part_node _ _ _ in
-      ap (filter is_hash_named) (ap parts body ∙ parts_node _ _) ∙ members_marked (parts (Class-body t))
+      let ms = parts (Class-body t) in
+      let rest = (answer_of (map (member_seen unresolved is_implementation) (kept_members ms))).stays in
+      let members = (answer_of (members_seen unresolved is_implementation ms)).stays in
+      let body : Class-body (class_tree t) ≡ list members = part_node _ _ _ in
+      record {
+        rest = others_of ms;
+        members = ap parts body ∙ (parts_node _ _ ∙ members_are ms);
+        others = filter-append is_hash_named (made_by ms) rest
+            ∙ ap₂ (λ x y. x ++ y) (none_of (made_by ms) (all_declared (kept_members ms))) (none_of rest (kept_plain [] ms));
+      }
 
 pub hash_marked : (class : Tree) → HashMarked class
 hash_marked class unresolved is_implementation skeleton e =
-    ap hash_named_members (sym (ap (λ o. unwrap_or o Absent) e)) ∙ class_marked unresolved is_implementation class
+    subst (IsMarked class) (ap (λ o. unwrap_or o Absent) e) (class_marked unresolved is_implementation class)

@@ -5,4 +5,5 @@ pub mod Agreeing
 pub mod CommentsAlike
 pub mod Standing
 pub mod HashMarked
-mod Example
+pub mod Example
+pub mod ClassExample

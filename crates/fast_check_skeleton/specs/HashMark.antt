@@ -1,5 +1,5 @@
 -- The law on `#private`, which says to a type checker that a class has members of its own.
-use Rattle.std.specs.Prelude.{◌≡◌, Bool, Some, List, [], ◌∷◌, if◌then◌else◌}
+use Rattle.std.specs.Prelude.{◌≡◌, Bool, Some, List, [], ◌∷◌, ◌++◌, if◌then◌else◌}
 use Rattle.std.specs.List.{list_any, filter}
 use Rattle.fast_check_syntax.specs.declared.source.SourceRange.{SourceRange}
 use Rattle.fast_check_syntax.specs.declared.source.SyntaxContext.{SyntaxContext}
@@ -11,13 +11,13 @@ use Rattle.fast_check_signatures.specs.NewNodes.{hash_private}
 use Rattle.fast_check_signatures.specs.Members.{is_hash_named}
 use Rattle.fast_check_signatures.specs.Classes.{plain_class_seen}
 
--- the members of a class with a hash name: methods, properties and accessors
-abbrev pub hash_named_members : Tree → List Tree
-hash_named_members class = filter is_hash_named (parts (Class-body class))
+-- In the skeleton of a class that is not ambient `#private!: unknown` stands first exactly if the class had a method, a property or an accessor with a hash
+-- name, and no other member with a hash name stands there.
+pub record IsMarked (class skeleton : Tree) : Type 0 where
+  pub rest : List Tree
+  pub members : parts (Class-body skeleton) ≡ (if list_any is_hash_named (parts (Class-body class)) then hash_private ∷ [] else []) ++ rest
+  pub others : filter is_hash_named rest ≡ []
 
--- In the skeleton of a class that is not ambient `#private!: unknown` stands, once, exactly if the class had a method, a property or an accessor with a hash
--- name. No other member with a hash name stands there.
 abbrev pub HashMarked : Tree → Type 0
 HashMarked class = (unresolved : SyntaxContext) (is_implementation : SourceRange → Bool) (skeleton : Tree) →
-    (answer_to (plain_class_seen unresolved is_implementation class)).stays ≡ Some skeleton →
-    hash_named_members skeleton ≡ (if list_any is_hash_named (parts (Class-body class)) then hash_private ∷ [] else [])
+    (answer_to (plain_class_seen unresolved is_implementation class)).stays ≡ Some skeleton → IsMarked class skeleton

@@ -106,9 +106,8 @@ module _ (r : Renaming) (a b : Surroundings) where
     pub declare : FnDecl-declare t ≡ FnDecl-declare u
 
   -- what agrees of two class declarations, whatever their classes
-  pub record SameClassDecl (p q : SourceRange) (t u : Tree) : Type 0 where
+  pub record SameClassDecl (t u : Tree) : Type 0 where
     pub kinds : Both ClassDecl t u
-    pub is_public : a.is_public p ≡ b.is_public q
     pub ident : SameTree r (ClassDecl-ident t) (ClassDecl-ident u)
     pub declare : ClassDecl-declare t ≡ ClassDecl-declare u
 
@@ -127,10 +126,10 @@ module _ (r : Renaming) (a b : Surroundings) where
         SameImplementation r a.unresolved b.unresolved (FnDecl-function t) (FnDecl-function u) → SameDecl p q t u
     -- functions of declaration files
     ambient_function : {t u : Tree} → Both FnDecl t u → a.is_public p ≡ b.is_public q → a.is_declaration_file ≡ true → SameTree r t u → SameDecl p q t u
-    class : {t u : Tree} → SameClassDecl p q t u → is_ambient_class a t ≡ false →
+    class : {t u : Tree} → SameClassDecl t u → a.is_public p ≡ b.is_public q → is_ambient_class a t ≡ false →
         SameClass r a.unresolved b.unresolved a.is_implementation b.is_implementation (ClassDecl-class t) (ClassDecl-class u) → SameDecl p q t u
     -- ambient classes stand as they are written, but for private members of computed keys
-    ambient_class : {t u : Tree} → SameClassDecl p q t u → is_ambient_class a t ≡ true →
+    ambient_class : {t u : Tree} → SameClassDecl t u → a.is_public p ≡ b.is_public q → is_ambient_class a t ≡ true →
         SameAmbientClass r a.unresolved b.unresolved a.is_implementation b.is_implementation (ClassDecl-class t) (ClassDecl-class u) → SameDecl p q t u
 
   pub data SameItem : Tree → Tree → Type 0 where

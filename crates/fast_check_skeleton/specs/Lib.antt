@@ -12,3 +12,4 @@ pub mod Hidden
 pub mod HashMark
 pub mod Worlds
 pub mod Example
+pub mod ClassExample

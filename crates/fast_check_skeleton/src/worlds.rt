@@ -1,6 +1,7 @@
 ghost use Rattle.fast_check_comments.specs.declared.comments.Comments.{Comments};
 ghost use Rattle.fast_check_skeleton.specs.Surroundings.{Surroundings};
 ghost use Rattle.fast_check_skeleton.specs.Worlds.{TwoWorlds};
+ghost use Rattle.fast_check_skeleton.specs.ClassExample.{ClassExample};
 ghost use Rattle.fast_check_skeleton.specs.Example.{Example};
 ghost use Rattle.fast_check_skeleton.specs.HashMark.{HashMarked};
 
@@ -11,16 +12,18 @@ use fast_check_syntax::Tree;
 /// skeletons and the faults are the same under it, and at renamed positions the comments that stay. It holds of the
 /// definitions, and so of what `transform` answers; it does nothing when it is called. There are such modules: the
 /// example is one documented statement, and the same behind a hidden function, which is documented too, and with
-/// another value.
+/// another value. Another one has a function and a class on both sides, of which a body, the signature of a private method
+/// and a static block differ.
 pub fn two_worlds(first: &Tree, second: &Tree)
     ensures law { (a : Surroundings) (c : Comments) (b : Surroundings) (d : Comments) → TwoWorlds a first.now c b second.now d }
     ensures not_empty { Example }
+    ensures of_classes { ClassExample }
 {
     let _ = first;
     let _ = second;
 }
 
-/// The law on `#private`: in the skeleton of a class that is not ambient `#private!: unknown` stands, once, exactly if the
+/// The law on `#private`: in the skeleton of a class that is not ambient `#private!: unknown` stands first exactly if the
 /// class had a method, a property or an accessor with a hash name, and no other member with a hash name stands there. `class`
 /// is a `Class`. It holds of the definitions, and so of what `transform` answers; it does nothing when it is called.
 pub fn hash_mark(class: &Tree)

@@ -1,0 +1,93 @@
+-- Two modules with a function and a class, public both, that agree but for what is hidden:
+-- `function f(): void {} class C { private m(): void {} }`, and
+-- `function f(): void { ; } class C { static {} private m(a): void {} }`.
+-- What agrees stands at the place of no text, so that the renaming has the pair of 0 alone. The static block begins at 7.
+use Rattle.std.specs.Prelude.{◌≡◌, ℕ, true, false, List, [], ◌∷◌}
+use Rattle.fast_check_syntax.specs.declared.kind.Kind.TheVariants as kinds
+use Rattle.fast_check_syntax.specs.declared.kind.Word.TheVariants as words
+use Rattle.fast_check_syntax.specs.declared.tree.Tree as tree
+use Rattle.fast_check_syntax.specs.declared.tree.Tree.{Tree, Absent}
+use Rattle.fast_check_syntax.specs.Shape.{none_range, node, list}
+use Rattle.fast_check_syntax.specs.Moves.{Renaming, IsRenaming}
+use Rattle.fast_check_class_forms.specs.Classes.{class}
+use Rattle.fast_check_class_forms.specs.Functions.{function, param}
+use Rattle.fast_check_class_forms.specs.Methods.{class_method}
+use Rattle.fast_check_program_forms.specs.Names.{binding_ident}
+use Rattle.fast_check_program_forms.specs.Programs.{module'}
+use Rattle.fast_check_statement_forms.specs.Declarations.{class_decl, fn_decl}
+use Rattle.fast_check_helpers.specs.Builders.{new_ident, ts_keyword_type, type_ann, any_type_ann}
+use Rattle.fast_check_signatures.specs.Answers.{declared_property}
+use Rattle.fast_check_signatures.specs.NewNodes.{no_scope, new_block, ident_name}
+use Rattle.fast_check_skeleton.specs.Example.{at}
+use Rattle.fast_check_skeleton.specs.Surroundings.{Surroundings}
+use Rattle.fast_check_skeleton.specs.Hidden.{AgreeHidden}
+use Rattle.fast_check_skeleton.specs.Skeleton.{skeleton_of}
+
+-- `(params): void { stmts }`
+abbrev pub void_function : List Tree → List Tree → Tree
+void_function params stmts =
+    function none_range (list params) (list []) no_scope (new_block stmts) false false Absent (type_ann (ts_keyword_type words.TsVoidKeyword))
+
+-- `function f(): void { stmts }`
+abbrev pub function_f : List Tree → Tree
+function_f stmts = fn_decl (new_ident (102 ∷ [])) false (void_function [] stmts)
+
+-- `private m(params): void {}`
+abbrev pub method_m : List Tree → Tree
+method_m params =
+    class_method none_range (ident_name none_range (109 ∷ [])) (void_function params []) (tree.Word words.Method) false (tree.Word words.Private) false false
+    false
+
+-- `class C { members }`
+abbrev pub class_of_members : List Tree → Tree
+class_of_members members = class none_range no_scope (list []) (list members) Absent false Absent Absent (list [])
+
+abbrev pub class_c : List Tree → Tree
+class_c members = class_decl (new_ident (67 ∷ [])) false (class_of_members members)
+
+abbrev pub static_block : Tree
+static_block = node kinds.StaticBlock (tree.Range (at 7 16) ∷ new_block [] ∷ [])
+
+-- `;` and `a`
+abbrev pub empty_statement : Tree
+empty_statement = node kinds.EmptyStmt (tree.Range none_range ∷ [])
+
+abbrev pub parameter : Tree
+parameter = param none_range (list []) (binding_ident (new_ident (97 ∷ [])) Absent)
+
+abbrev pub module_of : List Tree → Tree
+module_of items = module' none_range (list items) Absent
+
+abbrev pub first : Tree
+first = module_of (function_f [] ∷ class_c (method_m [] ∷ []) ∷ [])
+
+abbrev pub second : Tree
+second = module_of (function_f (empty_statement ∷ []) ∷ class_c (static_block ∷ method_m (parameter ∷ []) ∷ []) ∷ [])
+
+-- the place of no text, and no scope
+abbrev pub no_places : Renaming
+no_places = record { starts = (0, 0) ∷ []; ends = (0, 0) ∷ []; scopes = (0, 0) ∷ [] }
+
+-- all is public, and nothing is an implementation behind overloads
+abbrev pub all_public : Surroundings
+all_public = record { is_public = λ r. true; is_implementation = λ r. false; unresolved = no_scope; is_declaration_file = false }
+
+-- `declare private m: any;`
+abbrev pub property_m : Tree
+property_m = declared_property (record {
+  span = none_range;
+  key = ident_name none_range (109 ∷ []);
+  is_static = false;
+  accessibility = tree.Word words.Private;
+  is_abstract = false;
+  is_optional = false;
+  is_override = false;
+  readonly = false;
+}) any_type_ann
+
+-- They agree, and the skeleton of both is `function f(): void {} class C { declare private m: any; }`.
+pub record ClassExample : Type 0 where
+  pub one_to_one : IsRenaming no_places
+  pub agree : AgreeHidden no_places all_public all_public first second
+  pub first_skeleton : skeleton_of all_public first ≡ module_of (function_f [] ∷ class_c (property_m ∷ []) ∷ [])
+  pub second_skeleton : skeleton_of all_public second ≡ module_of (function_f [] ∷ class_c (property_m ∷ []) ∷ [])
