@@ -14,7 +14,9 @@ use Rattle.fast_check_syntax.specs.Moves.{Moves, Keeps, moved, moved_level}
 use Rattle.fast_check_syntax.proofs.Moved.{out_moved, kind_of_moved, part_moved, parts_moved, is_absent_moved, text_of_moved}
 use Rattle.fast_check_expression_forms.specs.Calls.{MemberExpr-obj, MemberExpr-prop}
 use Rattle.fast_check_expression_forms.specs.Expressions.{ExprOrSpread-expr, ExprOrSpread-spread}
+use Rattle.fast_check_program_forms.specs.Names.{Ident-ctxt}
 use Rattle.fast_check_helpers.specs.Places.{at-ExprOrSpread-expr, at-ExprOrSpread-spread, at-MemberExpr-obj, at-MemberExpr-prop}
+use Rattle.fast_check_helpers.specs.Places.{at-Ident-ctxt, at-Ident-sym, at-IdentName-sym}
 use Rattle.fast_check_helpers.specs.GlobalCalls.{is_global, is_plain_name, is_global_member, sole_argument, object_freeze_call_arg, is_symbol_description}
 use Rattle.fast_check_helpers.specs.GlobalCalls.{is_symbol_call}
 
@@ -47,12 +49,14 @@ module _ (m : Moves) (ok : Keeps m) where
   pub is_global_moved : (name : List ℕ) (u : SyntaxContext) (t : Tree) → is_global name (moved_scope m u) (moved m t) ≡ is_global name u t
   is_global_moved name u t =
       ap₂ (λ k b. (k is Ident) && b) (kind_of_moved m t)
-      (ap₂ (λ x y. bytes_eq x name && y) (ap text_of (part_moved m 2 t) ∙ text_of_moved m (part 2 t))
-      (ap (λ c. c.0 == m.scopes u.0) (ap context_of (part_moved m 1 t) ∙ context_of_moved (part 1 t)) ∙ same_scope (context_of (part 1 t)).0 u.0))
+      (ap₂ (λ x y. bytes_eq x name && y) (ap text_of (part_moved m at-Ident-sym.place t) ∙ text_of_moved m (part at-Ident-sym.place t))
+      (ap (λ c. c.0 == m.scopes u.0) (ap context_of (part_moved m at-Ident-ctxt.place t) ∙ context_of_moved (part at-Ident-ctxt.place t))
+      ∙ same_scope (Ident-ctxt t).0 u.0))
 
   pub is_plain_name_moved : (name : List ℕ) (t : Tree) → is_plain_name name (moved m t) ≡ is_plain_name name t
   is_plain_name_moved name t =
-      ap₂ (λ k x. (k is IdentName) && bytes_eq x name) (kind_of_moved m t) (ap text_of (part_moved m 1 t) ∙ text_of_moved m (part 1 t))
+      ap₂ (λ k x. (k is IdentName) && bytes_eq x name) (kind_of_moved m t)
+      (ap text_of (part_moved m at-IdentName-sym.place t) ∙ text_of_moved m (part at-IdentName-sym.place t))
 
   pub is_global_member_moved : (object name : List ℕ) (u : SyntaxContext) (t : Tree) →
       is_global_member object name (moved_scope m u) (moved m t) ≡ is_global_member object name u t

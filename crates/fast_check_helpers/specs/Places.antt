@@ -1,11 +1,12 @@
 -- The places of the parts that a definition by forms looks into, named by the fields that stand there.
 use Rattle.std.specs.Prelude.{◌≡◌, ℕ, refl}
 use Rattle.fast_check_syntax.specs.declared.tree.Tree.{Tree}
-use Rattle.fast_check_syntax.specs.Shape.{part}
+use Rattle.fast_check_syntax.specs.Shape.{part, text_of, context_of}
 use Rattle.fast_check_expression_forms.specs.Assertions.{TsAsExpr-type_ann, TsSatisfiesExpr-expr, TsTypeAssertion-type_ann}
 use Rattle.fast_check_expression_forms.specs.Calls.{CallExpr-args, CallExpr-callee, MemberExpr-obj, MemberExpr-prop}
 use Rattle.fast_check_expression_forms.specs.Expressions.{ExprOrSpread-expr, ExprOrSpread-spread, ParenExpr-expr}
 use Rattle.fast_check_expression_forms.specs.Templates.{Tpl-exprs}
+use Rattle.fast_check_program_forms.specs.Names.{Ident-ctxt, Ident-sym, IdentName-sym}
 use Rattle.fast_check_statement_forms.specs.Loops.{WhileStmt-body, DoWhileStmt-body, ForStmt-body, ForInStmt-body, ForOfStmt-body}
 use Rattle.fast_check_statement_forms.specs.Statements.{BlockStmt-stmts, WithStmt-body, LabeledStmt-body, IfStmt-cons, IfStmt-alt, SwitchStmt-cases}
 use Rattle.fast_check_statement_forms.specs.Statements.{SwitchCase-cons, TryStmt-block, TryStmt-handler, TryStmt-finalizer, CatchClause-body}
@@ -19,6 +20,11 @@ use Rattle.fast_check_type_forms.specs.Types.{TsParenthesizedType-type_ann}
 pub record PlaceOf (field : Tree → Tree) : Type 0 where
   pub place : ℕ
   pub reads : (t : Tree) → field t ≡ part place t
+
+-- the place of a field that is no tree: the field is what is read of the part that stands there
+pub record PlaceAs {A : Type 0} (read : Tree → A) (field : Tree → A) : Type 0 where
+  pub place : ℕ
+  pub reads : (t : Tree) → field t ≡ read (part place t)
 
 -- the place of the first item of a list
 abbrev pub at_first : ℕ
@@ -58,6 +64,17 @@ at-ExprOrSpread-expr = record { place = 1; reads = λ t. refl }
 
 abbrev pub at-Tpl-exprs : PlaceOf Tpl-exprs
 at-Tpl-exprs = record { place = 1; reads = λ t. refl }
+
+-- ---- in names
+
+abbrev pub at-Ident-ctxt : PlaceAs context_of Ident-ctxt
+at-Ident-ctxt = record { place = 1; reads = λ t. refl }
+
+abbrev pub at-Ident-sym : PlaceAs text_of Ident-sym
+at-Ident-sym = record { place = 2; reads = λ t. refl }
+
+abbrev pub at-IdentName-sym : PlaceAs text_of IdentName-sym
+at-IdentName-sym = record { place = 1; reads = λ t. refl }
 
 -- ---- in types
 
