@@ -119,7 +119,7 @@ abbrev pub alias_names : Tables → Demand → Path → Extent → SymbolDeclKin
 alias_names t d path extent (Target id) = each_of (λ x. qualified x path extent d.referrer ∷ []) (bound t id)
 alias_names t d path extent (QualifiedTarget id parts) = each_of (λ x. qualified x path extent d.referrer ∷ parts_names d x parts.items) (bound t id)
 alias_names t d path extent (FileRef specifier name) = []
-alias_names t d path extent (Definition node) = []
+alias_names t d path extent (Definition _) = []
 
 -- the member of a name: the first among the members that has it
 abbrev pub is_named : Name → Option (String Global) → Bool
