@@ -21,6 +21,7 @@ fn name_of(kind: FaultKind) -> &'static str {
     match kind {
         FaultKind::MissingExplicitType => "type",
         FaultKind::UnsupportedDestructuring => "destructuring",
+        FaultKind::UnsupportedSuperClassExpr => "superclass",
         FaultKind::MissingExplicitReturnType {
             is_definitely_void_or_never,
             is_async,
