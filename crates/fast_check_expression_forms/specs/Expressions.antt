@@ -97,6 +97,9 @@ pub record ReadsClassExpr (form : ClassExpr Part) (t : Tree) : Type 0 where
   pub ident : seen form.ident ≡ ClassExpr-ident t
   pub class : seen form.class ≡ ClassExpr-class t
 
+abbrev pub class_expr : Tree → Tree → Tree
+class_expr ident class = node kinds.ClassExpr (ident ∷ class ∷ [])
+
 -- `<type_params>(params): return_type => body`.
 abbrev pub ArrowExpr-span : Tree → SourceRange
 ArrowExpr-span t = range_of (part 0 t)

@@ -9,7 +9,7 @@ ghost use Rattle.fast_check_expression_forms.specs.Expressions.{
   ReadsObjectLit,
   object_lit,
   ReadsFnExpr,
-  fn_expr,
+  fn_expr, class_expr,
   ReadsClassExpr,
   ReadsArrowExpr,
   arrow_expr,
@@ -182,6 +182,16 @@ impl<'a> ClassExpr<Part<'a>> {
             ident: node.part(0),
             class: node.part(1),
         }
+    }
+}
+
+impl ClassExpr<Tree> {
+    /// The node of these fields.
+    pub fn into_tree(self, alloc: Global) -> Result<Tree, AllocError>
+        ensures { IfOk result (λ tree. tree ≡ class_expr self.ident self.class) }
+    {
+        let ClassExpr { ident, class } = self;
+        Tree::node(alloc, Kind::ClassExpr, [ident, class])
     }
 }
 

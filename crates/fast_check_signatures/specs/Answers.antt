@@ -10,16 +10,17 @@ use Rattle.fast_check_class_forms.specs.Fields.{class_prop}
 use Rattle.fast_check_class_forms.specs.Functions.{function as function_node}
 use Rattle.fast_check_expression_forms.specs.Expressions.{arrow_expr}
 use Rattle.fast_check_expression_forms.specs.Patterns.{assign_pat}
+use Rattle.fast_check_program_forms.specs.ModuleDecls.{export_default_expr}
 use Rattle.fast_check_program_forms.specs.Names.{Ident-span, binding_ident}
 use Rattle.fast_check_ranges.specs.Ranges.{range_of_node}
 use Rattle.fast_check_statement_forms.specs.Declarations.{var_declarator}
 use Rattle.fast_check_signatures.specs.declared.fault.Fault.{Fault}
 use Rattle.fast_check_signatures.specs.declared.fault.FaultKind.{FaultKind}
-use Rattle.fast_check_signatures.specs.declared.fault.FaultKind.TheVariants.{MissingExplicitType}
+use Rattle.fast_check_signatures.specs.declared.fault.FaultKind.TheVariants.{MissingExplicitType, UnsupportedDefaultExportExpr}
 use Rattle.fast_check_signatures.specs.NewNodes.{function_body, arrow_body}
 use Rattle.fast_check_signatures.specs.Functions.{return_type_missing}
 use Rattle.fast_check_signatures.specs.Seen.{DeclaratorHead, DefaultHead, FunctionHead, ArrowHead, ClassHead, PropertyHead}
-use Rattle.fast_check_signatures.specs.Seen.{Seen, written, round, listed, declarator, default, function, typed_arrow, valued_arrow, class, property}
+use Rattle.fast_check_signatures.specs.Seen.{Seen, written, round, listed, declarator, default, function, typed_arrow, valued_arrow, class, property, default_export}
 use Rattle.fast_check_signatures.specs.Seen.{faulty, refused, Seens, end, also, seens}
 
 -- ---- answers
@@ -143,6 +144,9 @@ class_answer c superclass members = joined (λ s ms. Some (class_of c s ms)) (se
 abbrev pub property_answer : PropertyHead → Answer (Option Tree) → Answer (Option Tree)
 property_answer p value = made (λ v. Some (valued_property p v)) (demanded (fault_at MissingExplicitType (range_of_node p.key)) value)
 
+abbrev pub default_export_answer : SourceRange → Answer (Option Tree) → Answer (Option Tree)
+default_export_answer span value = made (λ v. Some (export_default_expr span v)) (demanded (fault_at UnsupportedDefaultExportExpr span) value)
+
 abbrev mutual
   pub answer_to : Seen → Answer (Option Tree)
   answer_to (written t) = faultless (Some t)
@@ -155,6 +159,7 @@ abbrev mutual
   answer_to (valued_arrow a is_async place value params) = valued_arrow_answer a is_async place (answer_to value) (items_answer params)
   answer_to (class c superclass members) = class_answer c (answer_to superclass) (items_answer members)
   answer_to (property p value) = property_answer p (answer_to value)
+  answer_to (default_export span value) = default_export_answer span (answer_to value)
   answer_to (faulty kind place) = record { stays = Some Absent; faults = fault_at kind place ∷ [] }
   answer_to refused = faultless None
 

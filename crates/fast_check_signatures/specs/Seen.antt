@@ -75,6 +75,8 @@ mutual
     class : ClassHead → (superclass : Seen) → (members : Seens) → Seen
     -- a property whose value gives its type
     property : PropertyHead → (value : Seen) → Seen
+    -- the default export of an expression, which gives its type
+    default_export : SourceRange → (value : Seen) → Seen
     -- what no skeleton can have, by what is wrong with it and where
     faulty : FaultKind → SourceRange → Seen
     -- an expression that may not stay

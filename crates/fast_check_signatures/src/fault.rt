@@ -1,6 +1,6 @@
 use fast_check_syntax::SourceRange;
 
-/// What is wrong with a public declaration, so that it has no skeleton.
+/// What is wrong with an item of a module, so that it has no skeleton.
 #[derive(Clone, Copy, PartialEq, Eq, Debug)]
 pub enum FaultKind {
     /// A public symbol has no type that is written, or that its value shows.
@@ -15,6 +15,16 @@ pub enum FaultKind {
     UnsupportedDestructuring,
     /// A public class extends an expression that is no name and no chain of members on one.
     UnsupportedSuperClassExpr,
+    /// A public default export is an expression that gives no type by itself.
+    UnsupportedDefaultExportExpr,
+    /// `using` declares something public.
+    UnsupportedUsing,
+    /// `import x = require(..)`.
+    UnsupportedRequire,
+    /// `export = x`.
+    UnsupportedTsExportAssignment,
+    /// `export as namespace x`.
+    UnsupportedTsNamespaceExport,
 }
 
 /// A fault with its place in the source.

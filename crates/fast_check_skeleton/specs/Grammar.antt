@@ -1,5 +1,7 @@
 -- The grammar of skeletons: what a type checker finds there, whatever the source was.
 use Rattle.std.specs.Prelude.{◌≡◌, Bool, true, false, ◌||◌, IsTrue, ◌⊎◌}
+use Rattle.fast_check_syntax.specs.declared.kind.Kind.TheVariants.{ImportDecl, NamedExport, ExportAll, TsImportEqualsDecl}
+use Rattle.fast_check_syntax.specs.declared.kind.Kind.TheVariants.{ExportDefaultExpr, ExportDefaultDecl, ClassExpr, FnExpr, TsInterfaceDecl}
 use Rattle.fast_check_syntax.specs.declared.kind.Kind.TheVariants.{Module, ExportDecl, VarDecl, VarDeclarator, FnDecl, ClassDecl, BindingIdent}
 use Rattle.fast_check_syntax.specs.declared.source.SyntaxContext.{SyntaxContext}
 use Rattle.fast_check_syntax.specs.declared.tree.Tree.{Tree}
@@ -7,11 +9,13 @@ use Rattle.fast_check_syntax.specs.Shape.{kind_of, parts, is_absent, OfAll}
 use Rattle.fast_check_helpers.specs.Builders.{never_value}
 use Rattle.fast_check_program_forms.specs.Names.{BindingIdent-type_ann}
 use Rattle.fast_check_program_forms.specs.Programs.{Module-body}
-use Rattle.fast_check_program_forms.specs.ModuleDecls.{ExportDecl-decl}
+use Rattle.fast_check_program_forms.specs.ModuleDecls.{ExportDecl-decl, ExportDefaultExpr-expr, ExportDefaultDecl-decl}
+use Rattle.fast_check_expression_forms.specs.Expressions.{ClassExpr-class, FnExpr-function}
 use Rattle.fast_check_typed_grammar.specs.TypedGrammar.{IsLeavable, IsTypedFunction}
 use Rattle.fast_check_typed_grammar.specs.ClassGrammar.{IsAmbientClass, IsTypedClass}
 use Rattle.fast_check_statement_forms.specs.Declarations.{ClassDecl-declare, ClassDecl-class, FnDecl-function, VarDecl-declare, VarDecl-decls, VarDeclarator-name, VarDeclarator-init}
 use Rattle.fast_check_skeleton.specs.Kinds.{is_standing}
+use Rattle.fast_check_skeleton.specs.Rules.{is_require}
 
 -- a value behind a written type is `{} as never`; else there is one that gives the type
 abbrev pub HasTypedValue : SyntaxContext → Tree → Tree → Type 0
@@ -48,10 +52,30 @@ module _ (unresolved : SyntaxContext) where
       IsTypedStatement is_declaration_file decl ⊎ (IsTypedFunctionDecl is_declaration_file decl ⊎ (IsTypedClassDecl is_declaration_file decl ⊎
       (is_standing (kind_of decl) ≡ true)))
 
-  -- an item of a skeleton: a declaration, exported or not
+  -- a default export of a declaration: a class of typed members, a function with a written return type, or without a body, or an interface. In a declaration
+  -- file a function stands as it was written.
+  abbrev pub IsTypedDefaultDecl : Bool → Tree → Type 0
+  IsTypedDefaultDecl is_declaration_file decl =
+      ((kind_of decl ≡ ClassExpr) × IsTypedClass unresolved (ClassExpr-class decl)) ⊎
+      (((kind_of decl ≡ FnExpr) × (IsTrue is_declaration_file ⊎ IsTypedFunction unresolved (FnExpr-function decl))) ⊎ (kind_of decl ≡ TsInterfaceDecl))
+
+  -- a default export: a value that gives its type, or a declaration
+  abbrev pub IsTypedDefault : Bool → Tree → Type 0
+  IsTypedDefault is_declaration_file item =
+      ((kind_of item ≡ ExportDefaultExpr) × IsLeavable unresolved (ExportDefaultExpr-expr item)) ⊎
+      ((kind_of item ≡ ExportDefaultDecl) × IsTypedDefaultDecl is_declaration_file (ExportDefaultDecl-decl item))
+
+  -- an import or an export of names, `export *`, or `import A = B.C`
+  abbrev pub IsLink : Tree → Type 0
+  IsLink item =
+      (kind_of item ≡ ImportDecl) ⊎ ((kind_of item ≡ NamedExport) ⊎ ((kind_of item ≡ ExportAll) ⊎
+      ((kind_of item ≡ TsImportEqualsDecl) × (is_require item ≡ false))))
+
+  -- an item of a skeleton: a declaration, exported or not, a default export, or what leads to other modules
   abbrev pub IsTypedItem : Bool → Tree → Type 0
   IsTypedItem is_declaration_file item =
-      IsTypedDecl is_declaration_file item ⊎ ((kind_of item ≡ ExportDecl) × IsTypedDecl is_declaration_file (ExportDecl-decl item))
+      IsTypedDecl is_declaration_file item ⊎ (((kind_of item ≡ ExportDecl) × IsTypedDecl is_declaration_file (ExportDecl-decl item)) ⊎
+      (IsTypedDefault is_declaration_file item ⊎ IsLink item))
 
   -- a skeleton: a module of nothing but such items
   pub record IsSkeleton (is_declaration_file : Bool) (program : Tree) : Type 0 where

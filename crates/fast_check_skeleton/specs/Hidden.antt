@@ -3,7 +3,7 @@
 use Rattle.std.specs.Prelude.{◌≡◌, Bool, true, false, not, ◌&&◌, ◌||◌, Some, None, List, [], ◌∷◌}
 use Rattle.std.specs.List.{list_all}
 use Rattle.fast_check_syntax.specs.declared.kind.Kind.{Kind}
-use Rattle.fast_check_syntax.specs.declared.kind.Kind.TheVariants.{BindingIdent, VarDecl, ExportDecl, FnDecl, ClassDecl, ExprStmt, AssignExpr}
+use Rattle.fast_check_syntax.specs.declared.kind.Kind.TheVariants.{BindingIdent, VarDecl, UsingDecl, ExportDecl, FnDecl, ClassDecl, ExprStmt, AssignExpr}
 use Rattle.fast_check_syntax.specs.declared.source.SourceRange.{SourceRange}
 use Rattle.fast_check_syntax.specs.declared.tree.Tree.{Tree}
 use Rattle.fast_check_syntax.specs.Shape.{◌is◌, kind_of, parts, is_absent}
@@ -23,8 +23,13 @@ use Rattle.fast_check_same_values.specs.SameValues.{Both, Neither, SameExpr, Sam
 use Rattle.fast_check_same_values.specs.SameClasses.{HasNoPartner, IsNoPartner, SameClass, SameAmbientClass}
 use Rattle.fast_check_skeleton.specs.Kinds.{is_standing, is_statement}
 use Rattle.fast_check_skeleton.specs.Mutability.{mutability_of}
+use Rattle.fast_check_signatures.specs.declared.fault.FaultKind.{FaultKind}
+use Rattle.fast_check_skeleton.specs.declared.rules.ItemRule.TheVariants.{Refused}
+use Rattle.fast_check_skeleton.specs.Rules.{item_rule}
+use Rattle.fast_check_skeleton.specs.SameDefaults.{IsSilentDefault, SameDefault}
+use Rattle.fast_check_skeleton.specs.SameLinks.{IsSilentLink, SamePublic, SameLink}
 use Rattle.fast_check_skeleton.specs.Surroundings.{Surroundings}
-use Rattle.fast_check_skeleton.specs.Visible.{declared_ident, declared_type, is_ambient, is_public_declarator, is_ambient_class, items_of}
+use Rattle.fast_check_skeleton.specs.Visible.{declared_ident, declared_type, is_ambient, is_public_declarator, is_ambient_class, is_public_using, using_place, items_of}
 
 -- a statement that is no declaration and no assignment
 abbrev pub is_plain_statement : Tree → Bool
@@ -41,6 +46,8 @@ pub data IsSilentDecl (around : Surroundings) (place : SourceRange) : Tree → T
   function : {t : Tree} → kind_of t ≡ FnDecl → around.is_public place ≡ false → IsSilentDecl around place t
   -- a class that is not public
   class : {t : Tree} → kind_of t ≡ ClassDecl → around.is_public place ≡ false → IsSilentDecl around place t
+  -- `using` of which nothing is public
+  using : {t : Tree} → kind_of t ≡ UsingDecl → is_public_using around place t ≡ false → IsSilentDecl around place t
 
 -- an item that goes without a word
 pub data IsSilent (around : Surroundings) : Tree → Type 0 where
@@ -48,11 +55,12 @@ pub data IsSilent (around : Surroundings) : Tree → Type 0 where
   -- a statement that declares and assigns nothing
   statement : {t : Tree} → is_plain_statement t ≡ true → IsSilent around t
   exported : {t : Tree} → kind_of t ≡ ExportDecl → IsSilentDecl around (ExportDecl-span t) (ExportDecl-decl t) → IsSilent around t
+  linked : {t : Tree} → IsSilentLink around t → IsSilent around t
+  default : {t : Tree} → IsSilentDefault around t → IsSilent around t
 
 module _ (r : Renaming) (a b : Surroundings) where
   -- what agrees of two declarators, whatever their values
   pub record SameHead (t u : Tree) : Type 0 where
-    pub is_public : is_public_declarator a t ≡ is_public_declarator b u
     pub span : SameRange r (VarDeclarator-span t) (VarDeclarator-span u)
     pub names : Both BindingIdent (VarDeclarator-name t) (VarDeclarator-name u)
     pub ident : SameTree r (declared_ident t) (declared_ident u)
@@ -74,20 +82,12 @@ module _ (r : Renaming) (a b : Surroundings) where
         inferred_type mutability a.unresolved (VarDeclarator-init t) ≡ None → inferred_type mutability b.unresolved (VarDeclarator-init u) ≡ None →
         SameExpr r a.unresolved b.unresolved (VarDeclarator-init t) (VarDeclarator-init u) → SameDeclarator mutability t u
     -- any values and types of patterns, which can't be declared
-    destructured : {t u : Tree} → is_public_declarator a t ≡ is_public_declarator b u → Neither BindingIdent (VarDeclarator-name t) (VarDeclarator-name u) →
+    destructured : {t u : Tree} → Neither BindingIdent (VarDeclarator-name t) (VarDeclarator-name u) →
         SameRange r (range_of_node (VarDeclarator-name t)) (range_of_node (VarDeclarator-name u)) → SameDeclarator mutability t u
 
-  -- ambient declarators, which stand as they are written
-  pub record SameAmbient (t u : Tree) : Type 0 where
-    pub is_public : is_public_declarator a t ≡ is_public_declarator b u
-    pub tree : SameTree r t u
-
-  -- declarators one by one, those that are not public aside
-  pub data SameDeclarators (Same : Tree → Tree → Type 0) : List Tree → List Tree → Type 0 where
-    end : SameDeclarators Same [] []
-    left : {t : Tree} {ts us : List Tree} → is_public_declarator a t ≡ false → SameDeclarators Same ts us → SameDeclarators Same (t ∷ ts) us
-    right : {u : Tree} {ts us : List Tree} → is_public_declarator b u ≡ false → SameDeclarators Same ts us → SameDeclarators Same ts (u ∷ us)
-    next : {t u : Tree} {ts us : List Tree} → Same t u → SameDeclarators Same ts us → SameDeclarators Same (t ∷ ts) (u ∷ us)
+  -- declarators one by one, those that are not public aside; ambient ones stand as they are written
+  abbrev pub SameDeclarators : (Tree → Tree → Type 0) → List Tree → List Tree → Type 0
+  SameDeclarators = SamePublic (is_public_declarator a) (is_public_declarator b)
 
   -- what agrees of two variable statements, whatever their declarators
   pub record SameStatement (t u : Tree) : Type 0 where
@@ -116,7 +116,7 @@ module _ (r : Renaming) (a b : Surroundings) where
     variable : {t u : Tree} → SameStatement t u → is_ambient a t ≡ false →
         SameDeclarators (SameDeclarator (mutability_of (VarDecl-kind t))) (parts (VarDecl-decls t)) (parts (VarDecl-decls u)) → SameDecl p q t u
     ambient : {t u : Tree} → SameStatement t u → is_ambient a t ≡ true →
-        SameDeclarators SameAmbient (parts (VarDecl-decls t)) (parts (VarDecl-decls u)) → SameDecl p q t u
+        SameDeclarators (SameTree r) (parts (VarDecl-decls t)) (parts (VarDecl-decls u)) → SameDecl p q t u
     -- interfaces, type aliases and enums stand as they are written
     standing : {t u : Tree} (k : Kind) → Both k t u → is_standing k ≡ true → a.is_public p ≡ b.is_public q → SameTree r t u → SameDecl p q t u
     function : {t u : Tree} → SameFunctionDecl p q t u → a.is_implementation p ≡ false → b.is_implementation q ≡ false →
@@ -131,11 +131,18 @@ module _ (r : Renaming) (a b : Surroundings) where
     -- ambient classes stand as they are written, but for private members of computed keys
     ambient_class : {t u : Tree} → SameClassDecl t u → a.is_public p ≡ b.is_public q → is_ambient_class a t ≡ true →
         SameAmbientClass r a.unresolved b.unresolved a.is_implementation b.is_implementation (ClassDecl-class t) (ClassDecl-class u) → SameDecl p q t u
+    -- `using`, whatever it declares
+    using : {t u : Tree} → Both UsingDecl t u → is_public_using a p t ≡ is_public_using b q u → SameRange r (using_place t) (using_place u) → SameDecl p q t u
 
   pub data SameItem : Tree → Tree → Type 0 where
     decl : {t u : Tree} → SameDecl (range_of_node t) (range_of_node u) t u → SameItem t u
     exported : {t u : Tree} → Both ExportDecl t u → SameRange r (ExportDecl-span t) (ExportDecl-span u) →
         SameDecl (ExportDecl-span t) (ExportDecl-span u) (ExportDecl-decl t) (ExportDecl-decl u) → SameItem t u
+    linked : {t u : Tree} → SameLink r a b t u → SameItem t u
+    default : {t u : Tree} → SameDefault r a b t u → SameItem t u
+    -- items that no skeleton has, for one reason
+    refused : {t u : Tree} (kind : FaultKind) → item_rule t ≡ Refused kind → item_rule u ≡ Refused kind → SameRange r (range_of_node t) (range_of_node u) →
+        SameItem t u
 
   -- items one by one, the silent ones aside; where a silent one begins has no partner
   pub data SameItems : List Tree → List Tree → Type 0 where

@@ -10,7 +10,8 @@ use Rattle.fast_check_comments.specs.declared.comments.Comments.{Comments}
 use Rattle.fast_check_comments.specs.Kept.{kept, without_leading}
 use Rattle.fast_check_ranges.specs.Ranges.{range_of_node}
 use Rattle.fast_check_class_forms.specs.Classes.{Class-body}
-use Rattle.fast_check_program_forms.specs.ModuleDecls.{ExportDecl-span, ExportDecl-decl}
+use Rattle.fast_check_expression_forms.specs.Expressions.{ClassExpr-class}
+use Rattle.fast_check_program_forms.specs.ModuleDecls.{ExportDecl-span, ExportDecl-decl, ExportDefaultDecl-span, ExportDefaultDecl-decl}
 use Rattle.fast_check_statement_forms.specs.Declarations.{ClassDecl-class}
 use Rattle.fast_check_signatures.specs.Members.{removed_members}
 use Rattle.fast_check_signatures.specs.Seen.{Seen}
@@ -18,7 +19,9 @@ use Rattle.fast_check_skeleton.specs.Surroundings.{Surroundings}
 use Rattle.fast_check_skeleton.specs.declared.rules.DeclRule.{DeclRule}
 use Rattle.fast_check_skeleton.specs.declared.rules.DeclRule.TheVariants.{Class}
 use Rattle.fast_check_skeleton.specs.declared.rules.ItemRule.{ItemRule}
-use Rattle.fast_check_skeleton.specs.declared.rules.ItemRule.TheVariants.{Declared, Exported, Silent}
+use Rattle.fast_check_skeleton.specs.declared.rules.ItemRule.TheVariants.{Declared, Exported, Default}
+use Rattle.fast_check_skeleton.specs.declared.rules.DefaultRule.{DefaultRule}
+use Rattle.fast_check_skeleton.specs.declared.rules.DefaultRule.TheVariants as defaults
 use Rattle.fast_check_skeleton.specs.Rules.{item_rule}
 use Rattle.fast_check_skeleton.specs.Visible.{is_ambient_class, item_seen, items_of}
 
@@ -41,11 +44,18 @@ abbrev pub starts_in_decl : Surroundings → SourceRange → Tree → DeclRule �
 starts_in_decl around place decl Class = starts_in_class around place decl
 starts_in_decl around place decl _ = []
 
+-- of those of a class that is exported by default, which is never ambient: none where it goes itself
+abbrev pub starts_in_default : Surroundings → Tree → DefaultRule → List SourcePos
+starts_in_default around item defaults.Class =
+    if around.is_public (ExportDefaultDecl-span item) then starts_of_removed (ClassExpr-class (ExportDefaultDecl-decl item)) else []
+starts_in_default around item _ = []
+
 -- inside of an item
 abbrev pub starts_inside : Surroundings → Tree → ItemRule → List SourcePos
 starts_inside around item (Declared rule) = starts_in_decl around (range_of_node item) item rule
 starts_inside around item (Exported rule) = starts_in_decl around (ExportDecl-span item) (ExportDecl-decl item) rule
-starts_inside around item Silent = []
+starts_inside around item (Default rule) = starts_in_default around item rule
+starts_inside around item _ = []
 
 -- the start of an item that goes, or the starts of what goes inside of it
 abbrev pub removed_start : Surroundings → Tree → List SourcePos

@@ -10,6 +10,13 @@ is_standing kinds.TsTypeAliasDecl = true
 is_standing kinds.TsEnumDecl = true
 is_standing _ = false
 
+-- what a default export may declare
+abbrev pub is_default_decl : Kind → Bool
+is_default_decl kinds.ClassExpr = true
+is_default_decl kinds.FnExpr = true
+is_default_decl kinds.TsInterfaceDecl = true
+is_default_decl _ = false
+
 -- the statements that are no declarations and no expressions
 abbrev pub is_statement : Kind → Bool
 is_statement kinds.BlockStmt = true

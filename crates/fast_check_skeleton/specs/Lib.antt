@@ -2,12 +2,16 @@ pub mod Surroundings
 pub mod Kinds
 pub mod Rules
 pub mod Mutability
+pub mod Links
+pub mod Defaults
 pub mod Visible
 pub mod Skeleton
 pub mod Grammar
 pub mod KeptComments
 pub mod Carried
 pub mod SameComments
+pub mod SameLinks
+pub mod SameDefaults
 pub mod Hidden
 pub mod HashMark
 pub mod Worlds

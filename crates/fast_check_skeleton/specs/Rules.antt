@@ -1,15 +1,18 @@
 -- What is done with the items of a module, kind by kind. What no row names is not taken so far.
-use Rattle.std.specs.Prelude.{Bool, true, false}
+use Rattle.std.specs.Prelude.{Bool, true, false, if◌then◌else◌}
 use Rattle.fast_check_syntax.specs.declared.kind.Kind.{Kind}
 use Rattle.fast_check_syntax.specs.declared.kind.Kind.TheVariants as kinds
 use Rattle.fast_check_syntax.specs.declared.tree.Tree.{Tree}
-use Rattle.fast_check_syntax.specs.Shape.{kind_of}
-use Rattle.fast_check_program_forms.specs.ModuleDecls.{ExportDecl-decl}
+use Rattle.fast_check_syntax.specs.Shape.{◌is◌, kind_of}
+use Rattle.fast_check_program_forms.specs.ModuleDecls.{ExportDecl-decl, ExportDefaultDecl-decl, TsImportEqualsDecl-module_ref}
 use Rattle.fast_check_statement_forms.specs.Statements.{ExprStmt-expr}
 use Rattle.fast_check_skeleton.specs.declared.rules.DeclRule.{DeclRule}
-use Rattle.fast_check_skeleton.specs.declared.rules.DeclRule.TheVariants.{Variables, Function, Class, Standing, Untaken}
+use Rattle.fast_check_skeleton.specs.declared.rules.DeclRule.TheVariants.{Variables, Function, Class, Standing, Using, Untaken}
+use Rattle.fast_check_signatures.specs.declared.fault.FaultKind.TheVariants.{UnsupportedRequire, UnsupportedTsExportAssignment, UnsupportedTsNamespaceExport}
+use Rattle.fast_check_skeleton.specs.declared.rules.DefaultRule.TheVariants as defaults
+use Rattle.fast_check_skeleton.specs.declared.rules.LinkRule.TheVariants as links
 use Rattle.fast_check_skeleton.specs.declared.rules.ItemRule.{ItemRule}
-use Rattle.fast_check_skeleton.specs.declared.rules.ItemRule.TheVariants.{Declared, Exported, Silent}
+use Rattle.fast_check_skeleton.specs.declared.rules.ItemRule.TheVariants.{Declared, Exported, Linked, Default, Refused, Silent}
 
 -- what is done with a declaration of a kind
 abbrev pub decl_rule : Kind → DeclRule
@@ -19,6 +22,7 @@ decl_rule kinds.ClassDecl = Class
 decl_rule kinds.TsInterfaceDecl = Standing
 decl_rule kinds.TsTypeAliasDecl = Standing
 decl_rule kinds.TsEnumDecl = Standing
+decl_rule kinds.UsingDecl = Using
 decl_rule _ = Untaken
 
 -- what is done with an expression that is a statement, by its kind: an assignment is not taken so far
@@ -26,9 +30,28 @@ abbrev pub expr_stmt_rule : Kind → ItemRule
 expr_stmt_rule kinds.AssignExpr = Declared Untaken
 expr_stmt_rule _ = Silent
 
+-- what is done with the default export of a declaration of a kind
+abbrev pub default_rule : Kind → ItemRule
+default_rule kinds.ClassExpr = Default defaults.Class
+default_rule kinds.FnExpr = Default defaults.Function
+default_rule kinds.TsInterfaceDecl = Default defaults.Interface
+default_rule _ = Declared Untaken
+
+-- whether an import is `import x = require(..)`, and not `import x = A.B`
+abbrev pub is_require : Tree → Bool
+is_require item = kind_of (TsImportEqualsDecl-module_ref item) is kinds.TsExternalModuleRef
+
 -- what is done with an item of a kind
 abbrev pub rule_of_kind : Kind → Tree → ItemRule
 rule_of_kind kinds.ExportDecl item = Exported (decl_rule (kind_of (ExportDecl-decl item)))
+rule_of_kind kinds.ImportDecl item = Linked links.Import
+rule_of_kind kinds.NamedExport item = Linked links.Export
+rule_of_kind kinds.ExportAll item = Linked links.All
+rule_of_kind kinds.TsImportEqualsDecl item = if is_require item then Refused UnsupportedRequire else Linked links.Alias
+rule_of_kind kinds.TsExportAssignment item = Refused UnsupportedTsExportAssignment
+rule_of_kind kinds.TsNamespaceExportDecl item = Refused UnsupportedTsNamespaceExport
+rule_of_kind kinds.ExportDefaultExpr item = Default defaults.Value
+rule_of_kind kinds.ExportDefaultDecl item = default_rule (kind_of (ExportDefaultDecl-decl item))
 rule_of_kind kinds.ExprStmt item = expr_stmt_rule (kind_of (ExprStmt-expr item))
 rule_of_kind kinds.BlockStmt item = Silent
 rule_of_kind kinds.EmptyStmt item = Silent
@@ -60,4 +83,4 @@ is_taken_decl _ = true
 abbrev pub is_taken : ItemRule → Bool
 is_taken (Declared rule) = is_taken_decl rule
 is_taken (Exported rule) = is_taken_decl rule
-is_taken Silent = true
+is_taken _ = true

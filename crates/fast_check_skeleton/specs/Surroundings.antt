@@ -1,5 +1,5 @@
 -- What the skeleton of a module depends on beside its tree.
-use Rattle.std.specs.Prelude.{Bool}
+use Rattle.std.specs.Prelude.{ℕ, Bool, List, Option}
 use Rattle.fast_check_syntax.specs.declared.source.SourceRange.{SourceRange}
 use Rattle.fast_check_syntax.specs.declared.source.SyntaxContext.{SyntaxContext}
 
@@ -12,3 +12,5 @@ pub record Surroundings : Type 0 where
   pub unresolved : SyntaxContext
   -- whether the file is a declaration file (`.d.ts`, `.d.mts`, `.d.cts`), all of which is ambient
   pub is_declaration_file : Bool
+  -- the text that stands in a skeleton for a source of imports or exports, where it is another one: a text that begins with `.`, where the graph resolves it
+  pub relative : List ℕ → Option (List ℕ)

@@ -1,7 +1,7 @@
 -- Stage 1 of the meaning of a transform: what is seen of a module.
 -- All that is asked outside the tree is asked here. What follows sees nothing that is hidden.
 use Rattle.std.specs.Prelude.{Bool, ◌||◌, if◌then◌else◌, Option, Some, None, List, [], ◌∷◌}
-use Rattle.std.specs.List.{flat_map}
+use Rattle.std.specs.List.{flat_map, list_any}
 use Rattle.fast_check_syntax.specs.declared.kind.Kind.TheVariants.{BindingIdent, VarDecl, FnDecl, ClassDecl, ExportDecl}
 use Rattle.fast_check_syntax.specs.declared.source.SourceRange.{SourceRange}
 use Rattle.fast_check_syntax.specs.declared.tree.Tree.{Tree}
@@ -15,18 +15,21 @@ use Rattle.fast_check_program_forms.specs.Programs.{Module-body}
 use Rattle.fast_check_program_forms.specs.ModuleDecls.{ExportDecl-span, ExportDecl-decl}
 use Rattle.fast_check_statement_forms.specs.Declarations.{ClassDecl-ident, ClassDecl-declare, ClassDecl-class}
 use Rattle.fast_check_statement_forms.specs.Declarations.{FnDecl-ident, FnDecl-declare, FnDecl-function}
+use Rattle.fast_check_statement_forms.specs.Declarations.{UsingDecl-span, UsingDecl-decls}
 use Rattle.fast_check_statement_forms.specs.Declarations.{VarDecl-span, VarDecl-ctxt, VarDecl-kind, VarDecl-declare, VarDecl-decls}
 use Rattle.fast_check_statement_forms.specs.Declarations.{VarDeclarator-span, VarDeclarator-name, VarDeclarator-init, VarDeclarator-definite, var_declarator}
-use Rattle.fast_check_signatures.specs.declared.fault.FaultKind.TheVariants.{UnsupportedDestructuring}
+use Rattle.fast_check_signatures.specs.declared.fault.FaultKind.TheVariants.{UnsupportedDestructuring, UnsupportedUsing}
 use Rattle.fast_check_signatures.specs.declared.function_kind.FunctionKind.TheVariants.{DeclarationLike}
 use Rattle.fast_check_signatures.specs.Classes.{plain_class_seen, ambient_class}
 use Rattle.fast_check_signatures.specs.Expressions.{expr_seen}
 use Rattle.fast_check_signatures.specs.Functions.{function_seen, implementation_seen}
 use Rattle.fast_check_signatures.specs.Seen.{DeclaratorHead, Seen, written, range, scope, flag, round, listed, declarator, faulty, refused, seens}
 use Rattle.fast_check_skeleton.specs.declared.rules.DeclRule.{DeclRule}
-use Rattle.fast_check_skeleton.specs.declared.rules.DeclRule.TheVariants.{Variables, Function, Class, Standing, Untaken}
+use Rattle.fast_check_skeleton.specs.declared.rules.DeclRule.TheVariants.{Variables, Function, Class, Standing, Using, Untaken}
 use Rattle.fast_check_skeleton.specs.declared.rules.ItemRule.{ItemRule}
-use Rattle.fast_check_skeleton.specs.declared.rules.ItemRule.TheVariants.{Declared, Exported, Silent}
+use Rattle.fast_check_skeleton.specs.declared.rules.ItemRule.TheVariants.{Declared, Exported, Linked, Default, Refused, Silent}
+use Rattle.fast_check_skeleton.specs.Defaults.{default_seen}
+use Rattle.fast_check_skeleton.specs.Links.{link_seen}
 use Rattle.fast_check_skeleton.specs.Mutability.{mutability_of}
 use Rattle.fast_check_skeleton.specs.Rules.{item_rule}
 use Rattle.fast_check_skeleton.specs.Surroundings.{Surroundings}
@@ -130,6 +133,22 @@ class_decl_seen around decl =
 abbrev pub public_class : Surroundings → SourceRange → Tree → List Seen
 public_class around place decl = if around.is_public place then class_decl_seen around decl ∷ [] else []
 
+-- where `using` is refused: at its first declarator, or at itself where it has none
+abbrev pub place_of_first : SourceRange → List Tree → SourceRange
+place_of_first span [] = span
+place_of_first span (d ∷ ds) = VarDeclarator-span d
+
+abbrev pub using_place : Tree → SourceRange
+using_place decl = place_of_first (UsingDecl-span decl) (parts (UsingDecl-decls decl))
+
+-- `using` is public by `place`, or by a declarator
+abbrev pub is_public_using : Surroundings → SourceRange → Tree → Bool
+is_public_using around place decl = around.is_public place || list_any (is_public_declarator around) (parts (UsingDecl-decls decl))
+
+-- no skeleton has what `using` declares
+abbrev pub using_seen : Surroundings → SourceRange → Tree → List Seen
+using_seen around place decl = if is_public_using around place decl then faulty UnsupportedUsing (using_place decl) ∷ [] else []
+
 -- A declaration, by what is done with it. Of a variable statement the declarators are public, by their own ranges; another is public by `place`, which is the
 -- range of its export, or else its own. Of one that is not taken nothing is seen.
 abbrev pub decl_seen : Surroundings → SourceRange → Tree → DeclRule → List Seen
@@ -137,6 +156,7 @@ decl_seen around place decl Variables = statement_seen decl (public_declarators 
 decl_seen around place decl Function = public_function around place decl
 decl_seen around place decl Class = public_class around place decl
 decl_seen around place decl Standing = standing_seen around place decl
+decl_seen around place decl Using = using_seen around place decl
 decl_seen around place decl Untaken = []
 
 -- an exported declaration; nothing where none of it is seen
@@ -148,6 +168,9 @@ exported_seen export (d ∷ ds) = round ExportDecl (seens (range (ExportDecl-spa
 abbrev pub seen_by_rule : Surroundings → Tree → ItemRule → List Seen
 seen_by_rule around item (Declared rule) = decl_seen around (range_of_node item) item rule
 seen_by_rule around item (Exported rule) = exported_seen item (decl_seen around (ExportDecl-span item) (ExportDecl-decl item) rule)
+seen_by_rule around item (Linked rule) = link_seen around item rule
+seen_by_rule around item (Default rule) = default_seen around item rule
+seen_by_rule around item (Refused kind) = faulty kind (range_of_node item) ∷ []
 seen_by_rule around item Silent = []
 
 abbrev pub item_seen : Surroundings → Tree → List Seen

@@ -6,5 +6,5 @@ mod rules;
 mod worlds;
 
 pub use fast_check_signatures::{Fault, FaultKind, FunctionKind};
-pub use rules::{DeclRule, ItemRule, decl_rule, item_rule};
+pub use rules::{DeclRule, DefaultRule, ItemRule, LinkRule, decl_rule, item_rule};
 pub use worlds::{hash_mark, two_worlds};

@@ -1,8 +1,9 @@
 ghost use Rattle.std.specs.Prelude.{◌≡◌};
 ghost use Rattle.fast_check_syntax.specs.Part.{seen};
-ghost use Rattle.fast_check_skeleton.specs.Rules.{decl_rule, expr_stmt_rule, item_rule};
+ghost use Rattle.fast_check_skeleton.specs.Rules.{decl_rule, default_rule, expr_stmt_rule, item_rule, is_require};
 
-use fast_check_program_forms::ExportDecl;
+use fast_check_program_forms::{ExportDecl, ExportDefaultDecl, TsImportEqualsDecl};
+use fast_check_signatures::FaultKind;
 use fast_check_statement_forms::ExprStmt;
 use fast_check_syntax::{Kind, Part};
 
@@ -17,8 +18,36 @@ pub enum DeclRule {
     Class,
     /// A declaration that stands as it is written.
     Standing,
+    /// `using`: no skeleton has what it declares.
+    Using,
     /// A declaration that is not taken so far.
     Untaken,
+}
+
+/// An import or an export that leads to other modules, or to other names.
+#[derive(Clone, Copy, PartialEq, Eq, Debug)]
+pub enum LinkRule {
+    /// An import stays with its public specifiers.
+    Import,
+    /// An export of names stays with its public specifiers.
+    Export,
+    /// `export * from source` stays where it is public.
+    All,
+    /// `import A = B.C` stays where it is public.
+    Alias,
+}
+
+/// What is exported by default.
+#[derive(Clone, Copy, PartialEq, Eq, Debug)]
+pub enum DefaultRule {
+    /// An expression stays if it gives its type by itself.
+    Value,
+    /// A class stays by its superclass and its members.
+    Class,
+    /// A function stays by its signature.
+    Function,
+    /// An interface stands as it is written.
+    Interface,
 }
 
 /// What is done with an item of a module.
@@ -28,6 +57,12 @@ pub enum ItemRule {
     Declared(DeclRule),
     /// An export of a declaration, which is public by the range of the export.
     Exported(DeclRule),
+    /// An import, or an export of names or of all.
+    Linked(LinkRule),
+    /// A default export.
+    Default(DefaultRule),
+    /// An item that no skeleton has, public or not.
+    Refused(FaultKind),
     /// A statement that declares and assigns nothing: nothing of it is seen.
     Silent,
 }
@@ -41,8 +76,28 @@ pub fn decl_rule(kind: Kind) -> DeclRule
         Kind::FnDecl => DeclRule::Function,
         Kind::ClassDecl => DeclRule::Class,
         Kind::TsInterfaceDecl | Kind::TsTypeAliasDecl | Kind::TsEnumDecl => DeclRule::Standing,
+        Kind::UsingDecl => DeclRule::Using,
         _ => DeclRule::Untaken,
     }
+}
+
+/// What is done with the default export of a declaration of this kind.
+fn default_rule(kind: Kind) -> ItemRule
+    ensures { result ≡ default_rule kind }
+{
+    match kind {
+        Kind::ClassExpr => ItemRule::Default(DefaultRule::Class),
+        Kind::FnExpr => ItemRule::Default(DefaultRule::Function),
+        Kind::TsInterfaceDecl => ItemRule::Default(DefaultRule::Interface),
+        _ => ItemRule::Declared(DeclRule::Untaken),
+    }
+}
+
+/// Whether an import is `import x = require(..)`.
+fn is_require(item: Part<'_>) -> bool
+    ensures { result ≡ is_require (seen item.entry) }
+{
+    TsImportEqualsDecl::of(item).module_ref.kind() == Kind::TsExternalModuleRef
 }
 
 /// What is done with an expression that is a statement, by its kind.
@@ -62,6 +117,17 @@ pub fn item_rule(item: Part<'_>) -> ItemRule
 {
     match item.kind() {
         Kind::ExportDecl => ItemRule::Exported(decl_rule(ExportDecl::of(item).decl.kind())),
+        Kind::ImportDecl => ItemRule::Linked(LinkRule::Import),
+        Kind::NamedExport => ItemRule::Linked(LinkRule::Export),
+        Kind::ExportAll => ItemRule::Linked(LinkRule::All),
+        Kind::TsImportEqualsDecl if is_require(item) => {
+            ItemRule::Refused(FaultKind::UnsupportedRequire)
+        }
+        Kind::TsImportEqualsDecl => ItemRule::Linked(LinkRule::Alias),
+        Kind::TsExportAssignment => ItemRule::Refused(FaultKind::UnsupportedTsExportAssignment),
+        Kind::TsNamespaceExportDecl => ItemRule::Refused(FaultKind::UnsupportedTsNamespaceExport),
+        Kind::ExportDefaultExpr => ItemRule::Default(DefaultRule::Value),
+        Kind::ExportDefaultDecl => default_rule(ExportDefaultDecl::of(item).decl.kind()),
         Kind::ExprStmt => expr_stmt_rule(ExprStmt::of(item).expr.kind()),
         Kind::BlockStmt
         | Kind::EmptyStmt
