@@ -13,20 +13,21 @@ use Rattle.fast_check_syntax.proofs.Moved.{node_moved, absent_moved, flag_moved,
 use Rattle.fast_check_class_forms.specs.Functions.{function as function_node}
 use Rattle.fast_check_expression_forms.specs.Expressions.{arrow_expr}
 use Rattle.fast_check_expression_forms.specs.Patterns.{assign_pat}
+use Rattle.fast_check_program_forms.specs.ModuleDecls.{export_default_expr}
 use Rattle.fast_check_program_forms.specs.Names.{Ident-span}
 use Rattle.fast_check_ranges.specs.Ranges.{range_of_node}
 use Rattle.fast_check_ranges.proofs.RangesMoved.{range_of_node_moved}
 use Rattle.fast_check_helpers.proofs.GlobalCallsMoved.{moved_scope}
 use Rattle.fast_check_signatures.specs.declared.fault.Fault.{Fault}
-use Rattle.fast_check_signatures.specs.declared.fault.FaultKind.TheVariants.{MissingExplicitType}
+use Rattle.fast_check_signatures.specs.declared.fault.FaultKind.TheVariants.{MissingExplicitType, UnsupportedDefaultExportExpr}
 use Rattle.fast_check_signatures.specs.Functions.{return_type_missing}
 use Rattle.fast_check_signatures.specs.NewNodes.{function_body, arrow_body}
 use Rattle.fast_check_signatures.specs.Seen.{DeclaratorHead, DefaultHead, FunctionHead, ArrowHead, ClassHead, PropertyHead}
 use Rattle.fast_check_signatures.specs.Seen.{Seen, written, round, listed, declarator, default, function, typed_arrow, valued_arrow, class, property}
-use Rattle.fast_check_signatures.specs.Seen.{faulty, refused, Seens, end, also, seens}
+use Rattle.fast_check_signatures.specs.Seen.{default_export, faulty, refused, Seens, end, also, seens}
 use Rattle.fast_check_signatures.specs.Answers.{Answer, fault_at, made, joined, settled, unless_stays, demanded, before, visited, with_tree}
 use Rattle.fast_check_signatures.specs.Answers.{valued_declarator, signed_function, signed_arrow, kept_arrow, class_of, declared_property}
-use Rattle.fast_check_signatures.specs.Answers.{valued_property, class_answer, property_answer}
+use Rattle.fast_check_signatures.specs.Answers.{valued_property, class_answer, property_answer, default_export_answer}
 use Rattle.fast_check_signatures.specs.Answers.{round_answer, list_answer, declarator_answer, default_answer, function_answer, typed_arrow_answer}
 use Rattle.fast_check_signatures.specs.Answers.{valued_arrow_answer}
 use Rattle.fast_check_signatures.specs.Answers.{answer_to, parts_answer, items_answer, answer_of}
@@ -152,6 +153,10 @@ module _ (m : Moves) (ok : Keeps m) where
   pub declared_property_moved : (p : PropertyHead) (type : Tree) → moved m (declared_property p type) ≡ declared_property (moved_property m p) (moved m type)
   declared_property_moved p type = simp (node_moved, range_moved, flag_moved, absent_moved)
 
+  export_default_expr_moved : (span : SourceRange) (value : Tree) →
+      moved m (export_default_expr span value) ≡ export_default_expr (moved_range m span) (moved m value)
+  export_default_expr_moved span value = simp (node_moved, range_moved)
+
   -- ---- answers
 
   round_answer_moved : (kind : Kind) (a : Answer (Option (List Tree))) → round_answer kind (moved_parts m a) ≡ moved_answer m (round_answer kind a)
@@ -227,6 +232,16 @@ module _ (m : Moves) (ok : Keeps m) where
       ∙ demanded_moved m fault a) i))
       ∙ made_moved m make make' (moved m) (option_map (moved m)) (demanded fault a) (ap Some (sym (valued_property_moved p (demanded fault a).stays)))
 
+  default_export_answer_moved : (span : SourceRange) (a : Answer (Option Tree)) →
+      default_export_answer (moved_range m span) (moved_answer m a) ≡ moved_answer m (default_export_answer span a)
+  default_export_answer_moved span a =
+      let fault = fault_at UnsupportedDefaultExportExpr span in
+      let make : Tree → Option Tree = λ v. Some (export_default_expr span v) in
+      let make' : Tree → Option Tree = λ v. Some (export_default_expr (moved_range m span) v) in
+      ap (made make') (demanded_moved m fault a)
+      ∙ made_moved m make make' (moved m) (option_map (moved m)) (demanded fault a)
+      (ap Some (sym (export_default_expr_moved span (demanded fault a).stays)))
+
   -- ---- all
 
   mutual
@@ -249,6 +264,8 @@ module _ (m : Moves) (ok : Keeps m) where
         (λ i. class_answer (moved_class m c) (answer_to_moved superclass i) (items_moved members i))
         ∙ class_answer_moved c (answer_to superclass) (items_answer members)
     answer_to_moved (property p value) = ap (property_answer (moved_property m p)) (answer_to_moved value) ∙ property_answer_moved p (answer_to value)
+    answer_to_moved (default_export span value) =
+        ap (default_export_answer (moved_range m span)) (answer_to_moved value) ∙ default_export_answer_moved span (answer_to value)
     answer_to_moved (faulty kind place) = λ i. record { stays = Some (sym (absent_moved m) i); faults = fault_at kind (moved_range m place) ∷ [] }
     answer_to_moved refused = refl
 

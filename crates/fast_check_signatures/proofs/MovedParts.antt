@@ -10,7 +10,7 @@ use Rattle.fast_check_syntax.proofs.Moved.{range_moved, context_moved, kind_of_m
 use Rattle.fast_check_helpers.proofs.GlobalCallsMoved.{moved_scope, context_of_moved}
 use Rattle.fast_check_signatures.specs.Seen.{DeclaratorHead, DefaultHead, FunctionHead, ArrowHead, ClassHead, PropertyHead}
 use Rattle.fast_check_signatures.specs.Seen.{Seen, written, round, listed, declarator, default, function, typed_arrow, valued_arrow, class, property}
-use Rattle.fast_check_signatures.specs.Seen.{faulty, refused, Seens, end, also, seens, range, scope}
+use Rattle.fast_check_signatures.specs.Seen.{default_export, faulty, refused, Seens, end, also, seens, range, scope}
 
 abbrev pub moved_declarator : Moves → DeclaratorHead → DeclaratorHead
 moved_declarator m d = record { span = moved_range m d.span; ident = moved m d.ident; definite = d.definite }
@@ -61,6 +61,7 @@ abbrev mutual
       valued_arrow (moved_arrow m a) is_async (moved_range m place) (moved_seen m value) (moved_seens m params)
   moved_seen m (class c superclass members) = class (moved_class m c) (moved_seen m superclass) (moved_seens m members)
   moved_seen m (property p value) = property (moved_property m p) (moved_seen m value)
+  moved_seen m (default_export span value) = default_export (moved_range m span) (moved_seen m value)
   moved_seen m (faulty kind place) = faulty kind (moved_range m place)
   moved_seen m refused = refused
 
