@@ -29,7 +29,7 @@ use Rattle.fast_check_statement_forms.specs.Declarations.{VarDeclarator-span, Va
 use Rattle.fast_check_helpers.specs.declared.literal_type.DeclMutabilityKind.{DeclMutabilityKind}
 use Rattle.fast_check_helpers.specs.declared.literal_type.DeclMutabilityKind.TheVariants.{Const, Mutable}
 use Rattle.fast_check_signatures.specs.declared.fault.Fault.{Fault}
-use Rattle.fast_check_signatures.specs.declared.fault.FaultKind.TheVariants.{UnsupportedDestructuring}
+use Rattle.fast_check_signatures.specs.declared.fault.FaultKind.TheVariants.{UnsupportedDestructuring, UnsupportedUsing}
 use Rattle.fast_check_signatures.specs.declared.function_kind.FunctionKind.TheVariants.{DeclarationLike}
 use Rattle.fast_check_skeleton.specs.Surroundings.{Surroundings}
 use Rattle.fast_check_helpers.specs.Builders.{type_ann, never_value}
@@ -40,7 +40,7 @@ use Rattle.fast_check_signatures.specs.Seen.{Seen, written, range, scope, flag, 
 use Rattle.fast_check_skeleton.specs.Visible.{declared_ident, declared_type, declarator_head, typed_declarator, value_seen, untyped_seen, ident_declarator_seen}
 use Rattle.fast_check_skeleton.specs.Visible.{declarator_seen, is_ambient, is_public_declarator, declarator_in, public_declarator, public_declarators}
 use Rattle.fast_check_skeleton.specs.Visible.{statement_seen, signature_of, function_decl_seen, public_function, is_ambient_class, class_in, class_decl_seen}
-use Rattle.fast_check_skeleton.specs.Visible.{public_class, decl_seen, exported_seen}
+use Rattle.fast_check_skeleton.specs.Visible.{public_class, is_public_using, using_place, decl_seen, exported_seen}
 use Rattle.fast_check_skeleton.specs.Visible.{seen_by_rule, item_seen, items_of, visible}
 use Rattle.fast_check_signatures.specs.Answers.{answer_of}
 use Rattle.fast_check_signatures.specs.Classes.{plain_class_seen, ambient_class}
@@ -51,7 +51,7 @@ use Rattle.fast_check_same_values.specs.SameValues as v
 use Rattle.fast_check_same_values.proofs.AlikeTrees.{TreeAlike, scope_to, image_alike, new_alike, absent_alike, range_leaf_alike, flag_leaf_alike, node_alike}
 use Rattle.fast_check_same_values.proofs.AlikeTrees.{range_field_alike}
 use Rattle.fast_check_same_values.proofs.AlikeSeen.{Alike, AllAlike, written_alike, same_written, range_alike, scope_alike, flag_alike}
-use Rattle.fast_check_same_values.proofs.AlikeSeen.{alike_if, all_alike_if, listed_alike, round_alike, append_alike}
+use Rattle.fast_check_same_values.proofs.AlikeSeen.{alike_if, all_alike_if, faulty_alike, listed_alike, round_alike, append_alike}
 use Rattle.fast_check_signatures.proofs.Choices.{both_true}
 use Rattle.fast_check_signatures.proofs.MovedParts.{moved_declarator}
 use Rattle.fast_check_same_values.proofs.AlikePresent.{expr_absent}
@@ -59,13 +59,16 @@ use Rattle.fast_check_same_values.proofs.Alike.{expr_alike, function_alike}
 use Rattle.fast_check_same_values.proofs.AlikeClasses.{class_alike, ambient_class_alike}
 use Rattle.fast_check_same_values.proofs.AlikeFunctions.{implementation_alike}
 use Rattle.fast_check_skeleton.specs.Skeleton.{transformed, skeleton_of, faults_of}
-use Rattle.fast_check_skeleton.specs.Hidden.{IsSilentDecl, IsSilent, SameHead, SameDeclarator, SameAmbient, SameDeclarators, SameStatement}
+use Rattle.fast_check_skeleton.specs.Hidden.{IsSilentDecl, IsSilent, SameHead, SameDeclarator, SameDeclarators, SameStatement}
 use Rattle.fast_check_skeleton.specs.Hidden.{SameFunctionDecl, SameClassDecl, SameDecl, SameItem, SameItems, AgreeHidden}
 use Rattle.fast_check_skeleton.specs.Kinds.{is_standing}
 use Rattle.fast_check_skeleton.specs.Rules.{decl_rule, rule_of_kind, is_taken_decl}
 use Rattle.fast_check_skeleton.specs.declared.rules.DeclRule.{DeclRule}
-use Rattle.fast_check_skeleton.specs.declared.rules.DeclRule.TheVariants.{Variables, Function, Class, Standing}
+use Rattle.fast_check_skeleton.specs.declared.rules.DeclRule.TheVariants.{Variables, Function, Class, Standing, Using}
 use Rattle.fast_check_skeleton.proofs.Ruled.{standing_rule, declared_rule, silent_rule}
+use Rattle.fast_check_skeleton.proofs.AgreeingLinks.{silent_link, links_alike}
+use Rattle.fast_check_skeleton.proofs.AgreeingDefaults.{silent_default, defaults_alike}
+use Rattle.fast_check_skeleton.specs.SameLinks as l
 use Rattle.fast_check_skeleton.specs.Hidden as h
 use Rattle.fast_check_skeleton.specs.Worlds.{SameFault, SameSkeleton}
 use Rattle.fast_check_helpers.proofs.InferredMoved.{inferred_type_moved}
@@ -97,6 +100,7 @@ module _ (around : Surroundings) where
   silent_taken p t (h.IsSilentDecl.standing s e) = ap is_taken_decl (standing_rule (kind_of t) s)
   silent_taken p t (h.IsSilentDecl.function k e) = ap (λ j. is_taken_decl (decl_rule j)) k
   silent_taken p t (h.IsSilentDecl.class k e) = ap (λ j. is_taken_decl (decl_rule j)) k
+  silent_taken p t (h.IsSilentDecl.using k e) = ap (λ j. is_taken_decl (decl_rule j)) k
 
   silent_decl : (p : SourceRange) (t : Tree) → IsSilentDecl around p t → decl_seen around p t (rule_of t) ≡ []
   silent_decl p t (h.IsSilentDecl.variable k e) =
@@ -107,6 +111,8 @@ module _ (around : Surroundings) where
       ap (λ j. decl_seen around p t (decl_rule j)) k ∙ ap (λ b. if b then function_decl_seen around p t ∷ [] else []) e
   silent_decl p t (h.IsSilentDecl.class k e) =
       ap (λ j. decl_seen around p t (decl_rule j)) k ∙ ap (λ b. if b then class_decl_seen around t ∷ [] else []) e
+  silent_decl p t (h.IsSilentDecl.using k e) =
+      ap (λ j. decl_seen around p t (decl_rule j)) k ∙ ap (λ b. if b then faulty UnsupportedUsing (using_place t) ∷ [] else []) e
 
   item_of : (t : Tree) → is_taken_decl (rule_of t) ≡ true → item_seen around t ≡ decl_seen around (range_of_node t) t (rule_of t)
   item_of t e = ap (seen_by_rule around t) (declared_rule (kind_of t) t e)
@@ -119,6 +125,8 @@ module _ (around : Surroundings) where
   silent_item t (h.IsSilent.decl s) = item_of t (silent_taken (range_of_node t) t s) ∙ silent_decl (range_of_node t) t s
   silent_item t (h.IsSilent.statement s) = ap (seen_by_rule around t) (silent_rule t s)
   silent_item t (h.IsSilent.exported k s) = export_of t k ∙ ap (exported_seen t) (silent_decl (ExportDecl-span t) (ExportDecl-decl t) s)
+  silent_item t (h.IsSilent.linked s) = let e = silent_link around t s in ap (seen_by_rule around t) e.is ∙ e.unseen
+  silent_item t (h.IsSilent.default s) = let e = silent_default around t s in ap (seen_by_rule around t) e.is ∙ e.unseen
 
 -- ---- what agrees is seen alike
 
@@ -213,36 +221,32 @@ module _ (r : Renaming) (ok : IsRenaming r) where
         inferred_type_moved twice twice_keeps mutability b.unresolved w)
 
     declarator_alike : IsPair r.scopes a.unresolved.0 b.unresolved.0 → (mutability : DeclMutabilityKind) {t u : Tree} → SameDeclarator r a b mutability t u →
-        (is_public_declarator a t ≡ is_public_declarator b u) × Alike r ok (declarator_seen a mutability t) (declarator_seen b mutability u)
-    declarator_alike c mutability (h.SameDeclarator.typed {t = t} {u = u} d w) = (d.is_public, declared mutability t u d (λ e. cc))
+        Alike r ok (declarator_seen a mutability t) (declarator_seen b mutability u)
+    declarator_alike c mutability (h.SameDeclarator.typed {t = t} {u = u} d w) = declared mutability t u d (λ e. cc)
     declarator_alike c mutability (h.SameDeclarator.inferred {t = t} {u = u} x y d f g s) =
-        (d.is_public, declared mutability t u d (λ e. subst₂ (UntypedAlike t u) (sym f) (sym g) (shown_alike t u x y d (tree_to r ok s))))
-    declarator_alike c mutability (h.SameDeclarator.same {t = t} {u = u} d s) = (
-      d.is_public,
-      declared mutability t u d (λ e. same_alike c t u d s (shown_of a mutability t) (shown_of b mutability u)
-          (same_shown mutability (VarDeclarator-init t) (VarDeclarator-init u) c s)),
-    )
+        declared mutability t u d (λ e. subst₂ (UntypedAlike t u) (sym f) (sym g) (shown_alike t u x y d (tree_to r ok s)))
+    declarator_alike c mutability (h.SameDeclarator.same {t = t} {u = u} d s) =
+        declared mutability t u d (λ e. same_alike c t u d s (shown_of a mutability t) (shown_of b mutability u)
+        (same_shown mutability (VarDeclarator-init t) (VarDeclarator-init u) c s))
     declarator_alike c mutability (h.SameDeclarator.kept {t = t} {u = u} d f g s) =
-        (d.is_public, declared mutability t u d (λ e. subst₂ (UntypedAlike t u) (sym f) (sym g) (kept_alike c t u d s)))
-    declarator_alike c mutability (h.SameDeclarator.destructured {t = t} {u = u} e n s) = (
-      e,
-      subst₂ (Alike r ok) (sym (of_pattern a mutability t n.left)) (sym (of_pattern b mutability u n.right))
-          (ap (faulty UnsupportedDestructuring) (range_to r ok _ _ s)),
-    )
+        declared mutability t u d (λ e. subst₂ (UntypedAlike t u) (sym f) (sym g) (kept_alike c t u d s))
+    declarator_alike c mutability (h.SameDeclarator.destructured {t = t} {u = u} n s) =
+        subst₂ (Alike r ok) (sym (of_pattern a mutability t n.left)) (sym (of_pattern b mutability u n.right))
+        (ap (faulty UnsupportedDestructuring) (range_to r ok _ _ s))
 
     declarators_alike : (Same : Tree → Tree → Type 0) (s s' : Tree) →
-        ((t u : Tree) → Same t u → (is_public_declarator a t ≡ is_public_declarator b u) × Alike r ok (declarator_in a s t) (declarator_in b s' u)) →
+        ((t u : Tree) → Same t u → Alike r ok (declarator_in a s t) (declarator_in b s' u)) →
         (ts us : List Tree) → SameDeclarators r a b Same ts us → AllAlike r ok (flat_map (public_declarator a s) ts) (flat_map (public_declarator b s') us)
-    declarators_alike Same s s' f [] [] h.SameDeclarators.end = refl
-    declarators_alike Same s s' f (t ∷ ts) us (h.SameDeclarators.left q rest) =
+    declarators_alike Same s s' f [] [] l.SamePublic.end = refl
+    declarators_alike Same s s' f (t ∷ ts) us (l.SamePublic.left q rest) =
         subst (λ xs. AllAlike r ok (xs ++ flat_map (public_declarator a s) ts) (flat_map (public_declarator b s') us)) (sym (not_public a s t q))
         (declarators_alike Same s s' f ts us rest)
-    declarators_alike Same s s' f ts (u ∷ us) (h.SameDeclarators.right q rest) =
+    declarators_alike Same s s' f ts (u ∷ us) (l.SamePublic.right q rest) =
         subst (λ xs. AllAlike r ok (flat_map (public_declarator a s) ts) (xs ++ flat_map (public_declarator b s') us)) (sym (not_public b s' u q))
         (declarators_alike Same s s' f ts us rest)
-    declarators_alike Same s s' f (t ∷ ts) (u ∷ us) (h.SameDeclarators.next x rest) =
+    declarators_alike Same s s' f (t ∷ ts) (u ∷ us) (l.SamePublic.next e x rest) =
         append_alike r ok (public_declarator a s t) (flat_map (public_declarator a s) ts) (public_declarator b s' u) (flat_map (public_declarator b s') us)
-        (all_alike_if r ok (is_public_declarator a t) (is_public_declarator b u) (declarator_in a s t) (declarator_in b s' u) (f t u x).0 (f t u x).1)
+        (all_alike_if r ok (is_public_declarator a t) (is_public_declarator b u) (declarator_in a s t) (declarator_in b s' u) e (f t u x))
         (declarators_alike Same s s' f ts us rest)
 
     -- ---- statements
@@ -333,7 +337,7 @@ module _ (r : Renaming) (ok : IsRenaming r) where
     of_classes p q t u k s = by_rule p q t u Class (ap decl_rule k.left) (ap decl_rule k.right) refl s
 
     of_variables : (p q : SourceRange) (t u : Tree) (Same : Tree → Tree → Type 0) → SameStatement r a b t u →
-        ((x y : Tree) → Same x y → (is_public_declarator a x ≡ is_public_declarator b y) × Alike r ok (declarator_in a t x) (declarator_in b u y)) →
+        ((x y : Tree) → Same x y → Alike r ok (declarator_in a t x) (declarator_in b u y)) →
         SameDeclarators r a b Same (parts (VarDecl-decls t)) (parts (VarDecl-decls u)) → DeclsAlike p q t u
     of_variables p q t u Same d go rest =
         by_rule p q t u Variables (ap decl_rule d.kinds.left) (ap decl_rule d.kinds.right) refl
@@ -347,27 +351,18 @@ module _ (r : Renaming) (ok : IsRenaming r) where
         (p q : SourceRange) (t u : Tree) → SameDecl r a b p q t u → DeclsAlike p q t u
     decl_alike c m p q t u (h.SameDecl.variable d n rest) = of_variables p q t u (SameDeclarator r a b (declared_as t)) d go rest
       where
-        go : (x y : Tree) → SameDeclarator r a b (declared_as t) x y →
-            (is_public_declarator a x ≡ is_public_declarator b y) × Alike r ok (declarator_in a t x) (declarator_in b u y)
-        go x y s =
-            let e = declarator_alike c (declared_as t) s in (
-              e.0,
-              alike_if r ok (is_ambient a t) (is_ambient b u)
-                  (written x) (declarator_seen a (declared_as t) x) (written y) (declarator_seen b (declared_as u) y)
-                  (ambient_alike t u m d.declare) (λ e. cc)
-                  (λ f. subst (λ k. Alike r ok (declarator_seen a (declared_as t) x) (declarator_seen b k y))
-                  (mutability_alike (VarDecl-kind t) (VarDecl-kind u) d.kind) e.1),
-            )
-    decl_alike c m p q t u (h.SameDecl.ambient d n rest) = of_variables p q t u (SameAmbient r a b) d go rest
+        go : (x y : Tree) → SameDeclarator r a b (declared_as t) x y → Alike r ok (declarator_in a t x) (declarator_in b u y)
+        go x y s = alike_if r ok (is_ambient a t) (is_ambient b u)
+            (written x) (declarator_seen a (declared_as t) x) (written y) (declarator_seen b (declared_as u) y)
+            (ambient_alike t u m d.declare) (λ e. cc)
+            (λ f. subst (λ k. Alike r ok (declarator_seen a (declared_as t) x) (declarator_seen b k y))
+            (mutability_alike (VarDecl-kind t) (VarDecl-kind u) d.kind) (declarator_alike c (declared_as t) s))
+    decl_alike c m p q t u (h.SameDecl.ambient d n rest) = of_variables p q t u (SameTree r) d go rest
       where
-        go : (x y : Tree) → SameAmbient r a b x y →
-            (is_public_declarator a x ≡ is_public_declarator b y) × Alike r ok (declarator_in a t x) (declarator_in b u y)
-        go x y s = (
-          s.is_public,
-          alike_if r ok (is_ambient a t) (is_ambient b u)
-              (written x) (declarator_seen a (declared_as t) x) (written y) (declarator_seen b (declared_as u) y)
-              (ambient_alike t u m d.declare) (λ e. same_written r ok s.tree) (λ e. cc),
-        )
+        go : (x y : Tree) → SameTree r x y → Alike r ok (declarator_in a t x) (declarator_in b u y)
+        go x y s = alike_if r ok (is_ambient a t) (is_ambient b u)
+            (written x) (declarator_seen a (declared_as t) x) (written y) (declarator_seen b (declared_as u) y)
+            (ambient_alike t u m d.declare) (λ e. same_written r ok s) (λ e. cc)
     decl_alike c m p q t u (h.SameDecl.standing k d s e f) =
         by_rule p q t u Standing (standing_rule (kind_of t) (ap is_standing d.left ∙ s)) (standing_rule (kind_of u) (ap is_standing d.right ∙ s)) refl
         (all_alike_if r ok (a.is_public p) (b.is_public q) (written t) (written u) e (same_written r ok f))
@@ -393,6 +388,10 @@ module _ (r : Renaming) (ok : IsRenaming r) where
         of_classes p q t u d.kinds (classes_alike p q t u d e (subst₂ (λ x y. Alike r ok (class_if a t x) (class_if b u y)) (sym n) (sym n')
         (written_alike r ok _ _ (ambient_class_alike r ok a.unresolved b.unresolved a.is_implementation b.is_implementation (ClassDecl-class t)
         (ClassDecl-class u) s))))
+    decl_alike c m p q t u (h.SameDecl.using k d e s) =
+        by_rule p q t u Using (ap decl_rule k.left) (ap decl_rule k.right) refl
+        (all_alike_if r ok (is_public_using a p t) (is_public_using b q u) (faulty UnsupportedUsing (using_place t)) (faulty UnsupportedUsing (using_place u)) e
+        (faulty_alike r ok UnsupportedUsing (using_place t) (using_place u) (range_to r ok (using_place t) (using_place u) s)))
 
     -- declarations that agree are taken
     pub decl_taken : IsPair r.scopes a.unresolved.0 b.unresolved.0 → a.is_declaration_file ≡ b.is_declaration_file →
@@ -421,6 +420,15 @@ module _ (r : Renaming) (ok : IsRenaming r) where
         (exported_alike t u (decl_seen a (ExportDecl-span t) (ExportDecl-decl t) (decl_rule (kind_of (ExportDecl-decl t))))
         (decl_seen b (ExportDecl-span u) (ExportDecl-decl u) (decl_rule (kind_of (ExportDecl-decl u)))) s
         (decl_alike c m (ExportDecl-span t) (ExportDecl-span u) (ExportDecl-decl t) (ExportDecl-decl u) d).alike)
+    item_alike c m t u (h.SameItem.linked d) =
+        let e = links_alike r ok a b t u d in
+        subst₂ (λ x y. AllAlike r ok (seen_by_rule a t x) (seen_by_rule b u y)) (sym e.left) (sym e.right) e.alike
+    item_alike c m t u (h.SameItem.default d) =
+        let e = defaults_alike r ok a b c m t u d in
+        subst₂ (λ x y. AllAlike r ok (seen_by_rule a t x) (seen_by_rule b u y)) (sym e.left) (sym e.right) e.alike
+    item_alike c m t u (h.SameItem.refused kind e f s) =
+        subst₂ (λ x y. AllAlike r ok (seen_by_rule a t x) (seen_by_rule b u y)) (sym e) (sym f)
+        (ap (λ x. faulty kind x ∷ []) (range_to r ok (range_of_node t) (range_of_node u) s))
 
     items_alike : IsPair r.scopes a.unresolved.0 b.unresolved.0 → a.is_declaration_file ≡ b.is_declaration_file → (ts us : List Tree) →
         SameItems r a b ts us → AllAlike r ok (flat_map (item_seen a) ts) (flat_map (item_seen b) us)

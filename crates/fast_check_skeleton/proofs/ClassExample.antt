@@ -47,24 +47,24 @@ use Rattle.fast_check_skeleton.proofs.Example.{context_of_context}
 one_pair : (a b x y : ℕ) → IsPair no_places.starts a x → IsPair no_places.starts b y → (a ≡ b) ↔ (x ≡ y)
 one_pair a b x y p q = (λ e. grind arith, λ e. grind arith)
 
-is_renaming : IsRenaming no_places
+pub is_renaming : IsRenaming no_places
 is_renaming = record {
   starts = record { zero = inl (refl, refl); same = one_pair };
   ends = record { zero = inl (refl, refl); same = one_pair };
   scopes = record { zero = inl (refl, refl); same = one_pair };
 }
 
-abbrev Same : Tree → Tree → Type 0
+abbrev pub Same : Tree → Tree → Type 0
 Same = SameTree no_places
 
-abbrev SamePlace : SourceRange → SourceRange → Type 0
+abbrev pub SamePlace : SourceRange → SourceRange → Type 0
 SamePlace = SameRange no_places
 
 -- new nodes agree with themselves
-new_same : (t : Tree) → ((m : Moves) → Keeps m → moved m t ≡ t) → Same t t
+pub new_same : (t : Tree) → ((m : Moves) → Keeps m → moved m t ≡ t) → Same t t
 new_same t stays = tree_from no_places is_renaming t t (new_alike no_places is_renaming t stays)
 
-same_absent : Same Absent Absent
+pub same_absent : Same Absent Absent
 same_absent = new_same Absent (λ m ok. absent_moved m)
 
 same_none : Same (list []) (list [])
@@ -85,16 +85,16 @@ void_type = type_ann (ts_keyword_type words.TsVoidKeyword)
 same_void : Same void_type void_type
 same_void = new_same void_type (λ m ok. simp (node_moved, range_moved, none_moved m ok, word_moved))
 
-no_place : SamePlace none_range none_range
+pub no_place : SamePlace none_range none_range
 no_place = record { start = inl (refl, refl); end = inl (refl, refl) }
 
-at_places : (a b : SourceRange) → a ≡ none_range → b ≡ none_range → SamePlace a b
+pub at_places : (a b : SourceRange) → a ≡ none_range → b ≡ none_range → SamePlace a b
 at_places a b e f = subst₂ SamePlace (sym e) (sym f) no_place
 
 in_scopes : (a b : _) → a ≡ no_scope → b ≡ no_scope → IsPair no_places.scopes a.0 b.0
 in_scopes a b e f = subst₂ (λ x y. IsPair no_places.scopes x.0 y.0) (sym e) (sym f) (inl (refl, refl))
 
-are_same : (t u x : Tree) → t ≡ x → u ≡ x → Same x x → Same t u
+pub are_same : (t u x : Tree) → t ≡ x → u ≡ x → Same x x → Same t u
 are_same t u x e f s = subst₂ Same (sym e) (sym f) s
 
 -- ---- the function
@@ -117,7 +117,7 @@ function_return ps qs ss ts = record {
 no_params : (ss : List Tree) → parts (Function-params (void_function [] ss)) ≡ []
 no_params ss = simp parts_node
 
-functions : (ss ts : List Tree) → SameFunction no_places no_scope no_scope (void_function [] ss) (void_function [] ts)
+pub functions : (ss ts : List Tree) → SameFunction no_places no_scope no_scope (void_function [] ss) (void_function [] ts)
 functions ss ts = v.SameFunction.typed_function (function_head [] [] ss ts) (function_return [] [] ss ts) (simp (part_node, is_absent_node))
     (subst₂ (v.SameParams no_places no_scope no_scope) (sym (no_params ss)) (sym (no_params ts)) v.SameParams.no_params)
 
@@ -153,7 +153,7 @@ method_heads ps qs = record {
   readonly = refl;
 }
 
-word_read : (w v : Word) → has_word w (tree.Word v) ≡ word_is_at w (Tree-F.Word v)
+pub word_read : (w v : Word) → has_word w (tree.Word v) ≡ word_is_at w (Tree-F.Word v)
 unfolding roll-Tree denote.Hole.Carrier.roll
 word_read w v = ap (word_is_at w) (out-roll-Tree (Tree-F.Word v))
 
@@ -215,7 +215,7 @@ class_items = h.SameItem.decl (h.SameDecl.class (class_decls first_members secon
 
 -- ---- the modules
 
-items_made : (items : List Tree) → items_of (module_of items) ≡ items
+pub items_made : (items : List Tree) → items_of (module_of items) ≡ items
 items_made items = simp parts_node
 
 agree : AgreeHidden no_places all_public all_public first second

@@ -8,7 +8,7 @@ use Rattle.std.proofs.Common.{ap, ap₂, ◌∙◌, sym, subst, subst₂, cond, 
 use Rattle.std.proofs.lemmas.List.Folds.{list_any-append}
 use Rattle.fast_check_syntax.specs.declared.kind.Kind.{Kind}
 use Rattle.fast_check_syntax.specs.declared.kind.Kind.TheVariants as kinds
-use Rattle.fast_check_syntax.specs.declared.kind.Kind.TheVariants.{VarDecl, FnDecl, ClassDecl}
+use Rattle.fast_check_syntax.specs.declared.kind.Kind.TheVariants.{VarDecl, FnDecl, ClassDecl, UsingDecl}
 use Rattle.fast_check_syntax.specs.declared.source.SourcePos.{SourcePos}
 use Rattle.fast_check_syntax.specs.declared.source.SourceRange.{SourceRange}
 use Rattle.fast_check_syntax.specs.declared.tree.Tree.{Tree}
@@ -21,28 +21,37 @@ use Rattle.fast_check_comments.specs.Kept.{kept, without_leading}
 use Rattle.fast_check_comments.specs.Places.{Places, is_place_at, without_comments}
 use Rattle.fast_check_class_forms.specs.Classes.{Class-span}
 use Rattle.fast_check_class_forms.specs.Functions.{Function-span}
-use Rattle.fast_check_program_forms.specs.ModuleDecls.{ExportDecl-span, ExportDecl-decl}
+use Rattle.fast_check_expression_forms.specs.Expressions.{ClassExpr-class}
+use Rattle.fast_check_program_forms.specs.ModuleDecls.{ExportDecl-span, ExportDecl-decl, ExportDefaultDecl-span, ExportDefaultDecl-decl}
 use Rattle.fast_check_statement_forms.specs.Declarations.{ClassDecl-class, FnDecl-function, VarDecl-span}
 use Rattle.fast_check_ranges.specs.Ranges.{range_of_node}
 use Rattle.fast_check_skeleton.specs.Surroundings.{Surroundings}
 use Rattle.fast_check_signatures.specs.Seen.{Seen}
 use Rattle.fast_check_skeleton.specs.Visible.{is_ambient_class, item_seen, items_of}
-use Rattle.fast_check_skeleton.specs.KeptComments.{start_of_unseen, starts_of_removed, starts_in_decl, starts_inside, removed_start, removed_starts}
-use Rattle.fast_check_skeleton.specs.KeptComments.{without_all_leading, kept_comments}
+use Rattle.fast_check_skeleton.specs.KeptComments.{start_of_unseen, starts_of_removed, starts_in_decl, starts_in_default, starts_inside, removed_start}
+use Rattle.fast_check_skeleton.specs.KeptComments.{removed_starts, without_all_leading, kept_comments}
 use Rattle.fast_check_skeleton.specs.SameComments.{all_comments_at, SameComment, SameAtPairs, SameComments}
 use Rattle.fast_check_skeleton.specs.Hidden.{SameDecl, SameItem, SameItems, AgreeHidden}
 use Rattle.fast_check_same_values.specs.SameClasses.{HasNoPartner, IsNoPartner}
 use Rattle.fast_check_skeleton.specs.Hidden as h
+use Rattle.fast_check_skeleton.specs.SameDefaults.{SameDefaultDecl, SameDefault}
+use Rattle.fast_check_skeleton.specs.SameDefaults as defaults
 use Rattle.fast_check_same_values.specs.SameValues.{Both}
 use Rattle.fast_check_same_values.specs.SameValues as v
 use Rattle.fast_check_skeleton.specs.Worlds.{TwoWorlds}
 use Rattle.fast_check_same_values.proofs.AlikeSeen.{AllAlike}
 use Rattle.fast_check_skeleton.specs.Kinds.{is_standing}
-use Rattle.fast_check_skeleton.specs.Rules.{decl_rule, rule_of_kind, item_rule}
-use Rattle.fast_check_skeleton.proofs.Ruled.{declared_rule, silent_rule}
+use Rattle.fast_check_skeleton.specs.declared.rules.DefaultRule.{DefaultRule}
+use Rattle.fast_check_skeleton.specs.declared.rules.DefaultRule.TheVariants.{Value, Class, Function, Interface}
+use Rattle.fast_check_skeleton.specs.declared.rules.ItemRule.{ItemRule}
+use Rattle.fast_check_skeleton.specs.declared.rules.ItemRule.TheVariants.{Linked, Default, Refused}
+use Rattle.fast_check_skeleton.specs.Rules.{decl_rule, default_rule, rule_of_kind, item_rule}
+use Rattle.fast_check_skeleton.proofs.Ruled.{rule_by_kind, default_by_kind, declared_rule, silent_rule}
+use Rattle.fast_check_skeleton.proofs.AgreeingLinks.{silent_link, links_alike}
+use Rattle.fast_check_skeleton.proofs.AgreeingDefaults.{silent_default, defaults_alike}
 use Rattle.fast_check_skeleton.proofs.RemovedMembers.{is_among, one_start, no_left, no_right, class_removed}
 use Rattle.fast_check_skeleton.proofs.Agreeing.{silent_taken, silent_item, ambient_class_same, decl_taken, item_alike, same_trees}
-use Rattle.fast_check_skeleton.proofs.ItemRanges.{range_of_variables, range_of_function, range_of_class, range_of_export, range_alike}
+use Rattle.fast_check_skeleton.proofs.ItemRanges.{range_of_variables, range_of_function, range_of_class, range_of_using, range_of_export, range_alike}
 
 -- ---- what is left at a position
 
@@ -98,7 +107,8 @@ abbrev is_class_kind : Kind → Bool
 is_class_kind k = k is ClassDecl
 
 -- nothing goes inside of other declarations than classes
-nothing_by_kind : (around : Surroundings) (place : SourceRange) (t : Tree) (k : Kind) → is_class_kind k ≡ false → starts_in_decl around place t (decl_rule k) ≡ []
+nothing_by_kind : (around : Surroundings) (place : SourceRange) (t : Tree) (k : Kind) → is_class_kind k ≡ false →
+    starts_in_decl around place t (decl_rule k) ≡ []
 nothing_by_kind around place t kinds.ClassDecl e = cc
 nothing_by_kind around place t _ e = refl
 
@@ -119,6 +129,14 @@ silent_decl_inside around place t (h.IsSilentDecl.function k e) = nothing_inside
 silent_decl_inside around place t (h.IsSilentDecl.class k e) =
     ap (λ j. starts_in_decl around place t (decl_rule j)) k
     ∙ ap (λ b. if b && not (is_ambient_class around t) then starts_of_removed (ClassDecl-class t) else []) e
+silent_decl_inside around place t (h.IsSilentDecl.using k e) = nothing_inside around place t UsingDecl k refl
+
+silent_default_inside : (around : Surroundings) (t : Tree) (rule : DefaultRule) → (rule ≡ Class → around.is_public (ExportDefaultDecl-span t) ≡ false) →
+    starts_in_default around t rule ≡ []
+silent_default_inside around t Class e = ap (λ b. if b then starts_of_removed (ClassExpr-class (ExportDefaultDecl-decl t)) else []) (e refl)
+silent_default_inside around t Value e = refl
+silent_default_inside around t Function e = refl
+silent_default_inside around t Interface e = refl
 
 silent_inside : (around : Surroundings) (t : Tree) → h.IsSilent around t → starts_inside around t (item_rule t) ≡ []
 silent_inside around t (h.IsSilent.decl s) =
@@ -126,6 +144,9 @@ silent_inside around t (h.IsSilent.decl s) =
 silent_inside around t (h.IsSilent.statement s) = ap (starts_inside around t) (silent_rule t s)
 silent_inside around t (h.IsSilent.exported k s) =
     ap (λ j. starts_inside around t (rule_of_kind j t)) k ∙ silent_decl_inside around (ExportDecl-span t) (ExportDecl-decl t) s
+silent_inside around t (h.IsSilent.linked s) = ap (starts_inside around t) (silent_link around t s).is
+silent_inside around t (h.IsSilent.default s) =
+    let e = silent_default around t s in ap (starts_inside around t) e.is ∙ silent_default_inside around t e.rule e.goes
 
 -- ---- where items begin
 
@@ -152,10 +173,15 @@ module _ (r : Renaming) (ok : IsRenaming r) where
     decl_begins p q t u (h.SameDecl.ambient_function k e f s) = range_alike r ok t u s
     decl_begins p q t u (h.SameDecl.class d e n s) = of_classes t u d.kinds s.head.span
     decl_begins p q t u (h.SameDecl.ambient_class d e n s) = of_classes t u d.kinds s.head.span
+    decl_begins p q t u (h.SameDecl.using k s e f) = subst₂ (SameRange r) (sym (range_of_using t k.left)) (sym (range_of_using u k.right)) s
 
-    item_begins : (t u : Tree) → SameItem r a b t u → SameRange r (range_of_node t) (range_of_node u)
-    item_begins t u (h.SameItem.decl d) = decl_begins (range_of_node t) (range_of_node u) t u d
-    item_begins t u (h.SameItem.exported k s d) = subst₂ (SameRange r) (sym (range_of_export t k.left)) (sym (range_of_export u k.right)) s
+    item_begins : IsPair r.scopes a.unresolved.0 b.unresolved.0 → a.is_declaration_file ≡ b.is_declaration_file → (t u : Tree) → SameItem r a b t u →
+        SameRange r (range_of_node t) (range_of_node u)
+    item_begins c m t u (h.SameItem.decl d) = decl_begins (range_of_node t) (range_of_node u) t u d
+    item_begins c m t u (h.SameItem.exported k s d) = subst₂ (SameRange r) (sym (range_of_export t k.left)) (sym (range_of_export u k.right)) s
+    item_begins c m t u (h.SameItem.linked d) = (links_alike r ok a b t u d).begins
+    item_begins c m t u (h.SameItem.default d) = (defaults_alike r ok a b c m t u d).begins
+    item_begins c m t u (h.SameItem.refused kind e f s) = s
 
     -- ---- where what goes begins
 
@@ -198,13 +224,33 @@ module _ (r : Renaming) (ok : IsRenaming r) where
       inside_if true true true false xs ys e f g = cc
       inside_if true true false true xs ys e f g = cc
 
-      class_inside : (x y : SourceRange) (t u : Tree) → a.is_declaration_file ≡ b.is_declaration_file → h.SameClassDecl r a b t u → a.is_public x ≡ b.is_public y →
+      class_inside : (x y : SourceRange) (t u : Tree) → a.is_declaration_file ≡ b.is_declaration_file → h.SameClassDecl r a b t u →
+          a.is_public x ≡ b.is_public y →
           (is_ambient_class a t ≡ false → is_among p (starts_of_removed (ClassDecl-class t)) ≡ is_among q (starts_of_removed (ClassDecl-class u))) →
           InsideAlike x y t u
       class_inside x y t u m d f e =
           subst₂ (λ k j. is_among p (starts_in_decl a x t (decl_rule k)) ≡ is_among q (starts_in_decl b y u (decl_rule j))) (sym d.kinds.left)
           (sym d.kinds.right) (inside_if (a.is_public x) (b.is_public y) (is_ambient_class a t) (is_ambient_class b u) _ _ f
           (ambient_class_same r ok a b t u m d.declare) e)
+
+      by_rules : (t u : Tree) (rule : ItemRule) → item_rule t ≡ rule → item_rule u ≡ rule →
+          is_among p (starts_inside a t rule) ≡ is_among q (starts_inside b u rule) →
+          is_among p (starts_inside a t (item_rule t)) ≡ is_among q (starts_inside b u (item_rule u))
+      by_rules t u rule e f s = subst₂ (λ x y. is_among p (starts_inside a t x) ≡ is_among q (starts_inside b u y)) (sym e) (sym f) s
+
+      among_if : (m n : Bool) (xs ys : List SourcePos) → m ≡ n → is_among p xs ≡ is_among q ys →
+          is_among p (if m then xs else []) ≡ is_among q (if n then ys else [])
+      among_if true true xs ys e f = f
+      among_if false false xs ys e f = refl
+      among_if true false xs ys e f = cc
+      among_if false true xs ys e f = cc
+
+      -- of default exports of declarations that are no classes nothing goes
+      no_class : (t u : Tree) (k : Kind) (rule : DefaultRule) → SameDefaultDecl r a b k t u → default_rule k ≡ Default rule →
+          is_among p (starts_in_default a t rule) ≡ is_among q (starts_in_default b u rule) →
+          is_among p (starts_inside a t (item_rule t)) ≡ is_among q (starts_inside b u (item_rule u))
+      no_class t u k rule h e f = by_rules t u (Default rule) (default_by_kind t k h.kinds.left h.decls.left ∙ e)
+          (default_by_kind u k h.kinds.right h.decls.right ∙ e) f
 
       decl_inside : (x y : SourceRange) (t u : Tree) → a.is_declaration_file ≡ b.is_declaration_file → SameDecl r a b x y t u → InsideAlike x y t u
       decl_inside x y t u m (h.SameDecl.variable d n rest) = none_inside x y t u VarDecl d.kinds refl
@@ -216,6 +262,22 @@ module _ (r : Renaming) (ok : IsRenaming r) where
       decl_inside x y t u m (h.SameDecl.class d e n s) = class_inside x y t u m d e (λ k.
           class_removed r ok a.unresolved b.unresolved a.is_implementation b.is_implementation p q pair (ClassDecl-class t) (ClassDecl-class u) s)
       decl_inside x y t u m (h.SameDecl.ambient_class d e n s) = class_inside x y t u m d e (λ k. cc)
+      decl_inside x y t u m (h.SameDecl.using k s e f) = none_inside x y t u UsingDecl k refl
+
+      -- inside of default exports that agree
+      default_inside : (t u : Tree) → SameDefault r a b t u → is_among p (starts_inside a t (item_rule t)) ≡ is_among q (starts_inside b u (item_rule u))
+      default_inside t u (defaults.SameDefault.value k e f g) =
+          by_rules t u (Default Value) (rule_by_kind t kinds.ExportDefaultExpr k.left) (rule_by_kind u kinds.ExportDefaultExpr k.right) refl
+      default_inside t u (defaults.SameDefault.class h n e) =
+          by_rules t u (Default Class) (default_by_kind t kinds.ClassExpr h.kinds.left h.decls.left)
+          (default_by_kind u kinds.ClassExpr h.kinds.right h.decls.right)
+          (among_if (a.is_public (ExportDefaultDecl-span t)) (b.is_public (ExportDefaultDecl-span u)) _ _ h.is_public
+          (class_removed r ok a.unresolved b.unresolved a.is_implementation b.is_implementation p q pair (ClassExpr-class (ExportDefaultDecl-decl t))
+          (ClassExpr-class (ExportDefaultDecl-decl u)) e))
+      default_inside t u (defaults.SameDefault.function h e f g) = no_class t u kinds.FnExpr Function h.head refl refl
+      default_inside t u (defaults.SameDefault.implementation h e f g) = no_class t u kinds.FnExpr Function h.head refl refl
+      default_inside t u (defaults.SameDefault.ambient_function h e f) = no_class t u kinds.FnExpr Function h refl refl
+      default_inside t u (defaults.SameDefault.interface h e) = no_class t u kinds.TsInterfaceDecl Interface h refl refl
 
       item_inside : IsPair r.scopes a.unresolved.0 b.unresolved.0 → a.is_declaration_file ≡ b.is_declaration_file → (t u : Tree) → SameItem r a b t u →
           is_among p (starts_inside a t (item_rule t)) ≡ is_among q (starts_inside b u (item_rule u))
@@ -226,12 +288,15 @@ module _ (r : Renaming) (ok : IsRenaming r) where
       item_inside c m t u (h.SameItem.exported k s d) =
           subst₂ (λ x y. is_among p (starts_inside a t (rule_of_kind x t)) ≡ is_among q (starts_inside b u (rule_of_kind y u))) (sym k.left) (sym k.right)
           (decl_inside (ExportDecl-span t) (ExportDecl-span u) (ExportDecl-decl t) (ExportDecl-decl u) m d)
+      item_inside c m t u (h.SameItem.linked d) = let e = links_alike r ok a b t u d in by_rules t u (Linked e.rule) e.left e.right refl
+      item_inside c m t u (h.SameItem.default d) = default_inside t u d
+      item_inside c m t u (h.SameItem.refused kind e f s) = by_rules t u (Refused kind) e f refl
 
       item_removed : IsPair r.scopes a.unresolved.0 b.unresolved.0 → a.is_declaration_file ≡ b.is_declaration_file → (t u : Tree) → SameItem r a b t u →
           is_among p (removed_start a t) ≡ is_among q (removed_start b u)
       item_removed c m t u s =
           among_parts p (start_of_unseen t (item_seen a t)) (starts_inside a t (item_rule t))
-          ∙ (ap₂ (λ x y. x || y) (unseen_alike t u (item_seen a t) (item_seen b u) (item_begins t u s) (item_alike r ok a b c m t u s))
+          ∙ (ap₂ (λ x y. x || y) (unseen_alike t u (item_seen a t) (item_seen b u) (item_begins c m t u s) (item_alike r ok a b c m t u s))
           (item_inside c m t u s) ∙ sym (among_parts q (start_of_unseen u (item_seen b u)) (starts_inside b u (item_rule u))))
 
       among_more : (n : ℕ) (around : Surroundings) (t : Tree) (ts : List Tree) →

@@ -26,10 +26,11 @@ use Rattle.fast_check_helpers.specs.Builders.{never_value}
 use Rattle.fast_check_skeleton.specs.Surroundings.{Surroundings}
 use Rattle.fast_check_skeleton.specs.Mutability.{mutability_of}
 use Rattle.fast_check_ranges.specs.Ranges.{range_of_node}
-use Rattle.fast_check_skeleton.specs.Visible.{declared_ident, declared_type, items_of}
+use Rattle.fast_check_skeleton.specs.Visible.{declared_ident, declared_type, is_public_declarator, items_of}
 use Rattle.fast_check_skeleton.specs.Hidden.{AgreeHidden, SameHead, SameDeclarator, SameDeclarators, SameStatement, SameDecl, SameItem, SameItems}
 use Rattle.fast_check_same_values.specs.SameClasses.{IsNoPartner}
 use Rattle.fast_check_skeleton.specs.Hidden as h
+use Rattle.fast_check_skeleton.specs.SameLinks as l
 use Rattle.fast_check_skeleton.specs.KeptComments.{kept_comments}
 use Rattle.fast_check_skeleton.specs.SameComments.{all_comments_at, SameComment, SameComments}
 use Rattle.fast_check_skeleton.specs.Skeleton.{skeleton_of}
@@ -138,9 +139,11 @@ first_span = span_made VarDeclarator (at 23 38) (binding_ident (name 23 2) (anno
 second_span : VarDeclarator-span second_declarator ≡ at 48 61
 second_span = span_made VarDeclarator (at 48 61) (binding_ident (name 48 3) (annotation 48) ∷ name_value ∷ tree.Flag false ∷ [])
 
+both_public : is_public_declarator a first_declarator ≡ is_public_declarator b second_declarator
+both_public = ap a.is_public first_span ∙ sym (ap b.is_public second_span)
+
 heads : SameHead renaming a b first_declarator second_declarator
 heads = record {
-  is_public = ap a.is_public first_span ∙ sym (ap b.is_public second_span);
   span = subst₂ (SameRange renaming) (sym first_span) (sym second_span)
       (record { start = inr (inr (inr (inr (inl (refl, refl))))); end = inr (inr (inr (inr (inl (refl, refl))))) });
   names = record { left = simp (part_node, kind_of_node); right = simp (part_node, kind_of_node) };
@@ -189,7 +192,7 @@ decls : (p q : SourceRange) → SameDecl renaming a b p q first_statement second
 decls p q = h.SameDecl.variable statements (declare_made (at 17 39) (scope 0) const false (first_declarator ∷ []))
     (subst₂ (SameDeclarators renaming a b (SameDeclarator renaming a b (mutability_of (VarDecl-kind first_statement))))
     (sym (decls_made (at 17 39) (scope 0) const false (first_declarator ∷ []))) (sym (decls_made (at 42 62) (scope 0) const false (second_declarator ∷ [])))
-    (h.SameDeclarators.next (h.SameDeclarator.typed heads is_typed) h.SameDeclarators.end))
+    (l.SamePublic.next both_public (h.SameDeclarator.typed heads is_typed) l.SamePublic.end))
 
 abbrev first_export : SourceRange
 first_export = ExportDecl-span (exported 10 2 text_value 38)

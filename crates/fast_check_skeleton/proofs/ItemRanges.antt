@@ -14,8 +14,9 @@ use Rattle.fast_check_class_forms.specs.Fields.{ClassProp-span, AutoAccessor-spa
 use Rattle.fast_check_class_forms.specs.Functions.{Function-span}
 use Rattle.fast_check_class_forms.specs.Methods.{ClassMethod-span}
 use Rattle.fast_check_expression_forms.specs.Patterns.{PatExpr-expr, TargetPat-pat}
-use Rattle.fast_check_program_forms.specs.ModuleDecls.{ExportDecl-span}
-use Rattle.fast_check_statement_forms.specs.Declarations.{ClassDecl-class, FnDecl-function, VarDecl-span}
+use Rattle.fast_check_program_forms.specs.ModuleDecls.{ExportDecl-span, ImportDecl-span, NamedExport-span, ExportAll-span}
+use Rattle.fast_check_program_forms.specs.ModuleDecls.{ExportDefaultExpr-span, ExportDefaultDecl-span}
+use Rattle.fast_check_statement_forms.specs.Declarations.{ClassDecl-class, FnDecl-function, UsingDecl-span, VarDecl-span}
 use Rattle.fast_check_ranges.specs.Ranges.{without_marks, range_of_form, range_of_node}
 use Rattle.fast_check_ranges.proofs.RangesMoved.{range_of_node_moved}
 
@@ -39,6 +40,25 @@ range_of_export t e = of_form t kinds.ExportDecl e refl refl ∙ rw e refl
 
 pub range_of_class : (t : Tree) → kind_of t ≡ kinds.ClassDecl → range_of_node t ≡ Class-span (ClassDecl-class t)
 range_of_class t e = of_form t kinds.ClassDecl e refl refl ∙ rw e refl
+
+pub range_of_using : (t : Tree) → kind_of t ≡ kinds.UsingDecl → range_of_node t ≡ UsingDecl-span t
+range_of_using t e = of_form t kinds.UsingDecl e refl refl ∙ rw e refl
+
+-- imports, exports of names and default exports
+pub range_of_import : (t : Tree) → kind_of t ≡ kinds.ImportDecl → range_of_node t ≡ ImportDecl-span t
+range_of_import t e = of_form t kinds.ImportDecl e refl refl ∙ rw e refl
+
+pub range_of_names : (t : Tree) → kind_of t ≡ kinds.NamedExport → range_of_node t ≡ NamedExport-span t
+range_of_names t e = of_form t kinds.NamedExport e refl refl ∙ rw e refl
+
+pub range_of_all : (t : Tree) → kind_of t ≡ kinds.ExportAll → range_of_node t ≡ ExportAll-span t
+range_of_all t e = of_form t kinds.ExportAll e refl refl ∙ rw e refl
+
+pub range_of_default_value : (t : Tree) → kind_of t ≡ kinds.ExportDefaultExpr → range_of_node t ≡ ExportDefaultExpr-span t
+range_of_default_value t e = of_form t kinds.ExportDefaultExpr e refl refl ∙ rw e refl
+
+pub range_of_default_decl : (t : Tree) → kind_of t ≡ kinds.ExportDefaultDecl → range_of_node t ≡ ExportDefaultDecl-span t
+range_of_default_decl t e = of_form t kinds.ExportDefaultDecl e refl refl ∙ rw e refl
 
 -- members of classes
 pub range_of_constructor : (t : Tree) → kind_of t ≡ kinds.Constructor → range_of_node t ≡ Constructor-span t

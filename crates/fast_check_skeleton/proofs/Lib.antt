@@ -1,9 +1,12 @@
 pub mod Ruled
 pub mod ItemRanges
 pub mod RemovedMembers
+pub mod AgreeingLinks
+pub mod AgreeingDefaults
 pub mod Agreeing
 pub mod CommentsAlike
 pub mod Standing
 pub mod HashMarked
 pub mod Example
 pub mod ClassExample
+pub mod ModuleExample

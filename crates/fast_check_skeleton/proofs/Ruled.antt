@@ -1,19 +1,22 @@
 -- What is done with items of kinds that are known, and what is known of the kinds of items with which something is done.
-use Rattle.std.specs.Prelude.{◌≡◌, Bool, true, false, not, ◌&&◌, ◌||◌, refl}
+use Rattle.std.specs.Prelude.{◌≡◌, Bool, true, false, not, ◌&&◌, ◌||◌, refl, if◌then◌else◌}
 use Rattle.std.proofs.Common.{ap, ◌∙◌, sym}
 use Rattle.std.proofs.lemmas.Bool.{false≢true}
 use Rattle.fast_check_syntax.specs.declared.kind.Kind.{Kind}
 use Rattle.fast_check_syntax.specs.declared.kind.Kind.TheVariants as kinds
 use Rattle.fast_check_syntax.specs.declared.tree.Tree.{Tree}
 use Rattle.fast_check_syntax.specs.Shape.{◌is◌, is_kind, kind_of}
+use Rattle.fast_check_program_forms.specs.ModuleDecls.{ExportDefaultDecl-decl}
 use Rattle.fast_check_statement_forms.specs.Statements.{ExprStmt-expr}
+use Rattle.fast_check_signatures.specs.declared.fault.FaultKind.TheVariants.{UnsupportedRequire}
 use Rattle.fast_check_skeleton.specs.declared.rules.DeclRule.{DeclRule}
 use Rattle.fast_check_skeleton.specs.declared.rules.DeclRule.TheVariants.{Function, Class, Standing}
 use Rattle.fast_check_skeleton.specs.declared.rules.ItemRule.{ItemRule}
-use Rattle.fast_check_skeleton.specs.declared.rules.ItemRule.TheVariants.{Declared, Silent}
+use Rattle.fast_check_skeleton.specs.declared.rules.ItemRule.TheVariants.{Declared, Linked, Refused, Silent}
+use Rattle.fast_check_skeleton.specs.declared.rules.LinkRule.TheVariants.{Alias}
 use Rattle.fast_check_skeleton.specs.Hidden.{is_plain_statement}
 use Rattle.fast_check_skeleton.specs.Kinds.{is_standing, is_statement}
-use Rattle.fast_check_skeleton.specs.Rules.{decl_rule, expr_stmt_rule, rule_of_kind, item_rule, is_taken_decl}
+use Rattle.fast_check_skeleton.specs.Rules.{decl_rule, expr_stmt_rule, default_rule, is_require, rule_of_kind, item_rule, is_taken_decl}
 
 abbrev stands : DeclRule → Bool
 stands Standing = true
@@ -59,6 +62,18 @@ function_kind k e = is_kind k kinds.FnDecl (sym (function_by_kind k) ∙ ap is_s
 pub class_kind : (k : Kind) → decl_rule k ≡ Class → k ≡ kinds.ClassDecl
 class_kind k e = is_kind k kinds.ClassDecl (sym (class_by_kind k) ∙ ap is_class e)
 
+-- of an item, by its kind
+pub rule_by_kind : (t : Tree) (k : Kind) → kind_of t ≡ k → item_rule t ≡ rule_of_kind k t
+rule_by_kind t k e = ap (λ j. rule_of_kind j t) e
+
+-- of the default export of a declaration, by the kind of this
+pub default_by_kind : (t : Tree) (k : Kind) → kind_of t ≡ kinds.ExportDefaultDecl → kind_of (ExportDefaultDecl-decl t) ≡ k → item_rule t ≡ default_rule k
+default_by_kind t k e d = rule_by_kind t kinds.ExportDefaultDecl e ∙ ap default_rule d
+
+-- of `import A = B.C`
+pub alias_rule : (t : Tree) → kind_of t ≡ kinds.TsImportEqualsDecl → is_require t ≡ false → item_rule t ≡ Linked Alias
+alias_rule t e n = rule_by_kind t kinds.TsImportEqualsDecl e ∙ ap (λ b. if b then Refused UnsupportedRequire else Linked Alias) n
+
 -- a declaration that is taken is an item of its own
 pub declared_rule : (k : Kind) (t : Tree) → is_taken_decl (decl_rule k) ≡ true → rule_of_kind k t ≡ Declared (decl_rule k)
 declared_rule kinds.VarDecl t e = refl
@@ -67,6 +82,7 @@ declared_rule kinds.ClassDecl t e = refl
 declared_rule kinds.TsInterfaceDecl t e = refl
 declared_rule kinds.TsTypeAliasDecl t e = refl
 declared_rule kinds.TsEnumDecl t e = refl
+declared_rule kinds.UsingDecl t e = refl
 declared_rule _ t e = absurd (false≢true e)
 
 -- a statement that declares and assigns nothing is silent

@@ -4,7 +4,8 @@ use Rattle.std.specs.Prelude.{if◌then◌else◌}
 use Rattle.std.proofs.Common.{ap, ◌∙◌, sym, subst, subst₂, inl, inr, append-nil}
 use Rattle.fast_check_syntax.specs.declared.kind.Kind.{Kind}
 use Rattle.fast_check_syntax.specs.declared.kind.Kind.TheVariants as kinds
-use Rattle.fast_check_syntax.specs.declared.kind.Kind.TheVariants.{Module, VarDecl, FnDecl, ClassDecl, ExportDecl, BindingIdent, List as List'}
+use Rattle.fast_check_syntax.specs.declared.kind.Kind.TheVariants.{Module, VarDecl, FnDecl, ClassDecl, ExportDecl, ExportDefaultDecl}
+use Rattle.fast_check_syntax.specs.declared.kind.Kind.TheVariants.{BindingIdent, List as List'}
 use Rattle.fast_check_syntax.specs.declared.source.SourceRange.{SourceRange}
 use Rattle.fast_check_syntax.specs.declared.source.SyntaxContext.{SyntaxContext}
 use Rattle.fast_check_syntax.specs.declared.tree.Tree as tree
@@ -12,7 +13,10 @@ use Rattle.fast_check_syntax.specs.declared.tree.Tree.{Tree, Absent}
 use Rattle.fast_check_syntax.specs.Shape.{◌is◌, kind_of, parts, is_absent, flag_of, node, list, OfAll}
 use Rattle.fast_check_syntax.proofs.Made.{kind_of_node, parts_node, part_node, is_absent_node, flag_of_flag}
 use Rattle.fast_check_program_forms.specs.Names.{Ident-span, BindingIdent-type_ann, binding_ident}
-use Rattle.fast_check_program_forms.specs.ModuleDecls.{ExportDecl-span, ExportDecl-decl}
+use Rattle.fast_check_expression_forms.specs.Expressions.{ClassExpr-ident, ClassExpr-class, FnExpr-ident, FnExpr-function}
+use Rattle.fast_check_program_forms.specs.ModuleDecls.{ExportDecl-span, ExportDecl-decl, ImportDecl-specifiers, NamedExport-specifiers, ExportAll-span}
+use Rattle.fast_check_program_forms.specs.ModuleDecls.{TsImportEqualsDecl-span, ExportDefaultExpr-span, ExportDefaultExpr-expr, ExportDefaultDecl-span}
+use Rattle.fast_check_program_forms.specs.ModuleDecls.{ExportDefaultDecl-decl, export_default_expr}
 use Rattle.fast_check_program_forms.specs.Programs.{Module-span, Module-shebang}
 use Rattle.fast_check_statement_forms.specs.Declarations.{ClassDecl-ident, ClassDecl-declare, ClassDecl-class, class_decl}
 use Rattle.fast_check_statement_forms.specs.Declarations.{FnDecl-ident, FnDecl-declare, FnDecl-function, fn_decl}
@@ -23,9 +27,9 @@ use Rattle.fast_check_helpers.specs.Builders.{type_ann, never_value}
 use Rattle.fast_check_helpers.specs.declared.literal_type.DeclMutabilityKind.{DeclMutabilityKind}
 use Rattle.fast_check_helpers.specs.InferredType.{inferred_type}
 use Rattle.fast_check_ranges.specs.Ranges.{range_of_node}
-use Rattle.fast_check_signatures.specs.declared.fault.FaultKind.TheVariants.{MissingExplicitType}
+use Rattle.fast_check_signatures.specs.declared.fault.FaultKind.TheVariants.{MissingExplicitType, UnsupportedDefaultExportExpr, UnsupportedUsing}
 use Rattle.fast_check_signatures.specs.declared.function_kind.FunctionKind.TheVariants.{DeclarationLike}
-use Rattle.fast_check_signatures.specs.Seen.{Seen, written, range, scope, flag, round, listed, seens}
+use Rattle.fast_check_signatures.specs.Seen.{Seen, written, range, scope, flag, round, listed, faulty, seens}
 use Rattle.fast_check_signatures.specs.Answers.{Answer, faultless, joined, visited, with_tree, round_answer, fault_at, answer_to, parts_answer, answer_of}
 use Rattle.fast_check_signatures.specs.Expressions.{expr_seen}
 use Rattle.fast_check_signatures.proofs.Choices.{of_choice, no_left, not_empty}
@@ -38,20 +42,29 @@ use Rattle.fast_check_typed_grammar.proofs.TypedClasses.{ambient_stands, class_s
 use Rattle.fast_check_typed_grammar.proofs.Present.{stays_there}
 use Rattle.fast_check_typed_grammar.proofs.Typed.{expr_stays, function_is_typed, implementation_is_typed}
 use Rattle.fast_check_skeleton.specs.declared.rules.DeclRule.{DeclRule}
-use Rattle.fast_check_skeleton.specs.declared.rules.DeclRule.TheVariants.{Variables, Function, Class, Standing, Untaken}
+use Rattle.fast_check_skeleton.specs.declared.rules.DeclRule.TheVariants.{Variables, Function, Class, Standing, Using, Untaken}
+use Rattle.fast_check_skeleton.specs.declared.rules.DefaultRule.{DefaultRule}
+use Rattle.fast_check_skeleton.specs.declared.rules.DefaultRule.TheVariants as defaults
+use Rattle.fast_check_skeleton.specs.declared.rules.DefaultRule.TheVariants.{Value, Interface}
+use Rattle.fast_check_skeleton.specs.declared.rules.LinkRule.{LinkRule}
+use Rattle.fast_check_skeleton.specs.declared.rules.LinkRule.TheVariants.{Import, Export, All, Alias}
 use Rattle.fast_check_skeleton.specs.declared.rules.ItemRule.{ItemRule}
-use Rattle.fast_check_skeleton.specs.declared.rules.ItemRule.TheVariants.{Declared, Exported, Silent}
+use Rattle.fast_check_skeleton.specs.declared.rules.ItemRule.TheVariants.{Declared, Exported, Linked, Default, Refused, Silent}
+use Rattle.fast_check_skeleton.specs.Defaults.{is_public_value, default_value_seen, default_class_seen, default_place, default_signature}
+use Rattle.fast_check_skeleton.specs.Defaults.{default_function_seen, public_default, default_seen}
+use Rattle.fast_check_skeleton.specs.Links as l
+use Rattle.fast_check_skeleton.specs.Links.{public_specifiers, with_specifiers, all_exported, link_seen}
 use Rattle.fast_check_skeleton.specs.Mutability.{mutability_of}
-use Rattle.fast_check_skeleton.specs.Rules.{decl_rule, expr_stmt_rule, rule_of_kind}
+use Rattle.fast_check_skeleton.specs.Rules.{decl_rule, expr_stmt_rule, default_rule, is_require, rule_of_kind}
 use Rattle.fast_check_skeleton.specs.Surroundings.{Surroundings}
 use Rattle.fast_check_skeleton.specs.Visible.{declared_ident, declared_type, value_seen, untyped_seen}
 use Rattle.fast_check_skeleton.specs.Visible.{declarator_seen, is_ambient, is_public_declarator, declarator_in, public_declarator, public_declarators}
 use Rattle.fast_check_skeleton.specs.Visible.{statement_seen, signature_of, function_decl_seen, public_function, is_ambient_class, class_in, class_decl_seen}
-use Rattle.fast_check_skeleton.specs.Visible.{public_class, decl_seen, exported_seen}
+use Rattle.fast_check_skeleton.specs.Visible.{public_class, is_public_using, using_place, decl_seen, exported_seen}
 use Rattle.fast_check_skeleton.specs.Visible.{seen_by_rule, item_seen, items_of}
 use Rattle.fast_check_skeleton.specs.Skeleton.{transformed, skeleton_of, faults_of}
 use Rattle.fast_check_skeleton.specs.Grammar.{HasTypedValue, IsTypedDeclarator, IsTypedStatement, IsTypedFunctionDecl, IsTypedClassDecl, IsTypedDecl}
-use Rattle.fast_check_skeleton.specs.Grammar.{IsTypedItem, IsSkeleton}
+use Rattle.fast_check_skeleton.specs.Grammar.{IsTypedDefaultDecl, IsLink, IsTypedItem, IsSkeleton}
 use Rattle.fast_check_skeleton.proofs.Ruled.{standing_kind, function_kind}
 
 -- ---- declarators
@@ -274,6 +287,7 @@ module _ (around : Surroundings) where
   decl_stays place decl Class q =
       all_weaker Class' IsDecl (λ t h. inr (inr (inl h))) (public_class around place decl) (class_decl_stays place decl)
   decl_stays place decl Standing q = all_if IsDecl (around.is_public place) (written decl) (λ f. inr (inr (inr (standing_kind (kind_of decl) q))))
+  decl_stays place decl Using q = all_if IsDecl (is_public_using around place decl) (faulty UnsupportedUsing (using_place decl)) (λ f. not_empty f)
   decl_stays place decl Untaken q = tt
 
   -- what is seen of a declaration is one form at most, of which one tree stays
@@ -307,6 +321,7 @@ module _ (around : Surroundings) where
   decl_one place decl Function = function_one place decl
   decl_one place decl Class = class_one place decl
   decl_one place decl Standing = one_if (around.is_public place) (written decl) (decl, refl)
+  decl_one place decl Using = one_if (is_public_using around place decl) (faulty UnsupportedUsing (using_place decl)) (Absent, refl)
   decl_one place decl Untaken = tt
 
   -- ---- exports
@@ -338,7 +353,7 @@ module _ (around : Surroundings) where
 
   exported_stays : (export decl : Tree) → IsDecl decl → IsItem (exported export decl)
   exported_stays export decl h =
-      let same : ExportDecl-decl (exported export decl) ≡ decl = part_node _ _ _ in inr (kind_of_node _ _, subst IsDecl (sym same) h)
+      let same : ExportDecl-decl (exported export decl) ≡ decl = part_node _ _ _ in inr (inl (kind_of_node _ _, subst IsDecl (sym same) h))
 
   export_stays : (export : Tree) (ss : List Seen) → OneTree ss → AllStay IsDecl ss → AllStay IsItem (exported_seen export ss)
   export_stays export [] one p = tt
@@ -352,12 +367,151 @@ module _ (around : Surroundings) where
       )
   export_stays export (s ∷ t ∷ ss) one p = absurd one
 
+  -- ---- imports and exports of names
+
+  link : (t : Tree) → IsLink t → IsItem t
+  link t h = inr (inr (inr h))
+
+  with_stays : (make : List Tree → Tree) → ((ts : List Tree) → IsItem (make ts)) → (ts : List Tree) → AllStay IsItem (with_specifiers make ts)
+  with_stays make p [] = tt
+  with_stays make p (t ∷ ts) = ((λ f. p (t ∷ ts)), tt)
+
+  import_stays : (item : Tree) → AllStay IsItem (link_seen around item Import)
+  import_stays item =
+      with_stays (l.import_with around item) (λ ts. link _ (inl (kind_of_node _ _))) (public_specifiers around (ImportDecl-specifiers item))
+
+  names_stay : (item : Tree) → AllStay IsItem (link_seen around item Export)
+  names_stay item =
+      with_stays (l.export_with around item) (λ ts. link _ (inr (inl (kind_of_node _ _)))) (public_specifiers around (NamedExport-specifiers item))
+
+  all_stays : (item : Tree) → AllStay IsItem (link_seen around item All)
+  all_stays item = all_if IsItem (around.is_public (ExportAll-span item)) (written (all_exported around item))
+      (λ f. link _ (inr (inr (inl (kind_of_node _ _)))))
+
+  alias_stays : (item : Tree) → kind_of item ≡ kinds.TsImportEqualsDecl → is_require item ≡ false → AllStay IsItem (link_seen around item Alias)
+  alias_stays item k n = all_if IsItem (around.is_public (TsImportEqualsDecl-span item)) (written item) (λ f. link item (inr (inr (inr (k, n)))))
+
+  with_one : (make : List Tree → Tree) (ts : List Tree) → OneTree (with_specifiers make ts)
+  with_one make [] = tt
+  with_one make (t ∷ ts) = (make (t ∷ ts), refl)
+
+  link_one : (item : Tree) (rule : LinkRule) → OneTree (link_seen around item rule)
+  link_one item Import = with_one (l.import_with around item) (public_specifiers around (ImportDecl-specifiers item))
+  link_one item Export = with_one (l.export_with around item) (public_specifiers around (NamedExport-specifiers item))
+  link_one item All = one_if (around.is_public (ExportAll-span item)) (written (all_exported around item)) (_, refl)
+  link_one item Alias = one_if (around.is_public (TsImportEqualsDecl-span item)) (written item) (item, refl)
+
+  -- ---- default exports
+
+  -- a node of a tree and of what is seen
+  abbrev pair : Kind → Tree → Seen → Seen
+  pair kind t s = round kind (seens (written t ∷ s ∷ []))
+
+  pair_stays : (kind : Kind) (P Q : Tree → Type 0) (t : Tree) (s : Seen) → ((u : Tree) → P u → Q (node kind (t ∷ u ∷ []))) → Stays P (answer_to s) →
+      Stays Q (answer_to (pair kind t s))
+  pair_stays kind P Q t s f p =
+      let last = visited (answer_to s) (faultless (Some [])) in
+      round_stays kind (λ ts. Q (node kind ts)) Q (λ ts h. h) (visited (faultless (Some t)) last)
+      (written_before (λ ts. Q (node kind ts)) t last (last_stays P (λ ts. Q (node kind (t ∷ ts))) f (answer_to s) p))
+
+  pair_one : (kind : Kind) (t : Tree) (s : Seen) → OneTree (s ∷ []) → OneTree (pair kind t s ∷ [])
+  pair_one kind t s one =
+      let same : answer_to s ≡ record { stays = Some one.0; faults = (answer_to s).faults } = λ i. record { stays = one.1 i; faults = (answer_to s).faults } in
+      (_, ap (λ a. (round_answer kind (visited (faultless (Some t)) (visited a (faultless (Some []))))).stays) same)
+
+  abbrev IsDefaultDecl : Tree → Type 0
+  IsDefaultDecl = IsTypedDefaultDecl around.unresolved around.is_declaration_file
+
+  default_value_made : (span : SourceRange) (value : Tree) → IsLeavable around.unresolved value → IsItem (export_default_expr span value)
+  default_value_made span value h =
+      let same : ExportDefaultExpr-expr (export_default_expr span value) ≡ value = part_node _ _ _ in
+      inr (inr (inl (inl (kind_of_node _ _, subst (IsLeavable around.unresolved) (sym same) h))))
+
+  default_value_stays : (item : Tree) → Stays IsItem (answer_to (default_value_seen around item))
+  default_value_stays item =
+      let value = ExportDefaultExpr-expr item in
+      λ f. default_value_made _ _ (demanded_holds (IsLeavable around.unresolved) (fault_at UnsupportedDefaultExportExpr (ExportDefaultExpr-span item))
+      (answer_to (expr_seen around.unresolved value None)) (expr_stays around.unresolved value None) f)
+
+  default_made : (span : SourceRange) (decl : Tree) → IsDefaultDecl decl → IsItem (node ExportDefaultDecl (tree.Range span ∷ decl ∷ []))
+  default_made span decl h =
+      let same : ExportDefaultDecl-decl (node ExportDefaultDecl (tree.Range span ∷ decl ∷ [])) ≡ decl = part_node _ _ _ in
+      inr (inr (inl (inr (kind_of_node _ _, subst IsDefaultDecl (sym same) h))))
+
+  public_default_stays : (item : Tree) (s : Seen) → Stays IsDefaultDecl (answer_to s) → AllStay IsItem (public_default around item s)
+  public_default_stays item s p =
+      let span = ExportDefaultDecl-span item in
+      all_if IsItem (around.is_public span) (pair ExportDefaultDecl (tree.Range span) s)
+      (pair_stays ExportDefaultDecl IsDefaultDecl IsItem (tree.Range span) s (default_made span) p)
+
+  default_class_stays : (decl : Tree) → Stays IsDefaultDecl (answer_to (default_class_seen around decl))
+  default_class_stays decl = pair_stays kinds.ClassExpr (IsTypedClass around.unresolved) IsDefaultDecl (ClassExpr-ident decl)
+      (plain_class_seen around.unresolved around.is_implementation (ClassExpr-class decl)) made'
+      (class_stays around.unresolved around.is_implementation (ClassExpr-class decl))
+    where
+      made' : (class : Tree) → IsTypedClass around.unresolved class → IsDefaultDecl (node kinds.ClassExpr (ClassExpr-ident decl ∷ class ∷ []))
+      made' class h =
+          let same : ClassExpr-class (node kinds.ClassExpr (ClassExpr-ident decl ∷ class ∷ [])) ≡ class = part_node _ _ _ in
+          inl (kind_of_node _ _, subst (IsTypedClass around.unresolved) (sym same) h)
+
+  default_function_stays : (place : SourceRange) (decl : Tree) → kind_of decl ≡ kinds.FnExpr →
+      Stays IsDefaultDecl (answer_to (default_function_seen around place decl))
+  default_function_stays place decl k =
+      of_choice (λ s. Stays IsDefaultDecl (answer_to s)) around.is_declaration_file _ _ (λ e f. inr (inl (k, inl e)))
+      (λ e. pair_stays kinds.FnExpr (IsTypedFunction around.unresolved) IsDefaultDecl (FnExpr-ident decl) (default_signature around place decl) made'
+      (of_choice (λ s. Stays (IsTypedFunction around.unresolved) (answer_to s)) (around.is_implementation place) _ _
+      (λ e f. implementation_is_typed around.unresolved (FnExpr-function decl))
+      (λ e. function_is_typed around.unresolved DeclarationLike (default_place decl) (FnExpr-function decl) refl)))
+    where
+      made' : (function : Tree) → IsTypedFunction around.unresolved function → IsDefaultDecl (node kinds.FnExpr (FnExpr-ident decl ∷ function ∷ []))
+      made' function h =
+          let same : FnExpr-function (node kinds.FnExpr (FnExpr-ident decl ∷ function ∷ [])) ≡ function = part_node _ _ _ in
+          inr (inl (kind_of_node _ _, inr (subst (IsTypedFunction around.unresolved) (sym same) h)))
+
+  default_stays : (item : Tree) (k : Kind) → kind_of (ExportDefaultDecl-decl item) ≡ k → AllStay IsItem (seen_by_rule around item (default_rule k))
+  default_stays item kinds.ClassExpr q =
+      let decl = ExportDefaultDecl-decl item in public_default_stays item (default_class_seen around decl) (default_class_stays decl)
+  default_stays item kinds.FnExpr q =
+      let decl = ExportDefaultDecl-decl item in
+      let place = ExportDefaultDecl-span item in
+      public_default_stays item (default_function_seen around place decl) (default_function_stays place decl q)
+  default_stays item kinds.TsInterfaceDecl q = public_default_stays item (written (ExportDefaultDecl-decl item)) (λ f. inr (inr q))
+  default_stays item _ q = tt
+
+  public_default_one : (item : Tree) (s : Seen) → OneTree (s ∷ []) → OneTree (public_default around item s)
+  public_default_one item s one =
+      let span = ExportDefaultDecl-span item in
+      one_if (around.is_public span) (pair ExportDefaultDecl (tree.Range span) s) (pair_one ExportDefaultDecl (tree.Range span) s one)
+
+  default_function_one : (place : SourceRange) (decl : Tree) → OneTree (default_function_seen around place decl ∷ [])
+  default_function_one place decl = of_choice P around.is_declaration_file _ _ (λ e. (decl, refl))
+      (λ e. pair_one kinds.FnExpr (FnExpr-ident decl) (default_signature around place decl)
+      (of_choice P (around.is_implementation place) _ _ (λ e. (_, refl)) (λ e. (_, refl))))
+    where
+      P : Seen → Type 0
+      P s = OneTree (s ∷ [])
+
+  default_one : (item : Tree) (rule : DefaultRule) → OneTree (default_seen around item rule)
+  default_one item Value = one_if (is_public_value around item) (default_value_seen around item) (_, refl)
+  default_one item defaults.Class =
+      let decl = ExportDefaultDecl-decl item in
+      public_default_one item (default_class_seen around decl) (pair_one kinds.ClassExpr (ClassExpr-ident decl)
+      (plain_class_seen around.unresolved around.is_implementation (ClassExpr-class decl)) (_, refl))
+  default_one item defaults.Function =
+      let place = ExportDefaultDecl-span item in
+      let decl = ExportDefaultDecl-decl item in
+      public_default_one item (default_function_seen around place decl) (default_function_one place decl)
+  default_one item Interface = public_default_one item (written (ExportDefaultDecl-decl item)) (ExportDefaultDecl-decl item, refl)
+
   -- ---- items
 
   pub item_one : (item : Tree) (rule : ItemRule) → OneTree (seen_by_rule around item rule)
   item_one item (Declared rule) = decl_one (range_of_node item) item rule
   item_one item (Exported rule) =
       export_one item (decl_seen around (ExportDecl-span item) (ExportDecl-decl item) rule) (decl_one (ExportDecl-span item) (ExportDecl-decl item) rule)
+  item_one item (Linked rule) = link_one item rule
+  item_one item (Default rule) = default_one item rule
+  item_one item (Refused kind) = (Absent, refl)
   item_one item Silent = tt
 
   item_stays : (item : Tree) → AllStay IsItem (item_seen around item)
@@ -377,6 +531,15 @@ module _ (around : Surroundings) where
           let rule = decl_rule (kind_of (ExportDecl-decl item)) in
           export_stays item (decl_seen around (ExportDecl-span item) (ExportDecl-decl item) rule) (decl_one (ExportDecl-span item) (ExportDecl-decl item) rule)
           (decl_stays (ExportDecl-span item) (ExportDecl-decl item) rule refl)
+      go kinds.ImportDecl q = import_stays item
+      go kinds.NamedExport q = names_stay item
+      go kinds.ExportAll q = all_stays item
+      go kinds.TsImportEqualsDecl q = of_choice (λ rule. AllStay IsItem (seen_by_rule around item rule)) (is_require item) _ _
+          (λ e. ((λ f. not_empty f), tt)) (alias_stays item q)
+      go kinds.TsExportAssignment q = ((λ f. not_empty f), tt)
+      go kinds.TsNamespaceExportDecl q = ((λ f. not_empty f), tt)
+      go kinds.ExportDefaultExpr q = all_if IsItem (is_public_value around item) (default_value_seen around item) (default_value_stays item)
+      go kinds.ExportDefaultDecl q = default_stays item (kind_of (ExportDefaultDecl-decl item)) refl
       go kinds.ExprStmt q = expression (kind_of (ExprStmt-expr item))
       go k q = declared k q
 

@@ -2,7 +2,7 @@
 -- `function f(): void {} class C { private m(): void {} }`, and
 -- `function f(): void { ; } class C { static {} private m(a): void {} }`.
 -- What agrees stands at the place of no text, so that the renaming has the pair of 0 alone. The static block begins at 7.
-use Rattle.std.specs.Prelude.{◌≡◌, ℕ, true, false, List, [], ◌∷◌}
+use Rattle.std.specs.Prelude.{◌≡◌, ℕ, true, false, None, List, [], ◌∷◌}
 use Rattle.fast_check_syntax.specs.declared.kind.Kind.TheVariants as kinds
 use Rattle.fast_check_syntax.specs.declared.kind.Word.TheVariants as words
 use Rattle.fast_check_syntax.specs.declared.tree.Tree as tree
@@ -70,7 +70,13 @@ no_places = record { starts = (0, 0) ∷ []; ends = (0, 0) ∷ []; scopes = (0, 
 
 -- all is public, and nothing is an implementation behind overloads
 abbrev pub all_public : Surroundings
-all_public = record { is_public = λ r. true; is_implementation = λ r. false; unresolved = no_scope; is_declaration_file = false }
+all_public = record {
+  is_public = λ r. true;
+  is_implementation = λ r. false;
+  unresolved = no_scope;
+  is_declaration_file = false;
+  relative = λ text. None;
+}
 
 -- `declare private m: any;`
 abbrev pub property_m : Tree

@@ -1,7 +1,7 @@
 -- Two modules that agree but for what is hidden, so that the law of two worlds speaks of something:
 -- `/** x */ export const x: string = "a";`, and behind a hidden function and with another value
 -- `/** g */ function g() {} /** x */ export const x: string = y;`.
-use Rattle.std.specs.Prelude.{◌≡◌, ℕ, ◌+◌, ◌==◌, false, List, [], ◌∷◌}
+use Rattle.std.specs.Prelude.{◌≡◌, ℕ, ◌+◌, ◌==◌, false, None, List, [], ◌∷◌}
 use Rattle.fast_check_syntax.specs.declared.kind.Word.TheVariants as words
 use Rattle.fast_check_syntax.specs.declared.source.SourcePos.{SourcePos}
 use Rattle.fast_check_syntax.specs.declared.source.SourceRange.{SourceRange}
@@ -109,7 +109,13 @@ renaming = record {
 
 -- the declarator that begins at a place is public, and nothing else
 abbrev pub around : ℕ → Surroundings
-around place = record { is_public = λ r. r.start.0 == place; is_implementation = λ r. false; unresolved = scope 1; is_declaration_file = false }
+around place = record {
+  is_public = λ r. r.start.0 == place;
+  is_implementation = λ r. false;
+  unresolved = scope 1;
+  is_declaration_file = false;
+  relative = λ text. None;
+}
 
 -- They agree, and so the law says that their answers are the same: the first is `/** x */ export const x: string = {} as never;`.
 -- What documents the hidden function goes.

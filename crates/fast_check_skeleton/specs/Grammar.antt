@@ -13,7 +13,8 @@ use Rattle.fast_check_program_forms.specs.ModuleDecls.{ExportDecl-decl, ExportDe
 use Rattle.fast_check_expression_forms.specs.Expressions.{ClassExpr-class, FnExpr-function}
 use Rattle.fast_check_typed_grammar.specs.TypedGrammar.{IsLeavable, IsTypedFunction}
 use Rattle.fast_check_typed_grammar.specs.ClassGrammar.{IsAmbientClass, IsTypedClass}
-use Rattle.fast_check_statement_forms.specs.Declarations.{ClassDecl-declare, ClassDecl-class, FnDecl-function, VarDecl-declare, VarDecl-decls, VarDeclarator-name, VarDeclarator-init}
+use Rattle.fast_check_statement_forms.specs.Declarations.{ClassDecl-declare, ClassDecl-class, FnDecl-function, VarDecl-declare, VarDecl-decls}
+use Rattle.fast_check_statement_forms.specs.Declarations.{VarDeclarator-name, VarDeclarator-init}
 use Rattle.fast_check_skeleton.specs.Kinds.{is_standing}
 use Rattle.fast_check_skeleton.specs.Rules.{is_require}
 
@@ -21,6 +22,12 @@ use Rattle.fast_check_skeleton.specs.Rules.{is_require}
 abbrev pub HasTypedValue : SyntaxContext → Tree → Tree → Type 0
 HasTypedValue unresolved type value =
     ((is_absent type ≡ false) × (value ≡ never_value)) ⊎ ((is_absent value ≡ false) × IsLeavable unresolved value)
+
+-- an import or an export of names, `export *`, or `import A = B.C`
+abbrev pub IsLink : Tree → Type 0
+IsLink item =
+    (kind_of item ≡ ImportDecl) ⊎ ((kind_of item ≡ NamedExport) ⊎ ((kind_of item ≡ ExportAll) ⊎
+    ((kind_of item ≡ TsImportEqualsDecl) × (is_require item ≡ false))))
 
 -- `unresolved` is the scope number of the names that nothing in the module binds
 module _ (unresolved : SyntaxContext) where
@@ -64,12 +71,6 @@ module _ (unresolved : SyntaxContext) where
   IsTypedDefault is_declaration_file item =
       ((kind_of item ≡ ExportDefaultExpr) × IsLeavable unresolved (ExportDefaultExpr-expr item)) ⊎
       ((kind_of item ≡ ExportDefaultDecl) × IsTypedDefaultDecl is_declaration_file (ExportDefaultDecl-decl item))
-
-  -- an import or an export of names, `export *`, or `import A = B.C`
-  abbrev pub IsLink : Tree → Type 0
-  IsLink item =
-      (kind_of item ≡ ImportDecl) ⊎ ((kind_of item ≡ NamedExport) ⊎ ((kind_of item ≡ ExportAll) ⊎
-      ((kind_of item ≡ TsImportEqualsDecl) × (is_require item ≡ false))))
 
   -- an item of a skeleton: a declaration, exported or not, a default export, or what leads to other modules
   abbrev pub IsTypedItem : Bool → Tree → Type 0

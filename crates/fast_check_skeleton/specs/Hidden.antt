@@ -16,6 +16,7 @@ use Rattle.fast_check_program_forms.specs.Programs.{Module-shebang}
 use Rattle.fast_check_program_forms.specs.ModuleDecls.{ExportDecl-span, ExportDecl-decl}
 use Rattle.fast_check_statement_forms.specs.Declarations.{ClassDecl-ident, ClassDecl-declare, ClassDecl-class}
 use Rattle.fast_check_statement_forms.specs.Declarations.{FnDecl-ident, FnDecl-declare, FnDecl-function}
+use Rattle.fast_check_statement_forms.specs.Declarations.{UsingDecl-span}
 use Rattle.fast_check_statement_forms.specs.Declarations.{VarDecl-span, VarDecl-ctxt, VarDecl-kind, VarDecl-declare, VarDecl-decls}
 use Rattle.fast_check_statement_forms.specs.Declarations.{VarDeclarator-span, VarDeclarator-name, VarDeclarator-init, VarDeclarator-definite}
 use Rattle.fast_check_statement_forms.specs.Statements.{ExprStmt-expr}
@@ -29,7 +30,8 @@ use Rattle.fast_check_skeleton.specs.Rules.{item_rule}
 use Rattle.fast_check_skeleton.specs.SameDefaults.{IsSilentDefault, SameDefault}
 use Rattle.fast_check_skeleton.specs.SameLinks.{IsSilentLink, SamePublic, SameLink}
 use Rattle.fast_check_skeleton.specs.Surroundings.{Surroundings}
-use Rattle.fast_check_skeleton.specs.Visible.{declared_ident, declared_type, is_ambient, is_public_declarator, is_ambient_class, is_public_using, using_place, items_of}
+use Rattle.fast_check_skeleton.specs.Visible.{declared_ident, declared_type, is_ambient, is_public_declarator, is_ambient_class, is_public_using}
+use Rattle.fast_check_skeleton.specs.Visible.{using_place, items_of}
 
 -- a statement that is no declaration and no assignment
 abbrev pub is_plain_statement : Tree → Bool
@@ -132,7 +134,8 @@ module _ (r : Renaming) (a b : Surroundings) where
     ambient_class : {t u : Tree} → SameClassDecl t u → a.is_public p ≡ b.is_public q → is_ambient_class a t ≡ true →
         SameAmbientClass r a.unresolved b.unresolved a.is_implementation b.is_implementation (ClassDecl-class t) (ClassDecl-class u) → SameDecl p q t u
     -- `using`, whatever it declares
-    using : {t u : Tree} → Both UsingDecl t u → is_public_using a p t ≡ is_public_using b q u → SameRange r (using_place t) (using_place u) → SameDecl p q t u
+    using : {t u : Tree} → Both UsingDecl t u → SameRange r (UsingDecl-span t) (UsingDecl-span u) → is_public_using a p t ≡ is_public_using b q u →
+        SameRange r (using_place t) (using_place u) → SameDecl p q t u
 
   pub data SameItem : Tree → Tree → Type 0 where
     decl : {t u : Tree} → SameDecl (range_of_node t) (range_of_node u) t u → SameItem t u

@@ -17,3 +17,4 @@ pub mod HashMark
 pub mod Worlds
 pub mod Example
 pub mod ClassExample
+pub mod ModuleExample

@@ -3,11 +3,12 @@ use Rattle.std.specs.Prelude.{ℕ, Bool, Option, Some, None, List, [], ◌∷◌
 use Rattle.std.specs.List.{filter}
 use Rattle.fast_check_syntax.specs.declared.tree.Tree.{Tree, Absent}
 use Rattle.fast_check_syntax.specs.Shape.{parts, is_absent, list}
-use Rattle.fast_check_program_forms.specs.ModuleDecls.{ImportDecl-span, ImportDecl-specifiers, ImportDecl-src, ImportDecl-type_only, ImportDecl-with, ImportDecl-phase}
+use Rattle.fast_check_program_forms.specs.ModuleDecls.{ImportDecl-span, ImportDecl-specifiers, ImportDecl-src, ImportDecl-type_only}
+use Rattle.fast_check_program_forms.specs.ModuleDecls.{ImportDecl-with, ImportDecl-phase}
 use Rattle.fast_check_program_forms.specs.ModuleDecls.{NamedExport-span, NamedExport-specifiers, NamedExport-src, NamedExport-type_only, NamedExport-with}
 use Rattle.fast_check_program_forms.specs.ModuleDecls.{ExportAll-span, ExportAll-src, ExportAll-type_only, ExportAll-with}
 use Rattle.fast_check_program_forms.specs.ModuleDecls.{TsImportEqualsDecl-span, import_decl, named_export, export_all}
-use Rattle.fast_check_expression_forms.specs.Literals.{Str-span, Str-value, str}
+use Rattle.fast_check_program_forms.specs.Literals.{Str-span, Str-value, str}
 use Rattle.fast_check_ranges.specs.Ranges.{range_of_node}
 use Rattle.fast_check_signatures.specs.Seen.{Seen, written}
 use Rattle.fast_check_skeleton.specs.declared.rules.LinkRule.{LinkRule}
@@ -37,7 +38,8 @@ with_specifiers make (s ∷ ss) = written (make (s ∷ ss)) ∷ []
 
 abbrev pub import_with : Surroundings → Tree → List Tree → Tree
 import_with around t specifiers =
-    import_decl (ImportDecl-span t) (list specifiers) (answered_source around (ImportDecl-src t)) (ImportDecl-type_only t) (ImportDecl-with t) (ImportDecl-phase t)
+    import_decl (ImportDecl-span t) (list specifiers) (answered_source around (ImportDecl-src t)) (ImportDecl-type_only t) (ImportDecl-with t)
+    (ImportDecl-phase t)
 
 abbrev pub export_with : Surroundings → Tree → List Tree → Tree
 export_with around t specifiers =

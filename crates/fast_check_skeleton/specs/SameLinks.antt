@@ -5,8 +5,9 @@ use Rattle.fast_check_syntax.specs.declared.tree.Tree.{Tree}
 use Rattle.fast_check_syntax.specs.Shape.{kind_of, parts}
 use Rattle.fast_check_syntax.specs.Moves.{Renaming}
 use Rattle.fast_check_syntax.specs.Same.{SameTree, SameRange}
-use Rattle.fast_check_expression_forms.specs.Literals.{Str-value}
-use Rattle.fast_check_program_forms.specs.ModuleDecls.{ImportDecl-span, ImportDecl-specifiers, ImportDecl-src, ImportDecl-type_only, ImportDecl-with, ImportDecl-phase}
+use Rattle.fast_check_program_forms.specs.Literals.{Str-value}
+use Rattle.fast_check_program_forms.specs.ModuleDecls.{ImportDecl-span, ImportDecl-specifiers, ImportDecl-src, ImportDecl-type_only}
+use Rattle.fast_check_program_forms.specs.ModuleDecls.{ImportDecl-with, ImportDecl-phase}
 use Rattle.fast_check_program_forms.specs.ModuleDecls.{NamedExport-span, NamedExport-specifiers, NamedExport-src, NamedExport-type_only, NamedExport-with}
 use Rattle.fast_check_program_forms.specs.ModuleDecls.{ExportAll-span, ExportAll-src, ExportAll-type_only, ExportAll-with, TsImportEqualsDecl-span}
 use Rattle.fast_check_same_values.specs.SameValues.{Both}

@@ -1,7 +1,13 @@
 use Rattle.fast_check_skeleton.proofs.CommentsAlike.{two_worlds}
 use Rattle.fast_check_skeleton.proofs.Example.{example}
 use Rattle.fast_check_skeleton.proofs.ClassExample.{class_example}
+use Rattle.fast_check_skeleton.proofs.ModuleExample.{module_example}
 use Rattle.fast_check_skeleton.proofs.worlds.two_worlds.Goals as goal
 
 pub returns : goal.returns
-returns c = record { law = λ a comments_a b comments_b. two_worlds a c.args.first.now comments_a b c.args.second.now comments_b; not_empty = example; of_classes = class_example }
+returns c = record {
+  law = λ a comments_a b comments_b. two_worlds a c.args.first.now comments_a b c.args.second.now comments_b;
+  not_empty = example;
+  of_classes = class_example;
+  of_modules = module_example;
+}
