@@ -2,16 +2,13 @@
 use Rattle.std.specs.Prelude.{◌≡◌, Bool, true, false, not, ◌||◌, Option, Some, None, unwrap_or, option_map, List, [], ◌∷◌, ◌++◌, map, flat_map, refl}
 use Rattle.std.specs.Prelude.{if◌then◌else◌}
 use Rattle.std.specs.List.{list_all}
-use Rattle.std.proofs.Common.{ap, ap₂, ◌∙◌, sym, subst, subst₂, true≢false}
-use Rattle.fast_check_syntax.specs.declared.kind.Kind.{Kind}
-use Rattle.fast_check_syntax.specs.declared.kind.Kind.TheVariants.{Leaf, CallExpr, TsSatisfiesExpr, TsAsExpr, TsTypeAssertion, FnExpr, ArrowExpr}
+use Rattle.std.proofs.Common.{ap, ap₂, ◌∙◌, sym, subst, subst₂}
 use Rattle.fast_check_syntax.specs.declared.kind.Kind.TheVariants.{Module, BindingIdent, VarDeclarator, VarDecl, ExportDecl, FnDecl, ClassDecl, List as List'}
 use Rattle.fast_check_syntax.specs.declared.kind.Word.TheVariants.{Const as ConstWord}
 use Rattle.fast_check_syntax.specs.declared.source.SourceRange.{SourceRange}
-use Rattle.fast_check_syntax.specs.declared.source.SyntaxContext.{SyntaxContext}
 use Rattle.fast_check_syntax.specs.declared.tree.Tree as tree
 use Rattle.fast_check_syntax.specs.declared.tree.Tree.{Tree}
-use Rattle.fast_check_syntax.specs.Shape.{◌is◌, is_kind, not_absent, kind_of, parts, is_absent, has_word, list}
+use Rattle.fast_check_syntax.specs.Shape.{◌is◌, kind_of, parts, is_absent, has_word, list}
 use Rattle.fast_check_syntax.specs.Moves.{Renaming, IsRenaming, IsPair, partners, twice, moved}
 use Rattle.fast_check_syntax.specs.Same.{SameTree, SameRange, Each}
 use Rattle.fast_check_syntax.proofs.Moved.{has_word_moved, node_moved}
@@ -44,7 +41,7 @@ use Rattle.fast_check_skeleton.specs.Visible.{public_class, is_public_using, usi
 use Rattle.fast_check_skeleton.specs.Visible.{seen_by_rule, item_seen, items_of, visible}
 use Rattle.fast_check_signatures.specs.Answers.{answer_of}
 use Rattle.fast_check_signatures.specs.Classes.{plain_class_seen, ambient_class}
-use Rattle.fast_check_signatures.specs.Expressions.{is_plain, is_compound, is_among, other_kinds, freezes, is_frozen, is_refused, expr_seen}
+use Rattle.fast_check_signatures.specs.Expressions.{expr_seen}
 use Rattle.fast_check_signatures.specs.Functions.{function_seen, implementation_seen}
 use Rattle.fast_check_same_values.specs.SameValues.{Both, SameExpr}
 use Rattle.fast_check_same_values.specs.SameValues as v

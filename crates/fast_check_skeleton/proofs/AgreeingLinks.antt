@@ -1,12 +1,12 @@
 -- Imports and exports of names that agree are seen alike.
 use Rattle.std.specs.Prelude.{◌≡◌, ℕ, Bool, true, false, Option, Some, None, unwrap_or, List, [], ◌∷◌, map, refl, if◌then◌else◌}
 use Rattle.std.specs.List.{filter}
-use Rattle.std.proofs.Common.{ap, ap₂, ◌∙◌, sym, subst, subst₂, cond}
+use Rattle.std.proofs.Common.{ap, ap₂, ◌∙◌, sym, subst₂, cond}
 use Rattle.fast_check_syntax.specs.declared.kind.Kind.TheVariants as kinds
 use Rattle.fast_check_syntax.specs.declared.source.SourceRange.{SourceRange}
 use Rattle.fast_check_syntax.specs.declared.tree.Tree as tree
 use Rattle.fast_check_syntax.specs.declared.tree.Tree.{Tree, Absent}
-use Rattle.fast_check_syntax.specs.Shape.{kind_of, parts, is_absent, list}
+use Rattle.fast_check_syntax.specs.Shape.{parts, is_absent, list}
 use Rattle.fast_check_syntax.specs.Moves.{Renaming, IsRenaming, partners, twice, moved}
 use Rattle.fast_check_syntax.specs.Same.{SameTree, SameRange}
 use Rattle.fast_check_syntax.proofs.Moved.{absent_moved, text_moved}
@@ -17,11 +17,10 @@ use Rattle.fast_check_program_forms.specs.ModuleDecls.{ImportDecl-with, ImportDe
 use Rattle.fast_check_program_forms.specs.ModuleDecls.{NamedExport-span, NamedExport-specifiers, NamedExport-src, NamedExport-type_only, NamedExport-with}
 use Rattle.fast_check_program_forms.specs.ModuleDecls.{ExportAll-span, ExportAll-src, ExportAll-type_only, ExportAll-with, TsImportEqualsDecl-span}
 use Rattle.fast_check_ranges.specs.Ranges.{range_of_node}
-use Rattle.fast_check_signatures.specs.Seen.{Seen, written}
-use Rattle.fast_check_same_values.proofs.AlikeTrees.{TreeAlike, image_alike, new_alike, absent_alike, range_leaf_alike, flag_leaf_alike, node_alike}
+use Rattle.fast_check_signatures.specs.Seen.{written}
+use Rattle.fast_check_same_values.proofs.AlikeTrees.{TreeAlike, new_alike, absent_alike, range_leaf_alike, flag_leaf_alike, node_alike}
 use Rattle.fast_check_same_values.proofs.AlikeTrees.{range_field_alike}
 use Rattle.fast_check_same_values.proofs.AlikeSeen.{AllAlike, same_written, written_alike, all_alike_if}
-use Rattle.fast_check_skeleton.specs.declared.rules.ItemRule.{ItemRule}
 use Rattle.fast_check_skeleton.specs.declared.rules.ItemRule.TheVariants.{Linked}
 use Rattle.fast_check_skeleton.specs.declared.rules.LinkRule.{LinkRule}
 use Rattle.fast_check_skeleton.specs.declared.rules.LinkRule.TheVariants.{Import, Export, All, Alias}

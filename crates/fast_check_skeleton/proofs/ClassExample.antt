@@ -1,8 +1,7 @@
 -- The two modules of the example with classes agree but for what is hidden.
-use Rattle.std.specs.Prelude.{◌≡◌, ℕ, Bool, true, false, List, [], ◌∷◌, refl, ◌↔◌}
+use Rattle.std.specs.Prelude.{◌≡◌, ℕ, Bool, false, List, [], ◌∷◌, refl, ◌↔◌}
 use Rattle.std.specs.List.{list_any}
-use Rattle.std.proofs.Common.{inl, inr, arith, ap, ◌∙◌, sym, subst, subst₂}
-use Rattle.fast_check_syntax.specs.declared.kind.Kind.{Kind}
+use Rattle.std.proofs.Common.{inl, arith, ap, ◌∙◌, sym, subst, subst₂}
 use Rattle.fast_check_syntax.specs.declared.kind.Kind.TheVariants as kinds
 use Rattle.fast_check_syntax.specs.declared.kind.Word.{Word}
 use Rattle.fast_check_syntax.specs.declared.kind.Word.TheVariants as words
@@ -10,20 +9,15 @@ use Rattle.fast_check_syntax.specs.declared.source.SourceRange.{SourceRange}
 use Rattle.fast_check_syntax.specs.declared.tree.Tree as tree
 use Rattle.fast_check_syntax.specs.declared.tree.Tree.{Tree, Absent, roll-Tree, out-roll-Tree}
 use Rattle.fast_check_syntax.specs.declared.tree.Tree.TheOpen.{Tree-F}
-use Rattle.fast_check_syntax.specs.Shape.{parts, part, is_absent, none_range, node, list, kind_of, has_word, word_is_at}
+use Rattle.fast_check_syntax.specs.Shape.{parts, none_range, list, has_word, word_is_at}
 use Rattle.fast_check_syntax.specs.Moves.{Moves, Keeps, IsRenaming, IsPair, moved}
 use Rattle.fast_check_syntax.specs.Same.{SameTree, SameRange}
 use Rattle.fast_check_syntax.proofs.Made.{kind_of_node, parts_node, part_node, is_absent_node, flag_of_flag, range_of_range}
 use Rattle.fast_check_syntax.proofs.Moved.{node_moved, absent_moved, word_moved, text_moved, context_moved, flag_moved, range_moved, none_moved}
 use Rattle.fast_check_syntax.proofs.Same.{tree_from}
-use Rattle.fast_check_class_forms.specs.Classes.{Class-span, Class-ctxt, Class-body, Class-super_class, Class-is_abstract, Class-type_params}
-use Rattle.fast_check_class_forms.specs.Classes.{Class-super_type_params, Class-implements}
-use Rattle.fast_check_class_forms.specs.Functions.{Function-span, Function-params, Function-ctxt, Function-body, Function-is_generator, Function-is_async}
-use Rattle.fast_check_class_forms.specs.Functions.{Function-type_params, Function-return_type}
-use Rattle.fast_check_class_forms.specs.Methods.{ClassMethod-span, ClassMethod-key, ClassMethod-is_static, ClassMethod-accessibility, ClassMethod-is_abstract}
-use Rattle.fast_check_class_forms.specs.Methods.{ClassMethod-is_optional}
-use Rattle.fast_check_program_forms.specs.Programs.{module'}
-use Rattle.fast_check_statement_forms.specs.Declarations.{ClassDecl-ident, ClassDecl-declare, ClassDecl-class, FnDecl-ident, FnDecl-declare, FnDecl-function}
+use Rattle.fast_check_class_forms.specs.Classes.{Class-body}
+use Rattle.fast_check_class_forms.specs.Functions.{Function-params}
+use Rattle.fast_check_statement_forms.specs.Declarations.{ClassDecl-class, FnDecl-function}
 use Rattle.fast_check_helpers.specs.Builders.{new_ident, ts_keyword_type, type_ann}
 use Rattle.fast_check_ranges.specs.Ranges.{range_of_node}
 use Rattle.fast_check_signatures.specs.NewNodes.{no_scope, ident_name}

@@ -1,10 +1,8 @@
 -- Modules that agree but for what is hidden, and so do their comments, keep the same comments.
 use Rattle.std.specs.Prelude.{◌≡◌, ℕ, ◌==◌, Bool, true, false, not, ◌&&◌, ◌||◌, List, [], ◌∷◌, ◌++◌, flat_map, refl, if◌then◌else◌}
-use Rattle.std.specs.Bool.{one_answer}
-use Rattle.std.specs.Cmp.{unsigned_ties, unsigned_Decides}
-use Rattle.std.specs.List.{list_any}
+use Rattle.std.specs.Cmp.{unsigned_ties}
 use Rattle.std.specs.Ordering.{is_eq, nat_cmp}
-use Rattle.std.proofs.Common.{ap, ap₂, ◌∙◌, sym, subst, subst₂, cond, eqb-true, eq-eqb}
+use Rattle.std.proofs.Common.{ap, ap₂, ◌∙◌, sym, subst₂, cond, eqb-true, eq-eqb}
 use Rattle.std.proofs.lemmas.List.Folds.{list_any-append}
 use Rattle.fast_check_syntax.specs.declared.kind.Kind.{Kind}
 use Rattle.fast_check_syntax.specs.declared.kind.Kind.TheVariants as kinds

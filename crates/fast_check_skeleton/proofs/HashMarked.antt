@@ -1,8 +1,8 @@
 -- The law on `#private` holds.
 use Rattle.std.specs.Prelude.{◌≡◌, Bool, true, false, IfSome, Option, Some, None, List, [], ◌∷◌, ◌++◌, map, flat_map, refl, unwrap_or, option_map}
 use Rattle.std.specs.Prelude.{if◌then◌else◌}
-use Rattle.std.specs.List.{list_any, filter}
-use Rattle.std.proofs.Common.{ap, ap₂, ◌∙◌, sym, subst}
+use Rattle.std.specs.List.{filter}
+use Rattle.std.proofs.Common.{ap, ap₂, ◌∙◌, subst}
 use Rattle.std.proofs.lemmas.List.{append_assoc}
 use Rattle.std.proofs.lemmas.List.Elements.{filter-append}
 use Rattle.fast_check_syntax.specs.declared.kind.Kind.{Kind}
@@ -21,7 +21,6 @@ use Rattle.fast_check_class_forms.specs.Methods.{ClassMethod-is_abstract, ClassM
 use Rattle.fast_check_helpers.specs.declared.literal_type.DeclMutabilityKind.TheVariants.{Mutable}
 use Rattle.fast_check_helpers.specs.Builders.{type_ann, any_type_ann}
 use Rattle.fast_check_helpers.specs.InferredType.{inferred_type}
-use Rattle.fast_check_signatures.specs.NewNodes.{hash_private}
 use Rattle.fast_check_signatures.specs.Seen.{PropertyHead, Seen, written, range, scope, flag, listed, seens}
 use Rattle.fast_check_signatures.specs.Answers.{settled, with_tree, class_of, declared_property, valued_property, answer_to, parts_answer, answer_of}
 use Rattle.fast_check_signatures.specs.Members.{is_private, is_hash_named_kind, is_hash_named, hash_mark, stays_by_kind, stays_behind, each_behind, if_kept}
@@ -30,7 +29,7 @@ use Rattle.fast_check_signatures.specs.Classes.{superclass_seen, typed_property,
 use Rattle.fast_check_signatures.specs.Classes.{param_properties, patterns_among, param_property_head, constructor_body, method_function_seen}
 use Rattle.fast_check_signatures.specs.Classes.{unless_any, constructor_of, unless_taken_apart, class_head, untyped_property_seen, property_seen}
 use Rattle.fast_check_signatures.specs.Classes.{untyped_accessor_seen, accessor_seen, method_seen, constructor_params_seen, constructor_seen, member_of_kind}
-use Rattle.fast_check_signatures.specs.Classes.{member_seen, param_property_type, param_property, declared_by_params, members_seen, plain_class_seen}
+use Rattle.fast_check_signatures.specs.Classes.{member_seen, param_property_type, param_property, declared_by_params, members_seen}
 use Rattle.fast_check_signatures.proofs.Adding.{answer_append}
 use Rattle.fast_check_signatures.proofs.Choices.{of_choice}
 use Rattle.fast_check_skeleton.specs.HashMark.{IsMarked, HashMarked}

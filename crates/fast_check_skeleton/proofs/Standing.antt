@@ -1,5 +1,5 @@
 -- A skeleton stands in the grammar: where there is no fault, each declarator has its type.
-use Rattle.std.specs.Prelude.{◌≡◌, Bool, true, false, ◌||◌, IsTrue, ◌⊎◌, IfSome, Option, Some, None, List, [], ◌∷◌, ◌++◌, flat_map, refl}
+use Rattle.std.specs.Prelude.{◌≡◌, Bool, true, false, ◌||◌, IsTrue, ◌⊎◌, Option, Some, None, List, [], ◌∷◌, flat_map, refl}
 use Rattle.std.specs.Prelude.{if◌then◌else◌}
 use Rattle.std.proofs.Common.{ap, ◌∙◌, sym, subst, subst₂, inl, inr, append-nil}
 use Rattle.fast_check_syntax.specs.declared.kind.Kind.{Kind}
@@ -36,7 +36,7 @@ use Rattle.fast_check_signatures.proofs.Choices.{of_choice, no_left, not_empty}
 use Rattle.fast_check_typed_grammar.specs.TypedGrammar.{IsLeavable, IsTypedFunction}
 use Rattle.fast_check_typed_grammar.specs.ClassGrammar.{IsAmbientClass, IsTypedClass}
 use Rattle.fast_check_signatures.specs.Classes.{plain_class_seen, ambient_class}
-use Rattle.fast_check_typed_grammar.proofs.Staying.{Holds, Stays, round_stays, written_before, last_stays, items_hold, demanded_holds}
+use Rattle.fast_check_typed_grammar.proofs.Staying.{Holds, Stays, round_stays, written_before, last_stays, demanded_holds}
 use Rattle.fast_check_typed_grammar.proofs.StayingLists.{AllStay, all_flat, all_hold, some_weaker, all_weaker, all_if, both_some}
 use Rattle.fast_check_typed_grammar.proofs.TypedClasses.{ambient_stands, class_stays}
 use Rattle.fast_check_typed_grammar.proofs.Present.{stays_there}

@@ -2,7 +2,7 @@
 -- `function f(): void {} class C { private m(): void {} }`, and
 -- `function f(): void { ; } class C { static {} private m(a): void {} }`.
 -- What agrees stands at the place of no text, so that the renaming has the pair of 0 alone. The static block begins at 7.
-use Rattle.std.specs.Prelude.{◌≡◌, ℕ, true, false, None, List, [], ◌∷◌}
+use Rattle.std.specs.Prelude.{◌≡◌, true, false, None, List, [], ◌∷◌}
 use Rattle.fast_check_syntax.specs.declared.kind.Kind.TheVariants as kinds
 use Rattle.fast_check_syntax.specs.declared.kind.Word.TheVariants as words
 use Rattle.fast_check_syntax.specs.declared.tree.Tree as tree

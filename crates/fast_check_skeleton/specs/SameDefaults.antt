@@ -41,7 +41,7 @@ module _ (r : Renaming) (a b : Surroundings) where
     class : {t u : Tree} → SameDefaultDecl ClassExpr t u →
         SameTree r (ClassExpr-ident (ExportDefaultDecl-decl t)) (ClassExpr-ident (ExportDefaultDecl-decl u)) →
         SameClass r a.unresolved b.unresolved a.is_implementation b.is_implementation
-            (ClassExpr-class (ExportDefaultDecl-decl t)) (ClassExpr-class (ExportDefaultDecl-decl u)) → SameDefault t u
+        (ClassExpr-class (ExportDefaultDecl-decl t)) (ClassExpr-class (ExportDefaultDecl-decl u)) → SameDefault t u
     function : {t u : Tree} → SameDefaultFunction t u →
         a.is_implementation (ExportDefaultDecl-span t) ≡ false → b.is_implementation (ExportDefaultDecl-span u) ≡ false →
         SameFunction r a.unresolved b.unresolved (FnExpr-function (ExportDefaultDecl-decl t)) (FnExpr-function (ExportDefaultDecl-decl u)) → SameDefault t u
