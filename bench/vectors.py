@@ -540,10 +540,6 @@ def left_out():
 
 # ---- functions and values of all forms: what is stated by hand has to agree with what the rules give
 
-# each group of cases with what it shows
-functions = function_cases.GROUPS
-classes = class_cases.GROUPS
-
 
 def public_ranges(case, places, own_ranges=False):
     """The ranges of the declarations of the items at these places."""
@@ -643,20 +639,12 @@ def comments_of_classes():
         answered(case_name, content, answer)
 
 
-def all_functions():
-    for words, cases in functions:
+def groups_of_cases(groups):
+    """Each group of cases, with what it shows."""
+    for words, cases in groups:
         title(words)
         for case in cases():
             function_case(case)
-    comments_of_functions()
-
-
-def all_classes():
-    for words, cases in classes:
-        title(words)
-        for case in cases():
-            function_case(case)
-    comments_of_classes()
 
 
 def words():
@@ -686,8 +674,10 @@ def main():
     values()
     types()
     comments()
-    all_functions()
-    all_classes()
+    groups_of_cases(function_cases.GROUPS)
+    comments_of_functions()
+    groups_of_cases(class_cases.GROUPS)
+    comments_of_classes()
     defaults()
     refusals()
     words()
