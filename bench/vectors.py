@@ -2,8 +2,8 @@
 """Writes the vectors of `crates/fast_check_vectors`: its inputs (`data/`), and what it must print (`stdout`).
 
 Each case stands here as TypeScript with what is public of it and what has to come out. The trees of the sources and of
-the skeletons are laid out by the rules of this script and its modules alone (`trees`, `skeletons`, `function_cases`, `class_cases`): the
-program's own output is nowhere taken for right.
+the skeletons are laid out by the rules of this script and its modules alone (`trees`, `skeletons`, `function_cases`, `class_cases`, `module_cases`):
+the program's own output is nowhere taken for right.
 
 Usage: bench/vectors.py
 """
@@ -16,6 +16,9 @@ sys.dont_write_bytecode = True
 
 import class_cases
 import function_cases
+import module_cases
+from module_skeletons import sources_of
+from ranges import class_of, public_ranges, ranges_of_members
 from skeletons import Skeleton, diagnostic
 from trees import DUMMY, Source, lay_items
 
@@ -156,7 +159,7 @@ def request(text, body, ranges, media_type="TypeScript", **more):
 
 
 def module_answer(program):
-    return {"module_info": {"sources": []}, "program": program, "comments": {"leading": [], "trailing": []}}
+    return {"module_info": {"sources": sources_of(program["body"])}, "program": program, "comments": {"leading": [], "trailing": []}}
 
 
 def missing_type(span):
@@ -514,7 +517,11 @@ def refusals():
     left_out()
     assignment = {"Assign": {"op": "=", "left": {"Simple": {"Ident": ident(DUMMY, "a")}}, "right": {"Ident": ident(DUMMY, "b")}}}
     refused("assignment", changed(BODY + (0,), {"Stmt": {"Expr": {"expr": assignment}}}))
-    refused("import", changed(BODY + (0,), {"ModuleDecl": {"Import": {"src": {"value": "./a"}, "phase": "evaluation"}}}))
+    for what, namespace in [("namespace", {}), ("ambient_namespace", {"declare": True}), ("global_namespace", {"declare": True, "global": True})]:
+        decl = {"TsModule": dict(namespace, id={"Ident": ident(DUMMY, "global" if "global" in namespace else "N")}, body={"TsModuleBlock": {}})}
+        refused(what, changed(BODY + (0,), {"Stmt": {"Decl": decl}}))
+        refused(f"exported_{what}", changed(BODY + (0,), {"ModuleDecl": {"ExportDecl": {"decl": decl}}}))
+    refused("ambient_module", changed(BODY + (0,), {"Stmt": {"Decl": {"TsModule": {"declare": True, "id": {"Str": {"value": "m"}}}}}}))
     title("comments of another form")
     refused("a_comment_of_no_kind", changed(SOURCE + ("comments", "leading"), [[1, [{"span": [1, 5], "text": " a"}]]]))
     refused("comments_without_position", changed(SOURCE + ("comments", "leading"), [[{"kind": "Line", "text": " a"}]]))
@@ -535,6 +542,7 @@ def left_out():
     answered("pattern", changed(FIRST_VAR + ("decls", 0, "name"), {"Array": {"elems": []}}), pattern)
     declared_class = {"Class": {"ident": ident(DUMMY, "C"), "class": {"body": []}}}
     answered("class", changed(BODY + (0,), {"Stmt": {"Decl": declared_class}}), rest.answer())
+    answered("import", changed(BODY + (0,), {"ModuleDecl": {"Import": {"src": {"value": "./a"}, "phase": "evaluation"}}}), rest.answer())
     answered("exported_class", changed(BODY + (0,), {"ModuleDecl": {"ExportDecl": {"decl": declared_class}}}), rest.answer())
 
 
@@ -543,38 +551,15 @@ def left_out():
 # each group of cases with what it shows
 functions = function_cases.GROUPS
 classes = class_cases.GROUPS
-
-
-def public_ranges(case, places, own_ranges=False):
-    """The ranges of the declarations of the items at these places."""
-    ranges = []
-    for place in places:
-        item = case.items[place]
-        export = item["ModuleDecl"]["ExportDecl"] if "ModuleDecl" in item else None
-        decl = export["decl"] if export else item["Stmt"]["Decl"]
-        if "Var" in decl:
-            ranges += [declarator["span"] for declarator in decl["Var"]["decls"]]
-        elif export is None or own_ranges:
-            ranges.append((decl["Class"]["class"] if "Class" in decl else decl["Fn"]["function"])["span"])
-        else:
-            ranges.append(export["span"])
-    return ranges
-
-
-def ranges_of_members(case):
-    """The ranges of the members of classes that are implementations with overloads, by the places of their items and their own."""
-    found = []
-    for place, at in case.more.get("members", []):
-        (_, member), = case.items[place]["ModuleDecl"]["ExportDecl"]["decl"]["Class"]["class"]["body"][at].items()
-        found.append(member["span"])
-    return found
+modules = module_cases.GROUPS
 
 
 def stated(fault, text):
     """A fault in words, with the text of its range and with its positions."""
     code, (start, end), is_definitely, is_async = fault
     words = {"missing-explicit-type": "type", "missing-explicit-return-type": "return", "unsupported-destructuring": "destructuring",
-             "unsupported-super-class-expr": "superclass"}[code]
+             "unsupported-super-class-expr": "superclass", "unsupported-default-export-expr": "default", "unsupported-using": "using",
+             "unsupported-require": "require", "unsupported-ts-export-assignment": "assignment", "unsupported-ts-namespace-export": "namespace"}[code]
     words += " definitely" * bool(is_definitely) + " async" * bool(is_async)
     return {f"{words} {text.encode()[start - 1:end - 1].decode()}", f"{words} {start}-{end}"}
 
@@ -589,26 +574,57 @@ def agree(name, what, stated_by_hand, given):
         sys.exit(f"{name}: the {what} is stated as\n  {stated_by_hand}\nand given as\n  {given}")
 
 
+def documented(at):
+    """Documentation before the tokens at these positions."""
+    return [[place, [{"kind": "Block", "span": [place, place + 9], "text": "* doc "}]] for place in at]
+
+
+def graph_of(case, specifier):
+    """The graph in which the texts of a case's sources are resolved."""
+    if "graph" in case.more:
+        return case.more["graph"]
+    resolved = case.more.get("resolved")
+    return resolved and {"modules": [], "resolutions": [[specifier, text, url] for text, url in resolved.items()], "packages": []}
+
+
 def function_case(case):
     """Lays a case out, and writes its request and its answer."""
     case.items, text = lay_items(case.items)
-    media_type, first = case.more.get("media_type", "TypeScript"), case.more.get("first", False)
+    more, specifier = case.more, case.more.get("specifier", SPECIFIER)
+    media_type, first = more.get("media_type", "TypeScript"), more.get("first", False)
     agree(case.name, "source", case.source or text, text)
     ranges = public_ranges(case, [place for place in range(len(case.items)) if place not in case.private], case.own_ranges)
     impls = public_ranges(case, case.implementations) + ranges_of_members(case)
-    made = Skeleton(case.items, ranges, impls, media_type)
+    made = Skeleton(case.items, ranges, impls, media_type, specifier=specifier, resolved=more.get("resolved"))
     faults = made.faults[:1] if first else made.faults
     given = [stated(fault, text) for fault in faults] if faults else lay_items(made.items)[1]
     if isinstance(case.expected, list) and faults and len(given) == len(case.expected):
         given = [wanted if wanted in found else found for wanted, found in zip(case.expected, given)]
     agree(case.name, "answer", case.expected, given)
-    content = request(text, case.items, ranges, media_type, impls=impls, first=first)
-    if case.more.get("is_script"):
+    content = request(text, case.items, ranges, media_type, impls=impls, first=first, graph=graph_of(case, specifier))
+    content["module"]["specifier"] = specifier
+    if more.get("is_script"):
         content["module"]["source"]["program"] = {"Script": dict(program([item["Stmt"] for item in case.items], text))}
-    if "levels" in case.more:
-        agree(case.name, "depth", case.more["levels"], levels(content))
-    answer = {"Err": [diagnostic(fault, SPECIFIER, DOCS) for fault in faults]} if faults else {"Ok": module_answer(program(made.items, text))}
+    if "levels" in more:
+        agree(case.name, "depth", more["levels"], levels(content))
+    answer = {"Err": [diagnostic(fault, specifier, DOCS) for fault in faults]} if faults else {"Ok": module_answer(program(made.items, text))}
+    if "sources" in more:
+        agree(case.name, "sources", more["sources"], told_sources(answer, text))
+    if "comments" in more:
+        goes = more["comments"](case.items)
+        content["module"]["source"]["comments"] = {"leading": documented([at for at, _ in goes]), "trailing": documented([at for at, _ in goes])}
+        answer["Ok"]["comments"] = {"leading": documented([at for at, stays in goes if stays]), "trailing": documented([at for at, _ in goes])}
     answered(case.name, content, answer)
+
+
+def told_sources(answer, text):
+    """The sources of an answer in words: what they are, and the text of their ranges."""
+    found = []
+    for source in answer["Ok"]["module_info"]["sources"]:
+        start, end = source["range"]
+        words = "export " * source["is_export"] + "type " * source["type_only"]
+        found.append(f"{words}{source['specifier']} at {text.encode()[start - 1:end - 1].decode()}")
+    return found
 
 
 def comments_of_functions():
@@ -618,28 +634,26 @@ def comments_of_functions():
     case = function_cases.Case("comments_of_functions", [hidden, shown], None)
     start = lambda item: item["ModuleDecl"]["ExportDecl"]["span"][0]
     inside = lambda item: item["ModuleDecl"]["ExportDecl"]["decl"]["Fn"]["function"]["body"]["stmts"][0]["Throw"]["span"][0]
-    doc = lambda place: [place, [{"kind": "Block", "span": [place, place + 9], "text": "* doc "}]]
     ranges = public_ranges(case, [1])
     content, answer = request(text, case.items, ranges), {"Ok": module_answer(program(Skeleton(case.items, ranges).items, text))}
     places = [start(hidden), inside(hidden), start(shown), inside(shown)]
-    content["module"]["source"]["comments"] = {"leading": [doc(place) for place in places], "trailing": []}
-    answer["Ok"]["comments"]["leading"] = [doc(place) for place in places[1:]]
+    content["module"]["source"]["comments"] = {"leading": documented(places), "trailing": []}
+    answer["Ok"]["comments"]["leading"] = documented(places[1:])
     answered(case.name, content, answer)
 
 
 def comments_of_classes():
     title("comments before members that go, go with them, but for those of ambient classes")
-    doc = lambda place: [place, [{"kind": "Block", "span": [place, place + 9], "text": "* doc "}]]
     for case_name, declare in [("comments_of_members", False), ("comments_of_members_of_an_ambient_class", True)]:
         members = class_cases.members_with_comments()
         items, text = lay_items([class_cases.public(*[member for member, _ in members], declare=declare)])
         case = function_cases.Case(case_name, items, None)
         ranges = public_ranges(case, [0])
         content, answer = request(text, items, ranges), {"Ok": module_answer(program(Skeleton(items, ranges).items, text))}
-        starts = [next(iter(member.values()))["span"][0] for member in items[0]["ModuleDecl"]["ExportDecl"]["decl"]["Class"]["class"]["body"]]
+        starts = [next(iter(member.values()))["span"][0] for member in class_of(items[0])["body"]]
         stay = [declare or not goes for _, goes in members]
-        content["module"]["source"]["comments"] = {"leading": [doc(start) for start in starts], "trailing": [doc(start) for start in starts]}
-        answer["Ok"]["comments"] = {"leading": [doc(start) for start, stays in zip(starts, stay) if stays], "trailing": [doc(start) for start in starts]}
+        content["module"]["source"]["comments"] = {"leading": documented(starts), "trailing": documented(starts)}
+        answer["Ok"]["comments"] = {"leading": documented([start for start, stays in zip(starts, stay) if stays]), "trailing": documented(starts)}
         answered(case_name, content, answer)
 
 
@@ -657,6 +671,13 @@ def all_classes():
         for case in cases():
             function_case(case)
     comments_of_classes()
+
+
+def all_modules():
+    for words, cases in modules:
+        title(words)
+        for case in cases():
+            function_case(case)
 
 
 def words():
@@ -688,6 +709,7 @@ def main():
     comments()
     all_functions()
     all_classes()
+    all_modules()
     defaults()
     refusals()
     words()
