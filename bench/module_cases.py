@@ -228,7 +228,8 @@ def default_class(named, *members, super_class=None, **more):
 def members():
     return [hash_prop("x", value=ONE), class_method("m", [], access="private", ret="void"), class_method("m", [name("a")], access="private"),
             constructor([param_prop(name("a", "string"), "private")]), static_block(), prop("y", value=ONE, readonly=True),
-            prop("z", "string", access="private"), prop(COMPUTED, "number", access="private"), class_method("n", [name("a", "string")], returned(ONE), ret="number")]
+            prop("z", "string", access="private"), prop(COMPUTED, "number", access="private"),
+            class_method("n", [name("a", "string")], returned(ONE), ret="number")]
 
 
 SHOWN = ("{ #private!: unknown; declare private a: any; declare private m: any; constructor(a: string) {} declare readonly y: 1; declare private z: any; "
