@@ -699,7 +699,8 @@ def tables():
     for place, (name, value) in enumerate([("symbols", {}), ("symbols", [{}]), ("symbols", [symbol(-1)]), ("module_symbol", "0"), ("swc_ids", [["x", 0]]),
                                               ("re_export_all_nodes", [["./a"]]), ("resolved_exports", [["x", "mod.ts"]])]):
         refused(f"no_{name}_{place}", with_tables(**{name: value}))
-    for place, (name, value) in enumerate([("modules", {}), ("modules", [[SPECIFIER, "Js"]]), ("modules", [["mod.ts", "Npm"]]), ("resolutions", [[SPECIFIER, "./a"]]),
+    for place, (name, value) in enumerate([("modules", {}), ("modules", [[SPECIFIER, "Js"]]), ("modules", [["mod.ts", "Npm"]]),
+                                              ("resolutions", [[SPECIFIER, "./a"]]),
                                               ("resolutions", [[SPECIFIER, "./a", "a.ts"]]), ("packages", [["@x/y", []]]), ("packages", [["@x/y@1.0", []]])]):
         refused(f"no_{name}_{place}", with_graph(**{name: value}))
     refused("a_graph_that_is_a_list", dict(first_module().request(), graph=[]))
