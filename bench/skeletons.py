@@ -1,8 +1,9 @@
-"""The skeleton of a module of functions, variables and classes, by rules of its own: what `fast-check transform` has to answer.
+"""The skeleton of a module, by rules of its own: what `fast-check transform` has to answer.
 
 Trees are JSON as `trees` makes them. No tree is changed: what is answered is made anew, of parts of the source.
 """
 from class_skeletons import Classes
+from module_skeletons import Modules, range_of_default
 from nodes import EMPTY_OBJECT, NEVER, NEVER_ARRAY, NEVER_IN_PARENTHESES, annotated, keyword, new, variant
 from trees import DUMMY
 
@@ -144,11 +145,14 @@ def is_void(written):
     return written["type_ann"].get("TsKeywordType", {}).get("kind") == "TsVoidKeyword"
 
 
-class Skeleton(Classes):
-    """The items that a skeleton has, and the faults that were met in making them, each a code, a range and two flags."""
+class Skeleton(Classes, Modules):
+    """The items that a skeleton has, and the faults that were met in making them, each a code, a range and two flags.
 
-    def __init__(self, body, ranges, impls=(), media_type="TypeScript", unresolved=1):
+    `resolved` has what the texts of sources in the module resolve to."""
+
+    def __init__(self, body, ranges, impls=(), media_type="TypeScript", unresolved=1, specifier="file:///p/mod.ts", resolved=None):
         self.ranges, self.impls, self.unresolved = ranges, impls, unresolved
+        self.specifier, self.resolved = specifier, resolved or {}
         self.is_declaration_file = media_type in ("Dts", "Dmts", "Dcts")
         self.faults = []
         items = [self.item(item) for item in body]
@@ -165,7 +169,9 @@ class Skeleton(Classes):
     def item(self, item):
         kind, node = variant(item)
         if kind == "ModuleDecl":
-            export = node["ExportDecl"]
+            kind, export = variant(node)
+            if kind != "ExportDecl":
+                return self.module_item(kind, export)
             decl = self.declaration(export["decl"], export["span"])
             return decl and {"ModuleDecl": {"ExportDecl": dict(export, decl=decl)}}
         decl = "Decl" in node and self.declaration(node["Decl"], None)
@@ -175,9 +181,13 @@ class Skeleton(Classes):
         kind, node = variant(decl)
         if kind == "Var":
             return self.statement(node)
-        place = exported or node["class" if kind == "Class" else "function"]["span"]
+        if kind == "Using":
+            return self.using(node, exported or node["span"])
+        place = exported or range_of_default(decl)
         if place not in self.ranges:
             return None
+        if kind == "TsInterface":
+            return decl
         if kind == "Class":
             return {"Class": dict(node, **{"class": self.class_(node["class"], node["declare"] or self.is_declaration_file)})}
         if self.is_declaration_file:
@@ -423,6 +433,19 @@ def emptied(pat):
 # ---- what a reader is told of a fault
 
 ALL_FUNCTIONS = "all functions in the public API must have an explicit return type"
+COMMON_JS = "CommonJS features such as {} are not supported in ES modules"
+MODULE_TEXTS = {
+    "unsupported-default-export-expr": ("default export expression was too complex",
+        "add an 'as' clause with an explicit type after the expression, or extract to a variable",
+        ["fast check was unable to infer the type of the default export expression"]),
+    "unsupported-require": ("require statements are a CommonJS feature, which are not supported in ES modules", "use an import statement instead",
+        [COMMON_JS.format("require")]),
+    "unsupported-ts-export-assignment": ("export assignments are a Common JS feature, which are not supported in ES modules",
+        "use an export statement instead", [COMMON_JS.format("export assignments")]),
+    "unsupported-ts-namespace-export": ("found namespace export, which is a global augmentation, which are not unsupported", "remove the namespace export",
+        ["namespace exports are not supported because they can modify the types of a module from outside of that module"]),
+    "unsupported-using": ("using declarations are not supproted in the public API", "use 'const' instead of 'using'",
+        ["using declarations have unclear semantics in the public API", "they are thus not supported in the public API"])}
 NO_RETURNS = "this function has no return statements, so a return type could not be inferred automatically"
 
 
@@ -437,6 +460,8 @@ def texts(code, is_definitely, is_async):
     if code == "unsupported-super-class-expr":
         return ("super class expression was too complex", "extract the superclass expression into a variable",
                 ["fast check was unable to infer the type of the superclass expression"])
+    if code in MODULE_TEXTS:
+        return MODULE_TEXTS[code]
     message, hint, info = "missing explicit return type in the public API", "add an explicit return type to the function", [ALL_FUNCTIONS]
     if is_definitely:
         hint = "add an explicit return type of 'void' or 'never' to the function"

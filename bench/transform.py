@@ -19,7 +19,9 @@ sys.dont_write_bytecode = True
 
 import class_cases
 import function_cases as cases
+import module_trees
 import trees
+from ranges import ranges_of_item
 
 try:
     import orjson
@@ -66,9 +68,10 @@ def functions():
     string, one, first = trees.name("first", "string"), trees.lit("1"), trees.ref("first")
     call = trees.call(trees.ref("g"), first)
     loop = trees.stmt("ForOf", is_await=False, left={"Pat": trees.name("each")}, right=trees.ref("others"), body=trees.run(call))
-    typed = cases.func("f", [string, trees.default(trees.name("second", "number"), one), trees.default(trees.object_pattern("a", "b", written=cases.T), trees.object_()),
-                             trees.rest(trees.name("others"), trees.array_of("string"))],
-                       trees.var_stmt("Const", trees.declarator("sum", trees.binary(first, "+", one))), cases.if_(first, trees.returned(call)), loop, trees.returned(first), ret="string")
+    pattern = trees.default(trees.object_pattern("a", "b", written=cases.T), trees.object_())
+    params = [string, trees.default(trees.name("second", "number"), one), pattern, trees.rest(trees.name("others"), trees.array_of("string"))]
+    added = trees.var_stmt("Const", trees.declarator("sum", trees.binary(first, "+", one)))
+    typed = cases.func("f", params, added, cases.if_(first, trees.returned(call)), loop, trees.returned(first), ret="string")
     untyped = cases.func("h", [trees.default(trees.name("a"), one), trees.default(trees.name("b"), trees.lit('"b"'))], trees.run(call), loop)
     value = trees.object_(trees.pair("name", first), trees.pair("at", trees.array(one, one)), trees.pair("next", trees.arrow([string], call, ret="void")))
     return trees.lay_items([typed, untyped, cases.const("v", trees.arrow([string, trees.default(trees.name("b"), one)], trees.paren(value)))])
@@ -88,6 +91,31 @@ def classes():
         trees.prop("e", value=trees.array(one, first)), trees.index_signature("k", "string", "any"), trees.static_block(*body)]
     ambient = [trees.prop("a", "string"), trees.class_method("m", [string], body=False, ret="void")]
     return trees.lay_items([class_cases.public(*members, super_class=trees.ref("B")), class_cases.public(*ambient, name="D", declare=True)])
+
+
+def links(number):
+    """Imports and re-exports of modules of their own, of the packet of this number, with the sources."""
+    sources = [f"./{letter}{number}" for letter in "abcdefghijklmnopqrst"]
+    imports = [module_trees.import_(source, "x", module_trees.named_import("y", "z"), is_type=place % 2 == 1) for place, source in enumerate(sources[:16])]
+    names = [module_trees.export("v", module_trees.named_export("w", "u"), src=source) for source in sources[16:18]]
+    return imports + names + [module_trees.export_all(source) for source in sources[18:]], sources
+
+
+def modules(size):
+    """A module of about `size` bytes like a library's: packets of imports, re-exports, a function and a class, with the graph that resolves the sources.
+    Of the specifiers the first is public, and ten thousand imports come to fifteen megabytes."""
+    bodies, bodies_text = trees.lay_items(functions()[0][:1] + classes()[0][:1])
+    body, ranges, resolutions, place, length, number = [], [], [], 0, 0, 0
+    while length < size:
+        made, sources = links(number)
+        items, text = trees.lay_items(made)
+        items += [moved(item, len(text) + 1) for item in bodies]
+        body += [moved(item, place) for item in items]
+        resolutions += [["file:///p/mod.ts", source, f"file:///p/{source[2:]}.ts"] for source in sources]
+        place, length, number = place + len(text) + len(bodies_text) + 2, length + len(json.dumps(items, separators=(",", ":"))), number + 1
+    for item in body:
+        ranges += ranges_of_item(item, hidden=(1,))
+    return dict(request(body, place, ranges), graph={"modules": [], "resolutions": resolutions, "packages": []})
 
 
 def moved(node, by):
@@ -110,7 +138,10 @@ def module_of_items(items, text, size):
 
 def module(shape, size):
     """A module of about `size` bytes: a statement for each declarator (`items`), one statement for all (`wide`), values
-    nested deep behind written types (`deep`), `functions`, or `classes`. Every second declarator of the first three is public."""
+    nested deep behind written types (`deep`), `functions`, `classes`, or a library's items with a graph (`modules`). Every second
+    declarator of the first three is public."""
+    if shape == "modules":
+        return modules(size)
     if shape in ("functions", "classes"):
         return module_of_items(*(functions() if shape == "functions" else classes()), size)
     one = len(json.dumps(statement([declarator(100000, 5000000, shape)], 4999990, 5000030)))
@@ -159,7 +190,7 @@ def peak_of(path):
 def main():
     sizes = [int(word) for word in sys.argv[1:]] or [1, 2, 5, 10, 20]
     print(f"shape       MB in   seconds   MB peak   {NAME} load+dump   ratio")
-    for shape in ("items", "wide", "deep", "functions", "classes"):
+    for shape in ("items", "wide", "deep", "functions", "classes", "modules"):
         for size in sizes:
             with tempfile.NamedTemporaryFile(suffix=".json") as file:
                 file.write(json.dumps(module(shape, size * 1000000), separators=(",", ":")).encode())

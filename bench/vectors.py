@@ -2,8 +2,8 @@
 """Writes the vectors of `crates/fast_check_vectors`: its inputs (`data/`), and what it must print (`stdout`).
 
 Each case stands here as TypeScript with what is public of it and what has to come out. The trees of the sources and of
-the skeletons are laid out by the rules of this script and its modules alone (`trees`, `skeletons`, `function_cases`, `class_cases`): the
-program's own output is nowhere taken for right.
+the skeletons are laid out by the rules of this script and its modules alone (`trees`, `skeletons`, `function_cases`, `class_cases`, `module_cases`):
+the program's own output is nowhere taken for right.
 
 Usage: bench/vectors.py
 """
@@ -16,6 +16,9 @@ sys.dont_write_bytecode = True
 
 import class_cases
 import function_cases
+import module_cases
+from module_skeletons import sources_of
+from ranges import class_of, public_ranges, ranges_of_members
 from skeletons import Skeleton, diagnostic
 from trees import DUMMY, Source, lay_items
 
@@ -156,7 +159,7 @@ def request(text, body, ranges, media_type="TypeScript", **more):
 
 
 def module_answer(program):
-    return {"module_info": {"sources": []}, "program": program, "comments": {"leading": [], "trailing": []}}
+    return {"module_info": {"sources": sources_of(program["body"])}, "program": program, "comments": {"leading": [], "trailing": []}}
 
 
 def missing_type(span):
@@ -514,7 +517,11 @@ def refusals():
     left_out()
     assignment = {"Assign": {"op": "=", "left": {"Simple": {"Ident": ident(DUMMY, "a")}}, "right": {"Ident": ident(DUMMY, "b")}}}
     refused("assignment", changed(BODY + (0,), {"Stmt": {"Expr": {"expr": assignment}}}))
-    refused("import", changed(BODY + (0,), {"ModuleDecl": {"Import": {"src": {"value": "./a"}, "phase": "evaluation"}}}))
+    for what, namespace in [("namespace", {}), ("ambient_namespace", {"declare": True}), ("global_namespace", {"declare": True, "global": True})]:
+        decl = {"TsModule": dict(namespace, id={"Ident": ident(DUMMY, "global" if "global" in namespace else "N")}, body={"TsModuleBlock": {}})}
+        refused(what, changed(BODY + (0,), {"Stmt": {"Decl": decl}}))
+        refused(f"exported_{what}", changed(BODY + (0,), {"ModuleDecl": {"ExportDecl": {"decl": decl}}}))
+    refused("ambient_module", changed(BODY + (0,), {"Stmt": {"Decl": {"TsModule": {"declare": True, "id": {"Str": {"value": "m"}}}}}}))
     title("comments of another form")
     refused("a_comment_of_no_kind", changed(SOURCE + ("comments", "leading"), [[1, [{"span": [1, 5], "text": " a"}]]]))
     refused("comments_without_position", changed(SOURCE + ("comments", "leading"), [[{"kind": "Line", "text": " a"}]]))
@@ -535,42 +542,19 @@ def left_out():
     answered("pattern", changed(FIRST_VAR + ("decls", 0, "name"), {"Array": {"elems": []}}), pattern)
     declared_class = {"Class": {"ident": ident(DUMMY, "C"), "class": {"body": []}}}
     answered("class", changed(BODY + (0,), {"Stmt": {"Decl": declared_class}}), rest.answer())
+    answered("import", changed(BODY + (0,), {"ModuleDecl": {"Import": {"src": {"value": "./a"}, "phase": "evaluation"}}}), rest.answer())
     answered("exported_class", changed(BODY + (0,), {"ModuleDecl": {"ExportDecl": {"decl": declared_class}}}), rest.answer())
 
 
 # ---- functions and values of all forms: what is stated by hand has to agree with what the rules give
 
 
-def public_ranges(case, places, own_ranges=False):
-    """The ranges of the declarations of the items at these places."""
-    ranges = []
-    for place in places:
-        item = case.items[place]
-        export = item["ModuleDecl"]["ExportDecl"] if "ModuleDecl" in item else None
-        decl = export["decl"] if export else item["Stmt"]["Decl"]
-        if "Var" in decl:
-            ranges += [declarator["span"] for declarator in decl["Var"]["decls"]]
-        elif export is None or own_ranges:
-            ranges.append((decl["Class"]["class"] if "Class" in decl else decl["Fn"]["function"])["span"])
-        else:
-            ranges.append(export["span"])
-    return ranges
-
-
-def ranges_of_members(case):
-    """The ranges of the members of classes that are implementations with overloads, by the places of their items and their own."""
-    found = []
-    for place, at in case.more.get("members", []):
-        (_, member), = case.items[place]["ModuleDecl"]["ExportDecl"]["decl"]["Class"]["class"]["body"][at].items()
-        found.append(member["span"])
-    return found
-
-
 def stated(fault, text):
     """A fault in words, with the text of its range and with its positions."""
     code, (start, end), is_definitely, is_async = fault
     words = {"missing-explicit-type": "type", "missing-explicit-return-type": "return", "unsupported-destructuring": "destructuring",
-             "unsupported-super-class-expr": "superclass"}[code]
+             "unsupported-super-class-expr": "superclass", "unsupported-default-export-expr": "default", "unsupported-using": "using",
+             "unsupported-require": "require", "unsupported-ts-export-assignment": "assignment", "unsupported-ts-namespace-export": "namespace"}[code]
     words += " definitely" * bool(is_definitely) + " async" * bool(is_async)
     return {f"{words} {text.encode()[start - 1:end - 1].decode()}", f"{words} {start}-{end}"}
 
@@ -585,26 +569,57 @@ def agree(name, what, stated_by_hand, given):
         sys.exit(f"{name}: the {what} is stated as\n  {stated_by_hand}\nand given as\n  {given}")
 
 
+def documented(at):
+    """Documentation before the tokens at these positions."""
+    return [[place, [{"kind": "Block", "span": [place, place + 9], "text": "* doc "}]] for place in at]
+
+
+def graph_of(case, specifier):
+    """The graph in which the texts of a case's sources are resolved."""
+    if "graph" in case.more:
+        return case.more["graph"]
+    resolved = case.more.get("resolved")
+    return resolved and {"modules": [], "resolutions": [[specifier, text, url] for text, url in resolved.items()], "packages": []}
+
+
 def function_case(case):
     """Lays a case out, and writes its request and its answer."""
     case.items, text = lay_items(case.items)
-    media_type, first = case.more.get("media_type", "TypeScript"), case.more.get("first", False)
+    more, specifier = case.more, case.more.get("specifier", SPECIFIER)
+    media_type, first = more.get("media_type", "TypeScript"), more.get("first", False)
     agree(case.name, "source", case.source or text, text)
     ranges = public_ranges(case, [place for place in range(len(case.items)) if place not in case.private], case.own_ranges)
     impls = public_ranges(case, case.implementations) + ranges_of_members(case)
-    made = Skeleton(case.items, ranges, impls, media_type)
+    made = Skeleton(case.items, ranges, impls, media_type, specifier=specifier, resolved=more.get("resolved"))
     faults = made.faults[:1] if first else made.faults
     given = [stated(fault, text) for fault in faults] if faults else lay_items(made.items)[1]
     if isinstance(case.expected, list) and faults and len(given) == len(case.expected):
         given = [wanted if wanted in found else found for wanted, found in zip(case.expected, given)]
     agree(case.name, "answer", case.expected, given)
-    content = request(text, case.items, ranges, media_type, impls=impls, first=first)
-    if case.more.get("is_script"):
+    content = request(text, case.items, ranges, media_type, impls=impls, first=first, graph=graph_of(case, specifier))
+    content["module"]["specifier"] = specifier
+    if more.get("is_script"):
         content["module"]["source"]["program"] = {"Script": dict(program([item["Stmt"] for item in case.items], text))}
-    if "levels" in case.more:
-        agree(case.name, "depth", case.more["levels"], levels(content))
-    answer = {"Err": [diagnostic(fault, SPECIFIER, DOCS) for fault in faults]} if faults else {"Ok": module_answer(program(made.items, text))}
+    if "levels" in more:
+        agree(case.name, "depth", more["levels"], levels(content))
+    answer = {"Err": [diagnostic(fault, specifier, DOCS) for fault in faults]} if faults else {"Ok": module_answer(program(made.items, text))}
+    if "sources" in more:
+        agree(case.name, "sources", more["sources"], told_sources(answer, text))
+    if "comments" in more:
+        goes = more["comments"](case.items)
+        content["module"]["source"]["comments"] = {"leading": documented([at for at, _ in goes]), "trailing": documented([at for at, _ in goes])}
+        answer["Ok"]["comments"] = {"leading": documented([at for at, stays in goes if stays]), "trailing": documented([at for at, _ in goes])}
     answered(case.name, content, answer)
+
+
+def told_sources(answer, text):
+    """The sources of an answer in words: what they are, and the text of their ranges."""
+    found = []
+    for source in answer["Ok"]["module_info"]["sources"]:
+        start, end = source["range"]
+        words = "export " * source["is_export"] + "type " * source["type_only"]
+        found.append(f"{words}{source['specifier']} at {text.encode()[start - 1:end - 1].decode()}")
+    return found
 
 
 def comments_of_functions():
@@ -614,28 +629,26 @@ def comments_of_functions():
     case = function_cases.Case("comments_of_functions", [hidden, shown], None)
     start = lambda item: item["ModuleDecl"]["ExportDecl"]["span"][0]
     inside = lambda item: item["ModuleDecl"]["ExportDecl"]["decl"]["Fn"]["function"]["body"]["stmts"][0]["Throw"]["span"][0]
-    doc = lambda place: [place, [{"kind": "Block", "span": [place, place + 9], "text": "* doc "}]]
     ranges = public_ranges(case, [1])
     content, answer = request(text, case.items, ranges), {"Ok": module_answer(program(Skeleton(case.items, ranges).items, text))}
     places = [start(hidden), inside(hidden), start(shown), inside(shown)]
-    content["module"]["source"]["comments"] = {"leading": [doc(place) for place in places], "trailing": []}
-    answer["Ok"]["comments"]["leading"] = [doc(place) for place in places[1:]]
+    content["module"]["source"]["comments"] = {"leading": documented(places), "trailing": []}
+    answer["Ok"]["comments"]["leading"] = documented(places[1:])
     answered(case.name, content, answer)
 
 
 def comments_of_classes():
     title("comments before members that go, go with them, but for those of ambient classes")
-    doc = lambda place: [place, [{"kind": "Block", "span": [place, place + 9], "text": "* doc "}]]
     for case_name, declare in [("comments_of_members", False), ("comments_of_members_of_an_ambient_class", True)]:
         members = class_cases.members_with_comments()
         items, text = lay_items([class_cases.public(*[member for member, _ in members], declare=declare)])
         case = function_cases.Case(case_name, items, None)
         ranges = public_ranges(case, [0])
         content, answer = request(text, items, ranges), {"Ok": module_answer(program(Skeleton(items, ranges).items, text))}
-        starts = [next(iter(member.values()))["span"][0] for member in items[0]["ModuleDecl"]["ExportDecl"]["decl"]["Class"]["class"]["body"]]
+        starts = [next(iter(member.values()))["span"][0] for member in class_of(items[0])["body"]]
         stay = [declare or not goes for _, goes in members]
-        content["module"]["source"]["comments"] = {"leading": [doc(start) for start in starts], "trailing": [doc(start) for start in starts]}
-        answer["Ok"]["comments"] = {"leading": [doc(start) for start, stays in zip(starts, stay) if stays], "trailing": [doc(start) for start in starts]}
+        content["module"]["source"]["comments"] = {"leading": documented(starts), "trailing": documented(starts)}
+        answer["Ok"]["comments"] = {"leading": documented([start for start, stays in zip(starts, stay) if stays]), "trailing": documented(starts)}
         answered(case_name, content, answer)
 
 
@@ -645,6 +658,47 @@ def groups_of_cases(groups):
         title(words)
         for case in cases():
             function_case(case)
+
+
+def tables():
+    """The tables of a module and the graph: each with what has to come, the first module's answer or a refusal."""
+    symbol = lambda number, **more: dict({"id": number, "decls": [{"range": [8, 22], "kind": {"Definition": None}}]}, **more)
+    with_tables = lambda **members: dict(first_module().request(), module=dict(first_module().request()["module"], **members))
+    with_graph = lambda **members: dict(first_module().request(), graph=members)
+    plain = first_module().answer()
+    title("tables of a module, and a graph")
+    node = {"is_class": True, "deps": [[{"Id": ["y", 2]}, "Value"], [{"ImportType": ["./a", ["b"]]}, "Both"]]}
+    answered("tables_of_a_module", with_tables(
+        module_symbol=3, symbols=[symbol(1, parent_id=3), symbol(2, decls=[{"range": [1, 2], "kind": {"Definition": node}}]), {"id": 3, "exports": [["x", 1]]}],
+        swc_ids=[[["x", 0], 1]], re_export_all_nodes=[[[1, 2], "./a"]], resolved_exports=[["x", SPECIFIER]]), plain)
+    answered("a_graph_of_modules", with_graph(
+        modules=[[SPECIFIER, {"Js": {"media_type": "TypeScript"}}], ["file:///p/d.json", {"Json": {}}], ["npm:/x", "Npm"]],
+        resolutions=[[SPECIFIER, "./d.json", "file:///p/d.json"]], packages=[["@x/y@1.0.0", [[".", "./mod.ts"]]]]), plain)
+    answered("no_graph", {name: member for name, member in first_module().request().items() if name != "graph"}, plain)
+    title("tables and graphs of another form")
+    for place, (name, value) in enumerate([("symbols", {}), ("symbols", [{}]), ("symbols", [symbol(-1)]), ("module_symbol", "0"), ("swc_ids", [["x", 0]]),
+                                              ("re_export_all_nodes", [["./a"]]), ("resolved_exports", [["x", "mod.ts"]])]):
+        refused(f"no_{name}_{place}", with_tables(**{name: value}))
+    for place, (name, value) in enumerate([("modules", {}), ("modules", [[SPECIFIER, "Js"]]), ("modules", [["mod.ts", "Npm"]]),
+                                              ("resolutions", [[SPECIFIER, "./a"]]),
+                                              ("resolutions", [[SPECIFIER, "./a", "a.ts"]]), ("packages", [["@x/y", []]]), ("packages", [["@x/y@1.0", []]])]):
+        refused(f"no_{name}_{place}", with_graph(**{name: value}))
+    refused("a_graph_that_is_a_list", dict(first_module().request(), graph=[]))
+    title("faults of tables, the first of which is told, and ranges that tables do not admit")
+    refused("a_symbol_that_is_not_there", with_tables(module_symbol=1, symbols=[{"id": 0}]), "table-fault 1")
+    refused("a_symbol_that_is_not_there_and_one_without_declaration", with_tables(symbols=[{"id": 0, "members": [7]}, {"id": 1}]), "table-fault 1")
+    refused("a_symbol_without_declaration", with_tables(symbols=[{"id": 0}, {"id": 1}]), "table-fault 2")
+    member = {"Member": {"span": [1, 4], "obj": {"Ident": ident([1, 2], "f", 2)}, "prop": {"Ident": {"span": [3, 4], "sym": "a"}}}}
+    assigned = {"Assign": {"span": [1, 8], "op": "=", "left": {"Simple": member}, "right": {"Lit": {"Num": {"span": [7, 8], "raw": "1"}}}}}
+    statement = [{"Stmt": {"Expr": {"span": [1, 9], "expr": assigned}}}]
+    with_statement = lambda ranges, **members: dict(request("f.a = 1;", statement, ranges), module=dict(
+        request("f.a = 1;", statement, [])["module"], **members))
+    refused("a_property_of_no_symbol", with_statement([], re_export_all_nodes=[[[1, 8], "./a"]]), "table-fault 4")
+    both = with_statement([], re_export_all_nodes=[[[1, 8], "./a"]], symbols=[{"id": 0}, {"id": 1}])
+    refused("a_property_of_no_symbol_beside_another_fault", both, "table-fault 2")
+    refused("a_public_property_of_no_symbol", with_statement([[1, 8]]), "ranges-not-admitted")
+    refused("a_public_property_of_a_symbol", with_statement([[1, 8]], symbols=[{"id": 0}, symbol(1)], swc_ids=[[["f", 2], 1]]))
+    refused("a_property_that_is_not_public", with_statement([[1, 9]]))
 
 
 def words():
@@ -678,8 +732,10 @@ def main():
     comments_of_functions()
     groups_of_cases(class_cases.GROUPS)
     comments_of_classes()
+    groups_of_cases(module_cases.GROUPS)
     defaults()
     refusals()
+    tables()
     words()
     streams()
     put("cases", "".join(CASES).encode())
