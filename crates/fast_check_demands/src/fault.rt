@@ -12,7 +12,7 @@ use fast_check_modules::CheckedTables;
 use fast_check_symbols::{Symbol, SymbolId};
 
 /// What is wrong with a demand.
-#[derive(Clone, Copy, Debug, PartialEq, Eq)]
+#[derive(Clone, Copy, Debug, PartialEq, Eq, PartialOrd, Ord)]
 pub enum FaultKind {
     /// A private member is referred to.
     PrivateMember,
@@ -23,7 +23,7 @@ pub enum FaultKind {
 }
 
 /// A fault of a demand: at a symbol, with the names below it that were asked for, by another symbol.
-#[derive(Clone, Copy)]
+#[derive(Clone, Copy, PartialEq, Eq, PartialOrd, Ord)]
 pub struct SymbolFault<'a> {
     pub kind: FaultKind,
     pub symbol: SymbolId,

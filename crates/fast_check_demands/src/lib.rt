@@ -13,6 +13,7 @@ mod list;
 mod names;
 mod public;
 
+pub use decls::{binds, is_implementation};
 pub use demand::{Ask, Extent, Namespace, SymbolDemand};
 pub use fast_check_modules::CheckedTables;
 pub use fast_check_symbols::SymbolId;

@@ -10,6 +10,7 @@ use Rattle.fast_check_demands.specs.Demands.{Demand}
 use Rattle.fast_check_demands.specs.Rules.{names}
 use Rattle.fast_check_demands.specs.Yields.{ranges, implementations, faults, fault_seen}
 use Rattle.fast_check_demands.specs.Account.{root, step, alike, referred, IsCovered, IsAccount, IsYield}
+use Rattle.fast_check_files.specs.Files.{files}
 use Rattle.fast_check_search.specs.declared.turns.Found.{Found}
 use Rattle.fast_check_search.specs.Worklist.{Grows, CoversEach}
 use Rattle.fast_check_search.specs.Turn.{IsFound, Gains, IsOnTheWay}
@@ -79,11 +80,12 @@ nothing_yet : {X : Type 0} (gives : Demand → List X) → IsYield gives [] []
 nothing_yet gives = record { sound = λ r t. absurd (Contains_none r t); complete = λ d r t u. absurd (Contains_none d t) }
 
 -- before the first demand
-pub nothing_found : (t : Tables) (found : Found) → found.ranges.items ≡ [] → found.implementations.items ≡ [] → map fault_seen found.faults.items ≡ [] → IsFound t [] found
-nothing_found t found e f g = record {
+pub nothing_found : (t : Tables) (found : Found) → found.ranges.items ≡ [] → found.implementations.items ≡ [] → map fault_seen found.faults.items ≡ [] → found.files ≡ [] → IsFound t [] found
+nothing_found t found e f g h = record {
   public = rw e (nothing_yet (ranges t));
   implementing = rw f (nothing_yet (implementations t));
   faulty = rw g (nothing_yet (faults t));
+  outside = rw h (nothing_yet (files t));
 }
 
 found_more : (t : Tables) (account : List Demand) (d : Demand) (old new : Found) → IsFound t account old → Gains t d old new → IsFound t (account ++ d ∷ []) new
@@ -91,6 +93,7 @@ found_more t account d old new f g = record {
   public = yielded_more (ranges t) account d _ _ f.public g.public;
   implementing = yielded_more (implementations t) account d _ _ f.implementing g.implementing;
   faulty = yielded_more (faults t) account d _ _ f.faulty g.faulty;
+  outside = yielded_more (files t) account d _ _ f.outside g.outside;
 }
 
 module _ (t : Tables) (roots : List Demand) where

@@ -23,18 +23,18 @@ use Rattle.fast_check_demands.specs.declared.demand.SymbolDemand.{SymbolDemand}
 use Rattle.fast_check_demands.specs.Demands.{demand_of, asked_of}
 use Rattle.fast_check_demands.specs.Account.{same_namespace, same_extent, same_path, same_asked, same}
 
-then_equal : (a b : Ordering) → is_eq (ordering_then a b) ≡ (is_eq a && is_eq b)
+pub then_equal : (a b : Ordering) → is_eq (ordering_then a b) ≡ (is_eq a && is_eq b)
 then_equal Less b = refl
 then_equal Equal b = refl
 then_equal Greater b = refl
 
-and_same : (a b c d : Bool) → a ≡ b → c ≡ d → (a && c) ≡ (b && d)
+pub and_same : (a b c d : Bool) → a ≡ b → c ≡ d → (a && c) ≡ (b && d)
 and_same a b c d e f = cc
 
-numbers_compare : (a b : ℕ) → is_eq (nat_cmp a b) ≡ (a == b)
+pub numbers_compare : (a b : ℕ) → is_eq (nat_cmp a b) ≡ (a == b)
 numbers_compare a b = search rules
 
-names_compare : (xs ys : List (String Global)) → is_eq (slice_cmp string_cmp xs ys) ≡ same_path (path_of xs) (path_of ys)
+pub names_compare : (xs ys : List (String Global)) → is_eq (slice_cmp string_cmp xs ys) ≡ same_path (path_of xs) (path_of ys)
 names_compare [] [] = refl
 names_compare [] (y ∷ ys) = refl
 names_compare (x ∷ xs) [] = refl

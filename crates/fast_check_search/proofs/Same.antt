@@ -24,7 +24,7 @@ same_extents Whole Whole h = refl
 same_extents Touched Whole h = absurd (false≢true h)
 same_extents Whole Touched h = absurd (false≢true h)
 
-same_paths : (p q : Path) → same_path p q ≡ true → p ≡ q
+pub same_paths : (p q : Path) → same_path p q ≡ true → p ≡ q
 same_paths [] [] h = refl
 same_paths [] (y ∷ ys) h = absurd (false≢true h)
 same_paths (x ∷ xs) [] h = absurd (false≢true h)
@@ -72,7 +72,7 @@ extent_itself : (x : Extent) → same_extent x x ≡ true
 extent_itself Touched = refl
 extent_itself Whole = refl
 
-path_itself : (p : Path) → same_path p p ≡ true
+pub path_itself : (p : Path) → same_path p p ≡ true
 path_itself [] = refl
 path_itself (x ∷ xs) = and_from (bytes_eq x x) (same_path xs xs) ((bytes_decides x x).1 refl) (path_itself xs)
 

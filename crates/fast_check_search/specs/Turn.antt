@@ -7,13 +7,15 @@ use Rattle.fast_check_demands.specs.Demands.{Demand}
 use Rattle.fast_check_demands.specs.Rules.{names}
 use Rattle.fast_check_demands.specs.Account.{Chained, IsCovered, IsYield}
 use Rattle.fast_check_demands.specs.Yields.{ranges, implementations, faults, fault_seen}
+use Rattle.fast_check_files.specs.Files.{files}
 use Rattle.fast_check_search.specs.declared.turns.Found.{Found}
 
--- what was found is exactly what these demands make public and what is wrong with them
+-- what was found is exactly what these demands make public, what is wrong with them, and what they ask of other files
 pub record IsFound (t : Tables) (account : List Demand) (found : Found) : Type 0 where
   pub public : IsYield (ranges t) account found.ranges.items
   pub implementing : IsYield (implementations t) account found.implementations.items
   pub faulty : IsYield (faults t) account (map fault_seen found.faults.items)
+  pub outside : IsYield (files t) account found.files
 
 -- these are ranges of the module's own tables
 abbrev pub AreTableRanges : Tables → List SourceRange → Type 0
@@ -24,6 +26,7 @@ pub record Gains (t : Tables) (d : Demand) (old new : Found) : Type 0 where
   pub public : new.ranges.items ≡ old.ranges.items ++ ranges t d
   pub implementing : new.implementations.items ≡ old.implementations.items ++ implementations t d
   pub faulty : map fault_seen new.faults.items ≡ map fault_seen old.faults.items ++ faults t d
+  pub outside : new.files ≡ old.files ++ files t d
 
 -- all demands are chained, the first ones are covered, and what follows from those before the next is covered and found
 pub record IsOnTheWay (t : Tables) (roots asked : List Demand) (next : ℕ) (so_far : Found) : Type 0 where

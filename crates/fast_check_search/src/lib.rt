@@ -1,4 +1,4 @@
-//! The search through the symbols of a module: all demands that follow from the first ones, and what they make public.
+//! The search through the symbols of a module: all demands that follow from the first ones, what they make public, and what they ask of other files.
 #![tactic(auto)]
 
 mod turns;

@@ -11,15 +11,18 @@ use fast_check_demands::{
     CheckedTables, SourceRange, SymbolDemand, SymbolFault, demands_of, fault_of,
     push_implementations, push_ranges,
 };
+use fast_check_files::{FileWants, push_files};
 use std::alloc::{AllocError, Global};
 
-/// What the demands of a module make public, and what is wrong with them. A range may stand here more than once, and so may a fault.
+/// What the demands of a module make public, what is wrong with them, and what they ask of other files. Each may stand here more than once.
 #[derive(Drop)]
 pub struct Found<'a> {
     pub ranges: Vec<SourceRange>,
     /// Those of the implementations of overloads.
     pub implementations: Vec<SourceRange>,
     pub faults: Vec<SymbolFault<'a>>,
+    /// What is asked of other files.
+    pub files: FileWants<'a>,
 }
 
 fn push_fault<'a>(
@@ -42,21 +45,28 @@ impl<'a> Found<'a> {
         ensures ranges { result.ranges.items ≡ [] }
         ensures implementations { result.implementations.items ≡ [] }
         ensures faults { result.faults.items ≡ [] }
+        ensures files { result.files ≡ [] }
     {
         Found {
             ranges: Vec::new(alloc),
             implementations: Vec::new(alloc),
             faults: Vec::new(alloc),
+            files: FileWants::new(alloc),
         }
     }
 
-    /// Adds what one demand makes public, and what is wrong with it.
-    fn add(&mut self, tables: &CheckedTables, demand: SymbolDemand<'a>) -> Result<(), AllocError>
+    /// Adds what one demand makes public, what is wrong with it, and what it asks of other files.
+    fn add(
+        &mut self,
+        tables: &'a CheckedTables,
+        demand: SymbolDemand<'a>,
+    ) -> Result<(), AllocError>
         ensures { OnOk result (Gains tables.now (demand_of demand.entry) self.old self.new) }
     {
         push_ranges(tables, demand, &mut self.ranges)?;
         push_implementations(tables, demand, &mut self.implementations)?;
-        push_fault(fault_of(tables, demand), &mut self.faults)
+        push_fault(fault_of(tables, demand), &mut self.faults)?;
+        push_files(tables, demand, &mut self.files)
     }
 }
 
@@ -76,7 +86,7 @@ fn ask_named<'a>(
     work.ask_all(named.as_slice())
 }
 
-/// All that follows from these demands within a module: what it makes public, and what is wrong with it.
+/// All that follows from these demands within a module: what it makes public, what is wrong with it, and what it asks of other files.
 pub fn search<'a>(
     alloc: Global,
     tables: &'a CheckedTables,

@@ -15,7 +15,7 @@ loop-next-init c =
     let f = c.new-found.ensures in
     record {
       way = begun c.args.tables.now (map demand_of c.args.roots.now) (asked c.ask_all.new.self) c.new-found.result (rw c.new-work.ensures.demands at a.grown) a.covered
-          (nothing_found c.args.tables.now c.new-found.result f.ranges f.implementations (ap (map fault_seen) f.faults));
+          (nothing_found c.args.tables.now c.new-found.result f.ranges f.implementations (ap (map fault_seen) f.faults) f.files);
       kept = a.kept;
     }
 

@@ -1,0 +1,10 @@
+//! What a demand asks of other files, by the texts that name them.
+#![tactic(auto)]
+
+mod list;
+mod references;
+mod want;
+
+pub use list::FileWants;
+pub use references::push_files;
+pub use want::{FileWant, WantedNames, by_path};
