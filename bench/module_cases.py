@@ -156,7 +156,7 @@ def sources():
     yield one("a_source_that_another_module_resolves", export_all("./a"), 'export * from "./a";', graph=to([there, "./a", there], [here, "./b", there]))
     yield one("the_last_resolution_counts", export_all("./a"), 'export * from "./a.ts";', resolved={"./a": there},
               graph=to([here, "./a", "file:///p/b.ts"], [here, "./a", there]))
-    yield one("a_graph_without_resolutions", export_all("./a"), 'export * from "./a";', graph={})
+    yield one("a_source_in_a_graph_without_resolutions", export_all("./a"), 'export * from "./a";', graph={})
     every = [import_("./b", "b"), const("x", ONE), export("a", src="./a"), export("x"), import_("./c", "C", "d", is_type=True), import_("./e"),
              export_all("@x/y")]
     yield Case("sources_in_their_order", every,

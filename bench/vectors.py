@@ -193,6 +193,8 @@ def case(words, status, output, is_told=True):
 
 
 def put(name, content):
+    if os.path.exists(os.path.join(DATA, name)):
+        sys.exit(f"{name} is written twice")
     with open(os.path.join(DATA, name), "wb") as file:
         file.write(content if isinstance(content, bytes) else json.dumps(content, separators=(",", ":"), ensure_ascii=False).encode())
 
@@ -660,47 +662,6 @@ def groups_of_cases(groups):
             function_case(case)
 
 
-def tables():
-    """The tables of a module and the graph: each with what has to come, the first module's answer or a refusal."""
-    symbol = lambda number, **more: dict({"id": number, "decls": [{"range": [8, 22], "kind": {"Definition": None}}]}, **more)
-    with_tables = lambda **members: dict(first_module().request(), module=dict(first_module().request()["module"], **members))
-    with_graph = lambda **members: dict(first_module().request(), graph=members)
-    plain = first_module().answer()
-    title("tables of a module, and a graph")
-    node = {"is_class": True, "deps": [[{"Id": ["y", 2]}, "Value"], [{"ImportType": ["./a", ["b"]]}, "Both"]]}
-    answered("tables_of_a_module", with_tables(
-        module_symbol=3, symbols=[symbol(1, parent_id=3), symbol(2, decls=[{"range": [1, 2], "kind": {"Definition": node}}]), {"id": 3, "exports": [["x", 1]]}],
-        swc_ids=[[["x", 0], 1]], re_export_all_nodes=[[[1, 2], "./a"]], resolved_exports=[["x", SPECIFIER]]), plain)
-    answered("a_graph_of_modules", with_graph(
-        modules=[[SPECIFIER, {"Js": {"media_type": "TypeScript"}}], ["file:///p/d.json", {"Json": {}}], ["npm:/x", "Npm"]],
-        resolutions=[[SPECIFIER, "./d.json", "file:///p/d.json"]], packages=[["@x/y@1.0.0", [[".", "./mod.ts"]]]]), plain)
-    answered("no_graph", {name: member for name, member in first_module().request().items() if name != "graph"}, plain)
-    title("tables and graphs of another form")
-    for place, (name, value) in enumerate([("symbols", {}), ("symbols", [{}]), ("symbols", [symbol(-1)]), ("module_symbol", "0"), ("swc_ids", [["x", 0]]),
-                                              ("re_export_all_nodes", [["./a"]]), ("resolved_exports", [["x", "mod.ts"]])]):
-        refused(f"no_{name}_{place}", with_tables(**{name: value}))
-    for place, (name, value) in enumerate([("modules", {}), ("modules", [[SPECIFIER, "Js"]]), ("modules", [["mod.ts", "Npm"]]),
-                                              ("resolutions", [[SPECIFIER, "./a"]]),
-                                              ("resolutions", [[SPECIFIER, "./a", "a.ts"]]), ("packages", [["@x/y", []]]), ("packages", [["@x/y@1.0", []]])]):
-        refused(f"no_{name}_{place}", with_graph(**{name: value}))
-    refused("a_graph_that_is_a_list", dict(first_module().request(), graph=[]))
-    title("faults of tables, the first of which is told, and ranges that tables do not admit")
-    refused("a_symbol_that_is_not_there", with_tables(module_symbol=1, symbols=[{"id": 0}]), "table-fault 1")
-    refused("a_symbol_that_is_not_there_and_one_without_declaration", with_tables(symbols=[{"id": 0, "members": [7]}, {"id": 1}]), "table-fault 1")
-    refused("a_symbol_without_declaration", with_tables(symbols=[{"id": 0}, {"id": 1}]), "table-fault 2")
-    member = {"Member": {"span": [1, 4], "obj": {"Ident": ident([1, 2], "f", 2)}, "prop": {"Ident": {"span": [3, 4], "sym": "a"}}}}
-    assigned = {"Assign": {"span": [1, 8], "op": "=", "left": {"Simple": member}, "right": {"Lit": {"Num": {"span": [7, 8], "raw": "1"}}}}}
-    statement = [{"Stmt": {"Expr": {"span": [1, 9], "expr": assigned}}}]
-    with_statement = lambda ranges, **members: dict(request("f.a = 1;", statement, ranges), module=dict(
-        request("f.a = 1;", statement, [])["module"], **members))
-    refused("a_property_of_no_symbol", with_statement([], re_export_all_nodes=[[[1, 8], "./a"]]), "table-fault 4")
-    both = with_statement([], re_export_all_nodes=[[[1, 8], "./a"]], symbols=[{"id": 0}, {"id": 1}])
-    refused("a_property_of_no_symbol_beside_another_fault", both, "table-fault 2")
-    refused("a_public_property_of_no_symbol", with_statement([[1, 8]]), "ranges-not-admitted")
-    refused("a_public_property_of_a_symbol", with_statement([[1, 8]], symbols=[{"id": 0}, symbol(1)], swc_ids=[[["f", 2], 1]]))
-    refused("a_property_that_is_not_public", with_statement([[1, 9]]))
-
-
 def words():
     title("words that are no command and a file")
     usage = "usage: fast-check (build|transform|pair) FILE\n"
@@ -735,7 +696,6 @@ def main():
     groups_of_cases(module_cases.GROUPS)
     defaults()
     refusals()
-    tables()
     words()
     streams()
     put("cases", "".join(CASES).encode())
