@@ -548,6 +548,96 @@ def left_out():
     answered("exported_class", changed(BODY + (0,), {"ModuleDecl": {"ExportDecl": {"decl": declared_class}}}), rest.answer())
 
 
+# ---- tables of the module and the graph of modules
+
+
+def definition(span, **more):
+    return dict({"range": span, "kind": {"Definition": None}, "value": True}, **more)
+
+
+def with_tables(request, **tables):
+    request["module"].update(tables)
+    return request
+
+
+def all_tables():
+    """A symbol for each variable of the first module, and each member of its tables and of the graph."""
+    node = {"is_class": False, "has_export_keyword": True, "deps": [[{"Id": ["y", 2]}, "Value"], [{"QualifiedId": [["y", 2], ["z"]]}, "Type_"],
+        [{"ImportType": ["./c.ts", ["C"]]}, "Both"]]}
+    symbols = [
+        {"id": 0, "parent_id": None, "is_private_member": False, "maybe_name": None, "qualified_name": None, "exports": [["x", 1], ["y", 2]],
+            "members": [], "decls": []},
+        {"id": 1, "parent_id": 0, "maybe_name": "x", "qualified_name": "x", "decls": [definition([14, 21], kind={"Definition": node}, has_body=True)]},
+        {"id": 2, "parent_id": 0, "maybe_name": "y", "decls": [{"range": [34, 39], "kind": {"Target": ["x", 2]}, "type_": True},
+            {"range": [34, 39], "kind": {"QualifiedTarget": [["x", 2], ["a"]]}, "has_overloads": True},
+            {"range": [34, 39], "kind": {"FileRef": {"specifier": "./a.ts", "name": {"Name": "x"}}}},
+            {"range": [34, 39], "kind": {"FileRef": {"specifier": "./a.ts", "name": "Star"}}}]}]
+    return {"symbols": symbols, "module_symbol": 0, "swc_ids": [[["x", 2], 1], [["y", 2], 2]],
+            "re_export_all_nodes": [[[50, 70], "./d.ts"]], "resolved_exports": [["x", SPECIFIER], ["z", "file:///p/d.ts"]]}
+
+
+GRAPH = {
+    "modules": [[SPECIFIER, {"Js": {"media_type": "TypeScript", "has_types_dependency": False, "source_hash": 18446744073709551615}}],
+        ["file:///p/a.json", {"Json": {"source_hash": 7}}], ["file:///p/b.wasm", {"Wasm": {}}], ["npm:x", "Npm"], ["node:fs", "Node"],
+        ["https://h/x.ts", "External"]],
+    "resolutions": [[SPECIFIER, "./a.json", "file:///p/a.json"], [SPECIFIER, "./a.json", "file:///p/c.json"]],
+    "packages": [["@scope/name@1.2.3-rc.1+build", [[".", "./mod.ts"], ["./sub", "./sub.ts"], [".", "./main.ts"]]], ["a@b@0.0.0", []]]}
+
+
+def expando_request(*ranges, **tables):
+    """`q.x = 1;`, and nothing else, with these public ranges. The scope number of `q` is 2."""
+    target = {"Member": {"span": [1, 4], "obj": {"Ident": ident([1, 2], "q", 2)}, "prop": {"Ident": {"span": [3, 4], "sym": "x"}}}}
+    assignment = {"Assign": {"span": [1, 8], "op": "=", "left": {"Simple": target}, "right": {"Lit": {"Num": {"span": [7, 8], "raw": "1"}}}}}
+    return with_tables(request("q.x = 1;", [{"Stmt": {"Expr": {"span": [1, 9], "expr": assignment}}}], list(ranges)), **tables)
+
+
+def tables():
+    title("a module with tables, in a graph: what they hold plays no part so far")
+    answered("all_tables", with_tables(first_module().request(), **all_tables()), first_module().answer())
+    answered("all_tables_in_a_graph", with_tables(first_module().request(graph=GRAPH), **all_tables()), first_module().answer())
+    for name, graph in (("a_graph_of_nothing", {}), ("a_graph_without_resolutions", {"modules": GRAPH["modules"]}),
+                        ("a_graph_of_packages", {"more": 1, "packages": GRAPH["packages"]})):
+        answered(name, first_module().request(graph=graph), first_module().answer())
+    answered("a_module_symbol_alone", with_tables(first_module().request(), module_symbol=4294967295), first_module().answer())
+    title("a symbol that is mentioned has to be there")
+    refused("no_symbols", with_tables(first_module().request(), symbols=[]), "table-fault 1")
+    refused("a_symbol_of_another_number", with_tables(first_module().request(), symbols=[{"id": 0}], module_symbol=1), "table-fault 1")
+    refused("an_export_without_symbol", with_tables(first_module().request(), symbols=[{"id": 0, "exports": [["a", 1]]}]), "table-fault 1")
+    refused("an_identifier_without_symbol", with_tables(first_module().request(), swc_ids=[[["x", 2], 1]]), "table-fault 1")
+    title("a symbol has to have a declaration, but for the module's; one that is not there goes before")
+    undeclared = [{"id": 0}, {"id": 1}]
+    refused("a_symbol_without_declaration", with_tables(first_module().request(), symbols=undeclared), "table-fault 2")
+    refused("a_private_module_symbol", with_tables(first_module().request(), symbols=[{"id": 0, "is_private_member": True}]), "table-fault 2")
+    refused("a_missing_symbol_goes_before", with_tables(first_module().request(), symbols=undeclared + [{"id": 2, "parent_id": 3}]), "table-fault 1")
+    title("an expando statement of the tables' ranges has to have an object with a symbol; the other faults go before")
+    ranged = [{"id": 0}, {"id": 1, "decls": [definition([1, 8])]}]
+    refused("an_expando_without_symbol", expando_request(symbols=ranged), "table-fault 4")
+    refused("an_expando_of_a_re_export", expando_request(re_export_all_nodes=[[[1, 8], "./d.ts"]]), "table-fault 4")
+    refused("an_object_of_another_scope", expando_request(symbols=ranged, swc_ids=[[["q", 1], 1]]), "table-fault 4")
+    refused("a_missing_declaration_goes_before", expando_request(symbols=ranged + [{"id": 2}]), "table-fault 2")
+    title("the same of public ranges: they are not admitted; faults of tables go before")
+    refused("a_public_expando_without_symbol", expando_request([1, 8]), "ranges-not-admitted")
+    refused("an_expando_of_the_tables_goes_before", expando_request([1, 8], symbols=ranged), "table-fault 4")
+    title("expando statements are not taken yet, which is asked last")
+    refused("a_public_expando_with_symbol", expando_request([1, 8], symbols=ranged, swc_ids=[[["q", 2], 1]]))
+    refused("an_expando_by_its_statement", expando_request([1, 9]))
+    refused("an_import_with_a_fault", with_tables(changed(BODY + (0,), {"ModuleDecl": {"Import": {"src": {"value": "./a"}, "phase": "evaluation"}}}),
+        symbols=[]), "table-fault 1")
+    title("tables and graphs of another form; it goes before faults of tables")
+    refused("symbols_that_are_null", with_tables(first_module().request(), symbols=None))
+    refused("a_symbol_without_number", with_tables(first_module().request(), symbols=[{}]))
+    refused("an_identifier_of_no_scope", with_tables(first_module().request(), swc_ids=[["x", 0]]))
+    refused("an_exported_name_of_no_url", with_tables(first_module().request(), resolved_exports=[["x", "./d.ts"]]))
+    refused("first_is_no_flag_beside_a_fault", with_tables(first_module().request(first=1), symbols=[]))
+    refused("a_graph_that_is_a_list", first_module().request(graph=[]))
+    refused("a_module_of_no_kind", first_module().request(graph={"modules": [[SPECIFIER, {"Js": {}}]]}))
+    refused("a_resolution_of_two", first_module().request(graph={"resolutions": [[SPECIFIER, "./a.ts"]]}))
+    for name, package in (("a_package_without_version", "name"), ("a_package_of_no_version", "name@1.2"),
+                          ("a_package_of_a_large_version", "a@1.2.18446744073709551616"), ("a_package_with_a_leading_zero", "a@01.2.3"),
+                          ("a_package_of_a_range", "a@^1.2.3")):
+        refused(name, first_module().request(graph={"packages": [[package, []]]}))
+
+
 # ---- functions and values of all forms: what is stated by hand has to agree with what the rules give
 
 
@@ -696,6 +786,7 @@ def main():
     groups_of_cases(module_cases.GROUPS)
     defaults()
     refusals()
+    tables()
     words()
     streams()
     put("cases", "".join(CASES).encode())

@@ -5,72 +5,12 @@ use crate::symbols::tell_url;
 use fast_check_graph::{Module, ModuleGraph};
 use fast_check_packages::PackageNv;
 use fast_check_read::{ReadError, read_pair, read_text};
-use fast_check_read_tables::{FromJson, GraphEntries, read_graph_entries};
+use fast_check_read_tables::FromJson;
 use fast_check_said::Said;
-use fast_check_symbols::map_of;
 use indexmap::IndexMap;
-use semver::Version;
 use serde_json::Value;
-use std::alloc::{AllocError, Global};
-use std::collections::BTreeMap;
+use std::alloc::Global;
 use url::Url;
-
-/// The texts of each module with what they resolve to, as maps.
-fn resolutions_of(
-    alloc: Global,
-    entries: Vec<(Url, String, Url)>,
-) -> Result<BTreeMap<Url, BTreeMap<String, Url>>, AllocError> {
-    let mut resolutions = BTreeMap::new(alloc);
-    for (referrer, text, url) in entries {
-        let texts = resolutions.remove(&referrer);
-        let texts = with_entry(texts.unwrap_or(BTreeMap::new(alloc)), text, url)?;
-        resolutions.insert(referrer, texts)?;
-    }
-    Ok(resolutions)
-}
-
-fn with_entry(
-    mut texts: BTreeMap<String, Url>,
-    text: String,
-    url: Url,
-) -> Result<BTreeMap<String, Url>, AllocError> {
-    texts.insert(text, url)?;
-    Ok(texts)
-}
-
-fn export_map(
-    alloc: Global,
-    entries: Vec<(String, String)>,
-) -> Result<IndexMap<String, String>, AllocError> {
-    let mut exports = IndexMap::new(alloc);
-    for (name, text) in entries {
-        exports.insert(name, text)?;
-    }
-    Ok(exports)
-}
-
-/// The exports of packages, all of version 1.0.0.
-fn packages_of(
-    alloc: Global,
-    entries: Vec<(String, Vec<(String, String)>)>,
-) -> Result<BTreeMap<PackageNv, IndexMap<String, String>>, AllocError> {
-    let mut packages = BTreeMap::new(alloc);
-    for (name, exports) in entries {
-        let exports = export_map(alloc, exports)?;
-        let package = package_named(alloc, name.as_str())?;
-        packages.insert(package, exports)?;
-    }
-    Ok(packages)
-}
-
-/// The package of a text `name@1.0.0`.
-fn package_named(alloc: Global, text: &str) -> Result<PackageNv, AllocError> {
-    let name = text.strip_suffix("@1.0.0").unwrap_or(text);
-    Ok(PackageNv {
-        name: String::from_str(alloc, name)?,
-        version: Version::new(1, 0, 0),
-    })
-}
 
 /// Makes a graph, and tells what it answers.
 pub fn tell_graph(
@@ -79,19 +19,8 @@ pub fn tell_graph(
     asks: &Vec<Value>,
     said: &mut Said,
 ) -> Result<(), ReadError> {
-    let graph = made_graph(alloc, read_graph_entries(alloc, graph)?)?;
+    let graph = ModuleGraph::from_json(alloc, graph)?;
     answer_all(alloc, &graph, asks, said)
-}
-
-fn made_graph(alloc: Global, entries: GraphEntries) -> Result<ModuleGraph, AllocError> {
-    let GraphEntries {
-        modules,
-        resolutions,
-        packages,
-    } = entries;
-    let packages = packages_of(alloc, packages)?;
-    let resolutions = resolutions_of(alloc, resolutions)?;
-    ModuleGraph::from_parts(alloc, map_of(alloc, modules)?, resolutions, packages)
 }
 
 fn answer_all(
@@ -168,7 +97,7 @@ fn tell_exports(
     given: &Value,
     said: &mut Said,
 ) -> Result<(), ReadError> {
-    let package = package_named(alloc, read_text(given)?)?;
+    let package = PackageNv::from_json(alloc, given)?;
     match graph.package_exports(&package) {
         Some(exports) => tell_export_map(exports, said),
         None => said.tell("no package"),

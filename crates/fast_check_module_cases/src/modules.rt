@@ -23,14 +23,14 @@ fn read_program(alloc: Global, module: &Value) -> Result<Tree, ReadError> {
     }
 }
 
-/// The source of this tree, with no text.
+/// The source of this tree.
 fn source_of(alloc: Global, program: Tree) -> Result<ParsedSource, AllocError> {
     Ok(ParsedSource {
         media_type: MediaType::TypeScript,
-        text: RcStr::from_str(alloc, "")?,
+        text: RcStr::from_str(alloc, "export let z;")?,
         program,
         comments: Comments::new(alloc),
-        unresolved_context: SyntaxContext(0),
+        unresolved_context: SyntaxContext(1),
     })
 }
 
@@ -75,6 +75,15 @@ pub fn tell_module(
     }
 }
 
+fn tell_source(alloc: Global, source: &ParsedSource, said: &mut Said) {
+    said.tell_made(format!(in alloc;
+        "{:?} `{}`, unresolved {}",
+        source.media_type,
+        source.text,
+        source.unresolved_context.0
+    ));
+}
+
 fn answer_all(
     alloc: Global,
     module: &EsModuleInfo,
@@ -98,7 +107,7 @@ fn answer(
 ) -> Result<(), ReadError> {
     match call {
         "specifier" => said.tell_made(format!(in alloc; "{}", module.specifier())),
-        "source" => said.tell_made(format!(in alloc; "{:?}", module.source().media_type)),
+        "source" => tell_source(alloc, module.source(), said),
         "module_symbol" => said.tell_made(format!(in alloc; "{}", module.module_symbol().0)),
         "symbols" => tell_numbers(alloc, module.symbols(), said),
         "symbol" => tell_found(alloc, module.symbol(read_id(alloc, given)?), said),

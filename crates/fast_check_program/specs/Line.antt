@@ -3,7 +3,7 @@ use Rattle.std.specs.Prelude.{◌≡◌, ◌≢◌, ℕ, List, [], ◌++◌, Boo
 use Rattle.serde_json.specs.Data.{Data}
 use Rattle.serde_json.specs.Written.{compact_text}
 use Rattle.fast_check_tables.specs.declared.diagnostics.FastCheckDiagnostic.{FastCheckDiagnostic}
-use Rattle.fast_check_tables.specs.EsModule.{EsModule}
+use Rattle.fast_check_modules.specs.EsModule.{EsModule}
 use Rattle.fast_check_tables.specs.PublicRanges.{PublicRanges}
 use Rattle.fast_check_transform.specs.Transform.{skeleton, comments, faults, told, AreDiagnosticsOf}
 use Rattle.fast_check_requests.specs.Refusal.{line_end}

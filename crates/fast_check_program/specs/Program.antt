@@ -1,54 +1,72 @@
 -- What the program does with its words and its file.
-use Rattle.std.specs.Prelude.{◌≡◌, ℕ, ◌<◌, IsTrue, List, true, false, Option, Some, None, IsUtf8, ◌⊎◌}
+use Rattle.std.specs.Prelude.{◌≡◌, ℕ, ◌<◌, IsTrue, List, true, false, Option, ◌⊎◌}
 use Rattle.std.specs.Io.KnownBytes.{Appends}
-use Rattle.serde_json.specs.Data.{Data}
-use Rattle.serde_json.specs.Read.{read}
-use Rattle.fast_check_tables.specs.EsModule.{EsModule}
-use Rattle.fast_check_tables.specs.PublicRanges.{PublicRanges}
+use Rattle.fast_check_modules.specs.EsModule.{EsModule, Admits}
+use Rattle.fast_check_modules.specs.WellFormed.{AreMadeOf, FitProgram, IsModuleFault}
 use Rattle.fast_check_transform.specs.Transform.{IsCarried}
 use Rattle.fast_check_requests.specs.declared.ending.Ending.{Ending}
 use Rattle.fast_check_requests.specs.declared.refusal.Refusal.{Refusal}
 use Rattle.fast_check_requests.specs.declared.refusal.Refusal.TheVariants as refusals
+use Rattle.fast_check_requests.specs.declared.request.EsModuleParts.{EsModuleParts}
+use Rattle.fast_check_requests.specs.declared.request.TransformRequest.{TransformRequest}
 use Rattle.fast_check_requests.specs.Call.{is_call, File, OfFile}
-use Rattle.fast_check_requests.specs.Input.{IsNotJson}
-use Rattle.fast_check_requests.specs.Request.{Request, request_of, IsModule, IsPublic}
+use Rattle.fast_check_requests.specs.Input.{HoldsRequest, IsNotJson, IsNoRequest}
 use Rattle.fast_check_program.specs.Line.{IsAnswer}
+
+-- ---- a request
+
+-- the module of these parts, whose tables have no fault
+pub record IsModuleOf (parts : EsModuleParts) (info : EsModule) : Type 0 where
+  pub specifier : info.specifier ≡ parts.specifier
+  pub source : info.source ≡ parts.source
+  pub tables : AreMadeOf parts.tables info.tables
+  pub without_fault : FitProgram parts.tables parts.source.program
+
+-- the line is its answer
+pub record AnswersRequest (asked : TransformRequest) (line : List ℕ) (status : ℕ) : Type 0 where
+  pub info : EsModule
+  pub is_module : IsModuleOf asked.es_module info
+  pub admitted : Admits info asked.public_ranges
+  pub carried : IsCarried info
+  pub answer : IsAnswer info asked.public_ranges asked.should_error_on_first_diagnostic line status
+
+-- its ranges are not admitted
+pub record IsNotAdmitted (asked : TransformRequest) : Type 0 where
+  pub info : EsModule
+  pub is_module : IsModuleOf asked.es_module info
+  pub not_admitted : ¬ Admits info asked.public_ranges
+
+-- its ranges are admitted, and its module is not taken yet
+pub record IsNotCarried (asked : TransformRequest) : Type 0 where
+  pub info : EsModule
+  pub is_module : IsModuleOf asked.es_module info
+  pub admitted : Admits info asked.public_ranges
+  pub not_carried : ¬ IsCarried info
+
+-- why it is refused: faults of tables before all else; memory may run out at any request
+abbrev pub RefusesRequest : TransformRequest → Refusal → Type 0
+RefusesRequest asked (refusals.TableFault fault) = IsModuleFault asked.es_module.tables asked.es_module.source.program fault
+RefusesRequest asked refusals.RangesNotAdmitted = IsNotAdmitted asked
+RefusesRequest asked refusals.BadForm = IsNotCarried asked
+RefusesRequest asked refusals.OutOfMemory = Unit {0}
+RefusesRequest asked _ = ⊥
 
 -- ---- the bytes of the file
 
--- they are the JSON of a request, and the line is its answer
-pub record IsAnswerTo (bytes : List ℕ) (line : List ℕ) (status : ℕ) : Type 0 where
-  pub value : Data
-  pub request : Request
-  pub info : EsModule
-  pub public : PublicRanges
-  pub utf8 : IsUtf8 bytes
-  pub json : read bytes ≡ Some value
-  pub asked : request_of value ≡ Some request
-  pub is_module : IsModule request.es_module info
-  pub is_public : IsPublic request public
-  pub carried : IsCarried info
-  pub answer : IsAnswer info public request.first line status
+-- they are the JSON of a request, of which this holds
+abbrev pub OfRequest : (TransformRequest → Type 0) → List ℕ → Type 0
+OfRequest P bytes = (asked : TransformRequest) × HoldsRequest bytes asked × P asked
 
--- a request of a module that is not taken yet
-pub record IsNotCarried (value : Data) : Type 0 where
-  pub request : Request
-  pub info : EsModule
-  pub asked : request_of value ≡ Some request
-  pub is_module : IsModule request.es_module info
-  pub not_carried : ¬ IsCarried info
+-- the line is the answer to the request in them
+abbrev pub IsAnswerTo : List ℕ → List ℕ → ℕ → Type 0
+IsAnswerTo bytes line status = OfRequest (λ asked. AnswersRequest asked line status) bytes
 
--- they are the JSON of no request, or of one that is not taken yet
-pub record IsBadForm (bytes : List ℕ) : Type 0 where
-  pub value : Data
-  pub utf8 : IsUtf8 bytes
-  pub json : read bytes ≡ Some value
-  pub no_request : (request_of value ≡ None) ⊎ IsNotCarried value
-
--- why they are refused; memory may run out at any bytes
+-- why they are refused: they are no JSON, or the JSON of no request, or their request is refused; memory may run out at any bytes
 abbrev pub RefusesBytes : Refusal → List ℕ → Type 0
 RefusesBytes refusals.NotJson bytes = IsNotJson bytes
-RefusesBytes refusals.BadForm bytes = IsBadForm bytes
+RefusesBytes refusals.BadForm bytes = IsNoRequest bytes ⊎ OfRequest (λ asked. RefusesRequest asked refusals.BadForm) bytes
+RefusesBytes (refusals.TableFault fault) bytes = OfRequest (λ asked. RefusesRequest asked (refusals.TableFault fault)) bytes
+RefusesBytes refusals.RangesNotAdmitted bytes = OfRequest (λ asked. RefusesRequest asked refusals.RangesNotAdmitted) bytes
 RefusesBytes refusals.OutOfMemory bytes = Unit {0}
 RefusesBytes _ bytes = ⊥
 

@@ -1,14 +1,19 @@
 ghost use Rattle.std.specs.Prelude.{◌≡◌, ◌<◌, ◌≤◌, map, option_map, IfOk, IfErr, false, ◌⊎◌};
 ghost use Rattle.std.specs.String.{string_bytes};
+ghost use Rattle.fast_check_modules.specs.EsModule.{Admits};
 ghost use Rattle.fast_check_transform.specs.Transform.{IsCarried};
 ghost use Rattle.fast_check_requests.specs.Call.{is_call};
 ghost use Rattle.fast_check_requests.specs.Refusal.{IsTold};
 ghost use Rattle.fast_check_program.specs.Line.{IsAnswer};
-ghost use Rattle.fast_check_program.specs.Program.{IsAnswerTo, RefusesBytes, RefusesCall, AnswersCall, HasAnswer, IsAnswered};
+ghost use Rattle.fast_check_program.specs.Program.{AnswersRequest, RefusesRequest, IsAnswerTo, RefusesBytes, RefusesCall, AnswersCall, HasAnswer, IsAnswered};
 
 use crate::answer::print_line;
-use fast_check_requests::{Ending, Refusal, TransformRequest, is_call, read_bytes, read_request};
-use fast_check_tables::ModuleGraph;
+use fast_check_graph::ModuleGraph;
+use fast_check_modules::EsModuleInfo;
+use fast_check_requests::{
+    EsModuleParts, Ending, Refusal, TransformRequest, is_call, read_bytes, read_request,
+};
+use fast_check_tables::ModulePublicRanges;
 use fast_check_transform::{TransformOptions, is_carried, transform};
 use std::alloc::{AllocError, Global};
 use std::io::{Read, Write};
@@ -71,31 +76,53 @@ fn answer_transform(alloc: Global, bytes: &[u8]) -> Result<Answer, Refusal>
     ensures answer { IfOk result (λ answer. IsAnswerTo bytes.now answer.line.items answer.status) }
     ensures refusal { IfErr result (λ refusal. RefusesBytes refusal bytes.now) }
 {
-    let request = read_request(alloc, bytes)?;
-    if !is_carried(&request.es_module_info) {
-        return Err(Refusal::BadForm);
-    }
-    Ok(answer_request(alloc, &request)?)
+    answer_request(alloc, read_request(alloc, bytes)?)
 }
 
-/// The answer to a request.
-fn answer_request(alloc: Global, request: &TransformRequest) -> Result<Answer, AllocError>
-    requires { IsCarried request.now.es_module_info }
-    ensures { IfOk result (λ answer. IsAnswer request.now.es_module_info request.now.public_ranges
-        request.now.should_error_on_first_diagnostic answer.line.items answer.status) }
+/// The answer to a request, or why it is refused.
+fn answer_request(alloc: Global, request: TransformRequest) -> Result<Answer, Refusal>
+    ensures answer { IfOk result (λ answer. AnswersRequest request answer.line.items answer.status) }
+    ensures refusal { IfErr result (RefusesRequest request) }
 {
-    let graph = ModuleGraph::from_parts(alloc)?;
+    let TransformRequest {
+        graph,
+        es_module,
+        public_ranges,
+        should_error_on_first_diagnostic,
+    } = request;
+    let EsModuleParts {
+        specifier,
+        source,
+        tables,
+    } = es_module;
+    let es_module_info = EsModuleInfo::new(alloc, specifier, source, tables)?;
+    if !es_module_info.admits(&public_ranges) {
+        return Err(Refusal::RangesNotAdmitted);
+    }
+    if !is_carried(&es_module_info) {
+        return Err(Refusal::BadForm);
+    }
     let options = TransformOptions {
         workspace_members: Vec::new(alloc),
-        should_error_on_first_diagnostic: request.should_error_on_first_diagnostic,
+        should_error_on_first_diagnostic,
     };
-    let answer = transform(
-        alloc,
-        &graph,
-        &request.es_module_info,
-        &request.public_ranges,
-        &options,
-    )?;
+    Ok(answer_module(alloc, &graph, &es_module_info, &public_ranges, &options)?)
+}
+
+/// The answer to a module.
+fn answer_module(
+    alloc: Global,
+    graph: &ModuleGraph,
+    es_module_info: &EsModuleInfo,
+    public_ranges: &ModulePublicRanges,
+    options: &TransformOptions,
+) -> Result<Answer, AllocError>
+    requires carried { IsCarried es_module_info.now }
+    requires admitted { Admits es_module_info.now public_ranges.now }
+    ensures { IfOk result (λ answer. IsAnswer es_module_info.now public_ranges.now
+        options.now.should_error_on_first_diagnostic answer.line.items answer.status) }
+{
+    let answer = transform(alloc, graph, es_module_info, public_ranges, options)?;
     Ok(Answer {
         line: print_line(alloc, &answer)?,
         status: if answer.is_ok() { 0 } else { 1 },

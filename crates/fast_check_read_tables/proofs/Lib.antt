@@ -1,1 +1,3 @@
-mod Given
+pub mod Given
+mod Graphs
+mod Parted

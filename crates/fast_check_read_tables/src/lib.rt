@@ -10,6 +10,6 @@ mod symbols;
 mod tables;
 
 pub use from_json::FromJson;
-pub use graph::{GraphEntries, read_graph_entries};
+pub use graph::read_graph;
 pub use members::{read_list, read_member, read_option};
 pub use tables::read_module_tables;

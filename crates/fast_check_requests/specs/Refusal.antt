@@ -1,17 +1,28 @@
 -- Why the program has no answer, and what it says then.
 use Rattle.std.specs.Prelude.{◌≡◌, ℕ, IsTrue, List, ◌++◌, Option, codes}
 use Rattle.std.specs.Io.KnownBytes.{Appends}
+use Rattle.fast_check_modules.specs.declared.fault.TableFault as table_fault
+use Rattle.fast_check_modules.specs.declared.fault.TableFault.TheVariants as table_faults
 use Rattle.fast_check_read.specs.declared.error.ReadError.{ReadError}
 use Rattle.fast_check_read.specs.declared.error.ReadError.TheVariants as read_errors
 use Rattle.fast_check_read.specs.declared.input.InputFault.{InputFault}
 use Rattle.fast_check_read.specs.declared.input.InputFault.TheVariants as faults
 use Rattle.fast_check_requests.specs.declared.ending.Ending.{Ending}
 use Rattle.fast_check_requests.specs.declared.refusal.Refusal.{Refusal}
-use Rattle.fast_check_requests.specs.declared.refusal.Refusal.TheVariants.{Usage, Unreadable, NotJson, BadForm, Unwritable, OutOfMemory}
+use Rattle.fast_check_requests.specs.declared.refusal.Refusal.TheVariants.{Usage, Unreadable, NotJson, BadForm, TableFault, RangesNotAdmitted}
+use Rattle.fast_check_requests.specs.declared.refusal.Refusal.TheVariants.{Unwritable, OutOfMemory}
 
 -- what a line ends with
 abbrev pub line_end : List ℕ
 line_end = codes "\n"
+
+-- the line of a fault of tables, by its number; want of memory is told as everywhere
+abbrev pub line_of_fault : table_fault.TableFault → List ℕ
+line_of_fault table_faults.MissingSymbol = codes "error: input refused: table-fault 1" ++ line_end
+line_of_fault table_faults.SymbolWithoutDecl = codes "error: input refused: table-fault 2" ++ line_end
+line_of_fault table_faults.ModuleNotUnderOwnName = codes "error: input refused: table-fault 3" ++ line_end
+line_of_fault table_faults.ExpandoWithoutSymbol = codes "error: input refused: table-fault 4" ++ line_end
+line_of_fault table_faults.OutOfMemory = codes "error: out of memory" ++ line_end
 
 -- the line that is written to standard error
 abbrev pub line_of : Refusal → List ℕ
@@ -19,12 +30,15 @@ line_of Usage = codes "usage: fast-check (build|transform|pair) FILE" ++ line_en
 line_of Unreadable = codes "error: input refused: unreadable" ++ line_end
 line_of NotJson = codes "error: input refused: not-json" ++ line_end
 line_of BadForm = codes "error: input refused: bad-form" ++ line_end
+line_of (TableFault fault) = line_of_fault fault
+line_of RangesNotAdmitted = codes "error: input refused: ranges-not-admitted" ++ line_end
 line_of Unwritable = codes "error: output refused" ++ line_end
 line_of OutOfMemory = codes "error: out of memory" ++ line_end
 
 -- the status that the program ends with: 2 where the words or the input are refused, 3 where memory ran out, 4 where the answer is not taken
 abbrev pub status_of : Refusal → ℕ
 status_of OutOfMemory = 3
+status_of (TableFault table_faults.OutOfMemory) = 3
 status_of Unwritable = 4
 status_of _ = 2
 

@@ -1,14 +1,10 @@
 -- What `transform` is asked, as JSON.
-use Rattle.std.specs.Prelude.{◌≡◌, ℕ, List, [], ◌∷◌, Bool, if◌then◌else◌, codes}
-use Rattle.std.specs.Prelude.{Option, Some, None, option_map, option_and_then, Result, MatchResult}
+use Rattle.std.specs.Prelude.{◌≡◌, ℕ, List, [], Bool, if◌then◌else◌, codes, Option, Some, None, option_map, Result, MatchResult}
 use Rattle.std.specs.List.{list_any}
 use Rattle.std.specs.Rc.{rc_str_bytes}
-use Rattle.std.specs.Result.{result_ok}
-use Rattle.std.specs.Str.{bytes_eq}
 use Rattle.serde_json.specs.Data.{Data}
 use Rattle.serde_json.specs.Find.{as_str, get}
 use Rattle.serde_json.specs.Written.{has_float}
-use Rattle.url.specs.Parser.{parse_url}
 use Rattle.url.specs.Parts.{Parts}
 use Rattle.fast_check_syntax.specs.declared.source.SourceRange.{SourceRange}
 use Rattle.fast_check_syntax.specs.declared.source.SyntaxContext.{SyntaxContext}
@@ -21,12 +17,18 @@ use Rattle.fast_check_read.specs.declared.error.ReadError.TheVariants.{BadForm}
 use Rattle.fast_check_read.specs.Comments.{comments_of}
 use Rattle.fast_check_read.specs.Pieces.{u32_of, optional_flag_of, ranges_of}
 use Rattle.fast_check_read.specs.Reading.{tree_of}
-use Rattle.fast_check_tables.specs.declared.tables.es_module.ParsedSource.{ParsedSource}
+use Rattle.fast_check_tables.specs.declared.tables.parsed_source.ParsedSource.{ParsedSource}
 use Rattle.fast_check_tables.specs.declared.tables.media_type.MediaType.{MediaType}
-use Rattle.fast_check_tables.specs.declared.tables.media_type.MediaType.TheVariants.{TypeScript, Mts, Cts, Tsx, Dts, Dmts, Dcts}
-use Rattle.fast_check_tables.specs.declared.tables.media_type.MediaType.TheVariants.{JavaScript, Mjs, Cjs, Jsx, Unknown}
-use Rattle.fast_check_tables.specs.EsModule.{EsModule}
 use Rattle.fast_check_tables.specs.PublicRanges.{PublicRanges, is_public, is_implementation, same_range}
+use Rattle.fast_check_graph.specs.declared.graph.ModuleGraph.{ModuleGraph}
+use Rattle.fast_check_read_tables.specs.Reads.{given, needed, url_of}
+use Rattle.fast_check_read_tables.specs.Modules.{media_type_of}
+use Rattle.fast_check_read_tables.specs.Seen as seen
+use Rattle.fast_check_read_tables.specs.Seen.{SeenTables}
+use Rattle.fast_check_read_tables.specs.Tables.{tables_of}
+use Rattle.fast_check_read_tables.specs.Graph as graphs
+use Rattle.fast_check_read_tables.specs.Graph.{SeenGraph, graph_member_of}
+use Rattle.fast_check_requests.specs.declared.request.EsModuleParts.{EsModuleParts}
 use Rattle.fast_check_requests.specs.declared.request.TransformRequest.{TransformRequest}
 
 -- a module's source
@@ -37,21 +39,19 @@ pub record Source : Type 0 where
   pub comments : Comments
   pub unresolved_context : SyntaxContext
 
--- a module: its name and its source
+-- a module: its name, its source and its tables
 pub record Module : Type 0 where
   pub specifier : Parts
   pub source : Source
+  pub tables : SeenTables
 
--- a module, what is public of it, and whether its first fault is answered alone
+-- a module in the graph of modules, what is public of it, and whether its first fault is answered alone
 pub record Request : Type 0 where
+  pub graph : SeenGraph
   pub es_module : Module
   pub ranges : List SourceRange
   pub implementations : List SourceRange
   pub first : Bool
-
--- with what is there, if it is
-abbrev pub given : {A B : Type 0} → Option A → (A → Option B) → Option B
-given a f = option_and_then f a
 
 -- ---- what may be left out
 
@@ -72,24 +72,6 @@ context_or_zero (Some value) = option_map (λ n. record { 0 = n }) (u32_of value
 
 -- ---- what has to stand
 
--- a text that is a URL
-abbrev pub specifier_of : Data → Option Parts
-specifier_of value = given (as_str value) (λ text. result_ok (parse_url None text))
-
--- the media types by their names
-abbrev pub media_types : List (List ℕ × MediaType)
-media_types =
-    (codes "TypeScript", TypeScript) ∷ (codes "Mts", Mts) ∷ (codes "Cts", Cts) ∷ (codes "Tsx", Tsx)
-    ∷ (codes "Dts", Dts) ∷ (codes "Dmts", Dmts) ∷ (codes "Dcts", Dcts)
-    ∷ (codes "JavaScript", JavaScript) ∷ (codes "Mjs", Mjs) ∷ (codes "Cjs", Cjs) ∷ (codes "Jsx", Jsx) ∷ (codes "Unknown", Unknown) ∷ []
-
-abbrev pub named : {A : Type 0} → List (List ℕ × A) → List ℕ → Option A
-named [] name = None
-named (row ∷ rows) name = if bytes_eq name row.0 then Some row.1 else named rows name
-
-abbrev pub media_type_of : Data → Option MediaType
-media_type_of value = given (as_str value) (named media_types)
-
 -- a module or a script
 abbrev pub program_of : Data → Option Tree
 program_of value = tree_of value (Choice Program)
@@ -97,28 +79,30 @@ program_of value = tree_of value (Choice Program)
 -- an object of the members media_type, text, program, comments and unresolved_context
 abbrev pub source_of : Data → Option Source
 source_of value =
-    given (given (get (codes "media_type") value) media_type_of) (λ media_type.
+    given (needed media_type_of (codes "media_type") value) (λ media_type.
     given (given (get (codes "text") value) as_str) (λ text.
     given (given (get (codes "program") value) program_of) (λ program.
     given (comments_or_none (get (codes "comments") value)) (λ comments.
     given (context_or_zero (get (codes "unresolved_context") value)) (λ unresolved_context.
     Some (record { media_type = media_type; text = text; program = program; comments = comments; unresolved_context = unresolved_context }))))))
 
--- an object of the members specifier and source
+-- an object of the members specifier and source, and of those of tables
 abbrev pub module_of : Data → Option Module
 module_of value =
-    given (given (get (codes "specifier") value) specifier_of) (λ specifier.
+    given (needed url_of (codes "specifier") value) (λ specifier.
     given (given (get (codes "source") value) source_of) (λ source.
-    Some (record { specifier = specifier; source = source })))
+    given (tables_of value) (λ tables.
+    Some (record { specifier = specifier; source = source; tables = tables }))))
 
--- an object of the members module, ranges, impls and first
+-- an object of the members graph, module, ranges, impls and first
 abbrev pub members_of_request : Data → Option Request
 members_of_request value =
     given (ranges_or_none (get (codes "ranges") value)) (λ ranges.
     given (ranges_or_none (get (codes "impls") value)) (λ implementations.
     given (optional_flag_of (get (codes "first") value)) (λ first.
+    given (graph_member_of value) (λ graph.
     given (given (get (codes "module") value) module_of) (λ es_module.
-    Some (record { es_module = es_module; ranges = ranges; implementations = implementations; first = first })))))
+    Some (record { graph = graph; es_module = es_module; ranges = ranges; implementations = implementations; first = first }))))))
 
 -- such an object, without a float anywhere
 abbrev pub request_of : Data → Option Request
@@ -134,10 +118,15 @@ pub record IsSource (asked : Source) (source : ParsedSource) : Type 0 where
   pub comments : source.comments ≡ asked.comments
   pub unresolved_context : source.unresolved_context ≡ asked.unresolved_context
 
--- the module
-pub record IsModule (asked : Module) (info : EsModule) : Type 0 where
-  pub specifier : info.specifier ≡ asked.specifier
-  pub source : IsSource asked.source info.source
+-- the parts of the module
+pub record HoldsModule (asked : Module) (parts : EsModuleParts) : Type 0 where
+  pub specifier : parts.specifier ≡ asked.specifier
+  pub source : IsSource asked.source parts.source
+  pub tables : seen.tables parts.tables ≡ asked.tables
+
+-- the graph
+abbrev pub IsGraph : Request → ModuleGraph → Type 0
+IsGraph asked g = graphs.graph g ≡ asked.graph
 
 -- exactly the ranges that are given are public, and implementations
 pub record IsPublic (asked : Request) (public : PublicRanges) : Type 0 where
@@ -145,7 +134,8 @@ pub record IsPublic (asked : Request) (public : PublicRanges) : Type 0 where
   pub implementations : (r : SourceRange) → is_implementation public r ≡ list_any (same_range r) asked.implementations
 
 pub record IsRequest (asked : Request) (made : TransformRequest) : Type 0 where
-  pub es_module_info : IsModule asked.es_module made.es_module_info
+  pub graph : IsGraph asked made.graph
+  pub es_module : HoldsModule asked.es_module made.es_module
   pub public_ranges : IsPublic asked made.public_ranges
   pub first : made.should_error_on_first_diagnostic ≡ asked.first
 

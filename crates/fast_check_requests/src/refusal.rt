@@ -1,9 +1,10 @@
 //! Why the program has no answer, and what it says then.
 
 ghost use Rattle.std.specs.Prelude.{◌≡◌};
-ghost use Rattle.fast_check_requests.specs.Refusal.{line_of, status_of, IsTold};
+ghost use Rattle.fast_check_requests.specs.Refusal.{line_of, line_of_fault, status_of, IsTold};
 
 use crate::ending::Ending;
+use fast_check_modules::TableFault;
 use fast_check_read::{InputFault, ReadError};
 use std::alloc::{AllocError, AllocFailed};
 use std::io::Write;
@@ -19,6 +20,10 @@ pub enum Refusal {
     NotJson,
     /// The JSON is not of the command's form.
     BadForm,
+    /// The tables of a module have a fault.
+    TableFault(TableFault),
+    /// A range is public that no module with these tables admits.
+    RangesNotAdmitted,
     /// The answer cannot be written.
     Unwritable,
     OutOfMemory,
@@ -34,6 +39,8 @@ impl Refusal {
             Refusal::Unreadable => "error: input refused: unreadable\n",
             Refusal::NotJson => "error: input refused: not-json\n",
             Refusal::BadForm => "error: input refused: bad-form\n",
+            Refusal::TableFault(fault) => line_of_fault(fault),
+            Refusal::RangesNotAdmitted => "error: input refused: ranges-not-admitted\n",
             Refusal::Unwritable => "error: output refused\n",
             Refusal::OutOfMemory => "error: out of memory\n",
         }
@@ -44,7 +51,7 @@ impl Refusal {
         ensures { result ≡ status_of self }
     {
         match self {
-            Refusal::OutOfMemory => 3,
+            Refusal::OutOfMemory | Refusal::TableFault(TableFault::OutOfMemory) => 3,
             Refusal::Unwritable => 4,
             _ => 2,
         }
@@ -59,6 +66,19 @@ impl Refusal {
             status: self.status(),
             is_told: written.is_ok(),
         }
+    }
+}
+
+/// The line of a fault of tables, by its number.
+fn line_of_fault(fault: TableFault) -> &'static str
+    ensures { result.now ≡ line_of_fault fault }
+{
+    match fault {
+        TableFault::MissingSymbol => "error: input refused: table-fault 1\n",
+        TableFault::SymbolWithoutDecl => "error: input refused: table-fault 2\n",
+        TableFault::ModuleNotUnderOwnName => "error: input refused: table-fault 3\n",
+        TableFault::ExpandoWithoutSymbol => "error: input refused: table-fault 4\n",
+        TableFault::OutOfMemory => "error: out of memory\n",
     }
 }
 
@@ -85,6 +105,16 @@ impl From<ReadError> for Refusal {
             ReadError::BadForm => Refusal::BadForm,
             ReadError::OutOfMemory => Refusal::OutOfMemory,
         }
+    }
+}
+
+impl From<TableFault> for Refusal {
+    ghost use Rattle.fast_check_requests.specs.declared.refusal.Refusal.TheVariants as refusals;
+
+    ghost from_gives = { λ fault refusal. refusal ≡ refusals.TableFault fault };
+
+    fn from(fault: TableFault) -> Refusal {
+        Refusal::TableFault(fault)
     }
 }
 

@@ -5,33 +5,43 @@ ghost use Rattle.std.specs.Result.{result_ok};
 ghost use Rattle.serde_json.specs.Find.{get};
 ghost use Rattle.serde_json.specs.View.{view};
 ghost use Rattle.fast_check_read.specs.Each.{Answers};
-ghost use Rattle.fast_check_requests.specs.Request.{request_of, members_of_request, ranges_or_none, comments_or_none, context_or_zero, given, specifier_of};
-ghost use Rattle.fast_check_requests.specs.Request.{media_type_of, program_of, source_of, module_of, Makes, IsModule, IsRequest, IsSource};
+ghost use Rattle.fast_check_read_tables.specs.Reads.{given};
+ghost use Rattle.fast_check_requests.specs.Request.{request_of, members_of_request, ranges_or_none, comments_or_none, context_or_zero};
+ghost use Rattle.fast_check_requests.specs.Request.{program_of, source_of, module_of, Makes, HoldsModule, IsRequest, IsSource};
 
 use fast_check_comments::Comments;
+use fast_check_graph::ModuleGraph;
+use fast_check_modules::ModuleTables;
 use fast_check_read::{
     ReadError, has_float, read_comments, read_optional_flag, read_ranges, read_text, read_tree,
     read_u32,
 };
+use fast_check_read_tables::{read_graph, read_member, read_module_tables};
 use fast_check_schema::{Choice, Form};
 use fast_check_syntax::{SourceRange, SyntaxContext, Tree};
-use fast_check_tables::{
-    EsModuleInfo, MediaType, ModulePublicRanges, ModuleSpecifier, ParsedSource,
-};
+use fast_check_tables::{ModulePublicRanges, ModuleSpecifier, ParsedSource};
 use serde_json::Value;
 use std::alloc::Global;
 use std::rc::RcStr;
-use url::{ParseError, Url};
 
-/// What `transform` is asked: a module, what is public of it, and whether its first fault is answered alone.
+/// An ECMAScript module as it is handed in. Nothing has checked its tables.
+#[derive(Drop)]
+pub struct EsModuleParts {
+    pub specifier: ModuleSpecifier,
+    pub source: ParsedSource,
+    pub tables: ModuleTables,
+}
+
+/// What `transform` is asked: a module in the graph of modules, what is public of it, and whether its first fault is answered alone.
 #[derive(Drop)]
 pub struct TransformRequest {
-    pub es_module_info: EsModuleInfo,
+    pub graph: ModuleGraph,
+    pub es_module: EsModuleParts,
     pub public_ranges: ModulePublicRanges,
     pub should_error_on_first_diagnostic: bool,
 }
 
-/// Reads `{"module": {..}, "ranges": [..], "impls": [..], "first": false}`. Other members are passed over, but no number
+/// Reads `{"graph": {..}, "module": {..}, "ranges": [..], "impls": [..], "first": false}`. Other members are passed over, but no number
 /// anywhere may have a fraction or an exponent.
 pub fn read_transform_request(alloc: Global, value: &Value) -> Result<TransformRequest, ReadError>
     ensures { Makes IsRequest (request_of (view value.now)) result }
@@ -48,7 +58,8 @@ fn read_members(alloc: Global, value: &Value) -> Result<TransformRequest, ReadEr
     let ranges = read_optional_ranges(alloc, value, "ranges")?;
     let implementations = read_optional_ranges(alloc, value, "impls")?;
     let should_error_on_first_diagnostic = read_optional_flag(value.get("first"))?;
-    let es_module_info = read_es_module_info(alloc, member(value, "module")?)?;
+    let graph = read_graph(alloc, value)?;
+    let es_module = read_es_module(alloc, member(value, "module")?)?;
     let public_ranges = ModulePublicRanges::from_parts(
         alloc,
         ranges,
@@ -56,7 +67,8 @@ fn read_members(alloc: Global, value: &Value) -> Result<TransformRequest, ReadEr
         Vec::new(alloc),
     )?;
     Ok(TransformRequest {
-        es_module_info,
+        graph,
+        es_module,
         public_ranges,
         should_error_on_first_diagnostic,
     })
@@ -86,29 +98,20 @@ fn read_optional_ranges(
     Ok(ranges)
 }
 
-fn read_es_module_info(alloc: Global, value: &Value) -> Result<EsModuleInfo, ReadError>
-    ensures { Makes IsModule (module_of (view value.now)) result }
+fn read_es_module(alloc: Global, value: &Value) -> Result<EsModuleParts, ReadError>
+    ensures { Makes HoldsModule (module_of (view value.now)) result }
 {
-    let specifier = read_specifier(alloc, value)?;
-    let source = read_source(alloc, member(value, "source")?)?;
-    Ok(EsModuleInfo::new(specifier, source))
-}
-
-/// The specifier of a module.
-fn read_specifier(alloc: Global, value: &Value) -> Result<ModuleSpecifier, ReadError>
-    ensures { Answers (given (get (codes "specifier") (view value.now)) specifier_of) result }
-{
-    match Url::parse(alloc, read_text(member(value, "specifier")?)?) {
-        Ok(specifier) => Ok(specifier),
-        Err(ParseError::OutOfMemory | ParseError::Overflow) => Err(ReadError::OutOfMemory),
-        Err(_) => Err(ReadError::BadForm),
-    }
+    Ok(EsModuleParts {
+        specifier: read_member(alloc, value, "specifier")?,
+        source: read_source(alloc, member(value, "source")?)?,
+        tables: read_module_tables(alloc, value)?,
+    })
 }
 
 fn read_source(alloc: Global, value: &Value) -> Result<ParsedSource, ReadError>
     ensures { Makes IsSource (source_of (view value.now)) result }
 {
-    let media_type = read_media_type(value)?;
+    let media_type = read_member(alloc, value, "media_type")?;
     let text = read_text(member(value, "text")?)?;
     let program = read_program(alloc, value)?;
     let comments = read_optional_comments(alloc, value)?;
@@ -150,26 +153,5 @@ fn read_optional_context(value: &Value) -> Result<SyntaxContext, ReadError>
     match value.get("unresolved_context") {
         Some(context) => Ok(SyntaxContext(read_u32(context)?)),
         None => Ok(SyntaxContext(0)),
-    }
-}
-
-/// The media type of a source.
-fn read_media_type(value: &Value) -> Result<MediaType, ReadError>
-    ensures { Answers (given (get (codes "media_type") (view value.now)) media_type_of) result }
-{
-    match read_text(member(value, "media_type")?)? {
-        "TypeScript" => Ok(MediaType::TypeScript),
-        "Mts" => Ok(MediaType::Mts),
-        "Cts" => Ok(MediaType::Cts),
-        "Tsx" => Ok(MediaType::Tsx),
-        "Dts" => Ok(MediaType::Dts),
-        "Dmts" => Ok(MediaType::Dmts),
-        "Dcts" => Ok(MediaType::Dcts),
-        "JavaScript" => Ok(MediaType::JavaScript),
-        "Mjs" => Ok(MediaType::Mjs),
-        "Cjs" => Ok(MediaType::Cjs),
-        "Jsx" => Ok(MediaType::Jsx),
-        "Unknown" => Ok(MediaType::Unknown),
-        _ => Err(ReadError::BadForm),
     }
 }

@@ -106,7 +106,6 @@ fn answer(alloc: Global, case: &mut Case, call: &Call, said: &mut Said) -> Resul
     match call.word(0) {
         "place" => places::take(alloc, &mut case.place, call, said),
         "compare" => places::compare(alloc, &case.place, call, said),
-        "module" => tables::module(alloc, call, said),
         "media_type" => tables::media_type(call, said),
         _ => answer_public(alloc, &mut case.public, call, said),
     }

@@ -1,13 +1,11 @@
-//! Calls on public ranges, modules and their types.
+//! Calls on public ranges and on the types of modules.
 
 use crate::Call;
 use anyhow::{Result, bail};
-use fast_check_comments::Comments;
 use fast_check_said::Said;
-use fast_check_syntax::{SourceRange, SyntaxContext, Tree};
+use fast_check_syntax::SourceRange;
 use fast_check_tables::{
-    EsModuleInfo, FastCheckDiagnostic, FastCheckDiagnosticRange, MediaType, ModuleGraph,
-    ModulePublicRanges, ParsedSource,
+    FastCheckDiagnostic, FastCheckDiagnosticRange, MediaType, ModulePublicRanges,
 };
 use std::alloc::{AllocError, Global};
 use std::rc::RcStr;
@@ -45,41 +43,6 @@ fn ranges_of(
         }
     }
     Ok(ranges)
-}
-
-/// The source of this scope number and text.
-fn source_of(alloc: Global, call: &Call) -> Result<ParsedSource, AllocError> {
-    Ok(ParsedSource {
-        media_type: MediaType::TypeScript,
-        text: RcStr::from_str(alloc, call.text())?,
-        program: Tree::Absent,
-        comments: Comments::new(alloc),
-        unresolved_context: SyntaxContext(call.number(2)),
-    })
-}
-
-/// The module of this name, scope number and text.
-fn module_of(alloc: Global, call: &Call) -> Result<EsModuleInfo> {
-    let specifier = Url::parse(alloc, call.word(1))?;
-    Ok(EsModuleInfo::new(specifier, source_of(alloc, call)?))
-}
-
-/// Tells the module of a call, beside the graph of no modules.
-pub fn module(alloc: Global, call: &Call, said: &mut Said) -> Result<()> {
-    let _graph = ModuleGraph::from_parts(alloc)?;
-    let module = module_of(alloc, call)?;
-    tell_module(alloc, &module, said);
-    Ok(())
-}
-
-fn tell_module(alloc: Global, module: &EsModuleInfo, said: &mut Said) {
-    let source = module.source();
-    said.tell_made(format!(in alloc;
-        "{} is `{}`, unresolved {}",
-        module.specifier(),
-        source.text,
-        source.unresolved_context.0
-    ));
 }
 
 /// The diagnostic that comes with public ranges.

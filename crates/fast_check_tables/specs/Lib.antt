@@ -5,4 +5,3 @@ pub mod Subject
 pub mod KindTexts
 pub mod Diagnostic
 pub mod MediaType
-pub mod EsModule

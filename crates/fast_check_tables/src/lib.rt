@@ -1,4 +1,4 @@
-//! What the passes over a module read, and what they report: public ranges, diagnostics, tables.
+//! What the passes over a module read, and what they report: public ranges, diagnostics, sources, skeletons.
 #![tactic(auto)]
 
 mod diagnostics;
@@ -15,6 +15,5 @@ pub use fast_check_packages::{
 };
 pub use public_ranges::ModulePublicRanges;
 pub use tables::{
-    EsModuleInfo, FastCheckModule, MediaType, ModuleGraph, ModuleInfo, ModuleSpecifier,
-    ParsedSource, StaticSource,
+    FastCheckModule, MediaType, ModuleInfo, ModuleSpecifier, ParsedSource, StaticSource,
 };

@@ -1,14 +1,12 @@
-//! What is known of the modules: the graph of them, and each module by its source.
+//! A module's source, and the skeleton that answers it.
 
-mod es_module;
 mod fast_check_module;
-mod graph;
 mod media_type;
+mod parsed_source;
 
-pub use es_module::{EsModuleInfo, ParsedSource};
 pub use fast_check_module::{FastCheckModule, ModuleInfo, StaticSource};
-pub use graph::ModuleGraph;
 pub use media_type::MediaType;
+pub use parsed_source::ParsedSource;
 
 /// A module's name: its URL.
 pub type ModuleSpecifier = url::Url;

@@ -3,7 +3,7 @@ use Rattle.std.specs.Prelude.{ℕ, ◌+◌, ◌<◌, List, [], ◌∷◌, ◌++�
 use lib.ListN.{get_or}
 use Rattle.std.proofs.Common.{subst, sym}
 use Rattle.std.proofs.lemmas.List.{take_more}
-use Rattle.fast_check_tables.specs.EsModule.{EsModule}
+use Rattle.fast_check_modules.specs.EsModule.{EsModule}
 use Rattle.fast_check_tables.specs.declared.diagnostics.FastCheckDiagnostic.{FastCheckDiagnostic}
 use Rattle.fast_check_signatures.specs.declared.fault.Fault.{Fault}
 use Rattle.fast_check_transform.specs.Transform.{IsDiagnosticOf, AreDiagnosticsOf}

@@ -1,11 +1,16 @@
 ghost use Rattle.std.specs.Prelude.{◌≡◌};
 
+use fast_check_graph::ModuleGraph;
+use fast_check_modules::EsModuleInfo;
 use fast_check_syntax::SyntaxContext;
-use fast_check_tables::{EsModuleInfo, ModulePublicRanges};
+use fast_check_tables::ModulePublicRanges;
 
 /// What the transform asks beside the tree.
 #[derive(Clone, Copy)]
 pub struct Asked<'a> {
+    /// The modules that the module's imports resolve to.
+    pub graph: &'a ModuleGraph,
+    pub es_module_info: &'a EsModuleInfo,
     pub public_ranges: &'a ModulePublicRanges,
     /// The scope number of the names that nothing in the module binds.
     pub unresolved: SyntaxContext,
@@ -16,11 +21,19 @@ impl<'a> Asked<'a> {
     ghost use Rattle.fast_check_transform.specs.PartAnswers.{Asked-around};
     ghost use Rattle.fast_check_transform.specs.Transform.{surroundings_of};
 
-    /// What is asked of a module with these public ranges.
-    pub fn of(es_module_info: &EsModuleInfo, public_ranges: &'a ModulePublicRanges) -> Self
-        ensures { Asked-around result ≡ surroundings_of es_module_info.now public_ranges.now }
+    /// What is asked of a module of this graph, with these public ranges.
+    pub fn of(
+        graph: &'a ModuleGraph,
+        es_module_info: &'a EsModuleInfo,
+        public_ranges: &'a ModulePublicRanges,
+    ) -> Self
+        ensures around { Asked-around result ≡ surroundings_of es_module_info.now public_ranges.now }
+        ensures graph { result.graph.now ≡ graph.now }
+        ensures es_module_info { result.es_module_info.now ≡ es_module_info.now }
     {
         Asked {
+            graph,
+            es_module_info,
             public_ranges,
             unresolved: es_module_info.source().unresolved_context,
             is_declaration_file: es_module_info.source().media_type.is_declaration(),

@@ -6,10 +6,10 @@ ghost use Rattle.fast_check_skeleton.specs.Carried.{is_program, is_carried_item,
 ghost use Rattle.fast_check_skeleton.specs.Rules.{is_taken_decl};
 ghost use Rattle.fast_check_transform.specs.Transform.{IsCarried};
 
+use fast_check_modules::EsModuleInfo;
 use fast_check_program_forms::Module;
 use fast_check_skeleton::{DeclRule, ItemRule, item_rule};
 use fast_check_syntax::{Kind, Part};
-use fast_check_tables::EsModuleInfo;
 
 /// Whether a module is one that `transform` takes so far: of nothing but functions, classes, variable statements, interfaces,
 /// type aliases and enums, exported or not, and of statements that declare and assign nothing. A tree without items is

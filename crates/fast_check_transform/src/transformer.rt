@@ -6,6 +6,7 @@ ghost use Rattle.fast_check_signatures.specs.Answers.{Adds};
 ghost use Rattle.fast_check_skeleton.specs.Grammar.{IsSkeleton};
 ghost use Rattle.fast_check_skeleton.specs.KeptComments.{removed_start, removed_starts, without_all_leading};
 ghost use Rattle.fast_check_tables.specs.MediaType.{is_declaration};
+ghost use Rattle.fast_check_modules.specs.EsModule.{Admits};
 ghost use Rattle.fast_check_transform.specs.PartAnswers.{Asked-around, items_answer, program_answer};
 ghost use Rattle.fast_check_transform.specs.Transform.{IsCarried, skeleton, comments, faults, told, IsDiagnosticOf, AreDiagnosticsOf};
 
@@ -13,13 +14,15 @@ use crate::asked::Asked;
 use crate::classes::remove_inside;
 use crate::items::keep_item;
 use fast_check_comments::{Comments, CommentsMut};
+use fast_check_graph::ModuleGraph;
+use fast_check_modules::EsModuleInfo;
 use fast_check_program_forms::Module;
 use fast_check_ranges::range_of_node;
 use fast_check_signatures::{Fault, FaultKind};
 use fast_check_syntax::{Atom, Items, Part, SourceRange, Tree};
 use fast_check_tables::{
-    EsModuleInfo, FastCheckDiagnostic, FastCheckDiagnosticRange, FastCheckModule, ModuleGraph,
-    ModuleInfo, ModulePublicRanges, WorkspaceMember,
+    FastCheckDiagnostic, FastCheckDiagnosticRange, FastCheckModule, ModuleInfo, ModulePublicRanges,
+    WorkspaceMember,
 };
 use std::alloc::{AllocError, Global};
 
@@ -36,7 +39,7 @@ pub struct TransformOptions {
 /// no type, the answer is the list of its faults in reading order, or the first of them alone under the option.
 ///
 /// This is `transform` of deno_graph's fast check. An `Err` outside is want of memory. The module has to be one that
-/// `is_carried` takes.
+/// `is_carried` takes, and has to admit the public ranges.
 pub fn transform(
     alloc: Global,
     graph: &ModuleGraph,
@@ -44,7 +47,8 @@ pub fn transform(
     public_ranges: &ModulePublicRanges,
     options: &TransformOptions,
 ) -> Result<Result<FastCheckModule, Vec<FastCheckDiagnostic>>, AllocError>
-    requires { IsCarried es_module_info.now }
+    requires carried { IsCarried es_module_info.now }
+    requires admitted { Admits es_module_info.now public_ranges.now }
     ensures ok { IfOk result (λ answer. IsOk answer ↔ (faults es_module_info.now public_ranges.now ≡ [])) }
     ensures skeleton { IfOk result (λ answer. IfOk answer (λ made. made.program ≡ skeleton es_module_info.now public_ranges.now)) }
     ensures grammar { IfOk result (λ answer. IfOk answer (λ made.
@@ -55,8 +59,7 @@ pub fn transform(
         AreDiagnosticsOf es_module_info.now
         (told options.now.should_error_on_first_diagnostic (faults es_module_info.now public_ranges.now)) diagnostics.items)) }
 {
-    let _ = graph;
-    let asked = Asked::of(es_module_info, public_ranges);
+    let asked = Asked::of(graph, es_module_info, public_ranges);
     let source = es_module_info.source();
     let mut comments = CommentsMut::new(source.comments.clone()?);
     let mut faults = Vec::new(alloc);

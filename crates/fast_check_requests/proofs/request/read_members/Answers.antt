@@ -1,12 +1,14 @@
 use Rattle.std.proofs.Common.{refl, sym, ap, ◌∙◌}
 use Rattle.fast_check_read.specs.Pieces.{optional_flag_of}
-use Rattle.fast_check_requests.proofs.Given.{given_some, some_of_ok}
+use Rattle.fast_check_read_tables.specs.Graph as graphs
+use Rattle.fast_check_read_tables.proofs.Given.{given_some, some_of_ok}
 use Rattle.fast_check_requests.proofs.request.read_members.Goals as goal
 
 pub returns : goal.returns
 returns c = (
   record {
-    es_module = c.in_ok-es_module_info.ensures.0;
+    graph = graphs.graph c.in_ok-graph.graph;
+    es_module = c.in_ok-es_module.ensures.0;
     ranges = c.in_ok-ranges.ranges.items;
     implementations = c.in_ok-implementations.implementations.items;
     first = c.in_ok-should_error_on_first_diagnostic.should_error_on_first_diagnostic;
@@ -14,9 +16,11 @@ returns c = (
   given_some _ c.in_ok-ranges.ensures
       ∙ (given_some _ c.in_ok-implementations.ensures
       ∙ (given_some _ (ap optional_flag_of (sym c.get.ensures) ∙ some_of_ok _ _ _ c.in_ok-should_error_on_first_diagnostic.ensures)
-      ∙ given_some _ (given_some _ (sym c.in_ok-member.ensures.member) ∙ c.in_ok-es_module_info.ensures.1))),
+      ∙ (given_some _ c.in_ok-graph.ensures
+      ∙ given_some _ (given_some _ (sym c.in_ok-member.ensures.member) ∙ c.in_ok-es_module.ensures.1)))),
   record {
-    es_module_info = c.in_ok-es_module_info.ensures.2;
+    graph = refl;
+    es_module = c.in_ok-es_module.ensures.2;
     public_ranges = record { ranges = c.in_ok-public_ranges.ensures.public; implementations = c.in_ok-public_ranges.ensures.implementations };
     first = refl;
   },
