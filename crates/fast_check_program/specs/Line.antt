@@ -3,9 +3,10 @@ use Rattle.std.specs.Prelude.{◌≡◌, ◌≢◌, ℕ, List, [], ◌++◌, Boo
 use Rattle.serde_json.specs.Data.{Data}
 use Rattle.serde_json.specs.Written.{compact_text}
 use Rattle.fast_check_tables.specs.declared.diagnostics.FastCheckDiagnostic.{FastCheckDiagnostic}
+use Rattle.fast_check_graph.specs.declared.graph.ModuleGraph.{ModuleGraph}
 use Rattle.fast_check_modules.specs.EsModule.{EsModule}
 use Rattle.fast_check_tables.specs.PublicRanges.{PublicRanges}
-use Rattle.fast_check_transform.specs.Transform.{skeleton, comments, faults, told, AreDiagnosticsOf}
+use Rattle.fast_check_transform.specs.Transform.{skeleton, comments, sources, faults, told, AreDiagnosticsOf}
 use Rattle.fast_check_requests.specs.Refusal.{line_end}
 use Rattle.fast_check_answers.specs.Answer.{skeleton_data, diagnostics_data}
 
@@ -14,18 +15,18 @@ abbrev pub line_of_data : Data → List ℕ
 line_of_data value = compact_text value ++ line_end
 
 -- the line is the skeleton of a module without faults
-pub record IsSkeletonLine (info : EsModule) (public : PublicRanges) (line : List ℕ) : Type 0 where
-  pub no_faults : faults info public ≡ []
-  pub text : line ≡ line_of_data (skeleton_data (comments info public) [] (skeleton info public))
+pub record IsSkeletonLine (graph : ModuleGraph) (info : EsModule) (public : PublicRanges) (line : List ℕ) : Type 0 where
+  pub no_faults : faults graph info public ≡ []
+  pub text : line ≡ line_of_data (skeleton_data (comments graph info public) (sources graph info public) (skeleton graph info public))
 
 -- the line is the diagnostics of a module with faults: of all, or of the first alone
-pub record IsFaultsLine (info : EsModule) (public : PublicRanges) (first : Bool) (line : List ℕ) : Type 0 where
+pub record IsFaultsLine (graph : ModuleGraph) (info : EsModule) (public : PublicRanges) (first : Bool) (line : List ℕ) : Type 0 where
   pub diagnostics : List FastCheckDiagnostic
-  pub some_fault : faults info public ≢ []
-  pub are_told : AreDiagnosticsOf info (told first (faults info public)) diagnostics
+  pub some_fault : faults graph info public ≢ []
+  pub are_told : AreDiagnosticsOf info (told first (faults graph info public)) diagnostics
   pub text : line ≡ line_of_data (diagnostics_data diagnostics)
 
 -- the line with its status: 0 for a skeleton, 1 for diagnostics
-abbrev pub IsAnswer : EsModule → PublicRanges → Bool → List ℕ → ℕ → Type 0
-IsAnswer info public first line status =
-    ((status ≡ 0) × IsSkeletonLine info public line) ⊎ ((status ≡ 1) × IsFaultsLine info public first line)
+abbrev pub IsAnswer : ModuleGraph → EsModule → PublicRanges → Bool → List ℕ → ℕ → Type 0
+IsAnswer graph info public first line status =
+    ((status ≡ 0) × IsSkeletonLine graph info public line) ⊎ ((status ≡ 1) × IsFaultsLine graph info public first line)

@@ -28,7 +28,7 @@ pub record AnswersRequest (asked : TransformRequest) (line : List ℕ) (status :
   pub is_module : IsModuleOf asked.es_module info
   pub admitted : Admits info asked.public_ranges
   pub carried : IsCarried info
-  pub answer : IsAnswer info asked.public_ranges asked.should_error_on_first_diagnostic line status
+  pub answer : IsAnswer asked.graph info asked.public_ranges asked.should_error_on_first_diagnostic line status
 
 -- its ranges are not admitted
 pub record IsNotAdmitted (asked : TransformRequest) : Type 0 where

@@ -119,7 +119,7 @@ fn answer_module(
 ) -> Result<Answer, AllocError>
     requires carried { IsCarried es_module_info.now }
     requires admitted { Admits es_module_info.now public_ranges.now }
-    ensures { IfOk result (λ answer. IsAnswer es_module_info.now public_ranges.now
+    ensures { IfOk result (λ answer. IsAnswer graph.now es_module_info.now public_ranges.now
         options.now.should_error_on_first_diagnostic answer.line.items answer.status) }
 {
     let answer = transform(alloc, graph, es_module_info, public_ranges, options)?;
