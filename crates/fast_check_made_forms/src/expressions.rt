@@ -3,8 +3,8 @@
 use crate::lines::Lines;
 use crate::{CTXT, SPAN};
 use fast_check_expression_forms::{
-    ArrayLit, ArrayPat, ArrowExpr, AssignPat, CallExpr, ExprOrSpread, FnExpr, ObjectLit, ObjectPat,
-    ParenExpr, PatExpr, RestPat, TsAsExpr, TsSatisfiesExpr, TsTypeAssertion,
+    ArrayLit, ArrayPat, ArrowExpr, AssignPat, CallExpr, ClassExpr, ExprOrSpread, FnExpr, ObjectLit,
+    ObjectPat, ParenExpr, PatExpr, RestPat, TsAsExpr, TsSatisfiesExpr, TsTypeAssertion,
 };
 use fast_check_syntax::Tree;
 use std::alloc::Global;
@@ -57,6 +57,11 @@ pub fn second(alloc: Global, lines: &mut Lines) {
     let form = FnExpr {
         ident: Tree::Absent,
         function: Tree::Absent,
+    };
+    lines.print(form.into_tree(alloc));
+    let form = ClassExpr {
+        ident: Tree::Absent,
+        class: Tree::Absent,
     };
     lines.print(form.into_tree(alloc));
 }

@@ -78,9 +78,7 @@ pub fn tell_module(
 fn tell_source(alloc: Global, source: &ParsedSource, said: &mut Said) {
     said.tell_made(format!(in alloc;
         "{:?} `{}`, unresolved {}",
-        source.media_type,
-        source.text,
-        source.unresolved_context.0
+        source.media_type, source.text, source.unresolved_context.0
     ));
 }
 

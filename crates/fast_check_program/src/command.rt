@@ -11,7 +11,7 @@ use crate::answer::print_line;
 use fast_check_graph::ModuleGraph;
 use fast_check_modules::EsModuleInfo;
 use fast_check_requests::{
-    EsModuleParts, Ending, Refusal, TransformRequest, is_call, read_bytes, read_request,
+    Ending, EsModuleParts, Refusal, TransformRequest, is_call, read_bytes, read_request,
 };
 use fast_check_tables::ModulePublicRanges;
 use fast_check_transform::{TransformOptions, is_carried, transform};

@@ -1,0 +1,2 @@
+pub mod SameFaults
+pub mod EachOnce

@@ -1,0 +1,8 @@
+use Rattle.std.proofs.Common.{◌≡◌, take}
+use Rattle.std.specs.List.{flat_map}
+use Rattle.fast_check_files.specs.Files.{names_of}
+use Rattle.fast_check_traces.specs.Wants.{module_wants}
+use Rattle.fast_check_traces.proofs.re_exports.wants_of.Given as goal
+
+abbrev pub invariant-loop-wanted : goal.invariant-loop-wanted
+invariant-loop-wanted l = l.out ≡ flat_map (λ w. module_wants l.traced (names_of w)) (take l.wanted-index l.names)

@@ -1,0 +1,56 @@
+ghost use Rattle.std.specs.Prelude.{◌≡◌, List, IfOk};
+ghost use Rattle.std.specs.List.{flat_map};
+ghost use Rattle.fast_check_demands.specs.Demands.{Demand};
+ghost use Rattle.fast_check_demands.specs.Account.{IsAccount};
+ghost use Rattle.fast_check_search.specs.Turn.{IsFound, AreTableRanges};
+ghost use Rattle.fast_check_files.specs.Files.{names_of};
+ghost use Rattle.fast_check_traces.specs.Modules.{own_tables as tables_at};
+ghost use Rattle.fast_check_traces.specs.Roots.{roots};
+ghost use Rattle.fast_check_traces.specs.Wants.{re_export_ranges as ranges_through, module_wants};
+
+use crate::list::ModuleWants;
+use crate::modules::{TracedModule, own_tables};
+use crate::re_exports::{re_export_ranges, wants_of};
+use crate::roots::roots_of;
+use fast_check_demands::SourceRange;
+use fast_check_files::WantedNames;
+use fast_check_search::{Found, search};
+use std::alloc::{AllocError, Global};
+
+/// What a module that is followed makes public, what is wrong with it, and what it asks of other modules.
+#[derive(Drop)]
+pub struct Traced<'a> {
+    /// What its symbols give. It asks other files by it, of its own package alone.
+    pub found: Found<'a>,
+    /// The ranges of the re-exports of all that are public.
+    pub re_export_ranges: Vec<SourceRange>,
+    /// What it asks of other modules by what it exports again, of whatever package.
+    pub wants: ModuleWants<'a>,
+}
+
+/// Follows a module: all that these demands of it make public, what is wrong with it, and what it asks of other modules.
+pub fn trace<'a>(
+    alloc: Global,
+    traced: TracedModule<'a>,
+    names: &[WantedNames<'a>],
+) -> Result<Traced<'a>, AllocError>
+    ensures account { IfOk result (λ t. (account : List Demand)
+        × IsAccount (tables_at traced.entry) (flat_map (λ w. roots (tables_at traced.entry) (names_of w)) names.now) account
+        × IsFound (tables_at traced.entry) account t.found) }
+    ensures re_exports { IfOk result (λ t. t.re_export_ranges.items ≡ flat_map (λ w. ranges_through traced.entry (names_of w)) names.now) }
+    ensures wants { IfOk result (λ t. t.wants ≡ flat_map (λ w. module_wants traced.entry (names_of w)) names.now) }
+
+    // What is public is of the module's own ranges, so a module of these tables admits it.
+    ensures own_ranges { IfOk result (λ t. AreTableRanges (tables_at traced.entry) t.found.ranges.items) }
+    ensures own_implementations { IfOk result (λ t. AreTableRanges (tables_at traced.entry) t.found.implementations.items) }
+    ensures own_re_exports { IfOk result (λ t. AreTableRanges (tables_at traced.entry) t.re_export_ranges.items) }
+{
+    let tables = own_tables(traced);
+    let roots = roots_of(alloc, tables, names)?;
+    let found = search(alloc, tables, roots.as_slice())?;
+    Ok(Traced {
+        found,
+        re_export_ranges: re_export_ranges(alloc, traced, names)?,
+        wants: wants_of(alloc, traced, names)?,
+    })
+}

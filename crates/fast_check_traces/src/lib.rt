@@ -1,0 +1,15 @@
+//! What a module that is followed makes public, and what it asks of other modules.
+#![tactic(auto)]
+
+mod follow;
+mod list;
+mod modules;
+mod re_exports;
+mod roots;
+
+pub use fast_check_files::{FileWant, FileWants, WantedNames, by_path};
+pub use fast_check_graph::{ModuleGraph, ModuleInfo, RootSymbol};
+pub use fast_check_search::Found;
+pub use follow::{Traced, trace};
+pub use list::{ModuleWant, ModuleWants};
+pub use modules::{TracedModule, tables_of};

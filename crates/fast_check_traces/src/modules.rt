@@ -1,0 +1,84 @@
+ghost use Rattle.std.specs.Prelude.{◌≡◌, is_some};
+ghost use Rattle.std.specs.Option.{option_copied};
+ghost use Rattle.fast_check_traces.specs.Modules.{tables_in, own_tables, own_export, answer_of, first_with, answer_to};
+
+use fast_check_demands::CheckedTables;
+use fast_check_graph::{ModuleGraph, ModuleInfo, RootSymbol};
+use fast_check_modules::ReExportAllNode;
+use fast_check_symbols::SymbolId;
+use url::Url;
+
+/// The tables of a module.
+pub fn tables_of(info: &ModuleInfo) -> &CheckedTables
+    ensures { result.now ≡ tables_in info.now }
+{
+    match info {
+        ModuleInfo::Esm(module) => module.tables(),
+        ModuleInfo::Json(module) => module.tables(),
+    }
+}
+
+/// A module that is followed, among the others.
+#[derive(Clone, Copy)]
+pub struct TracedModule<'a> {
+    pub graph: &'a ModuleGraph,
+    pub root_symbol: &'a RootSymbol,
+    pub info: &'a ModuleInfo,
+}
+
+/// The tables of the module that is followed.
+pub fn own_tables<'a>(traced: TracedModule<'a>) -> &'a CheckedTables
+    ensures { result.now ≡ own_tables traced.entry }
+{
+    tables_of(traced.info)
+}
+
+/// The symbol of an export of the module itself.
+pub fn own_export(tables: &CheckedTables, name: &str) -> Option<SymbolId>
+    ensures { result ≡ own_export tables.now name.now }
+{
+    let symbol = tables.symbol(tables.module_symbol())?;
+    symbol.exports.get(name)
+}
+
+/// The module that answers a name behind a re-export of all.
+fn answer_of<'a>(traced: TracedModule<'a>, name: &str, node: &ReExportAllNode) -> Option<&'a Url>
+    ensures { option_copied result ≡ answer_of traced.entry name.now node.now }
+{
+    let specifier = traced
+        .graph
+        .resolve_dependency(node.specifier.as_str(), traced.info.specifier())?;
+    let module = traced.root_symbol.module_from_specifier(specifier)?;
+    tables_of(module).resolved_export(name)
+}
+
+fn has_answer(traced: TracedModule<'_>, name: &str, node: &ReExportAllNode) -> bool
+    ensures { result ≡ is_some (answer_of traced.entry name.now node.now) }
+{
+    answer_of(traced, name, node).is_some()
+}
+
+fn find_node<'a>(
+    traced: TracedModule<'_>,
+    name: &str,
+    nodes: &'a [ReExportAllNode],
+) -> Option<&'a ReExportAllNode>
+    ensures { option_copied result ≡ first_with traced.entry name.now nodes.now }
+{
+    nodes.iter().find(|node| has_answer(traced, name, node))
+}
+
+/// The first re-export of all behind which a name is.
+pub fn first_with<'a>(traced: TracedModule<'a>, name: &str) -> Option<&'a ReExportAllNode>
+    ensures { option_copied result ≡ first_with traced.entry name.now (own_tables traced.entry).re_exports }
+{
+    find_node(traced, name, own_tables(traced).re_export_all_nodes())
+}
+
+/// The module that answers a name behind the first re-export of all that has it.
+pub fn answer_to<'a>(traced: TracedModule<'a>, name: &str) -> Option<&'a Url>
+    ensures { option_copied result ≡ answer_to traced.entry name.now }
+{
+    let node = first_with(traced, name)?;
+    answer_of(traced, name, node)
+}
