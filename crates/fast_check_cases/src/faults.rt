@@ -22,6 +22,11 @@ fn name_of(kind: FaultKind) -> &'static str {
         FaultKind::MissingExplicitType => "type",
         FaultKind::UnsupportedDestructuring => "destructuring",
         FaultKind::UnsupportedSuperClassExpr => "superclass",
+        FaultKind::UnsupportedDefaultExportExpr => "default",
+        FaultKind::UnsupportedUsing => "using",
+        FaultKind::UnsupportedRequire => "require",
+        FaultKind::UnsupportedTsExportAssignment => "export assignment",
+        FaultKind::UnsupportedTsNamespaceExport => "namespace export",
         FaultKind::MissingExplicitReturnType {
             is_definitely_void_or_never,
             is_async,

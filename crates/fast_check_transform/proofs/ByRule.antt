@@ -1,23 +1,28 @@
 -- What is answered to declarations and items, by what is done with them.
-use Rattle.std.specs.Prelude.{◌≡◌, ℕ, ◌+◌, ◌<◌, ◌≤◌, Bool, true, false, Option, Some, None, List, [], ◌∷◌, ◌++◌, length, take, if◌then◌else◌}
+use Rattle.std.specs.Prelude.{◌≡◌, ℕ, ◌+◌, ◌<◌, ◌≤◌, Bool, true, false, Option, Some, List, [], ◌∷◌, ◌++◌, length, take, if◌then◌else◌}
 use lib.ListN.{get_or}
 use Rattle.std.proofs.Common.{ap, ◌∙◌, sym, subst, append-nil}
 use Rattle.fast_check_syntax.specs.declared.source.SourceRange.{SourceRange}
-use Rattle.fast_check_syntax.specs.declared.tree.Tree.{Tree}
+use Rattle.fast_check_syntax.specs.declared.tree.Tree.{Tree, Absent}
 use Rattle.fast_check_program_forms.specs.ModuleDecls.{ExportDecl-span, ExportDecl-decl, export_decl}
 use Rattle.fast_check_ranges.specs.Ranges.{range_of_node}
 use Rattle.fast_check_signatures.specs.declared.fault.Fault.{Fault}
-use Rattle.fast_check_signatures.specs.Answers.{Adds, with_tree, answer_to, answer_of}
-use Rattle.fast_check_signatures.specs.Seen.{Seen, written}
-use Rattle.fast_check_signatures.proofs.Adding.{adds_nothing, adds_same}
+use Rattle.fast_check_signatures.specs.declared.fault.FaultKind.{FaultKind}
+use Rattle.fast_check_signatures.specs.Answers.{Adds, fault_at, faultless, with_tree, answer_to, answer_of}
+use Rattle.fast_check_signatures.specs.Seen.{Seen, written, faulty}
+use Rattle.fast_check_signatures.proofs.Adding.{adds_nothing, adds_fault, adds_same}
 use Rattle.fast_check_skeleton.specs.declared.rules.DeclRule.{DeclRule}
-use Rattle.fast_check_skeleton.specs.declared.rules.DeclRule.TheVariants.{Variables, Function, Class, Standing, Untaken}
-use Rattle.fast_check_skeleton.specs.declared.rules.ItemRule.TheVariants.{Declared, Exported, Silent}
+use Rattle.fast_check_skeleton.specs.declared.rules.DeclRule.TheVariants.{Variables, Function, Class, Standing, Using, Untaken}
+use Rattle.fast_check_skeleton.specs.declared.rules.DefaultRule.{DefaultRule}
+use Rattle.fast_check_skeleton.specs.declared.rules.LinkRule.{LinkRule}
+use Rattle.fast_check_skeleton.specs.declared.rules.ItemRule.TheVariants.{Declared, Exported, Linked, Default, Refused, Silent}
 use Rattle.fast_check_skeleton.specs.Rules.{item_rule}
 use Rattle.fast_check_skeleton.specs.Surroundings.{Surroundings}
 use Rattle.fast_check_skeleton.specs.Visible.{function_decl_seen, class_decl_seen, decl_seen, exported_seen, seen_by_rule, item_seen}
 use Rattle.fast_check_skeleton.proofs.Standing.{OneTree, decl_one, export_is}
-use Rattle.fast_check_transform.specs.PartAnswers.{statement_answer, function_answer, class_answer, decl_answer, item_answer, items_answer}
+use Rattle.fast_check_links.specs.Links.{as_list, link_answer}
+use Rattle.fast_check_transform.specs.PartAnswers.{statement_answer, function_answer, class_answer, using_answer, decl_answer}
+use Rattle.fast_check_transform.specs.PartAnswers.{default_answer, item_answer, items_answer}
 use Rattle.fast_check_transform.proofs.Listed.{alone, one_more, whole}
 
 module _ (around : Surroundings) (place : SourceRange) (decl : Tree) where
@@ -71,6 +76,11 @@ module _ (around : Surroundings) (place : SourceRange) (decl : Tree) where
   private_class r e old =
       adds_same (ap (λ x. answer_of (by_rule x)) r ∙ ap (λ p. answer_of (if_public p (class_decl_seen around decl))) e) (adds_nothing [] old)
 
+  pub using_stays : {rule : DeclRule} → rule ≡ Using → {xs : List Tree} {old new : List Fault} →
+      Adds (using_answer around place decl) xs old new → Adds (decl_answer around place decl rule) xs old new
+  unfolding decl_answer using_answer
+  using_stays r h = adds_same (ap (λ x. answer_of (by_rule x)) r) h
+
   pub untaken : {rule : DeclRule} → rule ≡ Untaken → (old : List Fault) → Adds (decl_answer around place decl rule) [] old old
   unfolding decl_answer
   untaken r old = adds_same (ap (λ x. answer_of (by_rule x)) r) (adds_nothing [] old)
@@ -123,6 +133,24 @@ module _ (around : Surroundings) (item : Tree) where
       (adds_same (ap (λ r. answer_of (seen_by_rule around item r)) e)
       (export_of seen (decl_one around (ExportDecl-span item) (ExportDecl-decl item) rule)
       (subst (λ x. Adds (answer_of seen) x old new) n (adds_same (λ i. answer_of (decl_seen around (sym p i) (sym q i) rule)) h))))
+
+  pub linked : {rule : LinkRule} → item_rule item ≡ Linked rule → (o : Option Tree) → link_answer around item rule ≡ faultless (as_list o) →
+      (old : List Fault) → Adds (item_answer around item) (as_list o) old old
+  unfolding item_answer link_answer
+  linked e o h old = adds_same (ap (λ r. answer_of (seen_by_rule around item r)) e ∙ h) (adds_nothing (as_list o) old)
+
+  pub default_export : {rule : DefaultRule} → item_rule item ≡ Default rule → {xs : List Tree} {old new : List Fault} →
+      Adds (default_answer around item rule) xs old new → Adds (item_answer around item) xs old new
+  unfolding item_answer default_answer
+  default_export e h = adds_same (ap (λ r. answer_of (seen_by_rule around item r)) e) h
+
+  pub refused : {kind : FaultKind} → item_rule item ≡ Refused kind → {place : SourceRange} → place ≡ range_of_node item → {old new : List Fault} →
+      new ≡ old ++ fault_at kind place ∷ [] → Adds (item_answer around item) (Absent ∷ []) old new
+  unfolding item_answer
+  refused {kind} e p {old} f =
+      subst (λ fs. Adds (answer_of (item_seen around item)) (Absent ∷ []) old fs) (sym (f ∙ ap (λ r. old ++ fault_at kind r ∷ []) p))
+      (adds_same (ap (λ r. answer_of (seen_by_rule around item r)) e)
+      (alone (faulty kind (range_of_node item)) (adds_fault (Some Absent) (fault_at kind (range_of_node item)) old)))
 
   pub silent : item_rule item ≡ Silent → (old : List Fault) → Adds (item_answer around item) [] old old
   unfolding item_answer

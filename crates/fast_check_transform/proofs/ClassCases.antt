@@ -1,5 +1,5 @@
 -- What is answered to classes, and the comments before their members that go.
-use Rattle.std.specs.Prelude.{◌≡◌, ℕ, ◌+◌, ◌<◌, ◌≤◌, Bool, true, false, Option, Some, option_map, List, [], ◌∷◌, ◌++◌, map, length, drop, refl, if◌then◌else◌}
+use Rattle.std.specs.Prelude.{◌≡◌, ℕ, ◌+◌, ◌<◌, ◌≤◌, Bool, true, false, Some, option_map, List, [], ◌∷◌, ◌++◌, map, length, drop, refl, if◌then◌else◌}
 use lib.ListN.{get_or}
 use Rattle.std.proofs.Common.{ap, ◌∙◌, sym, add-one}
 use Rattle.std.proofs.Math.Seq.{drop-cons}
@@ -21,7 +21,7 @@ use Rattle.fast_check_signatures.specs.Members.{stays_behind, each_behind, if_re
 use Rattle.fast_check_signatures.proofs.Adding.{adds_nothing, adds_same, adds_made, adds_visited}
 use Rattle.fast_check_skeleton.specs.KeptComments.{without_all_leading}
 use Rattle.fast_check_skeleton.specs.Surroundings.{Surroundings}
-use Rattle.fast_check_skeleton.specs.Visible.{is_ambient_class, class_in}
+use Rattle.fast_check_skeleton.specs.Visible.{is_ambient_class}
 use Rattle.fast_check_transform.specs.PartAnswers.{class_in_answer, class_answer}
 
 module _ (around : Surroundings) (decl : Tree) where

@@ -17,7 +17,7 @@ use Rattle.fast_check_helpers.specs.InferredType.{inferred_type}
 use Rattle.fast_check_helpers.specs.declared.literal_type.DeclMutabilityKind.{DeclMutabilityKind}
 use Rattle.fast_check_ranges.specs.Ranges.{range_of_node}
 use Rattle.fast_check_signatures.specs.declared.fault.Fault.{Fault}
-use Rattle.fast_check_signatures.specs.declared.fault.FaultKind.TheVariants.{MissingExplicitType, UnsupportedDestructuring}
+use Rattle.fast_check_signatures.specs.declared.fault.FaultKind.TheVariants.{MissingExplicitType, UnsupportedDestructuring, UnsupportedUsing}
 use Rattle.fast_check_signatures.specs.declared.function_kind.FunctionKind.TheVariants.{DeclarationLike}
 use Rattle.fast_check_signatures.specs.Seen.{Seen, written, range, scope, flag, round, listed, declarator, faulty, refused, seens}
 use Rattle.fast_check_signatures.specs.Answers.{Adds, fault_at, faultless, with_tree, valued_declarator, answer_to, answer_of}
@@ -28,11 +28,11 @@ use Rattle.fast_check_signatures.proofs.Adding.{adds_nothing, adds_fault, adds_s
 use Rattle.fast_check_skeleton.specs.Mutability.{mutability_of}
 use Rattle.fast_check_skeleton.specs.Surroundings.{Surroundings}
 use Rattle.fast_check_skeleton.specs.Visible.{declared_ident, declared_type, declarator_head, typed_declarator, value_seen, untyped_seen}
-use Rattle.fast_check_skeleton.specs.Visible.{ident_declarator_seen, declarator_seen, is_ambient, is_public_declarator, declarator_in, public_declarator}
-use Rattle.fast_check_skeleton.specs.Visible.{public_declarators, statement_seen, signature_of}
+use Rattle.fast_check_skeleton.specs.Visible.{ident_declarator_seen, declarator_seen, is_ambient, is_public_declarator, public_declarator}
+use Rattle.fast_check_skeleton.specs.Visible.{public_declarators, statement_seen, signature_of, is_public_using, using_place, using_seen}
 use Rattle.fast_check_skeleton.proofs.Standing.{declarator_one, statement_is}
 use Rattle.fast_check_transform.specs.PartAnswers.{retyped, value_answer, valued_answer, ident_answer, declarator_answer, public_answer}
-use Rattle.fast_check_transform.specs.PartAnswers.{declarators_answer, statement_answer, signature_answer, function_answer}
+use Rattle.fast_check_transform.specs.PartAnswers.{declarators_answer, statement_answer, signature_answer, function_answer, using_answer}
 use Rattle.fast_check_transform.proofs.Listed.{alone, one_more, whole}
 
 -- ---- declarators
@@ -243,3 +243,21 @@ module _ (around : Surroundings) (place : SourceRange) (decl : Tree) where
       adds_same (ap (λ b. answer_to (decl_if b)) e)
       (adds_made (option_map (node FnDecl)) (adds_visited (adds_nothing (Some (FnDecl-ident decl)) _)
       (adds_visited (adds_nothing (Some (tree.Flag (FnDecl-declare decl))) _) (adds_visited h (adds_nothing (Some []) new)))))
+
+-- ---- `using`
+
+module _ (around : Surroundings) (place : SourceRange) (decl : Tree) where
+  abbrev using_if : Bool → List Seen
+  using_if p = if p then faulty UnsupportedUsing (using_place decl) ∷ [] else []
+
+  pub private_using : is_public_using around place decl ≡ false → (old : List Fault) → Adds (using_answer around place decl) [] old old
+  unfolding using_answer
+  private_using e old = adds_same (ap (λ p. answer_of (using_if p)) e) (adds_nothing [] old)
+
+  pub public_using : is_public_using around place decl ≡ true → {at : SourceRange} → at ≡ using_place decl → {old new : List Fault} →
+      new ≡ old ++ fault_at UnsupportedUsing at ∷ [] → Adds (using_answer around place decl) (Absent ∷ []) old new
+  unfolding using_answer
+  public_using e p {old} f =
+      subst (λ fs. Adds (answer_of (using_seen around place decl)) (Absent ∷ []) old fs) (sym (f ∙ ap (λ r. old ++ fault_at UnsupportedUsing r ∷ []) p))
+      (adds_same (ap (λ p. answer_of (using_if p)) e)
+      (alone (faulty UnsupportedUsing (using_place decl)) (adds_fault (Some Absent) (fault_at UnsupportedUsing (using_place decl)) old)))

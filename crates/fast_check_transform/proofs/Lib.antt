@@ -2,6 +2,7 @@ pub mod Listed
 pub mod Declared
 pub mod ClassCases
 pub mod ByRule
+pub mod DefaultCases
 pub mod Removed
 pub mod Diagnosed
 pub mod Transformed

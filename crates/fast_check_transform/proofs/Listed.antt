@@ -1,14 +1,14 @@
 -- What calls add for lists of what is seen, one after the other.
-use Rattle.std.specs.Prelude.{◌≡◌, ℕ, ◌+◌, ◌<◌, ◌≤◌, Option, Some, None, Result, IfOk, List, [], ◌∷◌, ◌++◌, flat_map, length, take, refl}
+use Rattle.std.specs.Prelude.{◌≡◌, ℕ, ◌+◌, ◌<◌, ◌≤◌, Option, Some, Result, IfOk, List, [], ◌∷◌, ◌++◌, flat_map, length, take}
 use lib.ListN.{get_or}
-use Rattle.std.proofs.Common.{ap, ◌∙◌, sym, subst, append-nil, append_assoc}
+use Rattle.std.proofs.Common.{ap, ◌∙◌, sym, subst, append-nil}
 use Rattle.std.proofs.lemmas.List.{take_more, take_all}
 use Rattle.std.proofs.lemmas.List.Concat.{flat_map-append}
 use Rattle.std.proofs.lemmas.Result.{IfOk-weaker}
 use Rattle.fast_check_syntax.specs.declared.tree.Tree.{Tree}
 use Rattle.fast_check_signatures.specs.declared.fault.Fault.{Fault}
 use Rattle.fast_check_signatures.specs.Seen.{Seen}
-use Rattle.fast_check_signatures.specs.Answers.{Answer, Adds, faultless, joined, with_tree, answer_to, answer_of}
+use Rattle.fast_check_signatures.specs.Answers.{Answer, Adds, with_tree, answer_to, answer_of}
 use Rattle.fast_check_signatures.proofs.Adding.{adds_nothing, adds_same, adds_joined, answer_append}
 
 -- a call that makes this tree gives the answer

@@ -14,7 +14,7 @@ use Rattle.fast_check_ranges.specs.Ranges.{range_of_node}
 use Rattle.fast_check_skeleton.specs.Rules.{item_rule}
 use Rattle.fast_check_skeleton.specs.Visible.{item_seen}
 use Rattle.fast_check_signatures.specs.declared.fault.Fault.{Fault}
-use Rattle.fast_check_signatures.specs.Answers.{Adds, with_tree, answer_to, answer_of}
+use Rattle.fast_check_signatures.specs.Answers.{Adds, with_tree, answer_of}
 use Rattle.fast_check_skeleton.specs.KeptComments.{start_of_unseen, starts_inside, removed_start, without_all_leading}
 use Rattle.fast_check_skeleton.proofs.Standing.{OneTree, item_one}
 use Rattle.fast_check_transform.specs.PartAnswers.{item_answer}

@@ -5,6 +5,7 @@ use Rattle.std.proofs.lemmas.Result.{IfOk-weaker}
 use Rattle.fast_check_syntax.specs.declared.tree.Tree.{Tree}
 use Rattle.fast_check_syntax.specs.Shape.{parts, list}
 use Rattle.fast_check_program_forms.specs.Programs.{Module-span, Module-body, Module-shebang, module'}
+use Rattle.fast_check_graph.specs.declared.graph.ModuleGraph.{ModuleGraph}
 use Rattle.fast_check_modules.specs.EsModule.{EsModule}
 use Rattle.fast_check_tables.specs.MediaType.{is_declaration}
 use Rattle.fast_check_tables.specs.PublicRanges.{PublicRanges}
@@ -15,7 +16,8 @@ use Rattle.fast_check_skeleton.specs.Grammar.{IsSkeleton}
 use Rattle.fast_check_skeleton.specs.Surroundings.{Surroundings}
 use Rattle.fast_check_skeleton.proofs.Standing.{skeleton_stands}
 use Rattle.fast_check_transform.specs.PartAnswers.{items_answer, program_answer}
-use Rattle.fast_check_transform.specs.Transform.{surroundings_of, skeleton, faults}
+use Rattle.fast_check_links.specs.Asked.{surroundings_of}
+use Rattle.fast_check_transform.specs.Transform.{skeleton, faults}
 
 pub made_program : (around : Surroundings) (program : Tree) {E : Type 0} (r : Result Tree E) {x : Tree} {ts items : List Tree} {old new : List Fault} →
     IfOk r (λ t. t ≡ x) → Adds (items_answer around ts) items old new → ts ≡ parts (Module-body program) →
@@ -26,17 +28,17 @@ made_program around program r {items = items} {old = old} {new = new} e h p q =
     IfOk-weaker r _ _ (λ t f. subst (λ u. Adds (program_answer around program) u old new) (sym (f ∙ q))
     (adds_made (λ ts. module' (Module-span program) (list ts) (Module-shebang program)) all)) e
 
-module _ (info : EsModule) (public : PublicRanges) {around : Surroundings} {program t : Tree} {old fs : List Fault}
-    (h : Adds (program_answer around program) t old fs) (e : around ≡ surroundings_of info public) (p : program ≡ info.source.program) (o : old ≡ []) where
-  pub skeleton_is : t ≡ skeleton info public
+module _ (graph : ModuleGraph) (info : EsModule) (public : PublicRanges) {around : Surroundings} {program t : Tree} {old fs : List Fault}
+    (h : Adds (program_answer around program) t old fs) (e : around ≡ surroundings_of graph info public) (p : program ≡ info.source.program) (o : old ≡ []) where
+  pub skeleton_is : t ≡ skeleton graph info public
   unfolding program_answer
   skeleton_is = sym (ap (λ a. a.stays) h.is) ∙ (λ i. (program_answer (e i) (p i)).stays)
 
-  pub faults_are : fs ≡ faults info public
+  pub faults_are : fs ≡ faults graph info public
   unfolding program_answer
   faults_are = h.faults ∙ (ap (λ old. old ++ h.added) o ∙ (sym (ap (λ a. a.faults) h.is) ∙ (λ i. (program_answer (e i) (p i)).faults)))
 
   pub skeleton_in_grammar : fs ≡ [] → IsSkeleton info.source.unresolved_context (is_declaration info.source.media_type) t
   skeleton_in_grammar n =
       subst (IsSkeleton info.source.unresolved_context (is_declaration info.source.media_type)) (sym skeleton_is)
-      (skeleton_stands (surroundings_of info public) info.source.program (sym faults_are ∙ n))
+      (skeleton_stands (surroundings_of graph info public) info.source.program (sym faults_are ∙ n))

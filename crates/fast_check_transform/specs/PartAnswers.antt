@@ -1,35 +1,26 @@
 -- The answers to what is seen of the parts of a module.
-use Rattle.std.specs.Prelude.{Option, Some, None, List, [], ◌∷◌}
+use Rattle.std.specs.Prelude.{Bool, Option, List, [], ◌∷◌}
 use Rattle.std.specs.List.{flat_map}
+use Rattle.fast_check_syntax.specs.declared.kind.Kind.TheVariants.{ExportDefaultDecl}
 use Rattle.fast_check_syntax.specs.declared.source.SourceRange.{SourceRange}
 use Rattle.fast_check_syntax.specs.declared.tree.Tree.{Tree}
 use Rattle.fast_check_syntax.specs.Shape.{list}
 use Rattle.fast_check_program_forms.specs.Names.{Ident-span, binding_ident}
+use Rattle.fast_check_program_forms.specs.ModuleDecls.{ExportDefaultDecl-span, ExportDefaultDecl-decl}
 use Rattle.fast_check_program_forms.specs.Programs.{Module-span, Module-shebang, module'}
 use Rattle.fast_check_statement_forms.specs.Declarations.{VarDeclarator-span, VarDeclarator-init, VarDeclarator-definite, var_declarator}
-use Rattle.fast_check_tables.specs.PublicRanges.{is_public, is_implementation}
 use Rattle.fast_check_helpers.specs.declared.literal_type.DeclMutabilityKind.{DeclMutabilityKind}
-use Rattle.fast_check_signatures.specs.Seen.{declarator}
+use Rattle.fast_check_signatures.specs.Seen.{Seen, written, range, round, declarator, seens}
 use Rattle.fast_check_signatures.specs.Answers.{Answer, made, answer_to, answer_of}
 use Rattle.fast_check_skeleton.specs.declared.rules.DeclRule.{DeclRule}
+use Rattle.fast_check_skeleton.specs.declared.rules.DefaultRule.{DefaultRule}
+use Rattle.fast_check_skeleton.specs.declared.rules.DefaultRule.TheVariants as defaults
+use Rattle.fast_check_skeleton.specs.Defaults.{is_public_value, default_value_seen, default_class_seen, default_signature, default_function_seen, default_seen}
 use Rattle.fast_check_skeleton.specs.Skeleton.{transformed}
 use Rattle.fast_check_skeleton.specs.Surroundings.{Surroundings}
 use Rattle.fast_check_skeleton.specs.Visible.{declared_ident, declarator_head, value_seen, ident_declarator_seen, declarator_seen, public_declarator}
-use Rattle.fast_check_skeleton.specs.Visible.{public_declarators, statement_seen, signature_of, function_decl_seen, class_in, class_decl_seen, decl_seen, item_seen}
-use Rattle.fast_check_transform.specs.declared.asked.Asked.{Asked}
-
--- what is asked beside the tree
-abbrev pub Asked-around : Asked → Surroundings
-Asked-around asked = record {
-  is_public = is_public asked.public_ranges.now;
-  is_implementation = is_implementation asked.public_ranges.now;
-  unresolved = asked.unresolved;
-  is_declaration_file = asked.is_declaration_file;
-}
-
-abbrev pub as_list : Option Tree → List Tree
-as_list (Some t) = t ∷ []
-as_list None = []
+use Rattle.fast_check_skeleton.specs.Visible.{public_declarators, statement_seen, signature_of, function_decl_seen, class_in, class_decl_seen}
+use Rattle.fast_check_skeleton.specs.Visible.{using_seen, decl_seen, item_seen}
 
 -- a declarator of another type and value
 abbrev pub retyped : Tree → Tree → Tree → Tree
@@ -76,9 +67,49 @@ class_in_answer around decl = answer_to (class_in around decl)
 unfoldable pub class_answer : Surroundings → Tree → Answer (Option Tree)
 class_answer around decl = answer_to (class_decl_seen around decl)
 
+-- to `using`, which is public by `place` or by a declarator
+unfoldable pub using_answer : Surroundings → SourceRange → Tree → Answer (List Tree)
+using_answer around place decl = answer_of (using_seen around place decl)
+
 -- to a declaration, by what is done with it; it is public by the range of its export, or else by its own
 unfoldable pub decl_answer : Surroundings → SourceRange → Tree → DeclRule → Answer (List Tree)
 decl_answer around place decl rule = answer_of (decl_seen around place decl rule)
+
+-- to the default export of an expression, and to a class that is exported by default
+unfoldable pub default_value_answer : Surroundings → Tree → Answer (Option Tree)
+default_value_answer around t = answer_to (default_value_seen around t)
+
+unfoldable pub default_class_answer : Surroundings → Tree → Answer (Option Tree)
+default_class_answer around decl = answer_to (default_class_seen around decl)
+
+-- to the signature of a function that is exported by default and public by `place`, and to the function
+unfoldable pub default_signature_answer : Surroundings → SourceRange → Tree → Answer (Option Tree)
+default_signature_answer around place decl = answer_to (default_signature around place decl)
+
+unfoldable pub default_function_answer : Surroundings → SourceRange → Tree → Answer (Option Tree)
+default_function_answer around place decl = answer_to (default_function_seen around place decl)
+
+-- whether a default export is public, and what is seen of one that is
+abbrev pub is_public_default : Surroundings → Tree → DefaultRule → Bool
+is_public_default around t defaults.Value = is_public_value around t
+is_public_default around t _ = around.is_public (ExportDefaultDecl-span t)
+
+abbrev pub exported_default : Tree → Seen → Seen
+exported_default t decl = round ExportDefaultDecl (seens (range (ExportDefaultDecl-span t) ∷ decl ∷ []))
+
+abbrev pub default_decl_seen : Surroundings → Tree → DefaultRule → Seen
+default_decl_seen around t defaults.Value = default_value_seen around t
+default_decl_seen around t defaults.Class = exported_default t (default_class_seen around (ExportDefaultDecl-decl t))
+default_decl_seen around t defaults.Function =
+    exported_default t (default_function_seen around (ExportDefaultDecl-span t) (ExportDefaultDecl-decl t))
+default_decl_seen around t defaults.Interface = exported_default t (written (ExportDefaultDecl-decl t))
+
+-- to one that is public, and to any
+unfoldable pub default_decl_answer : Surroundings → Tree → DefaultRule → Answer (Option Tree)
+default_decl_answer around t rule = answer_to (default_decl_seen around t rule)
+
+unfoldable pub default_answer : Surroundings → Tree → DefaultRule → Answer (List Tree)
+default_answer around t rule = answer_of (default_seen around t rule)
 
 -- to an item, and to some of them
 unfoldable pub item_answer : Surroundings → Tree → Answer (List Tree)

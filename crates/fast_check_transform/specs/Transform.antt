@@ -2,41 +2,40 @@
 use Rattle.std.specs.Prelude.{◌≡◌, Bool, IsTrue, List, [], ◌∷◌, take, if◌then◌else◌}
 use Rattle.std.specs.Rc.{rc_str_bytes}
 use Rattle.fast_check_syntax.specs.declared.tree.Tree.{Tree}
+use Rattle.fast_check_graph.specs.declared.graph.ModuleGraph.{ModuleGraph}
 use Rattle.fast_check_modules.specs.EsModule.{EsModule}
-use Rattle.fast_check_tables.specs.MediaType.{is_declaration}
-use Rattle.fast_check_tables.specs.PublicRanges.{PublicRanges, is_public, is_implementation}
+use Rattle.fast_check_links.specs.Asked.{surroundings_of}
+use Rattle.fast_check_links.specs.StaticSources.{static_sources}
+use Rattle.fast_check_tables.specs.PublicRanges.{PublicRanges}
 use Rattle.fast_check_tables.specs.declared.diagnostics.FastCheckDiagnostic.{FastCheckDiagnostic}
 use Rattle.fast_check_tables.specs.declared.diagnostics.FastCheckDiagnostic.TheVariants.{MissingExplicitType, MissingExplicitReturnType}
 use Rattle.fast_check_tables.specs.declared.diagnostics.FastCheckDiagnostic.TheVariants.{UnsupportedDestructuring, UnsupportedSuperClassExpr}
+use Rattle.fast_check_tables.specs.declared.diagnostics.FastCheckDiagnostic.TheVariants.{UnsupportedDefaultExportExpr, UnsupportedUsing, UnsupportedRequire}
+use Rattle.fast_check_tables.specs.declared.diagnostics.FastCheckDiagnostic.TheVariants.{UnsupportedTsExportAssignment, UnsupportedTsNamespaceExport}
+use Rattle.fast_check_tables.specs.declared.tables.fast_check_module.StaticSource.{StaticSource}
 use Rattle.fast_check_tables.specs.declared.diagnostics.range.FastCheckDiagnosticRange.{FastCheckDiagnosticRange}
 use Rattle.fast_check_signatures.specs.declared.fault.Fault.{Fault}
 use Rattle.fast_check_signatures.specs.declared.fault.FaultKind.TheVariants as kinds
 use Rattle.fast_check_skeleton.specs.Carried.{is_carried_program}
 use Rattle.fast_check_skeleton.specs.Skeleton.{skeleton_of, faults_of}
-use Rattle.fast_check_skeleton.specs.Surroundings.{Surroundings}
 use Rattle.fast_check_skeleton.specs.KeptComments.{kept_comments}
 use Rattle.fast_check_comments.specs.declared.comments.Comments.{Comments}
 
--- what a module's skeleton depends on beside its tree: what is public of it, and whether it is a declaration file
-abbrev pub surroundings_of : EsModule → PublicRanges → Surroundings
-surroundings_of info public = record {
-  is_public = is_public public;
-  is_implementation = is_implementation public;
-  unresolved = info.source.unresolved_context;
-  is_declaration_file = is_declaration info.source.media_type;
-}
-
 -- the skeleton of a module
-abbrev pub skeleton : EsModule → PublicRanges → Tree
-skeleton info public = skeleton_of (surroundings_of info public) info.source.program
+abbrev pub skeleton : ModuleGraph → EsModule → PublicRanges → Tree
+skeleton graph info public = skeleton_of (surroundings_of graph info public) info.source.program
+
+-- what it depends on
+abbrev pub sources : ModuleGraph → EsModule → PublicRanges → List StaticSource
+sources graph info public = static_sources (skeleton graph info public)
 
 -- what is wrong with a module, in reading order
-abbrev pub faults : EsModule → PublicRanges → List Fault
-faults info public = faults_of (surroundings_of info public) info.source.program
+abbrev pub faults : ModuleGraph → EsModule → PublicRanges → List Fault
+faults graph info public = faults_of (surroundings_of graph info public) info.source.program
 
 -- the comments that stay with it
-abbrev pub comments : EsModule → PublicRanges → Comments
-comments info public = kept_comments (surroundings_of info public) info.source.program info.source.comments
+abbrev pub comments : ModuleGraph → EsModule → PublicRanges → Comments
+comments graph info public = kept_comments (surroundings_of graph info public) info.source.program info.source.comments
 
 -- what is told of the faults: all of them, or the first alone
 abbrev pub told : Bool → List Fault → List Fault
@@ -55,6 +54,11 @@ IsDiagnosticOf info fault (MissingExplicitReturnType place is_definitely_void_or
     (fault.kind ≡ kinds.MissingExplicitReturnType is_definitely_void_or_never is_async) × IsPlaceOf info fault place
 IsDiagnosticOf info fault (UnsupportedDestructuring place) = (fault.kind ≡ kinds.UnsupportedDestructuring) × IsPlaceOf info fault place
 IsDiagnosticOf info fault (UnsupportedSuperClassExpr place) = (fault.kind ≡ kinds.UnsupportedSuperClassExpr) × IsPlaceOf info fault place
+IsDiagnosticOf info fault (UnsupportedDefaultExportExpr place) = (fault.kind ≡ kinds.UnsupportedDefaultExportExpr) × IsPlaceOf info fault place
+IsDiagnosticOf info fault (UnsupportedUsing place) = (fault.kind ≡ kinds.UnsupportedUsing) × IsPlaceOf info fault place
+IsDiagnosticOf info fault (UnsupportedRequire place) = (fault.kind ≡ kinds.UnsupportedRequire) × IsPlaceOf info fault place
+IsDiagnosticOf info fault (UnsupportedTsExportAssignment place) = (fault.kind ≡ kinds.UnsupportedTsExportAssignment) × IsPlaceOf info fault place
+IsDiagnosticOf info fault (UnsupportedTsNamespaceExport place) = (fault.kind ≡ kinds.UnsupportedTsNamespaceExport) × IsPlaceOf info fault place
 IsDiagnosticOf _ _ _ = ⊥
 
 -- faults one by one as diagnostics

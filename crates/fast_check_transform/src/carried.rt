@@ -11,9 +11,8 @@ use fast_check_program_forms::Module;
 use fast_check_skeleton::{DeclRule, ItemRule, item_rule};
 use fast_check_syntax::{Kind, Part};
 
-/// Whether a module is one that `transform` takes so far: of nothing but functions, classes, variable statements, interfaces,
-/// type aliases and enums, exported or not, and of statements that declare and assign nothing. A tree without items is
-/// one. It takes no memory.
+/// Whether a module is one that `transform` takes so far: one without namespaces and without assignments that are statements.
+/// A tree without items is one. It takes no memory.
 pub fn is_carried(es_module_info: &EsModuleInfo) -> bool
     ensures { IsTrue result ↔ IsCarried es_module_info.now }
 {
@@ -46,7 +45,9 @@ fn is_carried_item(item: Part<'_>) -> bool
 {
     match item_rule(item) {
         ItemRule::Declared(rule) | ItemRule::Exported(rule) => is_taken_decl(rule),
-        ItemRule::Silent => true,
+        ItemRule::Linked(_) | ItemRule::Default(_) | ItemRule::Refused(_) | ItemRule::Silent => {
+            true
+        }
     }
 }
 
@@ -54,7 +55,11 @@ fn is_taken_decl(rule: DeclRule) -> bool
     ensures { result ≡ is_taken_decl rule }
 {
     match rule {
-        DeclRule::Variables | DeclRule::Function | DeclRule::Class | DeclRule::Standing => true,
+        DeclRule::Variables
+        | DeclRule::Function
+        | DeclRule::Class
+        | DeclRule::Standing
+        | DeclRule::Using => true,
         DeclRule::Untaken => false,
     }
 }

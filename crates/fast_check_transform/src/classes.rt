@@ -2,20 +2,23 @@ ghost use Rattle.std.specs.Prelude.{◌≡◌, IfOk, Some};
 ghost use Rattle.fast_check_syntax.specs.Part.{seen};
 ghost use Rattle.fast_check_syntax.specs.Shape.{parts};
 ghost use Rattle.fast_check_signatures.specs.Answers.{Adds};
-ghost use Rattle.fast_check_skeleton.specs.KeptComments.{starts_of_removed, starts_in_decl, starts_inside, without_all_leading};
+ghost use Rattle.fast_check_skeleton.specs.KeptComments.{starts_of_removed, starts_in_decl, starts_in_default, starts_inside};
+ghost use Rattle.fast_check_skeleton.specs.KeptComments.{without_all_leading};
 ghost use Rattle.fast_check_skeleton.specs.Rules.{item_rule};
 ghost use Rattle.fast_check_skeleton.specs.Visible.{is_ambient_class};
-ghost use Rattle.fast_check_transform.specs.PartAnswers.{Asked-around, class_in_answer, class_answer};
+ghost use Rattle.fast_check_links.specs.Asked.{Asked-around};
+ghost use Rattle.fast_check_transform.specs.PartAnswers.{class_in_answer, class_answer};
 
-use crate::asked::Asked;
 use fast_check_class_forms::Class;
 use fast_check_class_nodes::Earlier;
 use fast_check_classes::{ambient_class, transform_class};
 use fast_check_comments::CommentsMut;
-use fast_check_program_forms::ExportDecl;
+use fast_check_expression_forms::ClassExpr;
+use fast_check_links::Asked;
+use fast_check_program_forms::{ExportDecl, ExportDefaultDecl};
 use fast_check_ranges::range_of_node;
 use fast_check_signatures::Fault;
-use fast_check_skeleton::{DeclRule, ItemRule, item_rule};
+use fast_check_skeleton::{DeclRule, DefaultRule, ItemRule, item_rule};
 use fast_check_statement_forms::ClassDecl;
 use fast_check_syntax::{Part, SourceRange, Tree};
 use std::alloc::{AllocError, Global};
@@ -99,7 +102,34 @@ fn remove_in_decl(
             }
             remove_before_members(alloc, ClassDecl::of(decl).class, comments)
         }
-        DeclRule::Variables | DeclRule::Function | DeclRule::Standing | DeclRule::Untaken => Ok(()),
+        DeclRule::Variables
+        | DeclRule::Function
+        | DeclRule::Standing
+        | DeclRule::Using
+        | DeclRule::Untaken => Ok(()),
+    }
+}
+
+/// Removes the comments before what goes inside of a default export with which this is done.
+fn remove_in_default(
+    alloc: Global,
+    asked: Asked<'_>,
+    item: Part<'_>,
+    rule: DefaultRule,
+    comments: &mut CommentsMut,
+) -> Result<(), AllocError>
+    ensures { IfOk result (λ _.
+        comments.new ≡ without_all_leading (starts_in_default (Asked-around asked.entry) (seen item.entry) rule) comments.old) }
+{
+    match rule {
+        DefaultRule::Class => {
+            let ExportDefaultDecl { span, decl } = ExportDefaultDecl::of(item);
+            if !asked.public_ranges.contains(&span) {
+                return Ok(());
+            }
+            remove_before_members(alloc, ClassExpr::of(decl).class, comments)
+        }
+        DefaultRule::Value | DefaultRule::Function | DefaultRule::Interface => Ok(()),
     }
 }
 
@@ -121,6 +151,7 @@ pub fn remove_inside(
             let ExportDecl { span, decl } = ExportDecl::of(item);
             remove_in_decl(alloc, asked, span, decl, rule, comments)
         }
-        ItemRule::Silent => Ok(()),
+        ItemRule::Default(rule) => remove_in_default(alloc, asked, item, rule, comments),
+        ItemRule::Linked(_) | ItemRule::Refused(_) | ItemRule::Silent => Ok(()),
     }
 }

@@ -1,19 +1,22 @@
 ghost use Rattle.std.specs.Prelude.{◌≡◌, IfOk, Some};
+ghost use Rattle.std.specs.List.{list_any};
 ghost use Rattle.fast_check_syntax.specs.Part.{seen};
 ghost use Rattle.fast_check_syntax.specs.Shape.{parts};
 ghost use Rattle.fast_check_statement_forms.specs.Declarations.{VarDecl-decls};
 ghost use Rattle.fast_check_signatures.specs.Answers.{Adds};
 ghost use Rattle.fast_check_skeleton.specs.Mutability.{mutability_of};
-ghost use Rattle.fast_check_skeleton.specs.Visible.{is_ambient};
-ghost use Rattle.fast_check_transform.specs.PartAnswers.{Asked-around, as_list, retyped, value_answer, valued_answer, ident_answer};
-ghost use Rattle.fast_check_transform.specs.PartAnswers.{declarator_answer, public_answer, declarators_answer, statement_answer};
+ghost use Rattle.fast_check_skeleton.specs.Visible.{is_ambient, is_public_declarator, is_public_using, using_place};
+ghost use Rattle.fast_check_links.specs.Asked.{Asked-around};
+ghost use Rattle.fast_check_links.specs.Links.{as_list};
+ghost use Rattle.fast_check_transform.specs.PartAnswers.{retyped, value_answer, valued_answer, ident_answer};
+ghost use Rattle.fast_check_transform.specs.PartAnswers.{declarator_answer, public_answer, declarators_answer, statement_answer, using_answer};
 
-use crate::asked::Asked;
 use fast_check_helpers::{DeclMutabilityKind, maybe_infer_type, never_value, type_ann};
+use fast_check_links::Asked;
 use fast_check_program_forms::{BindingIdent, Ident};
 use fast_check_ranges::range_of_node;
 use fast_check_signatures::{Fault, FaultKind};
-use fast_check_statement_forms::{VarDecl, VarDeclarator};
+use fast_check_statement_forms::{UsingDecl, VarDecl, VarDeclarator};
 use fast_check_syntax::{Items, Kind, Part, SourceRange, Tree, Word};
 use fast_check_values::leave_expr;
 use std::alloc::{AllocError, Global};
@@ -212,4 +215,57 @@ pub fn keep_statement(
         decls: Tree::list(decls),
     };
     Ok(Some(statement.into_tree(alloc)?))
+}
+
+/// Whether a declarator is public.
+fn is_public_declarator(asked: Asked<'_>, declarator: Part<'_>) -> bool
+    ensures { result ≡ is_public_declarator (Asked-around asked.entry) (seen declarator.entry) }
+{
+    asked
+        .public_ranges
+        .contains(&VarDeclarator::of(declarator).span)
+}
+
+/// Whether one of some declarators is public.
+fn has_public_declarator(asked: Asked<'_>, decls: Part<'_>) -> bool
+    ensures { result ≡ list_any (is_public_declarator (Asked-around asked.entry)) (parts (seen decls.entry)) }
+{
+    decls.parts().iter().any(|declarator| is_public_declarator(asked, declarator.read()))
+}
+
+/// Whether `using` is public: by `place`, or by one of its declarators.
+fn is_public_using(asked: Asked<'_>, place: SourceRange, decl: Part<'_>) -> bool
+    ensures { result ≡ is_public_using (Asked-around asked.entry) place (seen decl.entry) }
+{
+    asked.public_ranges.contains(&place) || has_public_declarator(asked, UsingDecl::of(decl).decls)
+}
+
+/// Where `using` is refused: at its first declarator, or at itself where it has none.
+fn using_place(decl: Part<'_>) -> SourceRange
+    ensures { result ≡ using_place (seen decl.entry) }
+{
+    let UsingDecl { span, decls, .. } = UsingDecl::of(decl);
+    match decls.parts().first() {
+        Some(declarator) => VarDeclarator::of(declarator.read()).span,
+        None => span,
+    }
+}
+
+/// The fault of `using`, if it is public; no skeleton has what it declares.
+pub fn keep_using(
+    asked: Asked<'_>,
+    place: SourceRange,
+    decl: Part<'_>,
+    faults: &mut Vec<Fault>,
+) -> Result<Option<Tree>, AllocError>
+    ensures { IfOk result (λ tree. Adds (using_answer (Asked-around asked.entry) place (seen decl.entry)) (as_list tree) faults.old.items faults.new.items) }
+{
+    if !is_public_using(asked, place, decl) {
+        return Ok(None);
+    }
+    faults.push(Fault {
+        kind: FaultKind::UnsupportedUsing,
+        range: using_place(decl),
+    })?;
+    Ok(Some(Tree::Absent))
 }

@@ -1,11 +1,14 @@
 ghost use Rattle.std.specs.Prelude.{IfOk, Some};
 ghost use Rattle.fast_check_syntax.specs.Part.{seen};
 ghost use Rattle.fast_check_signatures.specs.Answers.{Adds};
-ghost use Rattle.fast_check_transform.specs.PartAnswers.{Asked-around, as_list, signature_answer, function_answer, decl_answer, item_answer};
+ghost use Rattle.fast_check_links.specs.Asked.{Asked-around};
+ghost use Rattle.fast_check_links.specs.Links.{as_list};
+ghost use Rattle.fast_check_transform.specs.PartAnswers.{signature_answer, function_answer, decl_answer, item_answer};
 
-use crate::asked::Asked;
 use crate::classes::keep_class;
-use crate::declarations::keep_statement;
+use crate::declarations::{keep_statement, keep_using};
+use crate::defaults::keep_default;
+use fast_check_links::{Asked, keep_link};
 use fast_check_program_forms::{ExportDecl, Ident};
 use fast_check_ranges::range_of_node;
 use fast_check_signatures::{Fault, FunctionKind};
@@ -100,6 +103,7 @@ fn keep_decl(
             }
             Ok(Some(keep_class(alloc, asked, decl, faults)?))
         }
+        DeclRule::Using => keep_using(asked, place, decl, faults),
         DeclRule::Untaken => Ok(None),
     }
 }
@@ -128,6 +132,13 @@ pub fn keep_item(
                 Some(decl) => Ok(Some(ExportDecl { span, decl }.into_tree(alloc)?)),
                 None => Ok(None),
             }
+        }
+        ItemRule::Linked(rule) => keep_link(alloc, asked, item, rule),
+        ItemRule::Default(rule) => keep_default(alloc, asked, item, rule, faults),
+        ItemRule::Refused(kind) => {
+            let range = range_of_node(item);
+            faults.push(Fault { kind, range })?;
+            Ok(Some(Tree::Absent))
         }
         ItemRule::Silent => Ok(None),
     }

@@ -1,10 +1,10 @@
 //! The transform of a module to its skeleton.
 #![tactic(auto)]
 
-mod asked;
 mod carried;
 mod classes;
 mod declarations;
+mod defaults;
 mod items;
 mod transformer;
 

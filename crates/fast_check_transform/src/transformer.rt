@@ -7,14 +7,16 @@ ghost use Rattle.fast_check_skeleton.specs.Grammar.{IsSkeleton};
 ghost use Rattle.fast_check_skeleton.specs.KeptComments.{removed_start, removed_starts, without_all_leading};
 ghost use Rattle.fast_check_tables.specs.MediaType.{is_declaration};
 ghost use Rattle.fast_check_modules.specs.EsModule.{Admits};
-ghost use Rattle.fast_check_transform.specs.PartAnswers.{Asked-around, items_answer, program_answer};
-ghost use Rattle.fast_check_transform.specs.Transform.{IsCarried, skeleton, comments, faults, told, IsDiagnosticOf, AreDiagnosticsOf};
+ghost use Rattle.fast_check_links.specs.Asked.{Asked-around};
+ghost use Rattle.fast_check_transform.specs.PartAnswers.{items_answer, program_answer};
+ghost use Rattle.fast_check_transform.specs.Transform.{IsCarried, skeleton, sources, comments, faults, told};
+ghost use Rattle.fast_check_transform.specs.Transform.{IsPlaceOf, IsDiagnosticOf, AreDiagnosticsOf};
 
-use crate::asked::Asked;
 use crate::classes::remove_inside;
 use crate::items::keep_item;
 use fast_check_comments::{Comments, CommentsMut};
 use fast_check_graph::ModuleGraph;
+use fast_check_links::{Asked, static_sources};
 use fast_check_modules::EsModuleInfo;
 use fast_check_program_forms::Module;
 use fast_check_ranges::range_of_node;
@@ -49,15 +51,15 @@ pub fn transform(
 ) -> Result<Result<FastCheckModule, Vec<FastCheckDiagnostic>>, AllocError>
     requires carried { IsCarried es_module_info.now }
     requires admitted { Admits es_module_info.now public_ranges.now }
-    ensures ok { IfOk result (λ answer. IsOk answer ↔ (faults es_module_info.now public_ranges.now ≡ [])) }
-    ensures skeleton { IfOk result (λ answer. IfOk answer (λ made. made.program ≡ skeleton es_module_info.now public_ranges.now)) }
+    ensures ok { IfOk result (λ answer. IsOk answer ↔ (faults graph.now es_module_info.now public_ranges.now ≡ [])) }
+    ensures skeleton { IfOk result (λ answer. IfOk answer (λ made. made.program ≡ skeleton graph.now es_module_info.now public_ranges.now)) }
     ensures grammar { IfOk result (λ answer. IfOk answer (λ made.
         IsSkeleton es_module_info.now.source.unresolved_context (is_declaration es_module_info.now.source.media_type) made.program)) }
-    ensures comments { IfOk result (λ answer. IfOk answer (λ made. made.comments ≡ comments es_module_info.now public_ranges.now)) }
-    ensures sources { IfOk result (λ answer. IfOk answer (λ made. made.module_info.sources.items ≡ [])) }
+    ensures comments { IfOk result (λ answer. IfOk answer (λ made. made.comments ≡ comments graph.now es_module_info.now public_ranges.now)) }
+    ensures sources { IfOk result (λ answer. IfOk answer (λ made. made.module_info.sources.items ≡ sources graph.now es_module_info.now public_ranges.now)) }
     ensures faults { IfOk result (λ answer. IfErr answer (λ diagnostics.
         AreDiagnosticsOf es_module_info.now
-        (told options.now.should_error_on_first_diagnostic (faults es_module_info.now public_ranges.now)) diagnostics.items)) }
+        (told options.now.should_error_on_first_diagnostic (faults graph.now es_module_info.now public_ranges.now)) diagnostics.items)) }
 {
     let asked = Asked::of(graph, es_module_info, public_ranges);
     let source = es_module_info.source();
@@ -76,7 +78,7 @@ pub fn transform(
     }
     Ok(Ok(FastCheckModule {
         module_info: ModuleInfo {
-            sources: Vec::new(alloc),
+            sources: static_sources(alloc, program.read())?,
         },
         program,
         comments: comments.into_comments(),
@@ -138,6 +140,20 @@ fn keep_items(
     Ok(items)
 }
 
+/// The place of a fault in the source text of a module.
+fn place_of(
+    es_module_info: &EsModuleInfo,
+    fault: Fault,
+) -> Result<FastCheckDiagnosticRange, AllocError>
+    ensures { IfOk result (IsPlaceOf es_module_info.now fault) }
+{
+    Ok(FastCheckDiagnosticRange {
+        specifier: es_module_info.specifier().clone()?,
+        range: fault.range,
+        text_info: es_module_info.source().text.clone()?,
+    })
+}
+
 /// A fault of a module as a diagnostic.
 fn diagnostic_of(
     es_module_info: &EsModuleInfo,
@@ -145,11 +161,7 @@ fn diagnostic_of(
 ) -> Result<FastCheckDiagnostic, AllocError>
     ensures { IfOk result (IsDiagnosticOf es_module_info.now fault) }
 {
-    let range = FastCheckDiagnosticRange {
-        specifier: es_module_info.specifier().clone()?,
-        range: fault.range,
-        text_info: es_module_info.source().text.clone()?,
-    };
+    let range = place_of(es_module_info, fault)?;
     Ok(match fault.kind {
         FaultKind::MissingExplicitType => FastCheckDiagnostic::MissingExplicitType { range },
         FaultKind::MissingExplicitReturnType {
@@ -165,6 +177,17 @@ fn diagnostic_of(
         }
         FaultKind::UnsupportedSuperClassExpr => {
             FastCheckDiagnostic::UnsupportedSuperClassExpr { range }
+        }
+        FaultKind::UnsupportedDefaultExportExpr => {
+            FastCheckDiagnostic::UnsupportedDefaultExportExpr { range }
+        }
+        FaultKind::UnsupportedUsing => FastCheckDiagnostic::UnsupportedUsing { range },
+        FaultKind::UnsupportedRequire => FastCheckDiagnostic::UnsupportedRequire { range },
+        FaultKind::UnsupportedTsExportAssignment => {
+            FastCheckDiagnostic::UnsupportedTsExportAssignment { range }
+        }
+        FaultKind::UnsupportedTsNamespaceExport => {
+            FastCheckDiagnostic::UnsupportedTsNamespaceExport { range }
         }
     })
 }

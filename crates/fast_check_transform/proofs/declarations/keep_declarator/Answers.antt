@@ -3,7 +3,8 @@ use Rattle.fast_check_signatures.proofs.Adding.{adds_same}
 use Rattle.fast_check_skeleton.specs.Mutability.{mutability_of}
 use Rattle.fast_check_syntax.specs.Part.{seen}
 use Rattle.fast_check_tables.specs.PublicRanges.{is_public}
-use Rattle.fast_check_transform.specs.PartAnswers.{Asked-around, declarator_answer}
+use Rattle.fast_check_links.specs.Asked.{Asked-around}
+use Rattle.fast_check_transform.specs.PartAnswers.{declarator_answer}
 use Rattle.fast_check_transform.proofs.Declared.{private_declarator, ambient_declarator, public_declarator_stays}
 use Rattle.fast_check_transform.proofs.declarations.keep_declarator.Goals as goal
 

@@ -1,7 +1,7 @@
 use Rattle.std.proofs.Common.{ap, ◌∙◌, refl}
 use Rattle.fast_check_program_forms.specs.Names.{Ident-span, BindingIdent-id}
 use Rattle.fast_check_syntax.specs.Part.{seen}
-use Rattle.fast_check_transform.specs.PartAnswers.{Asked-around}
+use Rattle.fast_check_links.specs.Asked.{Asked-around}
 use Rattle.fast_check_transform.proofs.Declared.{value_stays, value_goes}
 use Rattle.fast_check_transform.proofs.Listed.{some_of}
 use Rattle.fast_check_transform.proofs.declarations.valued_declarator.Goals as goal

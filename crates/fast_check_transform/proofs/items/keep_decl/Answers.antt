@@ -1,9 +1,9 @@
 use Rattle.std.proofs.Common.{sym, ◌∙◌}
 use Rattle.std.proofs.lemmas.Result.{IfOk-weaker}
 use Rattle.fast_check_syntax.specs.Part.{seen}
-use Rattle.fast_check_transform.specs.PartAnswers.{Asked-around}
+use Rattle.fast_check_links.specs.Asked.{Asked-around}
 use Rattle.fast_check_transform.proofs.ByRule.{variables, public_function_stays, private_function, public_standing, private_standing}
-use Rattle.fast_check_transform.proofs.ByRule.{public_class_stays, private_class, untaken}
+use Rattle.fast_check_transform.proofs.ByRule.{public_class_stays, private_class, using_stays, untaken}
 use Rattle.fast_check_transform.proofs.items.keep_decl.Goals as goal
 
 pub returns-then-not-contains : goal.returns-then-not-contains
@@ -39,3 +39,8 @@ pub returns-in_ok-keep_class-in-Class : goal.returns-in_ok-keep_class-in-Class
 returns-in_ok-keep_class-in-Class c =
     public_class_stays (Asked-around c.args.asked) c.args.place (seen c.args.decl) c.in-Class.is
     (sym c.contains-in-Class.ensures ∙ c.if-not-contains-3.false) c.in_ok-keep_class-in-Class.ensures
+
+pub returns-in-Using : goal.returns-in-Using
+returns-in-Using c =
+    IfOk-weaker c.keep_using.result _ _
+    (λ tree h. using_stays (Asked-around c.args.asked) c.args.place (seen c.args.decl) c.in-Using.is h) c.keep_using.ensures

@@ -1,10 +1,11 @@
-use Rattle.std.proofs.Common.{rules, refl, arith, ap, sym, ◌∙◌, ◌++◌, ◌∷◌, [], append-nil}
+use Rattle.std.proofs.Common.{rules, refl, arith, ap, sym, ◌∙◌, ◌++◌, ◌∷◌, append-nil}
 use Rattle.std.proofs.lemmas.Grind.{common_steps}
 use Rattle.fast_check_comments.specs.Kept.{without_leading}
 use Rattle.fast_check_ranges.specs.Ranges.{range_of_node}
 use Rattle.fast_check_skeleton.specs.KeptComments.{without_all_leading}
 use Rattle.fast_check_syntax.specs.Part.{seen}
-use Rattle.fast_check_transform.specs.PartAnswers.{Asked-around, as_list}
+use Rattle.fast_check_links.specs.Asked.{Asked-around}
+use Rattle.fast_check_links.specs.Links.{as_list}
 use Rattle.fast_check_transform.proofs.ByRule.{no_items, one_more_item, all_items}
 use Rattle.fast_check_transform.proofs.Removed.{inside, removed_if_none, removed_if_some, one_more}
 use Rattle.fast_check_transform.proofs.transformer.keep_items.Goals as goal

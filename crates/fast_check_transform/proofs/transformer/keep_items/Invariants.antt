@@ -2,7 +2,8 @@ use Rattle.std.proofs.Common.{◌≡◌, take}
 use Rattle.std.specs.List.{flat_map}
 use Rattle.fast_check_signatures.specs.Answers.{Adds}
 use Rattle.fast_check_skeleton.specs.KeptComments.{removed_start, without_all_leading}
-use Rattle.fast_check_transform.specs.PartAnswers.{Asked-around, items_answer}
+use Rattle.fast_check_links.specs.Asked.{Asked-around}
+use Rattle.fast_check_transform.specs.PartAnswers.{items_answer}
 use Rattle.fast_check_transform.proofs.transformer.keep_items.Given as goal
 
 abbrev pub invariant-loop-item : goal.invariant-loop-item

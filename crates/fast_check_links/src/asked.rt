@@ -18,8 +18,7 @@ pub struct Asked<'a> {
 }
 
 impl<'a> Asked<'a> {
-    ghost use Rattle.fast_check_transform.specs.PartAnswers.{Asked-around};
-    ghost use Rattle.fast_check_transform.specs.Transform.{surroundings_of};
+    ghost use Rattle.fast_check_links.specs.Asked.{Asked-around, surroundings_of};
 
     /// What is asked of a module of this graph, with these public ranges.
     pub fn of(
@@ -27,9 +26,7 @@ impl<'a> Asked<'a> {
         es_module_info: &'a EsModuleInfo,
         public_ranges: &'a ModulePublicRanges,
     ) -> Self
-        ensures around { Asked-around result ≡ surroundings_of es_module_info.now public_ranges.now }
-        ensures graph { result.graph.now ≡ graph.now }
-        ensures es_module_info { result.es_module_info.now ≡ es_module_info.now }
+        ensures { Asked-around result ≡ surroundings_of graph.now es_module_info.now public_ranges.now }
     {
         Asked {
             graph,

@@ -1,0 +1,2 @@
+pub mod LinkCases
+pub mod SourceCases

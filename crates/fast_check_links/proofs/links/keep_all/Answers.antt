@@ -1,0 +1,21 @@
+use Rattle.std.proofs.Common.{◌∙◌, ap, sym}
+use Rattle.fast_check_syntax.specs.Part.{seen}
+use Rattle.fast_check_tables.specs.PublicRanges.{is_public}
+use Rattle.fast_check_program_forms.specs.ModuleDecls.{export_all}
+use Rattle.fast_check_skeleton.specs.Links.{answered_source}
+use Rattle.fast_check_links.specs.Asked.{Asked-around}
+use Rattle.fast_check_links.proofs.LinkCases.{no_all, made_all}
+use Rattle.fast_check_links.proofs.links.keep_all.Goals as goal
+
+pub returns-then-not-contains : goal.returns-then-not-contains
+returns-then-not-contains c =
+    no_all (Asked-around c.args.asked) (seen c.args.item)
+    (ap (is_public c.args.asked.public_ranges.now) (sym c.of-type_only.ensures.span) ∙ (sym c.contains.ensures ∙ c.if-not-contains.true))
+
+pub returns : goal.returns
+returns c =
+    made_all (Asked-around c.args.asked) (seen c.args.item)
+    (ap (is_public c.args.asked.public_ranges.now) (sym c.of-type_only.ensures.span) ∙ (sym c.contains.ensures ∙ c.if-not-contains.false))
+    (c.in_ok-into_tree.ensures ∙ (λ i. export_all (c.of-type_only.ensures.span i)
+    ((c.in_ok-answered_source.ensures ∙ ap (answered_source (Asked-around c.args.asked)) c.of-type_only.ensures.src) i)
+    (c.of-type_only.ensures.type_only i) ((c.in_ok-to_tree.ensures ∙ c.of-type_only.ensures.with) i)))

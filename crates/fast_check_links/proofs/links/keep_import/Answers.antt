@@ -1,0 +1,21 @@
+use Rattle.std.proofs.Common.{refl, ◌∙◌, ap}
+use Rattle.std.proofs.lemmas.Bool.{false≢true}
+use Rattle.fast_check_syntax.specs.Part.{seen}
+use Rattle.fast_check_program_forms.specs.ModuleDecls.{import_decl}
+use Rattle.fast_check_skeleton.specs.Links.{answered_source}
+use Rattle.fast_check_links.specs.Asked.{Asked-around}
+use Rattle.fast_check_links.proofs.LinkCases.{no_import, made_import}
+use Rattle.fast_check_links.proofs.links.keep_import.Goals as goal
+
+pub returns-then-is_empty : goal.returns-then-is_empty
+returns-then-is_empty c =
+    no_import (Asked-around c.args.asked) (seen c.args.item) c.in_ok-specifiers.ensures c.of-type_only.ensures.specifiers (c.if-is_empty.ensures.0 refl)
+
+pub returns : goal.returns
+returns c =
+    made_import (Asked-around c.args.asked) (seen c.args.item) c.in_ok-specifiers.ensures c.of-type_only.ensures.specifiers
+    (λ e. false≢true (c.if-is_empty.ensures.1 e))
+    (c.in_ok-into_tree.ensures ∙ (λ i. import_decl (c.of-type_only.ensures.span i) (c.list.ensures i)
+    ((c.in_ok-answered_source.ensures ∙ ap (answered_source (Asked-around c.args.asked)) c.of-type_only.ensures.src) i)
+    (c.of-type_only.ensures.type_only i) ((c.in_ok-to_tree.ensures ∙ c.of-type_only.ensures.with) i)
+    ((c.in_ok-from_str.ensures ∙ c.of-type_only.ensures.phase) i)))

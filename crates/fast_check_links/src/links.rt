@@ -1,0 +1,160 @@
+ghost use Rattle.std.specs.Prelude.{◌≡◌, IfOk};
+ghost use Rattle.fast_check_syntax.specs.Part.{seen};
+ghost use Rattle.fast_check_signatures.specs.Answers.{faultless};
+ghost use Rattle.fast_check_skeleton.specs.Links.{answered_source, public_specifiers};
+ghost use Rattle.fast_check_skeleton.specs.declared.rules.LinkRule.TheVariants as links;
+ghost use Rattle.fast_check_links.specs.Asked.{Asked-around};
+ghost use Rattle.fast_check_links.specs.Links.{as_list, link_answer};
+
+use crate::asked::Asked;
+use fast_check_program_forms::{ExportAll, ImportDecl, NamedExport, Str, TsImportEqualsDecl};
+use fast_check_ranges::range_of_node;
+use fast_check_skeleton::LinkRule;
+use fast_check_sources::relative_source;
+use fast_check_syntax::{Atom, Items, Part, Tree};
+use std::alloc::{AllocError, Global};
+
+/// The source of an import or an export: by the text that stands for it, if there is another one. An export of own names
+/// has none.
+fn answered_source(alloc: Global, asked: Asked<'_>, src: Part<'_>) -> Result<Tree, AllocError>
+    ensures { IfOk result (λ tree. tree ≡ answered_source (Asked-around asked.entry) (seen src.entry)) }
+{
+    if src.is_absent() {
+        return src.to_tree(alloc);
+    }
+    let Str { span, value, .. } = Str::of(src);
+    match relative_source(alloc, asked.graph, asked.es_module_info.specifier(), value)? {
+        Some(text) => {
+            let source = Str {
+                span,
+                value: Atom::from_str(alloc, &text)?,
+                raw: Tree::Absent,
+            };
+            source.into_tree(alloc)
+        }
+        None => src.to_tree(alloc),
+    }
+}
+
+/// The specifiers of an import or an export that are public, each by its own range.
+fn public_specifiers(
+    alloc: Global,
+    asked: Asked<'_>,
+    specifiers: Part<'_>,
+) -> Result<Items<Tree>, AllocError>
+    ensures { IfOk result (λ items. items ≡ public_specifiers (Asked-around asked.entry) (seen specifiers.entry)) }
+{
+    let mut items = Items::new(alloc);
+    for specifier in specifiers.parts() {
+        let specifier = specifier.read();
+        if !asked.public_ranges.contains(&range_of_node(specifier)) {
+            continue;
+        }
+        items.push(specifier.to_tree(alloc)?)?;
+    }
+    Ok(items)
+}
+
+/// An import with its public specifiers; none where it has none.
+fn keep_import(alloc: Global, asked: Asked<'_>, item: Part<'_>) -> Result<Option<Tree>, AllocError>
+    ensures { IfOk result (λ tree. link_answer (Asked-around asked.entry) (seen item.entry) links.Import ≡ faultless (as_list tree)) }
+{
+    let ImportDecl {
+        span,
+        specifiers,
+        src,
+        type_only,
+        with,
+        phase,
+    } = ImportDecl::of(item);
+    let specifiers = public_specifiers(alloc, asked, specifiers)?;
+    if specifiers.is_empty() {
+        return Ok(None);
+    }
+    let import = ImportDecl {
+        span,
+        specifiers: Tree::list(specifiers),
+        src: answered_source(alloc, asked, src)?,
+        type_only,
+        with: with.to_tree(alloc)?,
+        phase: Atom::from_str(alloc, phase)?,
+    };
+    Ok(Some(import.into_tree(alloc)?))
+}
+
+/// An export of names with its public specifiers; none where it has none.
+fn keep_export(alloc: Global, asked: Asked<'_>, item: Part<'_>) -> Result<Option<Tree>, AllocError>
+    ensures { IfOk result (λ tree. link_answer (Asked-around asked.entry) (seen item.entry) links.Export ≡ faultless (as_list tree)) }
+{
+    let NamedExport {
+        span,
+        specifiers,
+        src,
+        type_only,
+        with,
+    } = NamedExport::of(item);
+    let specifiers = public_specifiers(alloc, asked, specifiers)?;
+    if specifiers.is_empty() {
+        return Ok(None);
+    }
+    let export = NamedExport {
+        span,
+        specifiers: Tree::list(specifiers),
+        src: answered_source(alloc, asked, src)?,
+        type_only,
+        with: with.to_tree(alloc)?,
+    };
+    Ok(Some(export.into_tree(alloc)?))
+}
+
+/// `export * from source`; none where it is not public.
+fn keep_all(alloc: Global, asked: Asked<'_>, item: Part<'_>) -> Result<Option<Tree>, AllocError>
+    ensures { IfOk result (λ tree. link_answer (Asked-around asked.entry) (seen item.entry) links.All ≡ faultless (as_list tree)) }
+{
+    let ExportAll {
+        span,
+        src,
+        type_only,
+        with,
+    } = ExportAll::of(item);
+    if !asked.public_ranges.contains(&span) {
+        return Ok(None);
+    }
+    let export = ExportAll {
+        span,
+        src: answered_source(alloc, asked, src)?,
+        type_only,
+        with: with.to_tree(alloc)?,
+    };
+    Ok(Some(export.into_tree(alloc)?))
+}
+
+/// `import A = B.C` as it is written; none where it is not public.
+fn keep_alias(alloc: Global, asked: Asked<'_>, item: Part<'_>) -> Result<Option<Tree>, AllocError>
+    ensures { IfOk result (λ tree. link_answer (Asked-around asked.entry) (seen item.entry) links.Alias ≡ faultless (as_list tree)) }
+{
+    if !asked
+        .public_ranges
+        .contains(&TsImportEqualsDecl::of(item).span)
+    {
+        return Ok(None);
+    }
+    Ok(Some(item.to_tree(alloc)?))
+}
+
+/// What is public of an import or an export with which this is done; none where nothing is. Nothing can be wrong with it.
+pub fn keep_link(
+    alloc: Global,
+    asked: Asked<'_>,
+    item: Part<'_>,
+    rule: LinkRule,
+) -> Result<Option<Tree>, AllocError>
+    ensures { IfOk result (λ tree. link_answer (Asked-around asked.entry) (seen item.entry) rule ≡ faultless (as_list tree)) }
+{
+    match rule {
+        LinkRule::Import => keep_import(alloc, asked, item),
+        LinkRule::Export => keep_export(alloc, asked, item),
+        LinkRule::All => keep_all(alloc, asked, item),
+        LinkRule::Alias => keep_alias(alloc, asked, item),
+    }
+}
