@@ -10,14 +10,14 @@ pub fn write_faults(out: &mut Writer, faults: &[Fault]) -> Result<(), AllocError
     out.begin_array()?;
     for fault in faults {
         out.begin_array()?;
-        out.string(name_of(fault.kind))?;
+        out.string(name_of(&fault.kind))?;
         write_range(out, fault.range)?;
         out.end_array()?;
     }
     out.end_array()
 }
 
-fn name_of(kind: FaultKind) -> &'static str {
+fn name_of(kind: &FaultKind) -> &'static str {
     match kind {
         FaultKind::MissingExplicitType => "type",
         FaultKind::UnsupportedDestructuring => "destructuring",
@@ -27,6 +27,9 @@ fn name_of(kind: FaultKind) -> &'static str {
         FaultKind::UnsupportedRequire => "require",
         FaultKind::UnsupportedTsExportAssignment => "export assignment",
         FaultKind::UnsupportedTsNamespaceExport => "namespace export",
+        FaultKind::UnsupportedGlobalModule => "global module",
+        FaultKind::UnsupportedAmbientModule => "ambient module",
+        FaultKind::UnsupportedExpandoProperty { .. } => "expando property",
         FaultKind::MissingExplicitReturnType {
             is_definitely_void_or_never,
             is_async,

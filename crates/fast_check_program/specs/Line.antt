@@ -6,7 +6,8 @@ use Rattle.fast_check_tables.specs.declared.diagnostics.FastCheckDiagnostic.{Fas
 use Rattle.fast_check_graph.specs.declared.graph.ModuleGraph.{ModuleGraph}
 use Rattle.fast_check_modules.specs.EsModule.{EsModule}
 use Rattle.fast_check_tables.specs.PublicRanges.{PublicRanges}
-use Rattle.fast_check_transform.specs.Transform.{skeleton, comments, sources, faults, told, AreDiagnosticsOf}
+use Rattle.fast_check_transform.specs.Transform.{skeleton, comments, sources, faults}
+use Rattle.fast_check_transform_faults.specs.Diagnostics.{AreDiagnosticsOf, told}
 use Rattle.fast_check_requests.specs.Refusal.{line_end}
 use Rattle.fast_check_answers.specs.Answer.{skeleton_data, diagnostics_data}
 

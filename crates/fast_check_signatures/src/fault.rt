@@ -1,7 +1,7 @@
-use fast_check_syntax::SourceRange;
+use fast_check_syntax::{Atom, SourceRange};
 
 /// What is wrong with an item of a module, so that it has no skeleton.
-#[derive(Clone, Copy, PartialEq, Eq, Debug)]
+#[derive(PartialEq, Eq, Debug, Drop)]
 pub enum FaultKind {
     /// A public symbol has no type that is written, or that its value shows.
     MissingExplicitType,
@@ -25,10 +25,20 @@ pub enum FaultKind {
     UnsupportedTsExportAssignment,
     /// `export as namespace x`.
     UnsupportedTsNamespaceExport,
+    /// `declare global {}`.
+    UnsupportedGlobalModule,
+    /// `declare module "x" {}`, or a namespace without a body.
+    UnsupportedAmbientModule,
+    /// The value of an expando property mentions a name that its object exports, as in `f.a = 1; f.b = a;`.
+    UnsupportedExpandoProperty {
+        object_name: Atom,
+        /// The name that the value mentions.
+        reference_name: Atom,
+    },
 }
 
 /// A fault with its place in the source.
-#[derive(Clone, Copy, PartialEq, Eq, Debug)]
+#[derive(PartialEq, Eq, Debug, Drop)]
 pub struct Fault {
     pub kind: FaultKind,
     pub range: SourceRange,

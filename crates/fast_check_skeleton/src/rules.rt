@@ -51,7 +51,7 @@ pub enum DefaultRule {
 }
 
 /// What is done with an item of a module.
-#[derive(Clone, Copy, PartialEq, Eq, Debug)]
+#[derive(PartialEq, Eq, Debug, Drop)]
 pub enum ItemRule {
     /// A declaration, which is public by its own range.
     Declared(DeclRule),

@@ -4,5 +4,4 @@ pub mod ClassCases
 pub mod ByRule
 pub mod DefaultCases
 pub mod Removed
-pub mod Diagnosed
 pub mod Transformed

@@ -9,8 +9,8 @@ ghost use Rattle.fast_check_tables.specs.MediaType.{is_declaration};
 ghost use Rattle.fast_check_modules.specs.EsModule.{Admits};
 ghost use Rattle.fast_check_links.specs.Asked.{Asked-around};
 ghost use Rattle.fast_check_transform.specs.PartAnswers.{items_answer, program_answer};
-ghost use Rattle.fast_check_transform.specs.Transform.{IsCarried, skeleton, sources, comments, faults, told};
-ghost use Rattle.fast_check_transform.specs.Transform.{IsPlaceOf, IsDiagnosticOf, AreDiagnosticsOf};
+ghost use Rattle.fast_check_transform.specs.Transform.{IsCarried, skeleton, sources, comments, faults};
+ghost use Rattle.fast_check_transform_faults.specs.Diagnostics.{AreDiagnosticsOf, told};
 
 use crate::classes::remove_inside;
 use crate::items::keep_item;
@@ -20,12 +20,12 @@ use fast_check_links::{Asked, static_sources};
 use fast_check_modules::EsModuleInfo;
 use fast_check_program_forms::Module;
 use fast_check_ranges::range_of_node;
-use fast_check_signatures::{Fault, FaultKind};
-use fast_check_syntax::{Atom, Items, Part, SourceRange, Tree};
+use fast_check_signatures::Fault;
+use fast_check_syntax::{Items, Part, Tree};
 use fast_check_tables::{
-    FastCheckDiagnostic, FastCheckDiagnosticRange, FastCheckModule, ModuleInfo, ModulePublicRanges,
-    WorkspaceMember,
+    FastCheckDiagnostic, FastCheckModule, ModuleInfo, ModulePublicRanges, WorkspaceMember,
 };
+use fast_check_transform_faults::tell;
 use std::alloc::{AllocError, Global};
 
 /// How modules are transformed.
@@ -138,86 +138,4 @@ fn keep_items(
         }
     }
     Ok(items)
-}
-
-/// The place of a fault in the source text of a module.
-fn place_of(
-    es_module_info: &EsModuleInfo,
-    fault: Fault,
-) -> Result<FastCheckDiagnosticRange, AllocError>
-    ensures { IfOk result (IsPlaceOf es_module_info.now fault) }
-{
-    Ok(FastCheckDiagnosticRange {
-        specifier: es_module_info.specifier().clone()?,
-        range: fault.range,
-        text_info: es_module_info.source().text.clone()?,
-    })
-}
-
-/// A fault of a module as a diagnostic.
-fn diagnostic_of(
-    es_module_info: &EsModuleInfo,
-    fault: Fault,
-) -> Result<FastCheckDiagnostic, AllocError>
-    ensures { IfOk result (IsDiagnosticOf es_module_info.now fault) }
-{
-    let range = place_of(es_module_info, fault)?;
-    Ok(match fault.kind {
-        FaultKind::MissingExplicitType => FastCheckDiagnostic::MissingExplicitType { range },
-        FaultKind::MissingExplicitReturnType {
-            is_definitely_void_or_never,
-            is_async,
-        } => FastCheckDiagnostic::MissingExplicitReturnType {
-            range,
-            is_definitely_void_or_never,
-            is_async,
-        },
-        FaultKind::UnsupportedDestructuring => {
-            FastCheckDiagnostic::UnsupportedDestructuring { range }
-        }
-        FaultKind::UnsupportedSuperClassExpr => {
-            FastCheckDiagnostic::UnsupportedSuperClassExpr { range }
-        }
-        FaultKind::UnsupportedDefaultExportExpr => {
-            FastCheckDiagnostic::UnsupportedDefaultExportExpr { range }
-        }
-        FaultKind::UnsupportedUsing => FastCheckDiagnostic::UnsupportedUsing { range },
-        FaultKind::UnsupportedRequire => FastCheckDiagnostic::UnsupportedRequire { range },
-        FaultKind::UnsupportedTsExportAssignment => {
-            FastCheckDiagnostic::UnsupportedTsExportAssignment { range }
-        }
-        FaultKind::UnsupportedTsNamespaceExport => {
-            FastCheckDiagnostic::UnsupportedTsNamespaceExport { range }
-        }
-    })
-}
-
-/// The faults of a module as diagnostics.
-fn diagnostics_of(
-    alloc: Global,
-    es_module_info: &EsModuleInfo,
-    faults: &[Fault],
-) -> Result<Vec<FastCheckDiagnostic>, AllocError>
-    ensures { IfOk result (λ diagnostics. AreDiagnosticsOf es_module_info.now faults.now diagnostics.items) }
-{
-    let mut diagnostics = Vec::new(alloc);
-    for fault in faults {
-        diagnostics.push(diagnostic_of(es_module_info, *fault)?)?;
-    }
-    Ok(diagnostics)
-}
-
-/// The faults of a module as diagnostics, or the first of them alone.
-fn tell(
-    alloc: Global,
-    es_module_info: &EsModuleInfo,
-    mut faults: Vec<Fault>,
-    first_alone: bool,
-) -> Result<Vec<FastCheckDiagnostic>, AllocError>
-    ensures { IfOk result (λ diagnostics. AreDiagnosticsOf es_module_info.now (told first_alone faults.items) diagnostics.items) }
-{
-    if first_alone {
-        faults.truncate(1);
-    }
-    diagnostics_of(alloc, es_module_info, faults.as_slice())
 }
