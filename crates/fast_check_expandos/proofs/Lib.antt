@@ -1,0 +1,3 @@
+pub mod ReferencesOut
+pub mod Grouped
+pub mod LastRanges

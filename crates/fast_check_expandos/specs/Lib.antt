@@ -1,0 +1,5 @@
+pub mod Groups
+pub mod Objects
+pub mod References
+pub mod Expandos
+pub mod Merged

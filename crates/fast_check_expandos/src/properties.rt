@@ -1,0 +1,88 @@
+ghost use Rattle.std.specs.Prelude.{◌≡◌, IfOk};
+ghost use Rattle.std.specs.Option.{option_copied};
+ghost use Rattle.fast_check_syntax.specs.Part.{seen};
+ghost use Rattle.fast_check_expandos.specs.Objects.{exports_name, stands_exported};
+ghost use Rattle.fast_check_expandos.specs.Expandos.{object_of, property_declarator, property_of};
+
+use crate::references::{Reference, conflicts};
+use fast_check_expression_forms::{AssignExpr, MemberExpr};
+use fast_check_helpers::new_ident;
+use fast_check_program_forms::{BindingIdent, Ident, IdentName};
+use fast_check_statement_forms::VarDeclarator;
+use fast_check_symbols::Symbol;
+use fast_check_syntax::{Atom, Id, Items, Part, Tree};
+use std::alloc::{AllocError, Global};
+
+/// A property that `object.name = value;` declares for a function.
+#[derive(Drop)]
+pub struct ExpandoProperty {
+    pub object: Id,
+    /// Whether a declaration of the object stands behind the keyword `export`.
+    pub is_exported: bool,
+    /// `name = value` as it stands in the namespace of the object.
+    pub declarator: Tree,
+    /// What the value mentions of the names that the object exports.
+    pub conflicts: Items<Reference>,
+}
+
+/// The property that an assignment of expando form declares, with its value as it stays. `symbol` is the symbol of the object.
+pub fn expando_property(
+    alloc: Global,
+    symbol: Option<&Symbol>,
+    assignment: Part<'_>,
+    value: Tree,
+) -> Result<ExpandoProperty, AllocError>
+    ensures { IfOk result (λ made. made ≡
+        property_of (exports_name (option_copied symbol.entry)) (stands_exported (option_copied symbol.entry)) (seen assignment.entry) value) }
+{
+    let object = object_of(alloc, assignment)?;
+    let conflicts = conflicts(alloc, object.1, symbol, value.read())?;
+    Ok(ExpandoProperty {
+        object,
+        is_exported: stands_exported(symbol),
+        declarator: property_declarator(alloc, assignment, value)?,
+        conflicts,
+    })
+}
+
+/// The object of an assignment of expando form.
+pub fn object_of(alloc: Global, assignment: Part<'_>) -> Result<Id, AllocError>
+    ensures { IfOk result (λ object. object ≡ object_of (seen assignment.entry)) }
+{
+    let target = MemberExpr::of(AssignExpr::of(assignment).left);
+    let Ident { ctxt, sym, .. } = Ident::of(target.obj);
+    Ok(Id(Atom::from_str(alloc, sym)?, ctxt))
+}
+
+/// `name = value`.
+fn property_declarator(
+    alloc: Global,
+    assignment: Part<'_>,
+    value: Tree,
+) -> Result<Tree, AllocError>
+    ensures { IfOk result (λ tree. tree ≡ property_declarator (seen assignment.entry) value) }
+{
+    let AssignExpr { span, left, .. } = AssignExpr::of(assignment);
+    let property = IdentName::of(MemberExpr::of(left).prop);
+    let name = BindingIdent {
+        id: new_ident(Atom::from_str(alloc, property.sym)?).into_tree(alloc)?,
+        type_ann: Tree::Absent,
+    };
+    VarDeclarator {
+        span,
+        name: name.into_tree(alloc)?,
+        init: value,
+        definite: false,
+    }
+    .into_tree(alloc)
+}
+
+/// Whether a declaration of a symbol, if there is one, stands behind the keyword `export`.
+fn stands_exported(symbol: Option<&Symbol>) -> bool
+    ensures { result ≡ stands_exported (option_copied symbol.entry) }
+{
+    match symbol {
+        Some(symbol) => symbol.has_export_keyword(),
+        None => false,
+    }
+}
