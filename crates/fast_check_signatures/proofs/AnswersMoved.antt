@@ -24,12 +24,12 @@ use Rattle.fast_check_signatures.specs.Functions.{return_type_missing}
 use Rattle.fast_check_signatures.specs.NewNodes.{function_body, arrow_body}
 use Rattle.fast_check_signatures.specs.Seen.{DeclaratorHead, DefaultHead, FunctionHead, ArrowHead, ClassHead, PropertyHead}
 use Rattle.fast_check_signatures.specs.Seen.{Seen, written, round, listed, declarator, default, function, typed_arrow, valued_arrow, class, property}
-use Rattle.fast_check_signatures.specs.Seen.{default_export, faulty, refused, Seens, end, also, seens}
+use Rattle.fast_check_signatures.specs.Seen.{default_export, tested, faulty, refused, Seens, end, also, seens}
 use Rattle.fast_check_signatures.specs.Answers.{Answer, fault_at, made, joined, settled, unless_stays, demanded, before, visited, with_tree}
 use Rattle.fast_check_signatures.specs.Answers.{valued_declarator, signed_function, signed_arrow, kept_arrow, class_of, declared_property}
 use Rattle.fast_check_signatures.specs.Answers.{valued_property, class_answer, property_answer, default_export_answer}
 use Rattle.fast_check_signatures.specs.Answers.{round_answer, list_answer, declarator_answer, default_answer, function_answer, typed_arrow_answer}
-use Rattle.fast_check_signatures.specs.Answers.{valued_arrow_answer}
+use Rattle.fast_check_signatures.specs.Answers.{valued_arrow_answer, tested_answer}
 use Rattle.fast_check_signatures.specs.Answers.{answer_to, parts_answer, items_answer, answer_of}
 use Rattle.fast_check_signatures.proofs.NewNodesMoved.{function_body_moved, arrow_body_moved}
 use Rattle.fast_check_signatures.proofs.MovedParts.{moved_declarator, moved_default, moved_function, moved_arrow, moved_class, moved_property}
@@ -242,6 +242,16 @@ module _ (m : Moves) (ok : Keeps m) where
       ∙ made_moved m make make' (moved m) (option_map (moved m)) (demanded fault a)
       (ap Some (sym (export_default_expr_moved span (demanded fault a).stays)))
 
+  tested_answer_moved : (place : Option SourceRange) (a : Answer (Option Tree)) →
+      tested_answer (option_map (moved_range m) place) (moved_answer m a) ≡ moved_answer m (tested_answer place a)
+  tested_answer_moved None a =
+      let make : Option Tree → Option Tree = λ v. None in
+      made_moved m make make (option_map (moved m)) (option_map (moved m)) a refl
+  tested_answer_moved (Some place) a =
+      let fault = fault_at MissingExplicitType place in
+      let make : Tree → Option Tree = λ v. None in
+      ap (made make) (demanded_moved m fault a) ∙ made_moved m make make (moved m) (option_map (moved m)) (demanded fault a) refl
+
   -- ---- all
 
   mutual
@@ -266,6 +276,8 @@ module _ (m : Moves) (ok : Keeps m) where
     answer_to_moved (property p value) = ap (property_answer (moved_property m p)) (answer_to_moved value) ∙ property_answer_moved p (answer_to value)
     answer_to_moved (default_export span value) =
         ap (default_export_answer (moved_range m span)) (answer_to_moved value) ∙ default_export_answer_moved span (answer_to value)
+    answer_to_moved (tested place value) =
+        ap (tested_answer (option_map (moved_range m) place)) (answer_to_moved value) ∙ tested_answer_moved place (answer_to value)
     answer_to_moved (faulty kind place) = λ i. record { stays = Some (sym (absent_moved m) i); faults = fault_at kind (moved_range m place) ∷ [] }
     answer_to_moved refused = refl
 

@@ -1,5 +1,5 @@
 -- What is seen, moved; what the fields of a moved node read as; and choices between moved things.
-use Rattle.std.specs.Prelude.{◌≡◌, ℕ, Bool, true, false, List, [], ◌∷◌, map, refl, if◌then◌else◌}
+use Rattle.std.specs.Prelude.{◌≡◌, ℕ, Bool, true, false, option_map, List, [], ◌∷◌, map, refl, if◌then◌else◌}
 use Rattle.std.proofs.Common.{ap, ◌∙◌, sym}
 use Rattle.fast_check_syntax.specs.declared.atom.Id.{Id}
 use Rattle.fast_check_syntax.specs.declared.source.SourceRange.{SourceRange}
@@ -12,7 +12,7 @@ use Rattle.fast_check_helpers.proofs.GlobalCallsMoved.{moved_scope, context_of_m
 use Rattle.fast_check_signatures.specs.Bindings.{Bindings}
 use Rattle.fast_check_signatures.specs.Seen.{DeclaratorHead, DefaultHead, FunctionHead, ArrowHead, ClassHead, PropertyHead}
 use Rattle.fast_check_signatures.specs.Seen.{Seen, written, round, listed, declarator, default, function, typed_arrow, valued_arrow, class, property}
-use Rattle.fast_check_signatures.specs.Seen.{default_export, faulty, refused, Seens, end, also, seens, range, scope}
+use Rattle.fast_check_signatures.specs.Seen.{default_export, tested, faulty, refused, Seens, end, also, seens, range, scope}
 
 -- what is known of moved names, where this says which of them are those of plain classes
 abbrev pub moved_bindings : Moves → (Id → Bool) → Bindings → Bindings
@@ -72,6 +72,7 @@ abbrev mutual
   moved_seen m (class c superclass members) = class (moved_class m c) (moved_seen m superclass) (moved_seens m members)
   moved_seen m (property p value) = property (moved_property m p) (moved_seen m value)
   moved_seen m (default_export span value) = default_export (moved_range m span) (moved_seen m value)
+  moved_seen m (tested place value) = tested (option_map (moved_range m) place) (moved_seen m value)
   moved_seen m (faulty kind place) = faulty kind (moved_range m place)
   moved_seen m refused = refused
 

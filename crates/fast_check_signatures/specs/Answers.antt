@@ -21,7 +21,7 @@ use Rattle.fast_check_signatures.specs.NewNodes.{function_body, arrow_body}
 use Rattle.fast_check_signatures.specs.Functions.{return_type_missing}
 use Rattle.fast_check_signatures.specs.Seen.{DeclaratorHead, DefaultHead, FunctionHead, ArrowHead, ClassHead, PropertyHead}
 use Rattle.fast_check_signatures.specs.Seen.{Seen, written, round, listed, declarator, default, function, typed_arrow, valued_arrow, class, property}
-use Rattle.fast_check_signatures.specs.Seen.{default_export, faulty, refused, Seens, end, also, seens}
+use Rattle.fast_check_signatures.specs.Seen.{default_export, tested, faulty, refused, Seens, end, also, seens}
 
 -- ---- answers
 
@@ -147,6 +147,11 @@ property_answer p value = made (λ v. Some (valued_property p v)) (demanded (fau
 abbrev pub default_export_answer : SourceRange → Answer (Option Tree) → Answer (Option Tree)
 default_export_answer span value = made (λ v. Some (export_default_expr span v)) (demanded (fault_at UnsupportedDefaultExportExpr span) value)
 
+-- nothing stays of what is tested alone
+abbrev pub tested_answer : Option SourceRange → Answer (Option Tree) → Answer (Option Tree)
+tested_answer None value = made (λ v. None) value
+tested_answer (Some place) value = made (λ v. None) (demanded (fault_at MissingExplicitType place) value)
+
 abbrev mutual
   pub answer_to : Seen → Answer (Option Tree)
   answer_to (written t) = faultless (Some t)
@@ -160,6 +165,7 @@ abbrev mutual
   answer_to (class c superclass members) = class_answer c (answer_to superclass) (items_answer members)
   answer_to (property p value) = property_answer p (answer_to value)
   answer_to (default_export span value) = default_export_answer span (answer_to value)
+  answer_to (tested place value) = tested_answer place (answer_to value)
   answer_to (faulty kind place) = record { stays = Some Absent; faults = fault_at kind place ∷ [] }
   answer_to refused = faultless None
 

@@ -1,5 +1,5 @@
 -- What is seen of a source: what is hidden is gone, or stands as what may be read of it.
-use Rattle.std.specs.Prelude.{Bool, List, [], ◌∷◌}
+use Rattle.std.specs.Prelude.{Bool, Option, List, [], ◌∷◌}
 use Rattle.fast_check_syntax.specs.declared.kind.Kind.{Kind}
 use Rattle.fast_check_syntax.specs.declared.source.SourceRange.{SourceRange}
 use Rattle.fast_check_syntax.specs.declared.source.SyntaxContext.{SyntaxContext}
@@ -77,6 +77,8 @@ mutual
     property : PropertyHead → (value : Seen) → Seen
     -- the default export of an expression, which gives its type
     default_export : SourceRange → (value : Seen) → Seen
+    -- a value that is tested, and goes; where it may not stay, the type is missing at the place, if there is one
+    tested : Option SourceRange → (value : Seen) → Seen
     -- what no skeleton can have, by what is wrong with it and where
     faulty : FaultKind → SourceRange → Seen
     -- an expression that may not stay
