@@ -35,7 +35,7 @@ use Rattle.fast_check_helpers.proofs.BuildersMoved.{type_ann_moved, never_value_
 use Rattle.fast_check_skeleton.specs.Mutability.{mutability_of}
 use Rattle.fast_check_signatures.specs.Seen.{Seen, written, range, scope, flag, round, listed, declarator, faulty, refused, seens}
 use Rattle.fast_check_skeleton.specs.Visible.{declared_ident, declared_type, declarator_head, typed_declarator, value_seen, untyped_seen, ident_declarator_seen}
-use Rattle.fast_check_skeleton.specs.Visible.{declarator_seen, is_ambient, is_public_declarator, declarator_in, public_declarator, public_declarators}
+use Rattle.fast_check_skeleton.specs.Visible.{declarator_seen, is_ambient_statement, is_public_declarator, declarator_in, public_declarator, public_declarators}
 use Rattle.fast_check_skeleton.specs.Visible.{statement_seen, signature_of, function_decl_seen, public_function, is_ambient_class, class_in, class_decl_seen}
 use Rattle.fast_check_skeleton.specs.Visible.{public_class, is_public_using, using_place, decl_seen, exported_seen}
 use Rattle.fast_check_skeleton.specs.Visible.{seen_by_rule, item_seen, items_of, visible}
@@ -63,6 +63,7 @@ use Rattle.fast_check_skeleton.specs.Rules.{decl_rule, rule_of_kind, is_taken_de
 use Rattle.fast_check_skeleton.specs.declared.rules.DeclRule.{DeclRule}
 use Rattle.fast_check_skeleton.specs.declared.rules.DeclRule.TheVariants.{Variables, Function, Class, Standing, Using}
 use Rattle.fast_check_skeleton.proofs.Ruled.{standing_rule, declared_rule, silent_rule}
+use Rattle.fast_check_skeleton.proofs.Namespaces.{item_seen_is, hidden_namespace}
 use Rattle.fast_check_skeleton.proofs.AgreeingLinks.{silent_link, links_alike}
 use Rattle.fast_check_skeleton.proofs.AgreeingDefaults.{silent_default, defaults_alike}
 use Rattle.fast_check_skeleton.specs.SameLinks as l
@@ -98,6 +99,7 @@ module _ (around : Surroundings) where
   silent_taken p t (h.IsSilentDecl.function k e) = ap (λ j. is_taken_decl (decl_rule j)) k
   silent_taken p t (h.IsSilentDecl.class k e) = ap (λ j. is_taken_decl (decl_rule j)) k
   silent_taken p t (h.IsSilentDecl.using k e) = ap (λ j. is_taken_decl (decl_rule j)) k
+  silent_taken p t (h.IsSilentDecl.namespace k n e) = ap (λ j. is_taken_decl (decl_rule j)) k
 
   silent_decl : (p : SourceRange) (t : Tree) → IsSilentDecl around p t → decl_seen around p t (rule_of t) ≡ []
   silent_decl p t (h.IsSilentDecl.variable k e) =
@@ -111,19 +113,21 @@ module _ (around : Surroundings) where
   silent_decl p t (h.IsSilentDecl.using k e) =
       ap (λ j. decl_seen around p t (decl_rule j)) k ∙ ap (λ b. if b then faulty UnsupportedUsing (using_place t) ∷ [] else []) e
 
+  silent_decl p t (h.IsSilentDecl.namespace k n e) = ap (λ j. decl_seen around p t (decl_rule j)) k ∙ hidden_namespace around p t n e
+
   item_of : (t : Tree) → is_taken_decl (rule_of t) ≡ true → item_seen around t ≡ decl_seen around (range_of_node t) t (rule_of t)
-  item_of t e = ap (seen_by_rule around t) (declared_rule (kind_of t) t e)
+  item_of t e = item_seen_is around t ∙ ap (seen_by_rule around t) (declared_rule (kind_of t) t e)
 
   export_of : (t : Tree) → kind_of t ≡ ExportDecl →
       item_seen around t ≡ exported_seen t (decl_seen around (ExportDecl-span t) (ExportDecl-decl t) (rule_of (ExportDecl-decl t)))
-  export_of t e = ap (λ k. seen_by_rule around t (rule_of_kind k t)) e
+  export_of t e = item_seen_is around t ∙ ap (λ k. seen_by_rule around t (rule_of_kind k t)) e
 
   pub silent_item : (t : Tree) → IsSilent around t → item_seen around t ≡ []
   silent_item t (h.IsSilent.decl s) = item_of t (silent_taken (range_of_node t) t s) ∙ silent_decl (range_of_node t) t s
-  silent_item t (h.IsSilent.statement s) = ap (seen_by_rule around t) (silent_rule t s)
+  silent_item t (h.IsSilent.statement s) = item_seen_is around t ∙ ap (seen_by_rule around t) (silent_rule t s)
   silent_item t (h.IsSilent.exported k s) = export_of t k ∙ ap (exported_seen t) (silent_decl (ExportDecl-span t) (ExportDecl-decl t) s)
-  silent_item t (h.IsSilent.linked s) = let e = silent_link around t s in ap (seen_by_rule around t) e.is ∙ e.unseen
-  silent_item t (h.IsSilent.default s) = let e = silent_default around t s in ap (seen_by_rule around t) e.is ∙ e.unseen
+  silent_item t (h.IsSilent.linked s) = let e = silent_link around t s in item_seen_is around t ∙ (ap (seen_by_rule around t) e.is ∙ e.unseen)
+  silent_item t (h.IsSilent.default s) = let e = silent_default around t s in item_seen_is around t ∙ (ap (seen_by_rule around t) e.is ∙ e.unseen)
 
 -- ---- what agrees is seen alike
 
@@ -266,7 +270,7 @@ module _ (r : Renaming) (ok : IsRenaming r) where
     mutability_alike : (t u : Tree) → SameTree r t u → mutability_of t ≡ mutability_of u
     mutability_alike t u s = ap (λ c. if c then Const else Mutable) (const_alike t u s)
 
-    ambient_alike : (t u : Tree) → a.is_declaration_file ≡ b.is_declaration_file → VarDecl-declare t ≡ VarDecl-declare u → is_ambient a t ≡ is_ambient b u
+    ambient_alike : (t u : Tree) → a.is_ambient ≡ b.is_ambient → VarDecl-declare t ≡ VarDecl-declare u → is_ambient_statement a t ≡ is_ambient_statement b u
     ambient_alike t u e f = ap₂ (λ x y. x || y) e f
 
     -- ---- functions
@@ -281,7 +285,7 @@ module _ (r : Renaming) (ok : IsRenaming r) where
     abbrev function_form : Surroundings → SourceRange → Tree → Seen
     function_form around p t = round FnDecl (seens (written (FnDecl-ident t) ∷ flag (FnDecl-declare t) ∷ signature_of around p t ∷ []))
 
-    declared_function : (p q : SourceRange) (t u : Tree) → a.is_declaration_file ≡ b.is_declaration_file → SameFunctionDecl r a b p q t u →
+    declared_function : (p q : SourceRange) (t u : Tree) → a.is_ambient ≡ b.is_ambient → SameFunctionDecl r a b p q t u →
         Alike r ok (signature_of a p t) (signature_of b q u) →
         Alike r ok (function_decl_seen a p t) (function_decl_seen b q u)
     declared_function p q t u m d s =
@@ -289,8 +293,8 @@ module _ (r : Renaming) (ok : IsRenaming r) where
         round_alike r ok FnDecl (written (FnDecl-ident t) ∷ flag (FnDecl-declare t) ∷ signature_of a p t ∷ [])
         (written (FnDecl-ident u) ∷ flag (FnDecl-declare u) ∷ signature_of b q u ∷ [])
         (λ i. same_written r ok d.ident i ∷ flag_alike r ok (FnDecl-declare t) (FnDecl-declare u) d.declare i ∷ s i ∷ []) in
-        subst₂ (λ x y. Alike r ok (if x then written t else function_form a p t) (if y then written u else function_form b q u)) (sym d.is_declaration_file)
-        (sym d.is_declaration_file ∙ m) same
+        subst₂ (λ x y. Alike r ok (if x then written t else function_form a p t) (if y then written u else function_form b q u)) (sym d.is_ambient)
+        (sym d.is_ambient ∙ m) same
 
     public_alike : (p q : SourceRange) (t u : Tree) → a.is_public p ≡ b.is_public q → Alike r ok (function_decl_seen a p t) (function_decl_seen b q u) →
         AllAlike r ok (public_function a p t) (public_function b q u)
@@ -298,7 +302,7 @@ module _ (r : Renaming) (ok : IsRenaming r) where
 
     -- ---- classes
 
-    pub ambient_class_same : (t u : Tree) → a.is_declaration_file ≡ b.is_declaration_file → ClassDecl-declare t ≡ ClassDecl-declare u →
+    pub ambient_class_same : (t u : Tree) → a.is_ambient ≡ b.is_ambient → ClassDecl-declare t ≡ ClassDecl-declare u →
         is_ambient_class a t ≡ is_ambient_class b u
     ambient_class_same t u e f = ap₂ (λ x y. x || y) e f
 
@@ -344,12 +348,12 @@ module _ (r : Renaming) (ok : IsRenaming r) where
     abbrev declared_as : Tree → DeclMutabilityKind
     declared_as statement = mutability_of (VarDecl-kind statement)
 
-    decl_alike : IsPair r.scopes a.unresolved.0 b.unresolved.0 → a.is_declaration_file ≡ b.is_declaration_file →
+    decl_alike : IsPair r.scopes a.unresolved.0 b.unresolved.0 → a.is_ambient ≡ b.is_ambient →
         (p q : SourceRange) (t u : Tree) → SameDecl r a b p q t u → DeclsAlike p q t u
     decl_alike c m p q t u (h.SameDecl.variable d n rest) = of_variables p q t u (SameDeclarator r a b (declared_as t)) d go rest
       where
         go : (x y : Tree) → SameDeclarator r a b (declared_as t) x y → Alike r ok (declarator_in a t x) (declarator_in b u y)
-        go x y s = alike_if r ok (is_ambient a t) (is_ambient b u)
+        go x y s = alike_if r ok (is_ambient_statement a t) (is_ambient_statement b u)
             (written x) (declarator_seen a (declared_as t) x) (written y) (declarator_seen b (declared_as u) y)
             (ambient_alike t u m d.declare) (λ e. cc)
             (λ f. subst (λ k. Alike r ok (declarator_seen a (declared_as t) x) (declarator_seen b k y))
@@ -357,7 +361,7 @@ module _ (r : Renaming) (ok : IsRenaming r) where
     decl_alike c m p q t u (h.SameDecl.ambient d n rest) = of_variables p q t u (SameTree r) d go rest
       where
         go : (x y : Tree) → SameTree r x y → Alike r ok (declarator_in a t x) (declarator_in b u y)
-        go x y s = alike_if r ok (is_ambient a t) (is_ambient b u)
+        go x y s = alike_if r ok (is_ambient_statement a t) (is_ambient_statement b u)
             (written x) (declarator_seen a (declared_as t) x) (written y) (declarator_seen b (declared_as u) y)
             (ambient_alike t u m d.declare) (λ e. same_written r ok s) (λ e. cc)
     decl_alike c m p q t u (h.SameDecl.standing k d s e f) =
@@ -391,7 +395,7 @@ module _ (r : Renaming) (ok : IsRenaming r) where
         (faulty_alike r ok UnsupportedUsing (using_place t) (using_place u) (range_to r ok (using_place t) (using_place u) s)))
 
     -- declarations that agree are taken
-    pub decl_taken : IsPair r.scopes a.unresolved.0 b.unresolved.0 → a.is_declaration_file ≡ b.is_declaration_file →
+    pub decl_taken : IsPair r.scopes a.unresolved.0 b.unresolved.0 → a.is_ambient ≡ b.is_ambient →
         (p q : SourceRange) (t u : Tree) → SameDecl r a b p q t u →
         (is_taken_decl (decl_rule (kind_of t)) ≡ true) × (is_taken_decl (decl_rule (kind_of u)) ≡ true)
     decl_taken c m p q t u d = let e = decl_alike c m p q t u d in (e.left, e.right)
@@ -407,7 +411,7 @@ module _ (r : Renaming) (ok : IsRenaming r) where
     exported_alike t u [] (y ∷ ys) s p = cc
     exported_alike t u (x ∷ xs) [] s p = cc
 
-    pub item_alike : IsPair r.scopes a.unresolved.0 b.unresolved.0 → a.is_declaration_file ≡ b.is_declaration_file → (t u : Tree) → SameItem r a b t u →
+    pub item_alike : IsPair r.scopes a.unresolved.0 b.unresolved.0 → a.is_ambient ≡ b.is_ambient → (t u : Tree) → SameItem r a b t u →
         AllAlike r ok (item_seen a t) (item_seen b u)
     item_alike c m t u (h.SameItem.decl d) =
         let e = decl_alike c m (range_of_node t) (range_of_node u) t u d in
@@ -427,7 +431,7 @@ module _ (r : Renaming) (ok : IsRenaming r) where
         subst₂ (λ x y. AllAlike r ok (seen_by_rule a t x) (seen_by_rule b u y)) (sym e) (sym f)
         (ap (λ x. faulty kind x ∷ []) (range_to r ok (range_of_node t) (range_of_node u) s))
 
-    items_alike : IsPair r.scopes a.unresolved.0 b.unresolved.0 → a.is_declaration_file ≡ b.is_declaration_file → (ts us : List Tree) →
+    items_alike : IsPair r.scopes a.unresolved.0 b.unresolved.0 → a.is_ambient ≡ b.is_ambient → (ts us : List Tree) →
         SameItems r a b ts us → AllAlike r ok (flat_map (item_seen a) ts) (flat_map (item_seen b) us)
     items_alike c m [] [] h.SameItems.end = refl
     items_alike c m (t ∷ ts) us (h.SameItems.left q n rest) =
@@ -439,7 +443,7 @@ module _ (r : Renaming) (ok : IsRenaming r) where
         (item_alike c m t u s) (items_alike c m ts us rest)
 
     visible_alike : (t u : Tree) → AgreeHidden r a b t u → AllAlike r ok (visible a t) (visible b u)
-    visible_alike t u g = items_alike g.unresolved g.is_declaration_file (items_of t) (items_of u) g.items
+    visible_alike t u g = items_alike g.unresolved g.is_ambient (items_of t) (items_of u) g.items
 
     -- ---- answers
 

@@ -122,7 +122,7 @@ function_decls : (p q : SourceRange) (ss ts : List Tree) → SameFunctionDecl no
 function_decls p q ss ts = record {
   kinds = record { left = kind_of_node _ _; right = kind_of_node _ _ };
   is_public = refl;
-  is_declaration_file = refl;
+  is_ambient = refl;
   ident = are_same _ _ (new_ident (102 ∷ [])) (part_node _ _ _) (part_node _ _ _) (same_ident (102 ∷ []));
   declare = simp (part_node, flag_of_flag);
 }
@@ -215,7 +215,7 @@ items_made items = simp parts_node
 agree : AgreeHidden no_places all_public all_public first second
 agree = record {
   unresolved = inl (refl, refl);
-  is_declaration_file = refl;
+  is_ambient = refl;
   items = subst₂ (SameItems no_places all_public all_public) (sym (items_made _)) (sym (items_made _))
       (h.SameItems.next (function_items [] (empty_statement ∷ [])) (h.SameItems.next class_items h.SameItems.end));
   shebang = are_same _ _ Absent (part_node _ _ _) (part_node _ _ _) same_absent;

@@ -1,4 +1,5 @@
 pub mod Ruled
+pub mod Namespaces
 pub mod ItemRanges
 pub mod RemovedMembers
 pub mod AgreeingLinks

@@ -86,7 +86,7 @@ default_functions ss ts = record {
     span = at_places _ _ (simp (part_node, range_of_range)) (simp (part_node, range_of_range));
     is_public = simp (part_node, range_of_range);
   };
-  is_declaration_file = refl;
+  is_ambient = refl;
   ident = are_same _ _ Absent (ident_made ss) (ident_made ts) same_absent;
 }
 
@@ -99,7 +99,7 @@ defaults ss ts = h.SameItem.default (d.SameDefault.function (default_functions s
 agree : AgreeHidden no_places around around first second
 agree = record {
   unresolved = inl (refl, refl);
-  is_declaration_file = refl;
+  is_ambient = refl;
   items = subst₂ (SameItems no_places around around) (sym (items_made _)) (sym (items_made _))
       (h.SameItems.next (h.SameItem.linked (l.SameLink.import imports)) (h.SameItems.next (defaults [] (empty_statement ∷ [])) h.SameItems.end));
   shebang = are_same _ _ Absent (part_node _ _ _) (part_node _ _ _) same_absent;

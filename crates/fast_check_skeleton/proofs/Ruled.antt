@@ -82,6 +82,7 @@ declared_rule kinds.ClassDecl t e = refl
 declared_rule kinds.TsInterfaceDecl t e = refl
 declared_rule kinds.TsTypeAliasDecl t e = refl
 declared_rule kinds.TsEnumDecl t e = refl
+declared_rule kinds.TsModuleDecl t e = refl
 declared_rule kinds.UsingDecl t e = refl
 declared_rule _ t e = absurd (false≢true e)
 

@@ -58,7 +58,7 @@ use Rattle.fast_check_skeleton.specs.Mutability.{mutability_of}
 use Rattle.fast_check_skeleton.specs.Rules.{decl_rule, expr_stmt_rule, default_rule, is_require, rule_of_kind}
 use Rattle.fast_check_skeleton.specs.Surroundings.{Surroundings}
 use Rattle.fast_check_skeleton.specs.Visible.{declared_ident, declared_type, value_seen, untyped_seen}
-use Rattle.fast_check_skeleton.specs.Visible.{declarator_seen, is_ambient, is_public_declarator, declarator_in, public_declarator, public_declarators}
+use Rattle.fast_check_skeleton.specs.Visible.{declarator_seen, is_ambient_statement, is_public_declarator, declarator_in, public_declarator, public_declarators}
 use Rattle.fast_check_skeleton.specs.Visible.{statement_seen, signature_of, function_decl_seen, public_function, is_ambient_class, class_in, class_decl_seen}
 use Rattle.fast_check_skeleton.specs.Visible.{public_class, is_public_using, using_place, decl_seen, exported_seen}
 use Rattle.fast_check_skeleton.specs.Visible.{seen_by_rule, item_seen, items_of}
@@ -139,7 +139,7 @@ module _ (around : Surroundings) where
   abbrev Typed' : Tree → Type 0
   Typed' = IsTypedDeclarator around.unresolved
 
-  declarators_stay : (statement : Tree) → is_ambient around statement ≡ false → AllStay Typed' (public_declarators around statement)
+  declarators_stay : (statement : Tree) → is_ambient_statement around statement ≡ false → AllStay Typed' (public_declarators around statement)
   declarators_stay statement n = all_flat Typed' (public_declarator around statement) (parts (VarDecl-decls statement))
       (λ d. all_if Typed' (is_public_declarator around d) (declarator_in around statement d)
       (let P : Bool → Type 0 = λ a. Stays Typed' (answer_to (if a then written d else declarator_seen around (mutability_of (VarDecl-kind statement)) d)) in
@@ -162,26 +162,26 @@ module _ (around : Surroundings) where
       answer_to (statement_form statement ds) ≡ (record { stays = Some (made statement (answer_of ds).stays); faults = (answer_of ds).faults })
   statement_is statement ds = λ i. record { stays = Some (made statement (answer_of ds).stays); faults = append-nil (answer_of ds).faults i }
 
-  ambient_or_typed : (statement : Tree) (ds : List Tree) (a : Bool) → is_ambient around statement ≡ a → (a ≡ false → OfAll Typed' ds) →
-      IsTrue (around.is_declaration_file || VarDecl-declare (node VarDecl (made_parts statement ds))) ⊎
+  ambient_or_typed : (statement : Tree) (ds : List Tree) (a : Bool) → is_ambient_statement around statement ≡ a → (a ≡ false → OfAll Typed' ds) →
+      IsTrue (around.is_ambient || VarDecl-declare (node VarDecl (made_parts statement ds))) ⊎
       OfAll Typed' (parts (VarDecl-decls (node VarDecl (made_parts statement ds))))
   ambient_or_typed statement ds true q p =
       let f = ap flag_of (part_node _ VarDecl (made_parts statement ds)) ∙ flag_of_flag (VarDecl-declare statement) in
-      inl (subst (λ b. IsTrue (around.is_declaration_file || b)) (sym f) q)
+      inl (subst (λ b. IsTrue (around.is_ambient || b)) (sym f) q)
   ambient_or_typed statement ds false q p =
       let same : VarDecl-decls (node VarDecl (made_parts statement ds)) ≡ list ds = part_node _ _ _ in
       inr (subst (OfAll Typed') (sym (ap parts same ∙ parts_node List' ds)) (p refl))
 
   abbrev Statement : Tree → Type 0
-  Statement = IsTypedStatement around.unresolved around.is_declaration_file
+  Statement = IsTypedStatement around.unresolved around.is_ambient
 
-  statement_stays : (statement : Tree) (ds : List Seen) → (is_ambient around statement ≡ false → Holds (OfAll Typed') (answer_of ds)) →
+  statement_stays : (statement : Tree) (ds : List Seen) → (is_ambient_statement around statement ≡ false → Holds (OfAll Typed') (answer_of ds)) →
       AllStay Statement (statement_seen statement ds)
   statement_stays statement [] p = tt
   statement_stays statement (d ∷ ds) p = (
     λ f. record {
       kind = kind_of_node VarDecl (made_parts statement (answer_of (d ∷ ds)).stays);
-      declarators = ambient_or_typed statement (answer_of (d ∷ ds)).stays (is_ambient around statement) refl (λ n. p n (no_left _ [] f));
+      declarators = ambient_or_typed statement (answer_of (d ∷ ds)).stays (is_ambient_statement around statement) refl (λ n. p n (no_left _ [] f));
     },
     tt,
   )
@@ -189,7 +189,7 @@ module _ (around : Surroundings) where
   -- ---- functions
 
   abbrev Function' : Tree → Type 0
-  Function' = IsTypedFunctionDecl around.unresolved around.is_declaration_file
+  Function' = IsTypedFunctionDecl around.unresolved around.is_ambient
 
   function_made : (decl function : Tree) → IsTypedFunction around.unresolved function → Function' (fn_decl (FnDecl-ident decl) (FnDecl-declare decl) function)
   function_made decl function h =
@@ -217,16 +217,16 @@ module _ (around : Surroundings) where
       (λ e. function_is_typed around.unresolved DeclarationLike (Ident-span (FnDecl-ident decl)) (FnDecl-function decl) refl)
 
   function_stays : (place : SourceRange) (decl : Tree) → kind_of decl ≡ FnDecl → AllStay Function' (public_function around place decl)
-  function_stays place decl k = all_if Function' (around.is_public place) (function_decl_seen around place decl) (go around.is_declaration_file refl)
+  function_stays place decl k = all_if Function' (around.is_public place) (function_decl_seen around place decl) (go around.is_ambient refl)
     where
-      go : (b : Bool) → around.is_declaration_file ≡ b → Stays Function' (answer_to (if b then written decl else signed decl (signature_of around place decl)))
+      go : (b : Bool) → around.is_ambient ≡ b → Stays Function' (answer_to (if b then written decl else signed decl (signature_of around place decl)))
       go true q = λ f. record { kind = k; function = inl q }
       go false q = signed_stays decl (signature_of around place decl) (signature_stays place decl)
 
   -- ---- classes
 
   abbrev Class' : Tree → Type 0
-  Class' = IsTypedClassDecl around.unresolved around.is_declaration_file
+  Class' = IsTypedClassDecl around.unresolved around.is_ambient
 
   -- the class of a declaration, by whether it is ambient
   abbrev FitsClass : Tree → Tree → Type 0
@@ -240,7 +240,7 @@ module _ (around : Surroundings) where
       let declare : ClassDecl-declare made ≡ ClassDecl-declare decl = ap flag_of (part_node _ _ _) ∙ flag_of_flag (ClassDecl-declare decl) in
       record {
         kind = kind_of_node _ _;
-        class = subst₂ (λ d c. (IsTrue (around.is_declaration_file || d) × IsAmbientClass c) ⊎ IsTypedClass around.unresolved c) (sym declare) (sym same) h;
+        class = subst₂ (λ d c. (IsTrue (around.is_ambient || d) × IsAmbientClass c) ⊎ IsTypedClass around.unresolved c) (sym declare) (sym same) h;
       }
 
   abbrev classed : Tree → Seen → Seen
@@ -273,10 +273,10 @@ module _ (around : Surroundings) where
   -- ---- declarations
 
   abbrev IsDecl : Tree → Type 0
-  IsDecl = IsTypedDecl around.unresolved around.is_declaration_file
+  IsDecl = IsTypedDecl around.unresolved around.is_ambient
 
   abbrev IsItem : Tree → Type 0
-  IsItem = IsTypedItem around.unresolved around.is_declaration_file
+  IsItem = IsTypedItem around.unresolved around.is_ambient
 
   decl_stays : (place : SourceRange) (decl : Tree) (rule : DeclRule) → decl_rule (kind_of decl) ≡ rule → AllStay IsDecl (decl_seen around place decl rule)
   decl_stays place decl Variables q =
@@ -306,7 +306,7 @@ module _ (around : Surroundings) where
 
   function_one : (place : SourceRange) (decl : Tree) → OneTree (public_function around place decl)
   function_one place decl = one_if (around.is_public place) (function_decl_seen around place decl)
-      (of_choice P around.is_declaration_file _ _ (λ e. (decl, refl))
+      (of_choice P around.is_ambient _ _ (λ e. (decl, refl))
       (λ e. of_choice (λ s. P (signed decl s)) (around.is_implementation place) _ _ (λ e. (_, refl)) (λ e. (_, refl))))
     where
       P : Seen → Type 0
@@ -420,7 +420,7 @@ module _ (around : Surroundings) where
       (_, ap (λ a. (round_answer kind (visited (faultless (Some t)) (visited a (faultless (Some []))))).stays) same)
 
   abbrev IsDefaultDecl : Tree → Type 0
-  IsDefaultDecl = IsTypedDefaultDecl around.unresolved around.is_declaration_file
+  IsDefaultDecl = IsTypedDefaultDecl around.unresolved around.is_ambient
 
   default_value_made : (span : SourceRange) (value : Tree) → IsLeavable around.unresolved value → IsItem (export_default_expr span value)
   default_value_made span value h =
@@ -457,7 +457,7 @@ module _ (around : Surroundings) where
   default_function_stays : (place : SourceRange) (decl : Tree) → kind_of decl ≡ kinds.FnExpr →
       Stays IsDefaultDecl (answer_to (default_function_seen around place decl))
   default_function_stays place decl k =
-      of_choice (λ s. Stays IsDefaultDecl (answer_to s)) around.is_declaration_file _ _ (λ e f. inr (inl (k, inl e)))
+      of_choice (λ s. Stays IsDefaultDecl (answer_to s)) around.is_ambient _ _ (λ e f. inr (inl (k, inl e)))
       (λ e. pair_stays kinds.FnExpr (IsTypedFunction around.unresolved) IsDefaultDecl (FnExpr-ident decl) (default_signature around place decl) made'
       (of_choice (λ s. Stays (IsTypedFunction around.unresolved) (answer_to s)) (around.is_implementation place) _ _
       (λ e f. implementation_is_typed around.unresolved (FnExpr-function decl))
@@ -484,7 +484,7 @@ module _ (around : Surroundings) where
       one_if (around.is_public span) (pair ExportDefaultDecl (tree.Range span) s) (pair_one ExportDefaultDecl (tree.Range span) s one)
 
   default_function_one : (place : SourceRange) (decl : Tree) → OneTree (default_function_seen around place decl ∷ [])
-  default_function_one place decl = of_choice P around.is_declaration_file _ _ (λ e. (decl, refl))
+  default_function_one place decl = of_choice P around.is_ambient _ _ (λ e. (decl, refl))
       (λ e. pair_one kinds.FnExpr (FnExpr-ident decl) (default_signature around place decl)
       (of_choice P (around.is_implementation place) _ _ (λ e. (_, refl)) (λ e. (_, refl))))
     where
@@ -546,7 +546,7 @@ module _ (around : Surroundings) where
   abbrev module_parts : Tree → List Tree
   module_parts program = tree.Range (Module-span program) ∷ list (transformed around program).stays ∷ Module-shebang program ∷ []
 
-  pub skeleton_stands : (program : Tree) → faults_of around program ≡ [] → IsSkeleton around.unresolved around.is_declaration_file (skeleton_of around program)
+  pub skeleton_stands : (program : Tree) → faults_of around program ≡ [] → IsSkeleton around.unresolved around.is_ambient (skeleton_of around program)
   skeleton_stands program e = record {
     kind = kind_of_node Module (module_parts program);
     items = subst (OfAll IsItem) (sym (ap parts (part_node _ Module (module_parts program)) ∙ parts_node List' (transformed around program).stays))

@@ -74,7 +74,7 @@ all_public = record {
   is_public = λ r. true;
   is_implementation = λ r. false;
   unresolved = no_scope;
-  is_declaration_file = false;
+  is_ambient = false;
   relative = λ text. None;
 }
 

@@ -61,7 +61,7 @@ around = record {
   is_public = λ r. r.start.0 == 0;
   is_implementation = λ r. false;
   unresolved = no_scope;
-  is_declaration_file = false;
+  is_ambient = false;
   relative = λ text. Some resolved;
 }
 
@@ -71,7 +71,7 @@ unresolving = record {
   is_public = around.is_public;
   is_implementation = around.is_implementation;
   unresolved = no_scope;
-  is_declaration_file = false;
+  is_ambient = false;
   relative = λ text. None;
 }
 
