@@ -36,6 +36,7 @@ use Rattle.fast_check_skeleton.specs.ClassExample.{void_function, function_f, me
 use Rattle.fast_check_skeleton.specs.ClassExample.{module_of, first, second, no_places, all_public, property_m, ClassExample}
 use Rattle.fast_check_typed_grammar.proofs.TypedFunctions.{absent}
 use Rattle.fast_check_skeleton.specs.Example.{at}
+use Rattle.fast_check_skeleton.proofs.Namespaces.{item_seen_is}
 use Rattle.fast_check_skeleton.proofs.Example.{context_of_context}
 
 one_pair : (a b x y : ℕ) → IsPair no_places.starts a x → IsPair no_places.starts b y → (a ≡ b) ↔ (x ≡ y)
@@ -222,10 +223,10 @@ agree = record {
 }
 
 first_is : skeleton_of all_public first ≡ module_of (function_f [] ∷ class_c (property_m ∷ []) ∷ [])
-first_is = simp (parts_node, kind_of_node, range_of_range, flag_of_flag, context_of_context, is_absent_node, absent, word_read)
+first_is = simp (item_seen_is, parts_node, kind_of_node, range_of_range, flag_of_flag, context_of_context, is_absent_node, absent, word_read)
 
 second_is : skeleton_of all_public second ≡ module_of (function_f [] ∷ class_c (property_m ∷ []) ∷ [])
-second_is = simp (parts_node, kind_of_node, range_of_range, flag_of_flag, context_of_context, is_absent_node, absent, word_read)
+second_is = simp (item_seen_is, parts_node, kind_of_node, range_of_range, flag_of_flag, context_of_context, is_absent_node, absent, word_read)
 
 pub class_example : ClassExample
 class_example = record { one_to_one = is_renaming; agree = agree; first_skeleton = first_is; second_skeleton = second_is }

@@ -6,6 +6,7 @@ pub mod AgreeingLinks
 pub mod AgreeingDefaults
 pub mod Agreeing
 pub mod CommentsAlike
+pub mod StandingNamespaces
 pub mod Standing
 pub mod HashMarked
 pub mod Example

@@ -30,7 +30,7 @@ use Rattle.fast_check_skeleton.specs.Visible.{body_seen, namespace_seen, decl_fo
 
 -- ---- bodies of namespaces
 
-abbrev is_inner : Tree → Bool
+abbrev pub is_inner : Tree → Bool
 is_inner t = kind_of t is TsNamespaceDecl
 
 -- the block of what follows a name
@@ -43,11 +43,11 @@ innermost_is t = by_descent_is Absent innermost_form t ∙ go (is_inner t) refl
     go false e = refl
     go true e = given_part Absent innermost_form t 4 (λ l. let k = is_kind (kind_of t) TsNamespaceDecl e in cc)
 
-abbrev inner_round : Tree → Seen → Seen
+abbrev pub inner_round : Tree → Seen → Seen
 inner_round t body = round TsNamespaceDecl (seens (range (TsNamespaceDecl-span t) ∷ flag (TsNamespaceDecl-declare t) ∷
     flag (TsNamespaceDecl-global t) ∷ written (TsNamespaceDecl-id t) ∷ body ∷ []))
 
-abbrev block_round : Tree → List Seen → Seen
+abbrev pub block_round : Tree → List Seen → Seen
 block_round t items = round TsModuleBlock (seens (range (TsModuleBlock-span t) ∷ listed (seens items) ∷ []))
 
 pub body_round_is : (items : List Seen) (t : Tree) →
@@ -60,17 +60,43 @@ body_round_is items t = by_descent_is refused (body_form items) t ∙ go (is_inn
     go false e = refl
     go true e = ap (inner_round t) (given_part refused (body_form items) t 4 (λ l. let k = is_kind (kind_of t) TsNamespaceDecl e in cc))
 
+pub innermost_block : (t : Tree) → is_inner t ≡ false → innermost t ≡ t
+innermost_block t e = innermost_is t ∙ ap (λ b. if b then innermost (TsNamespaceDecl-body t) else t) e
+
+pub innermost_inner : (t : Tree) → is_inner t ≡ true → innermost t ≡ innermost (TsNamespaceDecl-body t)
+innermost_inner t e = innermost_is t ∙ ap (λ b. if b then innermost (TsNamespaceDecl-body t) else t) e
+
+-- the same, of a body whose items are seen in some way
+pub body_of_block : (f : List Tree → List Seen) (t : Tree) → is_inner t ≡ false →
+    body_round (f (block_items (innermost t))) t ≡ block_round t (f (block_items t))
+body_of_block f t e =
+    body_round_is (f (block_items (innermost t))) t
+    ∙ (ap (λ b. if b then inner_round t (body_round (f (block_items (innermost t))) (TsNamespaceDecl-body t))
+    else block_round t (f (block_items (innermost t)))) e
+    ∙ ap (λ u. block_round t (f (block_items u))) (innermost_block t e))
+
+pub body_of_inner : (f : List Tree → List Seen) (t : Tree) → is_inner t ≡ true →
+    body_round (f (block_items (innermost t))) t ≡
+    inner_round t (body_round (f (block_items (innermost (TsNamespaceDecl-body t)))) (TsNamespaceDecl-body t))
+body_of_inner f t e =
+    body_round_is (f (block_items (innermost t))) t
+    ∙ (ap (λ b. if b then inner_round t (body_round (f (block_items (innermost t))) (TsNamespaceDecl-body t))
+    else block_round t (f (block_items (innermost t)))) e
+    ∙ ap (λ u. inner_round t (body_round (f (block_items u)) (TsNamespaceDecl-body t)))
+    (innermost_inner t e))
+
 -- a block is no higher than the body
 up_to : (n : ℕ) (t : Tree) → height t < n → height (innermost t) ≤ height t
 up_to zero t h = absurd (omega arith)
-up_to (suc n) t h = subst (λ u. height u ≤ height t) (sym (innermost_is t)) (go (is_inner t) refl)
+up_to (suc n) t h = subst (λ u. height u ≤ height t) (sym (innermost_is t)) (go (is_inner t) refl (up_to n (TsNamespaceDecl-body t)))
   where
-    go : (b : Bool) → is_inner t ≡ b → height (if b then innermost (TsNamespaceDecl-body t) else t) ≤ height t
-    go false e = omega arith
-    go true e =
+    go : (b : Bool) → is_inner t ≡ b → (height (TsNamespaceDecl-body t) < n → height (innermost (TsNamespaceDecl-body t)) ≤ height (TsNamespaceDecl-body t)) →
+        height (if b then innermost (TsNamespaceDecl-body t) else t) ≤ height t
+    go false e below = omega arith
+    go true e below =
         let k = is_kind (kind_of t) TsNamespaceDecl e in
         let lower : height (TsNamespaceDecl-body t) < height t = height_part t 4 (λ l. cc) in
-        omega (arith, up_to n (TsNamespaceDecl-body t) (omega (arith, lower, h)), lower)
+        omega (arith, below (omega (arith, lower, h)), lower)
 
 pub innermost_at_most : (t : Tree) → height (innermost t) ≤ height t
 innermost_at_most t = up_to (suc (height t)) t (omega arith)
@@ -85,8 +111,14 @@ pub items_below : (limit : ℕ) (decl : Tree) → height decl ≤ limit → OfAl
 items_below limit decl h =
     let body = TsModuleDecl-body decl in
     let block = innermost body in
-    all_below limit (items_inside decl) (λ i u e. omega (arith, height_one (TsModuleBlock-body block) i u e, height_at_most block 1, innermost_at_most body,
-    height_at_most decl 5, h))
+    all_below limit (items_inside decl) (λ i u e. omega (
+      arith,
+      height_one (TsModuleBlock-body block) i u e,
+      height_at_most block 1,
+      innermost_at_most body,
+      height_at_most decl 5,
+      h,
+    ))
 
 -- ---- what is seen of items
 
@@ -176,6 +208,17 @@ no_ambient_module decl e = go (TsModuleDecl-global decl) (is_ambient_module decl
     go g false e = refl
     go true true e = cc
     go false true e = cc
+
+pub global_no_namespace : (decl : Tree) → TsModuleDecl-global decl ≡ true → is_namespace decl ≡ false
+global_no_namespace decl e = ap (λ g. not g && not (is_ambient_module decl)) e
+
+pub ambient_no_namespace : (decl : Tree) → is_ambient_module decl ≡ true → is_namespace decl ≡ false
+ambient_no_namespace decl e = go (TsModuleDecl-global decl) (is_ambient_module decl) e
+  where
+    go : (g m : Bool) → m ≡ true → (not g && not m) ≡ false
+    go true m f = refl
+    go false true f = refl
+    go false false f = cc
 
 pub namespace_if : (around : Surroundings) (place : SourceRange) (decl : Tree) → is_namespace decl ≡ true → namespace_seen item_look around place decl ≡
     (if around.is_public place then namespace_round (body_seen item_look (inside around decl) (items_inside decl)) decl ∷ [] else [])

@@ -143,7 +143,6 @@ module _ (r : Renaming) (a b : Surroundings) where
     -- `using`, whatever it declares
     using : {t u : Tree} → Both UsingDecl t u → SameRange r (UsingDecl-span t) (UsingDecl-span u) → is_public_using a p t ≡ is_public_using b q u →
         SameRange r (using_place t) (using_place u) → SameDecl p q t u
-
     -- `declare global`, whatever stands in it
     global : {t u : Tree} → Both TsModuleDecl t u → TsModuleDecl-global t ≡ true → TsModuleDecl-global u ≡ true →
         SameRange r (TsModuleDecl-span t) (TsModuleDecl-span u) → SameDecl p q t u
