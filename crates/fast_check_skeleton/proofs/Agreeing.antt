@@ -4,6 +4,7 @@ use Rattle.std.specs.Prelude.{if◌then◌else◌}
 use Rattle.std.specs.List.{list_all}
 use Rattle.std.proofs.Common.{ap, ap₂, ◌∙◌, sym, subst, subst₂}
 use Rattle.fast_check_syntax.specs.declared.kind.Kind.TheVariants.{Module, BindingIdent, VarDeclarator, VarDecl, ExportDecl, FnDecl, ClassDecl, List as List'}
+use Rattle.fast_check_syntax.specs.declared.kind.Kind.TheVariants.{TsModuleDecl, TsModuleBlock, TsNamespaceDecl}
 use Rattle.fast_check_syntax.specs.declared.kind.Word.TheVariants.{Const as ConstWord}
 use Rattle.fast_check_syntax.specs.declared.source.SourceRange.{SourceRange}
 use Rattle.fast_check_syntax.specs.declared.tree.Tree as tree
@@ -23,22 +24,27 @@ use Rattle.fast_check_statement_forms.specs.Declarations.{ClassDecl-ident, Class
 use Rattle.fast_check_statement_forms.specs.Declarations.{FnDecl-ident, FnDecl-declare, FnDecl-function}
 use Rattle.fast_check_statement_forms.specs.Declarations.{VarDecl-span, VarDecl-ctxt, VarDecl-kind, VarDecl-declare, VarDecl-decls}
 use Rattle.fast_check_statement_forms.specs.Declarations.{VarDeclarator-span, VarDeclarator-name, VarDeclarator-init, VarDeclarator-definite}
+use Rattle.fast_check_statement_forms.specs.TsDeclarations.{TsModuleDecl-span, TsModuleDecl-declare, TsModuleDecl-global, TsModuleDecl-namespace}
+use Rattle.fast_check_statement_forms.specs.TsDeclarations.{TsModuleDecl-id, TsModuleDecl-body, TsModuleBlock-span, TsNamespaceDecl-span}
+use Rattle.fast_check_statement_forms.specs.TsDeclarations.{TsNamespaceDecl-declare, TsNamespaceDecl-global, TsNamespaceDecl-id}
 use Rattle.fast_check_helpers.specs.declared.literal_type.DeclMutabilityKind.{DeclMutabilityKind}
 use Rattle.fast_check_helpers.specs.declared.literal_type.DeclMutabilityKind.TheVariants.{Const, Mutable}
 use Rattle.fast_check_signatures.specs.declared.fault.Fault.{Fault}
 use Rattle.fast_check_signatures.specs.declared.fault.FaultKind.TheVariants.{UnsupportedDestructuring, UnsupportedUsing}
+use Rattle.fast_check_signatures.specs.declared.fault.FaultKind.TheVariants.{UnsupportedGlobalModule, UnsupportedAmbientModule}
 use Rattle.fast_check_signatures.specs.declared.function_kind.FunctionKind.TheVariants.{DeclarationLike}
-use Rattle.fast_check_skeleton.specs.Surroundings.{Surroundings}
+use Rattle.fast_check_skeleton.specs.Surroundings.{Surroundings, inside}
 use Rattle.fast_check_helpers.specs.Builders.{type_ann, never_value}
 use Rattle.fast_check_helpers.specs.InferredType.{inferred_type}
 use Rattle.fast_check_helpers.proofs.BuildersMoved.{type_ann_moved, never_value_moved}
 use Rattle.fast_check_skeleton.specs.Mutability.{mutability_of}
+use Rattle.fast_check_skeleton.specs.Namespaces.{innermost, block_items, items_inside, body_round}
 use Rattle.fast_check_signatures.specs.Seen.{Seen, written, range, scope, flag, round, listed, declarator, faulty, refused, seens}
 use Rattle.fast_check_skeleton.specs.Visible.{declared_ident, declared_type, declarator_head, typed_declarator, value_seen, untyped_seen, ident_declarator_seen}
-use Rattle.fast_check_skeleton.specs.Visible.{declarator_seen, is_ambient, is_public_declarator, declarator_in, public_declarator, public_declarators}
+use Rattle.fast_check_skeleton.specs.Visible.{declarator_seen, is_ambient_statement, is_public_declarator, declarator_in, public_declarator, public_declarators}
 use Rattle.fast_check_skeleton.specs.Visible.{statement_seen, signature_of, function_decl_seen, public_function, is_ambient_class, class_in, class_decl_seen}
 use Rattle.fast_check_skeleton.specs.Visible.{public_class, is_public_using, using_place, decl_seen, exported_seen}
-use Rattle.fast_check_skeleton.specs.Visible.{seen_by_rule, item_seen, items_of, visible}
+use Rattle.fast_check_skeleton.specs.Visible.{item_look, body_seen, namespace_seen, seen_by_rule, item_seen, items_of, visible}
 use Rattle.fast_check_signatures.specs.Answers.{answer_of}
 use Rattle.fast_check_signatures.specs.Classes.{plain_class_seen, ambient_class}
 use Rattle.fast_check_signatures.specs.Expressions.{expr_seen}
@@ -57,12 +63,15 @@ use Rattle.fast_check_same_values.proofs.AlikeClasses.{class_alike, ambient_clas
 use Rattle.fast_check_same_values.proofs.AlikeFunctions.{implementation_alike}
 use Rattle.fast_check_skeleton.specs.Skeleton.{transformed, skeleton_of, faults_of}
 use Rattle.fast_check_skeleton.specs.Hidden.{IsSilentDecl, IsSilent, SameHead, SameDeclarator, SameDeclarators, SameStatement}
-use Rattle.fast_check_skeleton.specs.Hidden.{SameFunctionDecl, SameClassDecl, SameDecl, SameItem, SameItems, AgreeHidden}
+use Rattle.fast_check_skeleton.specs.Hidden.{SameFunctionDecl, SameClassDecl, SameDecl, SameNamespaceHead, SameInnerHead, SameItem, SameNamespace}
+use Rattle.fast_check_skeleton.specs.Hidden.{SameBody, SameItems, AgreeHidden}
 use Rattle.fast_check_skeleton.specs.Kinds.{is_standing}
 use Rattle.fast_check_skeleton.specs.Rules.{decl_rule, rule_of_kind, is_taken_decl}
 use Rattle.fast_check_skeleton.specs.declared.rules.DeclRule.{DeclRule}
-use Rattle.fast_check_skeleton.specs.declared.rules.DeclRule.TheVariants.{Variables, Function, Class, Standing, Using}
+use Rattle.fast_check_skeleton.specs.declared.rules.DeclRule.TheVariants.{Variables, Function, Class, Standing, Namespace, Using}
 use Rattle.fast_check_skeleton.proofs.Ruled.{standing_rule, declared_rule, silent_rule}
+use Rattle.fast_check_skeleton.proofs.Namespaces.{block_round, inner_round, body_of_block, body_of_inner, item_seen_is, no_global, namespace_if}
+use Rattle.fast_check_skeleton.proofs.Namespaces.{hidden_namespace, global_is, ambient_module_is}
 use Rattle.fast_check_skeleton.proofs.AgreeingLinks.{silent_link, links_alike}
 use Rattle.fast_check_skeleton.proofs.AgreeingDefaults.{silent_default, defaults_alike}
 use Rattle.fast_check_skeleton.specs.SameLinks as l
@@ -98,6 +107,7 @@ module _ (around : Surroundings) where
   silent_taken p t (h.IsSilentDecl.function k e) = ap (λ j. is_taken_decl (decl_rule j)) k
   silent_taken p t (h.IsSilentDecl.class k e) = ap (λ j. is_taken_decl (decl_rule j)) k
   silent_taken p t (h.IsSilentDecl.using k e) = ap (λ j. is_taken_decl (decl_rule j)) k
+  silent_taken p t (h.IsSilentDecl.namespace k n e) = ap (λ j. is_taken_decl (decl_rule j)) k
 
   silent_decl : (p : SourceRange) (t : Tree) → IsSilentDecl around p t → decl_seen around p t (rule_of t) ≡ []
   silent_decl p t (h.IsSilentDecl.variable k e) =
@@ -110,20 +120,21 @@ module _ (around : Surroundings) where
       ap (λ j. decl_seen around p t (decl_rule j)) k ∙ ap (λ b. if b then class_decl_seen around t ∷ [] else []) e
   silent_decl p t (h.IsSilentDecl.using k e) =
       ap (λ j. decl_seen around p t (decl_rule j)) k ∙ ap (λ b. if b then faulty UnsupportedUsing (using_place t) ∷ [] else []) e
+  silent_decl p t (h.IsSilentDecl.namespace k n e) = ap (λ j. decl_seen around p t (decl_rule j)) k ∙ hidden_namespace around p t n e
 
   item_of : (t : Tree) → is_taken_decl (rule_of t) ≡ true → item_seen around t ≡ decl_seen around (range_of_node t) t (rule_of t)
-  item_of t e = ap (seen_by_rule around t) (declared_rule (kind_of t) t e)
+  item_of t e = item_seen_is around t ∙ ap (seen_by_rule around t) (declared_rule (kind_of t) t e)
 
   export_of : (t : Tree) → kind_of t ≡ ExportDecl →
       item_seen around t ≡ exported_seen t (decl_seen around (ExportDecl-span t) (ExportDecl-decl t) (rule_of (ExportDecl-decl t)))
-  export_of t e = ap (λ k. seen_by_rule around t (rule_of_kind k t)) e
+  export_of t e = item_seen_is around t ∙ ap (λ k. seen_by_rule around t (rule_of_kind k t)) e
 
   pub silent_item : (t : Tree) → IsSilent around t → item_seen around t ≡ []
   silent_item t (h.IsSilent.decl s) = item_of t (silent_taken (range_of_node t) t s) ∙ silent_decl (range_of_node t) t s
-  silent_item t (h.IsSilent.statement s) = ap (seen_by_rule around t) (silent_rule t s)
+  silent_item t (h.IsSilent.statement s) = item_seen_is around t ∙ ap (seen_by_rule around t) (silent_rule t s)
   silent_item t (h.IsSilent.exported k s) = export_of t k ∙ ap (exported_seen t) (silent_decl (ExportDecl-span t) (ExportDecl-decl t) s)
-  silent_item t (h.IsSilent.linked s) = let e = silent_link around t s in ap (seen_by_rule around t) e.is ∙ e.unseen
-  silent_item t (h.IsSilent.default s) = let e = silent_default around t s in ap (seen_by_rule around t) e.is ∙ e.unseen
+  silent_item t (h.IsSilent.linked s) = let e = silent_link around t s in item_seen_is around t ∙ (ap (seen_by_rule around t) e.is ∙ e.unseen)
+  silent_item t (h.IsSilent.default s) = let e = silent_default around t s in item_seen_is around t ∙ (ap (seen_by_rule around t) e.is ∙ e.unseen)
 
 -- ---- what agrees is seen alike
 
@@ -266,7 +277,7 @@ module _ (r : Renaming) (ok : IsRenaming r) where
     mutability_alike : (t u : Tree) → SameTree r t u → mutability_of t ≡ mutability_of u
     mutability_alike t u s = ap (λ c. if c then Const else Mutable) (const_alike t u s)
 
-    ambient_alike : (t u : Tree) → a.is_declaration_file ≡ b.is_declaration_file → VarDecl-declare t ≡ VarDecl-declare u → is_ambient a t ≡ is_ambient b u
+    ambient_alike : (t u : Tree) → a.is_ambient ≡ b.is_ambient → VarDecl-declare t ≡ VarDecl-declare u → is_ambient_statement a t ≡ is_ambient_statement b u
     ambient_alike t u e f = ap₂ (λ x y. x || y) e f
 
     -- ---- functions
@@ -281,7 +292,7 @@ module _ (r : Renaming) (ok : IsRenaming r) where
     abbrev function_form : Surroundings → SourceRange → Tree → Seen
     function_form around p t = round FnDecl (seens (written (FnDecl-ident t) ∷ flag (FnDecl-declare t) ∷ signature_of around p t ∷ []))
 
-    declared_function : (p q : SourceRange) (t u : Tree) → a.is_declaration_file ≡ b.is_declaration_file → SameFunctionDecl r a b p q t u →
+    declared_function : (p q : SourceRange) (t u : Tree) → a.is_ambient ≡ b.is_ambient → SameFunctionDecl r a b p q t u →
         Alike r ok (signature_of a p t) (signature_of b q u) →
         Alike r ok (function_decl_seen a p t) (function_decl_seen b q u)
     declared_function p q t u m d s =
@@ -289,8 +300,8 @@ module _ (r : Renaming) (ok : IsRenaming r) where
         round_alike r ok FnDecl (written (FnDecl-ident t) ∷ flag (FnDecl-declare t) ∷ signature_of a p t ∷ [])
         (written (FnDecl-ident u) ∷ flag (FnDecl-declare u) ∷ signature_of b q u ∷ [])
         (λ i. same_written r ok d.ident i ∷ flag_alike r ok (FnDecl-declare t) (FnDecl-declare u) d.declare i ∷ s i ∷ []) in
-        subst₂ (λ x y. Alike r ok (if x then written t else function_form a p t) (if y then written u else function_form b q u)) (sym d.is_declaration_file)
-        (sym d.is_declaration_file ∙ m) same
+        subst₂ (λ x y. Alike r ok (if x then written t else function_form a p t) (if y then written u else function_form b q u)) (sym d.is_ambient)
+        (sym d.is_ambient ∙ m) same
 
     public_alike : (p q : SourceRange) (t u : Tree) → a.is_public p ≡ b.is_public q → Alike r ok (function_decl_seen a p t) (function_decl_seen b q u) →
         AllAlike r ok (public_function a p t) (public_function b q u)
@@ -298,7 +309,7 @@ module _ (r : Renaming) (ok : IsRenaming r) where
 
     -- ---- classes
 
-    pub ambient_class_same : (t u : Tree) → a.is_declaration_file ≡ b.is_declaration_file → ClassDecl-declare t ≡ ClassDecl-declare u →
+    pub ambient_class_same : (t u : Tree) → a.is_ambient ≡ b.is_ambient → ClassDecl-declare t ≡ ClassDecl-declare u →
         is_ambient_class a t ≡ is_ambient_class b u
     ambient_class_same t u e f = ap₂ (λ x y. x || y) e f
 
@@ -344,12 +355,12 @@ module _ (r : Renaming) (ok : IsRenaming r) where
     abbrev declared_as : Tree → DeclMutabilityKind
     declared_as statement = mutability_of (VarDecl-kind statement)
 
-    decl_alike : SameBindings r a.bindings b.bindings → a.is_declaration_file ≡ b.is_declaration_file →
+    decl_alike : SameBindings r a.bindings b.bindings → a.is_ambient ≡ b.is_ambient →
         (p q : SourceRange) (t u : Tree) → SameDecl r a b p q t u → DeclsAlike p q t u
     decl_alike c m p q t u (h.SameDecl.variable d n rest) = of_variables p q t u (SameDeclarator r a b (declared_as t)) d go rest
       where
         go : (x y : Tree) → SameDeclarator r a b (declared_as t) x y → Alike r ok (declarator_in a t x) (declarator_in b u y)
-        go x y s = alike_if r ok (is_ambient a t) (is_ambient b u)
+        go x y s = alike_if r ok (is_ambient_statement a t) (is_ambient_statement b u)
             (written x) (declarator_seen a (declared_as t) x) (written y) (declarator_seen b (declared_as u) y)
             (ambient_alike t u m d.declare) (λ e. cc)
             (λ f. subst (λ k. Alike r ok (declarator_seen a (declared_as t) x) (declarator_seen b k y))
@@ -357,7 +368,7 @@ module _ (r : Renaming) (ok : IsRenaming r) where
     decl_alike c m p q t u (h.SameDecl.ambient d n rest) = of_variables p q t u (SameTree r) d go rest
       where
         go : (x y : Tree) → SameTree r x y → Alike r ok (declarator_in a t x) (declarator_in b u y)
-        go x y s = alike_if r ok (is_ambient a t) (is_ambient b u)
+        go x y s = alike_if r ok (is_ambient_statement a t) (is_ambient_statement b u)
             (written x) (declarator_seen a (declared_as t) x) (written y) (declarator_seen b (declared_as u) y)
             (ambient_alike t u m d.declare) (λ e. same_written r ok s) (λ e. cc)
     decl_alike c m p q t u (h.SameDecl.standing k d s e f) =
@@ -389,9 +400,20 @@ module _ (r : Renaming) (ok : IsRenaming r) where
         by_rule p q t u Using (ap decl_rule k.left) (ap decl_rule k.right) refl
         (all_alike_if r ok (is_public_using a p t) (is_public_using b q u) (faulty UnsupportedUsing (using_place t)) (faulty UnsupportedUsing (using_place u)) e
         (faulty_alike r ok UnsupportedUsing (using_place t) (using_place u) (range_to r ok (using_place t) (using_place u) s)))
+    decl_alike c m p q t u (h.SameDecl.global k e f s) =
+        by_rule p q t u Namespace (ap decl_rule k.left) (ap decl_rule k.right) refl
+        (subst₂ (AllAlike r ok) (sym (global_is a p t e)) (sym (global_is b q u f))
+        (ap (λ x. x ∷ []) (faulty_alike r ok UnsupportedGlobalModule (TsModuleDecl-span t) (TsModuleDecl-span u)
+        (range_to r ok (TsModuleDecl-span t) (TsModuleDecl-span u) s))))
+    decl_alike c m p q t u (h.SameDecl.ambient_module k e f n n' s s') =
+        let place = range_of_node (TsModuleDecl-id t) in
+        let place' = range_of_node (TsModuleDecl-id u) in
+        by_rule p q t u Namespace (ap decl_rule k.left) (ap decl_rule k.right) refl
+        (subst₂ (AllAlike r ok) (sym (ambient_module_is a p t e n)) (sym (ambient_module_is b q u f n'))
+        (ap (λ x. x ∷ []) (faulty_alike r ok UnsupportedAmbientModule place place' (range_to r ok place place' s'))))
 
     -- declarations that agree are taken
-    pub decl_taken : SameBindings r a.bindings b.bindings → a.is_declaration_file ≡ b.is_declaration_file →
+    pub decl_taken : SameBindings r a.bindings b.bindings → a.is_ambient ≡ b.is_ambient →
         (p q : SourceRange) (t u : Tree) → SameDecl r a b p q t u →
         (is_taken_decl (decl_rule (kind_of t)) ≡ true) × (is_taken_decl (decl_rule (kind_of u)) ≡ true)
     decl_taken c m p q t u d = let e = decl_alike c m p q t u d in (e.left, e.right)
@@ -407,39 +429,114 @@ module _ (r : Renaming) (ok : IsRenaming r) where
     exported_alike t u [] (y ∷ ys) s p = cc
     exported_alike t u (x ∷ xs) [] s p = cc
 
-    pub item_alike : SameBindings r a.bindings b.bindings → a.is_declaration_file ≡ b.is_declaration_file → (t u : Tree) → SameItem r a b t u →
-        AllAlike r ok (item_seen a t) (item_seen b u)
-    item_alike c m t u (h.SameItem.decl d) =
-        let e = decl_alike c m (range_of_node t) (range_of_node u) t u d in
+    -- ---- namespaces
+
+    namespace_alike : (p q : SourceRange) (t u : Tree) → SameNamespaceHead r a b p q t u →
+        Alike r ok (body_round (body_seen item_look (inside a t) (items_inside t)) (TsModuleDecl-body t))
+        (body_round (body_seen item_look (inside b u) (items_inside u)) (TsModuleDecl-body u)) →
+        AllAlike r ok (namespace_seen item_look a p t) (namespace_seen item_look b q u)
+    namespace_alike p q t u d e =
+        subst₂ (AllAlike r ok) (sym (namespace_if a p t d.namespaces.0)) (sym (namespace_if b q u d.namespaces.1))
+        (all_alike_if r ok (a.is_public p) (b.is_public q) _ _ d.is_public (round_alike r ok TsModuleDecl
+        (range (TsModuleDecl-span t) ∷ flag (TsModuleDecl-declare t) ∷ flag (TsModuleDecl-global t) ∷ flag (TsModuleDecl-namespace t) ∷
+        written (TsModuleDecl-id t) ∷ body_round (body_seen item_look (inside a t) (items_inside t)) (TsModuleDecl-body t) ∷ [])
+        (range (TsModuleDecl-span u) ∷ flag (TsModuleDecl-declare u) ∷ flag (TsModuleDecl-global u) ∷ flag (TsModuleDecl-namespace u) ∷
+        written (TsModuleDecl-id u) ∷ body_round (body_seen item_look (inside b u) (items_inside u)) (TsModuleDecl-body u) ∷ [])
+        (λ i. range_alike r ok (TsModuleDecl-span t) (TsModuleDecl-span u) d.span i ∷
+        flag_alike r ok (TsModuleDecl-declare t) (TsModuleDecl-declare u) d.declare i ∷
+        flag_alike r ok (TsModuleDecl-global t) (TsModuleDecl-global u) (no_global t d.namespaces.0 ∙ sym (no_global u d.namespaces.1)) i ∷
+        flag_alike r ok (TsModuleDecl-namespace t) (TsModuleDecl-namespace u) d.namespace i ∷ same_written r ok d.id i ∷ e i ∷ [])))
+
+    -- a namespace is an item of its own
+    namespace_of : (around : Surroundings) (t : Tree) → kind_of t ≡ TsModuleDecl →
+        item_seen around t ≡ namespace_seen item_look around (range_of_node t) t
+    namespace_of around t k =
+        item_of around t (ap (λ j. is_taken_decl (decl_rule j)) k) ∙ ap (λ j. decl_seen around (range_of_node t) t (decl_rule j)) k
+
+    exported_namespace_of : (around : Surroundings) (t : Tree) → kind_of t ≡ ExportDecl → kind_of (ExportDecl-decl t) ≡ TsModuleDecl →
+        item_seen around t ≡ exported_seen t (namespace_seen item_look around (ExportDecl-span t) (ExportDecl-decl t))
+    exported_namespace_of around t k n =
+        export_of around t k ∙ ap (λ j. exported_seen t (decl_seen around (ExportDecl-span t) (ExportDecl-decl t) (decl_rule j))) n
+
+  block_alike : (t u : Tree) (xs ys : List Seen) → SameRange r (TsModuleBlock-span t) (TsModuleBlock-span u) → AllAlike r ok xs ys →
+      Alike r ok (block_round t xs) (block_round u ys)
+  block_alike t u xs ys s e =
+      round_alike r ok TsModuleBlock (range (TsModuleBlock-span t) ∷ listed (seens xs) ∷ []) (range (TsModuleBlock-span u) ∷ listed (seens ys) ∷ [])
+      (λ i. range_alike r ok (TsModuleBlock-span t) (TsModuleBlock-span u) s i ∷ listed_alike r ok xs ys e i ∷ [])
+
+  inner_alike : (t u : Tree) (x y : Seen) → SameInnerHead r t u → Alike r ok x y → Alike r ok (inner_round t x) (inner_round u y)
+  inner_alike t u x y d e =
+      round_alike r ok TsNamespaceDecl
+      (range (TsNamespaceDecl-span t) ∷ flag (TsNamespaceDecl-declare t) ∷ flag (TsNamespaceDecl-global t) ∷ written (TsNamespaceDecl-id t) ∷ x ∷ [])
+      (range (TsNamespaceDecl-span u) ∷ flag (TsNamespaceDecl-declare u) ∷ flag (TsNamespaceDecl-global u) ∷ written (TsNamespaceDecl-id u) ∷ y ∷ [])
+      (λ i. range_alike r ok (TsNamespaceDecl-span t) (TsNamespaceDecl-span u) d.span i ∷
+      flag_alike r ok (TsNamespaceDecl-declare t) (TsNamespaceDecl-declare u) d.declare i ∷
+      flag_alike r ok (TsNamespaceDecl-global t) (TsNamespaceDecl-global u) d.global i ∷ same_written r ok d.id i ∷ e i ∷ [])
+
+  pub namespace_kinds : {a b : Surroundings} {p q : SourceRange} {t u : Tree} → SameNamespace r a b p q t u → Both TsModuleDecl t u
+  namespace_kinds (h.SameNamespace.bodies d s) = d.kinds
+
+  mutual
+    pub item_alike : {a b : Surroundings} {t u : Tree} → SameBindings r a.bindings b.bindings → a.is_ambient ≡ b.is_ambient →
+        SameItem r a b t u → AllAlike r ok (item_seen a t) (item_seen b u)
+    item_alike c m (h.SameItem.decl {a = a} {b = b} {t = t} {u = u} d) =
+        let e = decl_alike a b c m (range_of_node t) (range_of_node u) t u d in
         subst₂ (AllAlike r ok) (sym (item_of a t e.left)) (sym (item_of b u e.right)) e.alike
-    item_alike c m t u (h.SameItem.exported k s d) =
+    item_alike c m (h.SameItem.exported {a = a} {b = b} {t = t} {u = u} k s d) =
         subst₂ (AllAlike r ok) (sym (export_of a t k.left)) (sym (export_of b u k.right))
-        (exported_alike t u (decl_seen a (ExportDecl-span t) (ExportDecl-decl t) (decl_rule (kind_of (ExportDecl-decl t))))
+        (exported_alike a b t u (decl_seen a (ExportDecl-span t) (ExportDecl-decl t) (decl_rule (kind_of (ExportDecl-decl t))))
         (decl_seen b (ExportDecl-span u) (ExportDecl-decl u) (decl_rule (kind_of (ExportDecl-decl u)))) s
-        (decl_alike c m (ExportDecl-span t) (ExportDecl-span u) (ExportDecl-decl t) (ExportDecl-decl u) d).alike)
-    item_alike c m t u (h.SameItem.linked d) =
+        (decl_alike a b c m (ExportDecl-span t) (ExportDecl-span u) (ExportDecl-decl t) (ExportDecl-decl u) d).alike)
+    item_alike c m (h.SameItem.namespace {a = a} {b = b} {t = t} {u = u} d) =
+        let k = namespace_kinds d in
+        subst₂ (AllAlike r ok) (sym (namespace_of a b a t k.left)) (sym (namespace_of a b b u k.right)) (namespaces_alike c m d)
+    item_alike c m (h.SameItem.exported_namespace {a = a} {b = b} {t = t} {u = u} k s d) =
+        let n = namespace_kinds d in
+        subst₂ (AllAlike r ok) (sym (exported_namespace_of a b a t k.left n.left)) (sym (exported_namespace_of a b b u k.right n.right))
+        (exported_alike a b t u (namespace_seen item_look a (ExportDecl-span t) (ExportDecl-decl t))
+        (namespace_seen item_look b (ExportDecl-span u) (ExportDecl-decl u)) s (namespaces_alike c m d))
+    item_alike c m (h.SameItem.linked {a = a} {b = b} {t = t} {u = u} d) =
         let e = links_alike r ok a b t u d in
-        subst₂ (λ x y. AllAlike r ok (seen_by_rule a t x) (seen_by_rule b u y)) (sym e.left) (sym e.right) e.alike
-    item_alike c m t u (h.SameItem.default d) =
+        subst₂ (AllAlike r ok) (sym (item_seen_is a t)) (sym (item_seen_is b u))
+        (subst₂ (λ x y. AllAlike r ok (seen_by_rule a t x) (seen_by_rule b u y)) (sym e.left) (sym e.right) e.alike)
+    item_alike c m (h.SameItem.default {a = a} {b = b} {t = t} {u = u} d) =
         let e = defaults_alike r ok a b c m t u d in
-        subst₂ (λ x y. AllAlike r ok (seen_by_rule a t x) (seen_by_rule b u y)) (sym e.left) (sym e.right) e.alike
-    item_alike c m t u (h.SameItem.refused kind e f s) =
-        subst₂ (λ x y. AllAlike r ok (seen_by_rule a t x) (seen_by_rule b u y)) (sym e) (sym f)
-        (ap (λ x. faulty kind x ∷ []) (range_to r ok (range_of_node t) (range_of_node u) s))
+        subst₂ (AllAlike r ok) (sym (item_seen_is a t)) (sym (item_seen_is b u))
+        (subst₂ (λ x y. AllAlike r ok (seen_by_rule a t x) (seen_by_rule b u y)) (sym e.left) (sym e.right) e.alike)
+    item_alike c m (h.SameItem.refused {a = a} {b = b} {t = t} {u = u} kind e f s) =
+        subst₂ (AllAlike r ok) (sym (item_seen_is a t)) (sym (item_seen_is b u))
+        (subst₂ (λ x y. AllAlike r ok (seen_by_rule a t x) (seen_by_rule b u y)) (sym e) (sym f)
+        (ap (λ x. faulty kind x ∷ []) (range_to r ok (range_of_node t) (range_of_node u) s)))
 
-    items_alike : SameBindings r a.bindings b.bindings → a.is_declaration_file ≡ b.is_declaration_file → (ts us : List Tree) →
-        SameItems r a b ts us → AllAlike r ok (flat_map (item_seen a) ts) (flat_map (item_seen b) us)
-    items_alike c m [] [] h.SameItems.end = refl
-    items_alike c m (t ∷ ts) us (h.SameItems.left q n rest) =
-        subst (λ xs. AllAlike r ok (xs ++ flat_map (item_seen a) ts) (flat_map (item_seen b) us)) (sym (silent_item a t q)) (items_alike c m ts us rest)
-    items_alike c m ts (u ∷ us) (h.SameItems.right q n rest) =
-        subst (λ xs. AllAlike r ok (flat_map (item_seen a) ts) (xs ++ flat_map (item_seen b) us)) (sym (silent_item b u q)) (items_alike c m ts us rest)
-    items_alike c m (t ∷ ts) (u ∷ us) (h.SameItems.next s rest) =
-        append_alike r ok (item_seen a t) (flat_map (item_seen a) ts) (item_seen b u) (flat_map (item_seen b) us)
-        (item_alike c m t u s) (items_alike c m ts us rest)
+    namespaces_alike : {a b : Surroundings} {p q : SourceRange} {t u : Tree} → SameBindings r a.bindings b.bindings → a.is_ambient ≡ b.is_ambient →
+        SameNamespace r a b p q t u → AllAlike r ok (namespace_seen item_look a p t) (namespace_seen item_look b q u)
+    namespaces_alike c m (h.SameNamespace.bodies {a = a} {b = b} {p = p} {q = q} {t = t} {u = u} d s) =
+        namespace_alike a b p q t u d (body_alike c (ap₂ (λ x y. x || y) m d.declare) s)
 
+    body_alike : {a b : Surroundings} {t u : Tree} → SameBindings r a.bindings b.bindings → a.is_ambient ≡ b.is_ambient →
+        SameBody r a b t u → Alike r ok (body_round (body_seen item_look a (block_items (innermost t))) t)
+        (body_round (body_seen item_look b (block_items (innermost u))) u)
+    body_alike c m (h.SameBody.block {a = a} {b = b} {t = t} {u = u} n s rest) =
+        subst₂ (Alike r ok) (sym (body_of_block (body_seen item_look a) t n.left)) (sym (body_of_block (body_seen item_look b) u n.right))
+        (block_alike t u (body_seen item_look a (block_items t)) (body_seen item_look b (block_items u)) s (items_alike c m rest))
+    body_alike c m (h.SameBody.inner {a = a} {b = b} {t = t} {u = u} d s) =
+        subst₂ (Alike r ok) (sym (body_of_inner (body_seen item_look a) t (ap (λ k. k is TsNamespaceDecl) d.kinds.left)))
+        (sym (body_of_inner (body_seen item_look b) u (ap (λ k. k is TsNamespaceDecl) d.kinds.right))) (inner_alike t u _ _ d (body_alike c m s))
+
+    items_alike : {a b : Surroundings} {ts us : List Tree} → SameBindings r a.bindings b.bindings → a.is_ambient ≡ b.is_ambient →
+        SameItems r a b ts us → AllAlike r ok (body_seen item_look a ts) (body_seen item_look b us)
+    items_alike c m h.SameItems.end = refl
+    items_alike c m (h.SameItems.left {a = a} {b = b} {t = t} {ts = ts} {us = us} q n rest) =
+        subst (λ xs. AllAlike r ok (xs ++ body_seen item_look a ts) (body_seen item_look b us)) (sym (silent_item a t q)) (items_alike c m rest)
+    items_alike c m (h.SameItems.right {a = a} {b = b} {u = u} {ts = ts} {us = us} q n rest) =
+        subst (λ xs. AllAlike r ok (body_seen item_look a ts) (xs ++ body_seen item_look b us)) (sym (silent_item b u q)) (items_alike c m rest)
+    items_alike c m (h.SameItems.next {a = a} {b = b} {t = t} {u = u} {ts = ts} {us = us} s rest) =
+        append_alike r ok (item_seen a t) (body_seen item_look a ts) (item_seen b u) (body_seen item_look b us)
+        (item_alike c m s) (items_alike c m rest)
+
+  module _ (a b : Surroundings) where
     visible_alike : (t u : Tree) → AgreeHidden r a b t u → AllAlike r ok (visible a t) (visible b u)
-    visible_alike t u g = items_alike g.bindings g.is_declaration_file (items_of t) (items_of u) g.items
+    visible_alike t u g = items_alike g.bindings g.is_ambient g.items
 
     -- ---- answers
 

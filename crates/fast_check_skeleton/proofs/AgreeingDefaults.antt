@@ -119,7 +119,7 @@ module _ (r : Renaming) (ok : IsRenaming r) (a b : Surroundings) where
   abbrev function_form : Surroundings → SourceRange → Tree → Seen
   function_form around place decl = round kinds.FnExpr (seens (written (FnExpr-ident decl) ∷ default_signature around place decl ∷ []))
 
-  functions_alike : a.is_declaration_file ≡ b.is_declaration_file → (t u : Tree) → SameDefaultFunction r a b t u →
+  functions_alike : a.is_ambient ≡ b.is_ambient → (t u : Tree) → SameDefaultFunction r a b t u →
       Alike r ok (default_signature a (ExportDefaultDecl-span t) (ExportDefaultDecl-decl t))
       (default_signature b (ExportDefaultDecl-span u) (ExportDefaultDecl-decl u)) → DefaultsAlike t u
   functions_alike m t u d e =
@@ -132,11 +132,11 @@ module _ (r : Renaming) (ok : IsRenaming r) (a b : Surroundings) where
       (written (FnExpr-ident decl') ∷ default_signature b place' decl' ∷ []) (λ i. same_written r ok d.ident i ∷ e i ∷ []) in
       decls_alike kinds.FnExpr Function refl t u d.head (default_function_seen a place decl) (default_function_seen b place' decl') refl refl
       (subst₂ (λ x y. Alike r ok (if x then written decl else function_form a place decl) (if y then written decl' else function_form b place' decl'))
-      (sym d.is_declaration_file) (sym d.is_declaration_file ∙ m) same)
+      (sym d.is_ambient) (sym d.is_ambient ∙ m) same)
 
   -- ---- all
 
-  pub defaults_alike : SameBindings r a.bindings b.bindings → a.is_declaration_file ≡ b.is_declaration_file → (t u : Tree) →
+  pub defaults_alike : SameBindings r a.bindings b.bindings → a.is_ambient ≡ b.is_ambient → (t u : Tree) →
       SameDefault r a b t u → DefaultsAlike t u
   defaults_alike c m t u (s.SameDefault.value k d e f) = record {
     rule = Value;

@@ -36,6 +36,7 @@ use Rattle.fast_check_skeleton.specs.ClassExample.{void_function, function_f, me
 use Rattle.fast_check_skeleton.specs.ClassExample.{module_of, first, second, no_places, no_classes, all_public, property_m, ClassExample}
 use Rattle.fast_check_typed_grammar.proofs.TypedFunctions.{absent}
 use Rattle.fast_check_skeleton.specs.Example.{at}
+use Rattle.fast_check_skeleton.proofs.Namespaces.{item_seen_is}
 use Rattle.fast_check_skeleton.proofs.Example.{context_of_context}
 
 one_pair : (a b x y : ℕ) → IsPair no_places.starts a x → IsPair no_places.starts b y → (a ≡ b) ↔ (x ≡ y)
@@ -122,7 +123,7 @@ function_decls : (p q : SourceRange) (ss ts : List Tree) → SameFunctionDecl no
 function_decls p q ss ts = record {
   kinds = record { left = kind_of_node _ _; right = kind_of_node _ _ };
   is_public = refl;
-  is_declaration_file = refl;
+  is_ambient = refl;
   ident = are_same _ _ (new_ident (102 ∷ [])) (part_node _ _ _) (part_node _ _ _) (same_ident (102 ∷ []));
   declare = simp (part_node, flag_of_flag);
 }
@@ -215,17 +216,17 @@ items_made items = simp parts_node
 agree : AgreeHidden no_places all_public all_public first second
 agree = record {
   bindings = record { unresolved = inl (refl, refl); is_plain_class = λ text x y p. refl };
-  is_declaration_file = refl;
+  is_ambient = refl;
   items = subst₂ (SameItems no_places all_public all_public) (sym (items_made _)) (sym (items_made _))
       (h.SameItems.next (function_items [] (empty_statement ∷ [])) (h.SameItems.next class_items h.SameItems.end));
   shebang = are_same _ _ Absent (part_node _ _ _) (part_node _ _ _) same_absent;
 }
 
 first_is : skeleton_of all_public first ≡ module_of (function_f [] ∷ class_c (property_m ∷ []) ∷ [])
-first_is = simp (parts_node, kind_of_node, range_of_range, flag_of_flag, context_of_context, is_absent_node, absent, word_read)
+first_is = simp (item_seen_is, parts_node, kind_of_node, range_of_range, flag_of_flag, context_of_context, is_absent_node, absent, word_read)
 
 second_is : skeleton_of all_public second ≡ module_of (function_f [] ∷ class_c (property_m ∷ []) ∷ [])
-second_is = simp (parts_node, kind_of_node, range_of_range, flag_of_flag, context_of_context, is_absent_node, absent, word_read)
+second_is = simp (item_seen_is, parts_node, kind_of_node, range_of_range, flag_of_flag, context_of_context, is_absent_node, absent, word_read)
 
 pub class_example : ClassExample
 class_example = record { one_to_one = is_renaming; agree = agree; first_skeleton = first_is; second_skeleton = second_is }

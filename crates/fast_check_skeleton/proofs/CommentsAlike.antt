@@ -6,7 +6,7 @@ use Rattle.std.proofs.Common.{ap, ap₂, ◌∙◌, sym, subst₂, cond, eqb-tru
 use Rattle.std.proofs.lemmas.List.Folds.{list_any-append}
 use Rattle.fast_check_syntax.specs.declared.kind.Kind.{Kind}
 use Rattle.fast_check_syntax.specs.declared.kind.Kind.TheVariants as kinds
-use Rattle.fast_check_syntax.specs.declared.kind.Kind.TheVariants.{VarDecl, FnDecl, ClassDecl, UsingDecl}
+use Rattle.fast_check_syntax.specs.declared.kind.Kind.TheVariants.{VarDecl, FnDecl, ClassDecl, UsingDecl, TsModuleDecl, TsNamespaceDecl}
 use Rattle.fast_check_syntax.specs.declared.source.SourcePos.{SourcePos}
 use Rattle.fast_check_syntax.specs.declared.source.SourceRange.{SourceRange}
 use Rattle.fast_check_syntax.specs.declared.tree.Tree.{Tree}
@@ -22,14 +22,17 @@ use Rattle.fast_check_class_forms.specs.Functions.{Function-span}
 use Rattle.fast_check_expression_forms.specs.Expressions.{ClassExpr-class}
 use Rattle.fast_check_program_forms.specs.ModuleDecls.{ExportDecl-span, ExportDecl-decl, ExportDefaultDecl-span, ExportDefaultDecl-decl}
 use Rattle.fast_check_statement_forms.specs.Declarations.{ClassDecl-class, FnDecl-function, VarDecl-span}
+use Rattle.fast_check_statement_forms.specs.TsDeclarations.{TsModuleDecl-span}
 use Rattle.fast_check_ranges.specs.Ranges.{range_of_node}
-use Rattle.fast_check_skeleton.specs.Surroundings.{Surroundings}
+use Rattle.fast_check_skeleton.specs.Surroundings.{Surroundings, inside}
+use Rattle.fast_check_skeleton.specs.Namespaces.{is_namespace, innermost, block_items, items_inside}
 use Rattle.fast_check_signatures.specs.Seen.{Seen}
 use Rattle.fast_check_skeleton.specs.Visible.{is_ambient_class, item_seen, items_of}
 use Rattle.fast_check_skeleton.specs.KeptComments.{start_of_unseen, starts_of_removed, starts_in_decl, starts_in_default, starts_inside, removed_start}
-use Rattle.fast_check_skeleton.specs.KeptComments.{removed_starts, without_all_leading, kept_comments}
+use Rattle.fast_check_skeleton.specs.KeptComments.{starts_in_namespace, starts_in_body, starts_below, start_look, removed_from, removed_starts, without_all_leading}
+use Rattle.fast_check_skeleton.specs.KeptComments.{kept_comments}
 use Rattle.fast_check_skeleton.specs.SameComments.{all_comments_at, SameComment, SameAtPairs, SameComments}
-use Rattle.fast_check_skeleton.specs.Hidden.{SameDecl, SameItem, SameItems, AgreeHidden}
+use Rattle.fast_check_skeleton.specs.Hidden.{SameDecl, SameNamespaceHead, SameItem, SameNamespace, SameBody, SameItems, AgreeHidden}
 use Rattle.fast_check_same_values.specs.SameClasses.{HasNoPartner, IsNoPartner}
 use Rattle.fast_check_skeleton.specs.Hidden as h
 use Rattle.fast_check_skeleton.specs.SameDefaults.{SameDefaultDecl, SameDefault}
@@ -42,14 +45,16 @@ use Rattle.fast_check_skeleton.specs.Kinds.{is_standing}
 use Rattle.fast_check_skeleton.specs.declared.rules.DefaultRule.{DefaultRule}
 use Rattle.fast_check_skeleton.specs.declared.rules.DefaultRule.TheVariants.{Value, Class, Function, Interface}
 use Rattle.fast_check_skeleton.specs.declared.rules.ItemRule.{ItemRule}
-use Rattle.fast_check_skeleton.specs.declared.rules.ItemRule.TheVariants.{Linked, Default, Refused}
+use Rattle.fast_check_skeleton.specs.declared.rules.ItemRule.TheVariants.{Declared, Exported, Linked, Default, Refused}
+use Rattle.fast_check_skeleton.specs.declared.rules.DeclRule.TheVariants.{Namespace}
 use Rattle.fast_check_skeleton.specs.Rules.{decl_rule, default_rule, rule_of_kind, item_rule}
-use Rattle.fast_check_skeleton.proofs.Ruled.{rule_by_kind, default_by_kind, declared_rule, silent_rule}
+use Rattle.fast_check_skeleton.proofs.Ruled.{rule_by_kind, default_by_kind, declared_rule, silent_rule, namespace_rule, exported_namespace_rule}
+use Rattle.fast_check_skeleton.proofs.Namespaces.{innermost_block, innermost_inner, removed_start_is, global_no_namespace, ambient_no_namespace}
 use Rattle.fast_check_skeleton.proofs.AgreeingLinks.{silent_link, links_alike}
 use Rattle.fast_check_skeleton.proofs.AgreeingDefaults.{silent_default, defaults_alike}
 use Rattle.fast_check_skeleton.proofs.RemovedMembers.{is_among, one_start, no_left, no_right, class_removed}
-use Rattle.fast_check_skeleton.proofs.Agreeing.{silent_taken, silent_item, ambient_class_same, decl_taken, item_alike, same_trees}
-use Rattle.fast_check_skeleton.proofs.ItemRanges.{range_of_variables, range_of_function, range_of_class, range_of_using, range_of_export, range_alike}
+use Rattle.fast_check_skeleton.proofs.Agreeing.{silent_taken, silent_item, ambient_class_same, decl_taken, namespace_kinds, item_alike, same_trees}
+use Rattle.fast_check_skeleton.proofs.ItemRanges.{range_of_variables, range_of_function, range_of_class, range_of_module, range_of_using, range_of_export, range_alike}
 
 -- ---- what is left at a position
 
@@ -121,6 +126,7 @@ standing_no_class _ e = refl
 -- nor inside of a silent one
 silent_decl_inside : (around : Surroundings) (place : SourceRange) (t : Tree) → h.IsSilentDecl around place t →
     starts_in_decl around place t (decl_rule (kind_of t)) ≡ []
+silent_decl_inside around place t (h.IsSilentDecl.namespace k n e) = nothing_inside around place t TsModuleDecl k refl
 silent_decl_inside around place t (h.IsSilentDecl.variable k e) = nothing_inside around place t VarDecl k refl
 silent_decl_inside around place t (h.IsSilentDecl.standing k e) = nothing_inside around place t (kind_of t) refl (standing_no_class (kind_of t) k)
 silent_decl_inside around place t (h.IsSilentDecl.function k e) = nothing_inside around place t FnDecl k refl
@@ -146,6 +152,58 @@ silent_inside around t (h.IsSilent.linked s) = ap (starts_inside around t) (sile
 silent_inside around t (h.IsSilent.default s) =
     let e = silent_default around t s in ap (starts_inside around t) e.is ∙ silent_default_inside around t e.rule e.goes
 
+-- ---- what goes of the items of namespaces
+
+abbrev is_module_kind : Kind → Bool
+is_module_kind k = k is TsModuleDecl
+
+-- other declarations have none
+none_by_kind : (around : Surroundings) (place : SourceRange) (t : Tree) (k : Kind) → is_module_kind k ≡ false →
+    starts_in_body start_look around place t (decl_rule k) ≡ []
+none_by_kind around place t kinds.TsModuleDecl e = cc
+none_by_kind around place t _ e = refl
+
+none_below : (around : Surroundings) (place : SourceRange) (t : Tree) (k : Kind) → kind_of t ≡ k → is_module_kind k ≡ false →
+    starts_in_body start_look around place t (decl_rule (kind_of t)) ≡ []
+none_below around place t k d e = ap (λ j. starts_in_body start_look around place t (decl_rule j)) d ∙ none_by_kind around place t k e
+
+standing_no_module : (k : Kind) → is_standing k ≡ true → is_module_kind k ≡ false
+standing_no_module kinds.TsModuleDecl e = cc
+standing_no_module _ e = refl
+
+abbrev starts_if : Surroundings → Tree → Bool → Bool → List SourcePos
+starts_if around t namespace public = if namespace && public then removed_from (inside around t) (items_inside t) else []
+
+module_below : (around : Surroundings) (place : SourceRange) (t : Tree) → kind_of t ≡ TsModuleDecl →
+    starts_in_body start_look around place t (decl_rule (kind_of t)) ≡ starts_if around t (is_namespace t) (around.is_public place)
+module_below around place t k = ap (λ j. starts_in_body start_look around place t (decl_rule j)) k
+
+-- nor has a module that no skeleton has
+refused_below : (around : Surroundings) (place : SourceRange) (t : Tree) → kind_of t ≡ TsModuleDecl → is_namespace t ≡ false →
+    starts_in_body start_look around place t (decl_rule (kind_of t)) ≡ []
+refused_below around place t k n = module_below around place t k ∙ ap (λ x. starts_if around t x (around.is_public place)) n
+
+-- nor a silent declaration
+silent_decl_below : (around : Surroundings) (place : SourceRange) (t : Tree) → h.IsSilentDecl around place t →
+    starts_in_body start_look around place t (decl_rule (kind_of t)) ≡ []
+silent_decl_below around place t (h.IsSilentDecl.variable k e) = none_below around place t VarDecl k refl
+silent_decl_below around place t (h.IsSilentDecl.standing k e) = none_below around place t (kind_of t) refl (standing_no_module (kind_of t) k)
+silent_decl_below around place t (h.IsSilentDecl.function k e) = none_below around place t FnDecl k refl
+silent_decl_below around place t (h.IsSilentDecl.class k e) = none_below around place t ClassDecl k refl
+silent_decl_below around place t (h.IsSilentDecl.using k e) = none_below around place t UsingDecl k refl
+silent_decl_below around place t (h.IsSilentDecl.namespace k n e) =
+    module_below around place t k ∙ (λ i. starts_if around t (n i) (e i))
+
+silent_below : (around : Surroundings) (t : Tree) → h.IsSilent around t → starts_below start_look around t (item_rule t) ≡ []
+silent_below around t (h.IsSilent.decl s) =
+    ap (starts_below start_look around t) (declared_rule (kind_of t) t (silent_taken around (range_of_node t) t s))
+    ∙ silent_decl_below around (range_of_node t) t s
+silent_below around t (h.IsSilent.statement s) = ap (starts_below start_look around t) (silent_rule t s)
+silent_below around t (h.IsSilent.exported k s) =
+    ap (λ j. starts_below start_look around t (rule_of_kind j t)) k ∙ silent_decl_below around (ExportDecl-span t) (ExportDecl-decl t) s
+silent_below around t (h.IsSilent.linked s) = ap (starts_below start_look around t) (silent_link around t s).is
+silent_below around t (h.IsSilent.default s) = ap (starts_below start_look around t) (silent_default around t s).is
+
 -- ---- where items begin
 
 module _ (r : Renaming) (ok : IsRenaming r) where
@@ -155,6 +213,9 @@ module _ (r : Renaming) (ok : IsRenaming r) where
   of_functions : (t u : Tree) → Both FnDecl t u → SameRange r (Function-span (FnDecl-function t)) (Function-span (FnDecl-function u)) →
       SameRange r (range_of_node t) (range_of_node u)
   of_functions t u k s = subst₂ (SameRange r) (sym (range_of_function t k.left)) (sym (range_of_function u k.right)) s
+
+  of_modules : (t u : Tree) → Both TsModuleDecl t u → SameRange r (TsModuleDecl-span t) (TsModuleDecl-span u) → SameRange r (range_of_node t) (range_of_node u)
+  of_modules t u k s = subst₂ (SameRange r) (sym (range_of_module t k.left)) (sym (range_of_module u k.right)) s
 
   of_classes : (t u : Tree) → Both ClassDecl t u → SameRange r (Class-span (ClassDecl-class t)) (Class-span (ClassDecl-class u)) →
       SameRange r (range_of_node t) (range_of_node u)
@@ -172,11 +233,16 @@ module _ (r : Renaming) (ok : IsRenaming r) where
     decl_begins p q t u (h.SameDecl.class d e n s) = of_classes t u d.kinds s.head.span
     decl_begins p q t u (h.SameDecl.ambient_class d e n s) = of_classes t u d.kinds s.head.span
     decl_begins p q t u (h.SameDecl.using k s e f) = subst₂ (SameRange r) (sym (range_of_using t k.left)) (sym (range_of_using u k.right)) s
+    decl_begins p q t u (h.SameDecl.global k e f s) = of_modules t u k s
+    decl_begins p q t u (h.SameDecl.ambient_module k e f n n' s s') = of_modules t u k s
 
-    item_begins : SameBindings r a.bindings b.bindings → a.is_declaration_file ≡ b.is_declaration_file → (t u : Tree) → SameItem r a b t u →
+    item_begins : SameBindings r a.bindings b.bindings → a.is_ambient ≡ b.is_ambient → (t u : Tree) → SameItem r a b t u →
         SameRange r (range_of_node t) (range_of_node u)
     item_begins c m t u (h.SameItem.decl d) = decl_begins (range_of_node t) (range_of_node u) t u d
     item_begins c m t u (h.SameItem.exported k s d) = subst₂ (SameRange r) (sym (range_of_export t k.left)) (sym (range_of_export u k.right)) s
+    item_begins c m t u (h.SameItem.namespace (h.SameNamespace.bodies d s)) = of_modules t u d.kinds d.span
+    item_begins c m t u (h.SameItem.exported_namespace k s d) =
+        subst₂ (SameRange r) (sym (range_of_export t k.left)) (sym (range_of_export u k.right)) s
     item_begins c m t u (h.SameItem.linked d) = (links_alike r ok a b t u d).begins
     item_begins c m t u (h.SameItem.default d) = (defaults_alike r ok a b c m t u d).begins
     item_begins c m t u (h.SameItem.refused kind e f s) = s
@@ -196,12 +262,14 @@ module _ (r : Renaming) (ok : IsRenaming r) where
 
       removed_left : (t : Tree) → h.IsSilent a t → HasNoPartner r.starts (range_of_node t).start.0 → is_among p (removed_start a t) ≡ false
       removed_left t s n =
-          ap₂ (λ ss inside. is_among p (start_of_unseen t ss ++ inside)) (silent_item a t s) (silent_inside a t s)
+          ap (is_among p) (removed_start_is a t
+          ∙ (λ i. silent_below a t s i ++ (start_of_unseen t (silent_item a t s i) ++ silent_inside a t s i)))
           ∙ ap (λ m. m || false) (no_left r ok p q (range_of_node t).start.0 pair n)
 
       removed_right : (u : Tree) → h.IsSilent b u → IsNoPartner r.starts (range_of_node u).start.0 → is_among q (removed_start b u) ≡ false
       removed_right u s n =
-          ap₂ (λ ss inside. is_among q (start_of_unseen u ss ++ inside)) (silent_item b u s) (silent_inside b u s)
+          ap (is_among q) (removed_start_is b u
+          ∙ (λ i. silent_below b u s i ++ (start_of_unseen u (silent_item b u s i) ++ silent_inside b u s i)))
           ∙ ap (λ m. m || false) (no_right r ok p q (range_of_node u).start.0 pair n)
 
       -- inside of declarations that agree
@@ -222,7 +290,7 @@ module _ (r : Renaming) (ok : IsRenaming r) where
       inside_if true true true false xs ys e f g = cc
       inside_if true true false true xs ys e f g = cc
 
-      class_inside : (x y : SourceRange) (t u : Tree) → a.is_declaration_file ≡ b.is_declaration_file → h.SameClassDecl r a b t u →
+      class_inside : (x y : SourceRange) (t u : Tree) → a.is_ambient ≡ b.is_ambient → h.SameClassDecl r a b t u →
           a.is_public x ≡ b.is_public y →
           (is_ambient_class a t ≡ false → is_among p (starts_of_removed (ClassDecl-class t)) ≡ is_among q (starts_of_removed (ClassDecl-class u))) →
           InsideAlike x y t u
@@ -250,7 +318,7 @@ module _ (r : Renaming) (ok : IsRenaming r) where
       no_class t u k rule h e f = by_rules t u (Default rule) (default_by_kind t k h.kinds.left h.decls.left ∙ e)
           (default_by_kind u k h.kinds.right h.decls.right ∙ e) f
 
-      decl_inside : (x y : SourceRange) (t u : Tree) → a.is_declaration_file ≡ b.is_declaration_file → SameDecl r a b x y t u → InsideAlike x y t u
+      decl_inside : (x y : SourceRange) (t u : Tree) → a.is_ambient ≡ b.is_ambient → SameDecl r a b x y t u → InsideAlike x y t u
       decl_inside x y t u m (h.SameDecl.variable d n rest) = none_inside x y t u VarDecl d.kinds refl
       decl_inside x y t u m (h.SameDecl.ambient d n rest) = none_inside x y t u VarDecl d.kinds refl
       decl_inside x y t u m (h.SameDecl.standing k d e f g) = none_inside x y t u k d (standing_no_class k e)
@@ -261,6 +329,8 @@ module _ (r : Renaming) (ok : IsRenaming r) where
           class_removed r ok a.bindings b.bindings a.is_implementation b.is_implementation p q pair (ClassDecl-class t) (ClassDecl-class u) s)
       decl_inside x y t u m (h.SameDecl.ambient_class d e n s) = class_inside x y t u m d e (λ k. cc)
       decl_inside x y t u m (h.SameDecl.using k s e f) = none_inside x y t u UsingDecl k refl
+      decl_inside x y t u m (h.SameDecl.global k e f s) = none_inside x y t u TsModuleDecl k refl
+      decl_inside x y t u m (h.SameDecl.ambient_module k e f n n' s s') = none_inside x y t u TsModuleDecl k refl
 
       -- inside of default exports that agree
       default_inside : (t u : Tree) → SameDefault r a b t u → is_among p (starts_inside a t (item_rule t)) ≡ is_among q (starts_inside b u (item_rule u))
@@ -277,7 +347,7 @@ module _ (r : Renaming) (ok : IsRenaming r) where
       default_inside t u (defaults.SameDefault.ambient_function h e f) = no_class t u kinds.FnExpr Function h refl refl
       default_inside t u (defaults.SameDefault.interface h e) = no_class t u kinds.TsInterfaceDecl Interface h refl refl
 
-      item_inside : SameBindings r a.bindings b.bindings → a.is_declaration_file ≡ b.is_declaration_file → (t u : Tree) → SameItem r a b t u →
+      item_inside : SameBindings r a.bindings b.bindings → a.is_ambient ≡ b.is_ambient → (t u : Tree) → SameItem r a b t u →
           is_among p (starts_inside a t (item_rule t)) ≡ is_among q (starts_inside b u (item_rule u))
       item_inside c m t u (h.SameItem.decl d) =
           let e = decl_taken r ok a b c m (range_of_node t) (range_of_node u) t u d in
@@ -286,33 +356,132 @@ module _ (r : Renaming) (ok : IsRenaming r) where
       item_inside c m t u (h.SameItem.exported k s d) =
           subst₂ (λ x y. is_among p (starts_inside a t (rule_of_kind x t)) ≡ is_among q (starts_inside b u (rule_of_kind y u))) (sym k.left) (sym k.right)
           (decl_inside (ExportDecl-span t) (ExportDecl-span u) (ExportDecl-decl t) (ExportDecl-decl u) m d)
+      item_inside c m t u (h.SameItem.namespace d) =
+          let k = namespace_kinds r ok d in
+          by_rules t u (Declared Namespace) (namespace_rule t k.left) (namespace_rule u k.right) refl
+      item_inside c m t u (h.SameItem.exported_namespace k s d) =
+          let n = namespace_kinds r ok d in
+          by_rules t u (Exported Namespace) (exported_namespace_rule t k.left n.left) (exported_namespace_rule u k.right n.right) refl
       item_inside c m t u (h.SameItem.linked d) = let e = links_alike r ok a b t u d in by_rules t u (Linked e.rule) e.left e.right refl
       item_inside c m t u (h.SameItem.default d) = default_inside t u d
       item_inside c m t u (h.SameItem.refused kind e f s) = by_rules t u (Refused kind) e f refl
 
-      item_removed : SameBindings r a.bindings b.bindings → a.is_declaration_file ≡ b.is_declaration_file → (t u : Tree) → SameItem r a b t u →
+      -- of declarations that are no namespaces nothing goes below
+      nothing_below : (x y : SourceRange) (t u : Tree) (k : Kind) → Both k t u → is_module_kind k ≡ false →
+          (starts_in_body start_look a x t (decl_rule (kind_of t)) ≡ []) × (starts_in_body start_look b y u (decl_rule (kind_of u)) ≡ [])
+      nothing_below x y t u k d n = (none_below a x t k d.left n, none_below b y u k d.right n)
+
+      decl_below : (x y : SourceRange) (t u : Tree) → SameDecl r a b x y t u →
+          (starts_in_body start_look a x t (decl_rule (kind_of t)) ≡ []) × (starts_in_body start_look b y u (decl_rule (kind_of u)) ≡ [])
+      decl_below x y t u (h.SameDecl.variable d n rest) = nothing_below x y t u VarDecl d.kinds refl
+      decl_below x y t u (h.SameDecl.ambient d n rest) = nothing_below x y t u VarDecl d.kinds refl
+      decl_below x y t u (h.SameDecl.standing k d e f g) = nothing_below x y t u k d (standing_no_module k e)
+      decl_below x y t u (h.SameDecl.function d e f g) = nothing_below x y t u FnDecl d.kinds refl
+      decl_below x y t u (h.SameDecl.implementation d e f g) = nothing_below x y t u FnDecl d.kinds refl
+      decl_below x y t u (h.SameDecl.ambient_function k e f g) = nothing_below x y t u FnDecl k refl
+      decl_below x y t u (h.SameDecl.class d e n s) = nothing_below x y t u ClassDecl d.kinds refl
+      decl_below x y t u (h.SameDecl.ambient_class d e n s) = nothing_below x y t u ClassDecl d.kinds refl
+      decl_below x y t u (h.SameDecl.using k s e f) = nothing_below x y t u UsingDecl k refl
+      decl_below x y t u (h.SameDecl.global k e f s) =
+          (refused_below a x t k.left (global_no_namespace t e), refused_below b y u k.right (global_no_namespace u f))
+      decl_below x y t u (h.SameDecl.ambient_module k e f n n' s s') =
+          (refused_below a x t k.left (ambient_no_namespace t n), refused_below b y u k.right (ambient_no_namespace u n'))
+
+      among_none : (xs ys : List SourcePos) → xs ≡ [] → ys ≡ [] → is_among p xs ≡ is_among q ys
+      among_none xs ys e f = ap (is_among p) e ∙ sym (ap (is_among q) f)
+
+      below_by_rules : (t u : Tree) (rule : ItemRule) → item_rule t ≡ rule → item_rule u ≡ rule →
+          is_among p (starts_below start_look a t rule) ≡ is_among q (starts_below start_look b u rule) →
+          is_among p (starts_below start_look a t (item_rule t)) ≡ is_among q (starts_below start_look b u (item_rule u))
+      below_by_rules t u rule e f s =
+          subst₂ (λ x y. is_among p (starts_below start_look a t x) ≡ is_among q (starts_below start_look b u y)) (sym e) (sym f) s
+
+      all_removed : (t u : Tree) → is_among p (starts_below start_look a t (item_rule t)) ≡ is_among q (starts_below start_look b u (item_rule u)) →
+          is_among p (start_of_unseen t (item_seen a t)) ≡ is_among q (start_of_unseen u (item_seen b u)) →
+          is_among p (starts_inside a t (item_rule t)) ≡ is_among q (starts_inside b u (item_rule u)) →
           is_among p (removed_start a t) ≡ is_among q (removed_start b u)
-      item_removed c m t u s =
-          among_parts p (start_of_unseen t (item_seen a t)) (starts_inside a t (item_rule t))
-          ∙ (ap₂ (λ x y. x || y) (unseen_alike t u (item_seen a t) (item_seen b u) (item_begins c m t u s) (item_alike r ok a b c m t u s))
-          (item_inside c m t u s) ∙ sym (among_parts q (start_of_unseen u (item_seen b u)) (starts_inside b u (item_rule u))))
+      all_removed t u e f g =
+          ap (is_among p) (removed_start_is a t)
+          ∙ (among_parts p (starts_below start_look a t (item_rule t)) (start_of_unseen t (item_seen a t) ++ starts_inside a t (item_rule t))
+          ∙ (ap₂ (λ x y. x || y) e (among_parts p (start_of_unseen t (item_seen a t)) (starts_inside a t (item_rule t)) ∙ (ap₂ (λ x y. x || y) f g
+          ∙ sym (among_parts q (start_of_unseen u (item_seen b u)) (starts_inside b u (item_rule u)))))
+          ∙ (sym (among_parts q (starts_below start_look b u (item_rule u)) (start_of_unseen u (item_seen b u) ++ starts_inside b u (item_rule u)))
+          ∙ sym (ap (is_among q) (removed_start_is b u)))))
 
       among_more : (n : ℕ) (around : Surroundings) (t : Tree) (ts : List Tree) →
-          is_among n (flat_map (removed_start around) (t ∷ ts)) ≡ (is_among n (removed_start around t) || is_among n (flat_map (removed_start around) ts))
-      among_more n around t ts = list_any-append (λ (s : SourcePos). s.0 == n) (removed_start around t) (flat_map (removed_start around) ts)
+          is_among n (removed_from around (t ∷ ts)) ≡ (is_among n (removed_start around t) || is_among n (removed_from around ts))
+      among_more n around t ts = list_any-append (λ (s : SourcePos). s.0 == n) (removed_start around t) (removed_from around ts)
 
-      removed_alike : SameBindings r a.bindings b.bindings → a.is_declaration_file ≡ b.is_declaration_file → (ts us : List Tree) →
-          SameItems r a b ts us →
-          is_among p (flat_map (removed_start a) ts) ≡ is_among q (flat_map (removed_start b) us)
-      removed_alike c m [] [] h.SameItems.end = refl
-      removed_alike c m (t ∷ ts) us (h.SameItems.left s n rest) =
-          among_more p a t ts ∙ (ap (λ x. x || is_among p (flat_map (removed_start a) ts)) (removed_left t s n) ∙ removed_alike c m ts us rest)
-      removed_alike c m ts (u ∷ us) (h.SameItems.right s n rest) =
-          removed_alike c m ts us rest ∙ sym (among_more q b u us ∙ ap (λ x. x || is_among q (flat_map (removed_start b) us)) (removed_right u s n))
-      removed_alike c m (t ∷ ts) (u ∷ us) (h.SameItems.next s rest) =
-          among_more p a t ts ∙ (ap₂ (λ x y. x || y) (item_removed c m t u s) (removed_alike c m ts us rest)
-          ∙ sym (among_more q b u us))
+      namespace_removed : (x y : SourceRange) (t u : Tree) → SameNamespaceHead r a b x y t u →
+          is_among p (removed_from (inside a t) (items_inside t)) ≡ is_among q (removed_from (inside b u) (items_inside u)) →
+          is_among p (starts_in_namespace start_look a x t) ≡ is_among q (starts_in_namespace start_look b y u)
+      namespace_removed x y t u d e =
+          among_if (is_namespace t && a.is_public x) (is_namespace u && b.is_public y) _ _
+          (ap₂ (λ m n. m && n) (d.namespaces.0 ∙ sym d.namespaces.1) d.is_public) e
 
+  module _ (p q : ℕ) (pair : IsPair r.starts p q) where
+    item_removed : (a b : Surroundings) (t u : Tree) → SameBindings r a.bindings b.bindings → a.is_ambient ≡ b.is_ambient →
+        SameItem r a b t u → is_among p (starts_below start_look a t (item_rule t)) ≡ is_among q (starts_below start_look b u (item_rule u)) →
+        is_among p (removed_start a t) ≡ is_among q (removed_start b u)
+    item_removed a b t u c m s below =
+        all_removed a b p q pair t u below
+        (unseen_alike a b p q pair t u (item_seen a t) (item_seen b u) (item_begins a b c m t u s) (item_alike r ok c m s))
+        (item_inside a b p q pair c m t u s)
+
+    mutual
+      item_below : {a b : Surroundings} {t u : Tree} → SameBindings r a.bindings b.bindings → a.is_ambient ≡ b.is_ambient →
+          SameItem r a b t u → is_among p (starts_below start_look a t (item_rule t)) ≡ is_among q (starts_below start_look b u (item_rule u))
+      item_below c m (h.SameItem.decl {a = a} {b = b} {t = t} {u = u} d) =
+          let e = decl_taken r ok a b c m (range_of_node t) (range_of_node u) t u d in
+          let f = decl_below a b p q pair (range_of_node t) (range_of_node u) t u d in
+          among_none a b p q pair _ _ (ap (starts_below start_look a t) (declared_rule (kind_of t) t e.0) ∙ f.0)
+          (ap (starts_below start_look b u) (declared_rule (kind_of u) u e.1) ∙ f.1)
+      item_below c m (h.SameItem.exported {a = a} {b = b} {t = t} {u = u} k s d) =
+          let f = decl_below a b p q pair (ExportDecl-span t) (ExportDecl-span u) (ExportDecl-decl t) (ExportDecl-decl u) d in
+          among_none a b p q pair _ _ (ap (λ x. starts_below start_look a t (rule_of_kind x t)) k.left ∙ f.0)
+          (ap (λ x. starts_below start_look b u (rule_of_kind x u)) k.right ∙ f.1)
+      item_below c m (h.SameItem.namespace {a = a} {b = b} {t = t} {u = u} d) =
+          let k = namespace_kinds r ok d in
+          below_by_rules a b p q pair t u (Declared Namespace) (namespace_rule t k.left) (namespace_rule u k.right) (namespaces_removed c m d)
+      item_below c m (h.SameItem.exported_namespace {a = a} {b = b} {t = t} {u = u} k s d) =
+          let n = namespace_kinds r ok d in
+          below_by_rules a b p q pair t u (Exported Namespace) (exported_namespace_rule t k.left n.left) (exported_namespace_rule u k.right n.right)
+          (namespaces_removed c m d)
+      item_below c m (h.SameItem.linked {a = a} {b = b} {t = t} {u = u} d) =
+          let e = links_alike r ok a b t u d in below_by_rules a b p q pair t u (Linked e.rule) e.left e.right refl
+      item_below c m (h.SameItem.default {a = a} {b = b} {t = t} {u = u} d) =
+          let e = defaults_alike r ok a b c m t u d in below_by_rules a b p q pair t u (Default e.rule) e.left e.right refl
+      item_below c m (h.SameItem.refused {a = a} {b = b} {t = t} {u = u} kind e f s) = below_by_rules a b p q pair t u (Refused kind) e f refl
+
+      namespaces_removed : {a b : Surroundings} {x y : SourceRange} {t u : Tree} → SameBindings r a.bindings b.bindings →
+          a.is_ambient ≡ b.is_ambient → SameNamespace r a b x y t u →
+          is_among p (starts_in_namespace start_look a x t) ≡ is_among q (starts_in_namespace start_look b y u)
+      namespaces_removed c m (h.SameNamespace.bodies {a = a} {b = b} {p = x} {q = y} {t = t} {u = u} d s) =
+          namespace_removed a b p q pair x y t u d (body_removed c (ap₂ (λ x y. x || y) m d.declare) s)
+
+      body_removed : {a b : Surroundings} {t u : Tree} → SameBindings r a.bindings b.bindings → a.is_ambient ≡ b.is_ambient →
+          SameBody r a b t u → is_among p (removed_from a (block_items (innermost t))) ≡ is_among q (removed_from b (block_items (innermost u)))
+      body_removed c m (h.SameBody.block {a = a} {b = b} {t = t} {u = u} n s rest) =
+          subst₂ (λ x y. is_among p (removed_from a (block_items x)) ≡ is_among q (removed_from b (block_items y))) (sym (innermost_block t n.left))
+          (sym (innermost_block u n.right)) (removed_alike c m rest)
+      body_removed c m (h.SameBody.inner {a = a} {b = b} {t = t} {u = u} d s) =
+          subst₂ (λ x y. is_among p (removed_from a (block_items x)) ≡ is_among q (removed_from b (block_items y)))
+          (sym (innermost_inner t (ap (λ k. k is TsNamespaceDecl) d.kinds.left))) (sym (innermost_inner u (ap (λ k. k is TsNamespaceDecl) d.kinds.right)))
+          (body_removed c m s)
+
+      removed_alike : {a b : Surroundings} {ts us : List Tree} → SameBindings r a.bindings b.bindings → a.is_ambient ≡ b.is_ambient →
+          SameItems r a b ts us → is_among p (removed_from a ts) ≡ is_among q (removed_from b us)
+      removed_alike c m h.SameItems.end = refl
+      removed_alike c m (h.SameItems.left {a = a} {b = b} {t = t} {ts = ts} {us = us} s n rest) =
+          among_more a b p q pair p a t ts ∙ (ap (λ x. x || is_among p (removed_from a ts)) (removed_left a b p q pair t s n) ∙ removed_alike c m rest)
+      removed_alike c m (h.SameItems.right {a = a} {b = b} {u = u} {ts = ts} {us = us} s n rest) =
+          removed_alike c m rest
+          ∙ sym (among_more a b p q pair q b u us ∙ ap (λ x. x || is_among q (removed_from b us)) (removed_right a b p q pair u s n))
+      removed_alike c m (h.SameItems.next {a = a} {b = b} {t = t} {u = u} {ts = ts} {us = us} s rest) =
+          among_more a b p q pair p a t ts ∙ (ap₂ (λ x y. x || y) (item_removed a b t u c m s (item_below c m s)) (removed_alike c m rest)
+          ∙ sym (among_more a b p q pair q b u us))
+
+  module _ (a b : Surroundings) where
     -- ---- the comments that stay
 
     each_if : (m n : Bool) (xs ys : List Comment) → m ≡ n → Each (SameComment r) xs ys → Each (SameComment r) (if m then [] else xs) (if n then [] else ys)
@@ -327,7 +496,7 @@ module _ (r : Renaming) (ok : IsRenaming r) where
       leading = λ p q pair.
           subst₂ (Each (SameComment r)) (sym (all_without p (removed_starts a t) (kept c))) (sym (all_without q (removed_starts b u) (kept d)))
           (each_if (is_among p (removed_starts a t)) (is_among q (removed_starts b u)) (all_comments_at p (kept c).leading) (all_comments_at q (kept d).leading)
-          (removed_alike p q pair g.bindings g.is_declaration_file (items_of t) (items_of u) g.items) (s.leading p q pair));
+          (removed_alike p q pair g.bindings g.is_ambient g.items) (s.leading p q pair));
       trailing = subst₂ (SameAtPairs r r.ends) (sym (trailing_stay (removed_starts a t) (kept c)))
           (sym (trailing_stay (removed_starts b u) (kept d))) s.trailing;
     }

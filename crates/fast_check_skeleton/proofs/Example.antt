@@ -37,6 +37,7 @@ use Rattle.fast_check_skeleton.specs.Skeleton.{skeleton_of}
 use Rattle.fast_check_skeleton.specs.Example.{at, scope, name, annotation, declarator, statement, exported, documented, before_tokens, with_trailing}
 use Rattle.fast_check_skeleton.specs.Example.{text_value, first, first_comments, hidden_function, name_value, second, second_comments, renaming, around}
 use Rattle.fast_check_skeleton.specs.Example.{Example}
+use Rattle.fast_check_skeleton.proofs.Namespaces.{item_seen_is, removed_start_is}
 use Rattle.fast_check_skeleton.proofs.CommentsAlike.{two_worlds}
 
 -- ---- the renaming
@@ -219,7 +220,7 @@ begins_alone n p = let q : IsPair renaming.starts n 10 = subst (λ s. IsPair ren
 agree : AgreeHidden renaming a b first second
 agree = record {
   bindings = record { unresolved = inr (inl (refl, refl)); is_plain_class = λ text x y p. refl };
-  is_declaration_file = refl;
+  is_ambient = refl;
   items = subst₂ (SameItems renaming a b)
       (sym (items_made (at 10 39) (exported 10 2 text_value 38 ∷ []) Absent))
       (sym (items_made (at 10 62) (hidden_function ∷ exported 35 3 name_value 61 ∷ []) Absent))
@@ -231,7 +232,7 @@ agree = record {
 }
 
 skeleton_is : skeleton_of a first ≡ module' (at 10 39) (list (exported 10 2 never_value 38 ∷ [])) Absent
-skeleton_is = simp (parts_node, kind_of_node, range_of_range, flag_of_flag, context_of_context, is_absent_node)
+skeleton_is = simp (item_seen_is, parts_node, kind_of_node, range_of_range, flag_of_flag, context_of_context, is_absent_node)
 
 -- ---- the comments
 
@@ -263,10 +264,10 @@ other_trailing : SameComments renaming (kept with_trailing) (kept second_comment
 other_trailing s = s.trailing 39 62 (inr (inr (inr (inr (inr (inl (refl, refl)))))))
 
 first_stay : kept_comments a first first_comments ≡ before_tokens (documented 120 1 ∷ [])
-first_stay = simp (parts_node, kind_of_node, range_of_range, flag_of_flag)
+first_stay = simp (item_seen_is, removed_start_is, parts_node, kind_of_node, range_of_range, flag_of_flag)
 
 second_stay : kept_comments b second second_comments ≡ before_tokens (documented 120 26 ∷ [])
-second_stay = simp (parts_node, kind_of_node, range_of_range, flag_of_flag)
+second_stay = simp (item_seen_is, removed_start_is, parts_node, kind_of_node, range_of_range, flag_of_flag)
 
 pub example : Example
 example = record {

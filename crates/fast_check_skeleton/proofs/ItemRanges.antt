@@ -17,6 +17,7 @@ use Rattle.fast_check_expression_forms.specs.Patterns.{PatExpr-expr, TargetPat-p
 use Rattle.fast_check_program_forms.specs.ModuleDecls.{ExportDecl-span, ImportDecl-span, NamedExport-span, ExportAll-span}
 use Rattle.fast_check_program_forms.specs.ModuleDecls.{ExportDefaultExpr-span, ExportDefaultDecl-span}
 use Rattle.fast_check_statement_forms.specs.Declarations.{ClassDecl-class, FnDecl-function, UsingDecl-span, VarDecl-span}
+use Rattle.fast_check_statement_forms.specs.TsDeclarations.{TsModuleDecl-span}
 use Rattle.fast_check_ranges.specs.Ranges.{without_marks, range_of_form, range_of_node}
 use Rattle.fast_check_ranges.proofs.RangesMoved.{range_of_node_moved}
 
@@ -40,6 +41,9 @@ range_of_export t e = of_form t kinds.ExportDecl e refl refl ∙ rw e refl
 
 pub range_of_class : (t : Tree) → kind_of t ≡ kinds.ClassDecl → range_of_node t ≡ Class-span (ClassDecl-class t)
 range_of_class t e = of_form t kinds.ClassDecl e refl refl ∙ rw e refl
+
+pub range_of_module : (t : Tree) → kind_of t ≡ kinds.TsModuleDecl → range_of_node t ≡ TsModuleDecl-span t
+range_of_module t e = of_form t kinds.TsModuleDecl e refl refl ∙ rw e refl
 
 pub range_of_using : (t : Tree) → kind_of t ≡ kinds.UsingDecl → range_of_node t ≡ UsingDecl-span t
 range_of_using t e = of_form t kinds.UsingDecl e refl refl ∙ rw e refl

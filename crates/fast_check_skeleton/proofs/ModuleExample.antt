@@ -23,6 +23,7 @@ use Rattle.fast_check_skeleton.specs.ClassExample.{void_function, empty_statemen
 use Rattle.fast_check_skeleton.specs.ModuleExample as e
 use Rattle.fast_check_skeleton.specs.ModuleExample.{specifier, written_source, import_of, default_function, first, second, around, answered, ModuleExample}
 use Rattle.fast_check_skeleton.proofs.ClassExample.{is_renaming, Same, new_same, same_absent, at_places, are_same, functions, word_read, items_made}
+use Rattle.fast_check_skeleton.proofs.Namespaces.{item_seen_is}
 use Rattle.fast_check_skeleton.proofs.Example.{context_of_context}
 
 -- ---- the import
@@ -85,7 +86,7 @@ default_functions ss ts = record {
     span = at_places _ _ (simp (part_node, range_of_range)) (simp (part_node, range_of_range));
     is_public = simp (part_node, range_of_range);
   };
-  is_declaration_file = refl;
+  is_ambient = refl;
   ident = are_same _ _ Absent (ident_made ss) (ident_made ts) same_absent;
 }
 
@@ -98,7 +99,7 @@ defaults ss ts = h.SameItem.default (d.SameDefault.function (default_functions s
 agree : AgreeHidden no_places around around first second
 agree = record {
   bindings = record { unresolved = inl (refl, refl); is_plain_class = λ text x y p. refl };
-  is_declaration_file = refl;
+  is_ambient = refl;
   items = subst₂ (SameItems no_places around around) (sym (items_made _)) (sym (items_made _))
       (h.SameItems.next (h.SameItem.linked (l.SameLink.import imports)) (h.SameItems.next (defaults [] (empty_statement ∷ [])) h.SameItems.end));
   shebang = are_same _ _ Absent (part_node _ _ _) (part_node _ _ _) same_absent;
@@ -109,10 +110,10 @@ unfolding roll-Tree denote.Hole.Carrier.roll
 text_of_text text = ap text_at (out-roll-Tree (Tree-F.Text text))
 
 first_is : skeleton_of around first ≡ answered
-first_is = simp (parts_node, kind_of_node, range_of_range, flag_of_flag, context_of_context, text_of_text, is_absent_node, absent, word_read)
+first_is = simp (item_seen_is, parts_node, kind_of_node, range_of_range, flag_of_flag, context_of_context, text_of_text, is_absent_node, absent, word_read)
 
 second_is : skeleton_of around second ≡ answered
-second_is = simp (parts_node, kind_of_node, range_of_range, flag_of_flag, context_of_context, text_of_text, is_absent_node, absent, word_read)
+second_is = simp (item_seen_is, parts_node, kind_of_node, range_of_range, flag_of_flag, context_of_context, text_of_text, is_absent_node, absent, word_read)
 
 other_source : SameSource no_places around e.unresolving written_source written_source → ⊥
 other_source s = let e = s.relative in cc

@@ -6,13 +6,13 @@ use Rattle.fast_check_syntax.specs.declared.kind.Kind.{Kind}
 use Rattle.fast_check_syntax.specs.declared.kind.Kind.TheVariants as kinds
 use Rattle.fast_check_syntax.specs.declared.tree.Tree.{Tree}
 use Rattle.fast_check_syntax.specs.Shape.{◌is◌, is_kind, kind_of}
-use Rattle.fast_check_program_forms.specs.ModuleDecls.{ExportDefaultDecl-decl}
+use Rattle.fast_check_program_forms.specs.ModuleDecls.{ExportDecl-decl, ExportDefaultDecl-decl}
 use Rattle.fast_check_statement_forms.specs.Statements.{ExprStmt-expr}
 use Rattle.fast_check_signatures.specs.declared.fault.FaultKind.TheVariants.{UnsupportedRequire}
 use Rattle.fast_check_skeleton.specs.declared.rules.DeclRule.{DeclRule}
-use Rattle.fast_check_skeleton.specs.declared.rules.DeclRule.TheVariants.{Function, Class, Standing}
+use Rattle.fast_check_skeleton.specs.declared.rules.DeclRule.TheVariants.{Function, Class, Standing, Namespace}
 use Rattle.fast_check_skeleton.specs.declared.rules.ItemRule.{ItemRule}
-use Rattle.fast_check_skeleton.specs.declared.rules.ItemRule.TheVariants.{Declared, Linked, Refused, Silent}
+use Rattle.fast_check_skeleton.specs.declared.rules.ItemRule.TheVariants.{Declared, Exported, Linked, Refused, Silent}
 use Rattle.fast_check_skeleton.specs.declared.rules.LinkRule.TheVariants.{Alias}
 use Rattle.fast_check_skeleton.specs.Hidden.{is_plain_statement}
 use Rattle.fast_check_skeleton.specs.Kinds.{is_standing, is_statement}
@@ -74,6 +74,13 @@ default_by_kind t k e d = rule_by_kind t kinds.ExportDefaultDecl e ∙ ap defaul
 pub alias_rule : (t : Tree) → kind_of t ≡ kinds.TsImportEqualsDecl → is_require t ≡ false → item_rule t ≡ Linked Alias
 alias_rule t e n = rule_by_kind t kinds.TsImportEqualsDecl e ∙ ap (λ b. if b then Refused UnsupportedRequire else Linked Alias) n
 
+-- of a namespace, exported or not
+pub namespace_rule : (t : Tree) → kind_of t ≡ kinds.TsModuleDecl → item_rule t ≡ Declared Namespace
+namespace_rule t e = rule_by_kind t kinds.TsModuleDecl e
+
+pub exported_namespace_rule : (t : Tree) → kind_of t ≡ kinds.ExportDecl → kind_of (ExportDecl-decl t) ≡ kinds.TsModuleDecl → item_rule t ≡ Exported Namespace
+exported_namespace_rule t e d = rule_by_kind t kinds.ExportDecl e ∙ ap (λ k. Exported (decl_rule k)) d
+
 -- a declaration that is taken is an item of its own
 pub declared_rule : (k : Kind) (t : Tree) → is_taken_decl (decl_rule k) ≡ true → rule_of_kind k t ≡ Declared (decl_rule k)
 declared_rule kinds.VarDecl t e = refl
@@ -82,6 +89,7 @@ declared_rule kinds.ClassDecl t e = refl
 declared_rule kinds.TsInterfaceDecl t e = refl
 declared_rule kinds.TsTypeAliasDecl t e = refl
 declared_rule kinds.TsEnumDecl t e = refl
+declared_rule kinds.TsModuleDecl t e = refl
 declared_rule kinds.UsingDecl t e = refl
 declared_rule _ t e = absurd (false≢true e)
 

@@ -1,5 +1,5 @@
 -- A skeleton stands in the grammar: where there is no fault, each declarator has its type.
-use Rattle.std.specs.Prelude.{◌≡◌, Bool, true, false, ◌||◌, IsTrue, ◌⊎◌, Option, Some, None, List, [], ◌∷◌, flat_map, refl}
+use Rattle.std.specs.Prelude.{◌≡◌, Bool, true, false, not, ◌&&◌, ◌||◌, IsTrue, ◌⊎◌, Option, Some, None, List, [], ◌∷◌, flat_map, refl}
 use Rattle.std.specs.Prelude.{if◌then◌else◌}
 use Rattle.std.proofs.Common.{ap, ◌∙◌, sym, subst, subst₂, inl, inr, append-nil}
 use Rattle.fast_check_syntax.specs.declared.kind.Kind.{Kind}
@@ -25,9 +25,10 @@ use Rattle.fast_check_statement_forms.specs.Statements.{ExprStmt-expr}
 use Rattle.fast_check_helpers.specs.Builders.{type_ann, never_value}
 use Rattle.fast_check_helpers.specs.declared.literal_type.DeclMutabilityKind.{DeclMutabilityKind}
 use Rattle.fast_check_helpers.specs.InferredType.{inferred_type}
+use Rattle.fast_check_statement_forms.specs.TsDeclarations.{TsModuleDecl-span, TsModuleDecl-declare, TsModuleDecl-global, TsModuleDecl-id}
 use Rattle.fast_check_ranges.specs.Ranges.{range_of_node}
 use Rattle.fast_check_signatures.specs.Bindings.{Bindings}
-use Rattle.fast_check_signatures.specs.declared.fault.FaultKind.TheVariants.{MissingExplicitType, UnsupportedDefaultExportExpr, UnsupportedUsing}
+use Rattle.fast_check_signatures.specs.declared.fault.FaultKind.TheVariants.{UnsupportedGlobalModule, UnsupportedAmbientModule, MissingExplicitType, UnsupportedDefaultExportExpr, UnsupportedUsing}
 use Rattle.fast_check_signatures.specs.declared.function_kind.FunctionKind.TheVariants.{DeclarationLike}
 use Rattle.fast_check_signatures.specs.Seen.{Seen, written, range, scope, flag, round, listed, faulty, seens}
 use Rattle.fast_check_signatures.specs.Answers.{Answer, faultless, joined, visited, with_tree, round_answer, fault_at, answer_to, parts_answer, answer_of}
@@ -36,13 +37,14 @@ use Rattle.fast_check_signatures.proofs.Choices.{of_choice, no_left, not_empty}
 use Rattle.fast_check_typed_grammar.specs.TypedGrammar.{IsLeavable, IsTypedFunction}
 use Rattle.fast_check_typed_grammar.specs.ClassGrammar.{IsAmbientClass, IsTypedClass}
 use Rattle.fast_check_signatures.specs.Classes.{plain_class_seen, ambient_class}
+use Rattle.fast_check_typed_grammar.proofs.Descending.{by_descent_holds}
 use Rattle.fast_check_typed_grammar.proofs.Staying.{Holds, Stays, round_stays, written_before, last_stays, demanded_holds}
 use Rattle.fast_check_typed_grammar.proofs.StayingLists.{AllStay, all_flat, all_hold, some_weaker, all_weaker, all_if, both_some}
 use Rattle.fast_check_typed_grammar.proofs.TypedClasses.{ambient_stands, class_stays}
 use Rattle.fast_check_typed_grammar.proofs.Present.{stays_there}
 use Rattle.fast_check_typed_grammar.proofs.Typed.{expr_stays, function_is_typed, implementation_is_typed}
 use Rattle.fast_check_skeleton.specs.declared.rules.DeclRule.{DeclRule}
-use Rattle.fast_check_skeleton.specs.declared.rules.DeclRule.TheVariants.{Variables, Function, Class, Standing, Using, Untaken}
+use Rattle.fast_check_skeleton.specs.declared.rules.DeclRule.TheVariants.{Variables, Function, Class, Standing, Namespace, Using, Untaken}
 use Rattle.fast_check_skeleton.specs.declared.rules.DefaultRule.{DefaultRule}
 use Rattle.fast_check_skeleton.specs.declared.rules.DefaultRule.TheVariants as defaults
 use Rattle.fast_check_skeleton.specs.declared.rules.DefaultRule.TheVariants.{Value, Interface}
@@ -56,15 +58,18 @@ use Rattle.fast_check_skeleton.specs.Links as l
 use Rattle.fast_check_skeleton.specs.Links.{public_specifiers, with_specifiers, all_exported, link_seen}
 use Rattle.fast_check_skeleton.specs.Mutability.{mutability_of}
 use Rattle.fast_check_skeleton.specs.Rules.{decl_rule, expr_stmt_rule, default_rule, is_require, rule_of_kind}
-use Rattle.fast_check_skeleton.specs.Surroundings.{Surroundings}
+use Rattle.fast_check_skeleton.specs.Surroundings.{Surroundings, inside}
+use Rattle.fast_check_skeleton.specs.Namespaces.{is_ambient_module, is_namespace, items_inside, namespace_round, namespace_with}
 use Rattle.fast_check_skeleton.specs.Visible.{declared_ident, declared_type, value_seen, untyped_seen}
-use Rattle.fast_check_skeleton.specs.Visible.{declarator_seen, is_ambient, is_public_declarator, declarator_in, public_declarator, public_declarators}
+use Rattle.fast_check_skeleton.specs.Visible.{declarator_seen, is_ambient_statement, is_public_declarator, declarator_in, public_declarator, public_declarators}
 use Rattle.fast_check_skeleton.specs.Visible.{statement_seen, signature_of, function_decl_seen, public_function, is_ambient_class, class_in, class_decl_seen}
-use Rattle.fast_check_skeleton.specs.Visible.{public_class, is_public_using, using_place, decl_seen, exported_seen}
-use Rattle.fast_check_skeleton.specs.Visible.{seen_by_rule, item_seen, items_of}
+use Rattle.fast_check_skeleton.specs.Visible.{public_class, is_public_using, using_place, ItemLook, body_seen, namespace_seen, decl_form, exported_seen}
+use Rattle.fast_check_skeleton.specs.Visible.{form_by_rule, item_form, item_look, item_seen, decl_seen, seen_by_rule, items_of, visible}
 use Rattle.fast_check_skeleton.specs.Skeleton.{transformed, skeleton_of, faults_of}
 use Rattle.fast_check_skeleton.specs.Grammar.{HasTypedValue, IsTypedDeclarator, IsTypedStatement, IsTypedFunctionDecl, IsTypedClassDecl, IsTypedDecl}
-use Rattle.fast_check_skeleton.specs.Grammar.{IsTypedDefaultDecl, IsLink, IsTypedItem, IsSkeleton}
+use Rattle.fast_check_skeleton.specs.Grammar.{IsTypedDefaultDecl, IsLink, IsPlainItem, IsTypedItem, IsTypedNamespace, AllTypedItems, IsSkeleton}
+use Rattle.fast_check_skeleton.specs.Grammar as g
+use Rattle.fast_check_skeleton.proofs.StandingNamespaces.{namespace_is, items_stand, namespace_typed}
 use Rattle.fast_check_skeleton.proofs.Ruled.{standing_kind, function_kind}
 
 -- ---- declarators
@@ -139,7 +144,7 @@ module _ (around : Surroundings) where
   abbrev Typed' : Tree → Type 0
   Typed' = IsTypedDeclarator around.bindings
 
-  declarators_stay : (statement : Tree) → is_ambient around statement ≡ false → AllStay Typed' (public_declarators around statement)
+  declarators_stay : (statement : Tree) → is_ambient_statement around statement ≡ false → AllStay Typed' (public_declarators around statement)
   declarators_stay statement n = all_flat Typed' (public_declarator around statement) (parts (VarDecl-decls statement))
       (λ d. all_if Typed' (is_public_declarator around d) (declarator_in around statement d)
       (let P : Bool → Type 0 = λ a. Stays Typed' (answer_to (if a then written d else declarator_seen around (mutability_of (VarDecl-kind statement)) d)) in
@@ -162,26 +167,26 @@ module _ (around : Surroundings) where
       answer_to (statement_form statement ds) ≡ (record { stays = Some (made statement (answer_of ds).stays); faults = (answer_of ds).faults })
   statement_is statement ds = λ i. record { stays = Some (made statement (answer_of ds).stays); faults = append-nil (answer_of ds).faults i }
 
-  ambient_or_typed : (statement : Tree) (ds : List Tree) (a : Bool) → is_ambient around statement ≡ a → (a ≡ false → OfAll Typed' ds) →
-      IsTrue (around.is_declaration_file || VarDecl-declare (node VarDecl (made_parts statement ds))) ⊎
+  ambient_or_typed : (statement : Tree) (ds : List Tree) (a : Bool) → is_ambient_statement around statement ≡ a → (a ≡ false → OfAll Typed' ds) →
+      IsTrue (around.is_ambient || VarDecl-declare (node VarDecl (made_parts statement ds))) ⊎
       OfAll Typed' (parts (VarDecl-decls (node VarDecl (made_parts statement ds))))
   ambient_or_typed statement ds true q p =
       let f = ap flag_of (part_node _ VarDecl (made_parts statement ds)) ∙ flag_of_flag (VarDecl-declare statement) in
-      inl (subst (λ b. IsTrue (around.is_declaration_file || b)) (sym f) q)
+      inl (subst (λ b. IsTrue (around.is_ambient || b)) (sym f) q)
   ambient_or_typed statement ds false q p =
       let same : VarDecl-decls (node VarDecl (made_parts statement ds)) ≡ list ds = part_node _ _ _ in
       inr (subst (OfAll Typed') (sym (ap parts same ∙ parts_node List' ds)) (p refl))
 
   abbrev Statement : Tree → Type 0
-  Statement = IsTypedStatement around.bindings around.is_declaration_file
+  Statement = IsTypedStatement around.bindings around.is_ambient
 
-  statement_stays : (statement : Tree) (ds : List Seen) → (is_ambient around statement ≡ false → Holds (OfAll Typed') (answer_of ds)) →
+  statement_stays : (statement : Tree) (ds : List Seen) → (is_ambient_statement around statement ≡ false → Holds (OfAll Typed') (answer_of ds)) →
       AllStay Statement (statement_seen statement ds)
   statement_stays statement [] p = tt
   statement_stays statement (d ∷ ds) p = (
     λ f. record {
       kind = kind_of_node VarDecl (made_parts statement (answer_of (d ∷ ds)).stays);
-      declarators = ambient_or_typed statement (answer_of (d ∷ ds)).stays (is_ambient around statement) refl (λ n. p n (no_left _ [] f));
+      declarators = ambient_or_typed statement (answer_of (d ∷ ds)).stays (is_ambient_statement around statement) refl (λ n. p n (no_left _ [] f));
     },
     tt,
   )
@@ -189,7 +194,7 @@ module _ (around : Surroundings) where
   -- ---- functions
 
   abbrev Function' : Tree → Type 0
-  Function' = IsTypedFunctionDecl around.bindings around.is_declaration_file
+  Function' = IsTypedFunctionDecl around.bindings around.is_ambient
 
   function_made : (decl function : Tree) → IsTypedFunction around.bindings function → Function' (fn_decl (FnDecl-ident decl) (FnDecl-declare decl) function)
   function_made decl function h =
@@ -217,16 +222,16 @@ module _ (around : Surroundings) where
       (λ e. function_is_typed around.bindings DeclarationLike (Ident-span (FnDecl-ident decl)) (FnDecl-function decl) refl)
 
   function_stays : (place : SourceRange) (decl : Tree) → kind_of decl ≡ FnDecl → AllStay Function' (public_function around place decl)
-  function_stays place decl k = all_if Function' (around.is_public place) (function_decl_seen around place decl) (go around.is_declaration_file refl)
+  function_stays place decl k = all_if Function' (around.is_public place) (function_decl_seen around place decl) (go around.is_ambient refl)
     where
-      go : (b : Bool) → around.is_declaration_file ≡ b → Stays Function' (answer_to (if b then written decl else signed decl (signature_of around place decl)))
+      go : (b : Bool) → around.is_ambient ≡ b → Stays Function' (answer_to (if b then written decl else signed decl (signature_of around place decl)))
       go true q = λ f. record { kind = k; function = inl q }
       go false q = signed_stays decl (signature_of around place decl) (signature_stays place decl)
 
   -- ---- classes
 
   abbrev Class' : Tree → Type 0
-  Class' = IsTypedClassDecl around.bindings around.is_declaration_file
+  Class' = IsTypedClassDecl around.bindings around.is_ambient
 
   -- the class of a declaration, by whether it is ambient
   abbrev FitsClass : Tree → Tree → Type 0
@@ -240,7 +245,7 @@ module _ (around : Surroundings) where
       let declare : ClassDecl-declare made ≡ ClassDecl-declare decl = ap flag_of (part_node _ _ _) ∙ flag_of_flag (ClassDecl-declare decl) in
       record {
         kind = kind_of_node _ _;
-        class = subst₂ (λ d c. (IsTrue (around.is_declaration_file || d) × IsAmbientClass c) ⊎ IsTypedClass around.bindings c) (sym declare) (sym same) h;
+        class = subst₂ (λ d c. (IsTrue (around.is_ambient || d) × IsAmbientClass c) ⊎ IsTypedClass around.bindings c) (sym declare) (sym same) h;
       }
 
   abbrev classed : Tree → Seen → Seen
@@ -273,22 +278,60 @@ module _ (around : Surroundings) where
   -- ---- declarations
 
   abbrev IsDecl : Tree → Type 0
-  IsDecl = IsTypedDecl around.bindings around.is_declaration_file
+  IsDecl = IsTypedDecl around.bindings around.is_ambient
+
+  abbrev IsPlain : Tree → Type 0
+  IsPlain = IsPlainItem around.bindings around.is_ambient
 
   abbrev IsItem : Tree → Type 0
-  IsItem = IsTypedItem around.bindings around.is_declaration_file
+  IsItem = IsTypedItem around.bindings around.is_ambient
 
-  decl_stays : (place : SourceRange) (decl : Tree) (rule : DeclRule) → decl_rule (kind_of decl) ≡ rule → AllStay IsDecl (decl_seen around place decl rule)
-  decl_stays place decl Variables q =
+  abbrev IsNamespace : Tree → Type 0
+  IsNamespace = IsTypedNamespace around.bindings around.is_ambient
+
+  -- what is done with declarations that are no namespaces
+  abbrev is_plain : DeclRule → Bool
+  is_plain Namespace = false
+  is_plain _ = true
+
+  decl_stays : (look : ItemLook) (place : SourceRange) (decl : Tree) (rule : DeclRule) → decl_rule (kind_of decl) ≡ rule → is_plain rule ≡ true →
+      AllStay IsDecl (decl_form look around place decl rule)
+  decl_stays look place decl Variables q n =
       all_weaker Statement IsDecl (λ t h. inl h) (statement_seen decl (public_declarators around decl))
       (statement_stays decl (public_declarators around decl) (λ n. all_hold Typed' (public_declarators around decl) (declarators_stay decl n)))
-  decl_stays place decl Function q =
+  decl_stays look place decl Function q n =
       all_weaker Function' IsDecl (λ t h. inr (inl h)) (public_function around place decl) (function_stays place decl (function_kind (kind_of decl) q))
-  decl_stays place decl Class q =
+  decl_stays look place decl Class q n =
       all_weaker Class' IsDecl (λ t h. inr (inr (inl h))) (public_class around place decl) (class_decl_stays place decl)
-  decl_stays place decl Standing q = all_if IsDecl (around.is_public place) (written decl) (λ f. inr (inr (inr (standing_kind (kind_of decl) q))))
-  decl_stays place decl Using q = all_if IsDecl (is_public_using around place decl) (faulty UnsupportedUsing (using_place decl)) (λ f. not_empty f)
-  decl_stays place decl Untaken q = tt
+  decl_stays look place decl Standing q n =
+      all_if IsDecl (around.is_public place) (written decl) (λ f. inr (inr (inr (standing_kind (kind_of decl) q))))
+  decl_stays look place decl Namespace q n = cc
+  decl_stays look place decl Using q n = all_if IsDecl (is_public_using around place decl) (faulty UnsupportedUsing (using_place decl)) (λ f. not_empty f)
+  decl_stays look place decl Untaken q n = tt
+
+  -- namespaces, where what is seen of the items inside stays
+  namespace_stays : (look : ItemLook) → ((u : Tree) (here : Surroundings) → AllStay (IsTypedItem here.bindings here.is_ambient) (look u here)) →
+      (place : SourceRange) (decl : Tree) → AllStay IsNamespace (namespace_seen look around place decl)
+  namespace_stays look h place decl = go (TsModuleDecl-global decl) (is_ambient_module decl) refl refl
+    where
+      items : List Seen
+      items = body_seen look (inside around decl) (items_inside decl)
+
+      all_typed : AllStay (IsTypedItem around.bindings (around.is_ambient || TsModuleDecl-declare decl)) items
+      all_typed = all_flat (IsTypedItem around.bindings (around.is_ambient || TsModuleDecl-declare decl)) (λ u. look u (inside around decl))
+          (items_inside decl) (λ u. h u (inside around decl))
+
+      stays : is_namespace decl ≡ true → Stays IsNamespace (answer_to (namespace_round items decl))
+      stays e = subst (Stays IsNamespace) (sym (namespace_is items decl)) (λ f. namespace_typed around.bindings around.is_ambient decl (answer_of items).stays
+          e (items_stand around.bindings (around.is_ambient || TsModuleDecl-declare decl) items all_typed f))
+
+      go : (x y : Bool) → TsModuleDecl-global decl ≡ x → is_ambient_module decl ≡ y → AllStay IsNamespace
+          (if x then faulty UnsupportedGlobalModule (TsModuleDecl-span decl) ∷ []
+          else (if y then faulty UnsupportedAmbientModule (range_of_node (TsModuleDecl-id decl)) ∷ []
+          else (if around.is_public place then namespace_round items decl ∷ [] else [])))
+      go true y e f = ((λ f. not_empty f), tt)
+      go false true e f = ((λ f. not_empty f), tt)
+      go false false e f = all_if IsNamespace (around.is_public place) (namespace_round items decl) (stays (λ i. not (e i) && not (f i)))
 
   -- what is seen of a declaration is one form at most, of which one tree stays
   abbrev pub OneTree : List Seen → Type 0
@@ -306,7 +349,7 @@ module _ (around : Surroundings) where
 
   function_one : (place : SourceRange) (decl : Tree) → OneTree (public_function around place decl)
   function_one place decl = one_if (around.is_public place) (function_decl_seen around place decl)
-      (of_choice P around.is_declaration_file _ _ (λ e. (decl, refl))
+      (of_choice P around.is_ambient _ _ (λ e. (decl, refl))
       (λ e. of_choice (λ s. P (signed decl s)) (around.is_implementation place) _ _ (λ e. (_, refl)) (λ e. (_, refl))))
     where
       P : Seen → Type 0
@@ -316,13 +359,25 @@ module _ (around : Surroundings) where
   class_one place decl = one_if (around.is_public place) (class_decl_seen around decl)
       (of_choice (λ s. OneTree (classed decl s ∷ [])) (is_ambient_class around decl) _ _ (λ e. (_, refl)) (λ e. (_, refl)))
 
+  namespace_one : (look : ItemLook) (place : SourceRange) (decl : Tree) → OneTree (namespace_seen look around place decl)
+  namespace_one look place decl =
+      of_choice OneTree (TsModuleDecl-global decl) _ _ (λ e. (Absent, refl)) (λ e. of_choice OneTree (is_ambient_module decl) _ _ (λ e. (Absent, refl))
+      (λ e. one_if (around.is_public place) (namespace_round (body_seen look (inside around decl) (items_inside decl)) decl) (
+        namespace_with (answer_of (body_seen look (inside around decl) (items_inside decl))).stays decl,
+        ap (λ a. a.stays) (namespace_is (body_seen look (inside around decl) (items_inside decl)) decl),
+      )))
+
+  form_one : (look : ItemLook) (place : SourceRange) (decl : Tree) (rule : DeclRule) → OneTree (decl_form look around place decl rule)
+  form_one look place decl Variables = statement_one decl (public_declarators around decl)
+  form_one look place decl Function = function_one place decl
+  form_one look place decl Class = class_one place decl
+  form_one look place decl Standing = one_if (around.is_public place) (written decl) (decl, refl)
+  form_one look place decl Namespace = namespace_one look place decl
+  form_one look place decl Using = one_if (is_public_using around place decl) (faulty UnsupportedUsing (using_place decl)) (Absent, refl)
+  form_one look place decl Untaken = tt
+
   pub decl_one : (place : SourceRange) (decl : Tree) (rule : DeclRule) → OneTree (decl_seen around place decl rule)
-  decl_one place decl Variables = statement_one decl (public_declarators around decl)
-  decl_one place decl Function = function_one place decl
-  decl_one place decl Class = class_one place decl
-  decl_one place decl Standing = one_if (around.is_public place) (written decl) (decl, refl)
-  decl_one place decl Using = one_if (is_public_using around place decl) (faulty UnsupportedUsing (using_place decl)) (Absent, refl)
-  decl_one place decl Untaken = tt
+  decl_one = form_one item_look
 
   -- ---- exports
 
@@ -351,45 +406,51 @@ module _ (around : Surroundings) where
       ap (λ a. joined with_tree a (faultless [])) (export_answer export s one)
       ∙ (λ i. record { stays = exported export one.0 ∷ []; faults = append-nil (answer_to s).faults i })
 
-  exported_stays : (export decl : Tree) → IsDecl decl → IsItem (exported export decl)
+  exported_stays : (export decl : Tree) → IsDecl decl → IsPlain (exported export decl)
   exported_stays export decl h =
       let same : ExportDecl-decl (exported export decl) ≡ decl = part_node _ _ _ in inr (inl (kind_of_node _ _, subst IsDecl (sym same) h))
 
-  export_stays : (export : Tree) (ss : List Seen) → OneTree ss → AllStay IsDecl ss → AllStay IsItem (exported_seen export ss)
-  export_stays export [] one p = tt
-  export_stays export (s ∷ []) one p =
+  export_stays : (D I : Tree → Type 0) (export : Tree) → ((decl : Tree) → D decl → I (exported export decl)) → (ss : List Seen) → OneTree ss →
+      AllStay D ss → AllStay I (exported_seen export ss)
+  export_stays D I export made [] one p = tt
+  export_stays D I export made (s ∷ []) one p =
       let span = tree.Range (ExportDecl-span export) in
       let last = visited (answer_to s) (faultless (Some [])) in (
-        round_stays ExportDecl (λ ts. IsItem (node ExportDecl ts)) IsItem (λ ts h. h) (visited (faultless (Some span)) last)
-            (written_before (λ ts. IsItem (node ExportDecl ts)) span last
-            (last_stays IsDecl (λ ts. IsItem (node ExportDecl (span ∷ ts))) (exported_stays export) (answer_to s) p.0)),
+        round_stays ExportDecl (λ ts. I (node ExportDecl ts)) I (λ ts h. h) (visited (faultless (Some span)) last)
+            (written_before (λ ts. I (node ExportDecl ts)) span last
+            (last_stays D (λ ts. I (node ExportDecl (span ∷ ts))) made (answer_to s) p.0)),
         tt,
       )
-  export_stays export (s ∷ t ∷ ss) one p = absurd one
+  export_stays D I export made (s ∷ t ∷ ss) one p = absurd one
+
+  exported_namespace_stays : (export decl : Tree) → IsNamespace decl → IsItem (exported export decl)
+  exported_namespace_stays export decl h =
+      let same : ExportDecl-decl (exported export decl) ≡ decl = part_node _ _ _ in
+      g.IsTypedItem.exported (kind_of_node _ _) (subst IsNamespace (sym same) h)
 
   -- ---- imports and exports of names
 
-  link : (t : Tree) → IsLink t → IsItem t
+  link : (t : Tree) → IsLink t → IsPlain t
   link t h = inr (inr (inr h))
 
-  with_stays : (make : List Tree → Tree) → ((ts : List Tree) → IsItem (make ts)) → (ts : List Tree) → AllStay IsItem (with_specifiers make ts)
+  with_stays : (make : List Tree → Tree) → ((ts : List Tree) → IsPlain (make ts)) → (ts : List Tree) → AllStay IsPlain (with_specifiers make ts)
   with_stays make p [] = tt
   with_stays make p (t ∷ ts) = ((λ f. p (t ∷ ts)), tt)
 
-  import_stays : (item : Tree) → AllStay IsItem (link_seen around item Import)
+  import_stays : (item : Tree) → AllStay IsPlain (link_seen around item Import)
   import_stays item =
       with_stays (l.import_with around item) (λ ts. link _ (inl (kind_of_node _ _))) (public_specifiers around (ImportDecl-specifiers item))
 
-  names_stay : (item : Tree) → AllStay IsItem (link_seen around item Export)
+  names_stay : (item : Tree) → AllStay IsPlain (link_seen around item Export)
   names_stay item =
       with_stays (l.export_with around item) (λ ts. link _ (inr (inl (kind_of_node _ _)))) (public_specifiers around (NamedExport-specifiers item))
 
-  all_stays : (item : Tree) → AllStay IsItem (link_seen around item All)
-  all_stays item = all_if IsItem (around.is_public (ExportAll-span item)) (written (all_exported around item))
+  all_stays : (item : Tree) → AllStay IsPlain (link_seen around item All)
+  all_stays item = all_if IsPlain (around.is_public (ExportAll-span item)) (written (all_exported around item))
       (λ f. link _ (inr (inr (inl (kind_of_node _ _)))))
 
-  alias_stays : (item : Tree) → kind_of item ≡ kinds.TsImportEqualsDecl → is_require item ≡ false → AllStay IsItem (link_seen around item Alias)
-  alias_stays item k n = all_if IsItem (around.is_public (TsImportEqualsDecl-span item)) (written item) (λ f. link item (inr (inr (inr (k, n)))))
+  alias_stays : (item : Tree) → kind_of item ≡ kinds.TsImportEqualsDecl → is_require item ≡ false → AllStay IsPlain (link_seen around item Alias)
+  alias_stays item k n = all_if IsPlain (around.is_public (TsImportEqualsDecl-span item)) (written item) (λ f. link item (inr (inr (inr (k, n)))))
 
   with_one : (make : List Tree → Tree) (ts : List Tree) → OneTree (with_specifiers make ts)
   with_one make [] = tt
@@ -420,29 +481,29 @@ module _ (around : Surroundings) where
       (_, ap (λ a. (round_answer kind (visited (faultless (Some t)) (visited a (faultless (Some []))))).stays) same)
 
   abbrev IsDefaultDecl : Tree → Type 0
-  IsDefaultDecl = IsTypedDefaultDecl around.bindings around.is_declaration_file
+  IsDefaultDecl = IsTypedDefaultDecl around.bindings around.is_ambient
 
-  default_value_made : (span : SourceRange) (value : Tree) → IsLeavable around.bindings value → IsItem (export_default_expr span value)
+  default_value_made : (span : SourceRange) (value : Tree) → IsLeavable around.bindings value → IsPlain (export_default_expr span value)
   default_value_made span value h =
       let same : ExportDefaultExpr-expr (export_default_expr span value) ≡ value = part_node _ _ _ in
       inr (inr (inl (inl (kind_of_node _ _, subst (IsLeavable around.bindings) (sym same) h))))
 
-  default_value_stays : (item : Tree) → Stays IsItem (answer_to (default_value_seen around item))
+  default_value_stays : (item : Tree) → Stays IsPlain (answer_to (default_value_seen around item))
   default_value_stays item =
       let value = ExportDefaultExpr-expr item in
       λ f. default_value_made _ _ (demanded_holds (IsLeavable around.bindings) (fault_at UnsupportedDefaultExportExpr (ExportDefaultExpr-span item))
       (answer_to (expr_seen around.bindings value None)) (expr_stays around.bindings value None) f)
 
-  default_made : (span : SourceRange) (decl : Tree) → IsDefaultDecl decl → IsItem (node ExportDefaultDecl (tree.Range span ∷ decl ∷ []))
+  default_made : (span : SourceRange) (decl : Tree) → IsDefaultDecl decl → IsPlain (node ExportDefaultDecl (tree.Range span ∷ decl ∷ []))
   default_made span decl h =
       let same : ExportDefaultDecl-decl (node ExportDefaultDecl (tree.Range span ∷ decl ∷ [])) ≡ decl = part_node _ _ _ in
       inr (inr (inl (inr (kind_of_node _ _, subst IsDefaultDecl (sym same) h))))
 
-  public_default_stays : (item : Tree) (s : Seen) → Stays IsDefaultDecl (answer_to s) → AllStay IsItem (public_default around item s)
+  public_default_stays : (item : Tree) (s : Seen) → Stays IsDefaultDecl (answer_to s) → AllStay IsPlain (public_default around item s)
   public_default_stays item s p =
       let span = ExportDefaultDecl-span item in
-      all_if IsItem (around.is_public span) (pair ExportDefaultDecl (tree.Range span) s)
-      (pair_stays ExportDefaultDecl IsDefaultDecl IsItem (tree.Range span) s (default_made span) p)
+      all_if IsPlain (around.is_public span) (pair ExportDefaultDecl (tree.Range span) s)
+      (pair_stays ExportDefaultDecl IsDefaultDecl IsPlain (tree.Range span) s (default_made span) p)
 
   default_class_stays : (decl : Tree) → Stays IsDefaultDecl (answer_to (default_class_seen around decl))
   default_class_stays decl = pair_stays kinds.ClassExpr (IsTypedClass around.bindings) IsDefaultDecl (ClassExpr-ident decl)
@@ -457,7 +518,7 @@ module _ (around : Surroundings) where
   default_function_stays : (place : SourceRange) (decl : Tree) → kind_of decl ≡ kinds.FnExpr →
       Stays IsDefaultDecl (answer_to (default_function_seen around place decl))
   default_function_stays place decl k =
-      of_choice (λ s. Stays IsDefaultDecl (answer_to s)) around.is_declaration_file _ _ (λ e f. inr (inl (k, inl e)))
+      of_choice (λ s. Stays IsDefaultDecl (answer_to s)) around.is_ambient _ _ (λ e f. inr (inl (k, inl e)))
       (λ e. pair_stays kinds.FnExpr (IsTypedFunction around.bindings) IsDefaultDecl (FnExpr-ident decl) (default_signature around place decl) made'
       (of_choice (λ s. Stays (IsTypedFunction around.bindings) (answer_to s)) (around.is_implementation place) _ _
       (λ e f. implementation_is_typed around.bindings (FnExpr-function decl))
@@ -468,7 +529,7 @@ module _ (around : Surroundings) where
           let same : FnExpr-function (node kinds.FnExpr (FnExpr-ident decl ∷ function ∷ [])) ≡ function = part_node _ _ _ in
           inr (inl (kind_of_node _ _, inr (subst (IsTypedFunction around.bindings) (sym same) h)))
 
-  default_stays : (item : Tree) (k : Kind) → kind_of (ExportDefaultDecl-decl item) ≡ k → AllStay IsItem (seen_by_rule around item (default_rule k))
+  default_stays : (item : Tree) (k : Kind) → kind_of (ExportDefaultDecl-decl item) ≡ k → AllStay IsPlain (seen_by_rule around item (default_rule k))
   default_stays item kinds.ClassExpr q =
       let decl = ExportDefaultDecl-decl item in public_default_stays item (default_class_seen around decl) (default_class_stays decl)
   default_stays item kinds.FnExpr q =
@@ -484,7 +545,7 @@ module _ (around : Surroundings) where
       one_if (around.is_public span) (pair ExportDefaultDecl (tree.Range span) s) (pair_one ExportDefaultDecl (tree.Range span) s one)
 
   default_function_one : (place : SourceRange) (decl : Tree) → OneTree (default_function_seen around place decl ∷ [])
-  default_function_one place decl = of_choice P around.is_declaration_file _ _ (λ e. (decl, refl))
+  default_function_one place decl = of_choice P around.is_ambient _ _ (λ e. (decl, refl))
       (λ e. pair_one kinds.FnExpr (FnExpr-ident decl) (default_signature around place decl)
       (of_choice P (around.is_implementation place) _ _ (λ e. (_, refl)) (λ e. (_, refl))))
     where
@@ -514,41 +575,80 @@ module _ (around : Surroundings) where
   item_one item (Refused kind) = (Absent, refl)
   item_one item Silent = tt
 
-  item_stays : (item : Tree) → AllStay IsItem (item_seen around item)
-  item_stays item = go (kind_of item) refl
+  as_items : (ss : List Seen) → AllStay IsPlain ss → AllStay IsItem ss
+  as_items ss p = all_weaker IsPlain IsItem (λ t h. g.IsTypedItem.plain h) ss p
+
+-- an item, where what is seen of the items inside stays
+module _ (look : ItemLook) (stay : (u : Tree) (here : Surroundings) → AllStay (IsTypedItem here.bindings here.is_ambient) (look u here)) (around : Surroundings)
+    (item : Tree) where
+  abbrev Form : ItemRule → Type 0
+  Form rule = AllStay (IsItem around) (form_by_rule look around item rule)
+
+  expression : (k : Kind) → Form (expr_stmt_rule k)
+  expression kinds.AssignExpr = tt
+  expression _ = tt
+
+  declared : (k : Kind) → kind_of item ≡ k → is_plain around (decl_rule k) ≡ true → Form (Declared (decl_rule k))
+  declared k q n =
+      let ss = decl_form look around (range_of_node item) item (decl_rule k) in
+      as_items around ss (all_weaker (IsDecl around) (IsPlain around) (λ t h. inl h) ss
+      (decl_stays around look (range_of_node item) item (decl_rule k) (ap decl_rule q) n))
+
+  export_of : (k : Kind) → kind_of (ExportDecl-decl item) ≡ k → is_plain around (decl_rule k) ≡ true → Form (Exported (decl_rule k))
+  export_of k q n =
+      let place = ExportDecl-span item in
+      let decl = ExportDecl-decl item in
+      let ss = decl_form look around place decl (decl_rule k) in
+      as_items around (exported_seen item ss) (export_stays around (IsDecl around) (IsPlain around) item (exported_stays around item) ss
+      (form_one around look place decl (decl_rule k)) (decl_stays around look place decl (decl_rule k) (ap decl_rule q) n))
+
+  exports : (k : Kind) → kind_of (ExportDecl-decl item) ≡ k → Form (Exported (decl_rule k))
+  exports kinds.TsModuleDecl q =
+      let place = ExportDecl-span item in
+      let decl = ExportDecl-decl item in
+      export_stays around (IsNamespace around) (IsItem around) item (exported_namespace_stays around item) (namespace_seen look around place decl)
+      (namespace_one around look place decl) (namespace_stays around look stay place decl)
+  exports k q = export_of k q refl
+
+  form_stays : (k : Kind) → kind_of item ≡ k → Form (rule_of_kind k item)
+  form_stays kinds.ExportDecl q = exports (kind_of (ExportDecl-decl item)) refl
+  form_stays kinds.ImportDecl q = as_items around _ (import_stays around item)
+  form_stays kinds.NamedExport q = as_items around _ (names_stay around item)
+  form_stays kinds.ExportAll q = as_items around _ (all_stays around item)
+  form_stays kinds.TsImportEqualsDecl q = of_choice Form (is_require item) _ _
+      (λ e. ((λ f. not_empty f), tt)) (λ e. as_items around _ (alias_stays around item q e))
+  form_stays kinds.TsExportAssignment q = ((λ f. not_empty f), tt)
+  form_stays kinds.TsNamespaceExportDecl q = ((λ f. not_empty f), tt)
+  form_stays kinds.ExportDefaultExpr q =
+      as_items around _ (all_if (IsPlain around) (is_public_value around item) (default_value_seen around item) (default_value_stays around item))
+  form_stays kinds.ExportDefaultDecl q = default_form (kind_of (ExportDefaultDecl-decl item)) refl
     where
-      expression : (k : Kind) → AllStay IsItem (seen_by_rule around item (expr_stmt_rule k))
-      expression kinds.AssignExpr = tt
-      expression _ = tt
+      default_form : (k : Kind) → kind_of (ExportDefaultDecl-decl item) ≡ k → Form (default_rule k)
+      default_form kinds.ClassExpr d = as_items around _ (default_stays around item kinds.ClassExpr d)
+      default_form kinds.FnExpr d = as_items around _ (default_stays around item kinds.FnExpr d)
+      default_form kinds.TsInterfaceDecl d = as_items around _ (default_stays around item kinds.TsInterfaceDecl d)
+      default_form _ d = tt
+  form_stays kinds.ExprStmt q = expression (kind_of (ExprStmt-expr item))
+  form_stays kinds.TsModuleDecl q =
+      all_weaker (IsNamespace around) (IsItem around) (λ t h. g.IsTypedItem.declared h) (namespace_seen look around (range_of_node item) item)
+      (namespace_stays around look stay (range_of_node item) item)
+  form_stays k q = declared k q refl
 
-      declared : (k : Kind) → kind_of item ≡ k → AllStay IsItem (decl_seen around (range_of_node item) item (decl_rule k))
-      declared k q =
-          all_weaker IsDecl IsItem (λ t h. inl h) (decl_seen around (range_of_node item) item (decl_rule k))
-          (decl_stays (range_of_node item) item (decl_rule k) (ap decl_rule q))
+-- so each item stays
+item_stays : (item : Tree) (around : Surroundings) → AllStay (IsItem around) (item_seen around item)
+unfolding item_look
+item_stays = by_descent_holds (λ around. []) item_form (λ f. (around : Surroundings) → AllStay (IsItem around) (f around)) (λ around. tt)
+    (λ item look stay around. form_stays look stay around item (kind_of item) refl)
 
-      go : (k : Kind) → kind_of item ≡ k → AllStay IsItem (seen_by_rule around item (rule_of_kind k item))
-      go kinds.ExportDecl q =
-          let rule = decl_rule (kind_of (ExportDecl-decl item)) in
-          export_stays item (decl_seen around (ExportDecl-span item) (ExportDecl-decl item) rule) (decl_one (ExportDecl-span item) (ExportDecl-decl item) rule)
-          (decl_stays (ExportDecl-span item) (ExportDecl-decl item) rule refl)
-      go kinds.ImportDecl q = import_stays item
-      go kinds.NamedExport q = names_stay item
-      go kinds.ExportAll q = all_stays item
-      go kinds.TsImportEqualsDecl q = of_choice (λ rule. AllStay IsItem (seen_by_rule around item rule)) (is_require item) _ _
-          (λ e. ((λ f. not_empty f), tt)) (alias_stays item q)
-      go kinds.TsExportAssignment q = ((λ f. not_empty f), tt)
-      go kinds.TsNamespaceExportDecl q = ((λ f. not_empty f), tt)
-      go kinds.ExportDefaultExpr q = all_if IsItem (is_public_value around item) (default_value_seen around item) (default_value_stays item)
-      go kinds.ExportDefaultDecl q = default_stays item (kind_of (ExportDefaultDecl-decl item)) refl
-      go kinds.ExprStmt q = expression (kind_of (ExprStmt-expr item))
-      go k q = declared k q
-
+module _ (around : Surroundings) where
   abbrev module_parts : Tree → List Tree
   module_parts program = tree.Range (Module-span program) ∷ list (transformed around program).stays ∷ Module-shebang program ∷ []
 
-  pub skeleton_stands : (program : Tree) → faults_of around program ≡ [] → IsSkeleton around.bindings around.is_declaration_file (skeleton_of around program)
+  pub skeleton_stands : (program : Tree) → faults_of around program ≡ [] → IsSkeleton around.bindings around.is_ambient (skeleton_of around program)
   skeleton_stands program e = record {
     kind = kind_of_node Module (module_parts program);
-    items = subst (OfAll IsItem) (sym (ap parts (part_node _ Module (module_parts program)) ∙ parts_node List' (transformed around program).stays))
-        (all_hold IsItem (flat_map (item_seen around) (items_of program)) (all_flat IsItem (item_seen around) (items_of program) item_stays) e);
+    items = subst (AllTypedItems around.bindings around.is_ambient)
+        (sym (ap parts (part_node _ Module (module_parts program)) ∙ parts_node List' (transformed around program).stays))
+        (items_stand around.bindings around.is_ambient (visible around program)
+        (all_flat (IsItem around) (λ item. item_look item around) (items_of program) (λ item. item_stays item around)) e);
   }

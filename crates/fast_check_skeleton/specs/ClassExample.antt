@@ -79,7 +79,7 @@ all_public = record {
   is_public = λ r. true;
   is_implementation = λ r. false;
   bindings = no_classes;
-  is_declaration_file = false;
+  is_ambient = false;
   relative = λ text. None;
 }
 

@@ -26,7 +26,7 @@ is_public_value around t = around.is_public (ExportDefaultExpr-span t) || around
 abbrev pub default_value_seen : Surroundings → Tree → Seen
 default_value_seen around t = default_export (ExportDefaultExpr-span t) (expr_seen around.bindings (ExportDefaultExpr-expr t) None)
 
--- a class; it is never ambient, not in a declaration file either
+-- a class; it is never ambient, where all else is neither
 abbrev pub default_class_seen : Surroundings → Tree → Seen
 default_class_seen around decl =
     round ClassExpr (seens (written (ClassExpr-ident decl) ∷ plain_class_seen around.bindings around.is_implementation (ClassExpr-class decl) ∷ []))
@@ -41,10 +41,10 @@ default_signature around place decl =
     if around.is_implementation place then implementation_seen (FnExpr-function decl)
     else function_seen around.bindings (expr_seen around.bindings) DeclarationLike (default_place decl) (FnExpr-function decl)
 
--- a function; in a declaration file it stands as it is written
+-- a function; where all is ambient it stands as it is written
 abbrev pub default_function_seen : Surroundings → SourceRange → Tree → Seen
 default_function_seen around place decl =
-    if around.is_declaration_file then written decl
+    if around.is_ambient then written decl
     else round FnExpr (seens (written (FnExpr-ident decl) ∷ default_signature around place decl ∷ []))
 
 -- the default export of a declaration, of which this is seen; it is public by the range of the export

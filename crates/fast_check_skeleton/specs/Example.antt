@@ -113,7 +113,7 @@ around place = record {
   is_public = λ r. r.start.0 == place;
   is_implementation = λ r. false;
   bindings = record { unresolved = scope 1; is_plain_class = λ id. false };
-  is_declaration_file = false;
+  is_ambient = false;
   relative = λ text. None;
 }
 

@@ -1,8 +1,9 @@
 -- The grammar of skeletons: what a type checker finds there, whatever the source was.
-use Rattle.std.specs.Prelude.{◌≡◌, Bool, true, false, ◌||◌, IsTrue, ◌⊎◌}
+use Rattle.std.specs.Prelude.{◌≡◌, Bool, true, false, ◌||◌, IsTrue, ◌⊎◌, List, [], ◌∷◌}
 use Rattle.fast_check_syntax.specs.declared.kind.Kind.TheVariants.{ImportDecl, NamedExport, ExportAll, TsImportEqualsDecl}
 use Rattle.fast_check_syntax.specs.declared.kind.Kind.TheVariants.{ExportDefaultExpr, ExportDefaultDecl, ClassExpr, FnExpr, TsInterfaceDecl}
 use Rattle.fast_check_syntax.specs.declared.kind.Kind.TheVariants.{Module, ExportDecl, VarDecl, VarDeclarator, FnDecl, ClassDecl, BindingIdent}
+use Rattle.fast_check_syntax.specs.declared.kind.Kind.TheVariants.{TsModuleDecl, TsModuleBlock, TsNamespaceDecl}
 use Rattle.fast_check_syntax.specs.declared.tree.Tree.{Tree}
 use Rattle.fast_check_syntax.specs.Shape.{kind_of, parts, is_absent, OfAll}
 use Rattle.fast_check_helpers.specs.Builders.{never_value}
@@ -15,7 +16,9 @@ use Rattle.fast_check_typed_grammar.specs.ClassGrammar.{IsAmbientClass, IsTypedC
 use Rattle.fast_check_statement_forms.specs.Declarations.{ClassDecl-declare, ClassDecl-class, FnDecl-function, VarDecl-declare, VarDecl-decls}
 use Rattle.fast_check_statement_forms.specs.Declarations.{VarDeclarator-name, VarDeclarator-init}
 use Rattle.fast_check_signatures.specs.Bindings.{Bindings}
+use Rattle.fast_check_statement_forms.specs.TsDeclarations.{TsModuleDecl-declare, TsModuleDecl-body, TsModuleBlock-body, TsNamespaceDecl-body}
 use Rattle.fast_check_skeleton.specs.Kinds.{is_standing}
+use Rattle.fast_check_skeleton.specs.Namespaces.{is_namespace}
 use Rattle.fast_check_skeleton.specs.Rules.{is_require}
 
 -- a value behind a written type is `{} as never`; else there is one that gives the type
@@ -38,47 +41,72 @@ module _ (bindings : Bindings) where
     pub value : HasTypedValue bindings (BindingIdent-type_ann (VarDeclarator-name d)) (VarDeclarator-init d)
 
   -- a variable statement of typed declarators; an ambient one stands as it was written
-  pub record IsTypedStatement (is_declaration_file : Bool) (statement : Tree) : Type 0 where
+  pub record IsTypedStatement (is_ambient : Bool) (statement : Tree) : Type 0 where
     pub kind : kind_of statement ≡ VarDecl
-    pub declarators : IsTrue (is_declaration_file || VarDecl-declare statement) ⊎ OfAll IsTypedDeclarator (parts (VarDecl-decls statement))
+    pub declarators : IsTrue (is_ambient || VarDecl-declare statement) ⊎ OfAll IsTypedDeclarator (parts (VarDecl-decls statement))
 
-  -- a function with a written return type, or without a body; in a declaration file it stands as it was written
-  pub record IsTypedFunctionDecl (is_declaration_file : Bool) (decl : Tree) : Type 0 where
+  -- a function with a written return type, or without a body; where all is ambient it stands as it was written
+  pub record IsTypedFunctionDecl (is_ambient : Bool) (decl : Tree) : Type 0 where
     pub kind : kind_of decl ≡ FnDecl
-    pub function : IsTrue is_declaration_file ⊎ IsTypedFunction bindings (FnDecl-function decl)
+    pub function : IsTrue is_ambient ⊎ IsTypedFunction bindings (FnDecl-function decl)
 
   -- a class, of typed members; an ambient one stands as it was written, but for private members of computed keys
-  pub record IsTypedClassDecl (is_declaration_file : Bool) (decl : Tree) : Type 0 where
+  pub record IsTypedClassDecl (is_ambient : Bool) (decl : Tree) : Type 0 where
     pub kind : kind_of decl ≡ ClassDecl
-    pub class : (IsTrue (is_declaration_file || ClassDecl-declare decl) × IsAmbientClass (ClassDecl-class decl)) ⊎
+    pub class : (IsTrue (is_ambient || ClassDecl-declare decl) × IsAmbientClass (ClassDecl-class decl)) ⊎
         IsTypedClass bindings (ClassDecl-class decl)
 
   -- a declaration of a skeleton: a variable statement, a function, a class, or an interface, type alias or enum, which stands as it was written
   abbrev pub IsTypedDecl : Bool → Tree → Type 0
-  IsTypedDecl is_declaration_file decl =
-      IsTypedStatement is_declaration_file decl ⊎ (IsTypedFunctionDecl is_declaration_file decl ⊎ (IsTypedClassDecl is_declaration_file decl ⊎
+  IsTypedDecl is_ambient decl =
+      IsTypedStatement is_ambient decl ⊎ (IsTypedFunctionDecl is_ambient decl ⊎ (IsTypedClassDecl is_ambient decl ⊎
       (is_standing (kind_of decl) ≡ true)))
 
-  -- a default export of a declaration: a class of typed members, a function with a written return type, or without a body, or an interface. In a declaration
-  -- file a function stands as it was written.
+  -- a default export of a declaration: a class of typed members, a function with a written return type, or without a body, or an interface. Where all is
+  -- ambient a function stands as it was written.
   abbrev pub IsTypedDefaultDecl : Bool → Tree → Type 0
-  IsTypedDefaultDecl is_declaration_file decl =
+  IsTypedDefaultDecl is_ambient decl =
       ((kind_of decl ≡ ClassExpr) × IsTypedClass bindings (ClassExpr-class decl)) ⊎
-      (((kind_of decl ≡ FnExpr) × (IsTrue is_declaration_file ⊎ IsTypedFunction bindings (FnExpr-function decl))) ⊎ (kind_of decl ≡ TsInterfaceDecl))
+      (((kind_of decl ≡ FnExpr) × (IsTrue is_ambient ⊎ IsTypedFunction bindings (FnExpr-function decl))) ⊎ (kind_of decl ≡ TsInterfaceDecl))
 
   -- a default export: a value that gives its type, or a declaration
   abbrev pub IsTypedDefault : Bool → Tree → Type 0
-  IsTypedDefault is_declaration_file item =
+  IsTypedDefault is_ambient item =
       ((kind_of item ≡ ExportDefaultExpr) × IsLeavable bindings (ExportDefaultExpr-expr item)) ⊎
-      ((kind_of item ≡ ExportDefaultDecl) × IsTypedDefaultDecl is_declaration_file (ExportDefaultDecl-decl item))
+      ((kind_of item ≡ ExportDefaultDecl) × IsTypedDefaultDecl is_ambient (ExportDefaultDecl-decl item))
 
-  -- an item of a skeleton: a declaration, exported or not, a default export, or what leads to other modules
-  abbrev pub IsTypedItem : Bool → Tree → Type 0
-  IsTypedItem is_declaration_file item =
-      IsTypedDecl is_declaration_file item ⊎ (((kind_of item ≡ ExportDecl) × IsTypedDecl is_declaration_file (ExportDecl-decl item)) ⊎
-      (IsTypedDefault is_declaration_file item ⊎ IsLink item))
+  -- an item that is no namespace: a declaration, exported or not, a default export, or what leads to other modules
+  abbrev pub IsPlainItem : Bool → Tree → Type 0
+  IsPlainItem is_ambient item =
+      IsTypedDecl is_ambient item ⊎ (((kind_of item ≡ ExportDecl) × IsTypedDecl is_ambient (ExportDecl-decl item)) ⊎
+      (IsTypedDefault is_ambient item ⊎ IsLink item))
+
+  mutual
+    -- an item of a skeleton; a namespace is one too, exported or not
+    pub data IsTypedItem : Bool → Tree → Type 0 where
+      plain : {is_ambient : Bool} {item : Tree} → IsPlainItem is_ambient item → IsTypedItem is_ambient item
+      declared : {is_ambient : Bool} {item : Tree} → IsTypedNamespace is_ambient item → IsTypedItem is_ambient item
+      exported : {is_ambient : Bool} {item : Tree} → kind_of item ≡ ExportDecl → IsTypedNamespace is_ambient (ExportDecl-decl item) →
+          IsTypedItem is_ambient item
+
+    -- a namespace; inside of one with `declare` all is ambient
+    pub data IsTypedNamespace : Bool → Tree → Type 0 where
+      namespace : {is_ambient : Bool} {decl : Tree} → kind_of decl ≡ TsModuleDecl → is_namespace decl ≡ true →
+          IsTypedBody (is_ambient || TsModuleDecl-declare decl) (TsModuleDecl-body decl) → IsTypedNamespace is_ambient decl
+
+    -- a block, or names and a block
+    pub data IsTypedBody : Bool → Tree → Type 0 where
+      block : {is_ambient : Bool} {body : Tree} → kind_of body ≡ TsModuleBlock → AllTypedItems is_ambient (parts (TsModuleBlock-body body)) →
+          IsTypedBody is_ambient body
+      inner : {is_ambient : Bool} {body : Tree} → kind_of body ≡ TsNamespaceDecl → IsTypedBody is_ambient (TsNamespaceDecl-body body) →
+          IsTypedBody is_ambient body
+
+    pub data AllTypedItems : Bool → List Tree → Type 0 where
+      no_items : {is_ambient : Bool} → AllTypedItems is_ambient []
+      next_item : {is_ambient : Bool} {item : Tree} {items : List Tree} → IsTypedItem is_ambient item → AllTypedItems is_ambient items →
+          AllTypedItems is_ambient (item ∷ items)
 
   -- a skeleton: a module of nothing but such items
-  pub record IsSkeleton (is_declaration_file : Bool) (program : Tree) : Type 0 where
+  pub record IsSkeleton (is_ambient : Bool) (program : Tree) : Type 0 where
     pub kind : kind_of program ≡ Module
-    pub items : OfAll (IsTypedItem is_declaration_file) (parts (Module-body program))
+    pub items : AllTypedItems is_ambient (parts (Module-body program))

@@ -4,6 +4,7 @@ use Rattle.std.specs.Prelude.{◌≡◌, Bool, true, false, not, ◌&&◌, ◌||
 use Rattle.std.specs.List.{list_all}
 use Rattle.fast_check_syntax.specs.declared.kind.Kind.{Kind}
 use Rattle.fast_check_syntax.specs.declared.kind.Kind.TheVariants.{BindingIdent, VarDecl, UsingDecl, ExportDecl, FnDecl, ClassDecl, ExprStmt, AssignExpr}
+use Rattle.fast_check_syntax.specs.declared.kind.Kind.TheVariants.{TsModuleDecl, TsNamespaceDecl}
 use Rattle.fast_check_syntax.specs.declared.source.SourceRange.{SourceRange}
 use Rattle.fast_check_syntax.specs.declared.tree.Tree.{Tree}
 use Rattle.fast_check_syntax.specs.Shape.{◌is◌, kind_of, parts, is_absent}
@@ -20,17 +21,21 @@ use Rattle.fast_check_statement_forms.specs.Declarations.{UsingDecl-span}
 use Rattle.fast_check_statement_forms.specs.Declarations.{VarDecl-span, VarDecl-ctxt, VarDecl-kind, VarDecl-declare, VarDecl-decls}
 use Rattle.fast_check_statement_forms.specs.Declarations.{VarDeclarator-span, VarDeclarator-name, VarDeclarator-init, VarDeclarator-definite}
 use Rattle.fast_check_statement_forms.specs.Statements.{ExprStmt-expr}
+use Rattle.fast_check_statement_forms.specs.TsDeclarations.{TsModuleDecl-span, TsModuleDecl-declare, TsModuleDecl-global, TsModuleDecl-namespace}
+use Rattle.fast_check_statement_forms.specs.TsDeclarations.{TsModuleDecl-id, TsModuleDecl-body, TsModuleBlock-span, TsNamespaceDecl-span}
+use Rattle.fast_check_statement_forms.specs.TsDeclarations.{TsNamespaceDecl-declare, TsNamespaceDecl-global, TsNamespaceDecl-id, TsNamespaceDecl-body}
 use Rattle.fast_check_same_values.specs.SameValues.{SameBindings, Both, Neither, SameExpr, SameFunction, SameImplementation}
 use Rattle.fast_check_same_values.specs.SameClasses.{HasNoPartner, IsNoPartner, SameClass, SameAmbientClass}
 use Rattle.fast_check_skeleton.specs.Kinds.{is_standing, is_statement}
 use Rattle.fast_check_skeleton.specs.Mutability.{mutability_of}
+use Rattle.fast_check_skeleton.specs.Namespaces.{is_ambient_module, is_namespace, block_items}
 use Rattle.fast_check_signatures.specs.declared.fault.FaultKind.{FaultKind}
 use Rattle.fast_check_skeleton.specs.declared.rules.ItemRule.TheVariants.{Refused}
 use Rattle.fast_check_skeleton.specs.Rules.{item_rule}
 use Rattle.fast_check_skeleton.specs.SameDefaults.{IsSilentDefault, SameDefault}
 use Rattle.fast_check_skeleton.specs.SameLinks.{IsSilentLink, SamePublic, SameLink}
-use Rattle.fast_check_skeleton.specs.Surroundings.{Surroundings}
-use Rattle.fast_check_skeleton.specs.Visible.{declared_ident, declared_type, is_ambient, is_public_declarator, is_ambient_class, is_public_using}
+use Rattle.fast_check_skeleton.specs.Surroundings.{Surroundings, inside}
+use Rattle.fast_check_skeleton.specs.Visible.{declared_ident, declared_type, is_ambient_statement, is_public_declarator, is_ambient_class, is_public_using}
 use Rattle.fast_check_skeleton.specs.Visible.{using_place, items_of}
 
 -- a statement that is no declaration and no assignment
@@ -50,6 +55,8 @@ pub data IsSilentDecl (around : Surroundings) (place : SourceRange) : Tree → T
   class : {t : Tree} → kind_of t ≡ ClassDecl → around.is_public place ≡ false → IsSilentDecl around place t
   -- `using` of which nothing is public
   using : {t : Tree} → kind_of t ≡ UsingDecl → is_public_using around place t ≡ false → IsSilentDecl around place t
+  -- a namespace that is not public, whatever stands in it
+  namespace : {t : Tree} → kind_of t ≡ TsModuleDecl → is_namespace t ≡ true → around.is_public place ≡ false → IsSilentDecl around place t
 
 -- an item that goes without a word
 pub data IsSilent (around : Surroundings) : Tree → Type 0 where
@@ -103,7 +110,7 @@ module _ (r : Renaming) (a b : Surroundings) where
   pub record SameFunctionDecl (p q : SourceRange) (t u : Tree) : Type 0 where
     pub kinds : Both FnDecl t u
     pub is_public : a.is_public p ≡ b.is_public q
-    pub is_declaration_file : a.is_declaration_file ≡ false
+    pub is_ambient : a.is_ambient ≡ false
     pub ident : SameTree r (FnDecl-ident t) (FnDecl-ident u)
     pub declare : FnDecl-declare t ≡ FnDecl-declare u
 
@@ -115,9 +122,9 @@ module _ (r : Renaming) (a b : Surroundings) where
 
   -- declarations; `p` and `q` are the ranges of their exports, or else their own
   pub data SameDecl (p q : SourceRange) : Tree → Tree → Type 0 where
-    variable : {t u : Tree} → SameStatement t u → is_ambient a t ≡ false →
+    variable : {t u : Tree} → SameStatement t u → is_ambient_statement a t ≡ false →
         SameDeclarators (SameDeclarator (mutability_of (VarDecl-kind t))) (parts (VarDecl-decls t)) (parts (VarDecl-decls u)) → SameDecl p q t u
-    ambient : {t u : Tree} → SameStatement t u → is_ambient a t ≡ true →
+    ambient : {t u : Tree} → SameStatement t u → is_ambient_statement a t ≡ true →
         SameDeclarators (SameTree r) (parts (VarDecl-decls t)) (parts (VarDecl-decls u)) → SameDecl p q t u
     -- interfaces, type aliases and enums stand as they are written
     standing : {t u : Tree} (k : Kind) → Both k t u → is_standing k ≡ true → a.is_public p ≡ b.is_public q → SameTree r t u → SameDecl p q t u
@@ -126,8 +133,8 @@ module _ (r : Renaming) (a b : Surroundings) where
     -- implementations behind overloads
     implementation : {t u : Tree} → SameFunctionDecl p q t u → a.is_implementation p ≡ true → b.is_implementation q ≡ true →
         SameImplementation r a.bindings b.bindings (FnDecl-function t) (FnDecl-function u) → SameDecl p q t u
-    -- functions of declaration files
-    ambient_function : {t u : Tree} → Both FnDecl t u → a.is_public p ≡ b.is_public q → a.is_declaration_file ≡ true → SameTree r t u → SameDecl p q t u
+    -- functions where all is ambient
+    ambient_function : {t u : Tree} → Both FnDecl t u → a.is_public p ≡ b.is_public q → a.is_ambient ≡ true → SameTree r t u → SameDecl p q t u
     class : {t u : Tree} → SameClassDecl t u → a.is_public p ≡ b.is_public q → is_ambient_class a t ≡ false →
         SameClass r a.bindings b.bindings a.is_implementation b.is_implementation (ClassDecl-class t) (ClassDecl-class u) → SameDecl p q t u
     -- ambient classes stand as they are written, but for private members of computed keys
@@ -136,28 +143,73 @@ module _ (r : Renaming) (a b : Surroundings) where
     -- `using`, whatever it declares
     using : {t u : Tree} → Both UsingDecl t u → SameRange r (UsingDecl-span t) (UsingDecl-span u) → is_public_using a p t ≡ is_public_using b q u →
         SameRange r (using_place t) (using_place u) → SameDecl p q t u
+    -- `declare global`, whatever stands in it
+    global : {t u : Tree} → Both TsModuleDecl t u → TsModuleDecl-global t ≡ true → TsModuleDecl-global u ≡ true →
+        SameRange r (TsModuleDecl-span t) (TsModuleDecl-span u) → SameDecl p q t u
+    -- `declare module "x"`, or what has no body
+    ambient_module : {t u : Tree} → Both TsModuleDecl t u → TsModuleDecl-global t ≡ false → TsModuleDecl-global u ≡ false → is_ambient_module t ≡ true →
+        is_ambient_module u ≡ true → SameRange r (TsModuleDecl-span t) (TsModuleDecl-span u) →
+        SameRange r (range_of_node (TsModuleDecl-id t)) (range_of_node (TsModuleDecl-id u)) → SameDecl p q t u
 
-  pub data SameItem : Tree → Tree → Type 0 where
-    decl : {t u : Tree} → SameDecl (range_of_node t) (range_of_node u) t u → SameItem t u
-    exported : {t u : Tree} → Both ExportDecl t u → SameRange r (ExportDecl-span t) (ExportDecl-span u) →
-        SameDecl (ExportDecl-span t) (ExportDecl-span u) (ExportDecl-decl t) (ExportDecl-decl u) → SameItem t u
-    linked : {t u : Tree} → SameLink r a b t u → SameItem t u
-    default : {t u : Tree} → SameDefault r a b t u → SameItem t u
-    -- items that no skeleton has, for one reason
-    refused : {t u : Tree} (kind : FaultKind) → item_rule t ≡ Refused kind → item_rule u ≡ Refused kind → SameRange r (range_of_node t) (range_of_node u) →
-        SameItem t u
+  -- what agrees of two namespaces beside their bodies
+  pub record SameNamespaceHead (p q : SourceRange) (t u : Tree) : Type 0 where
+    pub kinds : Both TsModuleDecl t u
+    pub namespaces : (is_namespace t ≡ true) × (is_namespace u ≡ true)
+    pub is_public : a.is_public p ≡ b.is_public q
+    pub span : SameRange r (TsModuleDecl-span t) (TsModuleDecl-span u)
+    pub declare : TsModuleDecl-declare t ≡ TsModuleDecl-declare u
+    pub namespace : TsModuleDecl-namespace t ≡ TsModuleDecl-namespace u
+    pub id : SameTree r (TsModuleDecl-id t) (TsModuleDecl-id u)
 
-  -- items one by one, the silent ones aside; where a silent one begins has no partner
-  pub data SameItems : List Tree → List Tree → Type 0 where
-    end : SameItems [] []
-    left : {t : Tree} {ts us : List Tree} → IsSilent a t → HasNoPartner r.starts (range_of_node t).start.0 → SameItems ts us → SameItems (t ∷ ts) us
-    right : {u : Tree} {ts us : List Tree} → IsSilent b u → IsNoPartner r.starts (range_of_node u).start.0 → SameItems ts us → SameItems ts (u ∷ us)
-    next : {t u : Tree} {ts us : List Tree} → SameItem t u → SameItems ts us → SameItems (t ∷ ts) (u ∷ us)
+-- what agrees of two that follow a name, as `B.C {}` in `A.B.C {}`, beside what follows them
+pub record SameInnerHead (r : Renaming) (t u : Tree) : Type 0 where
+  pub kinds : Both TsNamespaceDecl t u
+  pub span : SameRange r (TsNamespaceDecl-span t) (TsNamespaceDecl-span u)
+  pub declare : TsNamespaceDecl-declare t ≡ TsNamespaceDecl-declare u
+  pub global : TsNamespaceDecl-global t ≡ TsNamespaceDecl-global u
+  pub id : SameTree r (TsNamespaceDecl-id t) (TsNamespaceDecl-id u)
 
+-- the surroundings of two bodies come first: what stands in namespaces is inside of them
+module _ (r : Renaming) where
+  mutual
+    pub data SameItem : Surroundings → Surroundings → Tree → Tree → Type 0 where
+      decl : {a b : Surroundings} {t u : Tree} → SameDecl r a b (range_of_node t) (range_of_node u) t u → SameItem a b t u
+      exported : {a b : Surroundings} {t u : Tree} → Both ExportDecl t u → SameRange r (ExportDecl-span t) (ExportDecl-span u) →
+          SameDecl r a b (ExportDecl-span t) (ExportDecl-span u) (ExportDecl-decl t) (ExportDecl-decl u) → SameItem a b t u
+      namespace : {a b : Surroundings} {t u : Tree} → SameNamespace a b (range_of_node t) (range_of_node u) t u → SameItem a b t u
+      exported_namespace : {a b : Surroundings} {t u : Tree} → Both ExportDecl t u → SameRange r (ExportDecl-span t) (ExportDecl-span u) →
+          SameNamespace a b (ExportDecl-span t) (ExportDecl-span u) (ExportDecl-decl t) (ExportDecl-decl u) → SameItem a b t u
+      linked : {a b : Surroundings} {t u : Tree} → SameLink r a b t u → SameItem a b t u
+      default : {a b : Surroundings} {t u : Tree} → SameDefault r a b t u → SameItem a b t u
+      -- items that no skeleton has, for one reason
+      refused : {a b : Surroundings} {t u : Tree} (kind : FaultKind) → item_rule t ≡ Refused kind → item_rule u ≡ Refused kind →
+          SameRange r (range_of_node t) (range_of_node u) → SameItem a b t u
+
+    -- namespaces, whose bodies agree; `p` and `q` are the ranges of their exports, or else their own
+    pub data SameNamespace : Surroundings → Surroundings → SourceRange → SourceRange → Tree → Tree → Type 0 where
+      bodies : {a b : Surroundings} {p q : SourceRange} {t u : Tree} → SameNamespaceHead r a b p q t u →
+          SameBody (inside a t) (inside b u) (TsModuleDecl-body t) (TsModuleDecl-body u) → SameNamespace a b p q t u
+
+    -- blocks, whose items agree, under the same names
+    pub data SameBody : Surroundings → Surroundings → Tree → Tree → Type 0 where
+      block : {a b : Surroundings} {t u : Tree} → Neither TsNamespaceDecl t u → SameRange r (TsModuleBlock-span t) (TsModuleBlock-span u) →
+          SameItems a b (block_items t) (block_items u) → SameBody a b t u
+      inner : {a b : Surroundings} {t u : Tree} → SameInnerHead r t u → SameBody a b (TsNamespaceDecl-body t) (TsNamespaceDecl-body u) → SameBody a b t u
+
+    -- items one by one, the silent ones aside; where a silent one begins has no partner
+    pub data SameItems : Surroundings → Surroundings → List Tree → List Tree → Type 0 where
+      end : {a b : Surroundings} → SameItems a b [] []
+      left : {a b : Surroundings} {t : Tree} {ts us : List Tree} → IsSilent a t → HasNoPartner r.starts (range_of_node t).start.0 → SameItems a b ts us →
+          SameItems a b (t ∷ ts) us
+      right : {a b : Surroundings} {u : Tree} {ts us : List Tree} → IsSilent b u → IsNoPartner r.starts (range_of_node u).start.0 → SameItems a b ts us →
+          SameItems a b ts (u ∷ us)
+      next : {a b : Surroundings} {t u : Tree} {ts us : List Tree} → SameItem a b t u → SameItems a b ts us → SameItems a b (t ∷ ts) (u ∷ us)
+
+module _ (r : Renaming) (a b : Surroundings) where
   -- two modules that agree but for what is hidden
   pub record AgreeHidden (t u : Tree) : Type 0 where
     -- what is known of names agrees, under the renaming of scope numbers
     pub bindings : SameBindings r a.bindings b.bindings
-    pub is_declaration_file : a.is_declaration_file ≡ b.is_declaration_file
-    pub items : SameItems (items_of t) (items_of u)
+    pub is_ambient : a.is_ambient ≡ b.is_ambient
+    pub items : SameItems r a b (items_of t) (items_of u)
     pub shebang : SameTree r (Module-shebang t) (Module-shebang u)

@@ -1,11 +1,12 @@
 -- Which comments stay with a skeleton: directives for the type checker and documentation, but for those before an item that goes, and before a member that
--- goes of a class that stays and is not ambient.
+-- goes of a class that stays and is not ambient. The items of a namespace that stays are looked at as those of a module.
 use Rattle.std.specs.Prelude.{not, ◌&&◌, List, [], ◌∷◌, ◌++◌, map, if◌then◌else◌}
 use Rattle.std.specs.List.{flat_map}
 use Rattle.fast_check_syntax.specs.declared.source.SourcePos.{SourcePos}
 use Rattle.fast_check_syntax.specs.declared.source.SourceRange.{SourceRange}
 use Rattle.fast_check_syntax.specs.declared.tree.Tree.{Tree}
 use Rattle.fast_check_syntax.specs.Shape.{parts}
+use Rattle.fast_check_syntax.specs.Descent.{by_descent}
 use Rattle.fast_check_comments.specs.declared.comments.Comments.{Comments}
 use Rattle.fast_check_comments.specs.Kept.{kept, without_leading}
 use Rattle.fast_check_ranges.specs.Ranges.{range_of_node}
@@ -15,9 +16,10 @@ use Rattle.fast_check_program_forms.specs.ModuleDecls.{ExportDecl-span, ExportDe
 use Rattle.fast_check_statement_forms.specs.Declarations.{ClassDecl-class}
 use Rattle.fast_check_signatures.specs.Members.{removed_members}
 use Rattle.fast_check_signatures.specs.Seen.{Seen}
-use Rattle.fast_check_skeleton.specs.Surroundings.{Surroundings}
+use Rattle.fast_check_skeleton.specs.Namespaces.{is_namespace, items_inside}
+use Rattle.fast_check_skeleton.specs.Surroundings.{Surroundings, inside}
 use Rattle.fast_check_skeleton.specs.declared.rules.DeclRule.{DeclRule}
-use Rattle.fast_check_skeleton.specs.declared.rules.DeclRule.TheVariants.{Class}
+use Rattle.fast_check_skeleton.specs.declared.rules.DeclRule.TheVariants.{Class, Namespace}
 use Rattle.fast_check_skeleton.specs.declared.rules.ItemRule.{ItemRule}
 use Rattle.fast_check_skeleton.specs.declared.rules.ItemRule.TheVariants.{Declared, Exported, Default}
 use Rattle.fast_check_skeleton.specs.declared.rules.DefaultRule.{DefaultRule}
@@ -57,13 +59,43 @@ starts_inside around item (Exported rule) = starts_in_decl around (ExportDecl-sp
 starts_inside around item (Default rule) = starts_in_default around item rule
 starts_inside around item _ = []
 
--- the start of an item that goes, or the starts of what goes inside of it
+-- what goes of a lower item inside of an item, in surroundings
+abbrev pub StartLook : Type 0
+StartLook = Tree → Surroundings → List SourcePos
+
+-- what goes of the items of a namespace, which is public by `place`
+abbrev pub starts_in_namespace : StartLook → Surroundings → SourceRange → Tree → List SourcePos
+starts_in_namespace look around place decl =
+    if is_namespace decl && around.is_public place then flat_map (λ item. look item (inside around decl)) (items_inside decl) else []
+
+abbrev pub starts_in_body : StartLook → Surroundings → SourceRange → Tree → DeclRule → List SourcePos
+starts_in_body look around place decl Namespace = starts_in_namespace look around place decl
+starts_in_body look around place decl _ = []
+
+abbrev pub starts_below : StartLook → Surroundings → Tree → ItemRule → List SourcePos
+starts_below look around item (Declared rule) = starts_in_body look around (range_of_node item) item rule
+starts_below look around item (Exported rule) = starts_in_body look around (ExportDecl-span item) (ExportDecl-decl item) rule
+starts_below look around item _ = []
+
+-- of an item: what goes of the items of a namespace, the start of the item itself if it goes, and those of the members of a class
+abbrev pub start_form : Tree → StartLook → Surroundings → List SourcePos
+start_form item look around =
+    starts_below look around item (item_rule item) ++ (start_of_unseen item (item_seen around item) ++ starts_inside around item (item_rule item))
+
+unfoldable pub start_look : StartLook
+start_look = by_descent (λ around. []) start_form
+
+-- the starts of what goes of an item
 abbrev pub removed_start : Surroundings → Tree → List SourcePos
-removed_start around item = start_of_unseen item (item_seen around item) ++ starts_inside around item (item_rule item)
+removed_start around item = start_look item around
+
+-- and of the items of a body
+abbrev pub removed_from : Surroundings → List Tree → List SourcePos
+removed_from around items = flat_map (λ item. start_look item around) items
 
 -- the starts of all that goes of a module
 abbrev pub removed_starts : Surroundings → Tree → List SourcePos
-removed_starts around program = flat_map (removed_start around) (items_of program)
+removed_starts around program = removed_from around (items_of program)
 
 -- the comments without those before the tokens at some positions
 abbrev pub without_all_leading : List SourcePos → Comments → Comments

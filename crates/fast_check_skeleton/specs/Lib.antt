@@ -4,6 +4,7 @@ pub mod Rules
 pub mod Mutability
 pub mod Links
 pub mod Defaults
+pub mod Namespaces
 pub mod Visible
 pub mod Skeleton
 pub mod Grammar

@@ -60,7 +60,7 @@ around = record {
   is_public = λ r. r.start.0 == 0;
   is_implementation = λ r. false;
   bindings = no_classes;
-  is_declaration_file = false;
+  is_ambient = false;
   relative = λ text. Some resolved;
 }
 
@@ -70,7 +70,7 @@ unresolving = record {
   is_public = around.is_public;
   is_implementation = around.is_implementation;
   bindings = no_classes;
-  is_declaration_file = false;
+  is_ambient = false;
   relative = λ text. None;
 }
 

@@ -7,7 +7,7 @@ use Rattle.fast_check_syntax.specs.Shape.{◌is◌, kind_of}
 use Rattle.fast_check_program_forms.specs.ModuleDecls.{ExportDecl-decl, ExportDefaultDecl-decl, TsImportEqualsDecl-module_ref}
 use Rattle.fast_check_statement_forms.specs.Statements.{ExprStmt-expr}
 use Rattle.fast_check_skeleton.specs.declared.rules.DeclRule.{DeclRule}
-use Rattle.fast_check_skeleton.specs.declared.rules.DeclRule.TheVariants.{Variables, Function, Class, Standing, Using, Untaken}
+use Rattle.fast_check_skeleton.specs.declared.rules.DeclRule.TheVariants.{Variables, Function, Class, Standing, Namespace, Using, Untaken}
 use Rattle.fast_check_signatures.specs.declared.fault.FaultKind.TheVariants.{UnsupportedRequire, UnsupportedTsExportAssignment, UnsupportedTsNamespaceExport}
 use Rattle.fast_check_skeleton.specs.declared.rules.DefaultRule.TheVariants as defaults
 use Rattle.fast_check_skeleton.specs.declared.rules.LinkRule.TheVariants as links
@@ -22,6 +22,7 @@ decl_rule kinds.ClassDecl = Class
 decl_rule kinds.TsInterfaceDecl = Standing
 decl_rule kinds.TsTypeAliasDecl = Standing
 decl_rule kinds.TsEnumDecl = Standing
+decl_rule kinds.TsModuleDecl = Namespace
 decl_rule kinds.UsingDecl = Using
 decl_rule _ = Untaken
 

@@ -31,7 +31,7 @@ module _ (r : Renaming) (a b : Surroundings) where
   -- of two functions that are not ambient, whatever their signatures
   pub record SameDefaultFunction (t u : Tree) : Type 0 where
     pub head : SameDefaultDecl FnExpr t u
-    pub is_declaration_file : a.is_declaration_file ≡ false
+    pub is_ambient : a.is_ambient ≡ false
     pub ident : SameTree r (FnExpr-ident (ExportDefaultDecl-decl t)) (FnExpr-ident (ExportDefaultDecl-decl u))
 
   pub data SameDefault : Tree → Tree → Type 0 where
@@ -50,8 +50,8 @@ module _ (r : Renaming) (a b : Surroundings) where
         a.is_implementation (ExportDefaultDecl-span t) ≡ true → b.is_implementation (ExportDefaultDecl-span u) ≡ true →
         SameImplementation r a.bindings b.bindings (FnExpr-function (ExportDefaultDecl-decl t)) (FnExpr-function (ExportDefaultDecl-decl u)) →
         SameDefault t u
-    -- functions of declaration files stand as they are written
-    ambient_function : {t u : Tree} → SameDefaultDecl FnExpr t u → a.is_declaration_file ≡ true →
+    -- where all is ambient functions stand as they are written
+    ambient_function : {t u : Tree} → SameDefaultDecl FnExpr t u → a.is_ambient ≡ true →
         SameTree r (ExportDefaultDecl-decl t) (ExportDefaultDecl-decl u) → SameDefault t u
     -- and interfaces
     interface : {t u : Tree} → SameDefaultDecl TsInterfaceDecl t u → SameTree r (ExportDefaultDecl-decl t) (ExportDefaultDecl-decl u) → SameDefault t u

@@ -1,7 +1,9 @@
 -- What the skeleton of a module depends on beside its tree.
-use Rattle.std.specs.Prelude.{ℕ, Bool, List, Option}
+use Rattle.std.specs.Prelude.{ℕ, Bool, ◌||◌, Option, List}
 use Rattle.fast_check_syntax.specs.declared.source.SourceRange.{SourceRange}
 use Rattle.fast_check_signatures.specs.Bindings.{Bindings}
+use Rattle.fast_check_syntax.specs.declared.tree.Tree.{Tree}
+use Rattle.fast_check_statement_forms.specs.TsDeclarations.{TsModuleDecl-declare}
 
 pub record Surroundings : Type 0 where
   -- whether a range is public, so that what stands there may be seen from outside
@@ -10,7 +12,21 @@ pub record Surroundings : Type 0 where
   pub is_implementation : SourceRange → Bool
   -- what is known of the names of the module
   pub bindings : Bindings
-  -- whether the file is a declaration file (`.d.ts`, `.d.mts`, `.d.cts`), all of which is ambient
-  pub is_declaration_file : Bool
+  -- whether all that stands here is ambient: in a declaration file (`.d.ts`, `.d.mts`, `.d.cts`), or inside of a namespace with `declare`
+  pub is_ambient : Bool
   -- the text that stands in a skeleton for a source of imports or exports, where it is another one: a text that begins with `.`, where the graph resolves it
   pub relative : List ℕ → Option (List ℕ)
+
+-- the same, but for whether all is ambient
+abbrev pub with_ambient : Bool → Surroundings → Surroundings
+with_ambient is_ambient around = record {
+  is_public = around.is_public;
+  is_implementation = around.is_implementation;
+  bindings = around.bindings;
+  is_ambient = is_ambient;
+  relative = around.relative;
+}
+
+-- what surrounds the items of a namespace: inside of one with `declare` all is ambient
+abbrev pub inside : Surroundings → Tree → Surroundings
+inside around decl = with_ambient (around.is_ambient || TsModuleDecl-declare decl) around

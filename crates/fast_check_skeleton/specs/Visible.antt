@@ -6,6 +6,7 @@ use Rattle.fast_check_syntax.specs.declared.kind.Kind.TheVariants.{BindingIdent,
 use Rattle.fast_check_syntax.specs.declared.source.SourceRange.{SourceRange}
 use Rattle.fast_check_syntax.specs.declared.tree.Tree.{Tree}
 use Rattle.fast_check_syntax.specs.Shape.{◌is◌, kind_of, parts, is_absent}
+use Rattle.fast_check_syntax.specs.Descent.{by_descent}
 use Rattle.fast_check_helpers.specs.declared.literal_type.DeclMutabilityKind.{DeclMutabilityKind}
 use Rattle.fast_check_helpers.specs.Builders.{type_ann, never_value}
 use Rattle.fast_check_helpers.specs.InferredType.{inferred_type}
@@ -18,21 +19,24 @@ use Rattle.fast_check_statement_forms.specs.Declarations.{FnDecl-ident, FnDecl-d
 use Rattle.fast_check_statement_forms.specs.Declarations.{UsingDecl-span, UsingDecl-decls}
 use Rattle.fast_check_statement_forms.specs.Declarations.{VarDecl-span, VarDecl-ctxt, VarDecl-kind, VarDecl-declare, VarDecl-decls}
 use Rattle.fast_check_statement_forms.specs.Declarations.{VarDeclarator-span, VarDeclarator-name, VarDeclarator-init, VarDeclarator-definite, var_declarator}
-use Rattle.fast_check_signatures.specs.declared.fault.FaultKind.TheVariants.{UnsupportedDestructuring, UnsupportedUsing}
+use Rattle.fast_check_signatures.specs.declared.fault.FaultKind.TheVariants.{UnsupportedDestructuring, UnsupportedUsing, UnsupportedGlobalModule}
+use Rattle.fast_check_signatures.specs.declared.fault.FaultKind.TheVariants.{UnsupportedAmbientModule}
+use Rattle.fast_check_statement_forms.specs.TsDeclarations.{TsModuleDecl-span, TsModuleDecl-global, TsModuleDecl-id}
 use Rattle.fast_check_signatures.specs.declared.function_kind.FunctionKind.TheVariants.{DeclarationLike}
 use Rattle.fast_check_signatures.specs.Classes.{plain_class_seen, ambient_class}
 use Rattle.fast_check_signatures.specs.Expressions.{expr_seen}
 use Rattle.fast_check_signatures.specs.Functions.{function_seen, implementation_seen}
 use Rattle.fast_check_signatures.specs.Seen.{DeclaratorHead, Seen, written, range, scope, flag, round, listed, declarator, faulty, refused, seens}
 use Rattle.fast_check_skeleton.specs.declared.rules.DeclRule.{DeclRule}
-use Rattle.fast_check_skeleton.specs.declared.rules.DeclRule.TheVariants.{Variables, Function, Class, Standing, Using, Untaken}
+use Rattle.fast_check_skeleton.specs.declared.rules.DeclRule.TheVariants.{Variables, Function, Class, Standing, Namespace, Using, Untaken}
 use Rattle.fast_check_skeleton.specs.declared.rules.ItemRule.{ItemRule}
 use Rattle.fast_check_skeleton.specs.declared.rules.ItemRule.TheVariants.{Declared, Exported, Linked, Default, Refused, Silent}
 use Rattle.fast_check_skeleton.specs.Defaults.{default_seen}
 use Rattle.fast_check_skeleton.specs.Links.{link_seen}
 use Rattle.fast_check_skeleton.specs.Mutability.{mutability_of}
+use Rattle.fast_check_skeleton.specs.Namespaces.{is_ambient_module, items_inside, namespace_round}
 use Rattle.fast_check_skeleton.specs.Rules.{item_rule}
-use Rattle.fast_check_skeleton.specs.Surroundings.{Surroundings}
+use Rattle.fast_check_skeleton.specs.Surroundings.{Surroundings, inside}
 
 -- the identifier that a declarator declares, and its written type
 abbrev pub declared_ident : Tree → Tree
@@ -70,9 +74,9 @@ declarator_seen around mutability d =
     if kind_of (VarDeclarator-name d) is BindingIdent then ident_declarator_seen around mutability d
     else faulty UnsupportedDestructuring (range_of_node (VarDeclarator-name d))
 
--- ambient declarations stand as they are written: those of a declaration file, and those that are declared
-abbrev pub is_ambient : Surroundings → Tree → Bool
-is_ambient around statement = around.is_declaration_file || VarDecl-declare statement
+-- ambient statements stand as they are written: where all is ambient, and those that are declared
+abbrev pub is_ambient_statement : Surroundings → Tree → Bool
+is_ambient_statement around statement = around.is_ambient || VarDecl-declare statement
 
 -- a declarator is public by its own range
 abbrev pub is_public_declarator : Surroundings → Tree → Bool
@@ -81,7 +85,7 @@ is_public_declarator around d = around.is_public (VarDeclarator-span d)
 -- a declarator of a statement
 abbrev pub declarator_in : Surroundings → Tree → Tree → Seen
 declarator_in around statement d =
-    if is_ambient around statement then written d else declarator_seen around (mutability_of (VarDecl-kind statement)) d
+    if is_ambient_statement around statement then written d else declarator_seen around (mutability_of (VarDecl-kind statement)) d
 
 -- a public declarator; nothing of another
 abbrev pub public_declarator : Surroundings → Tree → Tree → List Seen
@@ -106,18 +110,18 @@ signature_of around place decl =
     if around.is_implementation place then implementation_seen (FnDecl-function decl)
     else function_seen around.bindings (expr_seen around.bindings) DeclarationLike (Ident-span (FnDecl-ident decl)) (FnDecl-function decl)
 
--- a function declaration; in a declaration file it stands as it is written
+-- a function declaration; where all is ambient it stands as it is written
 abbrev pub function_decl_seen : Surroundings → SourceRange → Tree → Seen
 function_decl_seen around place decl =
-    if around.is_declaration_file then written decl
+    if around.is_ambient then written decl
     else round FnDecl (seens (written (FnDecl-ident decl) ∷ flag (FnDecl-declare decl) ∷ signature_of around place decl ∷ []))
 
 abbrev pub public_function : Surroundings → SourceRange → Tree → List Seen
 public_function around place decl = if around.is_public place then function_decl_seen around place decl ∷ [] else []
 
--- ambient classes: those of a declaration file, and those that are declared
+-- ambient classes: where all is ambient, and those that are declared
 abbrev pub is_ambient_class : Surroundings → Tree → Bool
-is_ambient_class around decl = around.is_declaration_file || ClassDecl-declare decl
+is_ambient_class around decl = around.is_ambient || ClassDecl-declare decl
 
 -- the class of a declaration; an ambient one stands as it is written, but for private members of computed keys
 abbrev pub class_in : Surroundings → Tree → Seen
@@ -149,15 +153,32 @@ is_public_using around place decl = around.is_public place || list_any (is_publi
 abbrev pub using_seen : Surroundings → SourceRange → Tree → List Seen
 using_seen around place decl = if is_public_using around place decl then faulty UnsupportedUsing (using_place decl) ∷ [] else []
 
+-- What is seen of a lower item inside of an item, in surroundings.
+abbrev pub ItemLook : Type 0
+ItemLook = Tree → Surroundings → List Seen
+
+-- the items of a body: of a module, or of a namespace
+abbrev pub body_seen : ItemLook → Surroundings → List Tree → List Seen
+body_seen look around items = flat_map (λ item. look item around) items
+
+-- a namespace, which is public by `place`, with what is seen of its items. No skeleton has `declare global`, `declare module "x"` or a namespace without a
+-- body, public or not.
+abbrev pub namespace_seen : ItemLook → Surroundings → SourceRange → Tree → List Seen
+namespace_seen look around place decl =
+    if TsModuleDecl-global decl then faulty UnsupportedGlobalModule (TsModuleDecl-span decl) ∷ []
+    else (if is_ambient_module decl then faulty UnsupportedAmbientModule (range_of_node (TsModuleDecl-id decl)) ∷ []
+    else (if around.is_public place then namespace_round (body_seen look (inside around decl) (items_inside decl)) decl ∷ [] else []))
+
 -- A declaration, by what is done with it. Of a variable statement the declarators are public, by their own ranges; another is public by `place`, which is the
 -- range of its export, or else its own. Of one that is not taken nothing is seen.
-abbrev pub decl_seen : Surroundings → SourceRange → Tree → DeclRule → List Seen
-decl_seen around place decl Variables = statement_seen decl (public_declarators around decl)
-decl_seen around place decl Function = public_function around place decl
-decl_seen around place decl Class = public_class around place decl
-decl_seen around place decl Standing = standing_seen around place decl
-decl_seen around place decl Using = using_seen around place decl
-decl_seen around place decl Untaken = []
+abbrev pub decl_form : ItemLook → Surroundings → SourceRange → Tree → DeclRule → List Seen
+decl_form look around place decl Variables = statement_seen decl (public_declarators around decl)
+decl_form look around place decl Function = public_function around place decl
+decl_form look around place decl Class = public_class around place decl
+decl_form look around place decl Standing = standing_seen around place decl
+decl_form look around place decl Namespace = namespace_seen look around place decl
+decl_form look around place decl Using = using_seen around place decl
+decl_form look around place decl Untaken = []
 
 -- an exported declaration; nothing where none of it is seen
 abbrev pub exported_seen : Tree → List Seen → List Seen
@@ -165,16 +186,30 @@ exported_seen export [] = []
 exported_seen export (d ∷ ds) = round ExportDecl (seens (range (ExportDecl-span export) ∷ d ∷ ds)) ∷ []
 
 -- an item of a module, by what is done with it
-abbrev pub seen_by_rule : Surroundings → Tree → ItemRule → List Seen
-seen_by_rule around item (Declared rule) = decl_seen around (range_of_node item) item rule
-seen_by_rule around item (Exported rule) = exported_seen item (decl_seen around (ExportDecl-span item) (ExportDecl-decl item) rule)
-seen_by_rule around item (Linked rule) = link_seen around item rule
-seen_by_rule around item (Default rule) = default_seen around item rule
-seen_by_rule around item (Refused kind) = faulty kind (range_of_node item) ∷ []
-seen_by_rule around item Silent = []
+abbrev pub form_by_rule : ItemLook → Surroundings → Tree → ItemRule → List Seen
+form_by_rule look around item (Declared rule) = decl_form look around (range_of_node item) item rule
+form_by_rule look around item (Exported rule) = exported_seen item (decl_form look around (ExportDecl-span item) (ExportDecl-decl item) rule)
+form_by_rule look around item (Linked rule) = link_seen around item rule
+form_by_rule look around item (Default rule) = default_seen around item rule
+form_by_rule look around item (Refused kind) = faulty kind (range_of_node item) ∷ []
+form_by_rule look around item Silent = []
+
+abbrev pub item_form : Tree → ItemLook → Surroundings → List Seen
+item_form item look around = form_by_rule look around item (item_rule item)
+
+-- an item, and with it the items of a namespace, level by level
+unfoldable pub item_look : ItemLook
+item_look = by_descent (λ around. []) item_form
 
 abbrev pub item_seen : Surroundings → Tree → List Seen
-item_seen around item = seen_by_rule around item (item_rule item)
+item_seen around item = item_look item around
+
+-- a declaration, and an item, by what is done with it
+abbrev pub decl_seen : Surroundings → SourceRange → Tree → DeclRule → List Seen
+decl_seen = decl_form item_look
+
+abbrev pub seen_by_rule : Surroundings → Tree → ItemRule → List Seen
+seen_by_rule = form_by_rule item_look
 
 -- the items of a module. A script is taken as a module: its fields stand in the same places.
 abbrev pub items_of : Tree → List Tree
@@ -182,4 +217,4 @@ items_of program = parts (Module-body program)
 
 -- what is seen of a module, item by item
 abbrev pub visible : Surroundings → Tree → List Seen
-visible around program = flat_map (item_seen around) (items_of program)
+visible around program = body_seen item_look around (items_of program)

@@ -18,6 +18,8 @@ pub enum DeclRule {
     Class,
     /// A declaration that stands as it is written.
     Standing,
+    /// A namespace stays with what is public of its items. No skeleton has `declare global`, nor what has no body or a text for its name.
+    Namespace,
     /// `using`: no skeleton has what it declares.
     Using,
     /// A declaration that is not taken so far.
@@ -76,6 +78,7 @@ pub fn decl_rule(kind: Kind) -> DeclRule
         Kind::FnDecl => DeclRule::Function,
         Kind::ClassDecl => DeclRule::Class,
         Kind::TsInterfaceDecl | Kind::TsTypeAliasDecl | Kind::TsEnumDecl => DeclRule::Standing,
+        Kind::TsModuleDecl => DeclRule::Namespace,
         Kind::UsingDecl => DeclRule::Using,
         _ => DeclRule::Untaken,
     }
