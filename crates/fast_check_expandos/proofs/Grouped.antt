@@ -1,8 +1,7 @@
 -- Groups, when one item more is put behind the others.
-use Rattle.std.proofs.Common.{◌≡◌, ◌∙◌, sym, ap, refl, subst, Bool, true, false, not, List, [], ◌∷◌, ◌++◌, map, cond, true≢false, if◌then◌else◌}
+use Rattle.std.proofs.Common.{◌≡◌, ◌∙◌, sym, ap, refl, Bool, true, false, List, [], ◌∷◌, ◌++◌, map, true≢false, if◌then◌else◌}
 use Rattle.std.proofs.lemmas.List.{append-nil}
 use Rattle.std.proofs.lemmas.List.Elements.{filter-append}
-use Rattle.std.specs.List.{filter}
 use Rattle.fast_check_expandos.specs.Groups.{others, items_of, grouped}
 
 module _ {K A N : Type 0} (same : K → K → Bool) (key : A → K) (merged : List A → N) (more : N → A → N) where
@@ -26,58 +25,74 @@ module _ {K A N : Type 0} (same : K → K → Bool) (key : A → K) (merged : Li
     -- others of merged entries
     others_merged : (k : K) (gs : List (K × List A)) → all_merged (others same k gs) ≡ others same k (all_merged gs)
     others_merged k [] = refl
-    others_merged k (g ∷ gs) = by (same k g.0) refl
+    others_merged k (g ∷ gs) = by (same k g.0) refl (others_merged k gs)
       where
-        by : (b : Bool) → same k g.0 ≡ b → all_merged (others same k (g ∷ gs)) ≡ others same k (all_merged (g ∷ gs))
-        by true e = rw e (others_merged k gs)
-        by false e = rw e (ap (λ es. (g.0, merged g.1) ∷ es) (others_merged k gs))
+        by : (b : Bool) → same k g.0 ≡ b → all_merged (others same k gs) ≡ others same k (all_merged gs) →
+            all_merged (others same k (g ∷ gs)) ≡ others same k (all_merged (g ∷ gs))
+        by true e rest = rw e rest
+        by false e rest = rw e (ap (λ es. (g.0, merged g.1) ∷ es) rest)
 
     -- an item of the key changes none of the others
     others_same : (k : K) (x : A) (es : List (K × N)) → same k (key x) ≡ true → others same k (placed x es) ≡ others same k es
     others_same k x [] e = rw e refl
-    others_same k x (g ∷ gs) e = by (same (key x) g.0) (same k g.0) refl refl
+    others_same k x (g ∷ gs) e = by (same (key x) g.0) (same k g.0) refl refl (others_same k x gs e)
       where
-        by : (b c : Bool) → same (key x) g.0 ≡ b → same k g.0 ≡ c → others same k (placed x (g ∷ gs)) ≡ others same k (g ∷ gs)
-        by true true p q = rw (p, q) refl
-        by true false p q = absurd (true≢false (sym p ∙ ((λ i. same (sym (one k (key x) e) i) g.0) ∙ q)))
-        by false true p q = rw (p, q) (others_same k x gs e)
-        by false false p q = rw (p, q) (ap (λ es. g ∷ es) (others_same k x gs e))
+        by : (b c : Bool) → same (key x) g.0 ≡ b → same k g.0 ≡ c → others same k (placed x gs) ≡ others same k gs →
+            others same k (placed x (g ∷ gs)) ≡ others same k (g ∷ gs)
+        by true true p q rest = rw (p, q) refl
+        by true false p q rest = absurd (true≢false (sym p ∙ ((λ i. same (sym (one k (key x) e) i) g.0) ∙ q)))
+        by false true p q rest = rw (p, q) rest
+        by false false p q rest = rw (p, q) (ap (λ es. g ∷ es) rest)
 
     -- another item is placed among the others
     others_other : (k : K) (x : A) (es : List (K × N)) → same k (key x) ≡ false → others same k (placed x es) ≡ placed x (others same k es)
     others_other k x [] e = rw e refl
-    others_other k x (g ∷ gs) e = by (same (key x) g.0) (same k g.0) refl refl
+    others_other k x (g ∷ gs) e = by (same (key x) g.0) (same k g.0) refl refl (others_other k x gs e)
       where
-        by : (b c : Bool) → same (key x) g.0 ≡ b → same k g.0 ≡ c → others same k (placed x (g ∷ gs)) ≡ placed x (others same k (g ∷ gs))
-        by true true p q = absurd (true≢false (sym q ∙ ((λ i. same k (sym (one (key x) g.0 p) i)) ∙ e)))
-        by true false p q = rw (p, q) (rw p refl)
-        by false true p q = rw (p, q) (others_other k x gs e)
-        by false false p q = rw (p, q) (rw p (ap (λ es. g ∷ es) (others_other k x gs e)))
+        by : (b c : Bool) → same (key x) g.0 ≡ b → same k g.0 ≡ c → others same k (placed x gs) ≡ placed x (others same k gs) →
+            others same k (placed x (g ∷ gs)) ≡ placed x (others same k (g ∷ gs))
+        by true true p q rest = absurd (true≢false (sym q ∙ ((λ i. same k (sym (one (key x) g.0 p) i)) ∙ e)))
+        by true false p q rest = rw (p, q) (rw p refl)
+        by false true p q rest = rw (p, q) rest
+        by false false p q rest = rw (p, q) (rw p (ap (λ es. g ∷ es) rest))
 
     -- the groups of one item more
-    pub one_item_more : (xs : List A) (x : A) →
-        all_merged (grouped same key (xs ++ x ∷ [])) ≡ placed x (all_merged (grouped same key xs))
+    abbrev HasOneMore : List A → A → Type 0
+    HasOneMore xs x = all_merged (grouped same key (xs ++ x ∷ [])) ≡ placed x (all_merged (grouped same key xs))
+
+    abbrev front : A → List A → List (K × N) → List (K × N)
+    front y zs es = (key y, merged (y ∷ zs)) ∷ es
+
+    module _ (y : A) (ys : List A) (x : A) (rest : HasOneMore ys x) where
+      abbrev behind : List (K × N)
+      behind = all_merged (grouped same key ys)
+
+      turned_rest : all_merged (others same (key y) (grouped same key (ys ++ x ∷ []))) ≡ others same (key y) (placed x behind)
+      turned_rest = others_merged (key y) (grouped same key (ys ++ x ∷ [])) ∙ ap (others same (key y)) rest
+
+      back : others same (key y) behind ≡ all_merged (others same (key y) (grouped same key ys))
+      back = sym (others_merged (key y) (grouped same key ys))
+
+      in_front : same (key y) (key x) ≡ true → HasOneMore (y ∷ ys) x
+      in_front e =
+          let zs : items_of same key (key y) (ys ++ x ∷ []) ≡ items_of same key (key y) ys ++ x ∷ [] =
+          filter-append (λ z. same (key y) (key z)) ys (x ∷ []) ∙ ap (λ us. items_of same key (key y) ys ++ us) (rw e refl) in
+          (λ i. front y (zs i) ((turned_rest ∙ (others_same (key y) x behind e ∙ back)) i))
+          ∙ ((λ i. (key y, grows (y ∷ items_of same key (key y) ys) x i) ∷ all_merged (others same (key y) (grouped same key ys)))
+          ∙ sym (rw (turned (key x) (key y) ∙ e) refl))
+
+      further : same (key y) (key x) ≡ false → HasOneMore (y ∷ ys) x
+      further e =
+          let zs : items_of same key (key y) (ys ++ x ∷ []) ≡ items_of same key (key y) ys =
+          filter-append (λ z. same (key y) (key z)) ys (x ∷ []) ∙ (ap (λ us. items_of same key (key y) ys ++ us) (rw e refl)
+          ∙ append-nil (items_of same key (key y) ys)) in
+          (λ i. front y (zs i) ((turned_rest ∙ (others_other (key y) x behind e ∙ ap (placed x) back)) i))
+          ∙ sym (rw (turned (key x) (key y) ∙ e) refl)
+
+      by_key : (b : Bool) → same (key y) (key x) ≡ b → HasOneMore (y ∷ ys) x
+      by_key true e = in_front e
+      by_key false e = further e
+
+    pub one_item_more : (xs : List A) (x : A) → HasOneMore xs x
     one_item_more [] x = refl
-    one_item_more (y ∷ ys) x = by (same (key y) (key x)) refl
-      where
-        goal : Type 0
-        goal = all_merged (grouped same key (y ∷ (ys ++ x ∷ []))) ≡ placed x (all_merged (grouped same key (y ∷ ys)))
-        rest : all_merged (others same (key y) (grouped same key (ys ++ x ∷ []))) ≡ others same (key y) (placed x (all_merged (grouped same key ys)))
-        rest = others_merged (key y) (grouped same key (ys ++ x ∷ [])) ∙ ap (others same (key y)) (one_item_more ys x)
-        back : others same (key y) (all_merged (grouped same key ys)) ≡ all_merged (others same (key y) (grouped same key ys))
-        back = sym (others_merged (key y) (grouped same key ys))
-        front : List (K × N) → List A → List (K × N)
-        front es zs = (key y, merged (y ∷ zs)) ∷ es
-        by : (b : Bool) → same (key y) (key x) ≡ b → goal
-        by true e =
-            let zs : items_of same key (key y) (ys ++ x ∷ []) ≡ items_of same key (key y) ys ++ x ∷ [] =
-                filter-append (λ z. same (key y) (key z)) ys (x ∷ []) ∙ ap (λ us. items_of same key (key y) ys ++ us) (rw e refl) in
-            (λ i. front ((rest ∙ (others_same (key y) x (all_merged (grouped same key ys)) e ∙ back)) i) (zs i))
-            ∙ ((λ i. (key y, grows (y ∷ items_of same key (key y) ys) x i) ∷ all_merged (others same (key y) (grouped same key ys)))
-            ∙ sym (rw (turned (key x) (key y) ∙ e) refl))
-        by false e =
-            let zs : items_of same key (key y) (ys ++ x ∷ []) ≡ items_of same key (key y) ys =
-                filter-append (λ z. same (key y) (key z)) ys (x ∷ []) ∙ (ap (λ us. items_of same key (key y) ys ++ us) (rw e refl)
-                ∙ append-nil (items_of same key (key y) ys)) in
-            (λ i. front ((rest ∙ (others_other (key y) x (all_merged (grouped same key ys)) e ∙ ap (placed x) back)) i) (zs i))
-            ∙ sym (rw (turned (key x) (key y) ∙ e) refl)
+    one_item_more (y ∷ ys) x = by_key y ys x (one_item_more ys x) (same (key y) (key x)) refl

@@ -1,3 +1,9 @@
 pub mod ReferencesOut
 pub mod Grouped
 pub mod LastRanges
+pub mod Placed
+pub mod SameIds
+pub mod GroupsMoved
+pub mod ReferencesMoved
+pub mod PropertiesMoved
+pub mod Extended

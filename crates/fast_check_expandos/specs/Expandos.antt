@@ -1,18 +1,16 @@
 -- Assignments that are statements, and the namespaces that stand behind the items of a body for the properties that they declare:
 -- of `function f() {} f.a = 1;` the skeleton is `function f(): void {} namespace f { export var a = 1; }`.
-use Rattle.std.specs.Prelude.{ℕ, Bool, true, false, not, ◌&&◌, Option, Some, None, List, [], ◌∷◌, ◌++◌, map, if◌then◌else◌}
+use Rattle.std.specs.Prelude.{ℕ, Bool, true, false, List, [], ◌∷◌, ◌++◌, map, if◌then◌else◌}
 use Rattle.std.specs.List.{flat_map, list_any}
 use Rattle.fast_check_syntax.specs.declared.atom.Id.{Id}
 use Rattle.fast_check_syntax.specs.declared.kind.Word.TheVariants as words
 use Rattle.fast_check_syntax.specs.declared.source.SourceRange.{SourceRange}
-use Rattle.fast_check_syntax.specs.declared.source.SyntaxContext.{SyntaxContext}
 use Rattle.fast_check_syntax.specs.declared.tree.Tree.{Tree, Absent, Word}
 use Rattle.fast_check_syntax.specs.Shape.{list, none_range}
 use Rattle.fast_check_helpers.specs.Builders.{new_ident}
 use Rattle.fast_check_program_forms.specs.ModuleDecls.{export_decl}
 use Rattle.fast_check_program_forms.specs.Names.{IdentName-sym, binding_ident}
-use Rattle.fast_check_expression_forms.specs.Calls.{MemberExpr-span, MemberExpr-obj, MemberExpr-prop}
-use Rattle.fast_check_expression_forms.specs.Operators.{AssignExpr-span, AssignExpr-left}
+use Rattle.fast_check_expression_forms.specs.Calls.{MemberExpr-obj, MemberExpr-prop}
 use Rattle.fast_check_statement_forms.specs.Declarations.{var_decl, var_declarator}
 use Rattle.fast_check_statement_forms.specs.TsDeclarations.{ts_module_decl, ts_module_block}
 use Rattle.fast_check_modules.specs.Expandos.{id_of}
@@ -25,26 +23,25 @@ use Rattle.fast_check_expandos.specs.declared.references.Reference.{Reference}
 use Rattle.fast_check_expandos.specs.Groups.{grouped}
 use Rattle.fast_check_expandos.specs.References.{conflicts}
 
--- the object of an assignment of expando form, and the name of its property
+-- the object of a target `object.name`, and the name
 abbrev pub object_of : Tree → Id
-object_of assignment = id_of (MemberExpr-obj (AssignExpr-left assignment))
+object_of target = id_of (MemberExpr-obj target)
 
 abbrev pub property_name : Tree → List ℕ
-property_name assignment = IdentName-sym (MemberExpr-prop (AssignExpr-left assignment))
+property_name target = IdentName-sym (MemberExpr-prop target)
 
 -- `name = value`: the declarator of a property, at the place of its assignment; its name is a new one
-abbrev pub property_declarator : Tree → Tree → Tree
-property_declarator assignment value =
-    var_declarator (AssignExpr-span assignment) (binding_ident (new_ident (property_name assignment)) Absent) value false
+abbrev pub property_declarator : SourceRange → Tree → Tree → Tree
+property_declarator place target value = var_declarator place (binding_ident (new_ident (property_name target)) Absent) value false
 
--- A property whose value may stay, by its assignment and the value as it stays. `exported` says which names the symbol of the object exports, and `is_exported`
--- whether a declaration of the object stands behind the keyword `export`.
-abbrev pub property_of : (List ℕ → Bool) → Bool → Tree → Tree → ExpandoProperty
-property_of exported is_exported assignment value = record {
-  object = object_of assignment;
+-- A property whose value may stay, by the place and the target of its assignment, and the value as it stays. `exported` says which names the symbol of the
+-- object exports, and `is_exported` whether a declaration of the object stands behind the keyword `export`.
+abbrev pub property_of : (List ℕ → Bool) → Bool → SourceRange → Tree → Tree → ExpandoProperty
+property_of exported is_exported place target value = record {
+  object = object_of target;
   is_exported = is_exported;
-  declarator = property_declarator assignment value;
-  conflicts = conflicts (object_of assignment).1 exported value;
+  declarator = property_declarator place target value;
+  conflicts = conflicts (object_of target).1 exported value;
 }
 
 -- `export var declarators;`

@@ -2,4 +2,5 @@ pub mod Groups
 pub mod Objects
 pub mod References
 pub mod Expandos
+pub mod Assignments
 pub mod Merged

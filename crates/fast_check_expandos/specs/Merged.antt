@@ -1,11 +1,11 @@
 -- What stands in a namespace, by the properties of its object.
-use Rattle.std.specs.Prelude.{◌≡◌, Bool, ◌||◌, List, [], ◌∷◌, ◌++◌, map, if◌then◌else◌}
+use Rattle.std.specs.Prelude.{◌≡◌, ◌||◌, List, [], ◌∷◌, ◌++◌, map, if◌then◌else◌}
 use Rattle.std.specs.List.{flat_map, list_any}
 use Rattle.fast_check_syntax.specs.declared.atom.Id.{Id}
 use Rattle.fast_check_syntax.specs.declared.tree.Tree.{Tree}
 use Rattle.fast_check_modules.specs.Tables.{same_id}
 use Rattle.fast_check_signatures.specs.declared.fault.Fault.{Fault}
-use Rattle.fast_check_signatures.specs.Answers.{Answer, answer_of}
+use Rattle.fast_check_signatures.specs.Answers.{Answer}
 use Rattle.fast_check_signatures.specs.Seen.{Seen, written}
 use Rattle.fast_check_expandos.specs.declared.properties.ExpandoProperty.{ExpandoProperty}
 use Rattle.fast_check_expandos.specs.declared.namespaces.Namespace.{Namespace}
@@ -41,6 +41,6 @@ abbrev pub merged_seen : Id × Namespace → List Seen
 merged_seen e = map (conflict_seen e.0) e.1.conflicts ++ written (namespace_item e.1.is_exported e.0.0 e.1.declarators) ∷ []
 
 -- what stays is put behind the items, and the faults behind the others
-pub record Extends (answer : Answer (List Tree)) (old new : List Tree) (faults more : List Fault) : Type 0 where
+pub record Extends (answer : Answer (List Tree)) (old new : List Tree) (earlier later : List Fault) : Type 0 where
   pub items : new ≡ old ++ answer.stays
-  pub faults : more ≡ faults ++ answer.faults
+  pub faults : later ≡ earlier ++ answer.faults

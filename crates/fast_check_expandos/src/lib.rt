@@ -5,6 +5,6 @@ mod namespaces;
 mod properties;
 mod references;
 
-//pub use namespaces::keep_namespaces;
-pub use properties::{ExpandoProperty, expando_property};
-pub use references::Reference;
+pub use namespaces::keep_namespaces;
+pub use properties::{ExpandoProperty, expando_property, object_of};
+pub use references::{Reference, exports_name};

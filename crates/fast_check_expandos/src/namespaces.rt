@@ -157,11 +157,7 @@ fn namespace_item(
 }
 
 /// `namespace name { export var declarators; }`.
-fn namespace_decl(
-    alloc: Global,
-    name: Atom,
-    declarators: Items<Tree>,
-) -> Result<Tree, AllocError>
+fn namespace_decl(alloc: Global, name: Atom, declarators: Items<Tree>) -> Result<Tree, AllocError>
     ensures { IfOk result (λ tree. tree ≡ expandos.namespace_decl name declarators) }
 {
     let mut items = Items::new(alloc);

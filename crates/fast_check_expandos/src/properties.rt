@@ -1,6 +1,7 @@
 ghost use Rattle.std.specs.Prelude.{◌≡◌, IfOk};
 ghost use Rattle.std.specs.Option.{option_copied};
 ghost use Rattle.fast_check_syntax.specs.Part.{seen};
+ghost use Rattle.fast_check_expression_forms.specs.Operators.{AssignExpr-span, AssignExpr-left};
 ghost use Rattle.fast_check_expandos.specs.Objects.{exports_name, stands_exported};
 ghost use Rattle.fast_check_expandos.specs.Expandos.{object_of, property_declarator, property_of};
 
@@ -10,7 +11,7 @@ use fast_check_helpers::new_ident;
 use fast_check_program_forms::{BindingIdent, Ident, IdentName};
 use fast_check_statement_forms::VarDeclarator;
 use fast_check_symbols::Symbol;
-use fast_check_syntax::{Atom, Id, Items, Part, Tree};
+use fast_check_syntax::{Atom, Id, Items, Part, SourceRange, Tree};
 use std::alloc::{AllocError, Global};
 
 /// A property that `object.name = value;` declares for a function.
@@ -33,43 +34,44 @@ pub fn expando_property(
     value: Tree,
 ) -> Result<ExpandoProperty, AllocError>
     ensures { IfOk result (λ made. made ≡
-        property_of (exports_name (option_copied symbol.entry)) (stands_exported (option_copied symbol.entry)) (seen assignment.entry) value) }
+        property_of (exports_name (option_copied symbol.entry)) (stands_exported (option_copied symbol.entry))
+        (AssignExpr-span (seen assignment.entry)) (AssignExpr-left (seen assignment.entry)) value) }
 {
-    let object = object_of(alloc, assignment)?;
+    let AssignExpr { span, left, .. } = AssignExpr::of(assignment);
+    let object = object_of(alloc, left)?;
     let conflicts = conflicts(alloc, object.1, symbol, value.read())?;
     Ok(ExpandoProperty {
         object,
         is_exported: stands_exported(symbol),
-        declarator: property_declarator(alloc, assignment, value)?,
+        declarator: property_declarator(alloc, span, left, value)?,
         conflicts,
     })
 }
 
-/// The object of an assignment of expando form.
-pub fn object_of(alloc: Global, assignment: Part<'_>) -> Result<Id, AllocError>
-    ensures { IfOk result (λ object. object ≡ object_of (seen assignment.entry)) }
+/// The object of a target `object.name`.
+pub fn object_of(alloc: Global, target: Part<'_>) -> Result<Id, AllocError>
+    ensures { IfOk result (λ object. object ≡ object_of (seen target.entry)) }
 {
-    let target = MemberExpr::of(AssignExpr::of(assignment).left);
-    let Ident { ctxt, sym, .. } = Ident::of(target.obj);
+    let Ident { ctxt, sym, .. } = Ident::of(MemberExpr::of(target).obj);
     Ok(Id(Atom::from_str(alloc, sym)?, ctxt))
 }
 
-/// `name = value`.
+/// `name = value` at this place, with the name of a target `object.name`.
 fn property_declarator(
     alloc: Global,
-    assignment: Part<'_>,
+    place: SourceRange,
+    target: Part<'_>,
     value: Tree,
 ) -> Result<Tree, AllocError>
-    ensures { IfOk result (λ tree. tree ≡ property_declarator (seen assignment.entry) value) }
+    ensures { IfOk result (λ tree. tree ≡ property_declarator place (seen target.entry) value) }
 {
-    let AssignExpr { span, left, .. } = AssignExpr::of(assignment);
-    let property = IdentName::of(MemberExpr::of(left).prop);
+    let property = IdentName::of(MemberExpr::of(target).prop);
     let name = BindingIdent {
         id: new_ident(Atom::from_str(alloc, property.sym)?).into_tree(alloc)?,
         type_ann: Tree::Absent,
     };
     VarDeclarator {
-        span,
+        span: place,
         name: name.into_tree(alloc)?,
         init: value,
         definite: false,
