@@ -69,9 +69,20 @@ use Rattle.fast_check_skeleton.specs.Kinds.{is_standing}
 use Rattle.fast_check_skeleton.specs.Rules.{decl_rule, rule_of_kind, is_taken_decl}
 use Rattle.fast_check_skeleton.specs.declared.rules.DeclRule.{DeclRule}
 use Rattle.fast_check_skeleton.specs.declared.rules.DeclRule.TheVariants.{Variables, Function, Class, Standing, Namespace, Using}
-use Rattle.fast_check_skeleton.proofs.Ruled.{standing_rule, declared_rule, silent_rule}
+use Rattle.fast_check_skeleton.proofs.Ruled.{assigned_rule, standing_rule, declared_rule, silent_rule, namespace_rule}
 use Rattle.fast_check_skeleton.proofs.Namespaces.{block_round, inner_round, body_of_block, body_of_inner, item_seen_is, no_global, namespace_if}
 use Rattle.fast_check_skeleton.proofs.Namespaces.{hidden_namespace, global_is, ambient_module_is}
+use Rattle.fast_check_expression_forms.specs.Operators.{AssignExpr-span, AssignExpr-left}
+use Rattle.fast_check_statement_forms.specs.Statements.{ExprStmt-expr}
+use Rattle.fast_check_modules.specs.Expandos.{is_expando_assignment}
+use Rattle.fast_check_signatures.specs.Seen.{tested}
+use Rattle.fast_check_signatures.specs.Answers.{answer_to}
+use Rattle.fast_check_expandos.specs.declared.properties.ExpandoProperty.{ExpandoProperty}
+use Rattle.fast_check_expandos.specs.Assignments.{right_seen, missing_place, kept_property}
+use Rattle.fast_check_expandos.specs.Expandos.{namespaces_seen}
+use Rattle.fast_check_expandos.proofs.PropertiesMoved.{moved_expando}
+use Rattle.fast_check_skeleton.specs.Visible.{properties_by_rule, item_properties}
+use Rattle.fast_check_skeleton.proofs.AgreeingAssignments.{PropertiesAlike, namespaces_alike as all_namespaces_alike, more_properties, assignments_alike, properties_alike}
 use Rattle.fast_check_skeleton.proofs.AgreeingLinks.{silent_link, links_alike}
 use Rattle.fast_check_skeleton.proofs.AgreeingDefaults.{silent_default, defaults_alike}
 use Rattle.fast_check_skeleton.specs.SameLinks as l
@@ -133,8 +144,30 @@ module _ (around : Surroundings) where
   silent_item t (h.IsSilent.decl s) = item_of t (silent_taken (range_of_node t) t s) ∙ silent_decl (range_of_node t) t s
   silent_item t (h.IsSilent.statement s) = item_seen_is around t ∙ ap (seen_by_rule around t) (silent_rule t s)
   silent_item t (h.IsSilent.exported k s) = export_of t k ∙ ap (exported_seen t) (silent_decl (ExportDecl-span t) (ExportDecl-decl t) s)
+  silent_item t (h.IsSilent.assigned k n e) =
+      item_seen_is around t ∙ (ap (seen_by_rule around t) (assigned_rule t k n)
+      ∙ ap (λ p. if p then tested (missing_place around.objects (ExprStmt-expr t)) (right_seen around.bindings (ExprStmt-expr t)) ∷ [] else []) e)
   silent_item t (h.IsSilent.linked s) = let e = silent_link around t s in item_seen_is around t ∙ (ap (seen_by_rule around t) e.is ∙ e.unseen)
   silent_item t (h.IsSilent.default s) = let e = silent_default around t s in item_seen_is around t ∙ (ap (seen_by_rule around t) e.is ∙ e.unseen)
+
+  -- nor does it declare a property
+  silent_properties : (t : Tree) → IsSilent around t → item_properties around t ≡ []
+  silent_properties t (h.IsSilent.decl s) = ap (properties_by_rule around t) (declared_rule (kind_of t) t (silent_taken (range_of_node t) t s))
+  silent_properties t (h.IsSilent.statement s) = ap (properties_by_rule around t) (silent_rule t s)
+  silent_properties t (h.IsSilent.exported k s) = ap (λ j. properties_by_rule around t (rule_of_kind j t)) k
+  silent_properties t (h.IsSilent.assigned k n e) =
+      ap (properties_by_rule around t) (assigned_rule t k n)
+      ∙ ap (λ p. if p && is_expando_assignment (ExprStmt-expr t) then kept_property around.objects (AssignExpr-span (ExprStmt-expr t))
+      (AssignExpr-left (ExprStmt-expr t)) (answer_to (right_seen around.bindings (ExprStmt-expr t))).stays else []) e
+  silent_properties t (h.IsSilent.linked s) = ap (properties_by_rule around t) (silent_link around t s).is
+  silent_properties t (h.IsSilent.default s) = ap (properties_by_rule around t) (silent_default around t s).is
+
+  -- what is seen of the items of a body, one by one
+  abbrev each_seen : List Tree → List Seen
+  each_seen ts = flat_map (λ item. item_look item around) ts
+
+  abbrev each_declared : List Tree → List ExpandoProperty
+  each_declared ts = flat_map (item_properties around) ts
 
 -- ---- what agrees is seen alike
 
@@ -476,6 +509,35 @@ module _ (r : Renaming) (ok : IsRenaming r) where
   pub namespace_kinds : {a b : Surroundings} {p q : SourceRange} {t u : Tree} → SameNamespace r a b p q t u → Both TsModuleDecl t u
   namespace_kinds (h.SameNamespace.bodies d s) = d.kinds
 
+  -- the properties that items declare which agree
+  no_properties : {a b : Surroundings} (t u : Tree) → item_properties a t ≡ [] → item_properties b u ≡ [] →
+      PropertiesAlike r ok (item_properties a t) (item_properties b u)
+  no_properties t u e f = ap (map (moved_expando (partners r))) e ∙ sym (ap (map (moved_expando twice)) f)
+
+  declared_alike : {a b : Surroundings} {t u : Tree} → SameBindings r a.bindings b.bindings → a.is_ambient ≡ b.is_ambient → SameItem r a b t u →
+      PropertiesAlike r ok (item_properties a t) (item_properties b u)
+  declared_alike c m (h.SameItem.decl {a = a} {b = b} {t = t} {u = u} d) =
+      let e = decl_taken a b c m (range_of_node t) (range_of_node u) t u d in
+      no_properties {a = a} {b = b} t u (ap (properties_by_rule a t) (declared_rule (kind_of t) t e.0)) (ap (properties_by_rule b u) (declared_rule (kind_of u) u e.1))
+  declared_alike c m (h.SameItem.exported {a = a} {b = b} {t = t} {u = u} k s d) =
+      no_properties {a = a} {b = b} t u (ap (λ j. properties_by_rule a t (rule_of_kind j t)) k.left) (ap (λ j. properties_by_rule b u (rule_of_kind j u)) k.right)
+  declared_alike c m (h.SameItem.namespace {a = a} {b = b} {t = t} {u = u} d) =
+      let k = namespace_kinds d in
+      no_properties {a = a} {b = b} t u (ap (properties_by_rule a t) (namespace_rule t k.left)) (ap (properties_by_rule b u) (namespace_rule u k.right))
+  declared_alike c m (h.SameItem.exported_namespace {a = a} {b = b} {t = t} {u = u} k s d) =
+      no_properties {a = a} {b = b} t u (ap (λ j. properties_by_rule a t (rule_of_kind j t)) k.left) (ap (λ j. properties_by_rule b u (rule_of_kind j u)) k.right)
+  declared_alike c m (h.SameItem.linked {a = a} {b = b} {t = t} {u = u} d) =
+      let e = links_alike r ok a b t u d in
+      no_properties {a = a} {b = b} t u (ap (properties_by_rule a t) e.left) (ap (properties_by_rule b u) e.right)
+  declared_alike c m (h.SameItem.default {a = a} {b = b} {t = t} {u = u} d) =
+      let e = defaults_alike r ok a b c m t u d in
+      no_properties {a = a} {b = b} t u (ap (properties_by_rule a t) e.left) (ap (properties_by_rule b u) e.right)
+  declared_alike c m (h.SameItem.assigned {a = a} {b = b} {t = t} {u = u} d) =
+      subst₂ (λ x y. PropertiesAlike r ok (properties_by_rule a t x) (properties_by_rule b u y)) (sym (assigned_rule t d.kinds.left d.assignments.kinds.left))
+      (sym (assigned_rule u d.kinds.right d.assignments.kinds.right)) (properties_alike r ok a b (ExprStmt-expr t) (ExprStmt-expr u) d.assignments c)
+  declared_alike c m (h.SameItem.refused {a = a} {b = b} {t = t} {u = u} kind e f s) =
+      no_properties {a = a} {b = b} t u (ap (properties_by_rule a t) e) (ap (properties_by_rule b u) f)
+
   mutual
     pub item_alike : {a b : Surroundings} {t u : Tree} → SameBindings r a.bindings b.bindings → a.is_ambient ≡ b.is_ambient →
         SameItem r a b t u → AllAlike r ok (item_seen a t) (item_seen b u)
@@ -503,6 +565,10 @@ module _ (r : Renaming) (ok : IsRenaming r) where
         let e = defaults_alike r ok a b c m t u d in
         subst₂ (AllAlike r ok) (sym (item_seen_is a t)) (sym (item_seen_is b u))
         (subst₂ (λ x y. AllAlike r ok (seen_by_rule a t x) (seen_by_rule b u y)) (sym e.left) (sym e.right) e.alike)
+    item_alike c m (h.SameItem.assigned {a = a} {b = b} {t = t} {u = u} d) =
+        subst₂ (AllAlike r ok) (sym (item_seen_is a t)) (sym (item_seen_is b u))
+        (subst₂ (λ x y. AllAlike r ok (seen_by_rule a t x) (seen_by_rule b u y)) (sym (assigned_rule t d.kinds.left d.assignments.kinds.left))
+        (sym (assigned_rule u d.kinds.right d.assignments.kinds.right)) (assignments_alike r ok a b (ExprStmt-expr t) (ExprStmt-expr u) d.assignments c))
     item_alike c m (h.SameItem.refused {a = a} {b = b} {t = t} {u = u} kind e f s) =
         subst₂ (AllAlike r ok) (sym (item_seen_is a t)) (sym (item_seen_is b u))
         (subst₂ (λ x y. AllAlike r ok (seen_by_rule a t x) (seen_by_rule b u y)) (sym e) (sym f)
@@ -525,29 +591,31 @@ module _ (r : Renaming) (ok : IsRenaming r) where
 
     items_alike : {a b : Surroundings} {ts us : List Tree} → SameBindings r a.bindings b.bindings → a.is_ambient ≡ b.is_ambient →
         SameItems r a b ts us → AllAlike r ok (body_seen item_look a ts) (body_seen item_look b us)
-    items_alike c m h.SameItems.end = refl
-    items_alike c m (h.SameItems.left {a = a} {b = b} {t = t} {ts = ts} {us = us} q n rest) =
-        subst (λ xs. AllAlike r ok (xs ++ body_seen item_look a ts) (body_seen item_look b us)) (sym (silent_item a t q)) (items_alike c m rest)
-    items_alike c m (h.SameItems.right {a = a} {b = b} {u = u} {ts = ts} {us = us} q n rest) =
-        subst (λ xs. AllAlike r ok (body_seen item_look a ts) (xs ++ body_seen item_look b us)) (sym (silent_item b u q)) (items_alike c m rest)
-    items_alike c m (h.SameItems.next {a = a} {b = b} {t = t} {u = u} {ts = ts} {us = us} s rest) =
-        append_alike r ok (item_seen a t) (body_seen item_look a ts) (item_seen b u) (body_seen item_look b us)
-        (item_alike c m s) (items_alike c m rest)
+    items_alike {a = a} {b = b} {ts = ts} {us = us} c m s =
+        append_alike r ok (each_seen a ts) (namespaces_seen (each_declared a ts)) (each_seen b us) (namespaces_seen (each_declared b us)) (each_alike c m s)
+        (all_namespaces_alike r ok (each_declared a ts) (each_declared b us) (all_declared_alike c m s))
 
-  module _ (a b : Surroundings) where
-    visible_alike : (t u : Tree) → AgreeHidden r a b t u → AllAlike r ok (visible a t) (visible b u)
-    visible_alike t u g = items_alike g.bindings g.is_ambient g.items
+    each_alike : {a b : Surroundings} {ts us : List Tree} → SameBindings r a.bindings b.bindings → a.is_ambient ≡ b.is_ambient →
+        SameItems r a b ts us → AllAlike r ok (each_seen a ts) (each_seen b us)
+    each_alike c m h.SameItems.end = refl
+    each_alike c m (h.SameItems.left {a = a} {b = b} {t = t} {ts = ts} {us = us} q n rest) =
+        subst (λ xs. AllAlike r ok (xs ++ each_seen a ts) (each_seen b us)) (sym (silent_item a t q)) (each_alike c m rest)
+    each_alike c m (h.SameItems.right {a = a} {b = b} {u = u} {ts = ts} {us = us} q n rest) =
+        subst (λ xs. AllAlike r ok (each_seen a ts) (xs ++ each_seen b us)) (sym (silent_item b u q)) (each_alike c m rest)
+    each_alike c m (h.SameItems.next {a = a} {b = b} {t = t} {u = u} {ts = ts} {us = us} s rest) =
+        append_alike r ok (item_seen a t) (each_seen a ts) (item_seen b u) (each_seen b us) (item_alike c m s) (each_alike c m rest)
 
-    -- ---- answers
+    all_declared_alike : {a b : Surroundings} {ts us : List Tree} → SameBindings r a.bindings b.bindings → a.is_ambient ≡ b.is_ambient →
+        SameItems r a b ts us → PropertiesAlike r ok (each_declared a ts) (each_declared b us)
+    all_declared_alike c m h.SameItems.end = refl
+    all_declared_alike c m (h.SameItems.left {a = a} {b = b} {t = t} {ts = ts} {us = us} q n rest) =
+        subst (λ xs. PropertiesAlike r ok (xs ++ each_declared a ts) (each_declared b us)) (sym (silent_properties a t q)) (all_declared_alike c m rest)
+    all_declared_alike c m (h.SameItems.right {a = a} {b = b} {u = u} {ts = ts} {us = us} q n rest) =
+        subst (λ xs. PropertiesAlike r ok (each_declared a ts) (xs ++ each_declared b us)) (sym (silent_properties b u q)) (all_declared_alike c m rest)
+    all_declared_alike c m (h.SameItems.next {a = a} {b = b} {t = t} {u = u} {ts = ts} {us = us} s rest) =
+        more_properties r ok (item_properties a t) (each_declared a ts) (item_properties b u) (each_declared b us) (declared_alike c m s) (all_declared_alike c m rest)
 
-    fault_from : (f g : Fault) → moved_fault (partners r) f ≡ moved_fault twice g → SameFault r f g
-    fault_from f g e = record { kind = ap (λ x. x.kind) e; range = range_from r ok f.range g.range (ap (λ x. x.range) e) }
-
-    faults_from : (xs ys : List Fault) → map (moved_fault (partners r)) xs ≡ map (moved_fault twice) ys → Each (SameFault r) xs ys
-    faults_from [] [] e = tt
-    faults_from (x ∷ xs) (y ∷ ys) e = (fault_from x y cc, faults_from xs ys cc)
-    faults_from [] (y ∷ ys) e = cc
-    faults_from (x ∷ xs) [] e = cc
+ faults_from (x ∷ xs) [] e = cc
 
     abbrev module_parts : Surroundings → Tree → List Tree
     module_parts around t = tree.Range (Module-span t) ∷ list (transformed around t).stays ∷ Module-shebang t ∷ []

@@ -45,10 +45,10 @@ use Rattle.fast_check_skeleton.specs.Kinds.{is_standing}
 use Rattle.fast_check_skeleton.specs.declared.rules.DefaultRule.{DefaultRule}
 use Rattle.fast_check_skeleton.specs.declared.rules.DefaultRule.TheVariants.{Value, Class, Function, Interface}
 use Rattle.fast_check_skeleton.specs.declared.rules.ItemRule.{ItemRule}
-use Rattle.fast_check_skeleton.specs.declared.rules.ItemRule.TheVariants.{Declared, Exported, Linked, Default, Refused}
+use Rattle.fast_check_skeleton.specs.declared.rules.ItemRule.TheVariants.{Declared, Exported, Linked, Default, Refused, Assigned}
 use Rattle.fast_check_skeleton.specs.declared.rules.DeclRule.TheVariants.{Namespace}
 use Rattle.fast_check_skeleton.specs.Rules.{decl_rule, default_rule, rule_of_kind, item_rule}
-use Rattle.fast_check_skeleton.proofs.Ruled.{rule_by_kind, default_by_kind, declared_rule, silent_rule, namespace_rule, exported_namespace_rule}
+use Rattle.fast_check_skeleton.proofs.Ruled.{assigned_rule, rule_by_kind, default_by_kind, declared_rule, silent_rule, namespace_rule, exported_namespace_rule}
 use Rattle.fast_check_skeleton.proofs.Namespaces.{innermost_block, innermost_inner, removed_start_is, global_no_namespace, ambient_no_namespace}
 use Rattle.fast_check_skeleton.proofs.AgreeingLinks.{silent_link, links_alike}
 use Rattle.fast_check_skeleton.proofs.AgreeingDefaults.{silent_default, defaults_alike}
@@ -148,6 +148,8 @@ silent_inside around t (h.IsSilent.decl s) =
 silent_inside around t (h.IsSilent.statement s) = ap (starts_inside around t) (silent_rule t s)
 silent_inside around t (h.IsSilent.exported k s) =
     ap (λ j. starts_inside around t (rule_of_kind j t)) k ∙ silent_decl_inside around (ExportDecl-span t) (ExportDecl-decl t) s
+silent_inside around t (h.IsSilent.assigned k n e) =
+    ap (starts_inside around t) (assigned_rule t k n) ∙ ap (λ b. if b then (range_of_node t).start ∷ [] else []) e
 silent_inside around t (h.IsSilent.linked s) = ap (starts_inside around t) (silent_link around t s).is
 silent_inside around t (h.IsSilent.default s) =
     let e = silent_default around t s in ap (starts_inside around t) e.is ∙ silent_default_inside around t e.rule e.goes
@@ -201,6 +203,7 @@ silent_below around t (h.IsSilent.decl s) =
 silent_below around t (h.IsSilent.statement s) = ap (starts_below start_look around t) (silent_rule t s)
 silent_below around t (h.IsSilent.exported k s) =
     ap (λ j. starts_below start_look around t (rule_of_kind j t)) k ∙ silent_decl_below around (ExportDecl-span t) (ExportDecl-decl t) s
+silent_below around t (h.IsSilent.assigned k n e) = ap (starts_below start_look around t) (assigned_rule t k n)
 silent_below around t (h.IsSilent.linked s) = ap (starts_below start_look around t) (silent_link around t s).is
 silent_below around t (h.IsSilent.default s) = ap (starts_below start_look around t) (silent_default around t s).is
 
@@ -245,6 +248,7 @@ module _ (r : Renaming) (ok : IsRenaming r) where
         subst₂ (SameRange r) (sym (range_of_export t k.left)) (sym (range_of_export u k.right)) s
     item_begins c m t u (h.SameItem.linked d) = (links_alike r ok a b t u d).begins
     item_begins c m t u (h.SameItem.default d) = (defaults_alike r ok a b c m t u d).begins
+    item_begins c m t u (h.SameItem.assigned d) = d.range
     item_begins c m t u (h.SameItem.refused kind e f s) = s
 
     -- ---- where what goes begins
@@ -364,6 +368,10 @@ module _ (r : Renaming) (ok : IsRenaming r) where
           by_rules t u (Exported Namespace) (exported_namespace_rule t k.left n.left) (exported_namespace_rule u k.right n.right) refl
       item_inside c m t u (h.SameItem.linked d) = let e = links_alike r ok a b t u d in by_rules t u (Linked e.rule) e.left e.right refl
       item_inside c m t u (h.SameItem.default d) = default_inside t u d
+      item_inside c m t u (h.SameItem.assigned d) =
+          by_rules t u Assigned (assigned_rule t d.kinds.left d.assignments.kinds.left) (assigned_rule u d.kinds.right d.assignments.kinds.right)
+          (among_if _ _ ((range_of_node t).start ∷ []) ((range_of_node u).start ∷ []) d.assignments.is_public
+          (ap (λ n. n || false) (one_start r ok p q (range_of_node t).start.0 (range_of_node u).start.0 pair d.range.start)))
       item_inside c m t u (h.SameItem.refused kind e f s) = by_rules t u (Refused kind) e f refl
 
       -- of declarations that are no namespaces nothing goes below
@@ -451,6 +459,9 @@ module _ (r : Renaming) (ok : IsRenaming r) where
           let e = links_alike r ok a b t u d in below_by_rules a b p q pair t u (Linked e.rule) e.left e.right refl
       item_below c m (h.SameItem.default {a = a} {b = b} {t = t} {u = u} d) =
           let e = defaults_alike r ok a b c m t u d in below_by_rules a b p q pair t u (Default e.rule) e.left e.right refl
+      item_below c m (h.SameItem.assigned {a = a} {b = b} {t = t} {u = u} d) =
+          below_by_rules a b p q pair t u Assigned (assigned_rule t d.kinds.left d.assignments.kinds.left)
+          (assigned_rule u d.kinds.right d.assignments.kinds.right) refl
       item_below c m (h.SameItem.refused {a = a} {b = b} {t = t} {u = u} kind e f s) = below_by_rules a b p q pair t u (Refused kind) e f refl
 
       namespaces_removed : {a b : Surroundings} {x y : SourceRange} {t u : Tree} → SameBindings r a.bindings b.bindings →

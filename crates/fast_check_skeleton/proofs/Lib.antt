@@ -2,10 +2,12 @@ pub mod Ruled
 pub mod Namespaces
 pub mod ItemRanges
 pub mod RemovedMembers
+pub mod AgreeingAssignments
 pub mod AgreeingLinks
 pub mod AgreeingDefaults
 pub mod Agreeing
 pub mod CommentsAlike
+pub mod StandingExpandos
 pub mod StandingNamespaces
 pub mod Standing
 pub mod HashMarked

@@ -12,7 +12,7 @@ use Rattle.fast_check_signatures.specs.declared.fault.FaultKind.TheVariants.{Uns
 use Rattle.fast_check_skeleton.specs.declared.rules.DeclRule.{DeclRule}
 use Rattle.fast_check_skeleton.specs.declared.rules.DeclRule.TheVariants.{Function, Class, Standing, Namespace}
 use Rattle.fast_check_skeleton.specs.declared.rules.ItemRule.{ItemRule}
-use Rattle.fast_check_skeleton.specs.declared.rules.ItemRule.TheVariants.{Declared, Exported, Linked, Refused, Silent}
+use Rattle.fast_check_skeleton.specs.declared.rules.ItemRule.TheVariants.{Declared, Exported, Linked, Refused, Silent, Assigned}
 use Rattle.fast_check_skeleton.specs.declared.rules.LinkRule.TheVariants.{Alias}
 use Rattle.fast_check_skeleton.specs.Hidden.{is_plain_statement}
 use Rattle.fast_check_skeleton.specs.Kinds.{is_standing, is_statement}
@@ -80,6 +80,10 @@ namespace_rule t e = rule_by_kind t kinds.TsModuleDecl e
 
 pub exported_namespace_rule : (t : Tree) → kind_of t ≡ kinds.ExportDecl → kind_of (ExportDecl-decl t) ≡ kinds.TsModuleDecl → item_rule t ≡ Exported Namespace
 exported_namespace_rule t e d = rule_by_kind t kinds.ExportDecl e ∙ ap (λ k. Exported (decl_rule k)) d
+
+-- of an assignment that is a statement
+pub assigned_rule : (t : Tree) → kind_of t ≡ kinds.ExprStmt → kind_of (ExprStmt-expr t) ≡ kinds.AssignExpr → item_rule t ≡ Assigned
+assigned_rule t e d = rule_by_kind t kinds.ExprStmt e ∙ ap expr_stmt_rule d
 
 -- a declaration that is taken is an item of its own
 pub declared_rule : (k : Kind) (t : Tree) → is_taken_decl (decl_rule k) ≡ true → rule_of_kind k t ≡ Declared (decl_rule k)

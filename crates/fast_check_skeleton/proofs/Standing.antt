@@ -1,7 +1,7 @@
 -- A skeleton stands in the grammar: where there is no fault, each declarator has its type.
-use Rattle.std.specs.Prelude.{◌≡◌, Bool, true, false, not, ◌&&◌, ◌||◌, IsTrue, ◌⊎◌, Option, Some, None, List, [], ◌∷◌, flat_map, refl}
+use Rattle.std.specs.Prelude.{◌≡◌, ℕ, zero, suc, ◌<◌, ◌≤◌, Bool, true, false, not, ◌&&◌, ◌||◌, IsTrue, ◌⊎◌, Option, Some, None, List, [], ◌∷◌, flat_map, refl}
 use Rattle.std.specs.Prelude.{if◌then◌else◌}
-use Rattle.std.proofs.Common.{ap, ◌∙◌, sym, subst, subst₂, inl, inr, append-nil}
+use Rattle.std.proofs.Common.{arith, ap, ◌∙◌, sym, subst, subst₂, inl, inr, append-nil}
 use Rattle.fast_check_syntax.specs.declared.kind.Kind.{Kind}
 use Rattle.fast_check_syntax.specs.declared.kind.Kind.TheVariants as kinds
 use Rattle.fast_check_syntax.specs.declared.kind.Kind.TheVariants.{Module, VarDecl, FnDecl, ClassDecl, ExportDecl, ExportDefaultDecl}
@@ -69,24 +69,18 @@ use Rattle.fast_check_skeleton.specs.Skeleton.{transformed, skeleton_of, faults_
 use Rattle.fast_check_skeleton.specs.Grammar.{HasTypedValue, IsTypedDeclarator, IsTypedStatement, IsTypedFunctionDecl, IsTypedClassDecl, IsTypedDecl}
 use Rattle.fast_check_skeleton.specs.Grammar.{IsTypedDefaultDecl, IsLink, IsPlainItem, IsTypedItem, IsTypedNamespace, AllTypedItems, IsSkeleton}
 use Rattle.fast_check_skeleton.specs.Grammar as g
-use Rattle.fast_check_skeleton.proofs.StandingNamespaces.{namespace_is, items_stand, namespace_typed}
+use Rattle.fast_check_skeleton.proofs.StandingNamespaces.{namespace_is, namespace_typed}
+use Rattle.fast_check_skeleton.proofs.StandingExpandos.{typed, all_below, body_stands}
+use Rattle.fast_check_skeleton.proofs.Namespaces.{item_seen_is, items_below}
+use Rattle.fast_check_syntax.specs.Height.{height, height_at_most}
+use Rattle.fast_check_expandos.specs.Assignments.{right_seen, missing_place}
+use Rattle.fast_check_expression_forms.specs.Operators.{AssignExpr-span}
+use Rattle.fast_check_statement_forms.specs.Statements.{ExprStmt-expr}
+use Rattle.fast_check_signatures.specs.Answers.{tested_answer}
+use Rattle.fast_check_signatures.specs.Seen.{tested}
 use Rattle.fast_check_skeleton.proofs.Ruled.{standing_kind, function_kind}
 
 -- ---- declarators
-
--- a declarator of an identifier with a type and a value that go together
-typed : (bindings : Bindings) (span : SourceRange) (ident : Tree) (definite : Bool) (type value : Tree) → HasTypedValue bindings type value →
-    IsTypedDeclarator bindings (var_declarator span (binding_ident ident type) value definite)
-typed bindings span ident definite type value e =
-    let made = var_declarator span (binding_ident ident type) value definite in
-    let name : VarDeclarator-name made ≡ binding_ident ident type = part_node _ _ _ in
-    let of_type : BindingIdent-type_ann (binding_ident ident type) ≡ type = part_node _ _ _ in
-    let of_value : VarDeclarator-init made ≡ value = part_node _ _ _ in
-    record {
-      kind = kind_of_node _ _;
-      name = ap kind_of name ∙ kind_of_node BindingIdent (ident ∷ type ∷ []);
-      value = subst₂ (HasTypedValue bindings) (sym (ap BindingIdent-type_ann name ∙ of_type)) (sym of_value) e;
-    }
 
 module _ (around : Surroundings) (mutability : DeclMutabilityKind) (d : Tree) where
   abbrev name_place : SourceRange
@@ -309,21 +303,18 @@ module _ (around : Surroundings) where
   decl_stays look place decl Using q n = all_if IsDecl (is_public_using around place decl) (faulty UnsupportedUsing (using_place decl)) (λ f. not_empty f)
   decl_stays look place decl Untaken q n = tt
 
-  -- namespaces, where what is seen of the items inside stays
-  namespace_stays : (look : ItemLook) → ((u : Tree) (here : Surroundings) → AllStay (IsTypedItem here.bindings here.is_ambient) (look u here)) →
-      (place : SourceRange) (decl : Tree) → AllStay IsNamespace (namespace_seen look around place decl)
-  namespace_stays look h place decl = go (TsModuleDecl-global decl) (is_ambient_module decl) refl refl
+  -- namespaces, where what is seen of the lower items stays
+  namespace_stays : (limit : ℕ) → ((u : Tree) (here : Surroundings) → height u < limit → AllStay (IsTypedItem here.bindings here.is_ambient) (item_look u here)) →
+      (place : SourceRange) (decl : Tree) → height decl ≤ limit → AllStay IsNamespace (namespace_seen item_look around place decl)
+  namespace_stays limit h place decl low = go (TsModuleDecl-global decl) (is_ambient_module decl) refl refl
     where
       items : List Seen
-      items = body_seen look (inside around decl) (items_inside decl)
-
-      all_typed : AllStay (IsTypedItem around.bindings (around.is_ambient || TsModuleDecl-declare decl)) items
-      all_typed = all_flat (IsTypedItem around.bindings (around.is_ambient || TsModuleDecl-declare decl)) (λ u. look u (inside around decl))
-          (items_inside decl) (λ u. h u (inside around decl))
+      items = body_seen item_look (inside around decl) (items_inside decl)
 
       stays : is_namespace decl ≡ true → Stays IsNamespace (answer_to (namespace_round items decl))
       stays e = subst (Stays IsNamespace) (sym (namespace_is items decl)) (λ f. namespace_typed around.bindings around.is_ambient decl (answer_of items).stays
-          e (items_stand around.bindings (around.is_ambient || TsModuleDecl-declare decl) items all_typed f))
+          e (body_stands (inside around decl) (items_inside decl) (all_below (IsTypedItem around.bindings (around.is_ambient || TsModuleDecl-declare decl))
+          (λ u. item_look u (inside around decl)) limit (items_inside decl) (items_below limit decl low) (λ u l. h u (inside around decl) l)) f))
 
       go : (x y : Bool) → TsModuleDecl-global decl ≡ x → is_ambient_module decl ≡ y → AllStay IsNamespace
           (if x then faulty UnsupportedGlobalModule (TsModuleDecl-span decl) ∷ []
@@ -578,36 +569,43 @@ module _ (around : Surroundings) where
   as_items : (ss : List Seen) → AllStay IsPlain ss → AllStay IsItem ss
   as_items ss p = all_weaker IsPlain IsItem (λ t h. g.IsTypedItem.plain h) ss p
 
--- an item, where what is seen of the items inside stays
-module _ (look : ItemLook) (stay : (u : Tree) (here : Surroundings) → AllStay (IsTypedItem here.bindings here.is_ambient) (look u here)) (around : Surroundings)
-    (item : Tree) where
+-- an item, where what is seen of the lower items stays
+module _ (limit : ℕ) (stay : (u : Tree) (here : Surroundings) → height u < limit → AllStay (IsTypedItem here.bindings here.is_ambient) (item_look u here))
+    (around : Surroundings) (item : Tree) (low : height item ≤ limit) where
   abbrev Form : ItemRule → Type 0
-  Form rule = AllStay (IsItem around) (form_by_rule look around item rule)
+  Form rule = AllStay (IsItem around) (form_by_rule item_look around item rule)
+
+  nothing_stays : (place : Option SourceRange) (a : Answer (Option Tree)) → Stays (IsItem around) (tested_answer place a)
+  nothing_stays None a f = tt
+  nothing_stays (Some place) a f = tt
 
   expression : (k : Kind) → Form (expr_stmt_rule k)
-  expression kinds.AssignExpr = tt
+  expression kinds.AssignExpr =
+      let assignment = ExprStmt-expr item in
+      all_if (IsItem around) (around.is_public (AssignExpr-span assignment)) (tested (missing_place around.objects assignment) (right_seen around.bindings assignment))
+      (nothing_stays (missing_place around.objects assignment) (answer_to (right_seen around.bindings assignment)))
   expression _ = tt
 
   declared : (k : Kind) → kind_of item ≡ k → is_plain around (decl_rule k) ≡ true → Form (Declared (decl_rule k))
   declared k q n =
-      let ss = decl_form look around (range_of_node item) item (decl_rule k) in
+      let ss = decl_form item_look around (range_of_node item) item (decl_rule k) in
       as_items around ss (all_weaker (IsDecl around) (IsPlain around) (λ t h. inl h) ss
-      (decl_stays around look (range_of_node item) item (decl_rule k) (ap decl_rule q) n))
+      (decl_stays around item_look (range_of_node item) item (decl_rule k) (ap decl_rule q) n))
 
   export_of : (k : Kind) → kind_of (ExportDecl-decl item) ≡ k → is_plain around (decl_rule k) ≡ true → Form (Exported (decl_rule k))
   export_of k q n =
       let place = ExportDecl-span item in
       let decl = ExportDecl-decl item in
-      let ss = decl_form look around place decl (decl_rule k) in
+      let ss = decl_form item_look around place decl (decl_rule k) in
       as_items around (exported_seen item ss) (export_stays around (IsDecl around) (IsPlain around) item (exported_stays around item) ss
-      (form_one around look place decl (decl_rule k)) (decl_stays around look place decl (decl_rule k) (ap decl_rule q) n))
+      (form_one around item_look place decl (decl_rule k)) (decl_stays around item_look place decl (decl_rule k) (ap decl_rule q) n))
 
   exports : (k : Kind) → kind_of (ExportDecl-decl item) ≡ k → Form (Exported (decl_rule k))
   exports kinds.TsModuleDecl q =
       let place = ExportDecl-span item in
       let decl = ExportDecl-decl item in
-      export_stays around (IsNamespace around) (IsItem around) item (exported_namespace_stays around item) (namespace_seen look around place decl)
-      (namespace_one around look place decl) (namespace_stays around look stay place decl)
+      export_stays around (IsNamespace around) (IsItem around) item (exported_namespace_stays around item) (namespace_seen item_look around place decl)
+      (namespace_one around item_look place decl) (namespace_stays around limit stay place decl (omega (arith, height_at_most item 1, low)))
   exports k q = export_of k q refl
 
   form_stays : (k : Kind) → kind_of item ≡ k → Form (rule_of_kind k item)
@@ -630,15 +628,18 @@ module _ (look : ItemLook) (stay : (u : Tree) (here : Surroundings) → AllStay 
       default_form _ d = tt
   form_stays kinds.ExprStmt q = expression (kind_of (ExprStmt-expr item))
   form_stays kinds.TsModuleDecl q =
-      all_weaker (IsNamespace around) (IsItem around) (λ t h. g.IsTypedItem.declared h) (namespace_seen look around (range_of_node item) item)
-      (namespace_stays around look stay (range_of_node item) item)
+      all_weaker (IsNamespace around) (IsItem around) (λ t h. g.IsTypedItem.declared h) (namespace_seen item_look around (range_of_node item) item)
+      (namespace_stays around limit stay (range_of_node item) item low)
   form_stays k q = declared k q refl
 
 -- so each item stays
+up_to : (n : ℕ) (item : Tree) (around : Surroundings) → height item < n → AllStay (IsItem around) (item_seen around item)
+up_to zero item around h = absurd (omega arith)
+up_to (suc n) item around h = subst (AllStay (IsItem around)) (sym (item_seen_is around item))
+    (form_stays (height item) (λ u here l. up_to n u here (omega (arith, l, h))) around item (omega arith) (kind_of item) refl)
+
 item_stays : (item : Tree) (around : Surroundings) → AllStay (IsItem around) (item_seen around item)
-unfolding item_look
-item_stays = by_descent_holds (λ around. []) item_form (λ f. (around : Surroundings) → AllStay (IsItem around) (f around)) (λ around. tt)
-    (λ item look stay around. form_stays look stay around item (kind_of item) refl)
+item_stays item around = up_to (suc (height item)) item around (omega arith)
 
 module _ (around : Surroundings) where
   abbrev module_parts : Tree → List Tree
@@ -649,6 +650,6 @@ module _ (around : Surroundings) where
     kind = kind_of_node Module (module_parts program);
     items = subst (AllTypedItems around.bindings around.is_ambient)
         (sym (ap parts (part_node _ Module (module_parts program)) ∙ parts_node List' (transformed around program).stays))
-        (items_stand around.bindings around.is_ambient (visible around program)
+        (body_stands around (items_of program)
         (all_flat (IsItem around) (λ item. item_look item around) (items_of program) (λ item. item_stays item around)) e);
   }

@@ -20,6 +20,7 @@ use Rattle.fast_check_signatures.specs.Answers.{declared_property}
 use Rattle.fast_check_signatures.specs.Bindings.{Bindings}
 use Rattle.fast_check_signatures.specs.NewNodes.{no_scope, new_block, ident_name}
 use Rattle.fast_check_skeleton.specs.Example.{at}
+use Rattle.fast_check_expandos.specs.Objects.{no_objects}
 use Rattle.fast_check_skeleton.specs.Surroundings.{Surroundings}
 use Rattle.fast_check_skeleton.specs.Hidden.{AgreeHidden}
 use Rattle.fast_check_skeleton.specs.Skeleton.{skeleton_of}
@@ -81,6 +82,7 @@ all_public = record {
   bindings = no_classes;
   is_ambient = false;
   relative = λ text. None;
+  objects = no_objects;
 }
 
 -- `declare private m: any;`

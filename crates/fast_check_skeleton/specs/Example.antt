@@ -24,6 +24,7 @@ use Rattle.fast_check_statement_forms.specs.Statements.{block_stmt}
 use Rattle.fast_check_type_forms.specs.Types.{ts_keyword_type}
 use Rattle.fast_check_type_forms.specs.TypeParams.{ts_type_ann}
 use Rattle.fast_check_helpers.specs.Builders.{never_value}
+use Rattle.fast_check_expandos.specs.Objects.{no_objects}
 use Rattle.fast_check_skeleton.specs.Surroundings.{Surroundings}
 use Rattle.fast_check_skeleton.specs.KeptComments.{kept_comments}
 use Rattle.fast_check_skeleton.specs.SameComments.{SameComments}
@@ -115,6 +116,7 @@ around place = record {
   bindings = record { unresolved = scope 1; is_plain_class = λ id. false };
   is_ambient = false;
   relative = λ text. None;
+  objects = no_objects;
 }
 
 -- They agree, and so the law says that their answers are the same: the first is `/** x */ export const x: string = {} as never;`.

@@ -21,6 +21,7 @@ use Rattle.fast_check_statement_forms.specs.Declarations.{UsingDecl-span}
 use Rattle.fast_check_statement_forms.specs.Declarations.{VarDecl-span, VarDecl-ctxt, VarDecl-kind, VarDecl-declare, VarDecl-decls}
 use Rattle.fast_check_statement_forms.specs.Declarations.{VarDeclarator-span, VarDeclarator-name, VarDeclarator-init, VarDeclarator-definite}
 use Rattle.fast_check_statement_forms.specs.Statements.{ExprStmt-expr}
+use Rattle.fast_check_expression_forms.specs.Operators.{AssignExpr-span}
 use Rattle.fast_check_statement_forms.specs.TsDeclarations.{TsModuleDecl-span, TsModuleDecl-declare, TsModuleDecl-global, TsModuleDecl-namespace}
 use Rattle.fast_check_statement_forms.specs.TsDeclarations.{TsModuleDecl-id, TsModuleDecl-body, TsModuleBlock-span, TsNamespaceDecl-span}
 use Rattle.fast_check_statement_forms.specs.TsDeclarations.{TsNamespaceDecl-declare, TsNamespaceDecl-global, TsNamespaceDecl-id, TsNamespaceDecl-body}
@@ -33,6 +34,7 @@ use Rattle.fast_check_signatures.specs.declared.fault.FaultKind.{FaultKind}
 use Rattle.fast_check_skeleton.specs.declared.rules.ItemRule.TheVariants.{Refused}
 use Rattle.fast_check_skeleton.specs.Rules.{item_rule}
 use Rattle.fast_check_skeleton.specs.SameDefaults.{IsSilentDefault, SameDefault}
+use Rattle.fast_check_skeleton.specs.SameAssignments.{SameAssigned}
 use Rattle.fast_check_skeleton.specs.SameLinks.{IsSilentLink, SamePublic, SameLink}
 use Rattle.fast_check_skeleton.specs.Surroundings.{Surroundings, inside}
 use Rattle.fast_check_skeleton.specs.Visible.{declared_ident, declared_type, is_ambient_statement, is_public_declarator, is_ambient_class, is_public_using}
@@ -64,6 +66,9 @@ pub data IsSilent (around : Surroundings) : Tree → Type 0 where
   -- a statement that declares and assigns nothing
   statement : {t : Tree} → is_plain_statement t ≡ true → IsSilent around t
   exported : {t : Tree} → kind_of t ≡ ExportDecl → IsSilentDecl around (ExportDecl-span t) (ExportDecl-decl t) → IsSilent around t
+  -- an assignment that is not public
+  assigned : {t : Tree} → kind_of t ≡ ExprStmt → kind_of (ExprStmt-expr t) ≡ AssignExpr → around.is_public (AssignExpr-span (ExprStmt-expr t)) ≡ false →
+      IsSilent around t
   linked : {t : Tree} → IsSilentLink around t → IsSilent around t
   default : {t : Tree} → IsSilentDefault around t → IsSilent around t
 
@@ -181,6 +186,7 @@ module _ (r : Renaming) where
           SameNamespace a b (ExportDecl-span t) (ExportDecl-span u) (ExportDecl-decl t) (ExportDecl-decl u) → SameItem a b t u
       linked : {a b : Surroundings} {t u : Tree} → SameLink r a b t u → SameItem a b t u
       default : {a b : Surroundings} {t u : Tree} → SameDefault r a b t u → SameItem a b t u
+      assigned : {a b : Surroundings} {t u : Tree} → SameAssigned r a b t u → SameItem a b t u
       -- items that no skeleton has, for one reason
       refused : {a b : Surroundings} {t u : Tree} (kind : FaultKind) → item_rule t ≡ Refused kind → item_rule u ≡ Refused kind →
           SameRange r (range_of_node t) (range_of_node u) → SameItem a b t u

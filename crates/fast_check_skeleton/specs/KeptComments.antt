@@ -12,6 +12,8 @@ use Rattle.fast_check_comments.specs.Kept.{kept, without_leading}
 use Rattle.fast_check_ranges.specs.Ranges.{range_of_node}
 use Rattle.fast_check_class_forms.specs.Classes.{Class-body}
 use Rattle.fast_check_expression_forms.specs.Expressions.{ClassExpr-class}
+use Rattle.fast_check_expression_forms.specs.Operators.{AssignExpr-span}
+use Rattle.fast_check_statement_forms.specs.Statements.{ExprStmt-expr}
 use Rattle.fast_check_program_forms.specs.ModuleDecls.{ExportDecl-span, ExportDecl-decl, ExportDefaultDecl-span, ExportDefaultDecl-decl}
 use Rattle.fast_check_statement_forms.specs.Declarations.{ClassDecl-class}
 use Rattle.fast_check_signatures.specs.Members.{removed_members}
@@ -21,7 +23,7 @@ use Rattle.fast_check_skeleton.specs.Surroundings.{Surroundings, inside}
 use Rattle.fast_check_skeleton.specs.declared.rules.DeclRule.{DeclRule}
 use Rattle.fast_check_skeleton.specs.declared.rules.DeclRule.TheVariants.{Class, Namespace}
 use Rattle.fast_check_skeleton.specs.declared.rules.ItemRule.{ItemRule}
-use Rattle.fast_check_skeleton.specs.declared.rules.ItemRule.TheVariants.{Declared, Exported, Default}
+use Rattle.fast_check_skeleton.specs.declared.rules.ItemRule.TheVariants.{Declared, Exported, Default, Assigned}
 use Rattle.fast_check_skeleton.specs.declared.rules.DefaultRule.{DefaultRule}
 use Rattle.fast_check_skeleton.specs.declared.rules.DefaultRule.TheVariants as defaults
 use Rattle.fast_check_skeleton.specs.Rules.{item_rule}
@@ -52,11 +54,16 @@ starts_in_default around item defaults.Class =
     if around.is_public (ExportDefaultDecl-span item) then starts_of_removed (ClassExpr-class (ExportDefaultDecl-decl item)) else []
 starts_in_default around item _ = []
 
+-- the start of an assignment that is tested: nothing stays of it
+abbrev pub start_of_tested : Surroundings → Tree → Tree → List SourcePos
+start_of_tested around item assignment = if around.is_public (AssignExpr-span assignment) then (range_of_node item).start ∷ [] else []
+
 -- inside of an item
 abbrev pub starts_inside : Surroundings → Tree → ItemRule → List SourcePos
 starts_inside around item (Declared rule) = starts_in_decl around (range_of_node item) item rule
 starts_inside around item (Exported rule) = starts_in_decl around (ExportDecl-span item) (ExportDecl-decl item) rule
 starts_inside around item (Default rule) = starts_in_default around item rule
+starts_inside around item Assigned = start_of_tested around item (ExprStmt-expr item)
 starts_inside around item _ = []
 
 -- what goes of a lower item inside of an item, in surroundings

@@ -11,6 +11,7 @@ pub mod Grammar
 pub mod KeptComments
 pub mod Carried
 pub mod SameComments
+pub mod SameAssignments
 pub mod SameLinks
 pub mod SameDefaults
 pub mod Hidden

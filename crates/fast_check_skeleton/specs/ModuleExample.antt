@@ -18,6 +18,7 @@ use Rattle.fast_check_skeleton.specs.Example.{at}
 use Rattle.fast_check_skeleton.specs.Hidden.{AgreeHidden}
 use Rattle.fast_check_skeleton.specs.SameLinks.{SameSource}
 use Rattle.fast_check_skeleton.specs.Skeleton.{skeleton_of}
+use Rattle.fast_check_expandos.specs.Objects.{no_objects}
 use Rattle.fast_check_skeleton.specs.Surroundings.{Surroundings}
 
 -- a specifier of a name at a place
@@ -62,6 +63,7 @@ around = record {
   bindings = no_classes;
   is_ambient = false;
   relative = λ text. Some resolved;
+  objects = no_objects;
 }
 
 -- the same, where sources stand as they are written
@@ -72,6 +74,7 @@ unresolving = record {
   bindings = no_classes;
   is_ambient = false;
   relative = λ text. None;
+  objects = no_objects;
 }
 
 abbrev pub answered : Tree

@@ -12,7 +12,7 @@ use Rattle.fast_check_signatures.specs.declared.fault.FaultKind.TheVariants.{Uns
 use Rattle.fast_check_skeleton.specs.declared.rules.DefaultRule.TheVariants as defaults
 use Rattle.fast_check_skeleton.specs.declared.rules.LinkRule.TheVariants as links
 use Rattle.fast_check_skeleton.specs.declared.rules.ItemRule.{ItemRule}
-use Rattle.fast_check_skeleton.specs.declared.rules.ItemRule.TheVariants.{Declared, Exported, Linked, Default, Refused, Silent}
+use Rattle.fast_check_skeleton.specs.declared.rules.ItemRule.TheVariants.{Declared, Exported, Linked, Default, Refused, Assigned, Silent}
 
 -- what is done with a declaration of a kind
 abbrev pub decl_rule : Kind → DeclRule
@@ -26,9 +26,9 @@ decl_rule kinds.TsModuleDecl = Namespace
 decl_rule kinds.UsingDecl = Using
 decl_rule _ = Untaken
 
--- what is done with an expression that is a statement, by its kind: an assignment is not taken so far
+-- what is done with an expression that is a statement, by its kind
 abbrev pub expr_stmt_rule : Kind → ItemRule
-expr_stmt_rule kinds.AssignExpr = Declared Untaken
+expr_stmt_rule kinds.AssignExpr = Assigned
 expr_stmt_rule _ = Silent
 
 -- what is done with the default export of a declaration of a kind

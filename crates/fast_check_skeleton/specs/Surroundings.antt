@@ -2,6 +2,7 @@
 use Rattle.std.specs.Prelude.{ℕ, Bool, ◌||◌, Option, List}
 use Rattle.fast_check_syntax.specs.declared.source.SourceRange.{SourceRange}
 use Rattle.fast_check_signatures.specs.Bindings.{Bindings}
+use Rattle.fast_check_expandos.specs.Objects.{Objects}
 use Rattle.fast_check_syntax.specs.declared.tree.Tree.{Tree}
 use Rattle.fast_check_statement_forms.specs.TsDeclarations.{TsModuleDecl-declare}
 
@@ -16,6 +17,8 @@ pub record Surroundings : Type 0 where
   pub is_ambient : Bool
   -- the text that stands in a skeleton for a source of imports or exports, where it is another one: a text that begins with `.`, where the graph resolves it
   pub relative : List ℕ → Option (List ℕ)
+  -- what is known of the objects of expando properties
+  pub objects : Objects
 
 -- the same, but for whether all is ambient
 abbrev pub with_ambient : Bool → Surroundings → Surroundings
@@ -25,6 +28,7 @@ with_ambient is_ambient around = record {
   bindings = around.bindings;
   is_ambient = is_ambient;
   relative = around.relative;
+  objects = around.objects;
 }
 
 -- what surrounds the items of a namespace: inside of one with `declare` all is ambient

@@ -1,6 +1,6 @@
 -- Stage 1 of the meaning of a transform: what is seen of a module.
 -- All that is asked outside the tree is asked here. What follows sees nothing that is hidden.
-use Rattle.std.specs.Prelude.{Bool, ◌||◌, if◌then◌else◌, Option, Some, None, List, [], ◌∷◌}
+use Rattle.std.specs.Prelude.{Bool, ◌||◌, if◌then◌else◌, Option, Some, None, List, [], ◌∷◌, ◌++◌}
 use Rattle.std.specs.List.{flat_map, list_any}
 use Rattle.fast_check_syntax.specs.declared.kind.Kind.TheVariants.{BindingIdent, VarDecl, FnDecl, ClassDecl, ExportDecl}
 use Rattle.fast_check_syntax.specs.declared.source.SourceRange.{SourceRange}
@@ -30,7 +30,11 @@ use Rattle.fast_check_signatures.specs.Seen.{DeclaratorHead, Seen, written, rang
 use Rattle.fast_check_skeleton.specs.declared.rules.DeclRule.{DeclRule}
 use Rattle.fast_check_skeleton.specs.declared.rules.DeclRule.TheVariants.{Variables, Function, Class, Standing, Namespace, Using, Untaken}
 use Rattle.fast_check_skeleton.specs.declared.rules.ItemRule.{ItemRule}
-use Rattle.fast_check_skeleton.specs.declared.rules.ItemRule.TheVariants.{Declared, Exported, Linked, Default, Refused, Silent}
+use Rattle.fast_check_skeleton.specs.declared.rules.ItemRule.TheVariants.{Declared, Exported, Linked, Default, Refused, Assigned, Silent}
+use Rattle.fast_check_expandos.specs.declared.properties.ExpandoProperty.{ExpandoProperty}
+use Rattle.fast_check_expandos.specs.Assignments.{assignment_seen, declared_properties}
+use Rattle.fast_check_expandos.specs.Expandos.{namespaces_seen}
+use Rattle.fast_check_statement_forms.specs.Statements.{ExprStmt-expr}
 use Rattle.fast_check_skeleton.specs.Defaults.{default_seen}
 use Rattle.fast_check_skeleton.specs.Links.{link_seen}
 use Rattle.fast_check_skeleton.specs.Mutability.{mutability_of}
@@ -157,9 +161,17 @@ using_seen around place decl = if is_public_using around place decl then faulty 
 abbrev pub ItemLook : Type 0
 ItemLook = Tree → Surroundings → List Seen
 
--- the items of a body: of a module, or of a namespace
+-- the expando properties that an item declares, by what is done with it
+abbrev pub properties_by_rule : Surroundings → Tree → ItemRule → List ExpandoProperty
+properties_by_rule around item Assigned = declared_properties around.is_public around.bindings around.objects (ExprStmt-expr item)
+properties_by_rule around item _ = []
+
+abbrev pub item_properties : Surroundings → Tree → List ExpandoProperty
+item_properties around item = properties_by_rule around item (item_rule item)
+
+-- the items of a body: of a module, or of a namespace; behind them stand the namespaces for their expando properties
 abbrev pub body_seen : ItemLook → Surroundings → List Tree → List Seen
-body_seen look around items = flat_map (λ item. look item around) items
+body_seen look around items = flat_map (λ item. look item around) items ++ namespaces_seen (flat_map (item_properties around) items)
 
 -- a namespace, which is public by `place`, with what is seen of its items. No skeleton has `declare global`, `declare module "x"` or a namespace without a
 -- body, public or not.
@@ -192,6 +204,7 @@ form_by_rule look around item (Exported rule) = exported_seen item (decl_form lo
 form_by_rule look around item (Linked rule) = link_seen around item rule
 form_by_rule look around item (Default rule) = default_seen around item rule
 form_by_rule look around item (Refused kind) = faulty kind (range_of_node item) ∷ []
+form_by_rule look around item Assigned = assignment_seen around.is_public around.bindings around.objects (ExprStmt-expr item)
 form_by_rule look around item Silent = []
 
 abbrev pub item_form : Tree → ItemLook → Surroundings → List Seen

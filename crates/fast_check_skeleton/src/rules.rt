@@ -65,6 +65,9 @@ pub enum ItemRule {
     Default(DefaultRule),
     /// An item that no skeleton has, public or not.
     Refused(FaultKind),
+    /// An assignment that is a statement: its right side is tested where it is public, and it goes. Of expando form it declares a
+    /// property, which stands in a namespace behind the other items.
+    Assigned,
     /// A statement that declares and assigns nothing: nothing of it is seen.
     Silent,
 }
@@ -108,7 +111,7 @@ fn expr_stmt_rule(kind: Kind) -> ItemRule
     ensures { result ≡ expr_stmt_rule kind }
 {
     if kind == Kind::AssignExpr {
-        ItemRule::Declared(DeclRule::Untaken)
+        ItemRule::Assigned
     } else {
         ItemRule::Silent
     }
