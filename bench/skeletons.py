@@ -153,10 +153,9 @@ class Skeleton(Classes, Modules):
     def __init__(self, body, ranges, impls=(), media_type="TypeScript", unresolved=1, specifier="file:///p/mod.ts", resolved=None):
         self.ranges, self.impls, self.unresolved = ranges, impls, unresolved
         self.specifier, self.resolved = specifier, resolved or {}
-        self.is_declaration_file = media_type in ("Dts", "Dmts", "Dcts")
+        self.is_ambient = media_type in ("Dts", "Dmts", "Dcts")
         self.faults = []
-        items = [self.item(item) for item in body]
-        self.items = [item for item in items if item is not None]
+        self.items = self.items_of(body)
 
     def fault(self, code, place, is_definitely=None, is_async=None):
         self.faults.append((code, place, is_definitely, is_async))
@@ -165,6 +164,11 @@ class Skeleton(Classes, Modules):
         return shown(is_const, value, self.unresolved)
 
     # -- items
+
+    def items_of(self, body):
+        """What stays of the items of a module, or of a namespace."""
+        items = [self.item(item) for item in body]
+        return [item for item in items if item is not None]
 
     def item(self, item):
         kind, node = variant(item)
@@ -183,14 +187,16 @@ class Skeleton(Classes, Modules):
             return self.statement(node)
         if kind == "Using":
             return self.using(node, exported or node["span"])
+        if kind == "TsModule":
+            return self.namespace(node, exported or node["span"])
         place = exported or range_of_default(decl)
         if place not in self.ranges:
             return None
         if kind == "TsInterface":
             return decl
         if kind == "Class":
-            return {"Class": dict(node, **{"class": self.class_(node["class"], node["declare"] or self.is_declaration_file)})}
-        if self.is_declaration_file:
+            return {"Class": dict(node, **{"class": self.class_(node["class"], node["declare"] or self.is_ambient)})}
+        if self.is_ambient:
             return decl
         return {"Fn": dict(node, function=self.function(node["function"], node["ident"]["span"], "Method", place in self.impls))}
 
@@ -198,7 +204,7 @@ class Skeleton(Classes, Modules):
         decls = [decl for decl in var["decls"] if decl["span"] in self.ranges]
         if not decls:
             return None
-        if not var["declare"] and not self.is_declaration_file:
+        if not var["declare"] and not self.is_ambient:
             decls = [self.declarator(decl, var["kind"] == "Const") for decl in decls]
         return {"Var": dict(var, decls=decls)}
 
@@ -438,6 +444,10 @@ MODULE_TEXTS = {
     "unsupported-default-export-expr": ("default export expression was too complex",
         "add an 'as' clause with an explicit type after the expression, or extract to a variable",
         ["fast check was unable to infer the type of the default export expression"]),
+    "unsupported-global-module": ("found global augmentations, which are not supported", "remove the 'global' augmentation",
+        ["global augmentations are not supported because they can modify global types, which can affect other modules type checking"]),
+    "unsupported-ambient-module": ("found an ambient module, which is a global augmentation, which are not unsupported", "remove the ambient module declaration",
+        ["ambient modules are not supported because they can modify the types of a module from outside of that module"]),
     "unsupported-require": ("require statements are a CommonJS feature, which are not supported in ES modules", "use an import statement instead",
         [COMMON_JS.format("require")]),
     "unsupported-ts-export-assignment": ("export assignments are a Common JS feature, which are not supported in ES modules",

@@ -2,7 +2,7 @@
 """Writes the vectors of `crates/fast_check_vectors`: its inputs (`data/`), and what it must print (`stdout`).
 
 Each case stands here as TypeScript with what is public of it and what has to come out. The trees of the sources and of
-the skeletons are laid out by the rules of this script and its modules alone (`trees`, `skeletons`, `function_cases`, `class_cases`, `module_cases`):
+the skeletons are laid out by the rules of this script and its modules alone (`trees`, `skeletons`, `function_cases`, `class_cases`, `module_cases`, `namespace_cases`):
 the program's own output is nowhere taken for right.
 
 Usage: bench/vectors.py
@@ -17,8 +17,9 @@ sys.dont_write_bytecode = True
 import class_cases
 import function_cases
 import module_cases
+import namespace_cases
 from module_skeletons import sources_of
-from ranges import class_of, public_ranges, ranges_of_members
+from ranges import class_of, public_ranges, ranges_of_members, ranges_within
 from skeletons import Skeleton, diagnostic
 from trees import DUMMY, Source, lay_items
 
@@ -646,7 +647,8 @@ def stated(fault, text):
     code, (start, end), is_definitely, is_async = fault
     words = {"missing-explicit-type": "type", "missing-explicit-return-type": "return", "unsupported-destructuring": "destructuring",
              "unsupported-super-class-expr": "superclass", "unsupported-default-export-expr": "default", "unsupported-using": "using",
-             "unsupported-require": "require", "unsupported-ts-export-assignment": "assignment", "unsupported-ts-namespace-export": "namespace"}[code]
+             "unsupported-require": "require", "unsupported-ts-export-assignment": "assignment", "unsupported-ts-namespace-export": "namespace",
+             "unsupported-global-module": "global", "unsupported-ambient-module": "ambient"}[code]
     words += " definitely" * bool(is_definitely) + " async" * bool(is_async)
     return {f"{words} {text.encode()[start - 1:end - 1].decode()}", f"{words} {start}-{end}"}
 
@@ -681,6 +683,7 @@ def function_case(case):
     media_type, first = more.get("media_type", "TypeScript"), more.get("first", False)
     agree(case.name, "source", case.source or text, text)
     ranges = public_ranges(case, [place for place in range(len(case.items)) if place not in case.private], case.own_ranges)
+    ranges += ranges_within(case)
     impls = public_ranges(case, case.implementations) + ranges_of_members(case)
     made = Skeleton(case.items, ranges, impls, media_type, specifier=specifier, resolved=more.get("resolved"))
     faults = made.faults[:1] if first else made.faults
@@ -784,6 +787,7 @@ def main():
     groups_of_cases(class_cases.GROUPS)
     comments_of_classes()
     groups_of_cases(module_cases.GROUPS)
+    groups_of_cases(namespace_cases.GROUPS)
     defaults()
     refusals()
     tables()

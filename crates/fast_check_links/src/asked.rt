@@ -2,7 +2,8 @@ ghost use Rattle.std.specs.Prelude.{◌≡◌};
 
 use fast_check_graph::ModuleGraph;
 use fast_check_modules::EsModuleInfo;
-use fast_check_syntax::SyntaxContext;
+use fast_check_statement_forms::TsModuleDecl;
+use fast_check_syntax::{Part, SyntaxContext};
 use fast_check_tables::ModulePublicRanges;
 
 /// What the transform asks beside the tree.
@@ -14,10 +15,13 @@ pub struct Asked<'a> {
     pub public_ranges: &'a ModulePublicRanges,
     /// The scope number of the names that nothing in the module binds.
     pub unresolved: SyntaxContext,
-    pub is_declaration_file: bool,
+    /// Whether all that stands here is ambient: in a declaration file, or inside of a namespace with `declare`.
+    pub is_ambient: bool,
 }
 
 impl<'a> Asked<'a> {
+    ghost use Rattle.fast_check_syntax.specs.Part.{seen};
+    ghost use Rattle.fast_check_skeleton.specs.Surroundings.{inside};
     ghost use Rattle.fast_check_links.specs.Asked.{Asked-around, surroundings_of};
 
     /// What is asked of a module of this graph, with these public ranges.
@@ -33,7 +37,20 @@ impl<'a> Asked<'a> {
             es_module_info,
             public_ranges,
             unresolved: es_module_info.source().unresolved_context,
-            is_declaration_file: es_module_info.source().media_type.is_declaration(),
+            is_ambient: es_module_info.source().media_type.is_declaration(),
+        }
+    }
+
+    /// What is asked of the items of a namespace: inside of one with `declare` all is ambient.
+    pub fn inside(self, decl: Part<'_>) -> Self
+        ensures { Asked-around result ≡ inside (Asked-around self.entry) (seen decl.entry) }
+    {
+        Asked {
+            graph: self.graph,
+            es_module_info: self.es_module_info,
+            public_ranges: self.public_ranges,
+            unresolved: self.unresolved,
+            is_ambient: self.is_ambient || TsModuleDecl::of(decl).declare,
         }
     }
 }
