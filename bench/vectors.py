@@ -685,7 +685,8 @@ def function_case(case):
     ranges = public_ranges(case, [place for place in range(len(case.items)) if place not in case.private], case.own_ranges)
     ranges += ranges_within(case)
     impls = public_ranges(case, case.implementations) + ranges_of_members(case)
-    made = Skeleton(case.items, ranges, impls, media_type, specifier=specifier, resolved=more.get("resolved"))
+    made = Skeleton(case.items, ranges, impls, media_type, specifier=specifier, resolved=more.get("resolved"),
+                    plain_classes=more.get("plain_classes", ()))
     faults = made.faults[:1] if first else made.faults
     given = [stated(fault, text) for fault in faults] if faults else lay_items(made.items)[1]
     if isinstance(case.expected, list) and faults and len(given) == len(case.expected):
@@ -693,6 +694,7 @@ def function_case(case):
     agree(case.name, "answer", case.expected, given)
     content = request(text, case.items, ranges, media_type, impls=impls, first=first, graph=graph_of(case, specifier))
     content["module"]["specifier"] = specifier
+    with_tables(content, **more.get("tables", {}))
     if more.get("is_script"):
         content["module"]["source"]["program"] = {"Script": dict(program([item["Stmt"] for item in case.items], text))}
     if "levels" in more:
@@ -783,6 +785,7 @@ def main():
     types()
     comments()
     groups_of_cases(function_cases.GROUPS)
+    groups_of_cases(new_cases.GROUPS)
     comments_of_functions()
     groups_of_cases(class_cases.GROUPS)
     comments_of_classes()

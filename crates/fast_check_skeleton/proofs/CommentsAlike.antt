@@ -37,7 +37,7 @@ use Rattle.fast_check_same_values.specs.SameClasses.{HasNoPartner, IsNoPartner}
 use Rattle.fast_check_skeleton.specs.Hidden as h
 use Rattle.fast_check_skeleton.specs.SameDefaults.{SameDefaultDecl, SameDefault}
 use Rattle.fast_check_skeleton.specs.SameDefaults as defaults
-use Rattle.fast_check_same_values.specs.SameValues.{Both}
+use Rattle.fast_check_same_values.specs.SameValues.{SameBindings, Both}
 use Rattle.fast_check_same_values.specs.SameValues as v
 use Rattle.fast_check_skeleton.specs.Worlds.{TwoWorlds}
 use Rattle.fast_check_same_values.proofs.AlikeSeen.{AllAlike}
@@ -326,7 +326,7 @@ module _ (r : Renaming) (ok : IsRenaming r) where
       decl_inside x y t u m (h.SameDecl.implementation d e f g) = none_inside x y t u FnDecl d.kinds refl
       decl_inside x y t u m (h.SameDecl.ambient_function k e f g) = none_inside x y t u FnDecl k refl
       decl_inside x y t u m (h.SameDecl.class d e n s) = class_inside x y t u m d e (λ k.
-          class_removed r ok a.unresolved b.unresolved a.is_implementation b.is_implementation p q pair (ClassDecl-class t) (ClassDecl-class u) s)
+          class_removed r ok a.bindings b.bindings a.is_implementation b.is_implementation p q pair (ClassDecl-class t) (ClassDecl-class u) s)
       decl_inside x y t u m (h.SameDecl.ambient_class d e n s) = class_inside x y t u m d e (λ k. cc)
       decl_inside x y t u m (h.SameDecl.using k s e f) = none_inside x y t u UsingDecl k refl
       decl_inside x y t u m (h.SameDecl.global k e f s) = none_inside x y t u TsModuleDecl k refl
@@ -340,7 +340,7 @@ module _ (r : Renaming) (ok : IsRenaming r) where
           by_rules t u (Default Class) (default_by_kind t kinds.ClassExpr h.kinds.left h.decls.left)
           (default_by_kind u kinds.ClassExpr h.kinds.right h.decls.right)
           (among_if (a.is_public (ExportDefaultDecl-span t)) (b.is_public (ExportDefaultDecl-span u)) _ _ h.is_public
-          (class_removed r ok a.unresolved b.unresolved a.is_implementation b.is_implementation p q pair (ClassExpr-class (ExportDefaultDecl-decl t))
+          (class_removed r ok a.bindings b.bindings a.is_implementation b.is_implementation p q pair (ClassExpr-class (ExportDefaultDecl-decl t))
           (ClassExpr-class (ExportDefaultDecl-decl u)) e))
       default_inside t u (defaults.SameDefault.function h e f g) = no_class t u kinds.FnExpr Function h.head refl refl
       default_inside t u (defaults.SameDefault.implementation h e f g) = no_class t u kinds.FnExpr Function h.head refl refl

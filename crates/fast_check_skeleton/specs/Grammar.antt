@@ -22,9 +22,9 @@ use Rattle.fast_check_skeleton.specs.Namespaces.{is_namespace}
 use Rattle.fast_check_skeleton.specs.Rules.{is_require}
 
 -- a value behind a written type is `{} as never`; else there is one that gives the type
-abbrev pub HasTypedValue : SyntaxContext → Tree → Tree → Type 0
-HasTypedValue unresolved type value =
-    ((is_absent type ≡ false) × (value ≡ never_value)) ⊎ ((is_absent value ≡ false) × IsLeavable unresolved value)
+abbrev pub HasTypedValue : Bindings → Tree → Tree → Type 0
+HasTypedValue bindings type value =
+    ((is_absent type ≡ false) × (value ≡ never_value)) ⊎ ((is_absent value ≡ false) × IsLeavable bindings value)
 
 -- an import or an export of names, `export *`, or `import A = B.C`
 abbrev pub IsLink : Tree → Type 0
@@ -32,13 +32,13 @@ IsLink item =
     (kind_of item ≡ ImportDecl) ⊎ ((kind_of item ≡ NamedExport) ⊎ ((kind_of item ≡ ExportAll) ⊎
     ((kind_of item ≡ TsImportEqualsDecl) × (is_require item ≡ false))))
 
--- `unresolved` is the scope number of the names that nothing in the module binds
-module _ (unresolved : SyntaxContext) where
+-- `bindings` is what is known of the names of the module
+module _ (bindings : Bindings) where
   -- a declarator of an identifier with a written type, and `{} as never` for its value, or with a value that gives the type
   pub record IsTypedDeclarator (d : Tree) : Type 0 where
     pub kind : kind_of d ≡ VarDeclarator
     pub name : kind_of (VarDeclarator-name d) ≡ BindingIdent
-    pub value : HasTypedValue unresolved (BindingIdent-type_ann (VarDeclarator-name d)) (VarDeclarator-init d)
+    pub value : HasTypedValue bindings (BindingIdent-type_ann (VarDeclarator-name d)) (VarDeclarator-init d)
 
   -- a variable statement of typed declarators; an ambient one stands as it was written
   pub record IsTypedStatement (is_ambient : Bool) (statement : Tree) : Type 0 where
