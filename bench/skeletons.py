@@ -154,7 +154,7 @@ class Skeleton(Classes, Modules):
     def __init__(self, body, ranges, impls=(), media_type="TypeScript", unresolved=1, specifier="file:///p/mod.ts", resolved=None,
                  plain_classes=()):
         self.ranges, self.impls, self.unresolved = ranges, impls, unresolved
-        self.specifier, self.resolved = specifier, resolved or {}
+        self.specifier, self.resolved, self.plain_classes = specifier, resolved or {}, plain_classes
         self.is_ambient = media_type in ("Dts", "Dmts", "Dcts")
         self.faults = []
         self.items = self.items_of(body)

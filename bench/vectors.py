@@ -2,8 +2,8 @@
 """Writes the vectors of `crates/fast_check_vectors`: its inputs (`data/`), and what it must print (`stdout`).
 
 Each case stands here as TypeScript with what is public of it and what has to come out. The trees of the sources and of
-the skeletons are laid out by the rules of this script and its modules alone (`trees`, `skeletons`, `function_cases`, `class_cases`, `module_cases`, `namespace_cases`):
-the program's own output is nowhere taken for right.
+the skeletons are laid out by the rules of this script and its modules alone (`trees`, `skeletons`, `function_cases`, `new_cases`,
+`class_cases`, `module_cases`, `namespace_cases`): the program's own output is nowhere taken for right.
 
 Usage: bench/vectors.py
 """
@@ -18,6 +18,7 @@ import class_cases
 import function_cases
 import module_cases
 import namespace_cases
+import new_cases
 from module_skeletons import sources_of
 from ranges import class_of, public_ranges, ranges_of_members, ranges_within
 from skeletons import Skeleton, diagnostic

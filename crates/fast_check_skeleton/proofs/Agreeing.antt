@@ -355,7 +355,7 @@ module _ (r : Renaming) (ok : IsRenaming r) where
     abbrev declared_as : Tree → DeclMutabilityKind
     declared_as statement = mutability_of (VarDecl-kind statement)
 
-    decl_alike : IsPair r.scopes a.unresolved.0 b.unresolved.0 → a.is_ambient ≡ b.is_ambient →
+    decl_alike : SameBindings r a.bindings b.bindings → a.is_ambient ≡ b.is_ambient →
         (p q : SourceRange) (t u : Tree) → SameDecl r a b p q t u → DeclsAlike p q t u
     decl_alike c m p q t u (h.SameDecl.variable d n rest) = of_variables p q t u (SameDeclarator r a b (declared_as t)) d go rest
       where
@@ -413,7 +413,7 @@ module _ (r : Renaming) (ok : IsRenaming r) where
         (ap (λ x. x ∷ []) (faulty_alike r ok UnsupportedAmbientModule place place' (range_to r ok place place' s'))))
 
     -- declarations that agree are taken
-    pub decl_taken : IsPair r.scopes a.unresolved.0 b.unresolved.0 → a.is_ambient ≡ b.is_ambient →
+    pub decl_taken : SameBindings r a.bindings b.bindings → a.is_ambient ≡ b.is_ambient →
         (p q : SourceRange) (t u : Tree) → SameDecl r a b p q t u →
         (is_taken_decl (decl_rule (kind_of t)) ≡ true) × (is_taken_decl (decl_rule (kind_of u)) ≡ true)
     decl_taken c m p q t u d = let e = decl_alike c m p q t u d in (e.left, e.right)
@@ -477,7 +477,7 @@ module _ (r : Renaming) (ok : IsRenaming r) where
   namespace_kinds (h.SameNamespace.bodies d s) = d.kinds
 
   mutual
-    pub item_alike : {a b : Surroundings} {t u : Tree} → IsPair r.scopes a.unresolved.0 b.unresolved.0 → a.is_ambient ≡ b.is_ambient →
+    pub item_alike : {a b : Surroundings} {t u : Tree} → SameBindings r a.bindings b.bindings → a.is_ambient ≡ b.is_ambient →
         SameItem r a b t u → AllAlike r ok (item_seen a t) (item_seen b u)
     item_alike c m (h.SameItem.decl {a = a} {b = b} {t = t} {u = u} d) =
         let e = decl_alike a b c m (range_of_node t) (range_of_node u) t u d in
@@ -508,12 +508,12 @@ module _ (r : Renaming) (ok : IsRenaming r) where
         (subst₂ (λ x y. AllAlike r ok (seen_by_rule a t x) (seen_by_rule b u y)) (sym e) (sym f)
         (ap (λ x. faulty kind x ∷ []) (range_to r ok (range_of_node t) (range_of_node u) s)))
 
-    namespaces_alike : {a b : Surroundings} {p q : SourceRange} {t u : Tree} → IsPair r.scopes a.unresolved.0 b.unresolved.0 → a.is_ambient ≡ b.is_ambient →
+    namespaces_alike : {a b : Surroundings} {p q : SourceRange} {t u : Tree} → SameBindings r a.bindings b.bindings → a.is_ambient ≡ b.is_ambient →
         SameNamespace r a b p q t u → AllAlike r ok (namespace_seen item_look a p t) (namespace_seen item_look b q u)
     namespaces_alike c m (h.SameNamespace.bodies {a = a} {b = b} {p = p} {q = q} {t = t} {u = u} d s) =
         namespace_alike a b p q t u d (body_alike c (ap₂ (λ x y. x || y) m d.declare) s)
 
-    body_alike : {a b : Surroundings} {t u : Tree} → IsPair r.scopes a.unresolved.0 b.unresolved.0 → a.is_ambient ≡ b.is_ambient →
+    body_alike : {a b : Surroundings} {t u : Tree} → SameBindings r a.bindings b.bindings → a.is_ambient ≡ b.is_ambient →
         SameBody r a b t u → Alike r ok (body_round (body_seen item_look a (block_items (innermost t))) t)
         (body_round (body_seen item_look b (block_items (innermost u))) u)
     body_alike c m (h.SameBody.block {a = a} {b = b} {t = t} {u = u} n s rest) =
@@ -523,7 +523,7 @@ module _ (r : Renaming) (ok : IsRenaming r) where
         subst₂ (Alike r ok) (sym (body_of_inner (body_seen item_look a) t (ap (λ k. k is TsNamespaceDecl) d.kinds.left)))
         (sym (body_of_inner (body_seen item_look b) u (ap (λ k. k is TsNamespaceDecl) d.kinds.right))) (inner_alike t u _ _ d (body_alike c m s))
 
-    items_alike : {a b : Surroundings} {ts us : List Tree} → IsPair r.scopes a.unresolved.0 b.unresolved.0 → a.is_ambient ≡ b.is_ambient →
+    items_alike : {a b : Surroundings} {ts us : List Tree} → SameBindings r a.bindings b.bindings → a.is_ambient ≡ b.is_ambient →
         SameItems r a b ts us → AllAlike r ok (body_seen item_look a ts) (body_seen item_look b us)
     items_alike c m h.SameItems.end = refl
     items_alike c m (h.SameItems.left {a = a} {b = b} {t = t} {ts = ts} {us = us} q n rest) =
@@ -536,7 +536,7 @@ module _ (r : Renaming) (ok : IsRenaming r) where
 
   module _ (a b : Surroundings) where
     visible_alike : (t u : Tree) → AgreeHidden r a b t u → AllAlike r ok (visible a t) (visible b u)
-    visible_alike t u g = items_alike g.unresolved g.is_ambient g.items
+    visible_alike t u g = items_alike g.bindings g.is_ambient g.items
 
     -- ---- answers
 

@@ -136,7 +136,7 @@ module _ (r : Renaming) (ok : IsRenaming r) (a b : Surroundings) where
 
   -- ---- all
 
-  pub defaults_alike : IsPair r.scopes a.unresolved.0 b.unresolved.0 → a.is_ambient ≡ b.is_ambient → (t u : Tree) →
+  pub defaults_alike : SameBindings r a.bindings b.bindings → a.is_ambient ≡ b.is_ambient → (t u : Tree) →
       SameDefault r a b t u → DefaultsAlike t u
   defaults_alike c m t u (s.SameDefault.value k d e f) = record {
     rule = Value;

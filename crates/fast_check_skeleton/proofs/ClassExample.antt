@@ -215,7 +215,7 @@ items_made items = simp parts_node
 
 agree : AgreeHidden no_places all_public all_public first second
 agree = record {
-  unresolved = inl (refl, refl);
+  bindings = record { unresolved = inl (refl, refl); is_plain_class = λ text x y p. refl };
   is_ambient = refl;
   items = subst₂ (SameItems no_places all_public all_public) (sym (items_made _)) (sym (items_made _))
       (h.SameItems.next (function_items [] (empty_statement ∷ [])) (h.SameItems.next class_items h.SameItems.end));

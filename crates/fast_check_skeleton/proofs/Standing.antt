@@ -177,7 +177,7 @@ module _ (around : Surroundings) where
       inr (subst (OfAll Typed') (sym (ap parts same ∙ parts_node List' ds)) (p refl))
 
   abbrev Statement : Tree → Type 0
-  Statement = IsTypedStatement around.unresolved around.is_ambient
+  Statement = IsTypedStatement around.bindings around.is_ambient
 
   statement_stays : (statement : Tree) (ds : List Seen) → (is_ambient_statement around statement ≡ false → Holds (OfAll Typed') (answer_of ds)) →
       AllStay Statement (statement_seen statement ds)
@@ -193,7 +193,7 @@ module _ (around : Surroundings) where
   -- ---- functions
 
   abbrev Function' : Tree → Type 0
-  Function' = IsTypedFunctionDecl around.unresolved around.is_ambient
+  Function' = IsTypedFunctionDecl around.bindings around.is_ambient
 
   function_made : (decl function : Tree) → IsTypedFunction around.bindings function → Function' (fn_decl (FnDecl-ident decl) (FnDecl-declare decl) function)
   function_made decl function h =
@@ -230,7 +230,7 @@ module _ (around : Surroundings) where
   -- ---- classes
 
   abbrev Class' : Tree → Type 0
-  Class' = IsTypedClassDecl around.unresolved around.is_ambient
+  Class' = IsTypedClassDecl around.bindings around.is_ambient
 
   -- the class of a declaration, by whether it is ambient
   abbrev FitsClass : Tree → Tree → Type 0
@@ -244,7 +244,7 @@ module _ (around : Surroundings) where
       let declare : ClassDecl-declare made ≡ ClassDecl-declare decl = ap flag_of (part_node _ _ _) ∙ flag_of_flag (ClassDecl-declare decl) in
       record {
         kind = kind_of_node _ _;
-        class = subst₂ (λ d c. (IsTrue (around.is_ambient || d) × IsAmbientClass c) ⊎ IsTypedClass around.unresolved c) (sym declare) (sym same) h;
+        class = subst₂ (λ d c. (IsTrue (around.is_ambient || d) × IsAmbientClass c) ⊎ IsTypedClass around.bindings c) (sym declare) (sym same) h;
       }
 
   abbrev classed : Tree → Seen → Seen
@@ -277,16 +277,16 @@ module _ (around : Surroundings) where
   -- ---- declarations
 
   abbrev IsDecl : Tree → Type 0
-  IsDecl = IsTypedDecl around.unresolved around.is_ambient
+  IsDecl = IsTypedDecl around.bindings around.is_ambient
 
   abbrev IsPlain : Tree → Type 0
-  IsPlain = IsPlainItem around.unresolved around.is_ambient
+  IsPlain = IsPlainItem around.bindings around.is_ambient
 
   abbrev IsItem : Tree → Type 0
-  IsItem = IsTypedItem around.unresolved around.is_ambient
+  IsItem = IsTypedItem around.bindings around.is_ambient
 
   abbrev IsNamespace : Tree → Type 0
-  IsNamespace = IsTypedNamespace around.unresolved around.is_ambient
+  IsNamespace = IsTypedNamespace around.bindings around.is_ambient
 
   -- what is done with declarations that are no namespaces
   abbrev is_plain : DeclRule → Bool
@@ -309,20 +309,20 @@ module _ (around : Surroundings) where
   decl_stays look place decl Untaken q n = tt
 
   -- namespaces, where what is seen of the items inside stays
-  namespace_stays : (look : ItemLook) → ((u : Tree) (here : Surroundings) → AllStay (IsTypedItem here.unresolved here.is_ambient) (look u here)) →
+  namespace_stays : (look : ItemLook) → ((u : Tree) (here : Surroundings) → AllStay (IsTypedItem here.bindings here.is_ambient) (look u here)) →
       (place : SourceRange) (decl : Tree) → AllStay IsNamespace (namespace_seen look around place decl)
   namespace_stays look h place decl = go (TsModuleDecl-global decl) (is_ambient_module decl) refl refl
     where
       items : List Seen
       items = body_seen look (inside around decl) (items_inside decl)
 
-      all_typed : AllStay (IsTypedItem around.unresolved (around.is_ambient || TsModuleDecl-declare decl)) items
-      all_typed = all_flat (IsTypedItem around.unresolved (around.is_ambient || TsModuleDecl-declare decl)) (λ u. look u (inside around decl))
+      all_typed : AllStay (IsTypedItem around.bindings (around.is_ambient || TsModuleDecl-declare decl)) items
+      all_typed = all_flat (IsTypedItem around.bindings (around.is_ambient || TsModuleDecl-declare decl)) (λ u. look u (inside around decl))
           (items_inside decl) (λ u. h u (inside around decl))
 
       stays : is_namespace decl ≡ true → Stays IsNamespace (answer_to (namespace_round items decl))
-      stays e = subst (Stays IsNamespace) (sym (namespace_is items decl)) (λ f. namespace_typed around.unresolved around.is_ambient decl (answer_of items).stays
-          e (items_stand around.unresolved (around.is_ambient || TsModuleDecl-declare decl) items all_typed f))
+      stays e = subst (Stays IsNamespace) (sym (namespace_is items decl)) (λ f. namespace_typed around.bindings around.is_ambient decl (answer_of items).stays
+          e (items_stand around.bindings (around.is_ambient || TsModuleDecl-declare decl) items all_typed f))
 
       go : (x y : Bool) → TsModuleDecl-global decl ≡ x → is_ambient_module decl ≡ y → AllStay IsNamespace
           (if x then faulty UnsupportedGlobalModule (TsModuleDecl-span decl) ∷ []
@@ -480,9 +480,9 @@ module _ (around : Surroundings) where
       (_, ap (λ a. (round_answer kind (visited (faultless (Some t)) (visited a (faultless (Some []))))).stays) same)
 
   abbrev IsDefaultDecl : Tree → Type 0
-  IsDefaultDecl = IsTypedDefaultDecl around.unresolved around.is_ambient
+  IsDefaultDecl = IsTypedDefaultDecl around.bindings around.is_ambient
 
-  default_value_made : (span : SourceRange) (value : Tree) → IsLeavable around.unresolved value → IsPlain (export_default_expr span value)
+  default_value_made : (span : SourceRange) (value : Tree) → IsLeavable around.bindings value → IsPlain (export_default_expr span value)
   default_value_made span value h =
       let same : ExportDefaultExpr-expr (export_default_expr span value) ≡ value = part_node _ _ _ in
       inr (inr (inl (inl (kind_of_node _ _, subst (IsLeavable around.bindings) (sym same) h))))
@@ -518,10 +518,10 @@ module _ (around : Surroundings) where
       Stays IsDefaultDecl (answer_to (default_function_seen around place decl))
   default_function_stays place decl k =
       of_choice (λ s. Stays IsDefaultDecl (answer_to s)) around.is_ambient _ _ (λ e f. inr (inl (k, inl e)))
-      (λ e. pair_stays kinds.FnExpr (IsTypedFunction around.unresolved) IsDefaultDecl (FnExpr-ident decl) (default_signature around place decl) made'
-      (of_choice (λ s. Stays (IsTypedFunction around.unresolved) (answer_to s)) (around.is_implementation place) _ _
-      (λ e f. implementation_is_typed around.unresolved (FnExpr-function decl))
-      (λ e. function_is_typed around.unresolved DeclarationLike (default_place decl) (FnExpr-function decl) refl)))
+      (λ e. pair_stays kinds.FnExpr (IsTypedFunction around.bindings) IsDefaultDecl (FnExpr-ident decl) (default_signature around place decl) made'
+      (of_choice (λ s. Stays (IsTypedFunction around.bindings) (answer_to s)) (around.is_implementation place) _ _
+      (λ e f. implementation_is_typed around.bindings (FnExpr-function decl))
+      (λ e. function_is_typed around.bindings DeclarationLike (default_place decl) (FnExpr-function decl) refl)))
     where
       made' : (function : Tree) → IsTypedFunction around.bindings function → IsDefaultDecl (node kinds.FnExpr (FnExpr-ident decl ∷ function ∷ []))
       made' function h =
@@ -578,7 +578,7 @@ module _ (around : Surroundings) where
   as_items ss p = all_weaker IsPlain IsItem (λ t h. g.IsTypedItem.plain h) ss p
 
 -- an item, where what is seen of the items inside stays
-module _ (look : ItemLook) (stay : (u : Tree) (here : Surroundings) → AllStay (IsTypedItem here.unresolved here.is_ambient) (look u here)) (around : Surroundings)
+module _ (look : ItemLook) (stay : (u : Tree) (here : Surroundings) → AllStay (IsTypedItem here.bindings here.is_ambient) (look u here)) (around : Surroundings)
     (item : Tree) where
   abbrev Form : ItemRule → Type 0
   Form rule = AllStay (IsItem around) (form_by_rule look around item rule)
@@ -643,11 +643,11 @@ module _ (around : Surroundings) where
   abbrev module_parts : Tree → List Tree
   module_parts program = tree.Range (Module-span program) ∷ list (transformed around program).stays ∷ Module-shebang program ∷ []
 
-  pub skeleton_stands : (program : Tree) → faults_of around program ≡ [] → IsSkeleton around.unresolved around.is_ambient (skeleton_of around program)
+  pub skeleton_stands : (program : Tree) → faults_of around program ≡ [] → IsSkeleton around.bindings around.is_ambient (skeleton_of around program)
   skeleton_stands program e = record {
     kind = kind_of_node Module (module_parts program);
-    items = subst (AllTypedItems around.unresolved around.is_ambient)
+    items = subst (AllTypedItems around.bindings around.is_ambient)
         (sym (ap parts (part_node _ Module (module_parts program)) ∙ parts_node List' (transformed around program).stays))
-        (items_stand around.unresolved around.is_ambient (visible around program)
+        (items_stand around.bindings around.is_ambient (visible around program)
         (all_flat (IsItem around) (λ item. item_look item around) (items_of program) (λ item. item_stays item around)) e);
   }

@@ -78,7 +78,7 @@ abbrev pub all_public : Surroundings
 all_public = record {
   is_public = λ r. true;
   is_implementation = λ r. false;
-  unresolved = no_scope;
+  bindings = no_classes;
   is_ambient = false;
   relative = λ text. None;
 }

@@ -48,13 +48,13 @@ module _ (bindings : Bindings) where
   -- a function with a written return type, or without a body; where all is ambient it stands as it was written
   pub record IsTypedFunctionDecl (is_ambient : Bool) (decl : Tree) : Type 0 where
     pub kind : kind_of decl ≡ FnDecl
-    pub function : IsTrue is_ambient ⊎ IsTypedFunction unresolved (FnDecl-function decl)
+    pub function : IsTrue is_ambient ⊎ IsTypedFunction bindings (FnDecl-function decl)
 
   -- a class, of typed members; an ambient one stands as it was written, but for private members of computed keys
   pub record IsTypedClassDecl (is_ambient : Bool) (decl : Tree) : Type 0 where
     pub kind : kind_of decl ≡ ClassDecl
     pub class : (IsTrue (is_ambient || ClassDecl-declare decl) × IsAmbientClass (ClassDecl-class decl)) ⊎
-        IsTypedClass unresolved (ClassDecl-class decl)
+        IsTypedClass bindings (ClassDecl-class decl)
 
   -- a declaration of a skeleton: a variable statement, a function, a class, or an interface, type alias or enum, which stands as it was written
   abbrev pub IsTypedDecl : Bool → Tree → Type 0
@@ -66,13 +66,13 @@ module _ (bindings : Bindings) where
   -- ambient a function stands as it was written.
   abbrev pub IsTypedDefaultDecl : Bool → Tree → Type 0
   IsTypedDefaultDecl is_ambient decl =
-      ((kind_of decl ≡ ClassExpr) × IsTypedClass unresolved (ClassExpr-class decl)) ⊎
-      (((kind_of decl ≡ FnExpr) × (IsTrue is_ambient ⊎ IsTypedFunction unresolved (FnExpr-function decl))) ⊎ (kind_of decl ≡ TsInterfaceDecl))
+      ((kind_of decl ≡ ClassExpr) × IsTypedClass bindings (ClassExpr-class decl)) ⊎
+      (((kind_of decl ≡ FnExpr) × (IsTrue is_ambient ⊎ IsTypedFunction bindings (FnExpr-function decl))) ⊎ (kind_of decl ≡ TsInterfaceDecl))
 
   -- a default export: a value that gives its type, or a declaration
   abbrev pub IsTypedDefault : Bool → Tree → Type 0
   IsTypedDefault is_ambient item =
-      ((kind_of item ≡ ExportDefaultExpr) × IsLeavable unresolved (ExportDefaultExpr-expr item)) ⊎
+      ((kind_of item ≡ ExportDefaultExpr) × IsLeavable bindings (ExportDefaultExpr-expr item)) ⊎
       ((kind_of item ≡ ExportDefaultDecl) × IsTypedDefaultDecl is_ambient (ExportDefaultDecl-decl item))
 
   -- an item that is no namespace: a declaration, exported or not, a default export, or what leads to other modules

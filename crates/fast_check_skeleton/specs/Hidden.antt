@@ -132,7 +132,7 @@ module _ (r : Renaming) (a b : Surroundings) where
         SameFunction r a.bindings b.bindings (FnDecl-function t) (FnDecl-function u) → SameDecl p q t u
     -- implementations behind overloads
     implementation : {t u : Tree} → SameFunctionDecl p q t u → a.is_implementation p ≡ true → b.is_implementation q ≡ true →
-        SameImplementation r a.unresolved b.unresolved (FnDecl-function t) (FnDecl-function u) → SameDecl p q t u
+        SameImplementation r a.bindings b.bindings (FnDecl-function t) (FnDecl-function u) → SameDecl p q t u
     -- functions where all is ambient
     ambient_function : {t u : Tree} → Both FnDecl t u → a.is_public p ≡ b.is_public q → a.is_ambient ≡ true → SameTree r t u → SameDecl p q t u
     class : {t u : Tree} → SameClassDecl t u → a.is_public p ≡ b.is_public q → is_ambient_class a t ≡ false →
@@ -208,8 +208,8 @@ module _ (r : Renaming) where
 module _ (r : Renaming) (a b : Surroundings) where
   -- two modules that agree but for what is hidden
   pub record AgreeHidden (t u : Tree) : Type 0 where
-    -- what nothing in the first module binds is what nothing in the second binds
-    pub unresolved : IsPair r.scopes a.unresolved.0 b.unresolved.0
+    -- what is known of names agrees, under the renaming of scope numbers
+    pub bindings : SameBindings r a.bindings b.bindings
     pub is_ambient : a.is_ambient ≡ b.is_ambient
     pub items : SameItems r a b (items_of t) (items_of u)
     pub shebang : SameTree r (Module-shebang t) (Module-shebang u)

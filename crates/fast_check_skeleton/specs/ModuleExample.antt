@@ -59,7 +59,7 @@ abbrev pub around : Surroundings
 around = record {
   is_public = λ r. r.start.0 == 0;
   is_implementation = λ r. false;
-  unresolved = no_scope;
+  bindings = no_classes;
   is_ambient = false;
   relative = λ text. Some resolved;
 }
@@ -69,7 +69,7 @@ abbrev pub unresolving : Surroundings
 unresolving = record {
   is_public = around.is_public;
   is_implementation = around.is_implementation;
-  unresolved = no_scope;
+  bindings = no_classes;
   is_ambient = false;
   relative = λ text. None;
 }
