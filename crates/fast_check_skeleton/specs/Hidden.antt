@@ -24,7 +24,7 @@ use Rattle.fast_check_statement_forms.specs.Statements.{ExprStmt-expr}
 use Rattle.fast_check_statement_forms.specs.TsDeclarations.{TsModuleDecl-span, TsModuleDecl-declare, TsModuleDecl-global, TsModuleDecl-namespace}
 use Rattle.fast_check_statement_forms.specs.TsDeclarations.{TsModuleDecl-id, TsModuleDecl-body, TsModuleBlock-span, TsNamespaceDecl-span}
 use Rattle.fast_check_statement_forms.specs.TsDeclarations.{TsNamespaceDecl-declare, TsNamespaceDecl-global, TsNamespaceDecl-id, TsNamespaceDecl-body}
-use Rattle.fast_check_same_values.specs.SameValues.{Both, Neither, SameExpr, SameFunction, SameImplementation}
+use Rattle.fast_check_same_values.specs.SameValues.{SameBindings, Both, Neither, SameExpr, SameFunction, SameImplementation}
 use Rattle.fast_check_same_values.specs.SameClasses.{HasNoPartner, IsNoPartner, SameClass, SameAmbientClass}
 use Rattle.fast_check_skeleton.specs.Kinds.{is_standing, is_statement}
 use Rattle.fast_check_skeleton.specs.Mutability.{mutability_of}
