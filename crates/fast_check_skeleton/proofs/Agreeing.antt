@@ -437,7 +437,7 @@ module _ (r : Renaming) (ok : IsRenaming r) where
         AllAlike r ok (namespace_seen item_look a p t) (namespace_seen item_look b q u)
     namespace_alike p q t u d e =
         subst₂ (AllAlike r ok) (sym (namespace_if a p t d.namespaces.0)) (sym (namespace_if b q u d.namespaces.1))
-        (all_alike_if r ok (a.is_public p) (b.is_public q) _ _ d.is_public (round_alike r ok TsModuleDecl
+        (all_alike_if r ok (a.is_public p) (b.is_public q) _ _ d.public (round_alike r ok TsModuleDecl
         (range (TsModuleDecl-span t) ∷ flag (TsModuleDecl-declare t) ∷ flag (TsModuleDecl-global t) ∷ flag (TsModuleDecl-namespace t) ∷
         written (TsModuleDecl-id t) ∷ body_round (body_seen item_look (inside a t) (items_inside t)) (TsModuleDecl-body t) ∷ [])
         (range (TsModuleDecl-span u) ∷ flag (TsModuleDecl-declare u) ∷ flag (TsModuleDecl-global u) ∷ flag (TsModuleDecl-namespace u) ∷
