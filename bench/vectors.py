@@ -594,7 +594,7 @@ def expando_request(*ranges, **tables):
 
 
 def tables():
-    title("a module with tables, in a graph: what tables hold plays no part so far, nor what a graph holds but for sources")
+    title("a module with tables, in a graph: the first module asks none of them")
     answered("all_tables", with_tables(first_module().request(), **all_tables()), first_module().answer())
     answered("all_tables_in_a_graph", with_tables(first_module().request(graph=GRAPH), **all_tables()), first_module().answer())
     for name, graph in (("a_graph_of_nothing", {}), ("a_graph_without_resolutions", {"modules": GRAPH["modules"]}),

@@ -5,7 +5,7 @@ use Rattle.fast_check_signatures.specs.declared.fault.Fault.{Fault}
 use Rattle.fast_check_signatures.specs.declared.fault.FaultKind.TheVariants.{MissingExplicitType}
 use Rattle.fast_check_transform_faults.specs.Diagnostics.{AreDiagnosticsOf}
 use Rattle.fast_check_transform_faults.proofs.Diagnosed.{next_of}
-use Rattle.fast_check_transform_faults.proofs.tell.diagnostics_of.Goals as goal
+use Rattle.fast_check_transform_faults.proofs.diagnostics.diagnostics_of.Goals as goal
 
 abbrev any_fault : Fault
 any_fault = record { kind = MissingExplicitType; range = none_range }
