@@ -95,10 +95,30 @@ class Modules:
         kind, decl = variant(node["decl"])
         if kind == "Class":
             decl = dict(decl, **{"class": self.class_(decl["class"], False)})
-        elif kind == "Fn" and not self.is_declaration_file:
+        elif kind == "Fn" and not self.is_ambient:
             place = decl["ident"]["span"] if decl["ident"] else decl["function"]["span"]
             decl = dict(decl, function=self.function(decl["function"], place, "Method", node["span"] in self.impls))
         return dict(node, decl={kind: decl})
+
+    def namespace(self, node, place):
+        """A namespace with what is public of the items in its innermost block."""
+        if node["global"]:
+            self.fault("unsupported-global-module", node["span"])
+            return None
+        if "Str" in node["id"] or node["body"] is None:
+            self.fault("unsupported-ambient-module", variant(node["id"])[1]["span"])
+            return None
+        if place not in self.ranges:
+            return None
+        outside, self.is_ambient = self.is_ambient, self.is_ambient or node["declare"]
+        made = dict(node, body=self.body_of(node["body"]))
+        self.is_ambient = outside
+        return {"TsModule": made}
+
+    def body_of(self, body):
+        kind, node = variant(body)
+        inside = self.body_of(node["body"]) if kind == "TsNamespaceDecl" else self.items_of(node["body"])
+        return {kind: dict(node, body=inside)}
 
     def using(self, node, place):
         """No skeleton has what `using` declares."""

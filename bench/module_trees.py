@@ -143,6 +143,34 @@ def using(*declarators, is_await=False):
     return {"Decl": {"Using": form(is_await=is_await, decls=list(declarators))}}
 
 
+# ---- namespaces
+
+
+def body_of(names, items):
+    """The block of a namespace's items, behind the names that follow the first one."""
+    if not names:
+        return {"TsModuleBlock": form(body=list(items))}
+    return {"TsNamespaceDecl": form(declare=False, id=ident(names[0]), body=body_of(names[1:], items), **{"global": False})}
+
+
+def namespace(path, *items, declare=False, word="namespace"):
+    """`namespace A.B { items }`."""
+    first, *names = path.split(".")
+    return {"Decl": {"TsModule": form(declare=declare, id={"Ident": ident(first)}, body=body_of(names, items),
+                                      **{"global": False, "namespace": word == "namespace"})}}
+
+
+def ambient_module(name, *items, body=True):
+    """`declare module "name" { items }`, or one without a body; a name without quotes is an identifier."""
+    id_ = {"Str": text(name[1:-1])} if name.startswith('"') else {"Ident": ident(name)}
+    return {"Decl": {"TsModule": form(declare=True, id=id_, body=body_of([], items) if body else None, **{"global": False, "namespace": False})}}
+
+
+def global_module(*items, declare=True):
+    """`declare global { items }`."""
+    return {"Decl": {"TsModule": form(declare=declare, id={"Ident": ident("global")}, body=body_of([], items), **{"global": True, "namespace": False})}}
+
+
 # ---- layouts
 
 
@@ -185,6 +213,18 @@ def lay_default_function(source, node):
     lay_function(source, node["function"], node["ident"])
 
 
+def lay_module_word(source, node):
+    source.write("" if node["global"] else "namespace " if node["namespace"] else "module ")
+
+
+def lay_module_body(source, node):
+    """A block behind a blank, the next name behind a dot, or an end."""
+    body = node["body"]
+    source.write(";" if body is None else " " if "TsModuleBlock" in body else "")
+    if body is not None:
+        lay_as(source, "namespace_body", body)
+
+
 ATTRIBUTES = [when("with", " with "), one("with", "attributes")]
 EXPORTED = [when("is_export", "export "), "import ", when("is_type_only", "type "), one("id", "ident"), " = ", one("module_ref", "module_ref"), ";"]
 INTERFACE = ["interface ", one("id", "ident"), " ", one("body", "interface_body")]
@@ -204,6 +244,8 @@ LAYOUTS.update({
 LAYOUTS["entity"]["TsQualifiedName"] = [one("left", "entity"), ".", one("right", "ident_name")]
 LAYOUTS["decl"]["Using"] = [when("is_await", "await "), "using ", many("decls", "declarator"), ";"]
 LAYOUTS["decl"]["TsInterface"] = INTERFACE
+LAYOUTS["decl"]["TsModule"] = [when("declare", "declare "), lay_module_word, one("id", "export_name"), lay_module_body]
+LAYOUTS["namespace_body"]["TsNamespaceDecl"] = [".", one("id", "ident"), lay_module_body]
 LAYOUTS["module_decl"].update({
     "Import": ["import ", when("type_only", "type "), lay_phase, clause, one("src", "source"), *ATTRIBUTES, ";"],
     "ExportNamed": ["export ", when("type_only", "type "), specifiers("export_specifier", "export_specifier"), from_source, *ATTRIBUTES, ";"],

@@ -30,6 +30,27 @@ def ranges_of_decl(decl, export, by):
     return [export or range_of_default(decl)]
 
 
+def items_inside(item):
+    """The items of a namespace, exported or not, or none."""
+    kind, node = variant(item)
+    decl = node.get("ExportDecl", {}).get("decl", {}) if kind == "ModuleDecl" else node.get("Decl", {})
+    body = decl.get("TsModule", {}).get("body")
+    while body is not None and "TsNamespaceDecl" in body:
+        body = body["TsNamespaceDecl"]["body"]
+    return body["TsModuleBlock"]["body"] if body is not None else []
+
+
+def ranges_inside(item, path, private):
+    """The ranges of the items of a namespace, and of those inside of these, but for those whose places lead to `private` ones."""
+    found = []
+    for place, inner in enumerate(items_inside(item)):
+        here = path + (place,)
+        if here not in private:
+            found += ranges_of_item(inner)
+        found += ranges_inside(inner, here, private)
+    return found
+
+
 def public_ranges(case, places, own_ranges=False):
     """The ranges of the items at these places."""
     by, hidden = case.more.get("by", {}), case.more.get("hidden", {})
@@ -37,6 +58,12 @@ def public_ranges(case, places, own_ranges=False):
     for place in places:
         found += ranges_of_item(case.items[place], "own" if own_ranges else by.get(place), hidden.get(place, ()))
     return found
+
+
+def ranges_within(case):
+    """The ranges of all items inside of namespaces, but for those at `private_inside`, by the places of the items that lead to them."""
+    private = case.more.get("private_inside", ())
+    return [span for place, item in enumerate(case.items) for span in ranges_inside(item, (place,), private)]
 
 
 def class_of(item):

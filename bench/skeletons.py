@@ -148,15 +148,16 @@ def is_void(written):
 class Skeleton(Classes, Modules):
     """The items that a skeleton has, and the faults that were met in making them, each a code, a range and two flags.
 
-    `resolved` has what the texts of sources in the module resolve to."""
+    `resolved` has what the texts of sources in the module resolve to, and `plain_classes` the names with scope numbers of classes without type
+    parameters."""
 
-    def __init__(self, body, ranges, impls=(), media_type="TypeScript", unresolved=1, specifier="file:///p/mod.ts", resolved=None):
+    def __init__(self, body, ranges, impls=(), media_type="TypeScript", unresolved=1, specifier="file:///p/mod.ts", resolved=None,
+                 plain_classes=()):
         self.ranges, self.impls, self.unresolved = ranges, impls, unresolved
-        self.specifier, self.resolved = specifier, resolved or {}
-        self.is_declaration_file = media_type in ("Dts", "Dmts", "Dcts")
+        self.specifier, self.resolved, self.plain_classes = specifier, resolved or {}, plain_classes
+        self.is_ambient = media_type in ("Dts", "Dmts", "Dcts")
         self.faults = []
-        items = [self.item(item) for item in body]
-        self.items = [item for item in items if item is not None]
+        self.items = self.items_of(body)
 
     def fault(self, code, place, is_definitely=None, is_async=None):
         self.faults.append((code, place, is_definitely, is_async))
@@ -165,6 +166,11 @@ class Skeleton(Classes, Modules):
         return shown(is_const, value, self.unresolved)
 
     # -- items
+
+    def items_of(self, body):
+        """What stays of the items of a module, or of a namespace."""
+        items = [self.item(item) for item in body]
+        return [item for item in items if item is not None]
 
     def item(self, item):
         kind, node = variant(item)
@@ -183,14 +189,16 @@ class Skeleton(Classes, Modules):
             return self.statement(node)
         if kind == "Using":
             return self.using(node, exported or node["span"])
+        if kind == "TsModule":
+            return self.namespace(node, exported or node["span"])
         place = exported or range_of_default(decl)
         if place not in self.ranges:
             return None
         if kind == "TsInterface":
             return decl
         if kind == "Class":
-            return {"Class": dict(node, **{"class": self.class_(node["class"], node["declare"] or self.is_declaration_file)})}
-        if self.is_declaration_file:
+            return {"Class": dict(node, **{"class": self.class_(node["class"], node["declare"] or self.is_ambient)})}
+        if self.is_ambient:
             return decl
         return {"Fn": dict(node, function=self.function(node["function"], node["ident"]["span"], "Method", place in self.impls))}
 
@@ -198,7 +206,7 @@ class Skeleton(Classes, Modules):
         decls = [decl for decl in var["decls"] if decl["span"] in self.ranges]
         if not decls:
             return None
-        if not var["declare"] and not self.is_declaration_file:
+        if not var["declare"] and not self.is_ambient:
             decls = [self.declarator(decl, var["kind"] == "Const") for decl in decls]
         return {"Var": dict(var, decls=decls)}
 
@@ -345,7 +353,7 @@ class Skeleton(Classes, Modules):
             return {kind: self.arrow(node, place or node["span"])}
         if kind in ALL_PARTS:
             return self.left_parts(kind, node, ALL_PARTS[kind])
-        if kind in ("Array", "Object", "Tpl", "Member", "Call"):
+        if kind in ("Array", "Object", "Tpl", "Member", "Call", "New"):
             return getattr(self, "left_" + kind.lower())(node)
         return None
 
@@ -423,6 +431,16 @@ class Skeleton(Classes, Modules):
         arg = self.left_element(args[0])
         return arg and {"Call": dict(node, args=[arg])}
 
+    def left_new(self, node):
+        """`new` of a class without type parameters, by its name and without type arguments."""
+        named = node["callee"].get("Ident")
+        if not named or (named["sym"], named["ctxt"]) not in self.plain_classes or node["type_args"] is not None:
+            return None
+        if node["args"] is None:
+            return {"New": node}
+        args = self.left_all(node["args"], self.left_element)
+        return None if args is None else {"New": dict(node, args=args)}
+
 
 def emptied(pat):
     kind, node = variant(pat)
@@ -438,6 +456,10 @@ MODULE_TEXTS = {
     "unsupported-default-export-expr": ("default export expression was too complex",
         "add an 'as' clause with an explicit type after the expression, or extract to a variable",
         ["fast check was unable to infer the type of the default export expression"]),
+    "unsupported-global-module": ("found global augmentations, which are not supported", "remove the 'global' augmentation",
+        ["global augmentations are not supported because they can modify global types, which can affect other modules type checking"]),
+    "unsupported-ambient-module": ("found an ambient module, which is a global augmentation, which are not unsupported", "remove the ambient module declaration",
+        ["ambient modules are not supported because they can modify the types of a module from outside of that module"]),
     "unsupported-require": ("require statements are a CommonJS feature, which are not supported in ES modules", "use an import statement instead",
         [COMMON_JS.format("require")]),
     "unsupported-ts-export-assignment": ("export assignments are a Common JS feature, which are not supported in ES modules",

@@ -22,7 +22,7 @@ use Rattle.fast_check_signatures.proofs.Adding.{adds_nothing, adds_same, adds_ma
 use Rattle.fast_check_skeleton.specs.KeptComments.{without_all_leading}
 use Rattle.fast_check_skeleton.specs.Surroundings.{Surroundings}
 use Rattle.fast_check_skeleton.specs.Visible.{is_ambient_class}
-use Rattle.fast_check_transform.specs.PartAnswers.{class_in_answer, class_answer}
+use Rattle.fast_check_declarations.specs.PartAnswers.{class_in_answer, class_answer}
 
 module _ (around : Surroundings) (decl : Tree) where
   abbrev class_if : Bool → Seen

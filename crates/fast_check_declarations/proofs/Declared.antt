@@ -28,12 +28,12 @@ use Rattle.fast_check_signatures.proofs.Adding.{adds_nothing, adds_fault, adds_s
 use Rattle.fast_check_skeleton.specs.Mutability.{mutability_of}
 use Rattle.fast_check_skeleton.specs.Surroundings.{Surroundings}
 use Rattle.fast_check_skeleton.specs.Visible.{declared_ident, declared_type, declarator_head, typed_declarator, value_seen, untyped_seen}
-use Rattle.fast_check_skeleton.specs.Visible.{ident_declarator_seen, declarator_seen, is_ambient, is_public_declarator, public_declarator}
+use Rattle.fast_check_skeleton.specs.Visible.{ident_declarator_seen, declarator_seen, is_ambient_statement, is_public_declarator, public_declarator}
 use Rattle.fast_check_skeleton.specs.Visible.{public_declarators, statement_seen, signature_of, is_public_using, using_place, using_seen}
 use Rattle.fast_check_skeleton.proofs.Standing.{declarator_one, statement_is}
-use Rattle.fast_check_transform.specs.PartAnswers.{retyped, value_answer, valued_answer, ident_answer, declarator_answer, public_answer}
-use Rattle.fast_check_transform.specs.PartAnswers.{declarators_answer, statement_answer, signature_answer, function_answer, using_answer}
-use Rattle.fast_check_transform.proofs.Listed.{alone, one_more, whole}
+use Rattle.fast_check_declarations.specs.PartAnswers.{retyped, value_answer, valued_answer, ident_answer, declarator_answer, public_answer}
+use Rattle.fast_check_declarations.specs.PartAnswers.{declarators_answer, statement_answer, signature_answer, function_answer, using_answer}
+use Rattle.fast_check_declarations.proofs.Listed.{alone, one_more, whole}
 
 -- ---- declarators
 
@@ -119,16 +119,16 @@ module _ (around : Surroundings) (statement d : Tree) where
 
   pub private_declarator : is_public_declarator around d ≡ false → (old : List Fault) → Adds (public_answer around statement d) [] old old
   unfolding public_answer
-  private_declarator e old = adds_same (ap (λ p. answer_of (in_if p (is_ambient around statement))) e) (adds_nothing [] old)
+  private_declarator e old = adds_same (ap (λ p. answer_of (in_if p (is_ambient_statement around statement))) e) (adds_nothing [] old)
 
-  pub ambient_declarator : is_public_declarator around d ≡ true → is_ambient around statement ≡ true → {t : Tree} → t ≡ d → (old : List Fault) →
+  pub ambient_declarator : is_public_declarator around d ≡ true → is_ambient_statement around statement ≡ true → {t : Tree} → t ≡ d → (old : List Fault) →
       Adds (public_answer around statement d) (t ∷ []) old old
   unfolding public_answer
   ambient_declarator e f p old =
       subst (λ u. Adds (answer_of (public_declarator around statement d)) (u ∷ []) old old) (sym p)
       (adds_same (λ i. answer_of (in_if (e i) (f i))) (adds_nothing (d ∷ []) old))
 
-  pub public_declarator_stays : is_public_declarator around d ≡ true → is_ambient around statement ≡ false → {t : Tree} {old new : List Fault} →
+  pub public_declarator_stays : is_public_declarator around d ≡ true → is_ambient_statement around statement ≡ false → {t : Tree} {old new : List Fault} →
       Adds (declarator_answer around (mutability_of (VarDecl-kind statement)) d) (Some t) old new → Adds (public_answer around statement d) (t ∷ []) old new
   unfolding public_answer declarator_answer
   public_declarator_stays e f h = adds_same (λ i. answer_of (in_if (e i) (f i))) (alone (declarator_seen around (mutability_of (VarDecl-kind statement)) d) h)
@@ -169,7 +169,7 @@ module _ (around : Surroundings) (statement : Tree) where
       all_append (public_declarator around statement d) (flat_map (public_declarator around statement) ds)
       (of_choice AllHave (is_public_declarator around d) _ _
       (λ e. (
-        of_choice HasTree (is_ambient around statement) _ _ (λ e. (d, refl)) (λ e. declarator_one around (mutability_of (VarDecl-kind statement)) d),
+        of_choice HasTree (is_ambient_statement around statement) _ _ (λ e. (d, refl)) (λ e. declarator_one around (mutability_of (VarDecl-kind statement)) d),
         tt,
       )) (λ e. tt))
       (declarators_have ds)
@@ -232,11 +232,11 @@ module _ (around : Surroundings) (place : SourceRange) (decl : Tree) where
   abbrev decl_if : Bool → Seen
   decl_if b = if b then written decl else round FnDecl (seens (written (FnDecl-ident decl) ∷ flag (FnDecl-declare decl) ∷ signature_of around place decl ∷ []))
 
-  pub ambient_function : around.is_declaration_file ≡ true → (old : List Fault) → Adds (function_answer around place decl) (Some decl) old old
+  pub ambient_function : around.is_ambient ≡ true → (old : List Fault) → Adds (function_answer around place decl) (Some decl) old old
   unfolding function_answer
   ambient_function e old = adds_same (ap (λ b. answer_to (decl_if b)) e) (adds_nothing _ old)
 
-  pub made_function : around.is_declaration_file ≡ false → {t : Tree} {old new : List Fault} → Adds (signature_answer around place decl) (Some t) old new →
+  pub made_function : around.is_ambient ≡ false → {t : Tree} {old new : List Fault} → Adds (signature_answer around place decl) (Some t) old new →
       Adds (function_answer around place decl) (Some (fn_decl (FnDecl-ident decl) (FnDecl-declare decl) t)) old new
   unfolding function_answer signature_answer
   made_function e {new = new} h =

@@ -22,9 +22,9 @@ use Rattle.fast_check_skeleton.specs.declared.rules.DefaultRule.{DefaultRule}
 use Rattle.fast_check_skeleton.specs.declared.rules.DefaultRule.TheVariants.{Value, Class, Function, Interface}
 use Rattle.fast_check_skeleton.specs.Defaults.{default_value_seen, default_class_seen, default_place, default_signature, default_function_seen, default_seen}
 use Rattle.fast_check_skeleton.specs.Surroundings.{Surroundings}
-use Rattle.fast_check_transform.specs.PartAnswers.{default_value_answer, default_class_answer, default_signature_answer, default_function_answer}
-use Rattle.fast_check_transform.specs.PartAnswers.{is_public_default, exported_default, default_decl_seen, default_decl_answer, default_answer}
-use Rattle.fast_check_transform.proofs.Listed.{alone}
+use Rattle.fast_check_declarations.specs.PartAnswers.{default_value_answer, default_class_answer, default_signature_answer, default_function_answer}
+use Rattle.fast_check_declarations.specs.PartAnswers.{is_public_default, exported_default, default_decl_seen, default_decl_answer, default_answer}
+use Rattle.fast_check_declarations.proofs.Listed.{alone}
 
 -- ---- expressions
 
@@ -87,11 +87,11 @@ module _ (around : Surroundings) (place : SourceRange) (decl : Tree) where
   abbrev decl_if : Bool → Seen
   decl_if b = if b then written decl else round FnExpr (seens (written (FnExpr-ident decl) ∷ default_signature around place decl ∷ []))
 
-  pub ambient_function : around.is_declaration_file ≡ true → (old : List Fault) → Adds (default_function_answer around place decl) (Some decl) old old
+  pub ambient_function : around.is_ambient ≡ true → (old : List Fault) → Adds (default_function_answer around place decl) (Some decl) old old
   unfolding default_function_answer
   ambient_function e old = adds_same (ap (λ b. answer_to (decl_if b)) e) (adds_nothing _ old)
 
-  pub made_function : around.is_declaration_file ≡ false → {t : Tree} {old new : List Fault} →
+  pub made_function : around.is_ambient ≡ false → {t : Tree} {old new : List Fault} →
       Adds (default_signature_answer around place decl) (Some t) old new →
       Adds (default_function_answer around place decl) (Some (fn_expr (FnExpr-ident decl) t)) old new
   unfolding default_function_answer default_signature_answer

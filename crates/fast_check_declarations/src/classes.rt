@@ -7,7 +7,8 @@ ghost use Rattle.fast_check_skeleton.specs.KeptComments.{without_all_leading};
 ghost use Rattle.fast_check_skeleton.specs.Rules.{item_rule};
 ghost use Rattle.fast_check_skeleton.specs.Visible.{is_ambient_class};
 ghost use Rattle.fast_check_links.specs.Asked.{Asked-around};
-ghost use Rattle.fast_check_transform.specs.PartAnswers.{class_in_answer, class_answer};
+ghost use Rattle.fast_check_links.specs.Links.{as_list};
+ghost use Rattle.fast_check_declarations.specs.PartAnswers.{class_in_answer, class_answer, public_class_answer};
 
 use fast_check_class_forms::Class;
 use fast_check_class_nodes::Earlier;
@@ -27,7 +28,7 @@ use std::alloc::{AllocError, Global};
 fn is_ambient_class(asked: Asked<'_>, decl: Part<'_>) -> bool
     ensures { result ≡ is_ambient_class (Asked-around asked.entry) (seen decl.entry) }
 {
-    asked.is_declaration_file || ClassDecl::of(decl).declare
+    asked.is_ambient || ClassDecl::of(decl).declare
 }
 
 /// The class of a declaration; an ambient one as it is written, but for private members with computed keys.
@@ -52,8 +53,8 @@ fn keep_class_of(
     )
 }
 
-/// A public class.
-pub fn keep_class(
+/// A class declaration.
+fn keep_class(
     alloc: Global,
     asked: Asked<'_>,
     decl: Part<'_>,
@@ -68,6 +69,23 @@ pub fn keep_class(
         class: keep_class_of(alloc, asked, decl, faults)?,
     };
     made.into_tree(alloc)
+}
+
+/// A class declaration, which is public by `place`; none where it is not.
+pub fn keep_public_class(
+    alloc: Global,
+    asked: Asked<'_>,
+    place: SourceRange,
+    decl: Part<'_>,
+    faults: &mut Vec<Fault>,
+) -> Result<Option<Tree>, AllocError>
+    ensures { IfOk result (λ tree.
+        Adds (public_class_answer (Asked-around asked.entry) place (seen decl.entry)) (as_list tree) faults.old.items faults.new.items) }
+{
+    if !asked.public_ranges.contains(&place) {
+        return Ok(None);
+    }
+    Ok(Some(keep_class(alloc, asked, decl, faults)?))
 }
 
 /// Removes the comments before the members of a class that go.
@@ -111,6 +129,7 @@ fn remove_in_decl(
         DeclRule::Variables
         | DeclRule::Function
         | DeclRule::Standing
+        | DeclRule::Namespace
         | DeclRule::Using
         | DeclRule::Untaken => Ok(()),
     }

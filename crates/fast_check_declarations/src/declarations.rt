@@ -3,13 +3,14 @@ ghost use Rattle.std.specs.List.{list_any};
 ghost use Rattle.fast_check_syntax.specs.Part.{seen};
 ghost use Rattle.fast_check_syntax.specs.Shape.{parts};
 ghost use Rattle.fast_check_statement_forms.specs.Declarations.{VarDecl-decls};
-ghost use Rattle.fast_check_signatures.specs.Answers.{Adds};
+ghost use Rattle.fast_check_signatures.specs.Answers.{Adds, faultless};
 ghost use Rattle.fast_check_skeleton.specs.Mutability.{mutability_of};
-ghost use Rattle.fast_check_skeleton.specs.Visible.{is_ambient, is_public_declarator, is_public_using, using_place};
+ghost use Rattle.fast_check_skeleton.specs.Visible.{is_ambient_statement, is_public_declarator, is_public_using, using_place};
 ghost use Rattle.fast_check_links.specs.Asked.{Asked-around};
 ghost use Rattle.fast_check_links.specs.Links.{as_list};
-ghost use Rattle.fast_check_transform.specs.PartAnswers.{retyped, value_answer, valued_answer, ident_answer};
-ghost use Rattle.fast_check_transform.specs.PartAnswers.{declarator_answer, public_answer, declarators_answer, statement_answer, using_answer};
+ghost use Rattle.fast_check_declarations.specs.PartAnswers.{retyped, value_answer, valued_answer, ident_answer};
+ghost use Rattle.fast_check_declarations.specs.PartAnswers.{declarator_answer, public_answer, declarators_answer, statement_answer, standing_answer};
+ghost use Rattle.fast_check_declarations.specs.PartAnswers.{using_answer};
 
 use fast_check_bindings::unresolved_context;
 use fast_check_helpers::{DeclMutabilityKind, maybe_infer_type, never_value, type_ann};
@@ -34,10 +35,10 @@ fn mutability_of(kind: Part<'_>) -> DeclMutabilityKind
 }
 
 /// Whether a variable statement stands as it is written, since it is ambient.
-fn is_ambient(asked: Asked<'_>, statement: Part<'_>) -> bool
-    ensures { result ≡ is_ambient (Asked-around asked.entry) (seen statement.entry) }
+fn is_ambient_statement(asked: Asked<'_>, statement: Part<'_>) -> bool
+    ensures { result ≡ is_ambient_statement (Asked-around asked.entry) (seen statement.entry) }
 {
-    asked.is_declaration_file || VarDecl::of(statement).declare
+    asked.is_ambient || VarDecl::of(statement).declare
 }
 
 /// A declarator with this type and this value.
@@ -165,7 +166,7 @@ fn keep_declarator(
     if !asked.public_ranges.contains(&span) {
         return Ok(None);
     }
-    if is_ambient(asked, statement) {
+    if is_ambient_statement(asked, statement) {
         return Ok(Some(declarator.to_tree(alloc)?));
     }
     let mutability = mutability_of(VarDecl::of(statement).kind);
@@ -274,4 +275,19 @@ pub fn keep_using(
         range: using_place(decl),
     })?;
     Ok(Some(Tree::Absent))
+}
+
+/// A declaration that stands as it is written, which is public by `place`; none where it is not.
+pub fn keep_standing(
+    alloc: Global,
+    asked: Asked<'_>,
+    place: SourceRange,
+    decl: Part<'_>,
+) -> Result<Option<Tree>, AllocError>
+    ensures { IfOk result (λ tree. standing_answer (Asked-around asked.entry) place (seen decl.entry) ≡ faultless (as_list tree)) }
+{
+    if !asked.public_ranges.contains(&place) {
+        return Ok(None);
+    }
+    Ok(Some(decl.to_tree(alloc)?))
 }

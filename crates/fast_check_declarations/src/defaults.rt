@@ -4,8 +4,8 @@ ghost use Rattle.fast_check_signatures.specs.Answers.{Adds};
 ghost use Rattle.fast_check_skeleton.specs.Defaults.{default_place, is_public_value};
 ghost use Rattle.fast_check_links.specs.Asked.{Asked-around};
 ghost use Rattle.fast_check_links.specs.Links.{as_list};
-ghost use Rattle.fast_check_transform.specs.PartAnswers.{is_public_default, default_value_answer, default_class_answer};
-ghost use Rattle.fast_check_transform.specs.PartAnswers.{default_signature_answer, default_function_answer, default_decl_answer, default_answer};
+ghost use Rattle.fast_check_declarations.specs.PartAnswers.{is_public_default, default_value_answer, default_class_answer};
+ghost use Rattle.fast_check_declarations.specs.PartAnswers.{default_signature_answer, default_function_answer, default_decl_answer, default_answer};
 
 use fast_check_class_forms::Function;
 use fast_check_classes::transform_class;
@@ -125,7 +125,7 @@ fn transform_signature(
     )
 }
 
-/// A function that is exported by default, by its signature; in a declaration file as it is written.
+/// A function that is exported by default, by its signature; where all is ambient as it is written.
 fn keep_function(
     alloc: Global,
     asked: Asked<'_>,
@@ -136,7 +136,7 @@ fn keep_function(
     ensures { IfOk result (λ tree.
         Adds (default_function_answer (Asked-around asked.entry) place (seen decl.entry)) (Some tree) faults.old.items faults.new.items) }
 {
-    if asked.is_declaration_file {
+    if asked.is_ambient {
         return decl.to_tree(alloc);
     }
     let ident = FnExpr::of(decl).ident;

@@ -2,6 +2,8 @@ ghost use Rattle.std.specs.Prelude.{◌≡◌};
 
 use fast_check_graph::ModuleGraph;
 use fast_check_modules::EsModuleInfo;
+use fast_check_statement_forms::TsModuleDecl;
+use fast_check_syntax::Part;
 use fast_check_tables::ModulePublicRanges;
 
 /// What the transform asks beside the tree.
@@ -11,10 +13,13 @@ pub struct Asked<'a> {
     pub graph: &'a ModuleGraph,
     pub es_module_info: &'a EsModuleInfo,
     pub public_ranges: &'a ModulePublicRanges,
-    pub is_declaration_file: bool,
+    /// Whether all that stands here is ambient: in a declaration file, or inside of a namespace with `declare`.
+    pub is_ambient: bool,
 }
 
 impl<'a> Asked<'a> {
+    ghost use Rattle.fast_check_syntax.specs.Part.{seen};
+    ghost use Rattle.fast_check_skeleton.specs.Surroundings.{inside};
     ghost use Rattle.fast_check_links.specs.Asked.{Asked-around, surroundings_of};
 
     /// What is asked of a module of this graph, with these public ranges.
@@ -29,7 +34,19 @@ impl<'a> Asked<'a> {
             graph,
             es_module_info,
             public_ranges,
-            is_declaration_file: es_module_info.source().media_type.is_declaration(),
+            is_ambient: es_module_info.source().media_type.is_declaration(),
+        }
+    }
+
+    /// What is asked of the items of a namespace: inside of one with `declare` all is ambient.
+    pub fn inside(self, decl: Part<'_>) -> Self
+        ensures { Asked-around result ≡ inside (Asked-around self.entry) (seen decl.entry) }
+    {
+        Asked {
+            graph: self.graph,
+            es_module_info: self.es_module_info,
+            public_ranges: self.public_ranges,
+            is_ambient: self.is_ambient || TsModuleDecl::of(decl).declare,
         }
     }
 }

@@ -470,7 +470,7 @@ module _ (r : Renaming) (ok : IsRenaming r) where
         AllAlike r ok (namespace_seen item_look a p t) (namespace_seen item_look b q u)
     namespace_alike p q t u d e =
         subst₂ (AllAlike r ok) (sym (namespace_if a p t d.namespaces.0)) (sym (namespace_if b q u d.namespaces.1))
-        (all_alike_if r ok (a.is_public p) (b.is_public q) _ _ d.is_public (round_alike r ok TsModuleDecl
+        (all_alike_if r ok (a.is_public p) (b.is_public q) _ _ d.public (round_alike r ok TsModuleDecl
         (range (TsModuleDecl-span t) ∷ flag (TsModuleDecl-declare t) ∷ flag (TsModuleDecl-global t) ∷ flag (TsModuleDecl-namespace t) ∷
         written (TsModuleDecl-id t) ∷ body_round (body_seen item_look (inside a t) (items_inside t)) (TsModuleDecl-body t) ∷ [])
         (range (TsModuleDecl-span u) ∷ flag (TsModuleDecl-declare u) ∷ flag (TsModuleDecl-global u) ∷ flag (TsModuleDecl-namespace u) ∷
@@ -615,7 +615,20 @@ module _ (r : Renaming) (ok : IsRenaming r) where
     all_declared_alike c m (h.SameItems.next {a = a} {b = b} {t = t} {u = u} {ts = ts} {us = us} s rest) =
         more_properties r ok (item_properties a t) (each_declared a ts) (item_properties b u) (each_declared b us) (declared_alike c m s) (all_declared_alike c m rest)
 
- faults_from (x ∷ xs) [] e = cc
+  module _ (a b : Surroundings) where
+    visible_alike : (t u : Tree) → AgreeHidden r a b t u → AllAlike r ok (visible a t) (visible b u)
+    visible_alike t u g = items_alike g.bindings g.is_ambient g.items
+
+    -- ---- answers
+
+    fault_from : (f g : Fault) → moved_fault (partners r) f ≡ moved_fault twice g → SameFault r f g
+    fault_from f g e = record { kind = ap (λ x. x.kind) e; range = range_from r ok f.range g.range (ap (λ x. x.range) e) }
+
+    faults_from : (xs ys : List Fault) → map (moved_fault (partners r)) xs ≡ map (moved_fault twice) ys → Each (SameFault r) xs ys
+    faults_from [] [] e = tt
+    faults_from (x ∷ xs) (y ∷ ys) e = (fault_from x y cc, faults_from xs ys cc)
+    faults_from [] (y ∷ ys) e = cc
+    faults_from (x ∷ xs) [] e = cc
 
     abbrev module_parts : Surroundings → Tree → List Tree
     module_parts around t = tree.Range (Module-span t) ∷ list (transformed around t).stays ∷ Module-shebang t ∷ []

@@ -425,7 +425,7 @@ module _ (r : Renaming) (ok : IsRenaming r) where
           is_among p (starts_in_namespace start_look a x t) ≡ is_among q (starts_in_namespace start_look b y u)
       namespace_removed x y t u d e =
           among_if (is_namespace t && a.is_public x) (is_namespace u && b.is_public y) _ _
-          (ap₂ (λ m n. m && n) (d.namespaces.0 ∙ sym d.namespaces.1) d.is_public) e
+          (ap₂ (λ m n. m && n) (d.namespaces.0 ∙ sym d.namespaces.1) d.public) e
 
   module _ (p q : ℕ) (pair : IsPair r.starts p q) where
     item_removed : (a b : Surroundings) (t u : Tree) → SameBindings r a.bindings b.bindings → a.is_ambient ≡ b.is_ambient →

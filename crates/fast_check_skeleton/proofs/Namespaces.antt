@@ -26,7 +26,8 @@ use Rattle.fast_check_skeleton.specs.Namespaces.{is_ambient_module, is_namespace
 use Rattle.fast_check_skeleton.specs.Namespaces.{namespace_round}
 use Rattle.fast_check_skeleton.specs.Rules.{item_rule}
 use Rattle.fast_check_skeleton.specs.Surroundings.{Surroundings, inside}
-use Rattle.fast_check_skeleton.specs.Visible.{body_seen, namespace_seen, decl_form, exported_seen, form_by_rule, item_form, item_look, item_seen, seen_by_rule}
+use Rattle.fast_check_expandos.specs.Expandos.{namespaces_seen}
+use Rattle.fast_check_skeleton.specs.Visible.{item_properties, body_seen, namespace_seen, decl_form, exported_seen, form_by_rule, item_form, item_look, item_seen, seen_by_rule}
 
 -- ---- bodies of namespaces
 
@@ -126,11 +127,15 @@ module _ (around : Surroundings) (item : Tree) where
   abbrev look : Tree → Surroundings → List Seen
   look = given (λ around. []) item_form item
 
-  same_items : (here : Surroundings) (ts : List Tree) → OfAll (λ u. height u < height item) ts → body_seen look here ts ≡ body_seen item_look here ts
+  same_each : (here : Surroundings) (ts : List Tree) → OfAll (λ u. height u < height item) ts →
+      flat_map (λ u. look u here) ts ≡ flat_map (λ u. item_look u here) ts
   unfolding item_look
-  same_items here [] below = refl
-  same_items here (t ∷ ts) below =
-      ap₂ (λ x y. x ++ y) (ap (λ f. f here) (given_lower (λ around. []) item_form item t below.0)) (same_items here ts below.1)
+  same_each here [] below = refl
+  same_each here (t ∷ ts) below =
+      ap₂ (λ x y. x ++ y) (ap (λ f. f here) (given_lower (λ around. []) item_form item t below.0)) (same_each here ts below.1)
+
+  same_items : (here : Surroundings) (ts : List Tree) → OfAll (λ u. height u < height item) ts → body_seen look here ts ≡ body_seen item_look here ts
+  same_items here ts below = ap (λ xs. xs ++ namespaces_seen (flat_map (item_properties here) ts)) (same_each here ts below)
 
   same_decl : (place : SourceRange) (decl : Tree) → height decl ≤ height item → (rule : DeclRule) →
       decl_form look around place decl rule ≡ decl_form item_look around place decl rule

@@ -51,7 +51,7 @@ use Rattle.fast_check_skeleton.specs.declared.rules.DefaultRule.TheVariants.{Val
 use Rattle.fast_check_skeleton.specs.declared.rules.LinkRule.{LinkRule}
 use Rattle.fast_check_skeleton.specs.declared.rules.LinkRule.TheVariants.{Import, Export, All, Alias}
 use Rattle.fast_check_skeleton.specs.declared.rules.ItemRule.{ItemRule}
-use Rattle.fast_check_skeleton.specs.declared.rules.ItemRule.TheVariants.{Declared, Exported, Linked, Default, Refused, Silent}
+use Rattle.fast_check_skeleton.specs.declared.rules.ItemRule.TheVariants.{Declared, Exported, Linked, Default, Refused, Silent, Assigned}
 use Rattle.fast_check_skeleton.specs.Defaults.{is_public_value, default_value_seen, default_class_seen, default_place, default_signature}
 use Rattle.fast_check_skeleton.specs.Defaults.{default_function_seen, public_default, default_seen}
 use Rattle.fast_check_skeleton.specs.Links as l
@@ -70,6 +70,7 @@ use Rattle.fast_check_skeleton.specs.Grammar.{HasTypedValue, IsTypedDeclarator, 
 use Rattle.fast_check_skeleton.specs.Grammar.{IsTypedDefaultDecl, IsLink, IsPlainItem, IsTypedItem, IsTypedNamespace, AllTypedItems, IsSkeleton}
 use Rattle.fast_check_skeleton.specs.Grammar as g
 use Rattle.fast_check_skeleton.proofs.StandingNamespaces.{namespace_is, namespace_typed}
+use Rattle.fast_check_skeleton.specs.Rules.{is_assigned}
 use Rattle.fast_check_skeleton.proofs.StandingExpandos.{typed, all_below, body_stands}
 use Rattle.fast_check_skeleton.proofs.Namespaces.{item_seen_is, items_below}
 use Rattle.fast_check_syntax.specs.Height.{height, height_at_most}
@@ -557,14 +558,16 @@ module _ (around : Surroundings) where
 
   -- ---- items
 
-  pub item_one : (item : Tree) (rule : ItemRule) → OneTree (seen_by_rule around item rule)
-  item_one item (Declared rule) = decl_one (range_of_node item) item rule
-  item_one item (Exported rule) =
+  -- of an item that is no assignment
+  pub item_one : (item : Tree) (rule : ItemRule) → is_assigned rule ≡ false → OneTree (seen_by_rule around item rule)
+  item_one item (Declared rule) e = decl_one (range_of_node item) item rule
+  item_one item (Exported rule) e =
       export_one item (decl_seen around (ExportDecl-span item) (ExportDecl-decl item) rule) (decl_one (ExportDecl-span item) (ExportDecl-decl item) rule)
-  item_one item (Linked rule) = link_one item rule
-  item_one item (Default rule) = default_one item rule
-  item_one item (Refused kind) = (Absent, refl)
-  item_one item Silent = tt
+  item_one item (Linked rule) e = link_one item rule
+  item_one item (Default rule) e = default_one item rule
+  item_one item (Refused kind) e = (Absent, refl)
+  item_one item Assigned e = cc
+  item_one item Silent e = tt
 
   as_items : (ss : List Seen) → AllStay IsPlain ss → AllStay IsItem ss
   as_items ss p = all_weaker IsPlain IsItem (λ t h. g.IsTypedItem.plain h) ss p

@@ -1,6 +1,6 @@
 -- The namespaces of expando properties stand in the grammar, where nothing is wrong with the right sides of their assignments.
 use Rattle.std.specs.Prelude.{◌≡◌, ℕ, ◌<◌, Bool, true, false, not, ◌&&◌, ◌||◌, Option, Some, None, IfSome, List, [], ◌∷◌, ◌++◌, map, refl, if◌then◌else◌}
-use Rattle.std.proofs.Common.{ap, ap₂, ◌∙◌, sym, subst, subst₂}
+use Rattle.std.proofs.Common.{ap, ap₂, ◌∙◌, sym, subst, subst₂, inl, inr}
 use Rattle.std.specs.List.{filter, flat_map, list_any}
 use Rattle.fast_check_syntax.specs.declared.atom.Id.{Id}
 use Rattle.fast_check_syntax.specs.declared.kind.Kind.TheVariants.{BindingIdent, VarDeclarator, VarDecl, ExportDecl, TsModuleDecl, TsModuleBlock, Leaf}

@@ -3,7 +3,6 @@ use Rattle.std.specs.Prelude.{◌≡◌, ℕ, zero, suc, ◌<◌, Bool, true, fa
 use Rattle.std.proofs.Common.{arith, ap, ap₂, ◌∙◌, sym, subst, subst₂, append-nil}
 use Rattle.fast_check_syntax.specs.declared.kind.Kind.TheVariants.{Str, TsModuleDecl, TsModuleBlock, TsNamespaceDecl}
 use Rattle.fast_check_syntax.specs.declared.kind.Kind.TheVariants.{List as List'}
-use Rattle.fast_check_signatures.specs.Bindings.{Bindings}
 use Rattle.fast_check_syntax.specs.declared.tree.Tree.{Tree, Absent}
 use Rattle.fast_check_syntax.specs.declared.tree.Tree as tree
 use Rattle.fast_check_syntax.specs.Shape.{◌is◌, is_kind, kind_of, parts, is_absent, flag_of, list}
@@ -14,6 +13,7 @@ use Rattle.fast_check_statement_forms.specs.TsDeclarations.{TsModuleDecl-span, T
 use Rattle.fast_check_statement_forms.specs.TsDeclarations.{TsModuleDecl-id, TsModuleDecl-body, TsModuleBlock-span, TsModuleBlock-body}
 use Rattle.fast_check_statement_forms.specs.TsDeclarations.{TsNamespaceDecl-span, TsNamespaceDecl-declare, TsNamespaceDecl-global, TsNamespaceDecl-id}
 use Rattle.fast_check_statement_forms.specs.TsDeclarations.{TsNamespaceDecl-body, ts_module_decl, ts_module_block}
+use Rattle.fast_check_signatures.specs.Bindings.{Bindings}
 use Rattle.fast_check_signatures.specs.Seen.{Seen, written, range, flag, listed, seens}
 use Rattle.fast_check_signatures.specs.Answers.{Answer, answer_to, answer_of, faultless, list_answer, round_answer, visited}
 use Rattle.fast_check_typed_grammar.proofs.Staying.{Holds, items_hold}

@@ -160,7 +160,7 @@ module _ (r : Renaming) (a b : Surroundings) where
   pub record SameNamespaceHead (p q : SourceRange) (t u : Tree) : Type 0 where
     pub kinds : Both TsModuleDecl t u
     pub namespaces : (is_namespace t ≡ true) × (is_namespace u ≡ true)
-    pub is_public : a.is_public p ≡ b.is_public q
+    pub public : a.is_public p ≡ b.is_public q
     pub span : SameRange r (TsModuleDecl-span t) (TsModuleDecl-span u)
     pub declare : TsModuleDecl-declare t ≡ TsModuleDecl-declare u
     pub namespace : TsModuleDecl-namespace t ≡ TsModuleDecl-namespace u

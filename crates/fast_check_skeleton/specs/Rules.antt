@@ -76,6 +76,11 @@ rule_of_kind kind item = Declared (decl_rule kind)
 abbrev pub item_rule : Tree → ItemRule
 item_rule item = rule_of_kind (kind_of item) item
 
+-- whether an item is an assignment that is a statement
+abbrev pub is_assigned : ItemRule → Bool
+is_assigned Assigned = true
+is_assigned _ = false
+
 -- whether a declaration is taken, and an item
 abbrev pub is_taken_decl : DeclRule → Bool
 is_taken_decl Untaken = false

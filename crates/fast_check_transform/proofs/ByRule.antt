@@ -8,82 +8,64 @@ use Rattle.fast_check_program_forms.specs.ModuleDecls.{ExportDecl-span, ExportDe
 use Rattle.fast_check_ranges.specs.Ranges.{range_of_node}
 use Rattle.fast_check_signatures.specs.declared.fault.Fault.{Fault}
 use Rattle.fast_check_signatures.specs.declared.fault.FaultKind.{FaultKind}
-use Rattle.fast_check_signatures.specs.Answers.{Adds, fault_at, faultless, with_tree, answer_to, answer_of}
+use Rattle.fast_check_signatures.specs.Answers.{Answer, Adds, fault_at, faultless, with_tree, answer_to, answer_of}
 use Rattle.fast_check_signatures.specs.Seen.{Seen, written, faulty}
 use Rattle.fast_check_signatures.proofs.Adding.{adds_nothing, adds_fault, adds_same}
 use Rattle.fast_check_skeleton.specs.declared.rules.DeclRule.{DeclRule}
-use Rattle.fast_check_skeleton.specs.declared.rules.DeclRule.TheVariants.{Variables, Function, Class, Standing, Using, Untaken}
+use Rattle.fast_check_skeleton.specs.declared.rules.DeclRule.TheVariants.{Variables, Function, Class, Standing, Namespace, Using, Untaken}
 use Rattle.fast_check_skeleton.specs.declared.rules.DefaultRule.{DefaultRule}
 use Rattle.fast_check_skeleton.specs.declared.rules.LinkRule.{LinkRule}
+use Rattle.fast_check_skeleton.specs.declared.rules.ItemRule.{ItemRule}
 use Rattle.fast_check_skeleton.specs.declared.rules.ItemRule.TheVariants.{Declared, Exported, Linked, Default, Refused, Silent}
 use Rattle.fast_check_skeleton.specs.Rules.{item_rule}
 use Rattle.fast_check_skeleton.specs.Surroundings.{Surroundings}
-use Rattle.fast_check_skeleton.specs.Visible.{function_decl_seen, class_decl_seen, decl_seen, exported_seen, seen_by_rule, item_seen}
+use Rattle.fast_check_skeleton.specs.Visible.{decl_seen, exported_seen, seen_by_rule, item_seen}
+use Rattle.fast_check_skeleton.proofs.Namespaces.{item_seen_is}
 use Rattle.fast_check_skeleton.proofs.Standing.{OneTree, decl_one, export_is}
 use Rattle.fast_check_links.specs.Links.{as_list, link_answer}
-use Rattle.fast_check_transform.specs.PartAnswers.{statement_answer, function_answer, class_answer, using_answer, decl_answer}
-use Rattle.fast_check_transform.specs.PartAnswers.{default_answer, item_answer, items_answer}
-use Rattle.fast_check_transform.proofs.Listed.{alone, one_more, whole}
+use Rattle.fast_check_declarations.specs.PartAnswers.{statement_answer, public_function_answer, public_class_answer, standing_answer, using_answer}
+use Rattle.fast_check_declarations.specs.PartAnswers.{default_answer}
+use Rattle.fast_check_declarations.proofs.Listed.{alone, one_more, whole}
+use Rattle.fast_check_transform.specs.PartAnswers.{namespace_answer, decl_answer, export_answer, refused_answer, item_answer, items_answer}
 
 module _ (around : Surroundings) (place : SourceRange) (decl : Tree) where
-  abbrev by_rule : DeclRule → List Seen
-  by_rule r = decl_seen around place decl r
-
-  abbrev if_public : Bool → Seen → List Seen
-  if_public p seen = if p then seen ∷ [] else []
+  -- what is answered to a declaration with which this is done
+  abbrev by_rule : DeclRule → Answer (List Tree)
+  by_rule r = answer_of (decl_seen around place decl r)
 
   pub variables : {rule : DeclRule} → rule ≡ Variables → {xs : List Tree} {old new : List Fault} →
       Adds (statement_answer around decl) xs old new → Adds (decl_answer around place decl rule) xs old new
   unfolding decl_answer statement_answer
-  variables r h = adds_same (ap (λ x. answer_of (by_rule x)) r) h
+  variables r h = adds_same (ap by_rule r) h
 
-  pub public_function_stays : {rule : DeclRule} → rule ≡ Function → around.is_public place ≡ true → {t : Tree} {old new : List Fault} →
-      Adds (function_answer around place decl) (Some t) old new → Adds (decl_answer around place decl rule) (t ∷ []) old new
-  unfolding decl_answer function_answer
-  public_function_stays r e h =
-      adds_same (ap (λ x. answer_of (by_rule x)) r ∙ ap (λ p. answer_of (if_public p (function_decl_seen around place decl))) e)
-      (alone (function_decl_seen around place decl) h)
+  pub functions : {rule : DeclRule} → rule ≡ Function → {xs : List Tree} {old new : List Fault} →
+      Adds (public_function_answer around place decl) xs old new → Adds (decl_answer around place decl rule) xs old new
+  unfolding decl_answer public_function_answer
+  functions r h = adds_same (ap by_rule r) h
 
-  pub private_function : {rule : DeclRule} → rule ≡ Function → around.is_public place ≡ false → (old : List Fault) →
-      Adds (decl_answer around place decl rule) [] old old
-  unfolding decl_answer
-  private_function r e old =
-      adds_same (ap (λ x. answer_of (by_rule x)) r ∙ ap (λ p. answer_of (if_public p (function_decl_seen around place decl))) e) (adds_nothing [] old)
+  pub classes : {rule : DeclRule} → rule ≡ Class → {xs : List Tree} {old new : List Fault} →
+      Adds (public_class_answer around place decl) xs old new → Adds (decl_answer around place decl rule) xs old new
+  unfolding decl_answer public_class_answer
+  classes r h = adds_same (ap by_rule r) h
 
-  pub public_standing : {rule : DeclRule} → rule ≡ Standing → around.is_public place ≡ true → {t : Tree} → t ≡ decl → (old : List Fault) →
-      Adds (decl_answer around place decl rule) (t ∷ []) old old
-  unfolding decl_answer
-  public_standing {rule} r e p old =
-      subst (λ u. Adds (answer_of (by_rule rule)) (u ∷ []) old old) (sym p)
-      (adds_same (ap (λ x. answer_of (by_rule x)) r ∙ ap (λ p. answer_of (if_public p (written decl))) e) (adds_nothing (decl ∷ []) old))
+  pub standing : {rule : DeclRule} → rule ≡ Standing → (o : Option Tree) → standing_answer around place decl ≡ faultless (as_list o) → (old : List Fault) →
+      Adds (decl_answer around place decl rule) (as_list o) old old
+  unfolding decl_answer standing_answer
+  standing r o h old = adds_same (ap by_rule r ∙ h) (adds_nothing (as_list o) old)
 
-  pub private_standing : {rule : DeclRule} → rule ≡ Standing → around.is_public place ≡ false → (old : List Fault) →
-      Adds (decl_answer around place decl rule) [] old old
-  unfolding decl_answer
-  private_standing r e old =
-      adds_same (ap (λ x. answer_of (by_rule x)) r ∙ ap (λ p. answer_of (if_public p (written decl))) e) (adds_nothing [] old)
-
-  pub public_class_stays : {rule : DeclRule} → rule ≡ Class → around.is_public place ≡ true → {t : Tree} {old new : List Fault} →
-      Adds (class_answer around decl) (Some t) old new → Adds (decl_answer around place decl rule) (t ∷ []) old new
-  unfolding decl_answer class_answer
-  public_class_stays r e h =
-      adds_same (ap (λ x. answer_of (by_rule x)) r ∙ ap (λ p. answer_of (if_public p (class_decl_seen around decl))) e)
-      (alone (class_decl_seen around decl) h)
-
-  pub private_class : {rule : DeclRule} → rule ≡ Class → around.is_public place ≡ false → (old : List Fault) →
-      Adds (decl_answer around place decl rule) [] old old
-  unfolding decl_answer
-  private_class r e old =
-      adds_same (ap (λ x. answer_of (by_rule x)) r ∙ ap (λ p. answer_of (if_public p (class_decl_seen around decl))) e) (adds_nothing [] old)
+  pub namespaces : {rule : DeclRule} → rule ≡ Namespace → {xs : List Tree} {old new : List Fault} →
+      Adds (namespace_answer around place decl) xs old new → Adds (decl_answer around place decl rule) xs old new
+  unfolding decl_answer namespace_answer
+  namespaces r h = adds_same (ap by_rule r) h
 
   pub using_stays : {rule : DeclRule} → rule ≡ Using → {xs : List Tree} {old new : List Fault} →
       Adds (using_answer around place decl) xs old new → Adds (decl_answer around place decl rule) xs old new
   unfolding decl_answer using_answer
-  using_stays r h = adds_same (ap (λ x. answer_of (by_rule x)) r) h
+  using_stays r h = adds_same (ap by_rule r) h
 
   pub untaken : {rule : DeclRule} → rule ≡ Untaken → (old : List Fault) → Adds (decl_answer around place decl rule) [] old old
   unfolding decl_answer
-  untaken r old = adds_same (ap (λ x. answer_of (by_rule x)) r) (adds_nothing [] old)
+  untaken r old = adds_same (ap by_rule r) (adds_nothing [] old)
 
 module _ (around : Surroundings) (item : Tree) where
   -- what is seen of a declaration is one form at most
@@ -109,52 +91,64 @@ module _ (around : Surroundings) (item : Tree) where
       }
   export_of (s ∷ t ∷ ss) one h = absurd one
 
+  -- what is answered to an item with which this is done
+  by_item_rule : {rule : ItemRule} → item_rule item ≡ rule → item_answer around item ≡ answer_of (seen_by_rule around item rule)
+  unfolding item_answer
+  by_item_rule e = ap answer_of (item_seen_is around item ∙ ap (seen_by_rule around item) e)
+
   pub declared : {rule : DeclRule} → item_rule item ≡ Declared rule → {place : SourceRange} {xs : List Tree} {old new : List Fault} →
       Adds (decl_answer around place item rule) xs old new → place ≡ range_of_node item → Adds (item_answer around item) xs old new
-  unfolding item_answer decl_answer
-  declared {rule} e h p = adds_same (ap (λ r. answer_of (seen_by_rule around item r)) e ∙ ap (λ q. answer_of (decl_seen around q item rule)) (sym p)) h
+  unfolding decl_answer
+  declared {rule} e h p = adds_same (by_item_rule e ∙ ap (λ q. answer_of (decl_seen around q item rule)) (sym p)) h
 
-  pub no_export : {rule : DeclRule} → item_rule item ≡ Exported rule → {place : SourceRange} {decl : Tree} {xs : List Tree} {old new : List Fault} →
+  pub exported : {rule : DeclRule} → item_rule item ≡ Exported rule → {xs : List Tree} {old new : List Fault} →
+      Adds (export_answer around item rule) xs old new → Adds (item_answer around item) xs old new
+  unfolding export_answer
+  exported e h = adds_same (by_item_rule e) h
+
+  pub no_export : {rule : DeclRule} {place : SourceRange} {decl : Tree} {xs : List Tree} {old new : List Fault} →
       Adds (decl_answer around place decl rule) xs old new → place ≡ ExportDecl-span item → decl ≡ ExportDecl-decl item → xs ≡ [] →
-      Adds (item_answer around item) [] old new
-  unfolding item_answer decl_answer
-  no_export {rule} e h p q n =
-      adds_same (ap (λ r. answer_of (seen_by_rule around item r)) e)
-      (none_of (decl_seen around (ExportDecl-span item) (ExportDecl-decl item) rule) (decl_one around (ExportDecl-span item) (ExportDecl-decl item) rule)
-      (adds_same (λ i. answer_of (decl_seen around (sym p i) (sym q i) rule)) h) n)
+      Adds (export_answer around item rule) [] old new
+  unfolding export_answer decl_answer
+  no_export {rule} h p q n =
+      none_of (decl_seen around (ExportDecl-span item) (ExportDecl-decl item) rule) (decl_one around (ExportDecl-span item) (ExportDecl-decl item) rule)
+      (adds_same (λ i. answer_of (decl_seen around (sym p i) (sym q i) rule)) h) n
 
-  pub made_export : {rule : DeclRule} → item_rule item ≡ Exported rule → {place : SourceRange} {decl t : Tree} {xs : List Tree} {old new : List Fault} →
+  pub made_export : {rule : DeclRule} {place : SourceRange} {decl t : Tree} {xs : List Tree} {old new : List Fault} →
       Adds (decl_answer around place decl rule) xs old new → place ≡ ExportDecl-span item → decl ≡ ExportDecl-decl item → xs ≡ t ∷ [] →
-      {made : Tree} → made ≡ export_decl (ExportDecl-span item) t → Adds (item_answer around item) (made ∷ []) old new
-  unfolding item_answer decl_answer
-  made_export {rule} e {old = old} {new = new} h p q n m =
+      {made : Tree} → made ≡ export_decl (ExportDecl-span item) t → Adds (export_answer around item rule) (made ∷ []) old new
+  unfolding export_answer decl_answer
+  made_export {rule} {old = old} {new = new} h p q n m =
       let seen = decl_seen around (ExportDecl-span item) (ExportDecl-decl item) rule in
-      subst (λ u. Adds (answer_of (item_seen around item)) (u ∷ []) old new) (sym m)
-      (adds_same (ap (λ r. answer_of (seen_by_rule around item r)) e)
+      subst (λ u. Adds (answer_of (exported_seen item seen)) (u ∷ []) old new) (sym m)
       (export_of seen (decl_one around (ExportDecl-span item) (ExportDecl-decl item) rule)
-      (subst (λ x. Adds (answer_of seen) x old new) n (adds_same (λ i. answer_of (decl_seen around (sym p i) (sym q i) rule)) h))))
+      (subst (λ x. Adds (answer_of seen) x old new) n (adds_same (λ i. answer_of (decl_seen around (sym p i) (sym q i) rule)) h)))
 
   pub linked : {rule : LinkRule} → item_rule item ≡ Linked rule → (o : Option Tree) → link_answer around item rule ≡ faultless (as_list o) →
       (old : List Fault) → Adds (item_answer around item) (as_list o) old old
-  unfolding item_answer link_answer
-  linked e o h old = adds_same (ap (λ r. answer_of (seen_by_rule around item r)) e ∙ h) (adds_nothing (as_list o) old)
+  unfolding link_answer
+  linked e o h old = adds_same (by_item_rule e ∙ h) (adds_nothing (as_list o) old)
 
   pub default_export : {rule : DefaultRule} → item_rule item ≡ Default rule → {xs : List Tree} {old new : List Fault} →
       Adds (default_answer around item rule) xs old new → Adds (item_answer around item) xs old new
-  unfolding item_answer default_answer
-  default_export e h = adds_same (ap (λ r. answer_of (seen_by_rule around item r)) e) h
+  unfolding default_answer
+  default_export e h = adds_same (by_item_rule e) h
 
-  pub refused : {kind : FaultKind} → item_rule item ≡ Refused kind → {place : SourceRange} → place ≡ range_of_node item → {old new : List Fault} →
-      new ≡ old ++ fault_at kind place ∷ [] → Adds (item_answer around item) (Absent ∷ []) old new
-  unfolding item_answer
-  refused {kind} e p {old} f =
-      subst (λ fs. Adds (answer_of (item_seen around item)) (Absent ∷ []) old fs) (sym (f ∙ ap (λ r. old ++ fault_at kind r ∷ []) p))
-      (adds_same (ap (λ r. answer_of (seen_by_rule around item r)) e)
-      (alone (faulty kind (range_of_node item)) (adds_fault (Some Absent) (fault_at kind (range_of_node item)) old)))
+  pub refused : {kind : FaultKind} → item_rule item ≡ Refused kind → {xs : List Tree} {old new : List Fault} →
+      Adds (refused_answer item kind) xs old new → Adds (item_answer around item) xs old new
+  unfolding refused_answer
+  refused e h = adds_same (by_item_rule e) h
 
   pub silent : item_rule item ≡ Silent → (old : List Fault) → Adds (item_answer around item) [] old old
-  unfolding item_answer
-  silent e old = adds_same (ap (λ r. answer_of (seen_by_rule around item r)) e) (adds_nothing [] old)
+  silent e old = adds_same (by_item_rule e) (adds_nothing [] old)
+
+-- the fault of an item that no skeleton has
+pub told_refused : (item : Tree) (kind : FaultKind) {place : SourceRange} → place ≡ range_of_node item → {old new : List Fault} →
+    new ≡ old ++ fault_at kind place ∷ [] → Adds (refused_answer item kind) (Absent ∷ []) old new
+unfolding refused_answer
+told_refused item kind p {old} f =
+    subst (λ fs. Adds (answer_of (faulty kind (range_of_node item) ∷ [])) (Absent ∷ []) old fs) (sym (f ∙ ap (λ r. old ++ fault_at kind r ∷ []) p))
+    (alone (faulty kind (range_of_node item)) (adds_fault (Some Absent) (fault_at kind (range_of_node item)) old))
 
 -- ---- items
 

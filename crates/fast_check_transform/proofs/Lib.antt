@@ -1,7 +1,4 @@
-pub mod Listed
-pub mod Declared
-pub mod ClassCases
 pub mod ByRule
-pub mod DefaultCases
+pub mod Namespaces
 pub mod Removed
 pub mod Transformed

@@ -1,7 +1,7 @@
 -- The starts of the items that go, item by item.
 use Rattle.std.specs.Prelude.{◌≡◌, ℕ, ◌+◌, ◌<◌, List, [], ◌∷◌, ◌++◌, flat_map, length, take, refl}
 use lib.ListN.{get_or}
-use Rattle.std.proofs.Common.{ap, ◌∙◌, sym, append-nil}
+use Rattle.std.proofs.Common.{ap, ◌∙◌, sym, subst, append-nil}
 use Rattle.std.proofs.lemmas.List.{take_more}
 use Rattle.std.proofs.lemmas.List.Concat.{flat_map-append}
 use Rattle.fast_check_syntax.specs.declared.source.SourcePos.{SourcePos}
@@ -15,7 +15,9 @@ use Rattle.fast_check_skeleton.specs.Rules.{item_rule}
 use Rattle.fast_check_skeleton.specs.Visible.{item_seen}
 use Rattle.fast_check_signatures.specs.declared.fault.Fault.{Fault}
 use Rattle.fast_check_signatures.specs.Answers.{Adds, with_tree, answer_of}
-use Rattle.fast_check_skeleton.specs.KeptComments.{start_of_unseen, starts_inside, removed_start, without_all_leading}
+use Rattle.fast_check_skeleton.specs.KeptComments.{start_of_unseen, starts_inside, starts_below, start_look, removed_start, removed_from}
+use Rattle.fast_check_skeleton.specs.KeptComments.{without_all_leading}
+use Rattle.fast_check_skeleton.proofs.Namespaces.{item_seen_is, removed_start_is}
 use Rattle.fast_check_skeleton.proofs.Standing.{OneTree, item_one}
 use Rattle.fast_check_transform.specs.PartAnswers.{item_answer}
 
@@ -36,25 +38,32 @@ module _ (around : Surroundings) (item : Tree) where
   abbrev pub inside : List SourcePos
   inside = starts_inside around item (item_rule item)
 
+  abbrev pub below : List SourcePos
+  below = starts_below start_look around item (item_rule item)
+
   pub removed_if_none : {xs : List Tree} {old new : List Fault} → Adds (item_answer around item) xs old new → xs ≡ [] →
-      removed_start around item ≡ (range_of_node item).start ∷ inside
+      removed_start around item ≡ below ++ ((range_of_node item).start ∷ inside)
   unfolding item_answer
-  removed_if_none h e = ap (λ ps. ps ++ inside) (unseen (item_seen around item) (item_one around item (item_rule item)) (ap (λ a. a.stays) h.is ∙ e))
+  removed_if_none h e =
+      removed_start_is around item
+      ∙ ap (λ ps. below ++ (ps ++ inside)) (unseen (item_seen around item)
+      (subst (OneTree around) (sym (item_seen_is around item)) (item_one around item (item_rule item))) (ap (λ a. a.stays) h.is ∙ e))
 
   pub removed_if_some : {t : Tree} {xs : List Tree} {old new : List Fault} → Adds (item_answer around item) xs old new → xs ≡ t ∷ [] →
-      removed_start around item ≡ inside
+      removed_start around item ≡ below ++ inside
   unfolding item_answer
-  removed_if_some {t} h e = ap (λ ps. ps ++ inside) (seen_one (item_seen around item) t (ap (λ a. a.stays) h.is ∙ e))
+  removed_if_some {t} h e =
+      removed_start_is around item ∙ ap (λ ps. below ++ (ps ++ inside)) (seen_one (item_seen around item) t (ap (λ a. a.stays) h.is ∙ e))
 
 -- the comments without those before one more item
 pub one_more : (around : Surroundings) (items : List Tree) (i : ℕ) (item : Tree) (starts : List SourcePos) (c : Comments) → i < length items →
     item ≡ get_or items i item →
     removed_start around item ≡ starts →
-    without_all_leading (flat_map (removed_start around) (take (i + 1) items)) c ≡ without_all_leading starts
-    (without_all_leading (flat_map (removed_start around) (take i items)) c)
+    without_all_leading (removed_from around (take (i + 1) items)) c ≡ without_all_leading starts
+    (without_all_leading (removed_from around (take i items)) c)
 one_more around items i item starts c h e r =
-    ap (λ ts. without_all_leading (flat_map (removed_start around) ts) c) (take_more items i item h ∙ ap (λ t. take i items ++ t ∷ []) (sym e))
+    ap (λ ts. without_all_leading (removed_from around ts) c) (take_more items i item h ∙ ap (λ t. take i items ++ t ∷ []) (sym e))
     ∙ (ap (λ ps. without_all_leading ps c)
     (flat_map-append (removed_start around) (take i items) (item ∷ [])
-    ∙ ap (λ ps. flat_map (removed_start around) (take i items) ++ ps) (append-nil (removed_start around item) ∙ r))
-    ∙ without_append (flat_map (removed_start around) (take i items)) starts c)
+    ∙ ap (λ ps. removed_from around (take i items) ++ ps) (append-nil (removed_start around item) ∙ r))
+    ∙ without_append (removed_from around (take i items)) starts c)

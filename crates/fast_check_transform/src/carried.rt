@@ -11,7 +11,7 @@ use fast_check_program_forms::Module;
 use fast_check_skeleton::{DeclRule, ItemRule, item_rule};
 use fast_check_syntax::{Kind, Part};
 
-/// Whether a module is one that `transform` takes so far: one without namespaces and without assignments that are statements.
+/// Whether a module is one that `transform` takes so far: one without assignments that are statements.
 /// A tree without items is one. It takes no memory.
 pub fn is_carried(es_module_info: &EsModuleInfo) -> bool
     ensures { IsTrue result ↔ IsCarried es_module_info.now }
@@ -59,6 +59,7 @@ fn is_taken_decl(rule: DeclRule) -> bool
         | DeclRule::Function
         | DeclRule::Class
         | DeclRule::Standing
+        | DeclRule::Namespace
         | DeclRule::Using => true,
         DeclRule::Untaken => false,
     }

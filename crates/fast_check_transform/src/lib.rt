@@ -2,9 +2,6 @@
 #![tactic(auto)]
 
 mod carried;
-mod classes;
-mod declarations;
-mod defaults;
 mod items;
 mod transformer;
 

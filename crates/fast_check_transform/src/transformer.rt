@@ -1,28 +1,23 @@
 ghost use Rattle.std.specs.Prelude.{◌≡◌, ◌↔◌, [], IfOk, IsOk, IfErr};
 ghost use Rattle.fast_check_syntax.specs.Part.{seen};
-ghost use Rattle.std.specs.List.{flat_map};
-ghost use Rattle.fast_check_syntax.specs.Shape.{parts};
 ghost use Rattle.fast_check_signatures.specs.Answers.{Adds};
 ghost use Rattle.fast_check_skeleton.specs.Grammar.{IsSkeleton};
-ghost use Rattle.fast_check_skeleton.specs.KeptComments.{removed_start, removed_starts, without_all_leading};
+ghost use Rattle.fast_check_skeleton.specs.KeptComments.{removed_starts, without_all_leading};
 ghost use Rattle.fast_check_tables.specs.MediaType.{is_declaration};
 ghost use Rattle.fast_check_modules.specs.EsModule.{Admits};
 ghost use Rattle.fast_check_links.specs.Asked.{Asked-around};
-ghost use Rattle.fast_check_bindings.specs.Bindings.{bindings_of};
-ghost use Rattle.fast_check_transform.specs.PartAnswers.{items_answer, program_answer};
+ghost use Rattle.fast_check_transform.specs.PartAnswers.{program_answer};
 ghost use Rattle.fast_check_transform.specs.Transform.{IsCarried, skeleton, sources, comments, faults};
 ghost use Rattle.fast_check_transform_faults.specs.Diagnostics.{AreDiagnosticsOf, told};
 
-use crate::classes::remove_inside;
-use crate::items::keep_item;
+use crate::items::keep_items;
 use fast_check_comments::{Comments, CommentsMut};
 use fast_check_graph::ModuleGraph;
 use fast_check_links::{Asked, static_sources};
 use fast_check_modules::EsModuleInfo;
 use fast_check_program_forms::Module;
-use fast_check_ranges::range_of_node;
 use fast_check_signatures::Fault;
-use fast_check_syntax::{Items, Part, Tree};
+use fast_check_syntax::{Part, Tree};
 use fast_check_tables::{
     FastCheckDiagnostic, FastCheckModule, ModuleInfo, ModulePublicRanges, WorkspaceMember,
 };
@@ -109,34 +104,4 @@ fn keep_program(
         shebang: shebang.to_tree(alloc)?,
     };
     module.into_tree(alloc)
-}
-
-/// What is public of the items of a module. The comments before the others go.
-fn keep_items(
-    alloc: Global,
-    asked: Asked<'_>,
-    body: Part<'_>,
-    comments: &mut CommentsMut,
-    faults: &mut Vec<Fault>,
-) -> Result<Items<Tree>, AllocError>
-    ensures answer { IfOk result (λ items. Adds (items_answer (Asked-around asked.entry) (parts (seen body.entry))) items faults.old.items faults.new.items) }
-    ensures comments { IfOk result (λ _.
-        comments.new ≡ without_all_leading (flat_map (removed_start (Asked-around asked.entry)) (parts (seen body.entry))) comments.old) }
-{
-    let mut items = Items::new(alloc);
-    for item in body.parts() {
-        let item = item.read();
-        match keep_item(alloc, asked, item, faults)? {
-            None => {
-                comments.remove_leading(range_of_node(item).start);
-                remove_inside(alloc, asked, item, comments)?;
-                continue;
-            }
-            Some(tree) => {
-                remove_inside(alloc, asked, item, comments)?;
-                items.push(tree)?;
-            }
-        }
-    }
-    Ok(items)
 }

@@ -74,7 +74,7 @@ expressions::leave_expr-returns-in-Some t c =
     let k = c.kind-kind.ensures in
     let compound : is_compound (kind_of (seen c.args.expr)) ≡ false = sym (c.contains.ensures.value ∙ ap is_compound k) ∙ c.if-contains.false in
     let plain : is_plain (kind_of (seen c.args.expr)) ≡ false = sym (c.contains-2.ensures.value ∙ ap is_plain k) ∙ c.if-contains-2.false in
-    let row = sym c.in_ok-row_of.ensures ∙ ap option_copied c.in-Some.is in
+    let row = sym c.in_ok-row.ensures ∙ ap option_copied c.in-Some.is in
     IfOk-weaker c.leave_slots.result _ _
     (λ tree h. adds_same (ap answer_to (seen_slotted (bindings_of c.args.info.now) (seen c.args.expr) c.args.place c.in-Some.row.now compound plain row)) h)
     c.leave_slots.ensures
@@ -84,7 +84,7 @@ expressions::leave_expr-returns-in-None t c =
     let k = c.kind-kind.ensures in
     let compound : is_compound (kind_of (seen c.args.expr)) ≡ false = sym (c.contains.ensures.value ∙ ap is_compound k) ∙ c.if-contains.false in
     let plain : is_plain (kind_of (seen c.args.expr)) ≡ false = sym (c.contains-2.ensures.value ∙ ap is_plain k) ∙ c.if-contains-2.false in
-    let row = sym c.in_ok-row_of.ensures ∙ ap option_copied c.in-None.is in
+    let row = sym c.in_ok-row.ensures ∙ ap option_copied c.in-None.is in
     let arrow = λ (e : kind_of (seen c.args.expr) ≡ kinds.ArrowExpr). not_arrow c.kind-kind.result (sym c.eq.ensures ∙ c.if-eq.false) (k ∙ e) in
     adds_same (ap answer_to (seen_refused (bindings_of c.args.info.now) (seen c.args.expr) c.args.place compound plain row arrow))
     (adds_nothing None c.args.faults.now.items)

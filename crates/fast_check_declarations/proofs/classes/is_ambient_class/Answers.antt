@@ -1,5 +1,5 @@
 use Rattle.std.proofs.Common.{rules}
-use Rattle.fast_check_transform.proofs.classes.is_ambient_class.Goals as goal
+use Rattle.fast_check_declarations.proofs.classes.is_ambient_class.Goals as goal
 
 pub returns-then-asked : goal.returns-then-asked
 returns-then-asked c = search rules

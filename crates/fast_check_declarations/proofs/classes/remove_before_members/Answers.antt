@@ -3,8 +3,8 @@ use Rattle.fast_check_syntax.specs.declared.tree.Tree.{Tree}
 use Rattle.fast_check_syntax.specs.Part.{seen}
 use Rattle.fast_check_syntax.specs.Shape.{parts}
 use Rattle.fast_check_skeleton.specs.KeptComments.{without_all_leading}
-use Rattle.fast_check_transform.proofs.ClassCases.{starts_left, stays_more, goes_more, all_removed}
-use Rattle.fast_check_transform.proofs.classes.remove_before_members.Goals as goal
+use Rattle.fast_check_declarations.proofs.ClassCases.{starts_left, stays_more, goes_more, all_removed}
+use Rattle.fast_check_declarations.proofs.classes.remove_before_members.Goals as goal
 
 pub loop-member-init : goal.loop-member-init
 loop-member-init c = ([], (c.new-earlier.ensures, refl))

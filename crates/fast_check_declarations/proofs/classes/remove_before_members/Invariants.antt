@@ -2,8 +2,8 @@ use Rattle.std.proofs.Common.{◌≡◌, List, [], drop}
 use Rattle.fast_check_syntax.specs.declared.tree.Tree.{Tree}
 use Rattle.fast_check_class_nodes.specs.Told.{Tells}
 use Rattle.fast_check_skeleton.specs.KeptComments.{without_all_leading}
-use Rattle.fast_check_transform.proofs.ClassCases.{starts_left}
-use Rattle.fast_check_transform.proofs.classes.remove_before_members.Given as goal
+use Rattle.fast_check_declarations.proofs.ClassCases.{starts_left}
+use Rattle.fast_check_declarations.proofs.classes.remove_before_members.Given as goal
 
 -- some earlier members, of which is told, and behind them the same is left to remove
 abbrev pub invariant-loop-member : goal.invariant-loop-member

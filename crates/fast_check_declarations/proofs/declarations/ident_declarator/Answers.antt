@@ -5,10 +5,10 @@ use Rattle.fast_check_helpers.specs.InferredType.{inferred_type}
 use Rattle.fast_check_syntax.specs.Part.{seen}
 use Rattle.fast_check_syntax.specs.Shape.{is_absent}
 use Rattle.fast_check_links.specs.Asked.{Asked-around}
-use Rattle.fast_check_transform.specs.PartAnswers.{retyped}
-use Rattle.fast_check_transform.proofs.Declared.{written_ident, shown_ident, valued_ident}
-use Rattle.fast_check_transform.proofs.Listed.{some_of}
-use Rattle.fast_check_transform.proofs.declarations.ident_declarator.Goals as goal
+use Rattle.fast_check_declarations.specs.PartAnswers.{retyped}
+use Rattle.fast_check_declarations.proofs.Declared.{written_ident, shown_ident, valued_ident}
+use Rattle.fast_check_declarations.proofs.Listed.{some_of}
+use Rattle.fast_check_declarations.proofs.declarations.ident_declarator.Goals as goal
 
 pub returns-then-not-is_absent : goal.returns-then-not-is_absent
 returns-then-not-is_absent c =

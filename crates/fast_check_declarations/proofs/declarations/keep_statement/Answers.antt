@@ -3,8 +3,8 @@ use Rattle.std.proofs.lemmas.Bool.{false≢true}
 use Rattle.fast_check_statement_forms.specs.Declarations.{var_decl}
 use Rattle.fast_check_syntax.specs.Part.{seen}
 use Rattle.fast_check_links.specs.Asked.{Asked-around}
-use Rattle.fast_check_transform.proofs.Declared.{no_statement, made_statement}
-use Rattle.fast_check_transform.proofs.declarations.keep_statement.Goals as goal
+use Rattle.fast_check_declarations.proofs.Declared.{no_statement, made_statement}
+use Rattle.fast_check_declarations.proofs.declarations.keep_statement.Goals as goal
 
 pub returns-then-is_empty : goal.returns-then-is_empty
 returns-then-is_empty c = no_statement (Asked-around c.args.asked) (seen c.args.statement) c.in_ok-decls.ensures (c.if-is_empty.ensures.0 refl)

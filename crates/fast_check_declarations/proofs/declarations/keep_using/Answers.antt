@@ -1,8 +1,8 @@
 use Rattle.std.proofs.Common.{sym, ◌∙◌}
 use Rattle.fast_check_syntax.specs.Part.{seen}
 use Rattle.fast_check_links.specs.Asked.{Asked-around}
-use Rattle.fast_check_transform.proofs.Declared.{private_using, public_using}
-use Rattle.fast_check_transform.proofs.declarations.keep_using.Goals as goal
+use Rattle.fast_check_declarations.proofs.Declared.{private_using, public_using}
+use Rattle.fast_check_declarations.proofs.declarations.keep_using.Goals as goal
 
 pub returns-then-not-is_public_using : goal.returns-then-not-is_public_using
 returns-then-not-is_public_using c =

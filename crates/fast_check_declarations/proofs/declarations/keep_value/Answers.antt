@@ -2,8 +2,8 @@ use Rattle.std.proofs.Common.{sym, ◌∙◌}
 use Rattle.std.proofs.lemmas.Result.{IfOk-weaker}
 use Rattle.fast_check_syntax.specs.Part.{seen}
 use Rattle.fast_check_links.specs.Asked.{Asked-around}
-use Rattle.fast_check_transform.proofs.Declared.{absent_value, present_value}
-use Rattle.fast_check_transform.proofs.declarations.keep_value.Goals as goal
+use Rattle.fast_check_declarations.proofs.Declared.{absent_value, present_value}
+use Rattle.fast_check_declarations.proofs.declarations.keep_value.Goals as goal
 
 pub returns-then-is_absent : goal.returns-then-is_absent
 returns-then-is_absent c =

@@ -1,5 +1,5 @@
 use Rattle.std.proofs.Common.{rules}
-use Rattle.fast_check_transform.proofs.declarations.mutability_of.Goals as goal
+use Rattle.fast_check_declarations.proofs.declarations.mutability_of.Goals as goal
 
 pub returns-then-has_word : goal.returns-then-has_word
 returns-then-has_word c = search rules

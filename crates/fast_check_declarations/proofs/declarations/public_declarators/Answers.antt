@@ -3,8 +3,8 @@ use Rattle.fast_check_syntax.specs.Part.{seen}
 use Rattle.fast_check_syntax.specs.Shape.{parts}
 use Rattle.fast_check_links.specs.Asked.{Asked-around}
 use Rattle.fast_check_links.specs.Links.{as_list}
-use Rattle.fast_check_transform.proofs.Declared.{no_declarators, one_more_declarator, all_declarators}
-use Rattle.fast_check_transform.proofs.declarations.public_declarators.Goals as goal
+use Rattle.fast_check_declarations.proofs.Declared.{no_declarators, one_more_declarator, all_declarators}
+use Rattle.fast_check_declarations.proofs.declarations.public_declarators.Goals as goal
 
 pub loop-declarator-init : goal.loop-declarator-init
 loop-declarator-init c = no_declarators (Asked-around c.args.asked) (seen c.args.statement) c.new-items.ensures c.args.faults.now.items

@@ -2,8 +2,8 @@ use Rattle.std.proofs.Common.{take}
 use Rattle.fast_check_syntax.specs.Part.{seen}
 use Rattle.fast_check_signatures.specs.Answers.{Adds}
 use Rattle.fast_check_links.specs.Asked.{Asked-around}
-use Rattle.fast_check_transform.specs.PartAnswers.{declarators_answer}
-use Rattle.fast_check_transform.proofs.declarations.public_declarators.Given as goal
+use Rattle.fast_check_declarations.specs.PartAnswers.{declarators_answer}
+use Rattle.fast_check_declarations.proofs.declarations.public_declarators.Given as goal
 
 abbrev pub invariant-loop-declarator : goal.invariant-loop-declarator
 invariant-loop-declarator l =

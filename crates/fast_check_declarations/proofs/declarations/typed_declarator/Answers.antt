@@ -8,8 +8,8 @@ use Rattle.fast_check_syntax.specs.declared.kind.Kind.TheVariants.{BindingIdent}
 use Rattle.fast_check_syntax.specs.Part.{seen}
 use Rattle.fast_check_syntax.specs.Shape.{◌is◌, kind_of}
 use Rattle.fast_check_links.specs.Asked.{Asked-around}
-use Rattle.fast_check_transform.proofs.Declared.{typed_ident, typed_pattern}
-use Rattle.fast_check_transform.proofs.declarations.typed_declarator.Goals as goal
+use Rattle.fast_check_declarations.proofs.Declared.{typed_ident, typed_pattern}
+use Rattle.fast_check_declarations.proofs.declarations.typed_declarator.Goals as goal
 
 pub returns-then-eq : goal.returns-then-eq
 returns-then-eq c =

@@ -2,9 +2,9 @@ use Rattle.std.proofs.Common.{ap, ◌∙◌, refl}
 use Rattle.fast_check_program_forms.specs.Names.{Ident-span, BindingIdent-id}
 use Rattle.fast_check_syntax.specs.Part.{seen}
 use Rattle.fast_check_links.specs.Asked.{Asked-around}
-use Rattle.fast_check_transform.proofs.Declared.{value_stays, value_goes}
-use Rattle.fast_check_transform.proofs.Listed.{some_of}
-use Rattle.fast_check_transform.proofs.declarations.valued_declarator.Goals as goal
+use Rattle.fast_check_declarations.proofs.Declared.{value_stays, value_goes}
+use Rattle.fast_check_declarations.proofs.Listed.{some_of}
+use Rattle.fast_check_declarations.proofs.declarations.valued_declarator.Goals as goal
 
 pub returns-in-Some : goal.returns-in-Some
 returns-in-Some c =

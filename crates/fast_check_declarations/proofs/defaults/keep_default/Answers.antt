@@ -1,8 +1,8 @@
 use Rattle.std.proofs.Common.{sym, ◌∙◌}
 use Rattle.fast_check_syntax.specs.Part.{seen}
 use Rattle.fast_check_links.specs.Asked.{Asked-around}
-use Rattle.fast_check_transform.proofs.DefaultCases.{public_default_stays, private_default}
-use Rattle.fast_check_transform.proofs.defaults.keep_default.Goals as goal
+use Rattle.fast_check_declarations.proofs.DefaultCases.{public_default_stays, private_default}
+use Rattle.fast_check_declarations.proofs.defaults.keep_default.Goals as goal
 
 pub returns-then-not-is_public_default : goal.returns-then-not-is_public_default
 returns-then-not-is_public_default c =

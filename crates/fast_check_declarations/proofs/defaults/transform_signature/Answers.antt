@@ -2,8 +2,8 @@ use Rattle.std.proofs.Common.{sym, ◌∙◌}
 use Rattle.std.proofs.lemmas.Result.{IfOk-weaker}
 use Rattle.fast_check_syntax.specs.Part.{seen}
 use Rattle.fast_check_links.specs.Asked.{Asked-around}
-use Rattle.fast_check_transform.proofs.DefaultCases.{implementation, signature}
-use Rattle.fast_check_transform.proofs.defaults.transform_signature.Goals as goal
+use Rattle.fast_check_declarations.proofs.DefaultCases.{implementation, signature}
+use Rattle.fast_check_declarations.proofs.defaults.transform_signature.Goals as goal
 
 pub returns-then-is_impl_with_overloads : goal.returns-then-is_impl_with_overloads
 returns-then-is_impl_with_overloads c =

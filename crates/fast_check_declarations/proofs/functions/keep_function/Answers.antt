@@ -2,9 +2,9 @@ use Rattle.std.proofs.Common.{refl, ◌∙◌}
 use Rattle.fast_check_statement_forms.specs.Declarations.{fn_decl}
 use Rattle.fast_check_syntax.specs.Part.{seen}
 use Rattle.fast_check_links.specs.Asked.{Asked-around}
-use Rattle.fast_check_transform.proofs.Declared.{ambient_function, made_function}
-use Rattle.fast_check_transform.proofs.Listed.{some_of}
-use Rattle.fast_check_transform.proofs.items.keep_function.Goals as goal
+use Rattle.fast_check_declarations.proofs.Declared.{ambient_function, made_function}
+use Rattle.fast_check_declarations.proofs.Listed.{some_of}
+use Rattle.fast_check_declarations.proofs.functions.keep_function.Goals as goal
 
 pub returns-then-asked : goal.returns-then-asked
 returns-then-asked c =

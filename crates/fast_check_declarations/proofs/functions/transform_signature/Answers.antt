@@ -3,8 +3,8 @@ use Rattle.std.proofs.lemmas.Result.{IfOk-weaker}
 use Rattle.fast_check_program_forms.specs.Names.{Ident-span}
 use Rattle.fast_check_syntax.specs.Part.{seen}
 use Rattle.fast_check_links.specs.Asked.{Asked-around}
-use Rattle.fast_check_transform.proofs.Declared.{implementation, signature}
-use Rattle.fast_check_transform.proofs.items.transform_signature.Goals as goal
+use Rattle.fast_check_declarations.proofs.Declared.{implementation, signature}
+use Rattle.fast_check_declarations.proofs.functions.transform_signature.Goals as goal
 
 pub returns-then-is_impl_with_overloads : goal.returns-then-is_impl_with_overloads
 returns-then-is_impl_with_overloads c =

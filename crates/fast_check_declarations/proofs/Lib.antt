@@ -1,0 +1,6 @@
+pub mod Listed
+pub mod Declared
+pub mod ClassCases
+pub mod DefaultCases
+pub mod PublicCases
+pub mod Blocks

@@ -1,0 +1,130 @@
+-- The answers to what is seen of declarations and of default exports.
+use Rattle.std.specs.Prelude.{Bool, Option, Some, None, List, [], ◌∷◌, if◌then◌else◌}
+use Rattle.std.specs.List.{flat_map}
+use Rattle.fast_check_syntax.specs.declared.kind.Kind.TheVariants.{ExportDefaultDecl}
+use Rattle.fast_check_syntax.specs.declared.source.SourceRange.{SourceRange}
+use Rattle.fast_check_syntax.specs.declared.tree.Tree.{Tree}
+use Rattle.fast_check_syntax.specs.Shape.{list}
+use Rattle.fast_check_program_forms.specs.Names.{Ident-span, binding_ident}
+use Rattle.fast_check_program_forms.specs.ModuleDecls.{ExportDefaultDecl-span, ExportDefaultDecl-decl}
+use Rattle.fast_check_program_forms.specs.Programs.{Module-span, Module-shebang, module'}
+use Rattle.fast_check_ranges.specs.Ranges.{range_of_node}
+use Rattle.fast_check_statement_forms.specs.TsDeclarations.{TsModuleDecl-span, TsModuleDecl-global, TsModuleDecl-id}
+use Rattle.fast_check_statement_forms.specs.Declarations.{VarDeclarator-span, VarDeclarator-init, VarDeclarator-definite, var_declarator}
+use Rattle.fast_check_helpers.specs.declared.literal_type.DeclMutabilityKind.{DeclMutabilityKind}
+use Rattle.fast_check_signatures.specs.Seen.{Seen, written, range, round, declarator, seens}
+use Rattle.fast_check_signatures.specs.declared.fault.Fault.{Fault}
+use Rattle.fast_check_signatures.specs.declared.fault.FaultKind.TheVariants.{UnsupportedGlobalModule, UnsupportedAmbientModule}
+use Rattle.fast_check_signatures.specs.Answers.{Answer, fault_at, answer_to, answer_of}
+use Rattle.fast_check_skeleton.specs.declared.rules.DeclRule.{DeclRule}
+use Rattle.fast_check_skeleton.specs.declared.rules.DefaultRule.{DefaultRule}
+use Rattle.fast_check_skeleton.specs.declared.rules.DefaultRule.TheVariants as defaults
+use Rattle.fast_check_skeleton.specs.Defaults.{is_public_value, default_value_seen, default_class_seen, default_signature, default_function_seen, default_seen}
+use Rattle.fast_check_skeleton.specs.Skeleton.{transformed}
+use Rattle.fast_check_skeleton.specs.Namespaces.{is_ambient_module}
+use Rattle.fast_check_skeleton.specs.Surroundings.{Surroundings}
+use Rattle.fast_check_skeleton.specs.Visible.{declared_ident, declarator_head, value_seen, ident_declarator_seen, declarator_seen, public_declarator}
+use Rattle.fast_check_skeleton.specs.Visible.{public_declarators, statement_seen, signature_of, function_decl_seen, public_function, standing_seen}
+use Rattle.fast_check_skeleton.specs.Visible.{class_in, class_decl_seen, public_class}
+use Rattle.fast_check_skeleton.specs.Visible.{using_seen}
+
+-- a declarator of another type and value
+abbrev pub retyped : Tree → Tree → Tree → Tree
+retyped d type value = var_declarator (VarDeclarator-span d) (binding_ident (declared_ident d) type) value (VarDeclarator-definite d)
+
+-- to a value that is to give a type, which the identifier at `place` names
+unfoldable pub value_answer : Surroundings → SourceRange → Tree → Answer (Option Tree)
+value_answer around place value = answer_to (value_seen around place value)
+
+-- to a declarator that nothing but its value gives a type
+unfoldable pub valued_answer : Surroundings → Tree → Answer (Option Tree)
+valued_answer around d = answer_to (declarator (declarator_head d) (value_seen around (Ident-span (declared_ident d)) (VarDeclarator-init d)))
+
+-- to a declarator of an identifier
+unfoldable pub ident_answer : Surroundings → DeclMutabilityKind → Tree → Answer (Option Tree)
+ident_answer around mutability d = answer_to (ident_declarator_seen around mutability d)
+
+-- to a declarator that is not ambient
+unfoldable pub declarator_answer : Surroundings → DeclMutabilityKind → Tree → Answer (Option Tree)
+declarator_answer around mutability d = answer_to (declarator_seen around mutability d)
+
+-- to a declarator of a statement, and to some of them
+unfoldable pub public_answer : Surroundings → Tree → Tree → Answer (List Tree)
+public_answer around statement d = answer_of (public_declarator around statement d)
+
+unfoldable pub declarators_answer : Surroundings → Tree → List Tree → Answer (List Tree)
+declarators_answer around statement ds = answer_of (flat_map (public_declarator around statement) ds)
+
+-- to a variable statement
+unfoldable pub statement_answer : Surroundings → Tree → Answer (List Tree)
+statement_answer around statement = answer_of (statement_seen statement (public_declarators around statement))
+
+-- to the signature of a function that is public by `place`, and to the function
+unfoldable pub signature_answer : Surroundings → SourceRange → Tree → Answer (Option Tree)
+signature_answer around place decl = answer_to (signature_of around place decl)
+
+unfoldable pub function_answer : Surroundings → SourceRange → Tree → Answer (Option Tree)
+function_answer around place decl = answer_to (function_decl_seen around place decl)
+
+unfoldable pub public_function_answer : Surroundings → SourceRange → Tree → Answer (List Tree)
+public_function_answer around place decl = answer_of (public_function around place decl)
+
+-- to what stands as it is written
+unfoldable pub standing_answer : Surroundings → SourceRange → Tree → Answer (List Tree)
+standing_answer around place decl = answer_of (standing_seen around place decl)
+
+-- to the class of a declaration, and to the declaration
+unfoldable pub class_in_answer : Surroundings → Tree → Answer (Option Tree)
+class_in_answer around decl = answer_to (class_in around decl)
+
+unfoldable pub class_answer : Surroundings → Tree → Answer (Option Tree)
+class_answer around decl = answer_to (class_decl_seen around decl)
+
+unfoldable pub public_class_answer : Surroundings → SourceRange → Tree → Answer (List Tree)
+public_class_answer around place decl = answer_of (public_class around place decl)
+
+-- to `using`, which is public by `place` or by a declarator
+unfoldable pub using_answer : Surroundings → SourceRange → Tree → Answer (List Tree)
+using_answer around place decl = answer_of (using_seen around place decl)
+
+-- to the default export of an expression, and to a class that is exported by default
+unfoldable pub default_value_answer : Surroundings → Tree → Answer (Option Tree)
+default_value_answer around t = answer_to (default_value_seen around t)
+
+unfoldable pub default_class_answer : Surroundings → Tree → Answer (Option Tree)
+default_class_answer around decl = answer_to (default_class_seen around decl)
+
+-- to the signature of a function that is exported by default and public by `place`, and to the function
+unfoldable pub default_signature_answer : Surroundings → SourceRange → Tree → Answer (Option Tree)
+default_signature_answer around place decl = answer_to (default_signature around place decl)
+
+unfoldable pub default_function_answer : Surroundings → SourceRange → Tree → Answer (Option Tree)
+default_function_answer around place decl = answer_to (default_function_seen around place decl)
+
+-- whether a default export is public, and what is seen of one that is
+abbrev pub is_public_default : Surroundings → Tree → DefaultRule → Bool
+is_public_default around t defaults.Value = is_public_value around t
+is_public_default around t _ = around.is_public (ExportDefaultDecl-span t)
+
+abbrev pub exported_default : Tree → Seen → Seen
+exported_default t decl = round ExportDefaultDecl (seens (range (ExportDefaultDecl-span t) ∷ decl ∷ []))
+
+abbrev pub default_decl_seen : Surroundings → Tree → DefaultRule → Seen
+default_decl_seen around t defaults.Value = default_value_seen around t
+default_decl_seen around t defaults.Class = exported_default t (default_class_seen around (ExportDefaultDecl-decl t))
+default_decl_seen around t defaults.Function =
+    exported_default t (default_function_seen around (ExportDefaultDecl-span t) (ExportDefaultDecl-decl t))
+default_decl_seen around t defaults.Interface = exported_default t (written (ExportDefaultDecl-decl t))
+
+-- to one that is public, and to any
+unfoldable pub default_decl_answer : Surroundings → Tree → DefaultRule → Answer (Option Tree)
+default_decl_answer around t rule = answer_to (default_decl_seen around t rule)
+
+unfoldable pub default_answer : Surroundings → Tree → DefaultRule → Answer (List Tree)
+default_answer around t rule = answer_of (default_seen around t rule)
+
+-- what is wrong with a module that no skeleton has
+abbrev pub module_fault : Tree → Option Fault
+module_fault decl =
+    if TsModuleDecl-global decl then Some (fault_at UnsupportedGlobalModule (TsModuleDecl-span decl))
+    else (if is_ambient_module decl then Some (fault_at UnsupportedAmbientModule (range_of_node (TsModuleDecl-id decl))) else None)
