@@ -1,3 +1,4 @@
+pub mod AssignmentCases
 pub mod Listed
 pub mod Declared
 pub mod ClassCases

@@ -1,1 +1,2 @@
 pub mod PartAnswers
+pub mod Assigned

@@ -14,13 +14,13 @@ use fast_check_class_forms::Class;
 use fast_check_class_nodes::Earlier;
 use fast_check_classes::{ambient_class, transform_class};
 use fast_check_comments::CommentsMut;
-use fast_check_expression_forms::ClassExpr;
+use fast_check_expression_forms::{AssignExpr, ClassExpr};
 use fast_check_links::Asked;
 use fast_check_program_forms::{ExportDecl, ExportDefaultDecl};
 use fast_check_ranges::range_of_node;
 use fast_check_signatures::Fault;
 use fast_check_skeleton::{DeclRule, DefaultRule, ItemRule, item_rule};
-use fast_check_statement_forms::ClassDecl;
+use fast_check_statement_forms::{ClassDecl, ExprStmt};
 use fast_check_syntax::{Part, SourceRange, Tree};
 use std::alloc::{AllocError, Global};
 
@@ -177,6 +177,13 @@ pub fn remove_inside(
             remove_in_decl(alloc, asked, span, decl, rule, comments)
         }
         ItemRule::Default(rule) => remove_in_default(alloc, asked, item, rule, comments),
+        ItemRule::Assigned => {
+            let assignment = AssignExpr::of(ExprStmt::of(item).expr);
+            if asked.public_ranges.contains(&assignment.span) {
+                comments.remove_leading(range_of_node(item).start);
+            }
+            Ok(())
+        }
         ItemRule::Linked(_) | ItemRule::Refused(_) | ItemRule::Silent => Ok(()),
     }
 }

@@ -61,7 +61,7 @@ fn retyped(alloc: Global, declarator: Part<'_>, ty: Tree, value: Tree) -> Result
 
 /// The value of a declarator as it stays, where it shows no type; none where it may not stay, or is not there. It is
 /// named by the identifier at `place`.
-fn keep_value(
+pub fn keep_value(
     alloc: Global,
     asked: Asked<'_>,
     place: SourceRange,

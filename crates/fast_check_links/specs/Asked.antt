@@ -4,12 +4,13 @@ use Rattle.fast_check_tables.specs.PublicRanges.{PublicRanges, is_public, is_imp
 use Rattle.fast_check_graph.specs.declared.graph.ModuleGraph.{ModuleGraph}
 use Rattle.fast_check_modules.specs.EsModule.{EsModule}
 use Rattle.fast_check_bindings.specs.Bindings.{bindings_of}
+use Rattle.fast_check_expandos.specs.ModuleObjects.{objects_of}
 use Rattle.fast_check_sources.specs.Sources.{relative_source}
 use Rattle.fast_check_skeleton.specs.Surroundings.{Surroundings}
 use Rattle.fast_check_links.specs.declared.asked.Asked.{Asked}
 
 -- what a module's skeleton depends on beside its tree: what is public of it, what is known of its names, whether it is a declaration file, all of which is
--- ambient, and where the graph leads its sources
+-- ambient, where the graph leads its sources, and what is known of the objects of its expando properties
 abbrev pub surroundings_of : ModuleGraph → EsModule → PublicRanges → Surroundings
 surroundings_of graph info public = record {
   is_public = is_public public;
@@ -17,6 +18,7 @@ surroundings_of graph info public = record {
   bindings = bindings_of info;
   is_ambient = is_declaration info.source.media_type;
   relative = relative_source graph info.specifier;
+  objects = objects_of info;
 }
 
 -- what is asked beside the tree
@@ -27,4 +29,5 @@ Asked-around asked = record {
   bindings = bindings_of asked.es_module_info.now;
   is_ambient = asked.is_ambient;
   relative = relative_source asked.graph.now asked.es_module_info.now.specifier;
+  objects = objects_of asked.es_module_info.now;
 }

@@ -1,5 +1,5 @@
 -- Modules that agree but for what is hidden are seen alike, so that their skeletons and faults are the same.
-use Rattle.std.specs.Prelude.{◌≡◌, Bool, true, false, not, ◌||◌, Option, Some, None, unwrap_or, option_map, List, [], ◌∷◌, ◌++◌, map, flat_map, refl}
+use Rattle.std.specs.Prelude.{◌≡◌, ◌&&◌, Bool, true, false, not, ◌||◌, Option, Some, None, unwrap_or, option_map, List, [], ◌∷◌, ◌++◌, map, flat_map, refl}
 use Rattle.std.specs.Prelude.{if◌then◌else◌}
 use Rattle.std.specs.List.{list_all}
 use Rattle.std.proofs.Common.{ap, ap₂, ◌∙◌, sym, subst, subst₂}
@@ -510,33 +510,49 @@ module _ (r : Renaming) (ok : IsRenaming r) where
   namespace_kinds (h.SameNamespace.bodies d s) = d.kinds
 
   -- the properties that items declare which agree
-  no_properties : {a b : Surroundings} (t u : Tree) → item_properties a t ≡ [] → item_properties b u ≡ [] →
+  no_properties : (a b : Surroundings) (t u : Tree) → item_properties a t ≡ [] → item_properties b u ≡ [] →
       PropertiesAlike r ok (item_properties a t) (item_properties b u)
-  no_properties t u e f = ap (map (moved_expando (partners r))) e ∙ sym (ap (map (moved_expando twice)) f)
+  no_properties a b t u e f = ap (map (moved_expando (partners r))) e ∙ sym (ap (map (moved_expando twice)) f)
 
   declared_alike : {a b : Surroundings} {t u : Tree} → SameBindings r a.bindings b.bindings → a.is_ambient ≡ b.is_ambient → SameItem r a b t u →
       PropertiesAlike r ok (item_properties a t) (item_properties b u)
   declared_alike c m (h.SameItem.decl {a = a} {b = b} {t = t} {u = u} d) =
       let e = decl_taken a b c m (range_of_node t) (range_of_node u) t u d in
-      no_properties {a = a} {b = b} t u (ap (properties_by_rule a t) (declared_rule (kind_of t) t e.0)) (ap (properties_by_rule b u) (declared_rule (kind_of u) u e.1))
+      no_properties a b t u (ap (properties_by_rule a t) (declared_rule (kind_of t) t e.0)) (ap (properties_by_rule b u) (declared_rule (kind_of u) u e.1))
   declared_alike c m (h.SameItem.exported {a = a} {b = b} {t = t} {u = u} k s d) =
-      no_properties {a = a} {b = b} t u (ap (λ j. properties_by_rule a t (rule_of_kind j t)) k.left) (ap (λ j. properties_by_rule b u (rule_of_kind j u)) k.right)
+      no_properties a b t u (ap (λ j. properties_by_rule a t (rule_of_kind j t)) k.left) (ap (λ j. properties_by_rule b u (rule_of_kind j u)) k.right)
   declared_alike c m (h.SameItem.namespace {a = a} {b = b} {t = t} {u = u} d) =
       let k = namespace_kinds d in
-      no_properties {a = a} {b = b} t u (ap (properties_by_rule a t) (namespace_rule t k.left)) (ap (properties_by_rule b u) (namespace_rule u k.right))
+      no_properties a b t u (ap (properties_by_rule a t) (namespace_rule t k.left)) (ap (properties_by_rule b u) (namespace_rule u k.right))
   declared_alike c m (h.SameItem.exported_namespace {a = a} {b = b} {t = t} {u = u} k s d) =
-      no_properties {a = a} {b = b} t u (ap (λ j. properties_by_rule a t (rule_of_kind j t)) k.left) (ap (λ j. properties_by_rule b u (rule_of_kind j u)) k.right)
+      no_properties a b t u (ap (λ j. properties_by_rule a t (rule_of_kind j t)) k.left) (ap (λ j. properties_by_rule b u (rule_of_kind j u)) k.right)
   declared_alike c m (h.SameItem.linked {a = a} {b = b} {t = t} {u = u} d) =
       let e = links_alike r ok a b t u d in
-      no_properties {a = a} {b = b} t u (ap (properties_by_rule a t) e.left) (ap (properties_by_rule b u) e.right)
+      no_properties a b t u (ap (properties_by_rule a t) e.left) (ap (properties_by_rule b u) e.right)
   declared_alike c m (h.SameItem.default {a = a} {b = b} {t = t} {u = u} d) =
       let e = defaults_alike r ok a b c m t u d in
-      no_properties {a = a} {b = b} t u (ap (properties_by_rule a t) e.left) (ap (properties_by_rule b u) e.right)
+      no_properties a b t u (ap (properties_by_rule a t) e.left) (ap (properties_by_rule b u) e.right)
   declared_alike c m (h.SameItem.assigned {a = a} {b = b} {t = t} {u = u} d) =
       subst₂ (λ x y. PropertiesAlike r ok (properties_by_rule a t x) (properties_by_rule b u y)) (sym (assigned_rule t d.kinds.left d.assignments.kinds.left))
       (sym (assigned_rule u d.kinds.right d.assignments.kinds.right)) (properties_alike r ok a b (ExprStmt-expr t) (ExprStmt-expr u) d.assignments c)
   declared_alike c m (h.SameItem.refused {a = a} {b = b} {t = t} {u = u} kind e f s) =
-      no_properties {a = a} {b = b} t u (ap (properties_by_rule a t) e) (ap (properties_by_rule b u) f)
+      no_properties a b t u (ap (properties_by_rule a t) e) (ap (properties_by_rule b u) f)
+
+  all_declared_alike : {a b : Surroundings} {ts us : List Tree} → SameBindings r a.bindings b.bindings → a.is_ambient ≡ b.is_ambient →
+      SameItems r a b ts us → PropertiesAlike r ok (each_declared a ts) (each_declared b us)
+  all_declared_alike c m h.SameItems.end = refl
+  all_declared_alike c m (h.SameItems.left {a = a} {b = b} {t = t} {ts = ts} {us = us} q n rest) =
+      subst (λ xs. PropertiesAlike r ok (xs ++ each_declared a ts) (each_declared b us)) (sym (silent_properties a t q)) (all_declared_alike c m rest)
+  all_declared_alike c m (h.SameItems.right {a = a} {b = b} {u = u} {ts = ts} {us = us} q n rest) =
+      subst (λ xs. PropertiesAlike r ok (each_declared a ts) (xs ++ each_declared b us)) (sym (silent_properties b u q)) (all_declared_alike c m rest)
+  all_declared_alike c m (h.SameItems.next {a = a} {b = b} {t = t} {u = u} {ts = ts} {us = us} s rest) =
+      more_properties r ok (item_properties a t) (each_declared a ts) (item_properties b u) (each_declared b us) (declared_alike c m s) (all_declared_alike c m rest)
+
+  with_namespaces : (a b : Surroundings) (ts us : List Tree) → AllAlike r ok (each_seen a ts) (each_seen b us) →
+      PropertiesAlike r ok (each_declared a ts) (each_declared b us) → AllAlike r ok (body_seen item_look a ts) (body_seen item_look b us)
+  with_namespaces a b ts us e f =
+      append_alike r ok (each_seen a ts) (namespaces_seen (each_declared a ts)) (each_seen b us) (namespaces_seen (each_declared b us)) e
+      (all_namespaces_alike r ok (each_declared a ts) (each_declared b us) f)
 
   mutual
     pub item_alike : {a b : Surroundings} {t u : Tree} → SameBindings r a.bindings b.bindings → a.is_ambient ≡ b.is_ambient →
@@ -584,16 +600,11 @@ module _ (r : Renaming) (ok : IsRenaming r) where
         (body_round (body_seen item_look b (block_items (innermost u))) u)
     body_alike c m (h.SameBody.block {a = a} {b = b} {t = t} {u = u} n s rest) =
         subst₂ (Alike r ok) (sym (body_of_block (body_seen item_look a) t n.left)) (sym (body_of_block (body_seen item_look b) u n.right))
-        (block_alike t u (body_seen item_look a (block_items t)) (body_seen item_look b (block_items u)) s (items_alike c m rest))
+        (block_alike t u (body_seen item_look a (block_items t)) (body_seen item_look b (block_items u)) s
+        (with_namespaces a b (block_items t) (block_items u) (each_alike c m rest) (all_declared_alike c m rest)))
     body_alike c m (h.SameBody.inner {a = a} {b = b} {t = t} {u = u} d s) =
         subst₂ (Alike r ok) (sym (body_of_inner (body_seen item_look a) t (ap (λ k. k is TsNamespaceDecl) d.kinds.left)))
         (sym (body_of_inner (body_seen item_look b) u (ap (λ k. k is TsNamespaceDecl) d.kinds.right))) (inner_alike t u _ _ d (body_alike c m s))
-
-    items_alike : {a b : Surroundings} {ts us : List Tree} → SameBindings r a.bindings b.bindings → a.is_ambient ≡ b.is_ambient →
-        SameItems r a b ts us → AllAlike r ok (body_seen item_look a ts) (body_seen item_look b us)
-    items_alike {a = a} {b = b} {ts = ts} {us = us} c m s =
-        append_alike r ok (each_seen a ts) (namespaces_seen (each_declared a ts)) (each_seen b us) (namespaces_seen (each_declared b us)) (each_alike c m s)
-        (all_namespaces_alike r ok (each_declared a ts) (each_declared b us) (all_declared_alike c m s))
 
     each_alike : {a b : Surroundings} {ts us : List Tree} → SameBindings r a.bindings b.bindings → a.is_ambient ≡ b.is_ambient →
         SameItems r a b ts us → AllAlike r ok (each_seen a ts) (each_seen b us)
@@ -605,19 +616,11 @@ module _ (r : Renaming) (ok : IsRenaming r) where
     each_alike c m (h.SameItems.next {a = a} {b = b} {t = t} {u = u} {ts = ts} {us = us} s rest) =
         append_alike r ok (item_seen a t) (each_seen a ts) (item_seen b u) (each_seen b us) (item_alike c m s) (each_alike c m rest)
 
-    all_declared_alike : {a b : Surroundings} {ts us : List Tree} → SameBindings r a.bindings b.bindings → a.is_ambient ≡ b.is_ambient →
-        SameItems r a b ts us → PropertiesAlike r ok (each_declared a ts) (each_declared b us)
-    all_declared_alike c m h.SameItems.end = refl
-    all_declared_alike c m (h.SameItems.left {a = a} {b = b} {t = t} {ts = ts} {us = us} q n rest) =
-        subst (λ xs. PropertiesAlike r ok (xs ++ each_declared a ts) (each_declared b us)) (sym (silent_properties a t q)) (all_declared_alike c m rest)
-    all_declared_alike c m (h.SameItems.right {a = a} {b = b} {u = u} {ts = ts} {us = us} q n rest) =
-        subst (λ xs. PropertiesAlike r ok (each_declared a ts) (xs ++ each_declared b us)) (sym (silent_properties b u q)) (all_declared_alike c m rest)
-    all_declared_alike c m (h.SameItems.next {a = a} {b = b} {t = t} {u = u} {ts = ts} {us = us} s rest) =
-        more_properties r ok (item_properties a t) (each_declared a ts) (item_properties b u) (each_declared b us) (declared_alike c m s) (all_declared_alike c m rest)
 
   module _ (a b : Surroundings) where
     visible_alike : (t u : Tree) → AgreeHidden r a b t u → AllAlike r ok (visible a t) (visible b u)
-    visible_alike t u g = items_alike g.bindings g.is_ambient g.items
+    visible_alike t u g =
+        with_namespaces a b (items_of t) (items_of u) (each_alike g.bindings g.is_ambient g.items) (all_declared_alike g.bindings g.is_ambient g.items)
 
     -- ---- answers
 
