@@ -16,8 +16,19 @@ use Rattle.fast_check_skeleton.specs.declared.rules.DeclRule.TheVariants.{Variab
 use Rattle.fast_check_skeleton.specs.declared.rules.DefaultRule.{DefaultRule}
 use Rattle.fast_check_skeleton.specs.declared.rules.LinkRule.{LinkRule}
 use Rattle.fast_check_skeleton.specs.declared.rules.ItemRule.{ItemRule}
-use Rattle.fast_check_skeleton.specs.declared.rules.ItemRule.TheVariants.{Declared, Exported, Linked, Default, Refused, Silent}
-use Rattle.fast_check_skeleton.specs.Rules.{item_rule}
+use Rattle.fast_check_skeleton.specs.declared.rules.ItemRule.TheVariants.{Declared, Exported, Linked, Default, Refused, Assigned, Silent}
+use Rattle.std.specs.List.{flat_map}
+use Rattle.std.specs.Prelude.{refl}
+use Rattle.std.proofs.lemmas.List.{take_more, take_all, append_assoc}
+use Rattle.std.proofs.lemmas.List.Concat.{flat_map-append}
+use Rattle.fast_check_statement_forms.specs.Statements.{ExprStmt-expr}
+use Rattle.fast_check_signatures.proofs.Adding.{adds_joined, answer_append}
+use Rattle.fast_check_expandos.specs.declared.properties.ExpandoProperty.{ExpandoProperty}
+use Rattle.fast_check_expandos.specs.Assignments.{assignment_seen, declared_properties}
+use Rattle.fast_check_expandos.specs.Expandos.{namespaces_seen}
+use Rattle.fast_check_declarations.specs.Assigned.{assignment_answer, assignment_properties}
+use Rattle.fast_check_skeleton.specs.Visible.{properties_by_rule, item_properties, item_look}
+use Rattle.fast_check_skeleton.specs.Rules.{is_assigned, item_rule}
 use Rattle.fast_check_skeleton.specs.Surroundings.{Surroundings}
 use Rattle.fast_check_skeleton.specs.Visible.{decl_seen, exported_seen, seen_by_rule, item_seen}
 use Rattle.fast_check_skeleton.proofs.Namespaces.{item_seen_is}
@@ -26,7 +37,7 @@ use Rattle.fast_check_links.specs.Links.{as_list, link_answer}
 use Rattle.fast_check_declarations.specs.PartAnswers.{statement_answer, public_function_answer, public_class_answer, standing_answer, using_answer}
 use Rattle.fast_check_declarations.specs.PartAnswers.{default_answer}
 use Rattle.fast_check_declarations.proofs.Listed.{alone, one_more, whole}
-use Rattle.fast_check_transform.specs.PartAnswers.{namespace_answer, decl_answer, export_answer, refused_answer, item_answer, items_answer}
+use Rattle.fast_check_transform.specs.PartAnswers.{namespace_answer, decl_answer, export_answer, refused_answer, item_answer, each_answer, items_answer}
 
 module _ (around : Surroundings) (place : SourceRange) (decl : Tree) where
   -- what is answered to a declaration with which this is done
@@ -153,17 +164,85 @@ told_refused item kind p {old} f =
 -- ---- items
 
 module _ (around : Surroundings) where
-  pub no_items : {xs : List Tree} → xs ≡ [] → (old : List Fault) → Adds (items_answer around []) xs old old
-  unfolding items_answer
+  pub no_items : {xs : List Tree} → xs ≡ [] → (old : List Fault) → Adds (each_answer around []) xs old old
+  unfolding each_answer
   no_items e old = subst (λ x. Adds (answer_of []) x old old) (sym e) (adds_nothing [] old)
 
   pub one_more_item : (items : List Tree) (i : ℕ) (item : Tree) → i < length items → item ≡ get_or items i item →
-      {xs ys zs : List Tree} {old mid new : List Fault} → Adds (items_answer around (take i items)) xs old mid → Adds (item_answer around item) ys mid new →
-      zs ≡ xs ++ ys → Adds (items_answer around (take (i + 1) items)) zs old new
-  unfolding items_answer item_answer
+      {xs ys zs : List Tree} {old mid new : List Fault} → Adds (each_answer around (take i items)) xs old mid → Adds (item_answer around item) ys mid new →
+      zs ≡ xs ++ ys → Adds (each_answer around (take (i + 1) items)) zs old new
+  unfolding each_answer item_answer
   one_more_item items i item h e g k p = one_more (item_seen around) items i item h e g k p
 
   pub all_items : {items all : List Tree} (i : ℕ) → length items ≤ i → items ≡ all → {xs : List Tree} {old new : List Fault} →
-      Adds (items_answer around (take i items)) xs old new → Adds (items_answer around all) xs old new
-  unfolding items_answer
+      Adds (each_answer around (take i items)) xs old new → Adds (each_answer around all) xs old new
+  unfolding each_answer
   all_items i h e g = whole (item_seen around) i h e g
+
+  -- one that is an assignment: nothing of it stays
+  pub one_more_assigned : (items : List Tree) (i : ℕ) (item : Tree) → i < length items → item ≡ get_or items i item → item_rule item ≡ Assigned →
+      {assignment : Tree} → assignment ≡ ExprStmt-expr item → {xs : List Tree} {old mid new : List Fault} →
+      Adds (each_answer around (take i items)) xs old mid → Adds (assignment_answer around assignment) [] mid new →
+      Adds (each_answer around (take (i + 1) items)) xs old new
+  unfolding each_answer item_answer assignment_answer
+  one_more_assigned items i item h e r a {xs = xs} g k =
+      one_more (item_seen around) items i item h e g
+      (adds_same (by_item_rule around item r ∙ ap (λ x. answer_of (assignment_seen around.is_public around.bindings around.objects x)) (sym a)) k)
+      (sym (append-nil xs))
+
+  -- the namespaces behind them
+  pub with_namespaces : {items : List Tree} {ps : List ExpandoProperty} {xs ys zs : List Tree} {old mid new : List Fault} →
+      Adds (each_answer around items) xs old mid → ps ≡ flat_map (item_properties around) items → Adds (answer_of (namespaces_seen ps)) ys mid new →
+      zs ≡ xs ++ ys → Adds (items_answer around items) zs old new
+  unfolding each_answer items_answer
+  with_namespaces {items} {old = old} {new = new} g e k p =
+      subst (λ x. Adds (items_answer around items) x old new) (sym p)
+      (adds_same (answer_append (flat_map (λ item. item_look item around) items) (namespaces_seen (flat_map (item_properties around) items)))
+      (adds_joined ◌++◌ g (adds_same (ap (λ qs. answer_of (namespaces_seen qs)) (sym e)) k)))
+
+-- ---- the properties of items
+
+-- one item that is no assignment declares none
+none_by_rule : (around : Surroundings) (item : Tree) (rule : ItemRule) → is_assigned rule ≡ false → properties_by_rule around item rule ≡ []
+none_by_rule around item (Declared rule) e = refl
+none_by_rule around item (Exported rule) e = refl
+none_by_rule around item (Linked rule) e = refl
+none_by_rule around item (Default rule) e = refl
+none_by_rule around item (Refused kind) e = refl
+none_by_rule around item Assigned e = cc
+none_by_rule around item Silent e = refl
+
+pub assigned_is : (rule : ItemRule) → is_assigned rule ≡ true → rule ≡ Assigned
+assigned_is Assigned e = refl
+assigned_is (Declared rule) e = cc
+assigned_is (Exported rule) e = cc
+assigned_is (Linked rule) e = cc
+assigned_is (Default rule) e = cc
+assigned_is (Refused kind) e = cc
+assigned_is Silent e = cc
+
+module _ (around : Surroundings) (items : List Tree) (i : ℕ) (item : Tree) (h : i < length items) (e : item ≡ get_or items i item) where
+  taken : flat_map (item_properties around) (take (i + 1) items) ≡ flat_map (item_properties around) (take i items) ++ item_properties around item
+  taken =
+      ap (flat_map (item_properties around)) (take_more items i item h ∙ ap (λ u. take i items ++ u ∷ []) (sym e))
+      ∙ (flat_map-append (item_properties around) (take i items) (item ∷ [])
+      ∙ ap (λ ps. flat_map (item_properties around) (take i items) ++ ps) (append-nil (item_properties around item)))
+
+  pub same_properties : is_assigned (item_rule item) ≡ false → {old new : List ExpandoProperty} →
+      new ≡ old ++ flat_map (item_properties around) (take i items) → new ≡ old ++ flat_map (item_properties around) (take (i + 1) items)
+  same_properties n {old} p =
+      p ∙ ap (λ ps. old ++ ps) (sym (taken ∙ (ap (λ ps. flat_map (item_properties around) (take i items) ++ ps) (none_by_rule around item (item_rule item) n)
+      ∙ append-nil (flat_map (item_properties around) (take i items)))))
+
+  pub more_properties : item_rule item ≡ Assigned → {assignment : Tree} → assignment ≡ ExprStmt-expr item → {old mid new : List ExpandoProperty} →
+      mid ≡ old ++ flat_map (item_properties around) (take i items) → new ≡ mid ++ assignment_properties around assignment →
+      new ≡ old ++ flat_map (item_properties around) (take (i + 1) items)
+  unfolding assignment_properties
+  more_properties r a {old} p q =
+      q ∙ (λ j. p j ++ declared_properties around.is_public around.bindings around.objects (a j))
+      ∙ (append_assoc old (flat_map (item_properties around) (take i items)) (declared_properties around.is_public around.bindings around.objects (ExprStmt-expr item))
+      ∙ ap (λ ps. old ++ ps) (sym (taken ∙ ap (λ x. flat_map (item_properties around) (take i items) ++ properties_by_rule around item x) r)))
+
+pub all_properties : (around : Surroundings) {items all : List Tree} (i : ℕ) → length items ≤ i → items ≡ all → {old new : List ExpandoProperty} →
+    new ≡ old ++ flat_map (item_properties around) (take i items) → new ≡ old ++ flat_map (item_properties around) all
+all_properties around {items} i h e {old} p = p ∙ ap (λ ts. old ++ flat_map (item_properties around) ts) (take_all i items h ∙ e)

@@ -11,7 +11,14 @@ use Rattle.fast_check_comments.specs.Kept.{without_leading}
 use Rattle.fast_check_skeleton.specs.Surroundings.{Surroundings}
 use Rattle.fast_check_signatures.specs.Seen.{Seen}
 use Rattle.fast_check_ranges.specs.Ranges.{range_of_node}
-use Rattle.fast_check_skeleton.specs.Rules.{item_rule}
+use Rattle.fast_check_skeleton.specs.Rules.{is_assigned, item_rule}
+use Rattle.std.specs.Prelude.{Bool, true, false, if◌then◌else◌}
+use Rattle.fast_check_expression_forms.specs.Operators.{AssignExpr-span}
+use Rattle.fast_check_statement_forms.specs.Statements.{ExprStmt-expr}
+use Rattle.fast_check_signatures.specs.Seen.{tested}
+use Rattle.fast_check_expandos.specs.Assignments.{right_seen, missing_place}
+use Rattle.fast_check_skeleton.specs.declared.rules.ItemRule.TheVariants.{Assigned}
+use Rattle.fast_check_skeleton.specs.Visible.{seen_by_rule}
 use Rattle.fast_check_skeleton.specs.Visible.{item_seen}
 use Rattle.fast_check_signatures.specs.declared.fault.Fault.{Fault}
 use Rattle.fast_check_signatures.specs.Answers.{Adds, with_tree, answer_of}
@@ -41,19 +48,32 @@ module _ (around : Surroundings) (item : Tree) where
   abbrev pub below : List SourcePos
   below = starts_below start_look around item (item_rule item)
 
-  pub removed_if_none : {xs : List Tree} {old new : List Fault} → Adds (item_answer around item) xs old new → xs ≡ [] →
+  pub removed_if_none : is_assigned (item_rule item) ≡ false → {xs : List Tree} {old new : List Fault} → Adds (item_answer around item) xs old new → xs ≡ [] →
       removed_start around item ≡ below ++ ((range_of_node item).start ∷ inside)
   unfolding item_answer
-  removed_if_none h e =
+  removed_if_none n h e =
       removed_start_is around item
       ∙ ap (λ ps. below ++ (ps ++ inside)) (unseen (item_seen around item)
-      (subst (OneTree around) (sym (item_seen_is around item)) (item_one around item (item_rule item))) (ap (λ a. a.stays) h.is ∙ e))
+      (subst (OneTree around) (sym (item_seen_is around item)) (item_one around item (item_rule item) n)) (ap (λ a. a.stays) h.is ∙ e))
 
   pub removed_if_some : {t : Tree} {xs : List Tree} {old new : List Fault} → Adds (item_answer around item) xs old new → xs ≡ t ∷ [] →
       removed_start around item ≡ below ++ inside
   unfolding item_answer
   removed_if_some {t} h e =
       removed_start_is around item ∙ ap (λ ps. below ++ (ps ++ inside)) (seen_one (item_seen around item) t (ap (λ a. a.stays) h.is ∙ e))
+
+  -- the start of an assignment
+  pub removed_if_assigned : item_rule item ≡ Assigned → removed_start around item ≡ (range_of_node item).start ∷ []
+  removed_if_assigned e =
+      removed_start_is around item
+      ∙ (λ i. starts_below start_look around item (e i) ++ (start_of_unseen item ((item_seen_is around item ∙ ap (seen_by_rule around item) e) i)
+      ++ starts_inside around item (e i)))
+      ∙ go (around.is_public (AssignExpr-span (ExprStmt-expr item)))
+    where
+      go : (p : Bool) → start_of_unseen item (if p then tested (missing_place around.objects (ExprStmt-expr item)) (right_seen around.bindings (ExprStmt-expr item)) ∷ []
+          else []) ++ (if p then (range_of_node item).start ∷ [] else []) ≡ (range_of_node item).start ∷ []
+      go true = refl
+      go false = refl
 
 -- the comments without those before one more item
 pub one_more : (around : Surroundings) (items : List Tree) (i : ℕ) (item : Tree) (starts : List SourcePos) (c : Comments) → i < length items →

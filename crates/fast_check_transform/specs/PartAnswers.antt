@@ -1,5 +1,6 @@
 -- The answers to what is seen of the items of a module, and of a namespace.
 use Rattle.std.specs.Prelude.{List, [], ◌∷◌}
+use Rattle.std.specs.List.{flat_map}
 use Rattle.fast_check_syntax.specs.declared.source.SourcePos.{SourcePos}
 use Rattle.fast_check_syntax.specs.declared.source.SourceRange.{SourceRange}
 use Rattle.fast_check_syntax.specs.declared.tree.Tree.{Tree}
@@ -39,6 +40,10 @@ refused_answer item kind = answer_of (faulty kind (range_of_node item) ∷ [])
 unfoldable pub item_answer : Surroundings → Tree → Answer (List Tree)
 item_answer around item = answer_of (item_seen around item)
 
+unfoldable pub each_answer : Surroundings → List Tree → Answer (List Tree)
+each_answer around items = answer_of (flat_map (λ item. item_look item around) items)
+
+-- to the items of a body, with the namespaces behind them
 unfoldable pub items_answer : Surroundings → List Tree → Answer (List Tree)
 items_answer around items = answer_of (body_seen item_look around items)
 

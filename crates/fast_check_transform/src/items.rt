@@ -1,27 +1,31 @@
-ghost use Rattle.std.specs.Prelude.{◌≡◌, IfOk};
+ghost use Rattle.std.specs.Prelude.{◌≡◌, ◌++◌, false, flat_map, IfOk};
 ghost use Rattle.fast_check_syntax.specs.Part.{seen};
 ghost use Rattle.fast_check_syntax.specs.Shape.{parts};
 ghost use Rattle.fast_check_signatures.specs.Answers.{Adds};
 ghost use Rattle.fast_check_skeleton.specs.KeptComments.{removed_from, start_look, starts_in_body, starts_in_namespace, starts_below, without_all_leading};
-ghost use Rattle.fast_check_skeleton.specs.Rules.{item_rule};
+ghost use Rattle.fast_check_skeleton.specs.Rules.{is_assigned, item_rule};
+ghost use Rattle.fast_check_skeleton.specs.Visible.{item_properties};
 ghost use Rattle.fast_check_links.specs.Asked.{Asked-around};
 ghost use Rattle.fast_check_links.specs.Links.{as_list};
-ghost use Rattle.fast_check_transform.specs.PartAnswers.{namespace_answer, decl_answer, export_answer, starts_in_export, refused_answer, item_answer, items_answer};
+ghost use Rattle.fast_check_transform.specs.PartAnswers.{namespace_answer, decl_answer, export_answer, starts_in_export, refused_answer, item_answer, each_answer, items_answer};
 
 use fast_check_comments::CommentsMut;
 use fast_check_declarations::{
-    items_inside, keep_default, keep_public_class, keep_public_function, keep_standing,
+    items_inside, keep_assignment, keep_default, keep_public_class, keep_public_function, keep_standing,
     keep_statement, keep_using, module_fault, namespace_with, remove_inside,
 };
+use fast_check_expandos::{ExpandoProperty, keep_namespaces};
 use fast_check_links::{Asked, keep_link};
 use fast_check_program_forms::ExportDecl;
 use fast_check_ranges::range_of_node;
 use fast_check_signatures::{Fault, FaultKind};
 use fast_check_skeleton::{DeclRule, ItemRule, item_rule};
+use fast_check_statement_forms::ExprStmt;
 use fast_check_syntax::{Items, Part, SourceRange, Tree};
 use std::alloc::{AllocError, Global};
 
-/// What is public of the items of a body, that of a module or of a namespace. The comments before the others go.
+/// What is public of the items of a body, that of a module or of a namespace, and behind it the namespaces for the expando properties
+/// that its assignments declare. The comments before the others go.
 #[cycle(items)]
 pub fn keep_items(
     alloc: Global,
@@ -34,9 +38,36 @@ pub fn keep_items(
     ensures comments { IfOk result (λ _.
         comments.new ≡ without_all_leading (removed_from (Asked-around asked.entry) (parts (seen body.entry))) comments.old) }
 {
+    let mut properties = Vec::new(alloc);
+    let mut items = keep_each(alloc, asked, body, comments, &mut properties, faults)?;
+    items.append(keep_namespaces(alloc, properties, faults)?)?;
+    Ok(items)
+}
+
+/// What is public of the items of a body, one by one, and the expando properties that they declare.
+#[cycle(items)]
+fn keep_each(
+    alloc: Global,
+    asked: Asked<'_>,
+    body: Part<'_>,
+    comments: &mut CommentsMut,
+    properties: &mut Vec<ExpandoProperty>,
+    faults: &mut Vec<Fault>,
+) -> Result<Items<Tree>, AllocError>
+    ensures answer { IfOk result (λ items. Adds (each_answer (Asked-around asked.entry) (parts (seen body.entry))) items faults.old.items faults.new.items) }
+    ensures properties { IfOk result (λ _.
+        properties.new.items ≡ properties.old.items ++ flat_map (item_properties (Asked-around asked.entry)) (parts (seen body.entry))) }
+    ensures comments { IfOk result (λ _.
+        comments.new ≡ without_all_leading (removed_from (Asked-around asked.entry) (parts (seen body.entry))) comments.old) }
+{
     let mut items = Items::new(alloc);
     for item in body.parts() {
         let item = item.read();
+        if is_assigned(item) {
+            keep_assignment(alloc, asked, ExprStmt::of(item).expr, properties, faults)?;
+            comments.remove_leading(range_of_node(item).start);
+            continue;
+        }
         match keep_item(alloc, asked, item, comments, faults)? {
             None => {
                 comments.remove_leading(range_of_node(item).start);
@@ -148,7 +179,15 @@ fn refuse(
     Ok(Some(Tree::Absent))
 }
 
-/// What is public of an item of a body; none where nothing is. Of a namespace the comments before the items that go, go too.
+/// Whether an item is an assignment that is a statement.
+fn is_assigned(item: Part<'_>) -> bool
+    ensures { result ≡ is_assigned (item_rule (seen item.entry)) }
+{
+    matches!(item_rule(item), ItemRule::Assigned)
+}
+
+/// What is public of an item of a body that is no assignment; none where nothing is. Of a namespace the comments before the items that
+/// go, go too.
 #[cycle(items)]
 fn keep_item(
     alloc: Global,
@@ -157,6 +196,7 @@ fn keep_item(
     comments: &mut CommentsMut,
     faults: &mut Vec<Fault>,
 ) -> Result<Option<Tree>, AllocError>
+    requires no_assignment { is_assigned (item_rule (seen item.entry)) ≡ false }
     ensures answer { IfOk result (λ tree. Adds (item_answer (Asked-around asked.entry) (seen item.entry)) (as_list tree) faults.old.items faults.new.items) }
     ensures comments { IfOk result (λ _.
         comments.new ≡ without_all_leading (starts_below start_look (Asked-around asked.entry) (seen item.entry) (item_rule (seen item.entry))) comments.old) }
@@ -175,6 +215,6 @@ fn keep_item(
         ItemRule::Linked(rule) => keep_link(alloc, asked, item, rule),
         ItemRule::Default(rule) => keep_default(alloc, asked, item, rule, faults),
         ItemRule::Refused(kind) => refuse(item, kind, faults),
-        ItemRule::Silent => Ok(None),
+        ItemRule::Assigned | ItemRule::Silent => Ok(None),
     }
 }

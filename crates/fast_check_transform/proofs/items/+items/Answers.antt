@@ -1,4 +1,4 @@
-use Rattle.std.proofs.Common.{rules, refl, arith, ap, sym, ◌∙◌, ◌++◌, ◌∷◌, append-nil}
+use Rattle.std.proofs.Common.{rules, refl, arith, ap, sym, ◌∙◌, ◌++◌, ◌∷◌, [], append-nil, true≢false}
 use Rattle.std.proofs.lemmas.Grind.{common_steps}
 use Rattle.std.proofs.lemmas.Result.{IfOk-weaker}
 use Rattle.fast_check_comments.specs.Kept.{without_leading}
@@ -11,22 +11,57 @@ use Rattle.fast_check_links.specs.Asked.{Asked-around}
 use Rattle.fast_check_links.specs.Links.{as_list}
 use Rattle.fast_check_transform.proofs.ByRule.{variables, functions, classes, standing, namespaces, using_stays, untaken}
 use Rattle.fast_check_transform.proofs.ByRule.{declared, exported, no_export, made_export, linked, default_export, refused, silent}
-use Rattle.fast_check_transform.proofs.ByRule.{no_items, one_more_item, all_items}
+use Rattle.fast_check_transform.proofs.ByRule.{no_items, one_more_item, one_more_assigned, all_items, with_namespaces}
+use Rattle.fast_check_transform.proofs.ByRule.{assigned_is, same_properties, more_properties, all_properties}
+use Rattle.fast_check_skeleton.specs.Rules.{is_assigned, item_rule}
 use Rattle.fast_check_transform.proofs.Namespaces.{inside_at_most, refused_module, private_namespace, public_namespace}
 use Rattle.fast_check_transform.proofs.Namespaces.{nothing_refused, nothing_private, all_inside}
-use Rattle.fast_check_transform.proofs.Removed.{inside, below, without_append, removed_if_none, removed_if_some, one_more}
+use Rattle.fast_check_transform.proofs.Removed.{inside, below, without_append, removed_if_none, removed_if_some, removed_if_assigned, one_more}
 use Rattle.fast_check_transform.proofs.items.+items.Goals as goal
 
 -- ---- the items of a body
 
-pub keep_items-keep_item-requires : goal.keep_items-keep_item-requires
-keep_items-keep_item-requires t c = grind (arith, height_read)
+pub keep_items-keep_each-requires : goal.keep_items-keep_each-requires
+keep_items-keep_each-requires t c = grind (arith, common_steps)
 
-pub keep_items-loop-item-init : goal.keep_items-loop-item-init
-keep_items-loop-item-init t c = record { answer = no_items (Asked-around c.args.asked) c.new-items.ensures c.args.faults.now.items; comments = refl }
+pub keep_items-returns-clause-answer : goal.keep_items-returns-clause-answer
+keep_items-returns-clause-answer t c =
+    let each = c.in_ok-items.ensures in
+    with_namespaces (Asked-around c.args.asked) each.answer (each.properties ∙ ap (λ p. p.items ++ _) c.new-properties.ensures)
+    c.in_ok-keep_namespaces.ensures c.in_ok-append.ensures
 
-pub keep_items-loop-item-preserved-in-None : goal.keep_items-loop-item-preserved-in-None
-keep_items-loop-item-preserved-in-None t c =
+pub keep_items-returns-clause-comments : goal.keep_items-returns-clause-comments
+keep_items-returns-clause-comments t c = c.in_ok-items.ensures.comments
+
+pub keep_each-keep_item-requires : goal.keep_each-keep_item-requires
+keep_each-keep_item-requires t c = (grind (arith, height_read), search rules)
+
+pub keep_each-loop-item-init : goal.keep_each-loop-item-init
+keep_each-loop-item-init t c = record {
+  answer = no_items (Asked-around c.args.asked) c.new-items.ensures c.args.faults.now.items;
+  properties = sym (append-nil c.args.properties.now.items);
+  comments = refl;
+}
+
+pub keep_each-loop-item-preserved-then-is_assigned : goal.keep_each-loop-item-preserved-then-is_assigned
+keep_each-loop-item-preserved-then-is_assigned t c =
+    let around = Asked-around c.args.asked in
+    let item = seen c.read-item.result in
+    let all = c.parts-item-items.result.now in
+    let i = c.loop-item.item-index in
+    let rule = assigned_is (item_rule item) (sym c.is_assigned.ensures ∙ c.if-is_assigned.true) in
+    let start = ap (λ r. r.start) c.range_of_node.ensures in
+    let kept = c.in_ok-keep_assignment.ensures in
+    record {
+      answer = one_more_assigned around all i item c.loop-item-test.true (search rules) rule c.of.ensures.expr c.loop-item.invariant.answer kept.answer;
+      properties = more_properties around all i item c.loop-item-test.true (search rules) rule c.of.ensures.expr c.loop-item.invariant.properties kept.properties;
+      comments = c.remove_leading.ensures ∙ ((λ i. without_leading (start i) (c.loop-item.invariant.comments i))
+          ∙ sym (one_more around all i item ((range_of_node item).start ∷ []) c.args.comments.now c.loop-item-test.true (search rules)
+          (removed_if_assigned around item rule)));
+    }
+
+pub keep_each-loop-item-preserved-in-None : goal.keep_each-loop-item-preserved-in-None
+keep_each-loop-item-preserved-in-None t c =
     let around = Asked-around c.args.asked in
     let item = seen c.read-item.result in
     let start = ap (λ r. r.start) c.range_of_node.ensures in
@@ -36,17 +71,19 @@ keep_items-loop-item-preserved-in-None t c =
       answer = one_more_item around c.parts-item-items.result.now c.loop-item.item-index item c.loop-item-test.true
           (search rules) c.loop-item.invariant.answer
           kept.answer (sym (append-nil c.loop-item.items) ∙ ap (λ o. c.loop-item.items ++ as_list o) (sym c.in-None.is));
+      properties = same_properties around c.parts-item-items.result.now c.loop-item.item-index item c.loop-item-test.true (search rules)
+          (sym c.is_assigned.ensures ∙ c.if-is_assigned.false) c.loop-item.invariant.properties;
       comments = c.in_ok-remove_inside-in-None.ensures
           ∙ (ap (without_all_leading (inside around item))
           (c.remove_leading.ensures ∙ (λ i. without_leading (start i)
           ((kept.comments ∙ ap (without_all_leading (below around item)) c.loop-item.invariant.comments) i)))
           ∙ sym (one_more around c.parts-item-items.result.now c.loop-item.item-index item (below around item ++ starts) c.args.comments.now
-          c.loop-item-test.true (search rules) (removed_if_none around item kept.answer (ap as_list c.in-None.is))
+          c.loop-item-test.true (search rules) (removed_if_none around item (sym c.is_assigned.ensures ∙ c.if-is_assigned.false) kept.answer (ap as_list c.in-None.is))
           ∙ without_append (below around item) starts _));
     }
 
-pub keep_items-loop-item-preserved : goal.keep_items-loop-item-preserved
-keep_items-loop-item-preserved t c =
+pub keep_each-loop-item-preserved : goal.keep_each-loop-item-preserved
+keep_each-loop-item-preserved t c =
     let around = Asked-around c.args.asked in
     let item = seen c.read-item.result in
     let kept = c.in_ok-keep_item.ensures in
@@ -54,6 +91,8 @@ keep_items-loop-item-preserved t c =
       answer = one_more_item around c.parts-item-items.result.now c.loop-item.item-index item c.loop-item-test.true
           (search rules) c.loop-item.invariant.answer
           kept.answer (c.in_ok-push-in-Some.ensures.ok ∙ ap (λ o. c.loop-item.items ++ as_list o) (sym c.in-Some.is));
+      properties = same_properties around c.parts-item-items.result.now c.loop-item.item-index item c.loop-item-test.true (search rules)
+          (sym c.is_assigned.ensures ∙ c.if-is_assigned.false) c.loop-item.invariant.properties;
       comments = c.in_ok-remove_inside-in-Some.ensures
           ∙ (ap (without_all_leading (inside around item)) (kept.comments ∙ ap (without_all_leading (below around item)) c.loop-item.invariant.comments)
           ∙ sym (one_more around c.parts-item-items.result.now c.loop-item.item-index item (below around item ++ inside around item)
@@ -61,12 +100,16 @@ keep_items-loop-item-preserved t c =
           ∙ without_append (below around item) (inside around item) _));
     }
 
-pub keep_items-returns-clause-answer : goal.keep_items-returns-clause-answer
-keep_items-returns-clause-answer t c =
+pub keep_each-returns-clause-answer : goal.keep_each-returns-clause-answer
+keep_each-returns-clause-answer t c =
     all_items (Asked-around c.args.asked) c.loop-item.item-index c.loop-item-test.false c.parts-item-items.ensures c.loop-item.invariant.answer
 
-pub keep_items-returns-clause-comments : goal.keep_items-returns-clause-comments
-keep_items-returns-clause-comments t c = grind (arith, common_steps)
+pub keep_each-returns-clause-properties : goal.keep_each-returns-clause-properties
+keep_each-returns-clause-properties t c =
+    all_properties (Asked-around c.args.asked) c.loop-item.item-index c.loop-item-test.false c.parts-item-items.ensures c.loop-item.invariant.properties
+
+pub keep_each-returns-clause-comments : goal.keep_each-returns-clause-comments
+keep_each-returns-clause-comments t c = grind (arith, common_steps)
 
 -- ---- namespaces
 
@@ -261,3 +304,12 @@ pub keep_item-returns-in-Silent-clause-comments : goal.keep_item-returns-in-Sile
 keep_item-returns-in-Silent-clause-comments t c =
     ap (λ r. without_all_leading (starts_below start_look (Asked-around c.args.asked) (seen c.args.item) r) c.args.comments.now)
     (sym (sym c.item_rule.ensures ∙ c.in-Silent.is))
+
+pub keep_item-returns-in-Assigned-clause-answer : goal.keep_item-returns-in-Assigned-clause-answer
+keep_item-returns-in-Assigned-clause-answer t c =
+    absurd (true≢false (sym (ap is_assigned (sym c.item_rule.ensures ∙ c.in-Assigned.is)) ∙ c.requires.no_assignment))
+
+pub keep_item-returns-in-Assigned-clause-comments : goal.keep_item-returns-in-Assigned-clause-comments
+keep_item-returns-in-Assigned-clause-comments t c =
+    ap (λ r. without_all_leading (starts_below start_look (Asked-around c.args.asked) (seen c.args.item) r) c.args.comments.now)
+    (sym (sym c.item_rule.ensures ∙ c.in-Assigned.is))
