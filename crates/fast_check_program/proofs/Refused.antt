@@ -9,7 +9,7 @@ use Rattle.fast_check_program.specs.Program.{AnswersRequest, IsAnswerTo, Refuses
 
 pub refused : (refusal : Refusal) (bytes : List ℕ) → LacksRequest bytes refusal → RefusesBytes refusal bytes
 refused refusals.NotJson bytes lacks = lacks
-refused refusals.BadForm bytes lacks = inl lacks
+refused refusals.BadForm bytes lacks = lacks
 refused refusals.OutOfMemory bytes lacks = lacks
 refused refusals.Usage bytes lacks = absurd lacks
 refused refusals.Unreadable bytes lacks = absurd lacks
@@ -20,7 +20,7 @@ refused refusals.Unwritable bytes lacks = absurd lacks
 pub request_refused : (refusal : Refusal) (bytes : List ℕ) (asked : TransformRequest) → HoldsRequest bytes asked → RefusesRequest asked refusal
     → RefusesBytes refusal bytes
 request_refused refusals.NotJson bytes asked holds refuses = absurd refuses
-request_refused refusals.BadForm bytes asked holds refuses = inr (asked, holds, refuses)
+request_refused refusals.BadForm bytes asked holds refuses = absurd refuses
 request_refused refusals.OutOfMemory bytes asked holds refuses = tt
 request_refused refusals.Usage bytes asked holds refuses = absurd refuses
 request_refused refusals.Unreadable bytes asked holds refuses = absurd refuses

@@ -3,7 +3,6 @@ use Rattle.std.specs.Prelude.{◌≡◌, ℕ, ◌<◌, IsTrue, List, true, false
 use Rattle.std.specs.Io.KnownBytes.{Appends}
 use Rattle.fast_check_modules.specs.EsModule.{EsModule, Admits}
 use Rattle.fast_check_modules.specs.WellFormed.{AreMadeOf, FitProgram, IsModuleFault}
-use Rattle.fast_check_transform.specs.Transform.{IsCarried}
 use Rattle.fast_check_requests.specs.declared.ending.Ending.{Ending}
 use Rattle.fast_check_requests.specs.declared.refusal.Refusal.{Refusal}
 use Rattle.fast_check_requests.specs.declared.refusal.Refusal.TheVariants as refusals
@@ -27,7 +26,6 @@ pub record AnswersRequest (asked : TransformRequest) (line : List ℕ) (status :
   pub info : EsModule
   pub is_module : IsModuleOf asked.es_module info
   pub admitted : Admits info asked.public_ranges
-  pub carried : IsCarried info
   pub answer : IsAnswer asked.graph info asked.public_ranges asked.should_error_on_first_diagnostic line status
 
 -- its ranges are not admitted
@@ -36,18 +34,10 @@ pub record IsNotAdmitted (asked : TransformRequest) : Type 0 where
   pub is_module : IsModuleOf asked.es_module info
   pub not_admitted : ¬ Admits info asked.public_ranges
 
--- its ranges are admitted, and its module is not taken yet
-pub record IsNotCarried (asked : TransformRequest) : Type 0 where
-  pub info : EsModule
-  pub is_module : IsModuleOf asked.es_module info
-  pub admitted : Admits info asked.public_ranges
-  pub not_carried : ¬ IsCarried info
-
 -- why it is refused: faults of tables before all else; memory may run out at any request
 abbrev pub RefusesRequest : TransformRequest → Refusal → Type 0
 RefusesRequest asked (refusals.TableFault fault) = IsModuleFault asked.es_module.tables asked.es_module.source.program fault
 RefusesRequest asked refusals.RangesNotAdmitted = IsNotAdmitted asked
-RefusesRequest asked refusals.BadForm = IsNotCarried asked
 RefusesRequest asked refusals.OutOfMemory = Unit {0}
 RefusesRequest asked _ = ⊥
 
@@ -64,7 +54,7 @@ IsAnswerTo bytes line status = OfRequest (λ asked. AnswersRequest asked line st
 -- why they are refused: they are no JSON, or the JSON of no request, or their request is refused; memory may run out at any bytes
 abbrev pub RefusesBytes : Refusal → List ℕ → Type 0
 RefusesBytes refusals.NotJson bytes = IsNotJson bytes
-RefusesBytes refusals.BadForm bytes = IsNoRequest bytes ⊎ OfRequest (λ asked. RefusesRequest asked refusals.BadForm) bytes
+RefusesBytes refusals.BadForm bytes = IsNoRequest bytes
 RefusesBytes (refusals.TableFault fault) bytes = OfRequest (λ asked. RefusesRequest asked (refusals.TableFault fault)) bytes
 RefusesBytes refusals.RangesNotAdmitted bytes = OfRequest (λ asked. RefusesRequest asked refusals.RangesNotAdmitted) bytes
 RefusesBytes refusals.OutOfMemory bytes = Unit {0}

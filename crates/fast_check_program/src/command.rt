@@ -1,7 +1,6 @@
 ghost use Rattle.std.specs.Prelude.{◌≡◌, ◌<◌, ◌≤◌, map, option_map, IfOk, IfErr, false, ◌⊎◌};
 ghost use Rattle.std.specs.String.{string_bytes};
 ghost use Rattle.fast_check_modules.specs.EsModule.{Admits};
-ghost use Rattle.fast_check_transform.specs.Transform.{IsCarried};
 ghost use Rattle.fast_check_requests.specs.Call.{is_call};
 ghost use Rattle.fast_check_requests.specs.Refusal.{IsTold};
 ghost use Rattle.fast_check_program.specs.Line.{IsAnswer};
@@ -14,7 +13,7 @@ use fast_check_requests::{
     Ending, EsModuleParts, Refusal, TransformRequest, is_call, read_bytes, read_request,
 };
 use fast_check_tables::ModulePublicRanges;
-use fast_check_transform::{TransformOptions, is_carried, transform};
+use fast_check_transform::{TransformOptions, transform};
 use std::alloc::{AllocError, Global};
 use std::io::{Read, Write};
 
@@ -99,9 +98,6 @@ fn answer_request(alloc: Global, request: TransformRequest) -> Result<Answer, Re
     if !es_module_info.admits(&public_ranges) {
         return Err(Refusal::RangesNotAdmitted);
     }
-    if !is_carried(&es_module_info) {
-        return Err(Refusal::BadForm);
-    }
     let options = TransformOptions {
         workspace_members: Vec::new(alloc),
         should_error_on_first_diagnostic,
@@ -117,7 +113,6 @@ fn answer_module(
     public_ranges: &ModulePublicRanges,
     options: &TransformOptions,
 ) -> Result<Answer, AllocError>
-    requires carried { IsCarried es_module_info.now }
     requires admitted { Admits es_module_info.now public_ranges.now }
     ensures { IfOk result (λ answer. IsAnswer graph.now es_module_info.now public_ranges.now
         options.now.should_error_on_first_diagnostic answer.line.items answer.status) }

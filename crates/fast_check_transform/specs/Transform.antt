@@ -8,7 +8,6 @@ use Rattle.fast_check_links.specs.StaticSources.{static_sources}
 use Rattle.fast_check_tables.specs.PublicRanges.{PublicRanges}
 use Rattle.fast_check_tables.specs.declared.tables.fast_check_module.StaticSource.{StaticSource}
 use Rattle.fast_check_signatures.specs.declared.fault.Fault.{Fault}
-use Rattle.fast_check_skeleton.specs.Carried.{is_carried_program}
 use Rattle.fast_check_skeleton.specs.Skeleton.{skeleton_of, faults_of}
 use Rattle.fast_check_skeleton.specs.KeptComments.{kept_comments}
 use Rattle.fast_check_comments.specs.declared.comments.Comments.{Comments}
@@ -28,7 +27,3 @@ faults graph info public = faults_of (surroundings_of graph info public) info.so
 -- the comments that stay with it
 abbrev pub comments : ModuleGraph → EsModule → PublicRanges → Comments
 comments graph info public = kept_comments (surroundings_of graph info public) info.source.program info.source.comments
-
--- a module that a transform takes so far
-pub record IsCarried (info : EsModule) : Type 0 where
-  pub program : IsTrue (is_carried_program info.source.program)

@@ -11,8 +11,8 @@ ghost use Rattle.fast_check_transform.specs.PartAnswers.{namespace_answer, decl_
 
 use fast_check_comments::CommentsMut;
 use fast_check_declarations::{
-    items_inside, keep_assignment, keep_default, keep_public_class, keep_public_function, keep_standing,
-    keep_statement, keep_using, module_fault, namespace_with, remove_inside,
+    items_inside, keep_assignment, keep_default, keep_public_class, keep_public_function,
+    keep_standing, keep_statement, keep_using, module_fault, namespace_with, remove_inside,
 };
 use fast_check_expandos::{ExpandoProperty, keep_namespaces};
 use fast_check_links::{Asked, keep_link};

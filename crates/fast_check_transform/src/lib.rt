@@ -1,10 +1,8 @@
 //! The transform of a module to its skeleton.
 #![tactic(auto)]
 
-mod carried;
 mod items;
 mod transformer;
 
-pub use carried::is_carried;
 pub use fast_check_tables::{FastCheckModule, ModuleInfo, StaticSource};
 pub use transformer::{TransformOptions, transform};

@@ -7,7 +7,7 @@ ghost use Rattle.fast_check_tables.specs.MediaType.{is_declaration};
 ghost use Rattle.fast_check_modules.specs.EsModule.{Admits};
 ghost use Rattle.fast_check_links.specs.Asked.{Asked-around};
 ghost use Rattle.fast_check_transform.specs.PartAnswers.{program_answer};
-ghost use Rattle.fast_check_transform.specs.Transform.{IsCarried, skeleton, sources, comments, faults};
+ghost use Rattle.fast_check_transform.specs.Transform.{skeleton, sources, comments, faults};
 ghost use Rattle.fast_check_transform_faults.specs.Diagnostics.{AreDiagnosticsOf, told};
 
 use crate::items::keep_items;
@@ -36,8 +36,8 @@ pub struct TransformOptions {
 /// The skeleton of a module: what is public of it, with a type in place of each value. Where a public declaration shows
 /// no type, the answer is the list of its faults in reading order, or the first of them alone under the option.
 ///
-/// This is `transform` of deno_graph's fast check. An `Err` outside is want of memory. The module has to be one that
-/// `is_carried` takes, and has to admit the public ranges.
+/// This is `transform` of deno_graph's fast check. An `Err` outside is want of memory. The module has to admit the
+/// public ranges.
 pub fn transform(
     alloc: Global,
     graph: &ModuleGraph,
@@ -45,7 +45,6 @@ pub fn transform(
     public_ranges: &ModulePublicRanges,
     options: &TransformOptions,
 ) -> Result<Result<FastCheckModule, Vec<FastCheckDiagnostic>>, AllocError>
-    requires carried { IsCarried es_module_info.now }
     requires admitted { Admits es_module_info.now public_ranges.now }
     ensures ok { IfOk result (λ answer. IsOk answer ↔ (faults graph.now es_module_info.now public_ranges.now ≡ [])) }
     ensures skeleton { IfOk result (λ answer. IfOk answer (λ made. made.program ≡ skeleton graph.now es_module_info.now public_ranges.now)) }

@@ -11,16 +11,6 @@ returns-then-not-admits-clause-refusal c =
       not_admitted = λ admitted. search rules;
     }
 
-pub returns-then-not-is_carried-clause-refusal : goal.returns-then-not-is_carried-clause-refusal
-returns-then-not-is_carried-clause-refusal c =
-    let made = c.in_ok-es_module_info.ensures in
-    record {
-      info = c.in_ok-es_module_info.es_module_info;
-      is_module = record { specifier = made.specifier; source = made.source; tables = made.tables; without_fault = made.well_formed };
-      admitted = search rules;
-      not_carried = λ carried. search rules;
-    }
-
 pub returns-clause-answer : goal.returns-clause-answer
 returns-clause-answer c =
     let made = c.in_ok-es_module_info.ensures in
@@ -28,6 +18,5 @@ returns-clause-answer c =
       info = c.in_ok-es_module_info.es_module_info;
       is_module = record { specifier = made.specifier; source = made.source; tables = made.tables; without_fault = made.well_formed };
       admitted = search rules;
-      carried = search rules;
       answer = c.in_ok-answer_module.ensures;
     }
