@@ -16,6 +16,8 @@ def ranges_of_item(item, by=None, hidden=()):
         if "specifiers" in node and by != "whole":
             return [range_of_specifier(each) for place, each in enumerate(node["specifiers"]) if place not in hidden]
         return [range_of(node["expr"]) if by == "value" else node["span"]]
+    if "Assign" in node.get("Expr", {}).get("expr", {}):
+        return [node["Expr"]["expr"]["Assign"]["span"]]
     return ranges_of_decl(node["Decl"], None, by) if "Decl" in node else []
 
 

@@ -3,6 +3,7 @@
 Trees are JSON as `trees` makes them. No tree is changed: what is answered is made anew, of parts of the source.
 """
 from class_skeletons import Classes
+from expando_skeletons import Expandos
 from module_skeletons import Modules, range_of_default
 from nodes import EMPTY_OBJECT, NEVER, NEVER_ARRAY, NEVER_IN_PARENTHESES, annotated, keyword, new, variant
 from trees import DUMMY
@@ -145,16 +146,17 @@ def is_void(written):
     return written["type_ann"].get("TsKeywordType", {}).get("kind") == "TsVoidKeyword"
 
 
-class Skeleton(Classes, Modules):
+class Skeleton(Classes, Expandos, Modules):
     """The items that a skeleton has, and the faults that were met in making them, each a code, a range and two flags.
 
     `resolved` has what the texts of sources in the module resolve to, and `plain_classes` the names with scope numbers of classes without type
     parameters."""
 
     def __init__(self, body, ranges, impls=(), media_type="TypeScript", unresolved=1, specifier="file:///p/mod.ts", resolved=None,
-                 plain_classes=()):
+                 plain_classes=(), exports=None, keyworded=()):
         self.ranges, self.impls, self.unresolved = ranges, impls, unresolved
         self.specifier, self.resolved, self.plain_classes = specifier, resolved or {}, plain_classes
+        self.exports, self.keyworded = exports or {}, keyworded
         self.is_ambient = media_type in ("Dts", "Dmts", "Dcts")
         self.faults = []
         self.items = self.items_of(body)
@@ -169,8 +171,13 @@ class Skeleton(Classes, Modules):
 
     def items_of(self, body):
         """What stays of the items of a module, or of a namespace."""
-        items = [self.item(item) for item in body]
-        return [item for item in items if item is not None]
+        items, properties = [], {}
+        for item in body:
+            if "Assign" in item.get("Stmt", {}).get("Expr", {}).get("expr", {}):
+                self.assignment(item["Stmt"]["Expr"]["expr"]["Assign"], properties)
+            else:
+                items.append(self.item(item))
+        return [item for item in items if item is not None] + [self.namespace_of(key, decls) for key, decls in properties.items()]
 
     def item(self, item):
         kind, node = variant(item)
@@ -484,6 +491,10 @@ def texts(code, is_definitely, is_async):
                 ["fast check was unable to infer the type of the superclass expression"])
     if code in MODULE_TEXTS:
         return MODULE_TEXTS[code]
+    if code == "unsupported-expando-property":
+        return (f"expando property referencing '{is_async}' conflicts with '{is_definitely}.{is_async}'",
+                f"rename '{is_async}' to something else to avoid conflicts or create a temporary variable with a different name to use in the expando property reference",
+                ["expando properties get converted to a namespace and the reference conflicts with a namespace export"])
     message, hint, info = "missing explicit return type in the public API", "add an explicit return type to the function", [ALL_FUNCTIONS]
     if is_definitely:
         hint = "add an explicit return type of 'void' or 'never' to the function"

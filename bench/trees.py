@@ -186,6 +186,14 @@ def assign(name, value):
     return expr("Assign", op="=", left={"Simple": ref(name)}, right=value)
 
 
+def assign_to(target, value, op="="):
+    return expr("Assign", op=op, left={"Simple": target}, right=value)
+
+
+def computed_of(obj, key):
+    return expr("Member", obj=obj, prop=computed(key))
+
+
 def member(obj, name):
     return expr("Member", obj=obj, prop={"Ident": ident_name(name)})
 

@@ -17,6 +17,7 @@ sys.dont_write_bytecode = True
 import class_cases
 import function_cases
 import module_cases
+import expando_cases
 import namespace_cases
 import new_cases
 from module_skeletons import sources_of
@@ -649,7 +650,9 @@ def stated(fault, text):
     words = {"missing-explicit-type": "type", "missing-explicit-return-type": "return", "unsupported-destructuring": "destructuring",
              "unsupported-super-class-expr": "superclass", "unsupported-default-export-expr": "default", "unsupported-using": "using",
              "unsupported-require": "require", "unsupported-ts-export-assignment": "assignment", "unsupported-ts-namespace-export": "namespace",
-             "unsupported-global-module": "global", "unsupported-ambient-module": "ambient"}[code]
+             "unsupported-expando-property": "expando", "unsupported-global-module": "global", "unsupported-ambient-module": "ambient"}[code]
+    if code == "unsupported-expando-property":
+        return {f"expando {is_definitely} {is_async} {start}-{end}"}
     words += " definitely" * bool(is_definitely) + " async" * bool(is_async)
     return {f"{words} {text.encode()[start - 1:end - 1].decode()}", f"{words} {start}-{end}"}
 
@@ -687,7 +690,7 @@ def function_case(case):
     ranges += ranges_within(case)
     impls = public_ranges(case, case.implementations) + ranges_of_members(case)
     made = Skeleton(case.items, ranges, impls, media_type, specifier=specifier, resolved=more.get("resolved"),
-                    plain_classes=more.get("plain_classes", ()))
+                    plain_classes=more.get("plain_classes", ()), exports=more.get("exports"), keyworded=more.get("keyworded", ()))
     faults = made.faults[:1] if first else made.faults
     given = [stated(fault, text) for fault in faults] if faults else lay_items(made.items)[1]
     if isinstance(case.expected, list) and faults and len(given) == len(case.expected):
@@ -792,6 +795,7 @@ def main():
     comments_of_classes()
     groups_of_cases(module_cases.GROUPS)
     groups_of_cases(namespace_cases.GROUPS)
+    groups_of_cases(expando_cases.GROUPS)
     defaults()
     refusals()
     tables()
