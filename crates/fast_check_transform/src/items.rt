@@ -7,7 +7,8 @@ ghost use Rattle.fast_check_skeleton.specs.Rules.{is_assigned, item_rule};
 ghost use Rattle.fast_check_skeleton.specs.Visible.{item_properties};
 ghost use Rattle.fast_check_links.specs.Asked.{Asked-around};
 ghost use Rattle.fast_check_links.specs.Links.{as_list};
-ghost use Rattle.fast_check_transform.specs.PartAnswers.{namespace_answer, decl_answer, export_answer, starts_in_export, refused_answer, item_answer, each_answer, items_answer};
+ghost use Rattle.fast_check_transform.specs.PartAnswers.{namespace_answer, decl_answer, export_answer, starts_in_export, refused_answer, item_answer};
+ghost use Rattle.fast_check_transform.specs.PartAnswers.{each_answer, items_answer};
 
 use fast_check_comments::CommentsMut;
 use fast_check_declarations::{
