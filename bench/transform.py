@@ -118,6 +118,27 @@ def modules(size):
     return dict(request(body, place, ranges), graph={"modules": [], "resolutions": resolutions, "packages": []})
 
 
+def symbols(size):
+    """A module of about `size` bytes of statements of one declarator each, with a table of a symbol for each, which the next one mentions. Ten thousand
+    of them come to seven megabytes."""
+    body, ranges, table, ids, place = [], [], [], [], 1
+    length = 0
+    while length < size:
+        number = len(body) + 1
+        item = statement([declarator(number, place + 14, "items")], place, place + 40)
+        span, name, before = [place + 14, place + 34], f"x{number}", f"x{number - 1}"
+        node = {"has_export_keyword": True, "deps": [[{"Id": [before, 2]}, "Both"]] if number > 1 else []}
+        symbol = {"id": number, "parent_id": 0, "maybe_name": name, "qualified_name": name, "exports": [], "members": [],
+                  "decls": [{"range": span, "value": True, "type_": False, "has_overloads": False, "has_body": False, "kind": {"Definition": node}}]}
+        length += len(json.dumps([item, symbol], separators=(",", ":")))
+        body.append(item), ranges.append(span), table.append(symbol), ids.append([[name, 2], number])
+        place += 200
+    module_symbol = {"id": 0, "exports": [[entry[0][0], entry[1]] for entry in ids], "members": [], "decls": []}
+    made = request(body, place, ranges)
+    made["module"].update(symbols=[module_symbol, *table], module_symbol=0, swc_ids=ids)
+    return made
+
+
 def moved(node, by):
     """A tree that stands further on in the text."""
     if isinstance(node, dict):
@@ -138,8 +159,10 @@ def module_of_items(items, text, size):
 
 def module(shape, size):
     """A module of about `size` bytes: a statement for each declarator (`items`), one statement for all (`wide`), values
-    nested deep behind written types (`deep`), `functions`, `classes`, or a library's items with a graph (`modules`). Every second
-    declarator of the first three is public."""
+    nested deep behind written types (`deep`), `functions`, `classes`, a library's items with a graph (`modules`), or statements with a table of
+    their symbols (`symbols`). Every second declarator of the first three is public."""
+    if shape == "symbols":
+        return symbols(size)
     if shape == "modules":
         return modules(size)
     if shape in ("functions", "classes"):
@@ -190,7 +213,7 @@ def peak_of(path):
 def main():
     sizes = [int(word) for word in sys.argv[1:]] or [1, 2, 5, 10, 20]
     print(f"shape       MB in   seconds   MB peak   {NAME} load+dump   ratio")
-    for shape in ("items", "wide", "deep", "functions", "classes", "modules"):
+    for shape in ("items", "wide", "deep", "functions", "classes", "modules", "symbols"):
         for size in sizes:
             with tempfile.NamedTemporaryFile(suffix=".json") as file:
                 file.write(json.dumps(module(shape, size * 1000000), separators=(",", ":")).encode())
