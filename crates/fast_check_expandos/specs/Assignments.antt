@@ -2,6 +2,7 @@
 use Rattle.std.specs.Prelude.{Bool, not, ◌&&◌, Option, Some, None, List, [], ◌∷◌, if◌then◌else◌}
 use Rattle.fast_check_syntax.specs.declared.source.SourceRange.{SourceRange}
 use Rattle.fast_check_syntax.specs.declared.tree.Tree.{Tree}
+use Rattle.fast_check_syntax.specs.Shape.{is_absent}
 use Rattle.fast_check_expression_forms.specs.Calls.{MemberExpr-span}
 use Rattle.fast_check_expression_forms.specs.Operators.{AssignExpr-span, AssignExpr-left, AssignExpr-right}
 use Rattle.fast_check_ranges.specs.Ranges.{range_of_node}
@@ -9,14 +10,16 @@ use Rattle.fast_check_modules.specs.Expandos.{is_expando_assignment}
 use Rattle.fast_check_signatures.specs.Answers.{answer_to}
 use Rattle.fast_check_signatures.specs.Bindings.{Bindings}
 use Rattle.fast_check_signatures.specs.Expressions.{expr_seen}
-use Rattle.fast_check_signatures.specs.Seen.{Seen, tested}
+use Rattle.fast_check_signatures.specs.Seen.{Seen, tested, refused}
 use Rattle.fast_check_expandos.specs.declared.properties.ExpandoProperty.{ExpandoProperty}
 use Rattle.fast_check_expandos.specs.Expandos.{object_of, property_name, property_of}
 use Rattle.fast_check_expandos.specs.Objects.{Objects}
 
--- the right side; what is wrong inside of it stands at its place
+-- the right side, if there is one; what is wrong inside of it stands at its place
 abbrev pub right_seen : Bindings → Tree → Seen
-right_seen bindings assignment = expr_seen bindings (AssignExpr-right assignment) (Some (range_of_node (AssignExpr-right assignment)))
+right_seen bindings assignment =
+    if is_absent (AssignExpr-right assignment) then refused
+    else expr_seen bindings (AssignExpr-right assignment) (Some (range_of_node (AssignExpr-right assignment)))
 
 -- a property of the target that its object exports is declared elsewhere
 abbrev pub is_declared : Objects → Tree → Bool

@@ -11,6 +11,10 @@ pub record Objects : Type 0 where
   -- whether a declaration of its symbol stands behind the keyword `export`
   pub has_export_keyword : Id → Bool
 
+-- objects of which nothing is known
+abbrev pub no_objects : Objects
+no_objects = record { exports = λ id name. false; has_export_keyword = λ id. false }
+
 -- whether a symbol, if there is one, exports a name
 abbrev pub exports_name : Option Symbol → List ℕ → Bool
 exports_name None name = false
