@@ -1,5 +1,6 @@
 pub mod Groups
 pub mod Objects
+pub mod ModuleObjects
 pub mod References
 pub mod Expandos
 pub mod Assignments
