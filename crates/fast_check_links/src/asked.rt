@@ -2,7 +2,6 @@ ghost use Rattle.std.specs.Prelude.{◌≡◌};
 
 use fast_check_graph::ModuleGraph;
 use fast_check_modules::EsModuleInfo;
-use fast_check_syntax::SyntaxContext;
 use fast_check_tables::ModulePublicRanges;
 
 /// What the transform asks beside the tree.
@@ -12,8 +11,6 @@ pub struct Asked<'a> {
     pub graph: &'a ModuleGraph,
     pub es_module_info: &'a EsModuleInfo,
     pub public_ranges: &'a ModulePublicRanges,
-    /// The scope number of the names that nothing in the module binds.
-    pub unresolved: SyntaxContext,
     pub is_declaration_file: bool,
 }
 
@@ -32,7 +29,6 @@ impl<'a> Asked<'a> {
             graph,
             es_module_info,
             public_ranges,
-            unresolved: es_module_info.source().unresolved_context,
             is_declaration_file: es_module_info.source().media_type.is_declaration(),
         }
     }

@@ -34,7 +34,7 @@ use Rattle.fast_check_same_values.specs.SameClasses.{HasNoPartner, IsNoPartner}
 use Rattle.fast_check_skeleton.specs.Hidden as h
 use Rattle.fast_check_skeleton.specs.SameDefaults.{SameDefaultDecl, SameDefault}
 use Rattle.fast_check_skeleton.specs.SameDefaults as defaults
-use Rattle.fast_check_same_values.specs.SameValues.{Both}
+use Rattle.fast_check_same_values.specs.SameValues.{SameBindings, Both}
 use Rattle.fast_check_same_values.specs.SameValues as v
 use Rattle.fast_check_skeleton.specs.Worlds.{TwoWorlds}
 use Rattle.fast_check_same_values.proofs.AlikeSeen.{AllAlike}
@@ -173,7 +173,7 @@ module _ (r : Renaming) (ok : IsRenaming r) where
     decl_begins p q t u (h.SameDecl.ambient_class d e n s) = of_classes t u d.kinds s.head.span
     decl_begins p q t u (h.SameDecl.using k s e f) = subst₂ (SameRange r) (sym (range_of_using t k.left)) (sym (range_of_using u k.right)) s
 
-    item_begins : IsPair r.scopes a.unresolved.0 b.unresolved.0 → a.is_declaration_file ≡ b.is_declaration_file → (t u : Tree) → SameItem r a b t u →
+    item_begins : SameBindings r a.bindings b.bindings → a.is_declaration_file ≡ b.is_declaration_file → (t u : Tree) → SameItem r a b t u →
         SameRange r (range_of_node t) (range_of_node u)
     item_begins c m t u (h.SameItem.decl d) = decl_begins (range_of_node t) (range_of_node u) t u d
     item_begins c m t u (h.SameItem.exported k s d) = subst₂ (SameRange r) (sym (range_of_export t k.left)) (sym (range_of_export u k.right)) s
@@ -258,7 +258,7 @@ module _ (r : Renaming) (ok : IsRenaming r) where
       decl_inside x y t u m (h.SameDecl.implementation d e f g) = none_inside x y t u FnDecl d.kinds refl
       decl_inside x y t u m (h.SameDecl.ambient_function k e f g) = none_inside x y t u FnDecl k refl
       decl_inside x y t u m (h.SameDecl.class d e n s) = class_inside x y t u m d e (λ k.
-          class_removed r ok a.unresolved b.unresolved a.is_implementation b.is_implementation p q pair (ClassDecl-class t) (ClassDecl-class u) s)
+          class_removed r ok a.bindings b.bindings a.is_implementation b.is_implementation p q pair (ClassDecl-class t) (ClassDecl-class u) s)
       decl_inside x y t u m (h.SameDecl.ambient_class d e n s) = class_inside x y t u m d e (λ k. cc)
       decl_inside x y t u m (h.SameDecl.using k s e f) = none_inside x y t u UsingDecl k refl
 
@@ -270,14 +270,14 @@ module _ (r : Renaming) (ok : IsRenaming r) where
           by_rules t u (Default Class) (default_by_kind t kinds.ClassExpr h.kinds.left h.decls.left)
           (default_by_kind u kinds.ClassExpr h.kinds.right h.decls.right)
           (among_if (a.is_public (ExportDefaultDecl-span t)) (b.is_public (ExportDefaultDecl-span u)) _ _ h.is_public
-          (class_removed r ok a.unresolved b.unresolved a.is_implementation b.is_implementation p q pair (ClassExpr-class (ExportDefaultDecl-decl t))
+          (class_removed r ok a.bindings b.bindings a.is_implementation b.is_implementation p q pair (ClassExpr-class (ExportDefaultDecl-decl t))
           (ClassExpr-class (ExportDefaultDecl-decl u)) e))
       default_inside t u (defaults.SameDefault.function h e f g) = no_class t u kinds.FnExpr Function h.head refl refl
       default_inside t u (defaults.SameDefault.implementation h e f g) = no_class t u kinds.FnExpr Function h.head refl refl
       default_inside t u (defaults.SameDefault.ambient_function h e f) = no_class t u kinds.FnExpr Function h refl refl
       default_inside t u (defaults.SameDefault.interface h e) = no_class t u kinds.TsInterfaceDecl Interface h refl refl
 
-      item_inside : IsPair r.scopes a.unresolved.0 b.unresolved.0 → a.is_declaration_file ≡ b.is_declaration_file → (t u : Tree) → SameItem r a b t u →
+      item_inside : SameBindings r a.bindings b.bindings → a.is_declaration_file ≡ b.is_declaration_file → (t u : Tree) → SameItem r a b t u →
           is_among p (starts_inside a t (item_rule t)) ≡ is_among q (starts_inside b u (item_rule u))
       item_inside c m t u (h.SameItem.decl d) =
           let e = decl_taken r ok a b c m (range_of_node t) (range_of_node u) t u d in
@@ -290,7 +290,7 @@ module _ (r : Renaming) (ok : IsRenaming r) where
       item_inside c m t u (h.SameItem.default d) = default_inside t u d
       item_inside c m t u (h.SameItem.refused kind e f s) = by_rules t u (Refused kind) e f refl
 
-      item_removed : IsPair r.scopes a.unresolved.0 b.unresolved.0 → a.is_declaration_file ≡ b.is_declaration_file → (t u : Tree) → SameItem r a b t u →
+      item_removed : SameBindings r a.bindings b.bindings → a.is_declaration_file ≡ b.is_declaration_file → (t u : Tree) → SameItem r a b t u →
           is_among p (removed_start a t) ≡ is_among q (removed_start b u)
       item_removed c m t u s =
           among_parts p (start_of_unseen t (item_seen a t)) (starts_inside a t (item_rule t))
@@ -301,7 +301,7 @@ module _ (r : Renaming) (ok : IsRenaming r) where
           is_among n (flat_map (removed_start around) (t ∷ ts)) ≡ (is_among n (removed_start around t) || is_among n (flat_map (removed_start around) ts))
       among_more n around t ts = list_any-append (λ (s : SourcePos). s.0 == n) (removed_start around t) (flat_map (removed_start around) ts)
 
-      removed_alike : IsPair r.scopes a.unresolved.0 b.unresolved.0 → a.is_declaration_file ≡ b.is_declaration_file → (ts us : List Tree) →
+      removed_alike : SameBindings r a.bindings b.bindings → a.is_declaration_file ≡ b.is_declaration_file → (ts us : List Tree) →
           SameItems r a b ts us →
           is_among p (flat_map (removed_start a) ts) ≡ is_among q (flat_map (removed_start b) us)
       removed_alike c m [] [] h.SameItems.end = refl
@@ -327,7 +327,7 @@ module _ (r : Renaming) (ok : IsRenaming r) where
       leading = λ p q pair.
           subst₂ (Each (SameComment r)) (sym (all_without p (removed_starts a t) (kept c))) (sym (all_without q (removed_starts b u) (kept d)))
           (each_if (is_among p (removed_starts a t)) (is_among q (removed_starts b u)) (all_comments_at p (kept c).leading) (all_comments_at q (kept d).leading)
-          (removed_alike p q pair g.unresolved g.is_declaration_file (items_of t) (items_of u) g.items) (s.leading p q pair));
+          (removed_alike p q pair g.bindings g.is_declaration_file (items_of t) (items_of u) g.items) (s.leading p q pair));
       trailing = subst₂ (SameAtPairs r r.ends) (sym (trailing_stay (removed_starts a t) (kept c)))
           (sym (trailing_stay (removed_starts b u) (kept d))) s.trailing;
     }

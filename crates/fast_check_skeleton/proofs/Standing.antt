@@ -7,7 +7,6 @@ use Rattle.fast_check_syntax.specs.declared.kind.Kind.TheVariants as kinds
 use Rattle.fast_check_syntax.specs.declared.kind.Kind.TheVariants.{Module, VarDecl, FnDecl, ClassDecl, ExportDecl, ExportDefaultDecl}
 use Rattle.fast_check_syntax.specs.declared.kind.Kind.TheVariants.{BindingIdent, List as List'}
 use Rattle.fast_check_syntax.specs.declared.source.SourceRange.{SourceRange}
-use Rattle.fast_check_syntax.specs.declared.source.SyntaxContext.{SyntaxContext}
 use Rattle.fast_check_syntax.specs.declared.tree.Tree as tree
 use Rattle.fast_check_syntax.specs.declared.tree.Tree.{Tree, Absent}
 use Rattle.fast_check_syntax.specs.Shape.{◌is◌, kind_of, parts, is_absent, flag_of, node, list, OfAll}
@@ -27,6 +26,7 @@ use Rattle.fast_check_helpers.specs.Builders.{type_ann, never_value}
 use Rattle.fast_check_helpers.specs.declared.literal_type.DeclMutabilityKind.{DeclMutabilityKind}
 use Rattle.fast_check_helpers.specs.InferredType.{inferred_type}
 use Rattle.fast_check_ranges.specs.Ranges.{range_of_node}
+use Rattle.fast_check_signatures.specs.Bindings.{Bindings}
 use Rattle.fast_check_signatures.specs.declared.fault.FaultKind.TheVariants.{MissingExplicitType, UnsupportedDefaultExportExpr, UnsupportedUsing}
 use Rattle.fast_check_signatures.specs.declared.function_kind.FunctionKind.TheVariants.{DeclarationLike}
 use Rattle.fast_check_signatures.specs.Seen.{Seen, written, range, scope, flag, round, listed, faulty, seens}
@@ -70,9 +70,9 @@ use Rattle.fast_check_skeleton.proofs.Ruled.{standing_kind, function_kind}
 -- ---- declarators
 
 -- a declarator of an identifier with a type and a value that go together
-typed : (unresolved : SyntaxContext) (span : SourceRange) (ident : Tree) (definite : Bool) (type value : Tree) → HasTypedValue unresolved type value →
-    IsTypedDeclarator unresolved (var_declarator span (binding_ident ident type) value definite)
-typed unresolved span ident definite type value e =
+typed : (bindings : Bindings) (span : SourceRange) (ident : Tree) (definite : Bool) (type value : Tree) → HasTypedValue bindings type value →
+    IsTypedDeclarator bindings (var_declarator span (binding_ident ident type) value definite)
+typed bindings span ident definite type value e =
     let made = var_declarator span (binding_ident ident type) value definite in
     let name : VarDeclarator-name made ≡ binding_ident ident type = part_node _ _ _ in
     let of_type : BindingIdent-type_ann (binding_ident ident type) ≡ type = part_node _ _ _ in
@@ -80,7 +80,7 @@ typed unresolved span ident definite type value e =
     record {
       kind = kind_of_node _ _;
       name = ap kind_of name ∙ kind_of_node BindingIdent (ident ∷ type ∷ []);
-      value = subst₂ (HasTypedValue unresolved) (sym (ap BindingIdent-type_ann name ∙ of_type)) (sym of_value) e;
+      value = subst₂ (HasTypedValue bindings) (sym (ap BindingIdent-type_ann name ∙ of_type)) (sym of_value) e;
     }
 
 module _ (around : Surroundings) (mutability : DeclMutabilityKind) (d : Tree) where
@@ -91,32 +91,32 @@ module _ (around : Surroundings) (mutability : DeclMutabilityKind) (d : Tree) wh
   value = VarDeclarator-init d
 
   abbrev Typed : Tree → Type 0
-  Typed = IsTypedDeclarator around.unresolved
+  Typed = IsTypedDeclarator around.bindings
 
   abbrev StaysTyped : Seen → Type 0
   StaysTyped s = Stays Typed (answer_to s)
 
   -- a value that gives a type
   abbrev Gives : Tree → Type 0
-  Gives v = (is_absent v ≡ false) × IsLeavable around.unresolved v
+  Gives v = (is_absent v ≡ false) × IsLeavable around.bindings v
 
   value_stays : Stays Gives (answer_to (value_seen around name_place value))
   value_stays =
       of_choice (λ s. Stays Gives (answer_to s)) (is_absent value) _ _ (λ e f. tt)
-      (λ e f. both_some (λ v. is_absent v ≡ false) (IsLeavable around.unresolved) (answer_to (expr_seen around.unresolved value (Some name_place))).stays
-      (stays_there around.unresolved value (Some name_place) e) (expr_stays around.unresolved value (Some name_place) f))
+      (λ e f. both_some (λ v. is_absent v ≡ false) (IsLeavable around.bindings) (answer_to (expr_seen around.bindings value (Some name_place))).stays
+      (stays_there around.bindings value (Some name_place) e) (expr_stays around.bindings value (Some name_place) f))
 
   untyped_stays : (o : Option Tree) → StaysTyped (untyped_seen around d o)
-  untyped_stays (Some type) = λ f. typed around.unresolved _ _ _ (type_ann type) never_value (inl (is_absent_node _ _, refl))
+  untyped_stays (Some type) = λ f. typed around.bindings _ _ _ (type_ann type) never_value (inl (is_absent_node _ _, refl))
   untyped_stays None =
-      λ f. typed around.unresolved _ _ _ Absent _
+      λ f. typed around.bindings _ _ _ Absent _
       (inr (demanded_holds Gives (fault_at MissingExplicitType name_place) (answer_to (value_seen around name_place value)) value_stays f))
 
   declarator_stays : StaysTyped (declarator_seen around mutability d)
   declarator_stays =
       of_choice StaysTyped (kind_of (VarDeclarator-name d) is BindingIdent) _ _
-      (λ e. of_choice StaysTyped (is_absent (declared_type d)) _ _ (λ absent. untyped_stays (inferred_type mutability around.unresolved value))
-      (λ present f. typed around.unresolved _ _ _ (declared_type d) never_value (inl (present, refl))))
+      (λ e. of_choice StaysTyped (is_absent (declared_type d)) _ _ (λ absent. untyped_stays (inferred_type mutability around.bindings.unresolved value))
+      (λ present f. typed around.bindings _ _ _ (declared_type d) never_value (inl (present, refl))))
       (λ e f. not_empty f)
 
   -- what stands of a declarator is one tree
@@ -130,14 +130,14 @@ module _ (around : Surroundings) (mutability : DeclMutabilityKind) (d : Tree) wh
   pub declarator_one : IsOne (declarator_seen around mutability d)
   declarator_one =
       of_choice IsOne (kind_of (VarDeclarator-name d) is BindingIdent) _ _
-      (λ e. of_choice IsOne (is_absent (declared_type d)) _ _ (λ absent. untyped_one (inferred_type mutability around.unresolved value)) (λ present. (_, refl)))
+      (λ e. of_choice IsOne (is_absent (declared_type d)) _ _ (λ absent. untyped_one (inferred_type mutability around.bindings.unresolved value)) (λ present. (_, refl)))
       (λ e. (Absent, refl))
 
 -- ---- statements and items
 
 module _ (around : Surroundings) where
   abbrev Typed' : Tree → Type 0
-  Typed' = IsTypedDeclarator around.unresolved
+  Typed' = IsTypedDeclarator around.bindings
 
   declarators_stay : (statement : Tree) → is_ambient around statement ≡ false → AllStay Typed' (public_declarators around statement)
   declarators_stay statement n = all_flat Typed' (public_declarator around statement) (parts (VarDecl-decls statement))
@@ -173,7 +173,7 @@ module _ (around : Surroundings) where
       inr (subst (OfAll Typed') (sym (ap parts same ∙ parts_node List' ds)) (p refl))
 
   abbrev Statement : Tree → Type 0
-  Statement = IsTypedStatement around.unresolved around.is_declaration_file
+  Statement = IsTypedStatement around.bindings around.is_declaration_file
 
   statement_stays : (statement : Tree) (ds : List Seen) → (is_ambient around statement ≡ false → Holds (OfAll Typed') (answer_of ds)) →
       AllStay Statement (statement_seen statement ds)
@@ -189,17 +189,17 @@ module _ (around : Surroundings) where
   -- ---- functions
 
   abbrev Function' : Tree → Type 0
-  Function' = IsTypedFunctionDecl around.unresolved around.is_declaration_file
+  Function' = IsTypedFunctionDecl around.bindings around.is_declaration_file
 
-  function_made : (decl function : Tree) → IsTypedFunction around.unresolved function → Function' (fn_decl (FnDecl-ident decl) (FnDecl-declare decl) function)
+  function_made : (decl function : Tree) → IsTypedFunction around.bindings function → Function' (fn_decl (FnDecl-ident decl) (FnDecl-declare decl) function)
   function_made decl function h =
       let same : FnDecl-function (fn_decl (FnDecl-ident decl) (FnDecl-declare decl) function) ≡ function = part_node _ _ _ in
-      record { kind = kind_of_node _ _; function = inr (subst (IsTypedFunction around.unresolved) (sym same) h) }
+      record { kind = kind_of_node _ _; function = inr (subst (IsTypedFunction around.bindings) (sym same) h) }
 
   abbrev signed : Tree → Seen → Seen
   signed decl s = round FnDecl (seens (written (FnDecl-ident decl) ∷ flag (FnDecl-declare decl) ∷ s ∷ []))
 
-  signed_stays : (decl : Tree) (s : Seen) → Stays (IsTypedFunction around.unresolved) (answer_to s) → Stays Function' (answer_to (signed decl s))
+  signed_stays : (decl : Tree) (s : Seen) → Stays (IsTypedFunction around.bindings) (answer_to s) → Stays Function' (answer_to (signed decl s))
   signed_stays decl s p =
       let ident = FnDecl-ident decl in
       let declare = tree.Flag (FnDecl-declare decl) in
@@ -208,13 +208,13 @@ module _ (around : Surroundings) where
       (parts_answer (seens (written ident ∷ written declare ∷ s ∷ [])))
       (written_before (λ ts. Function' (node FnDecl ts)) ident (visited (faultless (Some declare)) last)
       (written_before (λ ts. Function' (node FnDecl (ident ∷ ts))) declare last
-      (last_stays (IsTypedFunction around.unresolved) (λ ts. Function' (node FnDecl (ident ∷ declare ∷ ts))) (function_made decl) (answer_to s) p)))
+      (last_stays (IsTypedFunction around.bindings) (λ ts. Function' (node FnDecl (ident ∷ declare ∷ ts))) (function_made decl) (answer_to s) p)))
 
-  signature_stays : (place : SourceRange) (decl : Tree) → Stays (IsTypedFunction around.unresolved) (answer_to (signature_of around place decl))
+  signature_stays : (place : SourceRange) (decl : Tree) → Stays (IsTypedFunction around.bindings) (answer_to (signature_of around place decl))
   signature_stays place decl =
-      of_choice (λ s. Stays (IsTypedFunction around.unresolved) (answer_to s)) (around.is_implementation place) _ _
-      (λ e f. implementation_is_typed around.unresolved (FnDecl-function decl))
-      (λ e. function_is_typed around.unresolved DeclarationLike (Ident-span (FnDecl-ident decl)) (FnDecl-function decl) refl)
+      of_choice (λ s. Stays (IsTypedFunction around.bindings) (answer_to s)) (around.is_implementation place) _ _
+      (λ e f. implementation_is_typed around.bindings (FnDecl-function decl))
+      (λ e. function_is_typed around.bindings DeclarationLike (Ident-span (FnDecl-ident decl)) (FnDecl-function decl) refl)
 
   function_stays : (place : SourceRange) (decl : Tree) → kind_of decl ≡ FnDecl → AllStay Function' (public_function around place decl)
   function_stays place decl k = all_if Function' (around.is_public place) (function_decl_seen around place decl) (go around.is_declaration_file refl)
@@ -226,12 +226,12 @@ module _ (around : Surroundings) where
   -- ---- classes
 
   abbrev Class' : Tree → Type 0
-  Class' = IsTypedClassDecl around.unresolved around.is_declaration_file
+  Class' = IsTypedClassDecl around.bindings around.is_declaration_file
 
   -- the class of a declaration, by whether it is ambient
   abbrev FitsClass : Tree → Tree → Type 0
   FitsClass decl class =
-      (IsTrue (is_ambient_class around decl) × IsAmbientClass class) ⊎ IsTypedClass around.unresolved class
+      (IsTrue (is_ambient_class around decl) × IsAmbientClass class) ⊎ IsTypedClass around.bindings class
 
   class_made : (decl class : Tree) → FitsClass decl class → Class' (class_decl (ClassDecl-ident decl) (ClassDecl-declare decl) class)
   class_made decl class h =
@@ -240,7 +240,7 @@ module _ (around : Surroundings) where
       let declare : ClassDecl-declare made ≡ ClassDecl-declare decl = ap flag_of (part_node _ _ _) ∙ flag_of_flag (ClassDecl-declare decl) in
       record {
         kind = kind_of_node _ _;
-        class = subst₂ (λ d c. (IsTrue (around.is_declaration_file || d) × IsAmbientClass c) ⊎ IsTypedClass around.unresolved c) (sym declare) (sym same) h;
+        class = subst₂ (λ d c. (IsTrue (around.is_declaration_file || d) × IsAmbientClass c) ⊎ IsTypedClass around.bindings c) (sym declare) (sym same) h;
       }
 
   abbrev classed : Tree → Seen → Seen
@@ -260,11 +260,11 @@ module _ (around : Surroundings) where
   class_fits : (decl : Tree) → Stays (FitsClass decl) (answer_to (class_in around decl))
   class_fits decl =
       let class = ClassDecl-class decl in
-      let seen = plain_class_seen around.unresolved around.is_implementation class in
+      let seen = plain_class_seen around.bindings around.is_implementation class in
       of_choice (λ s. Stays (FitsClass decl) (answer_to s)) (is_ambient_class around decl) (written (ambient_class class)) seen
       (λ e f. inl (e, ambient_stands class))
-      (λ e f. some_weaker (IsTypedClass around.unresolved) (FitsClass decl) (λ t h. inr h) (answer_to seen).stays
-      (class_stays around.unresolved around.is_implementation class f))
+      (λ e f. some_weaker (IsTypedClass around.bindings) (FitsClass decl) (λ t h. inr h) (answer_to seen).stays
+      (class_stays around.bindings around.is_implementation class f))
 
   class_decl_stays : (place : SourceRange) (decl : Tree) → AllStay Class' (public_class around place decl)
   class_decl_stays place decl = all_if Class' (around.is_public place) (class_decl_seen around decl)
@@ -273,10 +273,10 @@ module _ (around : Surroundings) where
   -- ---- declarations
 
   abbrev IsDecl : Tree → Type 0
-  IsDecl = IsTypedDecl around.unresolved around.is_declaration_file
+  IsDecl = IsTypedDecl around.bindings around.is_declaration_file
 
   abbrev IsItem : Tree → Type 0
-  IsItem = IsTypedItem around.unresolved around.is_declaration_file
+  IsItem = IsTypedItem around.bindings around.is_declaration_file
 
   decl_stays : (place : SourceRange) (decl : Tree) (rule : DeclRule) → decl_rule (kind_of decl) ≡ rule → AllStay IsDecl (decl_seen around place decl rule)
   decl_stays place decl Variables q =
@@ -420,18 +420,18 @@ module _ (around : Surroundings) where
       (_, ap (λ a. (round_answer kind (visited (faultless (Some t)) (visited a (faultless (Some []))))).stays) same)
 
   abbrev IsDefaultDecl : Tree → Type 0
-  IsDefaultDecl = IsTypedDefaultDecl around.unresolved around.is_declaration_file
+  IsDefaultDecl = IsTypedDefaultDecl around.bindings around.is_declaration_file
 
-  default_value_made : (span : SourceRange) (value : Tree) → IsLeavable around.unresolved value → IsItem (export_default_expr span value)
+  default_value_made : (span : SourceRange) (value : Tree) → IsLeavable around.bindings value → IsItem (export_default_expr span value)
   default_value_made span value h =
       let same : ExportDefaultExpr-expr (export_default_expr span value) ≡ value = part_node _ _ _ in
-      inr (inr (inl (inl (kind_of_node _ _, subst (IsLeavable around.unresolved) (sym same) h))))
+      inr (inr (inl (inl (kind_of_node _ _, subst (IsLeavable around.bindings) (sym same) h))))
 
   default_value_stays : (item : Tree) → Stays IsItem (answer_to (default_value_seen around item))
   default_value_stays item =
       let value = ExportDefaultExpr-expr item in
-      λ f. default_value_made _ _ (demanded_holds (IsLeavable around.unresolved) (fault_at UnsupportedDefaultExportExpr (ExportDefaultExpr-span item))
-      (answer_to (expr_seen around.unresolved value None)) (expr_stays around.unresolved value None) f)
+      λ f. default_value_made _ _ (demanded_holds (IsLeavable around.bindings) (fault_at UnsupportedDefaultExportExpr (ExportDefaultExpr-span item))
+      (answer_to (expr_seen around.bindings value None)) (expr_stays around.bindings value None) f)
 
   default_made : (span : SourceRange) (decl : Tree) → IsDefaultDecl decl → IsItem (node ExportDefaultDecl (tree.Range span ∷ decl ∷ []))
   default_made span decl h =
@@ -445,28 +445,28 @@ module _ (around : Surroundings) where
       (pair_stays ExportDefaultDecl IsDefaultDecl IsItem (tree.Range span) s (default_made span) p)
 
   default_class_stays : (decl : Tree) → Stays IsDefaultDecl (answer_to (default_class_seen around decl))
-  default_class_stays decl = pair_stays kinds.ClassExpr (IsTypedClass around.unresolved) IsDefaultDecl (ClassExpr-ident decl)
-      (plain_class_seen around.unresolved around.is_implementation (ClassExpr-class decl)) made'
-      (class_stays around.unresolved around.is_implementation (ClassExpr-class decl))
+  default_class_stays decl = pair_stays kinds.ClassExpr (IsTypedClass around.bindings) IsDefaultDecl (ClassExpr-ident decl)
+      (plain_class_seen around.bindings around.is_implementation (ClassExpr-class decl)) made'
+      (class_stays around.bindings around.is_implementation (ClassExpr-class decl))
     where
-      made' : (class : Tree) → IsTypedClass around.unresolved class → IsDefaultDecl (node kinds.ClassExpr (ClassExpr-ident decl ∷ class ∷ []))
+      made' : (class : Tree) → IsTypedClass around.bindings class → IsDefaultDecl (node kinds.ClassExpr (ClassExpr-ident decl ∷ class ∷ []))
       made' class h =
           let same : ClassExpr-class (node kinds.ClassExpr (ClassExpr-ident decl ∷ class ∷ [])) ≡ class = part_node _ _ _ in
-          inl (kind_of_node _ _, subst (IsTypedClass around.unresolved) (sym same) h)
+          inl (kind_of_node _ _, subst (IsTypedClass around.bindings) (sym same) h)
 
   default_function_stays : (place : SourceRange) (decl : Tree) → kind_of decl ≡ kinds.FnExpr →
       Stays IsDefaultDecl (answer_to (default_function_seen around place decl))
   default_function_stays place decl k =
       of_choice (λ s. Stays IsDefaultDecl (answer_to s)) around.is_declaration_file _ _ (λ e f. inr (inl (k, inl e)))
-      (λ e. pair_stays kinds.FnExpr (IsTypedFunction around.unresolved) IsDefaultDecl (FnExpr-ident decl) (default_signature around place decl) made'
-      (of_choice (λ s. Stays (IsTypedFunction around.unresolved) (answer_to s)) (around.is_implementation place) _ _
-      (λ e f. implementation_is_typed around.unresolved (FnExpr-function decl))
-      (λ e. function_is_typed around.unresolved DeclarationLike (default_place decl) (FnExpr-function decl) refl)))
+      (λ e. pair_stays kinds.FnExpr (IsTypedFunction around.bindings) IsDefaultDecl (FnExpr-ident decl) (default_signature around place decl) made'
+      (of_choice (λ s. Stays (IsTypedFunction around.bindings) (answer_to s)) (around.is_implementation place) _ _
+      (λ e f. implementation_is_typed around.bindings (FnExpr-function decl))
+      (λ e. function_is_typed around.bindings DeclarationLike (default_place decl) (FnExpr-function decl) refl)))
     where
-      made' : (function : Tree) → IsTypedFunction around.unresolved function → IsDefaultDecl (node kinds.FnExpr (FnExpr-ident decl ∷ function ∷ []))
+      made' : (function : Tree) → IsTypedFunction around.bindings function → IsDefaultDecl (node kinds.FnExpr (FnExpr-ident decl ∷ function ∷ []))
       made' function h =
           let same : FnExpr-function (node kinds.FnExpr (FnExpr-ident decl ∷ function ∷ [])) ≡ function = part_node _ _ _ in
-          inr (inl (kind_of_node _ _, inr (subst (IsTypedFunction around.unresolved) (sym same) h)))
+          inr (inl (kind_of_node _ _, inr (subst (IsTypedFunction around.bindings) (sym same) h)))
 
   default_stays : (item : Tree) (k : Kind) → kind_of (ExportDefaultDecl-decl item) ≡ k → AllStay IsItem (seen_by_rule around item (default_rule k))
   default_stays item kinds.ClassExpr q =
@@ -496,7 +496,7 @@ module _ (around : Surroundings) where
   default_one item defaults.Class =
       let decl = ExportDefaultDecl-decl item in
       public_default_one item (default_class_seen around decl) (pair_one kinds.ClassExpr (ClassExpr-ident decl)
-      (plain_class_seen around.unresolved around.is_implementation (ClassExpr-class decl)) (_, refl))
+      (plain_class_seen around.bindings around.is_implementation (ClassExpr-class decl)) (_, refl))
   default_one item defaults.Function =
       let place = ExportDefaultDecl-span item in
       let decl = ExportDefaultDecl-decl item in
@@ -546,7 +546,7 @@ module _ (around : Surroundings) where
   abbrev module_parts : Tree → List Tree
   module_parts program = tree.Range (Module-span program) ∷ list (transformed around program).stays ∷ Module-shebang program ∷ []
 
-  pub skeleton_stands : (program : Tree) → faults_of around program ≡ [] → IsSkeleton around.unresolved around.is_declaration_file (skeleton_of around program)
+  pub skeleton_stands : (program : Tree) → faults_of around program ≡ [] → IsSkeleton around.bindings around.is_declaration_file (skeleton_of around program)
   skeleton_stands program e = record {
     kind = kind_of_node Module (module_parts program);
     items = subst (OfAll IsItem) (sym (ap parts (part_node _ Module (module_parts program)) ∙ parts_node List' (transformed around program).stays))

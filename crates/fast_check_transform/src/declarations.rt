@@ -11,6 +11,7 @@ ghost use Rattle.fast_check_links.specs.Links.{as_list};
 ghost use Rattle.fast_check_transform.specs.PartAnswers.{retyped, value_answer, valued_answer, ident_answer};
 ghost use Rattle.fast_check_transform.specs.PartAnswers.{declarator_answer, public_answer, declarators_answer, statement_answer, using_answer};
 
+use fast_check_bindings::unresolved_context;
 use fast_check_helpers::{DeclMutabilityKind, maybe_infer_type, never_value, type_ann};
 use fast_check_links::Asked;
 use fast_check_program_forms::{BindingIdent, Ident};
@@ -71,7 +72,7 @@ fn keep_value(
     if value.is_absent() {
         return Ok(None);
     }
-    leave_expr(alloc, asked.unresolved, value, Some(place), faults)
+    leave_expr(alloc, asked.es_module_info, value, Some(place), faults)
 }
 
 /// A declarator without type, with the value that gives it. Where there is none that may stay, that is a fault at the
@@ -115,7 +116,12 @@ fn ident_declarator(
     if !ty.is_absent() {
         return retyped(alloc, declarator, ty.to_tree(alloc)?, never_value(alloc)?);
     }
-    match maybe_infer_type(alloc, init, mutability, asked.unresolved)? {
+    match maybe_infer_type(
+        alloc,
+        init,
+        mutability,
+        unresolved_context(asked.es_module_info),
+    )? {
         Some(ty) => retyped(alloc, declarator, type_ann(alloc, ty)?, never_value(alloc)?),
         None => valued_declarator(alloc, asked, declarator, faults),
     }
