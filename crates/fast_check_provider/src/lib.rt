@@ -2,8 +2,10 @@
 #![tactic(auto)]
 
 mod fault;
+mod listed;
 mod provider;
 
 pub use fast_check_packages::PackageNv;
 pub use fault::BuildFault;
+pub use listed::ListedPackages;
 pub use provider::JsrUrlProvider;
