@@ -1,0 +1,11 @@
+//! What a build asks of its caller, and why it stops.
+#![tactic(auto)]
+
+mod fault;
+mod listed;
+mod provider;
+
+pub use fast_check_packages::PackageNv;
+pub use fault::BuildFault;
+pub use listed::ListedPackages;
+pub use provider::JsrUrlProvider;
