@@ -1,5 +1,5 @@
 -- What is told of the faults that a transform meets: each as a diagnostic of its kind at its place, in their order.
-use Rattle.std.specs.Prelude.{◌≡◌, ◌×◌, ⊥, Unit, ℕ, Bool, List, [], ◌∷◌, take, if◌then◌else◌, string_bytes}
+use Rattle.std.specs.Prelude.{◌≡◌, ℕ, Bool, List, [], ◌∷◌, take, if◌then◌else◌, string_bytes}
 use Rattle.std.specs.Rc.{rc_str_bytes}
 use Rattle.fast_check_syntax.specs.declared.source.SourceRange.{SourceRange}
 use Rattle.fast_check_modules.specs.EsModule.{EsModule}
@@ -19,9 +19,9 @@ abbrev pub told : Bool → List Fault → List Fault
 told first_alone fs = if first_alone then take 1 fs else fs
 
 -- a place in the source text of a module
-pub record IsPlaceOf (info : EsModule) (range : SourceRange) (place : FastCheckDiagnosticRange) : Type 0 where
+pub record IsPlaceOf (info : EsModule) (at : SourceRange) (place : FastCheckDiagnosticRange) : Type 0 where
   pub specifier : place.specifier ≡ info.specifier
-  pub range : place.range ≡ range
+  pub range : place.range ≡ at
   pub text : rc_str_bytes place.text_info ≡ rc_str_bytes info.source.text
 
 -- an expando property whose value mentions a name that its object exports, with both names

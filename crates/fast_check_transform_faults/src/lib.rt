@@ -1,6 +1,6 @@
 //! The faults that the transform meets, as diagnostics.
 #![tactic(auto)]
 
-mod tell;
+mod diagnostics;
 
-pub use tell::tell;
+pub use diagnostics::tell;
