@@ -28,6 +28,7 @@ use Rattle.fast_check_helpers.specs.declared.literal_type.DeclMutabilityKind.{De
 use Rattle.fast_check_helpers.specs.InferredType.{inferred_type}
 use Rattle.fast_check_statement_forms.specs.TsDeclarations.{TsModuleDecl-span, TsModuleDecl-declare, TsModuleDecl-global, TsModuleDecl-id}
 use Rattle.fast_check_ranges.specs.Ranges.{range_of_node}
+use Rattle.fast_check_signatures.specs.Bindings.{Bindings}
 use Rattle.fast_check_signatures.specs.declared.fault.FaultKind.TheVariants.{UnsupportedGlobalModule, UnsupportedAmbientModule, MissingExplicitType, UnsupportedDefaultExportExpr, UnsupportedUsing}
 use Rattle.fast_check_signatures.specs.declared.function_kind.FunctionKind.TheVariants.{DeclarationLike}
 use Rattle.fast_check_signatures.specs.Seen.{Seen, written, range, scope, flag, round, listed, faulty, seens}
