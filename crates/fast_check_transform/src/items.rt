@@ -6,7 +6,8 @@ ghost use Rattle.fast_check_skeleton.specs.KeptComments.{removed_from, start_loo
 ghost use Rattle.fast_check_skeleton.specs.Rules.{item_rule};
 ghost use Rattle.fast_check_links.specs.Asked.{Asked-around};
 ghost use Rattle.fast_check_links.specs.Links.{as_list};
-ghost use Rattle.fast_check_transform.specs.PartAnswers.{namespace_answer, decl_answer, export_answer, starts_in_export, refused_answer, item_answer, items_answer};
+ghost use Rattle.fast_check_transform.specs.PartAnswers.{namespace_answer, decl_answer, export_answer, starts_in_export, refused_answer, item_answer};
+ghost use Rattle.fast_check_transform.specs.PartAnswers.{items_answer};
 
 use fast_check_comments::CommentsMut;
 use fast_check_declarations::{

@@ -7,6 +7,7 @@ use Rattle.fast_check_ranges.specs.Ranges.{range_of_node}
 use Rattle.fast_check_skeleton.specs.KeptComments.{start_look, starts_in_body, starts_below, without_all_leading}
 use Rattle.fast_check_syntax.specs.Part.{seen}
 use Rattle.fast_check_syntax.specs.Height.{height_read, height_at_most}
+use Rattle.fast_check_classes.proofs.Making.{none_of}
 use Rattle.fast_check_links.specs.Asked.{Asked-around}
 use Rattle.fast_check_links.specs.Links.{as_list}
 use Rattle.fast_check_transform.proofs.ByRule.{variables, functions, classes, standing, namespaces, using_stays, untaken}
@@ -76,7 +77,7 @@ keep_namespace-keep_items-requires t c =
 
 pub keep_namespace-returns-in-Some-clause-answer : goal.keep_namespace-returns-in-Some-clause-answer
 keep_namespace-returns-in-Some-clause-answer t c =
-    refused_module (Asked-around c.args.asked) c.args.place (seen c.args.decl) (sym c.module_fault.ensures ∙ c.in-Some.is) c.in_ok-push-in-Some.ensures.items
+    refused_module (Asked-around c.args.asked) c.args.place (seen c.args.decl) (sym c.module_fault.ensures ∙ c.in-Some.is) c.in_ok-push.ensures.items
 
 pub keep_namespace-returns-in-Some-clause-comments : goal.keep_namespace-returns-in-Some-clause-comments
 keep_namespace-returns-in-Some-clause-comments t c =
@@ -85,44 +86,52 @@ keep_namespace-returns-in-Some-clause-comments t c =
 
 pub keep_namespace-returns-then-not-contains-clause-answer : goal.keep_namespace-returns-then-not-contains-clause-answer
 keep_namespace-returns-then-not-contains-clause-answer t c =
-    private_namespace (Asked-around c.args.asked) c.args.place (seen c.args.decl) (sym c.module_fault.ensures ∙ c.in-None.is)
+    private_namespace (Asked-around c.args.asked) c.args.place (seen c.args.decl) (sym c.module_fault.ensures ∙ none_of c.module_fault.result
+    (λ f e. c.in_default.not-Some f e))
     (sym c.contains.ensures ∙ c.if-not-contains.true) c.args.faults.now.items
 
 pub keep_namespace-returns-then-not-contains-clause-comments : goal.keep_namespace-returns-then-not-contains-clause-comments
 keep_namespace-returns-then-not-contains-clause-comments t c =
     ap (λ starts. without_all_leading starts c.args.comments.now)
-    (sym (nothing_private (Asked-around c.args.asked) c.args.place (seen c.args.decl) (sym c.module_fault.ensures ∙ c.in-None.is)
+    (sym (nothing_private (Asked-around c.args.asked) c.args.place (seen c.args.decl) (sym c.module_fault.ensures ∙ none_of c.module_fault.result
+    (λ f e. c.in_default.not-Some f e))
     (sym c.contains.ensures ∙ c.if-not-contains.true)))
 
 pub keep_namespace-returns-clause-answer : goal.keep_namespace-returns-clause-answer
 keep_namespace-returns-clause-answer t c =
-    public_namespace (Asked-around c.args.asked) c.args.place (seen c.args.decl) (sym c.module_fault.ensures ∙ c.in-None.is)
+    public_namespace (Asked-around c.args.asked) c.args.place (seen c.args.decl) (sym c.module_fault.ensures ∙ none_of c.module_fault.result
+    (λ f e. c.in_default.not-Some f e))
     (sym c.contains.ensures ∙ c.if-not-contains.false) c.in_ok-items.ensures.answer c.inside.ensures c.items_inside.ensures c.in_ok-namespace_with.ensures
 
 pub keep_namespace-returns-clause-comments : goal.keep_namespace-returns-clause-comments
 keep_namespace-returns-clause-comments t c =
     c.in_ok-items.ensures.comments
     ∙ ap (λ starts. without_all_leading starts c.args.comments.now)
-    (sym (all_inside (Asked-around c.args.asked) c.args.place (seen c.args.decl) (sym c.module_fault.ensures ∙ c.in-None.is)
+    (sym (all_inside (Asked-around c.args.asked) c.args.place (seen c.args.decl) (sym c.module_fault.ensures ∙ none_of c.module_fault.result
+    (λ f e. c.in_default.not-Some f e))
     (sym c.contains.ensures ∙ c.if-not-contains.false) c.inside.ensures c.items_inside.ensures))
 
 -- ---- declarations
 
 pub keep_decl-returns-in-Variables-clause-answer : goal.keep_decl-returns-in-Variables-clause-answer
 keep_decl-returns-in-Variables-clause-answer t c =
-    IfOk-weaker c.keep_statement.result _ _ (λ tree h. variables (Asked-around c.args.asked) c.args.place (seen c.args.decl) c.in-Variables.is h) c.keep_statement.ensures
+    IfOk-weaker c.keep_statement.result _ _ (λ tree h. variables (Asked-around c.args.asked) c.args.place (seen c.args.decl) c.in-Variables.is h)
+    c.keep_statement.ensures
 
 pub keep_decl-returns-in-Function-clause-answer : goal.keep_decl-returns-in-Function-clause-answer
 keep_decl-returns-in-Function-clause-answer t c =
-    IfOk-weaker c.keep_public_function.result _ _ (λ tree h. functions (Asked-around c.args.asked) c.args.place (seen c.args.decl) c.in-Function.is h) c.keep_public_function.ensures
+    IfOk-weaker c.keep_public_function.result _ _ (λ tree h. functions (Asked-around c.args.asked) c.args.place
+    (seen c.args.decl) c.in-Function.is h) c.keep_public_function.ensures
 
 pub keep_decl-returns-in-Class-clause-answer : goal.keep_decl-returns-in-Class-clause-answer
 keep_decl-returns-in-Class-clause-answer t c =
-    IfOk-weaker c.keep_public_class.result _ _ (λ tree h. classes (Asked-around c.args.asked) c.args.place (seen c.args.decl) c.in-Class.is h) c.keep_public_class.ensures
+    IfOk-weaker c.keep_public_class.result _ _ (λ tree h. classes (Asked-around c.args.asked) c.args.place (seen c.args.decl) c.in-Class.is h)
+    c.keep_public_class.ensures
 
 pub keep_decl-returns-in-Using-clause-answer : goal.keep_decl-returns-in-Using-clause-answer
 keep_decl-returns-in-Using-clause-answer t c =
-    IfOk-weaker c.keep_using.result _ _ (λ tree h. using_stays (Asked-around c.args.asked) c.args.place (seen c.args.decl) c.in-Using.is h) c.keep_using.ensures
+    IfOk-weaker c.keep_using.result _ _ (λ tree h. using_stays (Asked-around c.args.asked) c.args.place (seen c.args.decl) c.in-Using.is h)
+    c.keep_using.ensures
 
 pub keep_decl-returns-in-Standing-clause-answer : goal.keep_decl-returns-in-Standing-clause-answer
 keep_decl-returns-in-Standing-clause-answer t c =
@@ -180,21 +189,21 @@ keep_export-keep_decl-requires t c = grind (arith, height_at_most)
 
 pub keep_export-returns-in_ok-into_tree-in-Some-clause-answer : goal.keep_export-returns-in_ok-into_tree-in-Some-clause-answer
 keep_export-returns-in_ok-into_tree-in-Some-clause-answer t c =
-    made_export (Asked-around c.args.asked) (seen c.args.item) c.in_ok-keep_decl.ensures.answer c.of.ensures.span c.of.ensures.decl (ap as_list c.in-Some.is)
+    made_export (Asked-around c.args.asked) (seen c.args.item) c.in_ok-decl.ensures.answer c.of.ensures.span c.of.ensures.decl (ap as_list c.in-Some.is)
     (c.in_ok-into_tree-in-Some.ensures ∙ ap (λ s. export_decl s c.in-Some.decl) c.of.ensures.span)
 
 pub keep_export-returns-in-None-clause-answer : goal.keep_export-returns-in-None-clause-answer
 keep_export-returns-in-None-clause-answer t c =
-    no_export (Asked-around c.args.asked) (seen c.args.item) c.in_ok-keep_decl.ensures.answer c.of.ensures.span c.of.ensures.decl (ap as_list c.in-None.is)
+    no_export (Asked-around c.args.asked) (seen c.args.item) c.in_ok-decl.ensures.answer c.of.ensures.span c.of.ensures.decl (ap as_list c.in-None.is)
 
 pub keep_export-returns-in_ok-into_tree-in-Some-clause-comments : goal.keep_export-returns-in_ok-into_tree-in-Some-clause-comments
 keep_export-returns-in_ok-into_tree-in-Some-clause-comments t c =
-    c.in_ok-keep_decl.ensures.comments ∙ (λ i. without_all_leading (starts_in_body start_look (Asked-around c.args.asked) (c.of.ensures.span i)
+    c.in_ok-decl.ensures.comments ∙ (λ i. without_all_leading (starts_in_body start_look (Asked-around c.args.asked) (c.of.ensures.span i)
     (c.of.ensures.decl i) c.args.rule) c.args.comments.now)
 
 pub keep_export-returns-in-None-clause-comments : goal.keep_export-returns-in-None-clause-comments
 keep_export-returns-in-None-clause-comments t c =
-    c.in_ok-keep_decl.ensures.comments ∙ (λ i. without_all_leading (starts_in_body start_look (Asked-around c.args.asked) (c.of.ensures.span i)
+    c.in_ok-decl.ensures.comments ∙ (λ i. without_all_leading (starts_in_body start_look (Asked-around c.args.asked) (c.of.ensures.span i)
     (c.of.ensures.decl i) c.args.rule) c.args.comments.now)
 
 -- ---- items
@@ -234,27 +243,32 @@ pub keep_item-returns-in-Declared-clause-comments : goal.keep_item-returns-in-De
 keep_item-returns-in-Declared-clause-comments t c =
     IfOk-weaker c.keep_decl.result _ _
     (λ tree h. h ∙ (ap (λ place. without_all_leading (starts_in_body start_look (Asked-around c.args.asked) place (seen c.args.item) c.in-Declared.rule)
-    c.args.comments.now) c.range_of_node.ensures ∙ ap (λ r. without_all_leading (starts_below start_look (Asked-around c.args.asked) (seen c.args.item) r) c.args.comments.now)
+    c.args.comments.now) c.range_of_node.ensures ∙ ap (λ r. without_all_leading (starts_below start_look (Asked-around c.args.asked)
+    (seen c.args.item) r) c.args.comments.now)
     (sym (sym c.item_rule.ensures ∙ c.in-Declared.is)))) c.keep_decl.ensures.comments
 
 pub keep_item-returns-in-Exported-clause-comments : goal.keep_item-returns-in-Exported-clause-comments
 keep_item-returns-in-Exported-clause-comments t c =
-    IfOk-weaker c.keep_export.result _ _ (λ tree h. h ∙ ap (λ r. without_all_leading (starts_below start_look (Asked-around c.args.asked) (seen c.args.item) r) c.args.comments.now)
+    IfOk-weaker c.keep_export.result _ _ (λ tree h. h ∙ ap (λ r. without_all_leading (starts_below start_look (Asked-around c.args.asked)
+    (seen c.args.item) r) c.args.comments.now)
     (sym (sym c.item_rule.ensures ∙ c.in-Exported.is))) c.keep_export.ensures.comments
 
 pub keep_item-returns-in-Linked-clause-comments : goal.keep_item-returns-in-Linked-clause-comments
 keep_item-returns-in-Linked-clause-comments t c =
-    IfOk-weaker c.keep_link.result _ _ (λ tree h. ap (λ r. without_all_leading (starts_below start_look (Asked-around c.args.asked) (seen c.args.item) r) c.args.comments.now)
+    IfOk-weaker c.keep_link.result _ _ (λ tree h. ap (λ r. without_all_leading (starts_below start_look (Asked-around c.args.asked)
+    (seen c.args.item) r) c.args.comments.now)
     (sym (sym c.item_rule.ensures ∙ c.in-Linked.is))) c.keep_link.ensures
 
 pub keep_item-returns-in-Default-clause-comments : goal.keep_item-returns-in-Default-clause-comments
 keep_item-returns-in-Default-clause-comments t c =
-    IfOk-weaker c.keep_default.result _ _ (λ tree h. ap (λ r. without_all_leading (starts_below start_look (Asked-around c.args.asked) (seen c.args.item) r) c.args.comments.now)
+    IfOk-weaker c.keep_default.result _ _ (λ tree h. ap (λ r. without_all_leading (starts_below start_look (Asked-around c.args.asked)
+    (seen c.args.item) r) c.args.comments.now)
     (sym (sym c.item_rule.ensures ∙ c.in-Default.is))) c.keep_default.ensures
 
 pub keep_item-returns-in-Refused-clause-comments : goal.keep_item-returns-in-Refused-clause-comments
 keep_item-returns-in-Refused-clause-comments t c =
-    IfOk-weaker c.refuse.result _ _ (λ tree h. ap (λ r. without_all_leading (starts_below start_look (Asked-around c.args.asked) (seen c.args.item) r) c.args.comments.now)
+    IfOk-weaker c.refuse.result _ _ (λ tree h. ap (λ r. without_all_leading (starts_below start_look (Asked-around c.args.asked)
+    (seen c.args.item) r) c.args.comments.now)
     (sym (sym c.item_rule.ensures ∙ c.in-Refused.is))) c.refuse.ensures
 
 pub keep_item-returns-in-Silent-clause-comments : goal.keep_item-returns-in-Silent-clause-comments
