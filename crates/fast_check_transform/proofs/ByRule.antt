@@ -106,19 +106,19 @@ module _ (around : Surroundings) (item : Tree) where
   unfolding export_answer
   exported e h = adds_same (by_item_rule e) h
 
-  pub no_export : {rule : DeclRule} {place : SourceRange} {decl : Tree} {xs : List Tree} {old new : List Fault} →
+  pub no_export : (rule : DeclRule) {place : SourceRange} {decl : Tree} {xs : List Tree} {old new : List Fault} →
       Adds (decl_answer around place decl rule) xs old new → place ≡ ExportDecl-span item → decl ≡ ExportDecl-decl item → xs ≡ [] →
       Adds (export_answer around item rule) [] old new
   unfolding export_answer decl_answer
-  no_export {rule} h p q n =
+  no_export rule h p q n =
       none_of (decl_seen around (ExportDecl-span item) (ExportDecl-decl item) rule) (decl_one around (ExportDecl-span item) (ExportDecl-decl item) rule)
       (adds_same (λ i. answer_of (decl_seen around (sym p i) (sym q i) rule)) h) n
 
-  pub made_export : {rule : DeclRule} {place : SourceRange} {decl t : Tree} {xs : List Tree} {old new : List Fault} →
+  pub made_export : (rule : DeclRule) {place : SourceRange} {decl t : Tree} {xs : List Tree} {old new : List Fault} →
       Adds (decl_answer around place decl rule) xs old new → place ≡ ExportDecl-span item → decl ≡ ExportDecl-decl item → xs ≡ t ∷ [] →
       {made : Tree} → made ≡ export_decl (ExportDecl-span item) t → Adds (export_answer around item rule) (made ∷ []) old new
   unfolding export_answer decl_answer
-  made_export {rule} {old = old} {new = new} h p q n m =
+  made_export rule {old = old} {new = new} h p q n m =
       let seen = decl_seen around (ExportDecl-span item) (ExportDecl-decl item) rule in
       subst (λ u. Adds (answer_of (exported_seen item seen)) (u ∷ []) old new) (sym m)
       (export_of seen (decl_one around (ExportDecl-span item) (ExportDecl-decl item) rule)

@@ -189,12 +189,12 @@ keep_export-keep_decl-requires t c = grind (arith, height_at_most)
 
 pub keep_export-returns-in_ok-into_tree-in-Some-clause-answer : goal.keep_export-returns-in_ok-into_tree-in-Some-clause-answer
 keep_export-returns-in_ok-into_tree-in-Some-clause-answer t c =
-    made_export (Asked-around c.args.asked) (seen c.args.item) c.in_ok-decl.ensures.answer c.of.ensures.span c.of.ensures.decl (ap as_list c.in-Some.is)
+    made_export (Asked-around c.args.asked) (seen c.args.item) c.args.rule c.in_ok-decl.ensures.answer c.of.ensures.span c.of.ensures.decl (ap as_list c.in-Some.is)
     (c.in_ok-into_tree-in-Some.ensures ∙ ap (λ s. export_decl s c.in-Some.decl) c.of.ensures.span)
 
 pub keep_export-returns-in-None-clause-answer : goal.keep_export-returns-in-None-clause-answer
 keep_export-returns-in-None-clause-answer t c =
-    no_export (Asked-around c.args.asked) (seen c.args.item) c.in_ok-decl.ensures.answer c.of.ensures.span c.of.ensures.decl (ap as_list c.in-None.is)
+    no_export (Asked-around c.args.asked) (seen c.args.item) c.args.rule c.in_ok-decl.ensures.answer c.of.ensures.span c.of.ensures.decl (ap as_list c.in-None.is)
 
 pub keep_export-returns-in_ok-into_tree-in-Some-clause-comments : goal.keep_export-returns-in_ok-into_tree-in-Some-clause-comments
 keep_export-returns-in_ok-into_tree-in-Some-clause-comments t c =
