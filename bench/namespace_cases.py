@@ -100,15 +100,15 @@ def nested_levels(depth, inside, item):
 
 def depths():
     shown = "export const a: 1 = {} as never;"
-    for level in range(50):
+    for level in range(15):
         shown = f"namespace N{level} {{ {shown} }}"
-    yield one("fifty_namespaces", nested_levels(50, None, const("a", ONE)), shown)
-    yield one("fifty_namespaces_and_a_fault", nested_levels(50, None, const("a")), ["type a"])
+    yield one("fifteen_namespaces", nested_levels(15, None, const("a", ONE)), shown)
+    yield one("fifteen_namespaces_and_a_fault", nested_levels(15, None, const("a")), ["type a"])
     shown = ""
-    for level in range(50):
+    for level in range(15):
         shown = f"namespace N{level} {{ {shown}function f{level}(): void {{}} }} "
     inside = lambda level: unexported(fn_stmt(f"f{level}", [], THROW))
-    yield one("fifty_namespaces_of_a_function_each", nested_levels(50, inside, unexported(run(unknown()))), shown.strip())
+    yield one("fifteen_namespaces_of_a_function_each", nested_levels(15, inside, unexported(run(unknown()))), shown.strip())
     yield one("fifty_names", public(".".join(f"N{level}" for level in range(50)), const("a", ONE)),
               "export namespace " + ".".join(f"N{level}" for level in range(50)) + " { export const a: 1 = {} as never; }")
     many = [public(f"N{at}", const("a", ONE), const("b", ONE)) for at in range(200)]
