@@ -13,9 +13,11 @@ import sys
 
 sys.dont_write_bytecode = True
 
-from trees import (DUMMY, Source, array, array_of, arrow, as_, block, call, class_, declarator, default, expr, fn_stmt, form, free, freeze, function,
-                   function_type, getter, ident, lay_as, lit, literal_type, member, name, named, object_, pair, paren, ref, rest, returned, run,
-                   satisfies, stmt, template, thrown, type_, unshared, var_stmt)
+from trees import (
+    DUMMY, MODULE, Source, array, array_of, arrow, as_, block, call, class_, declarator, default, expr, fn_stmt, form, free, freeze, function,
+    function_type, getter, ident, instantiation, lay_as, lit, literal_type, member, name, named, new as new_of, new_bare, object_, pair, paren, ref,
+    rest, returned, run, satisfies, stmt, template, thrown, type_, unshared, var_stmt,
+)
 
 TOP = os.path.dirname(os.path.dirname(os.path.abspath(__file__)))
 CRATE = os.path.join(TOP, "crates/fast_check_cases")
@@ -266,6 +268,25 @@ def values():
     tree_case("faults before what goes stay", "leave_expr", props, False, [["return definitely", [6, 30]]])
 
 
+# the tables of a module with a class C without type parameters and a class G with
+OF_CLASSES = [{"id": 0}, *({"id": number, "decls": [{"range": [1, 2], "kind": {"Definition": {"is_plain_class_decl": number == 1}}}]} for number in (1, 2))]
+CLASSES = {"symbols": OF_CLASSES, "module_symbol": 0, "swc_ids": [[["C", MODULE], 1], [["G", MODULE], 2]]}
+
+
+def made():
+    """`new` of a class, by the tables that are handed in."""
+    whole = new_of(ref("C"), ONE)
+    tree_case("new of a class stays", "leave_expr", whole, lambda tree: tree, [], **CLASSES)
+    tree_case("new without a list of arguments stays", "leave_expr", new_bare(ref("C")), lambda tree: tree, [], **CLASSES)
+    tree_case("new of a class goes where no table is handed in", "leave_expr", whole, None, [])
+    tree_case("new of a class with type parameters goes", "leave_expr", new_of(ref("G")), None, [], **CLASSES)
+    tree_case("new with type arguments goes", "leave_expr", new_of(ref("C"), type_args=instantiation("string")), None, [], **CLASSES)
+    tree_case("new of a name of another scope goes", "leave_expr", new_of(free("C")), None, [], **CLASSES)
+    throwing = function([], thrown(ONE))
+    tree_case("faults of arguments before one that goes stay", "leave_expr", new_of(ref("C"), throwing, call(ref("f"))), False,
+              [["return definitely", [7, 31]]], **CLASSES)
+
+
 def without_asserted(tree):
     """An array whose first element is an assertion, with `{}` asserted to `never` in parentheses for what was asserted."""
     asserted, frozen = tree["Array"]["elems"]
@@ -281,7 +302,8 @@ def write():
 
 
 def main():
-    for group in (literals, templates, symbols, assertions, frozen, nodes, parameters, bodies, arrows, implementations, values):
+    for group in (literals, templates, symbols, assertions, frozen, nodes, parameters, bodies, arrows, implementations, values,
+                  made):
         group()
     write()
 

@@ -148,11 +148,13 @@ def is_void(written):
 class Skeleton(Classes, Modules):
     """The items that a skeleton has, and the faults that were met in making them, each a code, a range and two flags.
 
-    `resolved` has what the texts of sources in the module resolve to."""
+    `resolved` has what the texts of sources in the module resolve to, and `plain_classes` the names with scope numbers of classes without type
+    parameters."""
 
-    def __init__(self, body, ranges, impls=(), media_type="TypeScript", unresolved=1, specifier="file:///p/mod.ts", resolved=None):
+    def __init__(self, body, ranges, impls=(), media_type="TypeScript", unresolved=1, specifier="file:///p/mod.ts", resolved=None,
+                 plain_classes=()):
         self.ranges, self.impls, self.unresolved = ranges, impls, unresolved
-        self.specifier, self.resolved = specifier, resolved or {}
+        self.specifier, self.resolved, self.plain_classes = specifier, resolved or {}, plain_classes
         self.is_ambient = media_type in ("Dts", "Dmts", "Dcts")
         self.faults = []
         self.items = self.items_of(body)
@@ -351,7 +353,7 @@ class Skeleton(Classes, Modules):
             return {kind: self.arrow(node, place or node["span"])}
         if kind in ALL_PARTS:
             return self.left_parts(kind, node, ALL_PARTS[kind])
-        if kind in ("Array", "Object", "Tpl", "Member", "Call"):
+        if kind in ("Array", "Object", "Tpl", "Member", "Call", "New"):
             return getattr(self, "left_" + kind.lower())(node)
         return None
 
@@ -428,6 +430,16 @@ class Skeleton(Classes, Modules):
             return None
         arg = self.left_element(args[0])
         return arg and {"Call": dict(node, args=[arg])}
+
+    def left_new(self, node):
+        """`new` of a class without type parameters, by its name and without type arguments."""
+        named = node["callee"].get("Ident")
+        if not named or (named["sym"], named["ctxt"]) not in self.plain_classes or node["type_args"] is not None:
+            return None
+        if node["args"] is None:
+            return {"New": node}
+        args = self.left_all(node["args"], self.left_element)
+        return None if args is None else {"New": dict(node, args=args)}
 
 
 def emptied(pat):

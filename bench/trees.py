@@ -222,8 +222,13 @@ def freeze(*args, obj=None):
     return call(member(obj or free("Object"), "freeze"), *args)
 
 
-def new(callee, *args):
-    return expr("New", ctxt=0, callee=callee, args=[element(arg) for arg in args], type_args=None)
+def new(callee, *args, type_args=None):
+    return expr("New", ctxt=0, callee=callee, args=[element(arg) for arg in args], type_args=type_args)
+
+
+def new_bare(callee):
+    """`new` without a list of arguments."""
+    return expr("New", ctxt=0, callee=callee, args=None, type_args=None)
 
 
 def tpl(*parts):
@@ -594,6 +599,12 @@ def after_dot(kind):
     return layout
 
 
+def lay_arguments(source, node):
+    """The arguments of `new`, in parentheses unless there is no list of them."""
+    if node["args"] is not None:
+        lay(source, ["(", many("args", "element"), ")"], node)
+
+
 OPTIONAL = {
     "Member": [one("obj", "expr"), "?", one("prop", "property")],
     "Call": [one("callee", "callee"), "?.", one("type_args", "instantiation"), "(", many("args", "element"), ")"]}
@@ -648,7 +659,7 @@ LAYOUTS = {
         "Member": [one("obj", "expr"), one("prop", "property")], "SuperProp": ["super", one("prop", "property")],
         "Cond": [one("test", "expr"), " ? ", one("cons", "expr"), " : ", one("alt", "expr")],
         "Call": [one("callee", "callee"), one("type_args", "instantiation"), "(", many("args", "element"), ")"],
-        "New": ["new ", one("callee", "expr"), one("type_args", "instantiation"), "(", many("args", "element"), ")"],
+        "New": ["new ", one("callee", "expr"), one("type_args", "instantiation"), lay_arguments],
         "Seq": [many("exprs", "expr")], "Ident": "ident", "Lit": "literal", "Tpl": [lay_template], "TaggedTpl": [one("tag", "expr"), one("tpl", "tpl")],
         "Arrow": [when("is_async", "async "), one("type_params", "type_params"), "(", many("params", "pattern"), ")", one("return_type", "ann"), " => ",
             one("body", "body")],

@@ -2,8 +2,8 @@
 """Writes the vectors of `crates/fast_check_vectors`: its inputs (`data/`), and what it must print (`stdout`).
 
 Each case stands here as TypeScript with what is public of it and what has to come out. The trees of the sources and of
-the skeletons are laid out by the rules of this script and its modules alone (`trees`, `skeletons`, `function_cases`, `class_cases`, `module_cases`, `namespace_cases`):
-the program's own output is nowhere taken for right.
+the skeletons are laid out by the rules of this script and its modules alone (`trees`, `skeletons`, `function_cases`, `new_cases`,
+`class_cases`, `module_cases`, `namespace_cases`): the program's own output is nowhere taken for right.
 
 Usage: bench/vectors.py
 """
@@ -18,6 +18,7 @@ import class_cases
 import function_cases
 import module_cases
 import namespace_cases
+import new_cases
 from module_skeletons import sources_of
 from ranges import class_of, public_ranges, ranges_of_members, ranges_within
 from skeletons import Skeleton, diagnostic
@@ -593,7 +594,7 @@ def expando_request(*ranges, **tables):
 
 
 def tables():
-    title("a module with tables, in a graph: what tables hold plays no part so far, nor what a graph holds but for sources")
+    title("a module with tables, in a graph: the first module asks none of them")
     answered("all_tables", with_tables(first_module().request(), **all_tables()), first_module().answer())
     answered("all_tables_in_a_graph", with_tables(first_module().request(graph=GRAPH), **all_tables()), first_module().answer())
     for name, graph in (("a_graph_of_nothing", {}), ("a_graph_without_resolutions", {"modules": GRAPH["modules"]}),
@@ -685,7 +686,8 @@ def function_case(case):
     ranges = public_ranges(case, [place for place in range(len(case.items)) if place not in case.private], case.own_ranges)
     ranges += ranges_within(case)
     impls = public_ranges(case, case.implementations) + ranges_of_members(case)
-    made = Skeleton(case.items, ranges, impls, media_type, specifier=specifier, resolved=more.get("resolved"))
+    made = Skeleton(case.items, ranges, impls, media_type, specifier=specifier, resolved=more.get("resolved"),
+                    plain_classes=more.get("plain_classes", ()))
     faults = made.faults[:1] if first else made.faults
     given = [stated(fault, text) for fault in faults] if faults else lay_items(made.items)[1]
     if isinstance(case.expected, list) and faults and len(given) == len(case.expected):
@@ -693,6 +695,7 @@ def function_case(case):
     agree(case.name, "answer", case.expected, given)
     content = request(text, case.items, ranges, media_type, impls=impls, first=first, graph=graph_of(case, specifier))
     content["module"]["specifier"] = specifier
+    with_tables(content, **more.get("tables", {}))
     if more.get("is_script"):
         content["module"]["source"]["program"] = {"Script": dict(program([item["Stmt"] for item in case.items], text))}
     if "levels" in more:
@@ -783,6 +786,7 @@ def main():
     types()
     comments()
     groups_of_cases(function_cases.GROUPS)
+    groups_of_cases(new_cases.GROUPS)
     comments_of_functions()
     groups_of_cases(class_cases.GROUPS)
     comments_of_classes()

@@ -4,6 +4,7 @@ use crate::faults::write_faults;
 use crate::forms::answer_form;
 use fast_check_expression_forms::{ArrowExpr, CallExpr};
 use fast_check_helpers::*;
+use fast_check_modules::EsModuleInfo;
 use fast_check_print::write_tree;
 use fast_check_schema::Form;
 use fast_check_signatures::Fault;
@@ -13,13 +14,15 @@ use json::Writer;
 use std::alloc::{AllocError, Global};
 
 /// The scope number of the names that nothing in a module binds.
-const UNRESOLVED: SyntaxContext = SyntaxContext(1);
+pub const UNRESOLVED: SyntaxContext = SyntaxContext(1);
 
 /// What a call is given besides its tree.
 #[derive(Clone, Copy)]
-pub struct Given {
+pub struct Given<'a> {
     pub mutability: DeclMutabilityKind,
     pub place: Option<SourceRange>,
+    /// The module that the tree stands in.
+    pub info: &'a EsModuleInfo,
 }
 
 /// Makes the call of this name, and writes its answer.
@@ -27,11 +30,11 @@ pub fn write_answer(
     alloc: Global,
     call: &str,
     tree: Part<'_>,
-    given: Given,
+    given: Given<'_>,
     out: &mut Writer,
 ) -> Result<(), AllocError> {
     match call {
-        "leave_expr" | "transform_arrow" => write_left(alloc, call, tree, given.place, out),
+        "leave_expr" | "transform_arrow" => write_left(alloc, call, tree, given, out),
         "is_simple_type" => out.boolean(is_simple_type(tree)),
         "is_void_type" => out.boolean(is_void_type(tree)),
         "shows_type" => out.boolean(shows_type(tree, UNRESOLVED)),
@@ -140,11 +143,11 @@ fn write_left(
     alloc: Global,
     call: &str,
     tree: Part<'_>,
-    place: Option<SourceRange>,
+    given: Given<'_>,
     out: &mut Writer,
 ) -> Result<(), AllocError> {
     let mut faults = Vec::new(alloc);
-    let left = left(alloc, call, tree, place, &mut faults)?;
+    let left = left(alloc, call, tree, given, &mut faults)?;
     write_outcome(&left, faults.as_slice(), answer_form(call), out)
 }
 
@@ -167,12 +170,12 @@ fn left(
     alloc: Global,
     call: &str,
     tree: Part<'_>,
-    place: Option<SourceRange>,
+    given: Given<'_>,
     faults: &mut Vec<Fault>,
 ) -> Result<Option<Tree>, AllocError> {
     if call == "leave_expr" {
-        leave_expr(alloc, UNRESOLVED, tree, place, faults)
+        leave_expr(alloc, given.info, tree, given.place, faults)
     } else {
-        Ok(Some(transform_arrow(alloc, UNRESOLVED, tree, place, faults)?))
+        Ok(Some(transform_arrow(alloc, given.info, tree, given.place, faults)?))
     }
 }

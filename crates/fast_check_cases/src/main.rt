@@ -5,9 +5,11 @@
 mod calls;
 mod faults;
 mod forms;
+mod modules;
 
 use crate::calls::{Given, write_answer};
 use crate::forms::given_form;
+use crate::modules::read_module;
 use fast_check_helpers::DeclMutabilityKind;
 use fast_check_read::{ReadError, read_optional_flag, read_range, read_text, read_tree};
 use fast_check_syntax::SourceRange;
@@ -56,9 +58,11 @@ fn read_case(alloc: Global, line: &str) -> Result<Value, ReadError> {
 fn write_case(alloc: Global, case: &Value, out: &mut Writer) -> Result<(), ReadError> {
     let name = read_text(member(case, "case")?)?;
     let call = read_text(member(case, "call")?)?;
+    let module = read_module(alloc, case)?;
     let given = Given {
         mutability: mutability(read_optional_flag(case.get("const"))?),
         place: place(case)?,
+        info: &module,
     };
     begin_case(name, out)?;
     let tree = read_tree(alloc, member(case, "tree")?, given_form(call))?;

@@ -4,7 +4,7 @@ ghost use Rattle.fast_check_program_forms.specs.Names.{Ident-span, Ident-sym};
 ghost use Rattle.fast_check_signatures.specs.Answers.{declared_property, valued_property};
 ghost use Rattle.fast_check_signatures.specs.Classes as classes;
 ghost use Rattle.fast_check_signatures.specs.NewNodes as new;
-ghost use Rattle.fast_check_class_nodes.specs.Heads.{head_of, default_type, param_property_type, param_property};
+ghost use Rattle.fast_check_class_nodes.specs.Heads.{head_of};
 
 use crate::keys::is_private;
 use fast_check_class_forms::{AutoAccessor, ClassMethod, ClassProp, PrivateProp, TsParamProp};
@@ -240,7 +240,7 @@ fn default_type(
     mutability: DeclMutabilityKind,
     pat: Part<'_>,
 ) -> Result<Option<Tree>, AllocError>
-    ensures { IfOk result (λ ty. ty ≡ default_type unresolved mutability (seen pat.entry)) }
+    ensures { IfOk result (λ ty. ty ≡ classes.default_type unresolved mutability (seen pat.entry)) }
 {
     if pat.kind() == Kind::AssignPat {
         return maybe_infer_type(alloc, AssignPat::of(pat).right, mutability, unresolved);
@@ -255,7 +255,7 @@ fn param_property_type(
     unresolved: SyntaxContext,
     param: Part<'_>,
 ) -> Result<Tree, AllocError>
-    ensures { IfOk result (λ ty. ty ≡ param_property_type unresolved (seen param.entry)) }
+    ensures { IfOk result (λ ty. ty ≡ classes.param_property_type unresolved (seen param.entry)) }
 {
     let prop = TsParamProp::of(param);
     if is_private(prop.accessibility) {
@@ -278,7 +278,7 @@ pub fn param_property(
     unresolved: SyntaxContext,
     param: Part<'_>,
 ) -> Result<Tree, AllocError>
-    ensures { IfOk result (λ tree. tree ≡ param_property unresolved (seen param.entry)) }
+    ensures { IfOk result (λ tree. tree ≡ classes.param_property unresolved (seen param.entry)) }
 {
     let type_ann = param_property_type(alloc, unresolved, param)?;
     param_property_head(alloc, param)?.declared(alloc, type_ann)

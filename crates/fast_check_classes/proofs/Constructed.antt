@@ -8,7 +8,6 @@ use Rattle.std.proofs.Math.Seq.{drop-cons}
 use Rattle.std.proofs.lemmas.List.{drop_all}
 use Rattle.fast_check_syntax.specs.declared.kind.Kind.TheVariants as kinds
 use Rattle.fast_check_syntax.specs.declared.source.SourceRange.{SourceRange}
-use Rattle.fast_check_syntax.specs.declared.source.SyntaxContext.{SyntaxContext}
 use Rattle.fast_check_syntax.specs.declared.tree.Tree as tree
 use Rattle.fast_check_syntax.specs.declared.tree.Tree.{Tree, Absent}
 use Rattle.fast_check_syntax.specs.Shape.{parts, node, list}
@@ -18,6 +17,7 @@ use Rattle.fast_check_class_forms.specs.Classes.{Constructor-span, Constructor-c
 use Rattle.fast_check_class_forms.specs.Classes.{Constructor-accessibility, Constructor-is_optional}
 use Rattle.fast_check_class_forms.specs.Functions.{Param-pat}
 use Rattle.fast_check_ranges.specs.Ranges.{range_of_node}
+use Rattle.fast_check_signatures.specs.Bindings.{Bindings}
 use Rattle.fast_check_signatures.specs.declared.fault.Fault.{Fault}
 use Rattle.fast_check_signatures.specs.declared.fault.FaultKind.TheVariants.{UnsupportedDestructuring}
 use Rattle.fast_check_signatures.specs.Seen.{Seen}
@@ -80,7 +80,7 @@ constructor_made m ss {new = new} h =
     (adds_visited (adds_nothing (Some (Constructor-accessibility m)) _) (adds_visited (adds_nothing (Some (tree.Flag (Constructor-is_optional m))) _)
     (adds_nothing (Some []) new))))))))
 
-module _ (u : SyntaxContext) (is_implementation : SourceRange → Bool) (m : Tree) where
+module _ (u : Bindings) (is_implementation : SourceRange → Bool) (m : Tree) where
   abbrev built : Seen
   built = constructor_of m (constructor_params_seen u is_implementation m)
 

@@ -21,22 +21,23 @@ use Rattle.fast_check_class_forms.specs.Methods.{ClassMethod-span, ClassMethod-k
 use Rattle.fast_check_class_forms.specs.Methods.{ClassMethod-accessibility, ClassMethod-is_abstract, ClassMethod-is_optional, ClassMethod-is_override}
 use Rattle.fast_check_helpers.specs.Builders.{any_type_ann}
 use Rattle.fast_check_ranges.specs.Ranges.{range_of_node}
+use Rattle.fast_check_signatures.specs.Bindings.{Bindings}
 use Rattle.fast_check_signatures.specs.declared.fault.Fault.{Fault}
 use Rattle.fast_check_signatures.specs.declared.function_kind.FunctionKind.{FunctionKind}
 use Rattle.fast_check_signatures.specs.Seen.{Seen, written}
 use Rattle.fast_check_signatures.specs.Answers.{Answer, Adds, faultless, made, joined, with_tree, answer_to, answer_of, declared_property}
 use Rattle.fast_check_signatures.specs.Expressions.{expr_seen}
 use Rattle.fast_check_signatures.specs.Functions.{function_seen, implementation_seen}
-use Rattle.fast_check_signatures.specs.Classes.{typed_property, private_method_head, method_kind, method_of, method_function_seen, method_seen, member_seen}
+use Rattle.fast_check_signatures.specs.Classes.{declared_by_params, typed_property, private_method_head, method_kind, method_of, method_function_seen, method_seen, member_seen}
 use Rattle.fast_check_signatures.specs.Classes.{member_of_kind, members_seen, constructor_seen, param_properties, patterns_among, unless_any}
 use Rattle.fast_check_signatures.specs.Classes as classes
 use Rattle.fast_check_signatures.specs.Members.{is_private, hash_mark, kept_members}
 use Rattle.fast_check_signatures.proofs.Adding.{adds_nothing, adds_same, adds_made, adds_visited}
 use Rattle.fast_check_values.proofs.Behind.{Behind, behind_along, items_step, items_end}
-use Rattle.fast_check_classes.specs.Parts.{no_implementations, property_answer, accessor_answer, first_of, first_pattern, signed_method, declared_params, declared_by_params}
+use Rattle.fast_check_classes.specs.Parts.{property_answer, accessor_answer, first_of, first_pattern, signed_method, declared_params}
 use Rattle.fast_check_classes.specs.Parts.{kept_answer}
 
-module _ (u : SyntaxContext) (is_implementation : SourceRange → Bool) (m : Tree) where
+module _ (u : Bindings) (is_implementation : SourceRange → Bool) (m : Tree) where
   abbrev function_if : Bool → Seen
   function_if i =
       if i then implementation_seen (ClassMethod-function m)
@@ -143,7 +144,7 @@ declared_all f ps i h old x = x ∙ ap (λ us. old ++ flat_map f (map seen us)) 
 
 -- ---- members that stay
 
-module _ (u : SyntaxContext) (is_implementation : SourceRange → Bool) where
+module _ (u : Bindings) (is_implementation : SourceRange → Bool) where
   next_kept : (ps : List Part) (i : ℕ) (d : Part) → i < length ps →
       kept_answer u is_implementation (map seen (drop i ps)) ≡
       joined with_tree (answer_to (member_seen u is_implementation (seen (get_or ps i d)))) (kept_answer u is_implementation (map seen (drop (i + 1) ps)))
@@ -175,16 +176,16 @@ module _ (u : SyntaxContext) (is_implementation : SourceRange → Bool) where
 
   pub all_members : (ms : List Tree) {items all : List Tree} {kept : List Tree} {old new : List Fault} →
       Adds (made (λ ts. items ++ ts) (kept_answer u is_implementation kept)) all old new → kept ≡ kept_members ms →
-      items ≡ hash_mark ms ++ flat_map (λ m. declared_by_params u m) kept → Adds (answer_of (members_seen u is_implementation ms)) all old new
+      items ≡ hash_mark ms ++ flat_map (λ m. declared_by_params u.unresolved m) kept → Adds (answer_of (members_seen u is_implementation ms)) all old new
   all_members ms {items} {all} {kept} h k q =
-      let made_of : List Tree → List Tree = λ ks. hash_mark ms ++ flat_map (λ m. declared_by_params u m) ks in
+      let made_of : List Tree → List Tree = λ ks. hash_mark ms ++ flat_map (λ m. declared_by_params u.unresolved m) ks in
       adds_same (before_kept (made_of (kept_members ms)) (map (λ m. member_seen u is_implementation m) (kept_members ms))
       ∙ (ap (λ ks. made (λ ts. made_of ks ++ ts) (kept_answer u is_implementation ks)) (sym k)
       ∙ ap (λ xs. made (λ ts. xs ++ ts) (kept_answer u is_implementation kept)) (sym q))) h
 
 -- ---- a member, by its kind
 
-module _ (u : SyntaxContext) (is_implementation : SourceRange → Bool) (m : Tree) where
+module _ (u : Bindings) (is_implementation : SourceRange → Bool) (m : Tree) where
   abbrev by_kind : Kind → Seen
   by_kind k = member_of_kind u is_implementation k m
 
@@ -229,7 +230,7 @@ module _ (u : SyntaxContext) (m : Tree) where
   declared_if b ds = if b then ds else []
 
   abbrev own_params : List Tree
-  own_params = map (λ p. classes.param_property u no_implementations p) (param_properties m)
+  own_params = map (λ p. classes.param_property u p) (param_properties m)
 
   -- nothing is added, or this
   pub unchanged : {ds : List Tree} → declared_by_params u m ≡ ds → ds ≡ [] → (items : List Tree) → items ≡ items ++ declared_by_params u m

@@ -2,7 +2,6 @@
 use Rattle.std.specs.Prelude.{◌≡◌, Bool, true, false, Option, Some, None, option_map, List, [], ◌∷◌, ◌++◌, refl, if◌then◌else◌}
 use Rattle.std.proofs.Common.{ap, ◌∙◌, sym, subst}
 use Rattle.fast_check_syntax.specs.declared.source.SourceRange.{SourceRange}
-use Rattle.fast_check_syntax.specs.declared.source.SyntaxContext.{SyntaxContext}
 use Rattle.fast_check_syntax.specs.declared.tree.Tree.{Tree, Absent}
 use Rattle.fast_check_syntax.specs.Shape.{is_absent}
 use Rattle.fast_check_class_forms.specs.Fields.{ClassProp-key, ClassProp-value, ClassProp-type_ann, ClassProp-accessibility, ClassProp-readonly}
@@ -11,6 +10,7 @@ use Rattle.fast_check_helpers.specs.declared.literal_type.DeclMutabilityKind.The
 use Rattle.fast_check_helpers.specs.Builders.{type_ann, any_type_ann}
 use Rattle.fast_check_helpers.specs.InferredType.{inferred_type}
 use Rattle.fast_check_ranges.specs.Ranges.{range_of_node}
+use Rattle.fast_check_signatures.specs.Bindings.{Bindings}
 use Rattle.fast_check_signatures.specs.declared.fault.Fault.{Fault}
 use Rattle.fast_check_signatures.specs.declared.fault.FaultKind.TheVariants.{MissingExplicitType}
 use Rattle.fast_check_signatures.specs.Seen.{Seen, refused}
@@ -22,7 +22,7 @@ use Rattle.fast_check_signatures.specs.Members.{is_private}
 use Rattle.fast_check_signatures.proofs.Adding.{adds_nothing, adds_same, adds_made, adds_missing, adds_fault}
 use Rattle.fast_check_classes.specs.Parts.{no_implementations, value_answer, untyped_answer, property_answer, accessor_type, accessor_answer}
 
-module _ (u : SyntaxContext) (m : Tree) where
+module _ (u : Bindings) (m : Tree) where
   abbrev place : SourceRange
   place = range_of_node (ClassProp-key m)
 
@@ -44,7 +44,7 @@ module _ (u : SyntaxContext) (m : Tree) where
       ∙ (λ i. demanded (fault_at MissingExplicitType (sym p i)) (answer_to (expr_seen u (sym q i) (Some (sym p i)))))) h
 
   abbrev shown : Option Tree
-  shown = inferred_type (mutability_of_property (ClassProp-readonly m)) u (ClassProp-value m)
+  shown = inferred_type (mutability_of_property (ClassProp-readonly m)) u.unresolved (ClassProp-value m)
 
   abbrev untyped_if : Option Tree → Seen
   untyped_if o = untyped_property_seen u no_implementations (property_head m) (ClassProp-value m) o
@@ -104,15 +104,15 @@ module _ (u : SyntaxContext) (m : Tree) where
   accessor_lacking false false o e = cc
 
   abbrev accessor_shown : Option Tree
-  accessor_shown = inferred_type Mutable u (AutoAccessor-value m)
+  accessor_shown = inferred_type Mutable u.unresolved (AutoAccessor-value m)
 
-  pub typed_accessor : (type : Tree) → accessor_type u m ≡ Some type → (old : List Fault) →
+  pub typed_accessor : (type : Tree) → accessor_type u.unresolved m ≡ Some type → (old : List Fault) →
       Adds (accessor_answer u m) (Some (declared_property (accessor_head m) type)) old old
   unfolding accessor_answer
   typed_accessor type e old =
       adds_same (accessor_given type (is_private (AutoAccessor-accessibility m)) (is_absent (AutoAccessor-type_ann m)) accessor_shown e) (adds_nothing _ old)
 
-  pub untyped_accessor : accessor_type u m ≡ None → {old all : List Fault} →
+  pub untyped_accessor : accessor_type u.unresolved m ≡ None → {old all : List Fault} →
       all ≡ old ++ fault_at MissingExplicitType (range_of_node (AutoAccessor-key m)) ∷ [] → Adds (accessor_answer u m) (Some Absent) old all
   unfolding accessor_answer
   untyped_accessor e {old} p =

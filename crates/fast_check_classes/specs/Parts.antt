@@ -17,6 +17,7 @@ use Rattle.fast_check_helpers.specs.InferredType.{inferred_type}
 use Rattle.fast_check_ranges.specs.Ranges.{range_of_node}
 use Rattle.fast_check_signatures.specs.declared.fault.FaultKind.TheVariants.{MissingExplicitType}
 use Rattle.fast_check_signatures.specs.Answers.{Answer, fault_at, demanded, answer_to, answer_of}
+use Rattle.fast_check_signatures.specs.Bindings.{Bindings}
 use Rattle.fast_check_signatures.specs.Classes as classes
 use Rattle.fast_check_signatures.specs.Members.{is_private}
 
@@ -25,19 +26,19 @@ abbrev pub no_implementations : SourceRange → Bool
 no_implementations place = false
 
 -- to the value of a property, which is to give its type
-unfoldable pub value_answer : SyntaxContext → Tree → Answer Tree
-value_answer unresolved m =
+unfoldable pub value_answer : Bindings → Tree → Answer Tree
+value_answer bindings m =
     let place = range_of_node (ClassProp-key m) in
-    demanded (fault_at MissingExplicitType place) (answer_to (classes.member_value_seen unresolved no_implementations place (ClassProp-value m)))
+    demanded (fault_at MissingExplicitType place) (answer_to (classes.member_value_seen bindings no_implementations place (ClassProp-value m)))
 
 -- to a property without a written type, and to a property
-unfoldable pub untyped_answer : SyntaxContext → Tree → Answer (Option Tree)
-untyped_answer unresolved m =
-    answer_to (classes.untyped_property_seen unresolved no_implementations (classes.property_head m) (ClassProp-value m)
-    (inferred_type (classes.mutability_of_property (ClassProp-readonly m)) unresolved (ClassProp-value m)))
+unfoldable pub untyped_answer : Bindings → Tree → Answer (Option Tree)
+untyped_answer bindings m =
+    answer_to (classes.untyped_property_seen bindings no_implementations (classes.property_head m) (ClassProp-value m)
+    (inferred_type (classes.mutability_of_property (ClassProp-readonly m)) bindings.unresolved (ClassProp-value m)))
 
-unfoldable pub property_answer : SyntaxContext → Tree → Answer (Option Tree)
-property_answer unresolved m = answer_to (classes.property_seen unresolved no_implementations m)
+unfoldable pub property_answer : Bindings → Tree → Answer (Option Tree)
+property_answer bindings m = answer_to (classes.property_seen bindings no_implementations m)
 
 -- the type of an accessor: written, or shown by its value; a private one is of any type
 abbrev pub accessor_type : SyntaxContext → Tree → Option Tree
@@ -47,8 +48,8 @@ accessor_type unresolved m =
     else Some (AutoAccessor-type_ann m))
 
 -- to an accessor
-unfoldable pub accessor_answer : SyntaxContext → Tree → Answer (Option Tree)
-accessor_answer unresolved m = answer_to (classes.accessor_seen unresolved no_implementations m)
+unfoldable pub accessor_answer : Bindings → Tree → Answer (Option Tree)
+accessor_answer bindings m = answer_to (classes.accessor_seen bindings no_implementations m)
 
 -- ---- constructors
 
@@ -80,11 +81,8 @@ signed_method m function =
 -- the properties that parameters declare
 abbrev pub declared_params : SyntaxContext → List Tree → List Tree
 declared_params unresolved params =
-    map (λ p. classes.param_property unresolved no_implementations p) (filter (λ p. classes.is_param_property p) params)
-
-abbrev pub declared_by_params : SyntaxContext → Tree → List Tree
-declared_by_params unresolved m = classes.declared_by_params unresolved no_implementations m
+    map (λ p. classes.param_property unresolved p) (filter (λ p. classes.is_param_property p) params)
 
 -- to members that stay
-abbrev pub kept_answer : SyntaxContext → (SourceRange → Bool) → List Tree → Answer (List Tree)
-kept_answer unresolved is_implementation ms = answer_of (map (λ m. classes.member_seen unresolved is_implementation m) ms)
+abbrev pub kept_answer : Bindings → (SourceRange → Bool) → List Tree → Answer (List Tree)
+kept_answer bindings is_implementation ms = answer_of (map (λ m. classes.member_seen bindings is_implementation m) ms)

@@ -6,13 +6,15 @@ ghost use Rattle.fast_check_signatures.specs.Answers as answers;
 ghost use Rattle.fast_check_signatures.specs.Classes.{class_head, plain_class_seen, ambient_class};
 ghost use Rattle.fast_check_signatures.specs.Members.{ambient_members, is_private_computed};
 ghost use Rattle.fast_check_tables.specs.PublicRanges.{is_implementation};
+ghost use Rattle.fast_check_bindings.specs.Bindings.{bindings_of};
 
 use crate::members::transform_members;
 use crate::superclasses::transform_superclass;
 use fast_check_class_forms::{AutoAccessor, Class, ClassMethod, ClassProp};
 use fast_check_class_nodes::{is_computed, is_private};
+use fast_check_modules::EsModuleInfo;
 use fast_check_signatures::Fault;
-use fast_check_syntax::{Items, Kind, Part, SyntaxContext, Tree};
+use fast_check_syntax::{Items, Kind, Part, Tree};
 use fast_check_tables::ModulePublicRanges;
 use std::alloc::{AllocError, Global};
 
@@ -41,17 +43,16 @@ fn class_of(
 }
 
 /// A class that is not ambient, a `Class` (deno_graph's `transform_class`). A superclass that is no name and no chain of
-/// members on one is a fault at it, before those of the members. `unresolved` is the scope number of the names that nothing
-/// in the module binds.
+/// members on one is a fault at it, before those of the members. `info` is the module that it stands in.
 pub fn transform_class(
     alloc: Global,
     public_ranges: &ModulePublicRanges,
-    unresolved: SyntaxContext,
+    info: &EsModuleInfo,
     class: Part<'_>,
     faults: &mut Vec<Fault>,
 ) -> Result<Tree, AllocError>
     ensures { IfOk result (λ tree.
-        Adds (answer_to (plain_class_seen unresolved (is_implementation public_ranges.now) (seen class.entry))) (Some tree) faults.old.items faults.new.items) }
+        Adds (answer_to (plain_class_seen (bindings_of info.now) (is_implementation public_ranges.now) (seen class.entry))) (Some tree) faults.old.items faults.new.items) }
 {
     let Class {
         body,
@@ -59,7 +60,7 @@ pub fn transform_class(
         ..
     } = Class::of(class);
     let super_class = transform_superclass(alloc, super_class, faults)?;
-    let members = transform_members(alloc, public_ranges, unresolved, body, faults)?;
+    let members = transform_members(alloc, public_ranges, info, body, faults)?;
     class_of(alloc, class, super_class, members)
 }
 

@@ -5,14 +5,16 @@ ghost use Rattle.fast_check_signatures.specs.Answers.{Adds, answer_to, answer_of
 ghost use Rattle.fast_check_signatures.specs.Classes.{is_param_property, takes_apart, constructor_params_seen, constructor_seen};
 ghost use Rattle.fast_check_tables.specs.PublicRanges.{is_implementation};
 ghost use Rattle.fast_check_classes.specs.Parts.{first_pattern, signed_constructor};
+ghost use Rattle.fast_check_bindings.specs.Bindings.{bindings_of};
 
 use fast_check_class_forms::Constructor;
 use fast_check_class_nodes::{
     constructor_body, is_private, param_target, plain_params, takes_apart,
 };
+use fast_check_modules::EsModuleInfo;
 use fast_check_ranges::range_of_node;
 use fast_check_signatures::{Fault, FaultKind};
-use fast_check_syntax::{Items, Kind, Part, SourceRange, SyntaxContext, Tree};
+use fast_check_syntax::{Items, Kind, Part, SourceRange, Tree};
 use fast_check_tables::ModulePublicRanges;
 use fast_check_values::{any_params, transform_params};
 use std::alloc::{AllocError, Global};
@@ -48,12 +50,12 @@ pub fn pattern_among(params: &[Tree]) -> Option<SourceRange>
 fn constructor_params(
     alloc: Global,
     public_ranges: &ModulePublicRanges,
-    unresolved: SyntaxContext,
+    info: &EsModuleInfo,
     member: Part<'_>,
     faults: &mut Vec<Fault>,
 ) -> Result<Items<Tree>, AllocError>
     ensures { IfOk result (λ items.
-        Adds (answer_of (constructor_params_seen unresolved (is_implementation public_ranges.now) (seen member.entry))) items faults.old.items faults.new.items) }
+        Adds (answer_of (constructor_params_seen (bindings_of info.now) (is_implementation public_ranges.now) (seen member.entry))) items faults.old.items faults.new.items) }
 {
     let Constructor {
         span,
@@ -68,7 +70,7 @@ fn constructor_params(
     if public_ranges.is_impl_with_overloads(&span) {
         return any_params(alloc, params.read());
     }
-    transform_params(alloc, unresolved, params.read(), faults)
+    transform_params(alloc, info, params.read(), faults)
 }
 
 /// A constructor with its parameters, and of its body the calls of the superclass.
@@ -96,12 +98,12 @@ fn signed_constructor(
 pub fn transform_constructor(
     alloc: Global,
     public_ranges: &ModulePublicRanges,
-    unresolved: SyntaxContext,
+    info: &EsModuleInfo,
     member: Part<'_>,
     faults: &mut Vec<Fault>,
 ) -> Result<Tree, AllocError>
     ensures { IfOk result (λ tree.
-        Adds (answer_to (constructor_seen unresolved (is_implementation public_ranges.now) (seen member.entry))) (Some tree)
+        Adds (answer_to (constructor_seen (bindings_of info.now) (is_implementation public_ranges.now) (seen member.entry))) (Some tree)
         faults.old.items faults.new.items) }
 {
     if let Some(range) = pattern_among(Constructor::of(member).params.parts()) {
@@ -111,6 +113,6 @@ pub fn transform_constructor(
         })?;
         return Ok(Tree::Absent);
     }
-    let params = constructor_params(alloc, public_ranges, unresolved, member, faults)?;
+    let params = constructor_params(alloc, public_ranges, info, member, faults)?;
     signed_constructor(alloc, member, params)
 }

@@ -4,18 +4,21 @@ ghost use Rattle.fast_check_syntax.specs.Part.{seen};
 ghost use Rattle.fast_check_syntax.specs.Shape.{◌is◌, kind_of, parts};
 ghost use Rattle.fast_check_syntax.specs.declared.kind.Kind.TheVariants as kinds;
 ghost use Rattle.fast_check_signatures.specs.Answers.{Adds, answer_to, answer_of, made};
-ghost use Rattle.fast_check_signatures.specs.Classes.{method_kind, method_function_seen, method_seen, member_seen, members_seen};
+ghost use Rattle.fast_check_signatures.specs.Classes.{declared_by_params, method_kind, method_function_seen, method_seen, member_seen, members_seen};
 ghost use Rattle.fast_check_signatures.specs.Members.{is_hash_named, hash_mark};
 ghost use Rattle.fast_check_tables.specs.PublicRanges.{is_implementation};
-ghost use Rattle.fast_check_classes.specs.Parts.{signed_method, declared_params, declared_by_params, kept_answer};
+ghost use Rattle.fast_check_classes.specs.Parts.{signed_method, declared_params, kept_answer};
+ghost use Rattle.fast_check_bindings.specs.Bindings.{bindings_of};
 
 use crate::constructors::{is_param_property, pattern_among, transform_constructor};
 use crate::properties::{transform_accessor, transform_property};
+use fast_check_bindings::unresolved_context;
 use fast_check_class_forms::{ClassMethod, Constructor};
 use fast_check_class_nodes::{
     hash_private, is_hash_named, is_private, kept_members, param_property, private_method_head,
 };
 use fast_check_helpers::any_type_ann;
+use fast_check_modules::EsModuleInfo;
 use fast_check_ranges::range_of_node;
 use fast_check_signatures::{Fault, FunctionKind};
 use fast_check_syntax::{Items, Kind, Part, SyntaxContext, Tree, Word};
@@ -41,12 +44,12 @@ fn method_kind(kind: Part<'_>) -> FunctionKind
 fn method_function(
     alloc: Global,
     public_ranges: &ModulePublicRanges,
-    unresolved: SyntaxContext,
+    info: &EsModuleInfo,
     member: Part<'_>,
     faults: &mut Vec<Fault>,
 ) -> Result<Tree, AllocError>
     ensures { IfOk result (λ tree.
-        Adds (answer_to (method_function_seen unresolved (is_implementation public_ranges.now) (seen member.entry))) (Some tree)
+        Adds (answer_to (method_function_seen (bindings_of info.now) (is_implementation public_ranges.now) (seen member.entry))) (Some tree)
         faults.old.items faults.new.items) }
 {
     let ClassMethod {
@@ -60,14 +63,7 @@ fn method_function(
         return transform_implementation(alloc, function);
     }
     let kind = method_kind(kind);
-    transform_fn(
-        alloc,
-        unresolved,
-        kind,
-        range_of_node(key),
-        function,
-        faults,
-    )
+    transform_fn(alloc, info, kind, range_of_node(key), function, faults)
 }
 
 /// A method of this function.
@@ -93,18 +89,18 @@ fn signed_method(alloc: Global, member: Part<'_>, function: Tree) -> Result<Tree
 fn transform_method(
     alloc: Global,
     public_ranges: &ModulePublicRanges,
-    unresolved: SyntaxContext,
+    info: &EsModuleInfo,
     member: Part<'_>,
     faults: &mut Vec<Fault>,
 ) -> Result<Tree, AllocError>
     ensures { IfOk result (λ tree.
-        Adds (answer_to (method_seen unresolved (is_implementation public_ranges.now) (seen member.entry))) (Some tree) faults.old.items faults.new.items) }
+        Adds (answer_to (method_seen (bindings_of info.now) (is_implementation public_ranges.now) (seen member.entry))) (Some tree) faults.old.items faults.new.items) }
 {
     if is_private(ClassMethod::of(member).accessibility) {
         let any = any_type_ann(alloc)?;
         return private_method_head(alloc, member)?.declared(alloc, any);
     }
-    let function = method_function(alloc, public_ranges, unresolved, member, faults)?;
+    let function = method_function(alloc, public_ranges, info, member, faults)?;
     signed_method(alloc, member, function)
 }
 
@@ -112,20 +108,18 @@ fn transform_method(
 fn transform_member(
     alloc: Global,
     public_ranges: &ModulePublicRanges,
-    unresolved: SyntaxContext,
+    info: &EsModuleInfo,
     member: Part<'_>,
     faults: &mut Vec<Fault>,
 ) -> Result<Tree, AllocError>
     ensures { IfOk result (λ tree.
-        Adds (answer_to (member_seen unresolved (is_implementation public_ranges.now) (seen member.entry))) (Some tree) faults.old.items faults.new.items) }
+        Adds (answer_to (member_seen (bindings_of info.now) (is_implementation public_ranges.now) (seen member.entry))) (Some tree) faults.old.items faults.new.items) }
 {
     match member.kind() {
-        Kind::Constructor => {
-            transform_constructor(alloc, public_ranges, unresolved, member, faults)
-        }
-        Kind::ClassMethod => transform_method(alloc, public_ranges, unresolved, member, faults),
-        Kind::ClassProp => transform_property(alloc, unresolved, member, faults),
-        Kind::AutoAccessor => transform_accessor(alloc, unresolved, member, faults),
+        Kind::Constructor => { transform_constructor(alloc, public_ranges, info, member, faults) }
+        Kind::ClassMethod => transform_method(alloc, public_ranges, info, member, faults),
+        Kind::ClassProp => transform_property(alloc, info, member, faults),
+        Kind::AutoAccessor => transform_accessor(alloc, info, member, faults),
         _ => member.to_tree(alloc),
     }
 }
@@ -213,16 +207,16 @@ fn made_members(
 fn transform_kept(
     alloc: Global,
     public_ranges: &ModulePublicRanges,
-    unresolved: SyntaxContext,
+    info: &EsModuleInfo,
     kept: &[Part<'_>],
     mut items: Items<Tree>,
     faults: &mut Vec<Fault>,
 ) -> Result<Items<Tree>, AllocError>
     ensures { IfOk result (λ all.
-        Adds (made (λ ts. items ++ ts) (kept_answer unresolved (is_implementation public_ranges.now) (map seen kept.now))) all faults.old.items faults.new.items) }
+        Adds (made (λ ts. items ++ ts) (kept_answer (bindings_of info.now) (is_implementation public_ranges.now) (map seen kept.now))) all faults.old.items faults.new.items) }
 {
     for member in kept {
-        items.push(transform_member(alloc, public_ranges, unresolved, *member, faults)?)?;
+        items.push(transform_member(alloc, public_ranges, info, *member, faults)?)?;
     }
     Ok(items)
 }
@@ -231,22 +225,15 @@ fn transform_kept(
 pub fn transform_members(
     alloc: Global,
     public_ranges: &ModulePublicRanges,
-    unresolved: SyntaxContext,
+    info: &EsModuleInfo,
     body: Part<'_>,
     faults: &mut Vec<Fault>,
 ) -> Result<Items<Tree>, AllocError>
     ensures { IfOk result (λ items.
-        Adds (answer_of (members_seen unresolved (is_implementation public_ranges.now) (parts (seen body.entry)))) items faults.old.items faults.new.items) }
+        Adds (answer_of (members_seen (bindings_of info.now) (is_implementation public_ranges.now) (parts (seen body.entry)))) items faults.old.items faults.new.items) }
 {
     let members = body.parts();
     let kept = kept_members(alloc, members)?;
-    let items = made_members(alloc, unresolved, members, kept.as_slice())?;
-    transform_kept(
-        alloc,
-        public_ranges,
-        unresolved,
-        kept.as_slice(),
-        items,
-        faults,
-    )
+    let items = made_members(alloc, unresolved_context(info), members, kept.as_slice())?;
+    transform_kept(alloc, public_ranges, info, kept.as_slice(), items, faults)
 }

@@ -2,13 +2,16 @@ ghost use Rattle.std.specs.Prelude.{◌≡◌, IfOk, Some};
 ghost use Rattle.fast_check_syntax.specs.Part.{seen};
 ghost use Rattle.fast_check_signatures.specs.Answers.{Adds, answer_to};
 ghost use Rattle.fast_check_classes.specs.Parts.{value_answer, untyped_answer, property_answer, accessor_type, accessor_answer};
+ghost use Rattle.fast_check_bindings.specs.Bindings.{bindings_of};
 
+use fast_check_bindings::unresolved_context;
 use fast_check_class_forms::{AutoAccessor, ClassProp};
 use fast_check_class_nodes::{accessor_head, is_private, mutability_of_property, property_head};
 use fast_check_helpers::{DeclMutabilityKind, any_type_ann, maybe_infer_type, type_ann};
+use fast_check_modules::EsModuleInfo;
 use fast_check_ranges::range_of_node;
 use fast_check_signatures::{Fault, FaultKind};
-use fast_check_syntax::{Part, SyntaxContext, Tree};
+use fast_check_syntax::{Part, Tree};
 use fast_check_values::leave_value;
 use std::alloc::{AllocError, Global};
 
@@ -16,11 +19,11 @@ use std::alloc::{AllocError, Global};
 /// the key.
 fn keep_value(
     alloc: Global,
-    unresolved: SyntaxContext,
+    info: &EsModuleInfo,
     member: Part<'_>,
     faults: &mut Vec<Fault>,
 ) -> Result<Tree, AllocError>
-    ensures { IfOk result (λ tree. Adds (value_answer unresolved (seen member.entry)) tree faults.old.items faults.new.items) }
+    ensures { IfOk result (λ tree. Adds (value_answer (bindings_of info.now) (seen member.entry)) tree faults.old.items faults.new.items) }
 {
     let ClassProp { key, value, .. } = ClassProp::of(member);
     let place = range_of_node(key);
@@ -32,17 +35,17 @@ fn keep_value(
         faults.push(fault)?;
         return Ok(Tree::Absent);
     }
-    leave_value(alloc, unresolved, value, Some(place), fault, faults)
+    leave_value(alloc, info, value, Some(place), fault, faults)
 }
 
 /// A property without a written type, by the type that its value shows, or else with the value as it stays.
 fn untyped_property(
     alloc: Global,
-    unresolved: SyntaxContext,
+    info: &EsModuleInfo,
     member: Part<'_>,
     faults: &mut Vec<Fault>,
 ) -> Result<Tree, AllocError>
-    ensures { IfOk result (λ tree. Adds (untyped_answer unresolved (seen member.entry)) (Some tree) faults.old.items faults.new.items) }
+    ensures { IfOk result (λ tree. Adds (untyped_answer (bindings_of info.now) (seen member.entry)) (Some tree) faults.old.items faults.new.items) }
 {
     let ClassProp {
         value,
@@ -50,13 +53,13 @@ fn untyped_property(
         ..
     } = ClassProp::of(member);
     let mutability = mutability_of_property(readonly);
-    match maybe_infer_type(alloc, value, mutability, unresolved)? {
+    match maybe_infer_type(alloc, value, mutability, unresolved_context(info))? {
         Some(ty) => {
             let ty = type_ann(alloc, ty)?;
             property_head(alloc, member)?.declared(alloc, ty)
         }
         None => {
-            let value = keep_value(alloc, unresolved, member, faults)?;
+            let value = keep_value(alloc, info, member, faults)?;
             property_head(alloc, member)?.valued(alloc, value)
         }
     }
@@ -65,11 +68,11 @@ fn untyped_property(
 /// A property; a private one is of any type.
 pub fn transform_property(
     alloc: Global,
-    unresolved: SyntaxContext,
+    info: &EsModuleInfo,
     member: Part<'_>,
     faults: &mut Vec<Fault>,
 ) -> Result<Tree, AllocError>
-    ensures { IfOk result (λ tree. Adds (property_answer unresolved (seen member.entry)) (Some tree) faults.old.items faults.new.items) }
+    ensures { IfOk result (λ tree. Adds (property_answer (bindings_of info.now) (seen member.entry)) (Some tree) faults.old.items faults.new.items) }
 {
     let ClassProp {
         accessibility,
@@ -80,7 +83,7 @@ pub fn transform_property(
         return property_head(alloc, member)?.declared(alloc, any_type_ann(alloc)?);
     }
     if type_ann.is_absent() {
-        return untyped_property(alloc, unresolved, member, faults);
+        return untyped_property(alloc, info, member, faults);
     }
     property_head(alloc, member)?.declared(alloc, type_ann.to_tree(alloc)?)
 }
@@ -88,10 +91,10 @@ pub fn transform_property(
 /// The type of an accessor, as `: type`, written or that its value shows; a private one is of any type.
 fn accessor_type(
     alloc: Global,
-    unresolved: SyntaxContext,
+    info: &EsModuleInfo,
     member: Part<'_>,
 ) -> Result<Option<Tree>, AllocError>
-    ensures { IfOk result (λ ty. ty ≡ accessor_type unresolved (seen member.entry)) }
+    ensures { IfOk result (λ ty. ty ≡ accessor_type (bindings_of info.now).unresolved (seen member.entry)) }
 {
     let accessor = AutoAccessor::of(member);
     if is_private(accessor.accessibility) {
@@ -104,7 +107,7 @@ fn accessor_type(
         alloc,
         accessor.value,
         DeclMutabilityKind::Mutable,
-        unresolved,
+        unresolved_context(info),
     )? {
         Some(ty) => Ok(Some(type_ann(alloc, ty)?)),
         None => Ok(None),
@@ -114,13 +117,13 @@ fn accessor_type(
 /// An accessor with a public key, which becomes a property; where it shows no type, that is a fault at the key.
 pub fn transform_accessor(
     alloc: Global,
-    unresolved: SyntaxContext,
+    info: &EsModuleInfo,
     member: Part<'_>,
     faults: &mut Vec<Fault>,
 ) -> Result<Tree, AllocError>
-    ensures { IfOk result (λ tree. Adds (accessor_answer unresolved (seen member.entry)) (Some tree) faults.old.items faults.new.items) }
+    ensures { IfOk result (λ tree. Adds (accessor_answer (bindings_of info.now) (seen member.entry)) (Some tree) faults.old.items faults.new.items) }
 {
-    match accessor_type(alloc, unresolved, member)? {
+    match accessor_type(alloc, info, member)? {
         Some(ty) => accessor_head(alloc, member)?.declared(alloc, ty),
         None => {
             faults.push(Fault {

@@ -28,7 +28,7 @@ module _ (around : Surroundings) (decl : Tree) where
   abbrev class_if : Bool → Seen
   class_if a =
       if a then written (ambient_class (ClassDecl-class decl))
-      else plain_class_seen around.unresolved around.is_implementation (ClassDecl-class decl)
+      else plain_class_seen around.bindings around.is_implementation (ClassDecl-class decl)
 
   pub ambient_class_stays : is_ambient_class around decl ≡ true → (old : List Fault) →
       Adds (class_in_answer around decl) (Some (ambient_class (ClassDecl-class decl))) old old
@@ -36,12 +36,12 @@ module _ (around : Surroundings) (decl : Tree) where
   ambient_class_stays e old = adds_same (ap (λ b. answer_to (class_if b)) e) (adds_nothing _ old)
 
   pub plain_class_stays : is_ambient_class around decl ≡ false → {class t : Tree} {old new : List Fault} →
-      Adds (answer_to (plain_class_seen around.unresolved around.is_implementation class)) (Some t) old new → class ≡ ClassDecl-class decl →
+      Adds (answer_to (plain_class_seen around.bindings around.is_implementation class)) (Some t) old new → class ≡ ClassDecl-class decl →
       Adds (class_in_answer around decl) (Some t) old new
   unfolding class_in_answer
   plain_class_stays e h p =
       adds_same (ap (λ b. answer_to (class_if b)) e
-      ∙ ap (λ c. answer_to (plain_class_seen around.unresolved around.is_implementation c)) (sym p)) h
+      ∙ ap (λ c. answer_to (plain_class_seen around.bindings around.is_implementation c)) (sym p)) h
 
   pub made_class : {t : Tree} {old new : List Fault} → Adds (class_in_answer around decl) (Some t) old new →
       Adds (class_answer around decl) (Some (class_decl (ClassDecl-ident decl) (ClassDecl-declare decl) t)) old new

@@ -40,12 +40,12 @@ use Rattle.fast_check_declarations.proofs.Listed.{alone, one_more, whole}
 module _ (around : Surroundings) (place : SourceRange) (value : Tree) where
   pub absent_value : is_absent value ≡ true → (old : List Fault) → Adds (value_answer around place value) None old old
   unfolding value_answer
-  absent_value e old = adds_same (ap (λ b. answer_to (if b then refused else expr_seen around.unresolved value (Some place))) e) (adds_nothing None old)
+  absent_value e old = adds_same (ap (λ b. answer_to (if b then refused else expr_seen around.bindings value (Some place))) e) (adds_nothing None old)
 
   pub present_value : is_absent value ≡ false → {o : Option Tree} {old new : List Fault} →
-      Adds (answer_to (expr_seen around.unresolved value (Some place))) o old new → Adds (value_answer around place value) o old new
+      Adds (answer_to (expr_seen around.bindings value (Some place))) o old new → Adds (value_answer around place value) o old new
   unfolding value_answer
-  present_value e h = adds_same (ap (λ b. answer_to (if b then refused else expr_seen around.unresolved value (Some place))) e) h
+  present_value e h = adds_same (ap (λ b. answer_to (if b then refused else expr_seen around.bindings value (Some place))) e) h
 
 module _ (around : Surroundings) (d : Tree) where
   abbrev name_place : SourceRange
@@ -77,7 +77,7 @@ module _ (around : Surroundings) (d : Tree) where
 
 module _ (around : Surroundings) (mutability : DeclMutabilityKind) (d : Tree) where
   abbrev shown : Option Tree
-  shown = inferred_type mutability around.unresolved (VarDeclarator-init d)
+  shown = inferred_type mutability around.bindings.unresolved (VarDeclarator-init d)
 
   abbrev ident_if : Bool → Option Tree → Seen
   ident_if absent o = if absent then untyped_seen around d o else written (typed_declarator (declarator_head d) (declared_type d))
@@ -213,7 +213,7 @@ module _ (around : Surroundings) (place : SourceRange) (decl : Tree) where
   abbrev signature_if : Bool → Seen
   signature_if b =
       if b then implementation_seen (FnDecl-function decl)
-      else function_seen around.unresolved (expr_seen around.unresolved) DeclarationLike (Ident-span (FnDecl-ident decl)) (FnDecl-function decl)
+      else function_seen around.bindings (expr_seen around.bindings) DeclarationLike (Ident-span (FnDecl-ident decl)) (FnDecl-function decl)
 
   pub implementation : around.is_implementation place ≡ true → {f t : Tree} → f ≡ FnDecl-function decl →
       answer_to (implementation_seen f) ≡ faultless (Some t) → (old : List Fault) → Adds (signature_answer around place decl) (Some t) old old
@@ -222,12 +222,12 @@ module _ (around : Surroundings) (place : SourceRange) (decl : Tree) where
       adds_same (ap (λ b. answer_to (signature_if b)) e ∙ (ap (λ f. answer_to (implementation_seen f)) (sym q) ∙ p)) (adds_nothing _ old)
 
   pub signature : around.is_implementation place ≡ false → {name : SourceRange} {function t : Tree} {old new : List Fault} →
-      Adds (answer_to (function_seen around.unresolved (expr_seen around.unresolved) DeclarationLike name function)) (Some t) old new →
+      Adds (answer_to (function_seen around.bindings (expr_seen around.bindings) DeclarationLike name function)) (Some t) old new →
       name ≡ Ident-span (FnDecl-ident decl) → function ≡ FnDecl-function decl → Adds (signature_answer around place decl) (Some t) old new
   unfolding signature_answer
   signature e h p q =
       adds_same (ap (λ b. answer_to (signature_if b)) e
-      ∙ (λ i. answer_to (function_seen around.unresolved (expr_seen around.unresolved) DeclarationLike (sym p i) (sym q i)))) h
+      ∙ (λ i. answer_to (function_seen around.bindings (expr_seen around.bindings) DeclarationLike (sym p i) (sym q i)))) h
 
   abbrev decl_if : Bool → Seen
   decl_if b = if b then written decl else round FnDecl (seens (written (FnDecl-ident decl) ∷ flag (FnDecl-declare decl) ∷ signature_of around place decl ∷ []))

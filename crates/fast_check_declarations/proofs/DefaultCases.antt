@@ -32,15 +32,15 @@ module _ (around : Surroundings) (t : Tree) where
   abbrev wrong : Fault
   wrong = fault_at UnsupportedDefaultExportExpr (ExportDefaultExpr-span t)
 
-  pub value_stays : {expr x : Tree} {o : Option Tree} {old new : List Fault} → Adds (answer_to (expr_seen around.unresolved expr None)) o old new →
+  pub value_stays : {expr x : Tree} {o : Option Tree} {old new : List Fault} → Adds (answer_to (expr_seen around.bindings expr None)) o old new →
       expr ≡ ExportDefaultExpr-expr t → o ≡ Some x → Adds (default_value_answer around t) (Some (export_default_expr (ExportDefaultExpr-span t) x)) old new
   unfolding default_value_answer
   value_stays {old = old} {new = new} h p e =
       adds_made (λ v. Some (export_default_expr (ExportDefaultExpr-span t) v))
-      (adds_demanded wrong (subst (λ x. Adds (answer_to (expr_seen around.unresolved (ExportDefaultExpr-expr t) None)) x old new) e
-      (adds_same (ap (λ v. answer_to (expr_seen around.unresolved v None)) (sym p)) h)))
+      (adds_demanded wrong (subst (λ x. Adds (answer_to (expr_seen around.bindings (ExportDefaultExpr-expr t) None)) x old new) e
+      (adds_same (ap (λ v. answer_to (expr_seen around.bindings v None)) (sym p)) h)))
 
-  pub value_goes : {expr : Tree} {o : Option Tree} {old new : List Fault} → Adds (answer_to (expr_seen around.unresolved expr None)) o old new →
+  pub value_goes : {expr : Tree} {o : Option Tree} {old new : List Fault} → Adds (answer_to (expr_seen around.bindings expr None)) o old new →
       expr ≡ ExportDefaultExpr-expr t → o ≡ None → {span : SourceRange} → span ≡ ExportDefaultExpr-span t → {all : List Fault} →
       all ≡ new ++ fault_at UnsupportedDefaultExportExpr span ∷ [] →
       Adds (default_value_answer around t) (Some (export_default_expr (ExportDefaultExpr-span t) Absent)) old all
@@ -49,18 +49,18 @@ module _ (around : Surroundings) (t : Tree) where
       subst (λ fs. Adds (answer_to (default_value_seen around t)) (Some (export_default_expr (ExportDefaultExpr-span t) Absent)) old fs)
       (sym (f ∙ ap (λ r. new ++ fault_at UnsupportedDefaultExportExpr r ∷ []) s))
       (adds_made (λ v. Some (export_default_expr (ExportDefaultExpr-span t) v))
-      (adds_missing wrong (subst (λ x. Adds (answer_to (expr_seen around.unresolved (ExportDefaultExpr-expr t) None)) x old new) e
-      (adds_same (ap (λ v. answer_to (expr_seen around.unresolved v None)) (sym p)) h))))
+      (adds_missing wrong (subst (λ x. Adds (answer_to (expr_seen around.bindings (ExportDefaultExpr-expr t) None)) x old new) e
+      (adds_same (ap (λ v. answer_to (expr_seen around.bindings v None)) (sym p)) h))))
 
 -- ---- classes
 
 pub made_class : (around : Surroundings) (decl : Tree) {class t : Tree} {old new : List Fault} →
-    Adds (answer_to (plain_class_seen around.unresolved around.is_implementation class)) (Some t) old new → class ≡ ClassExpr-class decl →
+    Adds (answer_to (plain_class_seen around.bindings around.is_implementation class)) (Some t) old new → class ≡ ClassExpr-class decl →
     Adds (default_class_answer around decl) (Some (node ClassExpr (ClassExpr-ident decl ∷ t ∷ []))) old new
 unfolding default_class_answer
 made_class around decl {new = new} h p =
     adds_made (option_map (node ClassExpr)) (adds_visited (adds_nothing (Some (ClassExpr-ident decl)) _)
-    (adds_visited (adds_same (ap (λ c. answer_to (plain_class_seen around.unresolved around.is_implementation c)) (sym p)) h) (adds_nothing (Some []) new)))
+    (adds_visited (adds_same (ap (λ c. answer_to (plain_class_seen around.bindings around.is_implementation c)) (sym p)) h) (adds_nothing (Some []) new)))
 
 -- ---- functions
 
@@ -68,7 +68,7 @@ module _ (around : Surroundings) (place : SourceRange) (decl : Tree) where
   abbrev signature_if : Bool → Seen
   signature_if b =
       if b then implementation_seen (FnExpr-function decl)
-      else function_seen around.unresolved (expr_seen around.unresolved) DeclarationLike (default_place decl) (FnExpr-function decl)
+      else function_seen around.bindings (expr_seen around.bindings) DeclarationLike (default_place decl) (FnExpr-function decl)
 
   pub implementation : around.is_implementation place ≡ true → {f t : Tree} → f ≡ FnExpr-function decl →
       answer_to (implementation_seen f) ≡ faultless (Some t) → (old : List Fault) → Adds (default_signature_answer around place decl) (Some t) old old
@@ -77,12 +77,12 @@ module _ (around : Surroundings) (place : SourceRange) (decl : Tree) where
       adds_same (ap (λ b. answer_to (signature_if b)) e ∙ (ap (λ f. answer_to (implementation_seen f)) (sym q) ∙ p)) (adds_nothing _ old)
 
   pub signature : around.is_implementation place ≡ false → {name : SourceRange} {function t : Tree} {old new : List Fault} →
-      Adds (answer_to (function_seen around.unresolved (expr_seen around.unresolved) DeclarationLike name function)) (Some t) old new →
+      Adds (answer_to (function_seen around.bindings (expr_seen around.bindings) DeclarationLike name function)) (Some t) old new →
       name ≡ default_place decl → function ≡ FnExpr-function decl → Adds (default_signature_answer around place decl) (Some t) old new
   unfolding default_signature_answer
   signature e h p q =
       adds_same (ap (λ b. answer_to (signature_if b)) e
-      ∙ (λ i. answer_to (function_seen around.unresolved (expr_seen around.unresolved) DeclarationLike (sym p i) (sym q i)))) h
+      ∙ (λ i. answer_to (function_seen around.bindings (expr_seen around.bindings) DeclarationLike (sym p i) (sym q i)))) h
 
   abbrev decl_if : Bool → Seen
   decl_if b = if b then written decl else round FnExpr (seens (written (FnExpr-ident decl) ∷ default_signature around place decl ∷ []))

@@ -44,7 +44,13 @@ fn keep_class_of(
     if is_ambient_class(asked, decl) {
         return ambient_class(alloc, class);
     }
-    transform_class(alloc, asked.public_ranges, asked.unresolved, class, faults)
+    transform_class(
+        alloc,
+        asked.public_ranges,
+        asked.es_module_info,
+        class,
+        faults,
+    )
 }
 
 /// A class declaration.

@@ -12,6 +12,7 @@ ghost use Rattle.fast_check_declarations.specs.PartAnswers.{retyped, value_answe
 ghost use Rattle.fast_check_declarations.specs.PartAnswers.{declarator_answer, public_answer, declarators_answer, statement_answer, standing_answer};
 ghost use Rattle.fast_check_declarations.specs.PartAnswers.{using_answer};
 
+use fast_check_bindings::unresolved_context;
 use fast_check_helpers::{DeclMutabilityKind, maybe_infer_type, never_value, type_ann};
 use fast_check_links::Asked;
 use fast_check_program_forms::{BindingIdent, Ident};
@@ -72,7 +73,7 @@ fn keep_value(
     if value.is_absent() {
         return Ok(None);
     }
-    leave_expr(alloc, asked.unresolved, value, Some(place), faults)
+    leave_expr(alloc, asked.es_module_info, value, Some(place), faults)
 }
 
 /// A declarator without type, with the value that gives it. Where there is none that may stay, that is a fault at the
@@ -116,7 +117,12 @@ fn ident_declarator(
     if !ty.is_absent() {
         return retyped(alloc, declarator, ty.to_tree(alloc)?, never_value(alloc)?);
     }
-    match maybe_infer_type(alloc, init, mutability, asked.unresolved)? {
+    match maybe_infer_type(
+        alloc,
+        init,
+        mutability,
+        unresolved_context(asked.es_module_info),
+    )? {
         Some(ty) => retyped(alloc, declarator, type_ann(alloc, ty)?, never_value(alloc)?),
         None => valued_declarator(alloc, asked, declarator, faults),
     }

@@ -51,7 +51,7 @@ fn keep_value(
     ensures { IfOk result (λ tree. Adds (default_value_answer (Asked-around asked.entry) (seen item.entry)) (Some tree) faults.old.items faults.new.items) }
 {
     let ExportDefaultExpr { span, expr } = ExportDefaultExpr::of(item);
-    match leave_expr(alloc, asked.unresolved, expr, None, faults)? {
+    match leave_expr(alloc, asked.es_module_info, expr, None, faults)? {
         Some(expr) => ExportDefaultExpr { span, expr }.into_tree(alloc),
         None => {
             faults.push(Fault {
@@ -76,7 +76,13 @@ fn keep_class(
     let ClassExpr { ident, class } = ClassExpr::of(decl);
     let made = ClassExpr {
         ident: ident.to_tree(alloc)?,
-        class: transform_class(alloc, asked.public_ranges, asked.unresolved, class, faults)?,
+        class: transform_class(
+            alloc,
+            asked.public_ranges,
+            asked.es_module_info,
+            class,
+            faults,
+        )?,
     };
     made.into_tree(alloc)
 }
@@ -111,7 +117,7 @@ fn transform_signature(
     }
     transform_fn(
         alloc,
-        asked.unresolved,
+        asked.es_module_info,
         FunctionKind::DeclarationLike,
         default_place(decl),
         function,

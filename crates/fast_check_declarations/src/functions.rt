@@ -34,7 +34,7 @@ fn transform_signature(
     let name = Ident::of(ident).span;
     transform_fn(
         alloc,
-        asked.unresolved,
+        asked.es_module_info,
         FunctionKind::DeclarationLike,
         name,
         function,

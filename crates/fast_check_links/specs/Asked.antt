@@ -3,16 +3,18 @@ use Rattle.fast_check_tables.specs.MediaType.{is_declaration}
 use Rattle.fast_check_tables.specs.PublicRanges.{PublicRanges, is_public, is_implementation}
 use Rattle.fast_check_graph.specs.declared.graph.ModuleGraph.{ModuleGraph}
 use Rattle.fast_check_modules.specs.EsModule.{EsModule}
+use Rattle.fast_check_bindings.specs.Bindings.{bindings_of}
 use Rattle.fast_check_sources.specs.Sources.{relative_source}
 use Rattle.fast_check_skeleton.specs.Surroundings.{Surroundings}
 use Rattle.fast_check_links.specs.declared.asked.Asked.{Asked}
 
--- what a module's skeleton depends on beside its tree: what is public of it, whether it is a declaration file, all of which is ambient, and where the graph leads its sources
+-- what a module's skeleton depends on beside its tree: what is public of it, what is known of its names, whether it is a declaration file, all of which is
+-- ambient, and where the graph leads its sources
 abbrev pub surroundings_of : ModuleGraph → EsModule → PublicRanges → Surroundings
 surroundings_of graph info public = record {
   is_public = is_public public;
   is_implementation = is_implementation public;
-  unresolved = info.source.unresolved_context;
+  bindings = bindings_of info;
   is_ambient = is_declaration info.source.media_type;
   relative = relative_source graph info.specifier;
 }
@@ -22,7 +24,7 @@ abbrev pub Asked-around : Asked → Surroundings
 Asked-around asked = record {
   is_public = is_public asked.public_ranges.now;
   is_implementation = is_implementation asked.public_ranges.now;
-  unresolved = asked.unresolved;
+  bindings = bindings_of asked.es_module_info.now;
   is_ambient = asked.is_ambient;
   relative = relative_source asked.graph.now asked.es_module_info.now.specifier;
 }

@@ -3,7 +3,7 @@ ghost use Rattle.std.specs.Prelude.{◌≡◌};
 use fast_check_graph::ModuleGraph;
 use fast_check_modules::EsModuleInfo;
 use fast_check_statement_forms::TsModuleDecl;
-use fast_check_syntax::{Part, SyntaxContext};
+use fast_check_syntax::Part;
 use fast_check_tables::ModulePublicRanges;
 
 /// What the transform asks beside the tree.
@@ -13,8 +13,6 @@ pub struct Asked<'a> {
     pub graph: &'a ModuleGraph,
     pub es_module_info: &'a EsModuleInfo,
     pub public_ranges: &'a ModulePublicRanges,
-    /// The scope number of the names that nothing in the module binds.
-    pub unresolved: SyntaxContext,
     /// Whether all that stands here is ambient: in a declaration file, or inside of a namespace with `declare`.
     pub is_ambient: bool,
 }
@@ -36,7 +34,6 @@ impl<'a> Asked<'a> {
             graph,
             es_module_info,
             public_ranges,
-            unresolved: es_module_info.source().unresolved_context,
             is_ambient: es_module_info.source().media_type.is_declaration(),
         }
     }
@@ -49,7 +46,6 @@ impl<'a> Asked<'a> {
             graph: self.graph,
             es_module_info: self.es_module_info,
             public_ranges: self.public_ranges,
-            unresolved: self.unresolved,
             is_ambient: self.is_ambient || TsModuleDecl::of(decl).declare,
         }
     }

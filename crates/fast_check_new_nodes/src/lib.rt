@@ -3,7 +3,6 @@
 
 mod nodes;
 mod patterns;
-mod rows;
 mod signed;
 
 pub use nodes::{
@@ -14,5 +13,4 @@ pub use patterns::{
     default_type, emptied_array, emptied_object, rest_arg, with_default, with_pattern,
     without_default,
 };
-pub use rows::row_of;
 pub use signed::{kept_arrow, or_own, signed_arrow, signed_function};

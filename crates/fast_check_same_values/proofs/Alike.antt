@@ -2,19 +2,20 @@
 use Rattle.std.specs.Prelude.{◌≡◌, Bool, ◌&&◌, Option, None, List, ◌∷◌, map, refl}
 use Rattle.std.specs.List.{list_all}
 use Rattle.std.proofs.Common.{ap₂, ◌∙◌, sym, subst, subst₂}
+use Rattle.fast_check_syntax.specs.declared.atom.Id.{Id}
 use Rattle.fast_check_syntax.specs.declared.kind.Kind.{Kind}
 use Rattle.fast_check_syntax.specs.declared.kind.Kind.TheVariants as kinds
 use Rattle.fast_check_syntax.specs.declared.source.SourceRange.{SourceRange}
-use Rattle.fast_check_syntax.specs.declared.source.SyntaxContext.{SyntaxContext}
 use Rattle.fast_check_syntax.specs.declared.tree.Tree.{Tree}
 use Rattle.fast_check_syntax.specs.Shape.{parts}
-use Rattle.fast_check_syntax.specs.Moves.{Renaming, IsRenaming, IsPair, partners, twice}
+use Rattle.fast_check_syntax.specs.Moves.{Renaming, IsRenaming, partners, twice}
 use Rattle.fast_check_syntax.specs.Same.{SameTree}
 use Rattle.fast_check_syntax.proofs.Partners.{partners-keep as partners_keep, twice-keeps as twice_keeps}
 use Rattle.fast_check_syntax.proofs.Same.{tree_to, range_to}
 use Rattle.fast_check_class_forms.specs.Functions.{Function-span, Function-params, Param-pat}
 use Rattle.fast_check_expression_forms.specs.Expressions.{ArrowExpr-span, ArrowExpr-params, FnExpr-function}
 use Rattle.fast_check_helpers.specs.OptionalParams.{is_optional_param}
+use Rattle.fast_check_signatures.specs.Bindings.{Bindings}
 use Rattle.fast_check_signatures.specs.declared.function_kind.FunctionKind.{FunctionKind}
 use Rattle.fast_check_signatures.specs.declared.function_kind.FunctionKind.TheVariants.{ExpressionLike}
 use Rattle.fast_check_signatures.specs.declared.rules.TheConstants.{SATISFIES, ASSERTION, FN_EXPR}
@@ -22,23 +23,24 @@ use Rattle.fast_check_signatures.specs.Seen.{Seen, written}
 use Rattle.fast_check_signatures.specs.NewNodes.{never_in_parens}
 use Rattle.fast_check_signatures.specs.Parameters.{pat_seen, pats_seen}
 use Rattle.fast_check_signatures.specs.Functions.{or_own, function_seen, params_seen, arrow_by_type, arrow_seen}
-use Rattle.fast_check_signatures.specs.Expressions.{freezes, Rule, slotted, arrow, rule, expr_form, expr_seen}
-use Rattle.fast_check_same_values.specs.SameValues.{Both, SameFunctionHead, SameArrowHead, SameExpr, SameExprs, SameArrowBody}
+use Rattle.fast_check_signatures.specs.Expressions.{is_known, Rule, slotted, arrow, rule, expr_form, expr_seen}
+use Rattle.fast_check_same_values.specs.SameValues.{SameBindings, Both, SameFunctionHead, SameArrowHead, SameExpr, SameExprs, SameArrowBody}
 use Rattle.fast_check_same_values.specs.SameValues.{SameFunction, SameParams, SamePats, SamePat}
 use Rattle.fast_check_same_values.specs.SameValues as s
 use Rattle.fast_check_signatures.proofs.Looks.{expr_seen_is}
 use Rattle.fast_check_signatures.proofs.NewNodesMoved.{never_in_parens_moved}
 use Rattle.fast_check_signatures.proofs.SeenMoved.{expr_seen_moved, pat_seen_moved}
-use Rattle.fast_check_same_values.proofs.AlikeTrees.{RangeAlike, scope_to, new_alike}
+use Rattle.fast_check_same_values.proofs.AlikeBindings.{is_plain_name, left_moves, right_moves, bindings_to}
+use Rattle.fast_check_same_values.proofs.AlikeTrees.{RangeAlike, new_alike}
 use Rattle.fast_check_same_values.proofs.AlikeSeen.{Alike, AllAlike, written_alike, same_written, range_alike, scope_alike}
 use Rattle.fast_check_same_values.proofs.AlikeParameters.{PlaceAlike, same_optional, emptied_optional, rest_optional, assign_optional, emptied_alike}
 use Rattle.fast_check_same_values.proofs.AlikeParameters.{rest_alike, typed_default_alike, shown_default_alike, kept_default_alike, typed_pattern_alike}
 use Rattle.fast_check_same_values.proofs.AlikeParameters.{kept_pattern_alike}
 use Rattle.fast_check_same_values.proofs.AlikeFunctions.{or_own_alike, signature_of_alike, param_alike, typed_alike, classed_alike, shown_value_alike}
 use Rattle.fast_check_same_values.proofs.AlikeFunctions.{kept_value_alike}
-use Rattle.fast_check_same_values.proofs.AlikeExpressions.{refused_alike, RuleAlike, kind_alike, compound_alike, frozen_alike}
+use Rattle.fast_check_same_values.proofs.AlikeExpressions.{refused_alike, RuleAlike, kind_alike, compound_alike, frozen_alike, made_alike}
 
-module _ (r : Renaming) (ok : IsRenaming r) (c d : SyntaxContext) (pair : IsPair r.scopes c.0 d.0) where
+module _ (r : Renaming) (ok : IsRenaming r) (c d : Bindings) (pair : SameBindings r c d) where
   -- ---- which parameters may be left out
 
   optional_alike : {t u : Tree} → SamePat r c d t u → is_optional_param t ≡ is_optional_param u
@@ -66,21 +68,24 @@ module _ (r : Renaming) (ok : IsRenaming r) (c d : SyntaxContext) (pair : IsPair
 
   -- ---- equal trees
 
+  abbrev common : Id → Bool
+  common = is_plain_name r c d
+
   same_expr_alike : (t u : Tree) (p q : Option SourceRange) → SameTree r t u → PlaceAlike r ok p q → Alike r ok (expr_seen c t p) (expr_seen d u q)
   same_expr_alike t u p q e f =
-      sym (expr_seen_moved (partners r) (partners_keep r ok) c t p) ∙
-      ((λ i. expr_seen (scope_to r ok c d pair i) (tree_to r ok e i) (f i)) ∙ expr_seen_moved twice twice_keeps d u q)
+      sym (expr_seen_moved (partners r) (partners_keep r ok) c common (left_moves r c d pair) t p) ∙
+      ((λ i. expr_seen (bindings_to r c d ok pair i) (tree_to r ok e i) (f i)) ∙ expr_seen_moved twice twice_keeps d common (right_moves r c d) u q)
 
   same_pat_alike : (b : Bool) (t u : Tree) → SameTree r t u → Alike r ok (pat_seen c (expr_seen c) b t) (pat_seen d (expr_seen d) b u)
   same_pat_alike b t u e =
-      sym (pat_seen_moved (partners r) (partners_keep r ok) c b t) ∙
-      ((λ i. pat_seen (scope_to r ok c d pair i) (expr_seen (scope_to r ok c d pair i)) b (tree_to r ok e i)) ∙ pat_seen_moved twice twice_keeps d b u)
+      sym (pat_seen_moved (partners r) (partners_keep r ok) c common (left_moves r c d pair) b t) ∙
+      ((λ i. pat_seen (bindings_to r c d ok pair i) (expr_seen (bindings_to r c d ok pair i)) b (tree_to r ok e i)) ∙ pat_seen_moved twice twice_keeps d common (right_moves r c d) b u)
 
   by_form : (t u : Tree) (p q : Option SourceRange) → Alike r ok (expr_form c t (expr_seen c) p) (expr_form d u (expr_seen d) q) →
       Alike r ok (expr_seen c t p) (expr_seen d u q)
   by_form t u p q e = subst₂ (Alike r ok) (sym (expr_seen_is c t p)) (sym (expr_seen_is d u q)) e
 
-  by_kind : (t u : Tree) (p q : Option SourceRange) (k : Kind) (x : Rule) → Both k t u → rule k (freezes c t) ≡ x → rule k (freezes d u) ≡ x →
+  by_kind : (t u : Tree) (p q : Option SourceRange) (k : Kind) (x : Rule) → Both k t u → rule k (is_known c t) ≡ x → rule k (is_known d u) ≡ x →
       RuleAlike r ok c d (expr_seen c) (expr_seen d) t u p q x → Alike r ok (expr_seen c t p) (expr_seen d u q)
   by_kind t u p q k x b e f alike = by_form t u p q (kind_alike r ok c d (expr_seen c) (expr_seen d) t u p q k x b e f alike)
 
@@ -103,6 +108,9 @@ module _ (r : Renaming) (ok : IsRenaming r) (c d : SyntaxContext) (pair : IsPair
         by_kind t u p q kinds.TsTypeAssertion (slotted ASSERTION) b refl refl (range_alike r ok _ _ a, (never_alike, (same_written r ok e, tt)))
     expr_alike (s.frozen {t = t} {u = u} b b' a n callee x types) p q f =
         by_form t u p q (frozen_alike r ok c d (expr_seen c) (expr_seen d) t u p q b b'
+        (range_alike r ok _ _ a, (scope_alike r ok _ _ n, (same_written r ok callee, (expr_alike x None None refl, (same_written r ok types, tt))))))
+    expr_alike (s.made {t = t} {u = u} b b' a n callee x types) p q f =
+        by_form t u p q (made_alike r ok c d (expr_seen c) (expr_seen d) t u p q b b'
         (range_alike r ok _ _ a, (scope_alike r ok _ _ n, (same_written r ok callee, (expr_alike x None None refl, (same_written r ok types, tt))))))
     expr_alike (s.function {t = t} {u = u} b e x) p q f =
         let left = Function-span (FnExpr-function t) in let right = Function-span (FnExpr-function u) in
@@ -131,7 +139,7 @@ module _ (r : Renaming) (ok : IsRenaming r) (c d : SyntaxContext) (pair : IsPair
     arrow_body_alike (s.classed_arrow {t = t} {u = u} b f) p q pats pats' h e ps =
         classed_alike r ok c d (expr_seen c) (expr_seen d) t u p q pats pats' h e ps b f
     arrow_body_alike (s.shown_value {t = t} {u = u} n f) p q pats pats' h e ps =
-        shown_value_alike r ok c d (expr_seen c) (expr_seen d) t u p q pats pats' h e ps pair n f
+        shown_value_alike r ok c d (expr_seen c) (expr_seen d) t u p q pats pats' h e ps pair.unresolved n f
     arrow_body_alike (s.kept_value {t = t} {u = u} n f x) p q pats pats' h e ps =
         kept_value_alike r ok c d (expr_seen c) (expr_seen d) t u p q pats pats' h e ps n f (expr_alike x None None refl)
 

@@ -10,7 +10,7 @@ use Rattle.fast_check_syntax.specs.declared.source.SourceRange.{SourceRange}
 use Rattle.fast_check_syntax.specs.declared.source.SyntaxContext.{SyntaxContext}
 use Rattle.fast_check_syntax.specs.declared.tree.Tree.{Tree, Absent}
 use Rattle.fast_check_syntax.specs.Shape.{◌is◌, kind_of, parts, is_absent, has_word, none_range, list}
-use Rattle.fast_check_syntax.specs.Moves.{Moves, Keeps, Renaming, IsRenaming, IsPair, partners, twice, moved}
+use Rattle.fast_check_syntax.specs.Moves.{Moves, Keeps, Renaming, IsRenaming, partners, twice, moved}
 use Rattle.fast_check_syntax.specs.Same.{SameTree, SameRange, Each}
 use Rattle.fast_check_syntax.proofs.Moved.{node_moved, range_moved, text_moved, kind_of_moved, part_moved, range_of_moved, text_of_moved, flag_of_moved, has_word_moved}
 use Rattle.fast_check_syntax.proofs.Partners.{partners-keep as partners_keep, twice-keeps as twice_keeps}
@@ -33,6 +33,7 @@ use Rattle.fast_check_helpers.specs.declared.literal_type.DeclMutabilityKind.{De
 use Rattle.fast_check_helpers.specs.Builders.{any_type_ann, never_value}
 use Rattle.fast_check_helpers.specs.InferredType.{inferred_type}
 use Rattle.fast_check_helpers.proofs.BuildersMoved.{never_value_moved}
+use Rattle.fast_check_signatures.specs.Bindings.{Bindings}
 use Rattle.fast_check_signatures.specs.declared.fault.FaultKind.TheVariants.{UnsupportedDestructuring, UnsupportedSuperClassExpr}
 use Rattle.fast_check_signatures.specs.declared.function_kind.FunctionKind.{FunctionKind}
 use Rattle.fast_check_signatures.specs.declared.function_kind.FunctionKind.TheVariants.{DeclarationLike, Getter, Setter}
@@ -52,7 +53,7 @@ use Rattle.fast_check_signatures.specs.Classes.{param_property, declared_by_para
 use Rattle.fast_check_signatures.proofs.NewNodesMoved.{never_array_in_parens_moved, new_block_moved, hash_private_moved}
 use Rattle.fast_check_signatures.proofs.MovedParts.{moved_seen, moved_class, field_moved}
 use Rattle.fast_check_signatures.proofs.References.{is_reference_moved}
-use Rattle.fast_check_same_values.specs.SameValues.{Both}
+use Rattle.fast_check_same_values.specs.SameValues.{SameBindings, Both}
 use Rattle.fast_check_same_values.specs.SameClasses.{SameParamType, SameParamProperty, SameSuperCall, SameSuperCalls, SameConstructorHead, SameConstructed}
 use Rattle.fast_check_same_values.specs.SameClasses.{plain_params, SameConstructor, SameMethod, SameSigned, SameMember, SameMembers, SameClassHead, SameClass}
 use Rattle.fast_check_same_values.specs.SameClasses.{SameAmbientMembers, SameAmbientClass}
@@ -150,7 +151,7 @@ module _ (r : Renaming) (ok : IsRenaming r) where
   plain_block ts us e =
       new_block_moved (partners r) (partners_keep r ok) ts ∙ (ap new_block e ∙ sym (new_block_moved twice twice_keeps us))
 
-  module _ (c d : SyntaxContext) (f g : SourceRange → Bool) where
+  module _ (c d : Bindings) (f g : SourceRange → Bool) where
     super_call_alike : (t u : Tree) → SameSuperCall r c d f g t u → TreeAlike r ok (super_call t) (super_call u)
     super_call_alike t u h =
         let call = node_alike r ok kinds.CallExpr _ _ (λ i.
@@ -223,26 +224,26 @@ module _ (r : Renaming) (ok : IsRenaming r) where
     -- the type that a default shows
     abbrev ShownAlike : Tree → Tree → Type 0
     ShownAlike t u =
-        option_map (moved (partners r)) (default_type c f (mutability_of_property (TsParamProp-readonly t)) (TsParamProp-param t)) ≡
-        option_map (moved twice) (default_type d g (mutability_of_property (TsParamProp-readonly u)) (TsParamProp-param u))
+        option_map (moved (partners r)) (default_type c.unresolved (mutability_of_property (TsParamProp-readonly t)) (TsParamProp-param t)) ≡
+        option_map (moved twice) (default_type d.unresolved (mutability_of_property (TsParamProp-readonly u)) (TsParamProp-param u))
 
-    of_default : (unresolved : SyntaxContext) (test : SourceRange → Bool) (mutability : DeclMutabilityKind) (pat : Tree) → kind_of pat ≡ kinds.AssignPat →
-        default_type unresolved test mutability pat ≡ inferred_type mutability unresolved (AssignPat-right pat)
-    of_default unresolved test mutability pat e =
+    of_default : (unresolved : SyntaxContext) (mutability : DeclMutabilityKind) (pat : Tree) → kind_of pat ≡ kinds.AssignPat →
+        default_type unresolved mutability pat ≡ inferred_type mutability unresolved (AssignPat-right pat)
+    of_default unresolved mutability pat e =
         ap (λ k. if k is kinds.AssignPat then inferred_type mutability unresolved (AssignPat-right pat) else None) e
 
-    no_default : (unresolved : SyntaxContext) (test : SourceRange → Bool) (mutability : DeclMutabilityKind) (pat : Tree) →
-        kind_of pat is kinds.AssignPat ≡ false → default_type unresolved test mutability pat ≡ None
-    no_default unresolved test mutability pat e = ap (λ b. if b then inferred_type mutability unresolved (AssignPat-right pat) else None) e
+    no_default : (unresolved : SyntaxContext) (mutability : DeclMutabilityKind) (pat : Tree) →
+        kind_of pat is kinds.AssignPat ≡ false → default_type unresolved mutability pat ≡ None
+    no_default unresolved mutability pat e = ap (λ b. if b then inferred_type mutability unresolved (AssignPat-right pat) else None) e
 
     -- what the defaults of two parameter properties show, one `readonly` where the other is
     shown_alike : (t u : Tree) → TsParamProp-readonly t ≡ TsParamProp-readonly u → (x y : Option Tree) →
-        default_type c f (mutability_of_property (TsParamProp-readonly t)) (TsParamProp-param t) ≡ x →
-        default_type d g (mutability_of_property (TsParamProp-readonly t)) (TsParamProp-param u) ≡ y →
+        default_type c.unresolved (mutability_of_property (TsParamProp-readonly t)) (TsParamProp-param t) ≡ x →
+        default_type d.unresolved (mutability_of_property (TsParamProp-readonly t)) (TsParamProp-param u) ≡ y →
         option_map (moved (partners r)) x ≡ option_map (moved twice) y → ShownAlike t u
     shown_alike t u e x y p q h =
         ap (option_map (moved (partners r))) p ∙ (h ∙ ap (option_map (moved twice))
-        (sym q ∙ ap (λ b. default_type d g (mutability_of_property b) (TsParamProp-param u)) e))
+        (sym q ∙ ap (λ b. default_type d.unresolved (mutability_of_property b) (TsParamProp-param u)) e))
 
     abbrev param_type : Tree → Tree
     param_type p = BindingIdent-type_ann (param_target p)
@@ -258,41 +259,41 @@ module _ (r : Renaming) (ok : IsRenaming r) where
     types_if x x' y y' true false n n' q j h w = cc
     types_if x x' y y' false true n n' q j h w = cc
 
-    abbrev shown_type : SyntaxContext → (SourceRange → Bool) → Tree → Tree
-    shown_type unresolved test p = type_or_none (default_type unresolved test (mutability_of_property (TsParamProp-readonly p)) (TsParamProp-param p))
+    abbrev shown_type : SyntaxContext → Tree → Tree
+    shown_type unresolved p = type_or_none (default_type unresolved (mutability_of_property (TsParamProp-readonly p)) (TsParamProp-param p))
 
     abbrev ParamTypeAlike : Tree → Tree → Type 0
-    ParamTypeAlike t u = TreeAlike r ok (param_property_type c f t) (param_property_type d g u)
+    ParamTypeAlike t u = TreeAlike r ok (param_property_type c.unresolved t) (param_property_type d.unresolved u)
 
     types_alike : (t u : Tree) → SameTree r (TsParamProp-accessibility t) (TsParamProp-accessibility u) → SameTree r (param_type t) (param_type u) →
         (is_absent (param_type t) ≡ true → ShownAlike t u) → ParamTypeAlike t u
     types_alike t u a e h =
-        types_if (shown_type c f t) (shown_type d g u) (param_type t) (param_type u) (is_private (TsParamProp-accessibility t))
+        types_if (shown_type c.unresolved t) (shown_type d.unresolved u) (param_type t) (param_type u) (is_private (TsParamProp-accessibility t))
         (is_private (TsParamProp-accessibility u)) (is_absent (param_type t)) (is_absent (param_type u)) (private_alike r ok _ _ a)
         (λ p. absent_alike r ok _ _ (tree_to r ok e)) (λ p n. type_or_none_alike _ _ (h n)) (λ p n. tree_to r ok e)
 
     param_type_alike : (t u : Tree) → SameTree r (TsParamProp-accessibility t) (TsParamProp-accessibility u) →
         TsParamProp-readonly t ≡ TsParamProp-readonly u → SameParamType r c d f g t u → ParamTypeAlike t u
     param_type_alike t u a o (s.SameParamType.any p) =
-        types_if (shown_type c f t) (shown_type d g u) (param_type t) (param_type u) (is_private (TsParamProp-accessibility t))
+        types_if (shown_type c.unresolved t) (shown_type d.unresolved u) (param_type t) (param_type u) (is_private (TsParamProp-accessibility t))
         (is_private (TsParamProp-accessibility u)) (is_absent (param_type t)) (is_absent (param_type u)) (private_alike r ok _ _ a)
         (λ n. cc) (λ n. cc) (λ n. cc)
     param_type_alike t u a o (s.SameParamType.typed e w) = types_alike t u a e (λ n. cc)
     param_type_alike t u a o (s.SameParamType.inferred e k x) = types_alike t u a e (λ n.
-        shown_alike t u o (Some x.left) (Some x.right) (of_default c f _ _ k.left ∙ x.left_is) (of_default d g _ _ k.right ∙ x.right_is)
+        shown_alike t u o (Some x.left) (Some x.right) (of_default c.unresolved _ _ k.left ∙ x.left_is) (of_default d.unresolved _ _ k.right ∙ x.right_is)
         (ap Some (tree_to r ok x.types)))
     param_type_alike t u a o (s.SameParamType.untyped e k n) = types_alike t u a e (λ m.
-        shown_alike t u o None None (of_default c f _ _ k.left ∙ n.left) (of_default d g _ _ k.right ∙ n.right) refl)
+        shown_alike t u o None None (of_default c.unresolved _ _ k.left ∙ n.left) (of_default d.unresolved _ _ k.right ∙ n.right) refl)
     param_type_alike t u a o (s.SameParamType.bare e k) = types_alike t u a e (λ m.
-        shown_alike t u o None None (no_default c f _ _ k.left) (no_default d g _ _ k.right) refl)
+        shown_alike t u o None None (no_default c.unresolved _ _ k.left) (no_default d.unresolved _ _ k.right) refl)
 
-    param_property_alike : (t u : Tree) → SameParamProperty r c d f g t u → TreeAlike r ok (param_property c f t) (param_property d g u)
+    param_property_alike : (t u : Tree) → SameParamProperty r c d f g t u → TreeAlike r ok (param_property c.unresolved t) (param_property d.unresolved u)
     param_property_alike t u h =
-        declared_alike r ok (param_property_head t) (param_property_head u) (param_property_type c f t) (param_property_type d g u) (param_head_alike t u h)
+        declared_alike r ok (param_property_head t) (param_property_head u) (param_property_type c.unresolved t) (param_property_type d.unresolved u) (param_head_alike t u h)
         (param_type_alike t u h.accessibility h.readonly h.type)
 
     properties_alike : (ts us : List Tree) → Each (SameParamProperty r c d f g) ts us →
-        AllAlike r ok (map written (map (param_property c f) ts)) (map written (map (param_property d g) us))
+        AllAlike r ok (map written (map (param_property c.unresolved) ts)) (map written (map (param_property d.unresolved) us))
     properties_alike [] [] e = refl
     properties_alike (t ∷ ts) (u ∷ us) e = λ i. written (param_property_alike t u e.0 i) ∷ properties_alike ts us e.1 i
     properties_alike [] (u ∷ us) e = absurd e
@@ -321,7 +322,7 @@ module _ (r : Renaming) (ok : IsRenaming r) where
         lists_if _ _ [] _ [] _ (private_alike r ok _ _ h.accessibility) (λ p. refl) (λ p.
         lists_if (f (Constructor-span t)) (g (Constructor-span u)) _ _ _ _ (e ∙ (q ∙ sym j)) (λ k. x (sym e ∙ k)) (λ k. y (sym e ∙ k)))
 
-    module _ (pair : IsPair r.scopes c.0 d.0) where
+    module _ (pair : SameBindings r c d) where
       constructed : (t u : Tree) → SameConstructorHead r c d f g t u → SameConstructed r c d f g t u →
           AllAlike r ok (constructor_params_seen c f t) (constructor_params_seen d g u) → Alike r ok (constructor_seen c f t) (constructor_seen d g u)
       constructed t u h x ps =
@@ -347,22 +348,22 @@ module _ (r : Renaming) (ok : IsRenaming r) where
 
       -- the properties that constructors declare
       abbrev DeclaredAlike : Tree → Tree → Type 0
-      DeclaredAlike t u = AllAlike r ok (map written (declared_by_params c f t)) (map written (declared_by_params d g u))
+      DeclaredAlike t u = AllAlike r ok (map written (declared_by_params c.unresolved t)) (map written (declared_by_params d.unresolved u))
 
       of_constructors : (t u : Tree) → Both kinds.Constructor t u →
-          AllAlike r ok (map written (unless_any (patterns_among (param_properties t)) (map (param_property c f) (param_properties t))))
-          (map written (unless_any (patterns_among (param_properties u)) (map (param_property d g) (param_properties u)))) → DeclaredAlike t u
+          AllAlike r ok (map written (unless_any (patterns_among (param_properties t)) (map (param_property c.unresolved) (param_properties t))))
+          (map written (unless_any (patterns_among (param_properties u)) (map (param_property d.unresolved) (param_properties u)))) → DeclaredAlike t u
       of_constructors t u b e =
-          let made = unless_any (patterns_among (param_properties t)) (map (param_property c f) (param_properties t)) in
-          let made' = unless_any (patterns_among (param_properties u)) (map (param_property d g) (param_properties u)) in
+          let made = unless_any (patterns_among (param_properties t)) (map (param_property c.unresolved) (param_properties t)) in
+          let made' = unless_any (patterns_among (param_properties u)) (map (param_property d.unresolved) (param_properties u)) in
           subst₂ (λ k j. AllAlike r ok (map written (if k is kinds.Constructor then made else [])) (map written (if j is kinds.Constructor then made' else [])))
           (sym b.left) (sym b.right) e
 
       declares_named : (t u : Tree) → Both kinds.Constructor t u → SameConstructed r c d f g t u → DeclaredAlike t u
       declares_named t u b x =
           let named' = all_named (param_properties t) (param_properties u) x.properties in
-          of_constructors t u b (subst₂ (λ xs ys. AllAlike r ok (map written (unless_any xs (map (param_property c f) (param_properties t))))
-          (map written (unless_any ys (map (param_property d g) (param_properties u))))) (sym named'.0) (sym named'.1)
+          of_constructors t u b (subst₂ (λ xs ys. AllAlike r ok (map written (unless_any xs (map (param_property c.unresolved) (param_properties t))))
+          (map written (unless_any ys (map (param_property d.unresolved) (param_properties u))))) (sym named'.0) (sym named'.1)
           (properties_alike (param_properties t) (param_properties u) x.properties))
 
       declares : (t u : Tree) → Both kinds.Constructor t u → SameConstructor r c d f g t u → DeclaredAlike t u
@@ -370,15 +371,15 @@ module _ (r : Renaming) (ok : IsRenaming r) where
       declares t u b (s.SameConstructor.plain x e j ps) = declares_named t u b x
       declares t u b (s.SameConstructor.implementation x e j ps) = declares_named t u b x
       declares t u b (s.SameConstructor.destructured p q ps qs e j x) =
-          of_constructors t u b (subst₂ (λ xs ys. AllAlike r ok (map written (unless_any xs (map (param_property c f) (param_properties t))))
-          (map written (unless_any ys (map (param_property d g) (param_properties u))))) (sym e) (sym j) refl)
+          of_constructors t u b (subst₂ (λ xs ys. AllAlike r ok (map written (unless_any xs (map (param_property c.unresolved) (param_properties t))))
+          (map written (unless_any ys (map (param_property d.unresolved) (param_properties u))))) (sym e) (sym j) refl)
 
       declares_none : (k : Kind) (t u : Tree) → Both k t u → k is kinds.Constructor ≡ false → DeclaredAlike t u
-      declares_none k t u b n = subst₂ (AllAlike r ok) (sym (none c f t b.left)) (sym (none d g u b.right)) refl
+      declares_none k t u b n = subst₂ (AllAlike r ok) (sym (none c.unresolved t b.left)) (sym (none d.unresolved u b.right)) refl
         where
-          none : (unresolved : SyntaxContext) (test : SourceRange → Bool) (m : Tree) → kind_of m ≡ k → map written (declared_by_params unresolved test m) ≡ []
-          none unresolved test m e = ap (λ b. map written (if b then
-              unless_any (patterns_among (param_properties m)) (map (param_property unresolved test) (param_properties m)) else []))
+          none : (unresolved : SyntaxContext) (m : Tree) → kind_of m ≡ k → map written (declared_by_params unresolved m) ≡ []
+          none unresolved m e = ap (λ b. map written (if b then
+              unless_any (patterns_among (param_properties m)) (map (param_property unresolved) (param_properties m)) else []))
               (ap (λ x. x is kinds.Constructor) e ∙ n)
 
       -- ---- methods
@@ -388,11 +389,11 @@ module _ (r : Renaming) (ok : IsRenaming r) where
           ap₂ (λ x y. if x then Setter else (if y then Getter else DeclarationLike)) (word_alike words.Setter t u (tree_to r ok e))
           (word_alike words.Getter t u (tree_to r ok e))
 
-      abbrev here : SyntaxContext → Tree → FunctionKind → Seen
-      here unresolved m kind = function_seen unresolved (expr_seen unresolved) kind (range_of_node (ClassMethod-key m)) (ClassMethod-function m)
+      abbrev here : Bindings → Tree → FunctionKind → Seen
+      here bindings m kind = function_seen bindings (expr_seen bindings) kind (range_of_node (ClassMethod-key m)) (ClassMethod-function m)
 
-      abbrev signed_if : SyntaxContext → Tree → Bool → Seen
-      signed_if unresolved m b = if b then implementation_seen (ClassMethod-function m) else here unresolved m (method_kind (ClassMethod-kind m))
+      abbrev signed_if : Bindings → Tree → Bool → Seen
+      signed_if bindings m b = if b then implementation_seen (ClassMethod-function m) else here bindings m (method_kind (ClassMethod-kind m))
 
       method_function_alike : (t u : Tree) → SameTree r (ClassMethod-key t) (ClassMethod-key u) → SameTree r (ClassMethod-kind t) (ClassMethod-kind u) →
           SameMethod r c d f g t u → Alike r ok (method_function_seen c f t) (method_function_seen d g u)
@@ -449,7 +450,7 @@ module _ (r : Renaming) (ok : IsRenaming r) where
       -- what is seen of members that stay, and what they declare
       record KeptAlike (ts us : List Tree) : Type 0 where
         seen : AllAlike r ok (map (member_seen c f) ts) (map (member_seen d g) us)
-        declared : AllAlike r ok (map written (flat_map (declared_by_params c f) ts)) (map written (flat_map (declared_by_params d g) us))
+        declared : AllAlike r ok (map written (flat_map (declared_by_params c.unresolved) ts)) (map written (flat_map (declared_by_params d.unresolved) us))
 
       abbrev kept_behind : List Tree → List Tree → List Tree
       kept_behind earlier ms = each_behind if_kept earlier ms
@@ -459,8 +460,8 @@ module _ (r : Renaming) (ok : IsRenaming r) where
       next_kept false false t u ts us e x rest = rest
       next_kept true true t u ts us e x rest = record {
         seen = λ i. member_alike t u x i ∷ rest.seen i;
-        declared = subst₂ (AllAlike r ok) (sym (map-append written (declared_by_params c f t) (flat_map (declared_by_params c f) ts)))
-            (sym (map-append written (declared_by_params d g u) (flat_map (declared_by_params d g) us)))
+        declared = subst₂ (AllAlike r ok) (sym (map-append written (declared_by_params c.unresolved t) (flat_map (declared_by_params c.unresolved) ts)))
+            (sym (map-append written (declared_by_params d.unresolved u) (flat_map (declared_by_params d.unresolved) us)))
             (append_alike r ok _ _ _ _ (declared_by_alike t u x) rest.declared);
       }
       next_kept true false t u ts us e x rest = cc
@@ -495,8 +496,8 @@ module _ (r : Renaming) (ok : IsRenaming r) where
       all_members_alike ts us h x =
           let kept = members_alike [] [] ts us (record { names = λ name. refl; implementations = refl }) x in
           append_alike r ok _ _ _ _
-          (subst₂ (AllAlike r ok) (sym (map-append written (hash_mark ts) (flat_map (declared_by_params c f) (kept_behind [] ts))))
-          (sym (map-append written (hash_mark us) (flat_map (declared_by_params d g) (kept_behind [] us))))
+          (subst₂ (AllAlike r ok) (sym (map-append written (hash_mark ts) (flat_map (declared_by_params c.unresolved) (kept_behind [] ts))))
+          (sym (map-append written (hash_mark us) (flat_map (declared_by_params d.unresolved) (kept_behind [] us))))
           (append_alike r ok _ _ _ _ (mark_alike _ _ h) kept.declared)) kept.seen
 
       class_head_alike : (t u : Tree) → SameClassHead r c d f g t u → moved_class (partners r) (class_head t) ≡ moved_class twice (class_head u)

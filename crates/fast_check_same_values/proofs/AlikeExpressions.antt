@@ -4,26 +4,26 @@ use Rattle.std.proofs.Common.{ap, ap₂, ◌∙◌, sym, subst₂}
 use Rattle.fast_check_syntax.specs.declared.kind.Kind.{Kind}
 use Rattle.fast_check_syntax.specs.declared.kind.Kind.TheVariants as kinds
 use Rattle.fast_check_syntax.specs.declared.source.SourceRange.{SourceRange}
-use Rattle.fast_check_syntax.specs.declared.source.SyntaxContext.{SyntaxContext}
 use Rattle.fast_check_syntax.specs.declared.tree.Tree.{Tree}
 use Rattle.fast_check_syntax.specs.Shape.{◌is◌, is_kind, kind_of, part, parts}
 use Rattle.fast_check_syntax.specs.Moves.{Renaming, IsRenaming}
 use Rattle.fast_check_syntax.specs.Same.{SameTree}
-use Rattle.fast_check_signatures.specs.declared.rules.TheConstants.{FREEZE}
+use Rattle.fast_check_signatures.specs.Bindings.{Bindings}
+use Rattle.fast_check_signatures.specs.declared.rules.TheConstants.{FREEZE, NEW}
 use Rattle.fast_check_signatures.specs.declared.rules.Slot.{Slot}
 use Rattle.fast_check_signatures.specs.Parameters.{Look}
 use Rattle.fast_check_signatures.specs.Functions.{arrow_seen}
-use Rattle.fast_check_signatures.specs.Expressions.{is_plain, is_compound, freezes, is_frozen, Rule, whole, parted, slotted, arrow, not_at_all, other_rule}
+use Rattle.fast_check_signatures.specs.Expressions.{is_plain, is_compound, freezes, is_frozen, makes_plain, is_made, known_by_kind, is_known, Rule, whole, parted, slotted, arrow, not_at_all, other_rule}
 use Rattle.fast_check_signatures.specs.Expressions.{rule, is_refused, slot_seen, slots_seen, by_rule, expr_form}
 use Rattle.fast_check_signatures.proofs.Choices.{both_true}
 use Rattle.fast_check_signatures.proofs.Refused.{refused_rule}
 use Rattle.fast_check_same_values.specs.SameValues.{Both}
 use Rattle.fast_check_same_values.proofs.AlikeSeen.{Alike, AllAlike, same_written, round_alike}
 
-compound_rule : (k : Kind) (freezing : Bool) → is_compound k ≡ true → rule k freezing ≡ parted
-compound_rule k freezing e = ap (λ b. if b then parted else (if is_plain k then whole else other_rule k freezing)) e
+compound_rule : (k : Kind) (known : Bool) → is_compound k ≡ true → rule k known ≡ parted
+compound_rule k known e = ap (λ b. if b then parted else (if is_plain k then whole else other_rule k known)) e
 
-module _ (r : Renaming) (ok : IsRenaming r) (c d : SyntaxContext) (look look' : Look) (t u : Tree) (p q : Option SourceRange) where
+module _ (r : Renaming) (ok : IsRenaming r) (c d : Bindings) (look look' : Look) (t u : Tree) (p q : Option SourceRange) where
   abbrev pub FormAlike : Type 0
   FormAlike = Alike r ok (expr_form c t look p) (expr_form d u look' q)
 
@@ -54,17 +54,27 @@ module _ (r : Renaming) (ok : IsRenaming r) (c d : SyntaxContext) (look look' : 
   rule_alike arrow k e = e
   rule_alike not_at_all k e = refl
 
-  pub kind_alike : (k : Kind) (x : Rule) → Both k t u → rule k (freezes c t) ≡ x → rule k (freezes d u) ≡ x → RuleAlike x → FormAlike
+  pub kind_alike : (k : Kind) (x : Rule) → Both k t u → rule k (is_known c t) ≡ x → rule k (is_known d u) ≡ x → RuleAlike x → FormAlike
   kind_alike k x b e f alike =
-      subst₂ (Alike r ok) (sym (λ i. by_rule c ((ap (λ k. rule k (freezes c t)) b.left ∙ e) i) (b.left i) t look p))
-      (sym (λ i. by_rule d ((ap (λ k. rule k (freezes d u)) b.right ∙ f) i) (b.right i) u look' q)) (rule_alike x k alike)
+      subst₂ (Alike r ok) (sym (λ i. by_rule c ((ap (λ k. rule k (is_known c t)) b.left ∙ e) i) (b.left i) t look p))
+      (sym (λ i. by_rule d ((ap (λ k. rule k (is_known d u)) b.right ∙ f) i) (b.right i) u look' q)) (rule_alike x k alike)
 
   pub compound_alike : (k : Kind) → Both k t u → is_compound k ≡ true → RuleAlike parted → FormAlike
-  compound_alike k b e alike = kind_alike k parted b (compound_rule k (freezes c t) e) (compound_rule k (freezes d u) e) alike
+  compound_alike k b e alike = kind_alike k parted b (compound_rule k (is_known c t) e) (compound_rule k (is_known d u) e) alike
+
+  -- of a kind that stays where it is known
+  known_alike : (k : Kind) (x : Rule) → Both k t u → rule k true ≡ x → known_by_kind k c t ≡ true → known_by_kind k d u ≡ true → RuleAlike x → FormAlike
+  known_alike k x b same e f alike =
+      kind_alike k x b (ap (rule k) (ap (λ j. known_by_kind j c t) b.left ∙ e) ∙ same) (ap (rule k) (ap (λ j. known_by_kind j d u) b.right ∙ f) ∙ same) alike
 
   pub frozen_alike : is_frozen c t ≡ true → is_frozen d u ≡ true → RuleAlike (slotted FREEZE) → FormAlike
   frozen_alike e f alike =
       let x = both_true (kind_of t is kinds.CallExpr) (freezes c t) e in
       let y = both_true (kind_of u is kinds.CallExpr) (freezes d u) f in
-      kind_alike kinds.CallExpr (slotted FREEZE) (record { left = is_kind _ _ x.0; right = is_kind _ _ y.0 }) (ap (rule kinds.CallExpr) x.1)
-      (ap (rule kinds.CallExpr) y.1) alike
+      known_alike kinds.CallExpr (slotted FREEZE) (record { left = is_kind _ _ x.0; right = is_kind _ _ y.0 }) refl x.1 y.1 alike
+
+  pub made_alike : is_made c t ≡ true → is_made d u ≡ true → RuleAlike (slotted NEW) → FormAlike
+  made_alike e f alike =
+      let x = both_true (kind_of t is kinds.NewExpr) (makes_plain c t) e in
+      let y = both_true (kind_of u is kinds.NewExpr) (makes_plain d u) f in
+      known_alike kinds.NewExpr (slotted NEW) (record { left = is_kind _ _ x.0; right = is_kind _ _ y.0 }) refl x.1 y.1 alike

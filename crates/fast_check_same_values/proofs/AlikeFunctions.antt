@@ -3,7 +3,6 @@ use Rattle.std.specs.Prelude.{◌≡◌, ℕ, suc, Bool, true, false, Option, So
 use Rattle.std.proofs.Common.{ap, ap₂, ◌∙◌, sym, subst₂, true≢false}
 use Rattle.fast_check_syntax.specs.declared.kind.Kind.TheVariants.{Param, BlockStmt, RestPat}
 use Rattle.fast_check_syntax.specs.declared.source.SourceRange.{SourceRange}
-use Rattle.fast_check_syntax.specs.declared.source.SyntaxContext.{SyntaxContext}
 use Rattle.fast_check_syntax.specs.declared.tree.Tree.{Tree, Absent}
 use Rattle.fast_check_syntax.specs.Shape.{◌is◌, kind_of, parts, is_absent, list}
 use Rattle.fast_check_syntax.specs.Moves.{Renaming, IsRenaming, IsPair, partners, twice, moved, moved_range}
@@ -22,6 +21,7 @@ use Rattle.fast_check_helpers.specs.Builders.{type_ann, any_type_ann}
 use Rattle.fast_check_helpers.specs.InferredType.{inferred_type}
 use Rattle.fast_check_helpers.specs.ReturnClass.{return_class}
 use Rattle.fast_check_helpers.proofs.BuildersMoved.{type_ann_moved, any_type_ann_moved}
+use Rattle.fast_check_signatures.specs.Bindings.{Bindings}
 use Rattle.fast_check_signatures.specs.declared.function_kind.FunctionKind.{FunctionKind}
 use Rattle.fast_check_signatures.specs.declared.function_kind.FunctionKind.TheVariants.{DeclarationLike, ExpressionLike, Getter}
 use Rattle.fast_check_signatures.specs.Seen.{Seen, written, range, function, typed_arrow, valued_arrow, faulty}
@@ -75,7 +75,7 @@ module _ (r : Renaming) (ok : IsRenaming r) where
 
   -- ---- signatures
 
-  module _ (c d : SyntaxContext) where
+  module _ (c d : Bindings) where
     function_head_alike : (t u : Tree) → SameFunctionHead r c d t u → moved_function (partners r) (function_head t) ≡ moved_function twice (function_head u)
     function_head_alike t u h = λ i. record {
       span = range_to r ok (Function-span t) (Function-span u) h.span i;
@@ -191,10 +191,10 @@ module _ (r : Renaming) (ok : IsRenaming r) where
       typed_alike w = by_type_alike (λ a. absurd (true≢false (sym a ∙ w)))
 
       -- the body is a block
-      abbrev untyped_at : SyntaxContext → Look → Tree → SourceRange → List Seen → Bool → Seen
-      untyped_at unresolved f v place ss is_block =
+      abbrev untyped_at : Bindings → Look → Tree → SourceRange → List Seen → Bool → Seen
+      untyped_at bindings f v place ss is_block =
           if is_block then typed_arrow_seen v ss (class_seen ExpressionLike (ArrowExpr-is_async v) place (return_class (ArrowExpr-body v)))
-          else by_value unresolved f v place ss (inferred_type Mutable unresolved (ArrowExpr-body v))
+          else by_value bindings f v place ss (inferred_type Mutable bindings.unresolved (ArrowExpr-body v))
 
       pub classed_alike : Both BlockStmt (ArrowExpr-body t) (ArrowExpr-body u) → return_class (ArrowExpr-body t) ≡ return_class (ArrowExpr-body u) → ArrowAlike
       classed_alike k classes =
@@ -209,26 +209,26 @@ module _ (r : Renaming) (ok : IsRenaming r) where
 
       -- the body is a value
       valued_alike : Neither BlockStmt (ArrowExpr-body t) (ArrowExpr-body u) →
-          Alike r ok (by_value c look t p pats (inferred_type Mutable c (ArrowExpr-body t)))
-          (by_value d look' u q pats' (inferred_type Mutable d (ArrowExpr-body u))) → ArrowAlike
+          Alike r ok (by_value c look t p pats (inferred_type Mutable c.unresolved (ArrowExpr-body t)))
+          (by_value d look' u q pats' (inferred_type Mutable d.unresolved (ArrowExpr-body u))) → ArrowAlike
       valued_alike n f = by_type_alike (λ a. subst₂ (Alike r ok) (sym (ap (untyped_at c look t p pats) n.left))
           (sym (ap (untyped_at d look' u q pats') n.right)) f)
 
-      pub shown_value_alike : IsPair r.scopes c.0 d.0 → Neither BlockStmt (ArrowExpr-body t) (ArrowExpr-body u) →
+      pub shown_value_alike : IsPair r.scopes c.unresolved.0 d.unresolved.0 → Neither BlockStmt (ArrowExpr-body t) (ArrowExpr-body u) →
           SameShown r c d (ArrowExpr-body t) (ArrowExpr-body u) → ArrowAlike
       shown_value_alike pair n s =
-          let type = type_ann (promised c (ArrowExpr-is_async t) s.left) in
-          let type' = type_ann (promised d (ArrowExpr-is_async u) s.right) in
+          let type = type_ann (promised c.unresolved (ArrowExpr-is_async t) s.left) in
+          let type' = type_ann (promised d.unresolved (ArrowExpr-is_async u) s.right) in
           valued_alike n (subst₂ (λ x y. Alike r ok (by_value c look t p pats x) (by_value d look' u q pats' y)) (sym s.left_is) (sym s.right_is)
           (typed_arrow_alike t u pats pats' (written type) (written type') h ps
-          (written_alike r ok type type' (image_alike r ok type_ann (λ m keeps t. sym (type_ann_moved m keeps t)) (promised c (ArrowExpr-is_async t) s.left)
-          (promised d (ArrowExpr-is_async u) s.right)
+          (written_alike r ok type type' (image_alike r ok type_ann (λ m keeps t. sym (type_ann_moved m keeps t)) (promised c.unresolved (ArrowExpr-is_async t) s.left)
+          (promised d.unresolved (ArrowExpr-is_async u) s.right)
           (promised_alike pair (ArrowExpr-is_async t) (ArrowExpr-is_async u) s.left s.right h.is_async (tree_to r ok s.types))))))
         where
-          promised_alike : IsPair r.scopes c.0 d.0 → (a b : Bool) (x y : Tree) → a ≡ b → TreeAlike r ok x y → TreeAlike r ok (promised c a x) (promised d b y)
+          promised_alike : IsPair r.scopes c.unresolved.0 d.unresolved.0 → (a b : Bool) (x y : Tree) → a ≡ b → TreeAlike r ok x y → TreeAlike r ok (promised c.unresolved a x) (promised d.unresolved b y)
           promised_alike pair a b x y f g =
-              sym (promised_moved (partners r) (partners_keep r ok) c a x)
-              ∙ ((λ i. promised (scope_to r ok c d pair i) (f i) (g i)) ∙ promised_moved twice twice_keeps d b y)
+              sym (promised_moved (partners r) (partners_keep r ok) c.unresolved a x)
+              ∙ ((λ i. promised (scope_to r ok c.unresolved d.unresolved pair i) (f i) (g i)) ∙ promised_moved twice twice_keeps d.unresolved b y)
 
       pub kept_value_alike : Neither BlockStmt (ArrowExpr-body t) (ArrowExpr-body u) → NoneShown r c d (ArrowExpr-body t) (ArrowExpr-body u) →
           Alike r ok (look (ArrowExpr-body t) None) (look' (ArrowExpr-body u) None) → ArrowAlike

@@ -8,7 +8,6 @@ use Rattle.fast_check_syntax.specs.declared.kind.Kind.{Kind}
 use Rattle.fast_check_syntax.specs.declared.kind.Kind.TheVariants as kinds
 use Rattle.fast_check_syntax.specs.declared.kind.Word.TheVariants.{Private}
 use Rattle.fast_check_syntax.specs.declared.source.SourceRange.{SourceRange}
-use Rattle.fast_check_syntax.specs.declared.source.SyntaxContext.{SyntaxContext}
 use Rattle.fast_check_syntax.specs.declared.tree.Tree.{Tree}
 use Rattle.fast_check_syntax.specs.Shape.{◌is◌, is_kind, kind_of, is_absent, text_of, has_word}
 use Rattle.fast_check_syntax.specs.Moves.{Moves, Keeps, Renaming, IsRenaming, moved}
@@ -18,6 +17,7 @@ use Rattle.fast_check_syntax.proofs.Same.{tree_to}
 use Rattle.fast_check_class_forms.specs.Classes.{Constructor-body, Constructor-accessibility}
 use Rattle.fast_check_class_forms.specs.Fields.{ClassProp-key, ClassProp-accessibility, AutoAccessor-key, AutoAccessor-accessibility}
 use Rattle.fast_check_class_forms.specs.Methods.{ClassMethod-key, ClassMethod-accessibility}
+use Rattle.fast_check_signatures.specs.Bindings.{Bindings}
 use Rattle.fast_check_signatures.specs.Members.{is_private, is_computed, text_of_key_kind, key_text, is_hash_named_kind, is_hash_named, is_private_method_of}
 use Rattle.fast_check_signatures.specs.Members.{is_private_implementation, is_first_of_name, is_first_implementation, stays_by_kind, stays_behind}
 use Rattle.fast_check_signatures.specs.Members.{is_private_computed_kind, is_private_computed}
@@ -279,7 +279,7 @@ module _ (r : Renaming) (ok : IsRenaming r) where
         implementations = λ i. ((ap (λ x. x is kinds.Constructor) (b.left ∙ sym b.right)) i) && (private i && not (k i));
       }
 
-  module _ (c d : SyntaxContext) (f g : SourceRange → Bool) where
+  module _ (c d : Bindings) (f g : SourceRange → Bool) where
     pub stays_alike : (t u : Tree) → SameMember r c d f g t u → StaysAlike t u
     stays_alike t u (s.SameMember.constructor h x) = constructors t u h.kinds h.accessibility h.has_body
     stays_alike t u (s.SameMember.private_method b h p) = methods t u b h.accessibility h.key

@@ -4,7 +4,6 @@ use Rattle.std.proofs.Common.{ap, ap₂, ◌∙◌, sym, subst₂, true≢false}
 use Rattle.fast_check_syntax.specs.declared.kind.Kind.{Kind}
 use Rattle.fast_check_syntax.specs.declared.kind.Kind.TheVariants as kinds
 use Rattle.fast_check_syntax.specs.declared.source.SourceRange.{SourceRange}
-use Rattle.fast_check_syntax.specs.declared.source.SyntaxContext.{SyntaxContext}
 use Rattle.fast_check_syntax.specs.declared.tree.Tree as tree
 use Rattle.fast_check_syntax.specs.declared.tree.Tree.{Tree}
 use Rattle.fast_check_syntax.specs.Shape.{◌is◌, kind_of, is_absent, list}
@@ -22,6 +21,7 @@ use Rattle.fast_check_helpers.specs.InferredType.{inferred_type}
 use Rattle.fast_check_helpers.specs.OptionalParams.{is_optional_param}
 use Rattle.fast_check_helpers.proofs.BuildersMoved.{type_ann_moved, never_value_moved}
 use Rattle.fast_check_helpers.proofs.ReturnsMoved.{is_optional_param_moved}
+use Rattle.fast_check_signatures.specs.Bindings.{Bindings}
 use Rattle.fast_check_signatures.specs.declared.fault.FaultKind.TheVariants.{MissingExplicitType}
 use Rattle.fast_check_signatures.specs.Seen.{Seen, written, default, faulty}
 use Rattle.fast_check_signatures.specs.NewNodes.{never_array}
@@ -37,14 +37,14 @@ use Rattle.fast_check_same_values.proofs.AlikeSeen.{Alike, written_alike, faulty
 
 -- ---- what a parameter of each kind is seen as
 
-module _ (unresolved : SyntaxContext) (look : Look) (is_optional : Bool) (pat : Tree) where
-  pat_of : (k : Kind) → kind_of pat ≡ k → pat_seen unresolved look is_optional pat ≡ pat_by_kind unresolved look k is_optional pat
-  pat_of k e = ap (λ k. pat_by_kind unresolved look k is_optional pat) e
+module _ (bindings : Bindings) (look : Look) (is_optional : Bool) (pat : Tree) where
+  pat_of : (k : Kind) → kind_of pat ≡ k → pat_seen bindings look is_optional pat ≡ pat_by_kind bindings look k is_optional pat
+  pat_of k e = ap (λ k. pat_by_kind bindings look k is_optional pat) e
 
   -- a default, by the kind of the pattern that has it
   default_of : (k : Kind) → kind_of pat ≡ kinds.AssignPat → kind_of (AssignPat-left pat) ≡ k →
-      pat_seen unresolved look is_optional pat ≡ assign_by_left unresolved look k is_optional pat
-  default_of k e f = pat_of kinds.AssignPat e ∙ ap (λ k. assign_by_left unresolved look k is_optional pat) f
+      pat_seen bindings look is_optional pat ≡ assign_by_left bindings look k is_optional pat
+  default_of k e f = pat_of kinds.AssignPat e ∙ ap (λ k. assign_by_left bindings look k is_optional pat) f
 
 -- whether a parameter is optional, by its kind
 abbrev optional_at : Tree → Kind → Bool
@@ -107,7 +107,7 @@ module _ (r : Renaming) (ok : IsRenaming r) where
   default_alike a b p q left left' value value' s e f g =
       λ i. default (record { span = range_to r ok a b s i; left = f i; place = e i }) (g i)
 
-  module _ (c d : SyntaxContext) where
+  module _ (c d : Bindings) where
     rest_arg_alike : (t u : Tree) → SameEmptied r c d t u → TreeAlike r ok (rest_arg t) (rest_arg u)
     rest_arg_alike t u (s.array k a o e) = subst₂ (TreeAlike r ok) (sym (ap (λ k. arg_by_kind k t) k.left)) (sym (ap (λ k. arg_by_kind k u) k.right))
         (array_emptied t u a o e)
@@ -167,14 +167,14 @@ module _ (r : Renaming) (ok : IsRenaming r) where
 
       -- ---- identifiers with defaults
 
-      abbrev shown : SyntaxContext → Look → Tree → Option Tree → Seen
-      shown unresolved f pat = by_shown unresolved f b pat
+      abbrev shown : Bindings → Look → Tree → Option Tree → Seen
+      shown bindings f pat = by_shown bindings f b pat
 
       -- by the written type, or else as `by_shown` says
       ident_default_alike : (t u : Tree) → Both kinds.AssignPat t u → Both kinds.BindingIdent (AssignPat-left t) (AssignPat-left u) →
           SameTree r (AssignPat-left t) (AssignPat-left u) →
           (is_absent (BindingIdent-type_ann (AssignPat-left t)) ≡ true →
-          Alike r ok (shown c look t (inferred_type Mutable c (AssignPat-right t))) (shown d look' u (inferred_type Mutable d (AssignPat-right u)))) →
+          Alike r ok (shown c look t (inferred_type Mutable c.unresolved (AssignPat-right t))) (shown d look' u (inferred_type Mutable d.unresolved (AssignPat-right u)))) →
           PatAlike t u
       ident_default_alike t u k j e s =
           let id = BindingIdent-id (AssignPat-left t) in
@@ -185,8 +185,8 @@ module _ (r : Renaming) (ok : IsRenaming r) where
           let g : TreeAlike r ok type type' = field_alike r ok BindingIdent-type_ann _ (λ t. refl) (AssignPat-left t) (AssignPat-left u) (tree_to r ok e) in
           subst₂ (Alike r ok) (sym (default_of c look b t kinds.BindingIdent k.left j.left)) (sym (default_of d look' b u kinds.BindingIdent k.right j.right))
           (alike_if r ok (is_absent type) (is_absent type')
-          (shown c look t (inferred_type Mutable c (AssignPat-right t))) (written (without_default b id type))
-          (shown d look' u (inferred_type Mutable d (AssignPat-right u))) (written (without_default b id' type'))
+          (shown c look t (inferred_type Mutable c.unresolved (AssignPat-right t))) (written (without_default b id type))
+          (shown d look' u (inferred_type Mutable d.unresolved (AssignPat-right u))) (written (without_default b id' type'))
           (absent_alike r ok type type' g) s (λ q. written_alike r ok (without_default b id type) (without_default b id' type')
           (without_default_alike b id id' type type' f g)))
 

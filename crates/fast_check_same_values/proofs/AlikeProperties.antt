@@ -3,10 +3,9 @@ use Rattle.std.specs.Prelude.{◌≡◌, Bool, true, false, Option, Some, None, 
 use Rattle.std.proofs.Common.{ap, ap₂, ◌∙◌, sym, subst, subst₂}
 use Rattle.fast_check_syntax.specs.declared.kind.Kind.TheVariants as kinds
 use Rattle.fast_check_syntax.specs.declared.source.SourceRange.{SourceRange}
-use Rattle.fast_check_syntax.specs.declared.source.SyntaxContext.{SyntaxContext}
 use Rattle.fast_check_syntax.specs.declared.tree.Tree.{Tree, Absent}
 use Rattle.fast_check_syntax.specs.Shape.{is_absent}
-use Rattle.fast_check_syntax.specs.Moves.{Renaming, IsRenaming, IsPair, partners, twice, moved, moved_range}
+use Rattle.fast_check_syntax.specs.Moves.{Renaming, IsRenaming, partners, twice, moved, moved_range}
 use Rattle.fast_check_syntax.specs.Same.{SameTree}
 use Rattle.fast_check_syntax.proofs.Moved.{absent_moved}
 use Rattle.fast_check_syntax.proofs.Partners.{partners-keep as partners_keep, twice-keeps as twice_keeps}
@@ -21,6 +20,7 @@ use Rattle.fast_check_helpers.specs.Builders.{type_ann, any_type_ann}
 use Rattle.fast_check_helpers.specs.InferredType.{inferred_type}
 use Rattle.fast_check_helpers.proofs.BuildersMoved.{type_ann_moved, any_type_ann_moved}
 use Rattle.fast_check_helpers.proofs.InferredMoved.{inferred_type_moved}
+use Rattle.fast_check_signatures.specs.Bindings.{Bindings}
 use Rattle.fast_check_signatures.specs.declared.fault.FaultKind.TheVariants.{MissingExplicitType}
 use Rattle.fast_check_signatures.specs.Seen.{PropertyHead, Seen, property, refused}
 use Rattle.fast_check_signatures.specs.Answers.{declared_property}
@@ -29,7 +29,7 @@ use Rattle.fast_check_signatures.specs.Members.{is_private}
 use Rattle.fast_check_signatures.specs.Classes.{typed_property, mutability_of_property, property_head, accessor_head, member_value_seen}
 use Rattle.fast_check_signatures.specs.Classes.{untyped_property_seen, property_seen, untyped_accessor_seen, accessor_seen}
 use Rattle.fast_check_signatures.proofs.MovedParts.{moved_property}
-use Rattle.fast_check_same_values.specs.SameValues.{SameExpr}
+use Rattle.fast_check_same_values.specs.SameValues.{SameBindings, SameExpr}
 use Rattle.fast_check_same_values.specs.SameValues as v
 use Rattle.fast_check_same_values.specs.SameClasses.{SamePropertyHead, SameTypeShown, NoTypeShown, SameProperty, SameAccessor}
 use Rattle.fast_check_same_values.specs.SameClasses as s
@@ -72,7 +72,7 @@ module _ (r : Renaming) (ok : IsRenaming r) where
   place_alike t u e =
       sym (range_of_node_moved (partners r) (partners_keep r ok) t) ∙ (ap range_of_node (tree_to r ok e) ∙ range_of_node_moved twice twice_keeps u)
 
-  module _ (c d : SyntaxContext) (f g : SourceRange → Bool) where
+  module _ (c d : Bindings) (f g : SourceRange → Bool) where
     pub heads_alike : (p q : PropertyHead) → SamePropertyHead r c d f g p q → HeadAlike p q
     heads_alike p q h = record {
       span = range_to r ok p.span q.span h.span;
@@ -104,13 +104,13 @@ module _ (r : Renaming) (ok : IsRenaming r) where
         alike_if r ok (is_absent x) (is_absent y) a (typed_property p x) b (typed_property q y) (absent_alike r ok x y (tree_to r ok e)) n
         (λ w. typed_alike p q x y h (tree_to r ok e))
 
-    module _ (pair : IsPair r.scopes c.0 d.0) where
+    module _ (pair : SameBindings r c d) where
       -- what values that are equal show is so too
       pub shown_same : (mutability : DeclMutabilityKind) (t u : Tree) → SameTree r t u →
-          option_map (moved (partners r)) (inferred_type mutability c t) ≡ option_map (moved twice) (inferred_type mutability d u)
+          option_map (moved (partners r)) (inferred_type mutability c.unresolved t) ≡ option_map (moved twice) (inferred_type mutability d.unresolved u)
       shown_same mutability t u e =
-          sym (inferred_type_moved (partners r) (partners_keep r ok) mutability c t)
-          ∙ (ap₂ (inferred_type mutability) (scope_to r ok c d pair) (tree_to r ok e) ∙ inferred_type_moved twice twice_keeps mutability d u)
+          sym (inferred_type_moved (partners r) (partners_keep r ok) mutability c.unresolved t)
+          ∙ (ap₂ (inferred_type mutability) (scope_to r ok c.unresolved d.unresolved pair.unresolved) (tree_to r ok e) ∙ inferred_type_moved twice twice_keeps mutability d.unresolved u)
 
       value_alike : (p q : SourceRange) (t u : Tree) → RangeAlike r ok p q → SameExpr r c d t u →
           Alike r ok (member_value_seen c f p t) (member_value_seen d g q u)
@@ -128,8 +128,8 @@ module _ (r : Renaming) (ok : IsRenaming r) where
         abbrev mutability : Tree → DeclMutabilityKind
         mutability m = mutability_of_property (ClassProp-readonly m)
 
-        abbrev shown : SyntaxContext → Tree → Tree → Option Tree
-        shown unresolved m value = inferred_type (mutability m) unresolved value
+        abbrev shown : Bindings → Tree → Tree → Option Tree
+        shown bindings m value = inferred_type (mutability m) bindings.unresolved value
 
         valued : SameTree r (ClassProp-type_ann t) (ClassProp-type_ann u) →
             UntypedAlike (shown c t (ClassProp-value t)) (shown d u (ClassProp-value u)) → Alike r ok (property_seen c f t) (property_seen d g u)
@@ -137,7 +137,7 @@ module _ (r : Renaming) (ok : IsRenaming r) where
             (λ n. by_type (property_head t) (property_head u) (ClassProp-type_ann t) (ClassProp-type_ann u) _ _ h e (λ a. x))
 
         same_mutability : (value : Tree) → shown d u value ≡ shown d t value
-        same_mutability value = ap (λ b. inferred_type (mutability_of_property b) d value) (sym h.readonly)
+        same_mutability value = ap (λ b. inferred_type (mutability_of_property b) d.unresolved value) (sym h.readonly)
 
         shown_alike : (x y : Tree) → TreeAlike r ok x y → UntypedAlike (Some x) (Some y)
         shown_alike x y e = typed_alike (property_head t) (property_head u) (type_ann x) (type_ann y) h (ann_alike x y e)
@@ -188,7 +188,7 @@ module _ (r : Renaming) (ok : IsRenaming r) where
         AccessorAlike x y = Alike r ok (untyped_accessor_seen c f (accessor_head t) x) (untyped_accessor_seen d g (accessor_head u) y)
 
         accessor_valued : SameTree r (AutoAccessor-type_ann t) (AutoAccessor-type_ann u) →
-            AccessorAlike (inferred_type Mutable c (AutoAccessor-value t)) (inferred_type Mutable d (AutoAccessor-value u)) →
+            AccessorAlike (inferred_type Mutable c.unresolved (AutoAccessor-value t)) (inferred_type Mutable d.unresolved (AutoAccessor-value u)) →
             Alike r ok (accessor_seen c f t) (accessor_seen d g u)
         accessor_valued e x = by_privacy (accessor_head t) (accessor_head u) _ _ h
             (λ n. by_type (accessor_head t) (accessor_head u) (AutoAccessor-type_ann t) (AutoAccessor-type_ann u) _ _ h e (λ a. x))

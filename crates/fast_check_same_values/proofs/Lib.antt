@@ -1,4 +1,5 @@
 pub mod AlikeTrees
+pub mod AlikeBindings
 pub mod AlikeMembers
 pub mod AlikeSeen
 pub mod AlikeParameters

@@ -5,7 +5,6 @@ use Rattle.fast_check_syntax.specs.declared.kind.Kind.TheVariants.{Constructor, 
 use Rattle.fast_check_syntax.specs.declared.kind.Kind.TheVariants.{PrivateName, BindingIdent, AssignPat, RestPat}
 use Rattle.fast_check_syntax.specs.declared.kind.Word.TheVariants.{Setter}
 use Rattle.fast_check_syntax.specs.declared.source.SourceRange.{SourceRange}
-use Rattle.fast_check_syntax.specs.declared.source.SyntaxContext.{SyntaxContext}
 use Rattle.fast_check_syntax.specs.declared.tree.Tree.{Tree}
 use Rattle.fast_check_syntax.specs.Shape.{◌is◌, kind_of, parts, is_absent, has_word}
 use Rattle.fast_check_syntax.specs.Moves.{Renaming, Pairs, IsPair}
@@ -28,6 +27,7 @@ use Rattle.fast_check_statement_forms.specs.Statements.{BlockStmt-stmts, ExprStm
 use Rattle.fast_check_helpers.specs.declared.literal_type.DeclMutabilityKind.{DeclMutabilityKind}
 use Rattle.fast_check_helpers.specs.declared.literal_type.DeclMutabilityKind.TheVariants.{Mutable}
 use Rattle.fast_check_helpers.specs.InferredType.{inferred_type}
+use Rattle.fast_check_signatures.specs.Bindings.{Bindings}
 use Rattle.fast_check_signatures.specs.Seen.{PropertyHead}
 use Rattle.fast_check_signatures.specs.Members.{is_private, is_computed, is_hash_named, is_private_method_of, is_private_implementation, is_private_computed}
 use Rattle.fast_check_signatures.specs.Classes.{mutability_of_property, property_head, accessor_head, private_method_head, plain_param, param_target}
@@ -57,7 +57,7 @@ pub data IsSilentMember (earlier : List Tree) : Tree → Type 0 where
   another : {m : Tree} → is_private_implementation m ≡ true → list_any is_private_implementation earlier ≡ true → IsSilentMember earlier m
 
 -- `c` and `d` are the scope numbers of the names that nothing in either source binds, `f` and `g` say which ranges are implementations behind overloads
-module _ (r : Renaming) (c d : SyntaxContext) (f g : SourceRange → Bool) where
+module _ (r : Renaming) (c d : Bindings) (f g : SourceRange → Bool) where
   -- ---- properties
 
   -- properties, but for their types and their values; `override` is not seen where no value stays
@@ -74,14 +74,14 @@ module _ (r : Renaming) (c d : SyntaxContext) (f g : SourceRange → Bool) where
   pub record SameTypeShown (mutability : DeclMutabilityKind) (t u : Tree) : Type 0 where
     pub left : Tree
     pub right : Tree
-    pub left_is : inferred_type mutability c t ≡ Some left
-    pub right_is : inferred_type mutability d u ≡ Some right
+    pub left_is : inferred_type mutability c.unresolved t ≡ Some left
+    pub right_is : inferred_type mutability d.unresolved u ≡ Some right
     pub types : SameTree r left right
 
   -- values that show none
   pub record NoTypeShown (mutability : DeclMutabilityKind) (t u : Tree) : Type 0 where
-    pub left : inferred_type mutability c t ≡ None
-    pub right : inferred_type mutability d u ≡ None
+    pub left : inferred_type mutability c.unresolved t ≡ None
+    pub right : inferred_type mutability d.unresolved u ≡ None
 
   -- the type and the value of a property
   pub data SameProperty (t u : Tree) : Type 0 where

@@ -1,6 +1,6 @@
 -- Agreement of values, functions and parameters but for what is hidden: one rule for each part that may differ. All else agrees under a renaming of
 -- positions and scope numbers.
-use Rattle.std.specs.Prelude.{◌≡◌, Bool, true, false, Some, None, List, [], ◌∷◌, map, if◌then◌else◌}
+use Rattle.std.specs.Prelude.{◌≡◌, ℕ, Bool, true, false, Some, None, List, [], ◌∷◌, map, if◌then◌else◌}
 use Rattle.fast_check_syntax.specs.declared.kind.Kind.{Kind}
 use Rattle.fast_check_syntax.specs.declared.kind.Kind.TheVariants.{AssignPat, ArrayPat, ObjectPat, RestPat, BindingIdent, BlockStmt, TsSatisfiesExpr}
 use Rattle.fast_check_syntax.specs.declared.kind.Kind.TheVariants.{TsAsExpr, TsTypeAssertion, FnExpr, ArrowExpr}
@@ -14,6 +14,7 @@ use Rattle.fast_check_class_forms.specs.Functions.{Function-type_params, Functio
 use Rattle.fast_check_expression_forms.specs.Assertions.{TsAsExpr-span, TsAsExpr-type_ann, TsTypeAssertion-span, TsTypeAssertion-type_ann}
 use Rattle.fast_check_expression_forms.specs.Assertions.{TsSatisfiesExpr-span, TsSatisfiesExpr-expr, TsSatisfiesExpr-type_ann}
 use Rattle.fast_check_expression_forms.specs.Calls.{CallExpr-span, CallExpr-ctxt, CallExpr-callee, CallExpr-args, CallExpr-type_args}
+use Rattle.fast_check_expression_forms.specs.Calls.{NewExpr-span, NewExpr-ctxt, NewExpr-callee, NewExpr-args, NewExpr-type_args}
 use Rattle.fast_check_expression_forms.specs.Expressions.{ArrowExpr-span, ArrowExpr-ctxt, ArrowExpr-params, ArrowExpr-body, ArrowExpr-is_async}
 use Rattle.fast_check_expression_forms.specs.Expressions.{ArrowExpr-is_generator, ArrowExpr-type_params, ArrowExpr-return_type, FnExpr-ident, FnExpr-function}
 use Rattle.fast_check_expression_forms.specs.Patterns.{ArrayPat-span, ArrayPat-optional, ArrayPat-type_ann, ObjectPat-span, ObjectPat-optional}
@@ -23,7 +24,8 @@ use Rattle.fast_check_program_forms.specs.Names.{BindingIdent-type_ann}
 use Rattle.fast_check_helpers.specs.declared.literal_type.DeclMutabilityKind.TheVariants.{Mutable}
 use Rattle.fast_check_helpers.specs.InferredType.{inferred_type}
 use Rattle.fast_check_helpers.specs.ReturnClass.{return_class}
-use Rattle.fast_check_signatures.specs.Expressions.{is_compound, is_frozen, is_refused}
+use Rattle.fast_check_signatures.specs.Bindings.{Bindings}
+use Rattle.fast_check_signatures.specs.Expressions.{is_compound, is_frozen, is_made, is_refused}
 
 -- both are of a kind
 pub record Both (k : Kind) (t u : Tree) : Type 0 where
@@ -43,20 +45,28 @@ rests function = map (λ p. kind_of (Param-pat p) is RestPat) (parts (Function-p
 abbrev pub pattern_type : Tree → Tree
 pattern_type pat = if kind_of pat is ArrayPat then ArrayPat-type_ann pat else ObjectPat-type_ann pat
 
--- `c` and `d` are the scope numbers of the names that nothing in either source binds
-module _ (r : Renaming) (c d : SyntaxContext) where
+-- what is known of names agrees
+pub record SameBindings (r : Renaming) (c d : Bindings) : Type 0 where
+  -- what nothing in the first module binds is what nothing in the second binds
+  pub unresolved : IsPair r.scopes c.unresolved.0 d.unresolved.0
+  -- a name is that of a class without type parameters exactly if its partner is
+  pub is_plain_class : (text : List ℕ) (x y : SyntaxContext) → IsPair r.scopes x.0 y.0 →
+      c.is_plain_class (record { 0 = text; 1 = x }) ≡ d.is_plain_class (record { 0 = text; 1 = y })
+
+-- `c` and `d` are what is known of the names of either source
+module _ (r : Renaming) (c d : Bindings) where
   -- values from which a type is inferred, and the types agree
   pub record SameShown (t u : Tree) : Type 0 where
     pub left : Tree
     pub right : Tree
-    pub left_is : inferred_type Mutable c t ≡ Some left
-    pub right_is : inferred_type Mutable d u ≡ Some right
+    pub left_is : inferred_type Mutable c.unresolved t ≡ Some left
+    pub right_is : inferred_type Mutable d.unresolved u ≡ Some right
     pub types : SameTree r left right
 
   -- values from which no type is inferred
   pub record NoneShown (t u : Tree) : Type 0 where
-    pub left : inferred_type Mutable c t ≡ None
-    pub right : inferred_type Mutable d u ≡ None
+    pub left : inferred_type Mutable c.unresolved t ≡ None
+    pub right : inferred_type Mutable d.unresolved u ≡ None
 
   -- array or object patterns, whatever stands in them
   pub data SameEmptied : Tree → Tree → Type 0 where
@@ -111,6 +121,10 @@ module _ (r : Renaming) (c d : SyntaxContext) where
       frozen : {t u : Tree} → is_frozen c t ≡ true → is_frozen d u ≡ true → SameRange r (CallExpr-span t) (CallExpr-span u) →
           IsPair r.scopes (CallExpr-ctxt t).0 (CallExpr-ctxt u).0 → SameTree r (CallExpr-callee t) (CallExpr-callee u) →
           SameExpr (CallExpr-args t) (CallExpr-args u) → SameTree r (CallExpr-type_args t) (CallExpr-type_args u) → SameExpr t u
+      -- `new C(x)` of a class C without type parameters, by the arguments
+      made : {t u : Tree} → is_made c t ≡ true → is_made d u ≡ true → SameRange r (NewExpr-span t) (NewExpr-span u) →
+          IsPair r.scopes (NewExpr-ctxt t).0 (NewExpr-ctxt u).0 → SameTree r (NewExpr-callee t) (NewExpr-callee u) →
+          SameExpr (NewExpr-args t) (NewExpr-args u) → SameTree r (NewExpr-type_args t) (NewExpr-type_args u) → SameExpr t u
       function : {t u : Tree} → Both FnExpr t u → SameTree r (FnExpr-ident t) (FnExpr-ident u) → SameFunction (FnExpr-function t) (FnExpr-function u) →
           SameExpr t u
       arrow : {t u : Tree} → Both ArrowExpr t u → SameArrowHead t u → SamePats (parts (ArrowExpr-params t)) (parts (ArrowExpr-params u)) → SameArrowBody t u →

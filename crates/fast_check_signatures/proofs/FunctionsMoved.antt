@@ -3,8 +3,8 @@ use Rattle.std.specs.Prelude.{◌≡◌, ℕ, suc, Bool, false, Option, Some, No
 use Rattle.std.specs.Option.{option_map}
 use Rattle.std.proofs.Common.{ap, ap₂, ◌∙◌, sym}
 use Rattle.fast_check_syntax.specs.declared.kind.Kind.TheVariants.{Param, BlockStmt, RestPat, List as List'}
+use Rattle.fast_check_syntax.specs.declared.atom.Id.{Id}
 use Rattle.fast_check_syntax.specs.declared.source.SourceRange.{SourceRange}
-use Rattle.fast_check_syntax.specs.declared.source.SyntaxContext.{SyntaxContext}
 use Rattle.fast_check_syntax.specs.declared.tree.Tree.{Tree}
 use Rattle.fast_check_syntax.specs.Shape.{◌is◌, kind_of, parts, is_absent}
 use Rattle.fast_check_syntax.specs.Moves.{Moves, Keeps, moved, moved_range}
@@ -23,6 +23,7 @@ use Rattle.fast_check_helpers.proofs.BuildersMoved.{type_ann_moved, any_type_ann
 use Rattle.fast_check_helpers.proofs.GlobalCallsMoved.{moved_scope}
 use Rattle.fast_check_helpers.proofs.InferredMoved.{inferred_type_moved}
 use Rattle.fast_check_helpers.proofs.ReturnsMoved.{return_class_moved}
+use Rattle.fast_check_signatures.specs.Bindings.{Bindings}
 use Rattle.fast_check_signatures.specs.declared.function_kind.FunctionKind.{FunctionKind}
 use Rattle.fast_check_signatures.specs.declared.function_kind.FunctionKind.TheVariants.{DeclarationLike, ExpressionLike, Getter, Setter}
 use Rattle.fast_check_signatures.specs.Seen.{Seen, written, range, round, function, typed_arrow, valued_arrow, faulty, seens}
@@ -33,7 +34,7 @@ use Rattle.fast_check_signatures.specs.Functions.{implementation_seen, param_see
 use Rattle.fast_check_signatures.specs.Functions.{function_seen}
 use Rattle.fast_check_signatures.specs.Functions.{by_value, untyped_arrow_seen, arrow_by_type, arrow_seen}
 use Rattle.fast_check_signatures.proofs.NewNodesMoved.{promised_moved, void_or_promise_void_moved, any_param_moved}
-use Rattle.fast_check_signatures.proofs.MovedParts.{moved_seen, moved_function, moved_arrow, seens_moved, range_seen_moved, field_moved, absent_moved_at}
+use Rattle.fast_check_signatures.proofs.MovedParts.{moved_bindings, moved_seen, moved_function, moved_arrow, seens_moved, range_seen_moved, field_moved, absent_moved_at}
 use Rattle.fast_check_signatures.proofs.MovedParts.{kind_moved_at, items_moved_at}
 use Rattle.fast_check_signatures.proofs.MovedParts.{flag_field_moved, range_field_moved, scope_field_moved, seen_chosen}
 use Rattle.fast_check_signatures.proofs.ParametersMoved.{LooksMoved, pats_seen_moved}
@@ -148,47 +149,47 @@ module _ (m : Moves) (ok : Keeps m) where
   valued_arrow_moved t place pats value =
       λ i. valued_arrow (arrow_head_moved t i) (is_async_moved t i) (moved_range m place) (moved_seen m value) (seens_moved m pats i)
 
-  module _ (unresolved : SyntaxContext) (look look' : Look) (at : LooksMoved m look look') where
-    abbrev unresolved' : SyntaxContext
-    unresolved' = moved_scope m unresolved
+  module _ (bindings : Bindings) (plain : Id → Bool) (look look' : Look) (at : LooksMoved m look look') where
+    abbrev bindings' : Bindings
+    bindings' = moved_bindings m plain bindings
 
     pub function_seen_moved : (kind : FunctionKind) (place : SourceRange) (t : Tree) →
-        function_seen unresolved' look' kind (moved_range m place) (moved m t) ≡ moved_seen m (function_seen unresolved look kind place t)
+        function_seen bindings' look' kind (moved_range m place) (moved m t) ≡ moved_seen m (function_seen bindings look kind place t)
     function_seen_moved kind place t =
         let params = parts (Function-params t) in
         let pats = map (λ p. Param-pat p) params in
         ap₂ (signature_seen (moved m t)) (return_type_seen_moved kind place t)
-        (ap (λ ps. params_seen ps (pats_seen unresolved' look' (map (λ p. Param-pat p) ps))) (items_moved_at m Function-params _ (λ t. refl) t)
-        ∙ (ap (λ ps. params_seen (map (moved m) params) (pats_seen unresolved' look' ps)) (patterns_moved m params)
-        ∙ (ap (params_seen (map (moved m) params)) (pats_seen_moved m ok unresolved look look' at pats)
-        ∙ params_seen_moved params (pats_seen unresolved look pats))))
-        ∙ signature_seen_moved t (return_type_seen kind place t) (params_seen params (pats_seen unresolved look pats))
+        (ap (λ ps. params_seen ps (pats_seen bindings' look' (map (λ p. Param-pat p) ps))) (items_moved_at m Function-params _ (λ t. refl) t)
+        ∙ (ap (λ ps. params_seen (map (moved m) params) (pats_seen bindings' look' ps)) (patterns_moved m params)
+        ∙ (ap (params_seen (map (moved m) params)) (pats_seen_moved m ok bindings plain look look' at pats)
+        ∙ params_seen_moved params (pats_seen bindings look pats))))
+        ∙ signature_seen_moved t (return_type_seen kind place t) (params_seen params (pats_seen bindings look pats))
 
     -- a function that is a part of an expression
     pub part_function_moved : (place : Option SourceRange) (t t' : Tree) → t' ≡ moved m t →
-        function_seen unresolved' look' ExpressionLike (or_own (option_map (moved_range m) place) (Function-span t')) t' ≡
-        moved_seen m (function_seen unresolved look ExpressionLike (or_own place (Function-span t)) t)
+        function_seen bindings' look' ExpressionLike (or_own (option_map (moved_range m) place) (Function-span t')) t' ≡
+        moved_seen m (function_seen bindings look ExpressionLike (or_own place (Function-span t)) t)
     part_function_moved place t t' e =
         let own = ap (or_own (option_map (moved_range m) place)) (ap Function-span e ∙ range_field_moved m ok Function-span _ (λ t. refl) t)
         ∙ or_own_moved m place (Function-span t) in
-        (λ i. function_seen unresolved' look' ExpressionLike (own i) (e i)) ∙ function_seen_moved ExpressionLike (or_own place (Function-span t)) t
+        (λ i. function_seen bindings' look' ExpressionLike (own i) (e i)) ∙ function_seen_moved ExpressionLike (or_own place (Function-span t)) t
 
     by_value_moved : (t : Tree) (place : SourceRange) (pats : List Seen) (shown : Option Tree) →
-        by_value unresolved' look' (moved m t) (moved_range m place) (map (moved_seen m) pats) (option_map (moved m) shown) ≡
-        moved_seen m (by_value unresolved look t place pats shown)
+        by_value bindings' look' (moved m t) (moved_range m place) (map (moved_seen m) pats) (option_map (moved m) shown) ≡
+        moved_seen m (by_value bindings look t place pats shown)
     by_value_moved t place pats (Some type) =
         let is_async = ArrowExpr-is_async t in
         ap (λ s. typed_arrow_seen (moved m t) (map (moved_seen m) pats) (written s))
-        ((λ i. type_ann (promised unresolved' (is_async_moved t i) (moved m type)))
-        ∙ (ap type_ann (promised_moved m ok unresolved is_async type) ∙ sym (type_ann_moved m ok (promised unresolved is_async type))))
-        ∙ typed_arrow_moved t pats (written (type_ann (promised unresolved is_async type)))
+        ((λ i. type_ann (promised bindings'.unresolved (is_async_moved t i) (moved m type)))
+        ∙ (ap type_ann (promised_moved m ok bindings.unresolved is_async type) ∙ sym (type_ann_moved m ok (promised bindings.unresolved is_async type))))
+        ∙ typed_arrow_moved t pats (written (type_ann (promised bindings.unresolved is_async type)))
     by_value_moved t place pats None =
         ap (valued_arrow_seen (moved m t) (moved_range m place) (map (moved_seen m) pats)) (ap (λ p. look' p None) (body_moved t) ∙ at (ArrowExpr-body t) None)
         ∙ valued_arrow_moved t place pats (look (ArrowExpr-body t) None)
 
     untyped_arrow_moved : (t : Tree) (place : SourceRange) (pats : List Seen) →
-        untyped_arrow_seen unresolved' look' (moved m t) (moved_range m place) (map (moved_seen m) pats) ≡
-        moved_seen m (untyped_arrow_seen unresolved look t place pats)
+        untyped_arrow_seen bindings' look' (moved m t) (moved_range m place) (map (moved_seen m) pats) ≡
+        moved_seen m (untyped_arrow_seen bindings look t place pats)
     untyped_arrow_moved t place pats =
         let body = ArrowExpr-body t in
         let is_async = ArrowExpr-is_async t in
@@ -202,13 +203,13 @@ module _ (m : Moves) (ok : Keeps m) where
         })
         (record {
           path =
-              ap (by_value unresolved' look' (moved m t) (moved_range m place) (map (moved_seen m) pats))
-              (ap (inferred_type Mutable unresolved') (body_moved t) ∙ inferred_type_moved m ok Mutable unresolved body)
-              ∙ by_value_moved t place pats (inferred_type Mutable unresolved body);
+              ap (by_value bindings' look' (moved m t) (moved_range m place) (map (moved_seen m) pats))
+              (ap (inferred_type Mutable bindings'.unresolved) (body_moved t) ∙ inferred_type_moved m ok Mutable bindings.unresolved body)
+              ∙ by_value_moved t place pats (inferred_type Mutable bindings.unresolved body);
         })).path
 
     arrow_by_type_moved : (t : Tree) (place : SourceRange) (pats : List Seen) →
-        arrow_by_type unresolved' look' (moved m t) (moved_range m place) (map (moved_seen m) pats) ≡ moved_seen m (arrow_by_type unresolved look t place pats)
+        arrow_by_type bindings' look' (moved m t) (moved_range m place) (map (moved_seen m) pats) ≡ moved_seen m (arrow_by_type bindings look t place pats)
     arrow_by_type_moved t place pats =
         (seen_chosen m _ (is_absent (ArrowExpr-return_type t)) _ _ _ _ (absent_moved_at m ArrowExpr-return_type _ (λ t. refl) t)
         (record { path = untyped_arrow_moved t place pats })
@@ -219,11 +220,11 @@ module _ (m : Moves) (ok : Keeps m) where
         })).path
 
     pub arrow_seen_moved : (place : Option SourceRange) (t : Tree) →
-        arrow_seen unresolved' look' (option_map (moved_range m) place) (moved m t) ≡ moved_seen m (arrow_seen unresolved look place t)
+        arrow_seen bindings' look' (option_map (moved_range m) place) (moved m t) ≡ moved_seen m (arrow_seen bindings look place t)
     arrow_seen_moved place t =
         let own = ap (or_own (option_map (moved_range m) place)) (range_field_moved m ok ArrowExpr-span _ (λ t. refl) t)
         ∙ or_own_moved m place (ArrowExpr-span t) in
-        let pats = ap (pats_seen unresolved' look') (items_moved_at m ArrowExpr-params _ (λ t. refl) t)
-        ∙ pats_seen_moved m ok unresolved look look' at (parts (ArrowExpr-params t)) in
-        ap₂ (arrow_by_type unresolved' look' (moved m t)) own pats
-        ∙ arrow_by_type_moved t (or_own place (ArrowExpr-span t)) (pats_seen unresolved look (parts (ArrowExpr-params t)))
+        let pats = ap (pats_seen bindings' look') (items_moved_at m ArrowExpr-params _ (λ t. refl) t)
+        ∙ pats_seen_moved m ok bindings plain look look' at (parts (ArrowExpr-params t)) in
+        ap₂ (arrow_by_type bindings' look' (moved m t)) own pats
+        ∙ arrow_by_type_moved t (or_own place (ArrowExpr-span t)) (pats_seen bindings look (parts (ArrowExpr-params t)))

@@ -6,7 +6,6 @@ use Rattle.fast_check_syntax.specs.declared.kind.Kind.{Kind}
 use Rattle.fast_check_syntax.specs.declared.kind.Kind.TheVariants.{Leaf}
 use Rattle.fast_check_syntax.specs.declared.kind.Kind.TheVariants as kinds
 use Rattle.fast_check_syntax.specs.declared.source.SourceRange.{SourceRange}
-use Rattle.fast_check_syntax.specs.declared.source.SyntaxContext.{SyntaxContext}
 use Rattle.fast_check_syntax.specs.declared.tree.Tree.{Tree}
 use Rattle.fast_check_syntax.specs.Shape.{◌is◌, kind_of, part, parts, is_absent, OfAll}
 use Rattle.fast_check_syntax.specs.Descent.{by_descent_is, given, given_lower}
@@ -24,13 +23,14 @@ use Rattle.fast_check_signatures.specs.declared.function_kind.FunctionKind.{Func
 use Rattle.fast_check_signatures.specs.declared.function_kind.FunctionKind.TheVariants.{ExpressionLike}
 use Rattle.fast_check_signatures.specs.declared.rules.Slot.{Slot}
 use Rattle.fast_check_signatures.specs.declared.rules.Slot.TheVariants as slots
+use Rattle.fast_check_signatures.specs.Bindings.{Bindings}
 use Rattle.fast_check_signatures.specs.Seen.{Seen, round, refused, seens}
 use Rattle.fast_check_signatures.specs.NewNodes.{never_array}
 use Rattle.fast_check_signatures.specs.Parameters.{Look, default_seen, emptied_array, emptied_object, by_shown, ident_default_seen, pattern_default_seen}
 use Rattle.fast_check_signatures.specs.Parameters.{assign_by_left, pat_by_kind, pat_seen, pats_seen}
 use Rattle.fast_check_signatures.specs.Functions.{or_own, signature_seen, return_type_seen, params_seen, function_seen, valued_arrow_seen, by_value}
 use Rattle.fast_check_signatures.specs.Functions.{arrow_by_type, arrow_seen}
-use Rattle.fast_check_signatures.specs.Expressions.{freezes, Rule, whole, parted, slotted, arrow, rule, expr_rule, slot_seen, slots_seen, by_rule, expr_form}
+use Rattle.fast_check_signatures.specs.Expressions.{is_known, Rule, whole, parted, slotted, arrow, rule, expr_rule, slot_seen, slots_seen, by_rule, expr_form}
 use Rattle.fast_check_signatures.specs.Expressions.{expr_seen}
 
 -- ---- trees that are lower than a number says
@@ -59,28 +59,28 @@ choose false x x' y y' p q = q
 
 -- ---- two looks that are the same at the trees that are lower than a number says
 
-module _ (unresolved : SyntaxContext) (look other : Look) (limit : ℕ) (same : (u : Tree) → height u < limit → look u ≡ other u) where
+module _ (bindings : Bindings) (look other : Look) (limit : ℕ) (same : (u : Tree) → height u < limit → look u ≡ other u) where
   default_same : (pat : Tree) → height pat < limit → look (AssignPat-right pat) ≡ other (AssignPat-right pat)
   default_same pat h = same (AssignPat-right pat) (field_below AssignPat-right _ (λ t. refl) limit pat h)
 
   by_shown_same : (b : Bool) (pat : Tree) → height pat < limit → (shown : Option Tree) →
-      by_shown unresolved look b pat shown ≡ by_shown unresolved other b pat shown
+      by_shown bindings look b pat shown ≡ by_shown bindings other b pat shown
   by_shown_same b pat h (Some type) = refl
   by_shown_same b pat h None = let place = Ident-span (BindingIdent-id (AssignPat-left pat)) in
       ap (λ f. default_seen (AssignPat-span pat) place (AssignPat-left pat) (f (Some place))) (default_same pat h)
 
   pattern_default_same : (type : Tree) (place : SourceRange) (emptied never pat : Tree) → height pat < limit →
-      pattern_default_seen unresolved look type place emptied never pat ≡ pattern_default_seen unresolved other type place emptied never pat
+      pattern_default_seen bindings look type place emptied never pat ≡ pattern_default_seen bindings other type place emptied never pat
   pattern_default_same type place emptied never pat h =
       choose (is_absent type) _ _ _ _ (λ e. ap (λ f. default_seen (AssignPat-span pat) place emptied (f None)) (default_same pat h)) refl
 
-  ident_default_same : (b : Bool) (pat : Tree) → height pat < limit → ident_default_seen unresolved look b pat ≡ ident_default_seen unresolved other b pat
+  ident_default_same : (b : Bool) (pat : Tree) → height pat < limit → ident_default_seen bindings look b pat ≡ ident_default_seen bindings other b pat
   ident_default_same b pat h =
       choose (is_absent (BindingIdent-type_ann (AssignPat-left pat))) _ _ _ _
-      (λ e. by_shown_same b pat h (inferred_type Mutable unresolved (AssignPat-right pat))) refl
+      (λ e. by_shown_same b pat h (inferred_type Mutable bindings.unresolved (AssignPat-right pat))) refl
 
   by_left_same : (kind : Kind) (b : Bool) (pat : Tree) → height pat < limit →
-      assign_by_left unresolved look kind b pat ≡ assign_by_left unresolved other kind b pat
+      assign_by_left bindings look kind b pat ≡ assign_by_left bindings other kind b pat
   by_left_same kinds.BindingIdent b pat h = ident_default_same b pat h
   by_left_same kinds.ArrayPat b pat h =
       let left = AssignPat-left pat in pattern_default_same (ArrayPat-type_ann left) (ArrayPat-span left) (emptied_array left) never_array pat h
@@ -88,43 +88,43 @@ module _ (unresolved : SyntaxContext) (look other : Look) (limit : ℕ) (same : 
       let left = AssignPat-left pat in pattern_default_same (ObjectPat-type_ann left) (ObjectPat-span left) (emptied_object left) never_value pat h
   by_left_same _ b pat h = refl
 
-  by_kind_same : (kind : Kind) (b : Bool) (pat : Tree) → height pat < limit → pat_by_kind unresolved look kind b pat ≡ pat_by_kind unresolved other kind b pat
+  by_kind_same : (kind : Kind) (b : Bool) (pat : Tree) → height pat < limit → pat_by_kind bindings look kind b pat ≡ pat_by_kind bindings other kind b pat
   by_kind_same kinds.AssignPat b pat h = by_left_same (kind_of (AssignPat-left pat)) b pat h
   by_kind_same _ b pat h = refl
 
-  pat_same : (b : Bool) (pat : Tree) → height pat < limit → pat_seen unresolved look b pat ≡ pat_seen unresolved other b pat
+  pat_same : (b : Bool) (pat : Tree) → height pat < limit → pat_seen bindings look b pat ≡ pat_seen bindings other b pat
   pat_same b pat h = by_kind_same (kind_of pat) b pat h
 
-  pats_same : (pats : List Tree) → Below limit pats → pats_seen unresolved look pats ≡ pats_seen unresolved other pats
+  pats_same : (pats : List Tree) → Below limit pats → pats_seen bindings look pats ≡ pats_seen bindings other pats
   pats_same [] below = refl
   pats_same (pat ∷ pats) below = λ i. pat_same (list_all is_optional_param (pat ∷ pats)) pat below.0 i ∷ pats_same pats below.1 i
 
   pub function_same : (kind : FunctionKind) (place : SourceRange) (t : Tree) → height t < suc limit →
-      function_seen unresolved look kind place t ≡ function_seen unresolved other kind place t
+      function_seen bindings look kind place t ≡ function_seen bindings other kind place t
   function_same kind place t h = let params = parts (Function-params t) in
       let below : Below limit params = parts_below limit (Function-params t) (field_below Function-params _ (λ t. refl) (suc limit) t h) in
       ap (λ pats. signature_seen t (return_type_seen kind place t) (params_seen params pats))
       (pats_same (map (λ p. Param-pat p) params) (patterns_below limit params below))
 
   by_value_same : (t : Tree) (place : SourceRange) (pats : List Seen) → look (ArrowExpr-body t) ≡ other (ArrowExpr-body t) → (shown : Option Tree) →
-      by_value unresolved look t place pats shown ≡ by_value unresolved other t place pats shown
+      by_value bindings look t place pats shown ≡ by_value bindings other t place pats shown
   by_value_same t place pats e (Some type) = refl
   by_value_same t place pats e None = ap (λ f. valued_arrow_seen t place pats (f None)) e
 
   arrow_by_type_same : (t : Tree) (place : SourceRange) (pats : List Seen) → look (ArrowExpr-body t) ≡ other (ArrowExpr-body t) →
-      arrow_by_type unresolved look t place pats ≡ arrow_by_type unresolved other t place pats
+      arrow_by_type bindings look t place pats ≡ arrow_by_type bindings other t place pats
   arrow_by_type_same t place pats e =
       choose (is_absent (ArrowExpr-return_type t)) _ _ _ _ (λ absent.
       choose (kind_of (ArrowExpr-body t) is kinds.BlockStmt) _ _ _ _ (λ block. refl)
-      (by_value_same t place pats e (inferred_type Mutable unresolved (ArrowExpr-body t)))) refl
+      (by_value_same t place pats e (inferred_type Mutable bindings.unresolved (ArrowExpr-body t)))) refl
 
   arrow_same : (place : Option SourceRange) (t : Tree) → height t < suc limit → look (ArrowExpr-body t) ≡ other (ArrowExpr-body t) →
-      arrow_seen unresolved look place t ≡ arrow_seen unresolved other place t
+      arrow_seen bindings look place t ≡ arrow_seen bindings other place t
   arrow_same place t h e = let own = or_own place (ArrowExpr-span t) in
       let below : Below limit (parts (ArrowExpr-params t)) = parts_below limit (ArrowExpr-params t)
       (field_below ArrowExpr-params _ (λ t. refl) (suc limit) t h) in
-      ap (λ pats. arrow_by_type unresolved look t own pats) (pats_same (parts (ArrowExpr-params t)) below)
-      ∙ arrow_by_type_same t own (pats_seen unresolved other (parts (ArrowExpr-params t))) e
+      ap (λ pats. arrow_by_type bindings look t own pats) (pats_same (parts (ArrowExpr-params t)) below)
+      ∙ arrow_by_type_same t own (pats_seen bindings other (parts (ArrowExpr-params t))) e
 
   all_same : (ts : List Tree) → Below limit ts → map (λ p. look p None) ts ≡ map (λ p. other p None) ts
   all_same [] below = refl
@@ -132,16 +132,16 @@ module _ (unresolved : SyntaxContext) (look other : Look) (limit : ℕ) (same : 
 
 -- ---- the equation
 
-module _ (unresolved : SyntaxContext) (t : Tree) where
+module _ (bindings : Bindings) (t : Tree) where
   abbrev look : Look
-  look = given (λ place. refused) (expr_form unresolved) t
+  look = given (λ place. refused) (expr_form bindings) t
 
   abbrev seen : Look
-  seen = expr_seen unresolved
+  seen = expr_seen bindings
 
   lower : (u : Tree) → height u < height t → look u ≡ seen u
   unfolding expr_seen
-  lower u h = given_lower (λ place. refused) (expr_form unresolved) t u h
+  lower u h = given_lower (λ place. refused) (expr_form bindings) t u h
 
   in_part : (n : ℕ) → (kind_of t ≡ Leaf → ⊥) → look (part n t) ≡ seen (part n t)
   in_part n not_leaf = lower (part n t) (height_part t n not_leaf)
@@ -150,33 +150,33 @@ module _ (unresolved : SyntaxContext) (t : Tree) where
   in_field field n reads not_leaf = ap look (reads t) ∙ (in_part n not_leaf ∙ ap seen (sym (reads t)))
 
   -- a rule of a node that is no leaf
-  no_leaf : (r : Rule) → (whole ≡ r → ⊥) → expr_rule unresolved t ≡ r → kind_of t ≡ Leaf → ⊥
-  no_leaf r not_whole e leaf = not_whole (sym (ap (λ k. rule k (freezes unresolved t)) leaf) ∙ e)
+  no_leaf : (r : Rule) → (whole ≡ r → ⊥) → expr_rule bindings t ≡ r → kind_of t ≡ Leaf → ⊥
+  no_leaf r not_whole e leaf = not_whole (sym (ap (λ k. rule k (is_known bindings t)) leaf) ∙ e)
 
   slot_same : (kind_of t ≡ Leaf → ⊥) → (s : Slot) (n : ℕ) (place : Option SourceRange) →
-      slot_seen unresolved s (part n t) look place ≡ slot_seen unresolved s (part n t) seen place
+      slot_seen bindings s (part n t) look place ≡ slot_seen bindings s (part n t) seen place
   slot_same not_leaf slots.Value n place = ap (λ f. f None) (in_part n not_leaf)
   slot_same not_leaf slots.Function n place =
-      function_same unresolved look seen (height t) lower ExpressionLike (or_own place (Function-span (part n t))) (part n t)
+      function_same bindings look seen (height t) lower ExpressionLike (or_own place (Function-span (part n t))) (part n t)
       (omega (arith, height_at_most t n))
   slot_same not_leaf _ n place = refl
 
   slots_same : (kind_of t ≡ Leaf → ⊥) → (row : List Slot) (n : ℕ) (place : Option SourceRange) →
-      slots_seen unresolved row n t look place ≡ slots_seen unresolved row n t seen place
+      slots_seen bindings row n t look place ≡ slots_seen bindings row n t seen place
   slots_same not_leaf [] n place = refl
   slots_same not_leaf (s ∷ row) n place = ap₂ (λ x xs. x ∷ xs) (slot_same not_leaf s n place) (slots_same not_leaf row (suc n) place)
 
-  rule_same : (r : Rule) (kind : Kind) (place : Option SourceRange) → expr_rule unresolved t ≡ r →
-      by_rule unresolved r kind t look place ≡ by_rule unresolved r kind t seen place
+  rule_same : (r : Rule) (kind : Kind) (place : Option SourceRange) → expr_rule bindings t ≡ r →
+      by_rule bindings r kind t look place ≡ by_rule bindings r kind t seen place
   rule_same parted kind place e =
-      ap (λ ss. round kind (seens ss)) (all_same unresolved look seen (height t) lower (parts t) (parts_below (height t) t (omega arith)))
+      ap (λ ss. round kind (seens ss)) (all_same bindings look seen (height t) lower (parts t) (parts_below (height t) t (omega arith)))
   rule_same (slotted row) kind place e = ap (λ ss. round kind (seens ss)) (slots_same (no_leaf (slotted row) (λ p. cc) e) row 0 place)
   rule_same arrow kind place e =
-      arrow_same unresolved look seen (height t) lower place t (omega arith) (in_field ArrowExpr-body _ (λ t. refl) (no_leaf arrow (λ p. cc) e))
+      arrow_same bindings look seen (height t) lower place t (omega arith) (in_field ArrowExpr-body _ (λ t. refl) (no_leaf arrow (λ p. cc) e))
   rule_same _ kind place e = refl
 
-pub expr_seen_is : (unresolved : SyntaxContext) (t : Tree) (place : Option SourceRange) →
-    expr_seen unresolved t place ≡ expr_form unresolved t (expr_seen unresolved) place
+pub expr_seen_is : (bindings : Bindings) (t : Tree) (place : Option SourceRange) →
+    expr_seen bindings t place ≡ expr_form bindings t (expr_seen bindings) place
 unfolding expr_seen
-expr_seen_is unresolved t place =
-    ap (λ f. f place) (by_descent_is (λ place. refused) (expr_form unresolved) t) ∙ rule_same unresolved t (expr_rule unresolved t) (kind_of t) place refl
+expr_seen_is bindings t place =
+    ap (λ f. f place) (by_descent_is (λ place. refused) (expr_form bindings) t) ∙ rule_same bindings t (expr_rule bindings t) (kind_of t) place refl

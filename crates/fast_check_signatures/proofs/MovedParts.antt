@@ -1,6 +1,7 @@
 -- What is seen, moved; what the fields of a moved node read as; and choices between moved things.
 use Rattle.std.specs.Prelude.{◌≡◌, ℕ, Bool, true, false, List, [], ◌∷◌, map, refl, if◌then◌else◌}
 use Rattle.std.proofs.Common.{ap, ◌∙◌, sym}
+use Rattle.fast_check_syntax.specs.declared.atom.Id.{Id}
 use Rattle.fast_check_syntax.specs.declared.source.SourceRange.{SourceRange}
 use Rattle.fast_check_syntax.specs.declared.source.SyntaxContext.{SyntaxContext}
 use Rattle.fast_check_syntax.specs.declared.tree.Tree.{Tree}
@@ -8,9 +9,18 @@ use Rattle.fast_check_syntax.specs.Shape.{kind_of, part, parts, is_absent, range
 use Rattle.fast_check_syntax.specs.Moves.{Moves, Keeps, moved, moved_range}
 use Rattle.fast_check_syntax.proofs.Moved.{range_moved, context_moved, kind_of_moved, part_moved, parts_moved, is_absent_moved, flag_of_moved, range_of_moved}
 use Rattle.fast_check_helpers.proofs.GlobalCallsMoved.{moved_scope, context_of_moved}
+use Rattle.fast_check_signatures.specs.Bindings.{Bindings}
 use Rattle.fast_check_signatures.specs.Seen.{DeclaratorHead, DefaultHead, FunctionHead, ArrowHead, ClassHead, PropertyHead}
 use Rattle.fast_check_signatures.specs.Seen.{Seen, written, round, listed, declarator, default, function, typed_arrow, valued_arrow, class, property}
 use Rattle.fast_check_signatures.specs.Seen.{default_export, faulty, refused, Seens, end, also, seens, range, scope}
+
+-- what is known of moved names, where this says which of them are those of plain classes
+abbrev pub moved_bindings : Moves → (Id → Bool) → Bindings → Bindings
+moved_bindings m is_plain_class b = record { unresolved = moved_scope m b.unresolved; is_plain_class = is_plain_class }
+
+-- it says so of a moved name exactly if the name is one
+abbrev pub MovesPlain : Moves → (Id → Bool) → Bindings → Type 0
+MovesPlain m is_plain_class b = (id : Id) → is_plain_class (record { 0 = id.0; 1 = moved_scope m id.1 }) ≡ b.is_plain_class id
 
 abbrev pub moved_declarator : Moves → DeclaratorHead → DeclaratorHead
 moved_declarator m d = record { span = moved_range m d.span; ident = moved m d.ident; definite = d.definite }

@@ -35,6 +35,7 @@ use Rattle.fast_check_helpers.specs.InferredType.{inferred_type}
 use Rattle.fast_check_signatures.specs.declared.fault.FaultKind.TheVariants.{MissingExplicitType, UnsupportedDestructuring, UnsupportedSuperClassExpr}
 use Rattle.fast_check_signatures.specs.declared.function_kind.FunctionKind.{FunctionKind}
 use Rattle.fast_check_signatures.specs.declared.function_kind.FunctionKind.TheVariants.{DeclarationLike, Getter, Setter}
+use Rattle.fast_check_signatures.specs.Bindings.{Bindings}
 use Rattle.fast_check_signatures.specs.Seen.{ClassHead, PropertyHead, Seen, written, range, scope, flag, round, listed, class, property, faulty, refused, seens}
 use Rattle.fast_check_signatures.specs.NewNodes.{never_array_in_parens, expr_stmt, ident_name, new_block}
 use Rattle.fast_check_signatures.specs.Functions.{function_seen, implementation_seen, any_params_from, params_seen}
@@ -231,12 +232,36 @@ class_head t = record {
   implements = Class-implements t;
 }
 
--- `unresolved` is the scope number of the names that nothing in the module binds, and `is_implementation` says of the range of a member whether it is an
--- implementation behind overloads
-module _ (unresolved : SyntaxContext) (is_implementation : SourceRange → Bool) where
+-- ---- properties that parameters declare; `unresolved` is the scope number of the names that nothing in the module binds
+
+module _ (unresolved : SyntaxContext) where
+  -- the type that the default of a parameter shows, if it has one
+  abbrev pub default_type : DeclMutabilityKind → Tree → Option Tree
+  default_type mutability pat = if kind_of pat is kinds.AssignPat then inferred_type mutability unresolved (AssignPat-right pat) else None
+
+  -- the type of a parameter property: a private one is of any type; else the written type, or the one that the default shows, or none
+  abbrev pub param_property_type : Tree → Tree
+  param_property_type p =
+      let type = BindingIdent-type_ann (param_target p) in
+      if is_private (TsParamProp-accessibility p) then any_type_ann
+      else (if is_absent type then type_or_none (default_type (mutability_of_property (TsParamProp-readonly p)) (TsParamProp-param p)) else type)
+
+  -- `declare name: type;` for a parameter property
+  abbrev pub param_property : Tree → Tree
+  param_property p = declared_property (param_property_head p) (param_property_type p)
+
+  -- the properties that a constructor declares by its parameters, if it is not at fault, and no other member
+  abbrev pub declared_by_params : Tree → List Tree
+  declared_by_params m =
+      if kind_of m is kinds.Constructor then unless_any (patterns_among (param_properties m)) (map param_property (param_properties m)) else []
+
+-- ---- what is seen of members
+
+-- `is_implementation` says of the range of a member whether it is an implementation behind overloads
+module _ (bindings : Bindings) (is_implementation : SourceRange → Bool) where
   -- a value that is to give a type, and the place of the key that names it; where there is none, nothing gives the type
   abbrev pub member_value_seen : SourceRange → Tree → Seen
-  member_value_seen place value = if is_absent value then refused else expr_seen unresolved value (Some place)
+  member_value_seen place value = if is_absent value then refused else expr_seen bindings value (Some place)
 
   -- a property without a written type, by the type that its value shows, or else with the value as it may stay
   abbrev pub untyped_property_seen : PropertyHead → Tree → Option Tree → Seen
@@ -249,7 +274,7 @@ module _ (unresolved : SyntaxContext) (is_implementation : SourceRange → Bool)
       let p = property_head m in
       if is_private p.accessibility then typed_property p any_type_ann
       else (if is_absent (ClassProp-type_ann m) then
-      untyped_property_seen p (ClassProp-value m) (inferred_type (mutability_of_property p.readonly) unresolved (ClassProp-value m))
+      untyped_property_seen p (ClassProp-value m) (inferred_type (mutability_of_property p.readonly) bindings.unresolved (ClassProp-value m))
       else typed_property p (ClassProp-type_ann m))
 
   -- an accessor without a written type, by the type that its value shows; its value can't stay
@@ -262,14 +287,14 @@ module _ (unresolved : SyntaxContext) (is_implementation : SourceRange → Bool)
   accessor_seen m =
       let p = accessor_head m in
       if is_private p.accessibility then typed_property p any_type_ann
-      else (if is_absent (AutoAccessor-type_ann m) then untyped_accessor_seen p (inferred_type Mutable unresolved (AutoAccessor-value m))
+      else (if is_absent (AutoAccessor-type_ann m) then untyped_accessor_seen p (inferred_type Mutable bindings.unresolved (AutoAccessor-value m))
       else typed_property p (AutoAccessor-type_ann m))
 
   -- the function of a method, a getter or a setter, by its signature; what is wrong with its return type is wrong at the key
   abbrev pub method_function_seen : Tree → Seen
   method_function_seen m =
       if is_implementation (ClassMethod-span m) then implementation_seen (ClassMethod-function m)
-      else function_seen unresolved (expr_seen unresolved) (method_kind (ClassMethod-kind m)) (range_of_node (ClassMethod-key m)) (ClassMethod-function m)
+      else function_seen bindings (expr_seen bindings) (method_kind (ClassMethod-kind m)) (range_of_node (ClassMethod-key m)) (ClassMethod-function m)
 
   -- a method, a getter or a setter; a private one becomes a property of any type
   abbrev pub method_seen : Tree → Seen
@@ -279,7 +304,7 @@ module _ (unresolved : SyntaxContext) (is_implementation : SourceRange → Bool)
 
   -- the parameters of a constructor, by `plain_param` of each: those of a private one go
   abbrev pub plain_params_seen : List Tree → List Seen
-  plain_params_seen ps = params_seen ps (pats_seen unresolved (expr_seen unresolved) (map (λ p. Param-pat p) ps))
+  plain_params_seen ps = params_seen ps (pats_seen bindings (expr_seen bindings) (map (λ p. Param-pat p) ps))
 
   abbrev pub constructor_params_seen : Tree → List Seen
   constructor_params_seen m =
@@ -302,30 +327,10 @@ module _ (unresolved : SyntaxContext) (is_implementation : SourceRange → Bool)
   abbrev pub member_seen : Tree → Seen
   member_seen m = member_of_kind (kind_of m) m
 
-  -- the type that the default of a parameter shows, if it has one
-  abbrev pub default_type : DeclMutabilityKind → Tree → Option Tree
-  default_type mutability pat = if kind_of pat is kinds.AssignPat then inferred_type mutability unresolved (AssignPat-right pat) else None
-
-  -- the type of a parameter property: a private one is of any type; else the written type, or the one that the default shows, or none
-  abbrev pub param_property_type : Tree → Tree
-  param_property_type p =
-      let type = BindingIdent-type_ann (param_target p) in
-      if is_private (TsParamProp-accessibility p) then any_type_ann
-      else (if is_absent type then type_or_none (default_type (mutability_of_property (TsParamProp-readonly p)) (TsParamProp-param p)) else type)
-
-  -- `declare name: type;` for a parameter property
-  abbrev pub param_property : Tree → Tree
-  param_property p = declared_property (param_property_head p) (param_property_type p)
-
-  -- the properties that a constructor declares by its parameters, if it is not at fault, and no other member
-  abbrev pub declared_by_params : Tree → List Tree
-  declared_by_params m =
-      if kind_of m is kinds.Constructor then unless_any (patterns_among (param_properties m)) (map param_property (param_properties m)) else []
-
   -- the members of a class: the mark for hash names, the properties that are declared by parameters, and what stays of the others
   abbrev pub members_seen : List Tree → List Seen
   members_seen members =
-      let kept = kept_members members in map written (hash_mark members ++ flat_map declared_by_params kept) ++ map member_seen kept
+      let kept = kept_members members in map written (hash_mark members ++ flat_map (declared_by_params bindings.unresolved) kept) ++ map member_seen kept
 
   -- a class that is not ambient
   abbrev pub plain_class_seen : Tree → Seen

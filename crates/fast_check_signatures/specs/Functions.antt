@@ -3,7 +3,6 @@
 use Rattle.std.specs.Prelude.{ℕ, suc, Bool, true, false, Option, Some, None, List, [], ◌∷◌, map, if◌then◌else◌}
 use Rattle.fast_check_syntax.specs.declared.kind.Kind.TheVariants.{Param, BlockStmt, RestPat}
 use Rattle.fast_check_syntax.specs.declared.source.SourceRange.{SourceRange}
-use Rattle.fast_check_syntax.specs.declared.source.SyntaxContext.{SyntaxContext}
 use Rattle.fast_check_syntax.specs.declared.tree.Tree.{Tree, Absent}
 use Rattle.fast_check_syntax.specs.Shape.{◌is◌, kind_of, parts, is_absent, list}
 use Rattle.fast_check_class_forms.specs.Functions.{Function-span, Function-params, Function-ctxt, Function-body, Function-is_generator, Function-is_async}
@@ -20,6 +19,7 @@ use Rattle.fast_check_signatures.specs.declared.fault.FaultKind.{FaultKind}
 use Rattle.fast_check_signatures.specs.declared.fault.FaultKind.TheVariants.{MissingExplicitReturnType}
 use Rattle.fast_check_signatures.specs.declared.function_kind.FunctionKind.{FunctionKind}
 use Rattle.fast_check_signatures.specs.declared.function_kind.FunctionKind.TheVariants.{DeclarationLike, ExpressionLike, Getter, Setter}
+use Rattle.fast_check_signatures.specs.Bindings.{Bindings}
 use Rattle.fast_check_signatures.specs.Seen.{FunctionHead, ArrowHead, Seen, written, range, round, function, typed_arrow, valued_arrow, faulty, seens}
 use Rattle.fast_check_signatures.specs.NewNodes.{promised, void_or_promise_void, any_param}
 use Rattle.fast_check_signatures.specs.Parameters.{Look, pats_seen}
@@ -105,23 +105,23 @@ abbrev pub or_own : Option SourceRange → SourceRange → SourceRange
 or_own (Some place) own = place
 or_own None own = own
 
-module _ (unresolved : SyntaxContext) (look : Look) where
+module _ (bindings : Bindings) (look : Look) where
   -- a function, with its kind and the place of a fault of its return type
   abbrev pub function_seen : FunctionKind → SourceRange → Tree → Seen
   function_seen kind place t =
       let params = parts (Function-params t) in
-      signature_seen t (return_type_seen kind place t) (params_seen params (pats_seen unresolved look (map (λ p. Param-pat p) params)))
+      signature_seen t (return_type_seen kind place t) (params_seen params (pats_seen bindings look (map (λ p. Param-pat p) params)))
 
   -- an arrow without a written return type, by the type that its value shows
   abbrev pub by_value : Tree → SourceRange → List Seen → Option Tree → Seen
-  by_value t place pats (Some type) = typed_arrow_seen t pats (written (type_ann (promised unresolved (ArrowExpr-is_async t) type)))
+  by_value t place pats (Some type) = typed_arrow_seen t pats (written (type_ann (promised bindings.unresolved (ArrowExpr-is_async t) type)))
   by_value t place pats None = valued_arrow_seen t place pats (look (ArrowExpr-body t) None)
 
   abbrev pub untyped_arrow_seen : Tree → SourceRange → List Seen → Seen
   untyped_arrow_seen t place pats =
       let body = ArrowExpr-body t in
       if kind_of body is BlockStmt then typed_arrow_seen t pats (class_seen ExpressionLike (ArrowExpr-is_async t) place (return_class body))
-      else by_value t place pats (inferred_type Mutable unresolved body)
+      else by_value t place pats (inferred_type Mutable bindings.unresolved body)
 
   abbrev pub arrow_by_type : Tree → SourceRange → List Seen → Seen
   arrow_by_type t place pats =
@@ -130,4 +130,4 @@ module _ (unresolved : SyntaxContext) (look : Look) where
 
   -- an arrow
   abbrev pub arrow_seen : Option SourceRange → Tree → Seen
-  arrow_seen place t = arrow_by_type t (or_own place (ArrowExpr-span t)) (pats_seen unresolved look (parts (ArrowExpr-params t)))
+  arrow_seen place t = arrow_by_type t (or_own place (ArrowExpr-span t)) (pats_seen bindings look (parts (ArrowExpr-params t)))

@@ -1,4 +1,5 @@
 pub mod Seen
+pub mod Bindings
 pub mod NewNodes
 pub mod Parameters
 pub mod Functions

@@ -4,7 +4,6 @@ use Rattle.std.specs.List.{list_all}
 use Rattle.fast_check_syntax.specs.declared.kind.Kind.{Kind}
 use Rattle.fast_check_syntax.specs.declared.kind.Kind.TheVariants as kinds
 use Rattle.fast_check_syntax.specs.declared.source.SourceRange.{SourceRange}
-use Rattle.fast_check_syntax.specs.declared.source.SyntaxContext.{SyntaxContext}
 use Rattle.fast_check_syntax.specs.declared.tree.Tree.{Tree}
 use Rattle.fast_check_syntax.specs.Shape.{kind_of, is_absent, list}
 use Rattle.fast_check_expression_forms.specs.Patterns.{ArrayPat-span, ArrayPat-optional, ArrayPat-type_ann, array_pat, ObjectPat-span, ObjectPat-optional}
@@ -17,6 +16,7 @@ use Rattle.fast_check_helpers.specs.Builders.{type_ann, never_value}
 use Rattle.fast_check_helpers.specs.InferredType.{inferred_type}
 use Rattle.fast_check_helpers.specs.OptionalParams.{is_optional_param}
 use Rattle.fast_check_signatures.specs.declared.fault.FaultKind.TheVariants.{MissingExplicitType, UnsupportedDestructuring}
+use Rattle.fast_check_signatures.specs.Bindings.{Bindings}
 use Rattle.fast_check_signatures.specs.Seen.{Seen, written, default, faulty}
 use Rattle.fast_check_signatures.specs.NewNodes.{never_array, empty_object_pat, or_undefined}
 
@@ -64,7 +64,7 @@ without_default false id type = binding_ident (with_optional false id) (or_undef
 abbrev pub default_seen : SourceRange → SourceRange → Tree → Seen → Seen
 default_seen span place left value = default (record { span = span; left = left; place = place }) value
 
-module _ (unresolved : SyntaxContext) (look : Look) where
+module _ (bindings : Bindings) (look : Look) where
   -- an identifier with a default, whose type is written, or shown by the default, or else left to it
   abbrev pub by_shown : Bool → Tree → Option Tree → Seen
   by_shown is_optional pat (Some type) = written (without_default is_optional (BindingIdent-id (AssignPat-left pat)) (type_ann type))
@@ -75,7 +75,7 @@ module _ (unresolved : SyntaxContext) (look : Look) where
   abbrev pub ident_default_seen : Bool → Tree → Seen
   ident_default_seen is_optional pat =
       let id = AssignPat-left pat in
-      if is_absent (BindingIdent-type_ann id) then by_shown is_optional pat (inferred_type Mutable unresolved (AssignPat-right pat))
+      if is_absent (BindingIdent-type_ann id) then by_shown is_optional pat (inferred_type Mutable bindings.unresolved (AssignPat-right pat))
       else written (without_default is_optional (BindingIdent-id id) (BindingIdent-type_ann id))
 
   -- a pattern with a default: behind a written type, `never` stands for the default

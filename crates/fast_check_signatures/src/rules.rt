@@ -72,3 +72,12 @@ pub const FREEZE: [Slot; 5] = [
     Slot::Value,
     Slot::Written,
 ];
+
+/// `new C(x)` of a class without type parameters: the arguments as they stay.
+pub const NEW: [Slot; 5] = [
+    Slot::Span,
+    Slot::Scope,
+    Slot::Written,
+    Slot::Value,
+    Slot::Written,
+];

@@ -49,7 +49,7 @@ use Rattle.fast_check_signatures.specs.Answers.{answer_of}
 use Rattle.fast_check_signatures.specs.Classes.{plain_class_seen, ambient_class}
 use Rattle.fast_check_signatures.specs.Expressions.{expr_seen}
 use Rattle.fast_check_signatures.specs.Functions.{function_seen, implementation_seen}
-use Rattle.fast_check_same_values.specs.SameValues.{Both, SameExpr}
+use Rattle.fast_check_same_values.specs.SameValues.{SameBindings, Both, SameExpr}
 use Rattle.fast_check_same_values.specs.SameValues as v
 use Rattle.fast_check_same_values.proofs.AlikeTrees.{TreeAlike, scope_to, image_alike, new_alike, absent_alike, range_leaf_alike, flag_leaf_alike, node_alike}
 use Rattle.fast_check_same_values.proofs.AlikeTrees.{range_field_alike}
@@ -146,7 +146,7 @@ module _ (r : Renaming) (ok : IsRenaming r) where
     -- ---- declarators
 
     abbrev shown_of : Surroundings → DeclMutabilityKind → Tree → Option Tree
-    shown_of around mutability d = inferred_type mutability around.unresolved (VarDeclarator-init d)
+    shown_of around mutability d = inferred_type mutability around.bindings.unresolved (VarDeclarator-init d)
 
     of_ident : (around : Surroundings) (mutability : DeclMutabilityKind) (d : Tree) → kind_of (VarDeclarator-name d) ≡ BindingIdent →
         declarator_seen around mutability d ≡ ident_declarator_seen around mutability d
@@ -198,37 +198,37 @@ module _ (r : Renaming) (ok : IsRenaming r) where
     ident_place t u s = range_from r ok (Ident-span t) (Ident-span u) (range_field_alike r ok Ident-span _ (λ t. refl) t u (tree_to r ok s))
 
     -- values that show no type
-    kept_alike : IsPair r.scopes a.unresolved.0 b.unresolved.0 → (t u : Tree) → SameHead r a b t u →
-        SameExpr r a.unresolved b.unresolved (VarDeclarator-init t) (VarDeclarator-init u) → UntypedAlike t u None None
+    kept_alike : SameBindings r a.bindings b.bindings → (t u : Tree) → SameHead r a b t u →
+        SameExpr r a.bindings b.bindings (VarDeclarator-init t) (VarDeclarator-init u) → UntypedAlike t u None None
     kept_alike c t u d f =
         let place = Ident-span (declared_ident t) in
         let place' = Ident-span (declared_ident u) in
         let value = VarDeclarator-init t in
         let value' = VarDeclarator-init u in
         let same : Alike r ok (value_seen a place value) (value_seen b place' value') =
-        alike_if r ok (is_absent value) (is_absent value') refused (expr_seen a.unresolved value (Some place)) refused
-        (expr_seen b.unresolved value' (Some place'))
-        (expr_absent r ok a.unresolved b.unresolved f) (λ e. refl)
-        (λ e. expr_alike r ok a.unresolved b.unresolved c f (Some place) (Some place')
+        alike_if r ok (is_absent value) (is_absent value') refused (expr_seen a.bindings value (Some place)) refused
+        (expr_seen b.bindings value' (Some place'))
+        (expr_absent r ok a.bindings b.bindings f) (λ e. refl)
+        (λ e. expr_alike r ok a.bindings b.bindings c f (Some place) (Some place')
         (ap Some (range_to r ok place place' (ident_place (declared_ident t) (declared_ident u) d.ident)))) in
         λ i. declarator (head_alike t u d i) (same i)
 
     -- equal values
-    same_alike : IsPair r.scopes a.unresolved.0 b.unresolved.0 → (t u : Tree) → SameHead r a b t u → SameTree r (VarDeclarator-init t) (VarDeclarator-init u) →
+    same_alike : SameBindings r a.bindings b.bindings → (t u : Tree) → SameHead r a b t u → SameTree r (VarDeclarator-init t) (VarDeclarator-init u) →
         (o o' : Option Tree) → option_map (moved (partners r)) o ≡ option_map (moved twice) o' → UntypedAlike t u o o'
     same_alike c t u d s (Some x) (Some y) e = shown_alike t u x y d (ap (λ o. unwrap_or o (moved twice y)) e)
     same_alike c t u d s None None e = kept_alike c t u d (v.SameExpr.same s)
     same_alike c t u d s (Some x) None e = cc
     same_alike c t u d s None (Some y) e = cc
 
-    same_shown : (mutability : DeclMutabilityKind) (v w : Tree) → IsPair r.scopes a.unresolved.0 b.unresolved.0 → SameTree r v w →
-        option_map (moved (partners r)) (inferred_type mutability a.unresolved v) ≡ option_map (moved twice) (inferred_type mutability b.unresolved w)
+    same_shown : (mutability : DeclMutabilityKind) (v w : Tree) → SameBindings r a.bindings b.bindings → SameTree r v w →
+        option_map (moved (partners r)) (inferred_type mutability a.bindings.unresolved v) ≡ option_map (moved twice) (inferred_type mutability b.bindings.unresolved w)
     same_shown mutability v w c s =
-        sym (inferred_type_moved (partners r) (partners_keep r ok) mutability a.unresolved v)
-        ∙ (ap₂ (inferred_type mutability) (scope_to r ok a.unresolved b.unresolved c) (tree_to r ok s) ∙
-        inferred_type_moved twice twice_keeps mutability b.unresolved w)
+        sym (inferred_type_moved (partners r) (partners_keep r ok) mutability a.bindings.unresolved v)
+        ∙ (ap₂ (inferred_type mutability) (scope_to r ok a.bindings.unresolved b.bindings.unresolved c.unresolved) (tree_to r ok s) ∙
+        inferred_type_moved twice twice_keeps mutability b.bindings.unresolved w)
 
-    declarator_alike : IsPair r.scopes a.unresolved.0 b.unresolved.0 → (mutability : DeclMutabilityKind) {t u : Tree} → SameDeclarator r a b mutability t u →
+    declarator_alike : SameBindings r a.bindings b.bindings → (mutability : DeclMutabilityKind) {t u : Tree} → SameDeclarator r a b mutability t u →
         Alike r ok (declarator_seen a mutability t) (declarator_seen b mutability u)
     declarator_alike c mutability (h.SameDeclarator.typed {t = t} {u = u} d w) = declared mutability t u d (λ e. cc)
     declarator_alike c mutability (h.SameDeclarator.inferred {t = t} {u = u} x y d f g s) =
@@ -284,7 +284,7 @@ module _ (r : Renaming) (ok : IsRenaming r) where
 
     -- what is seen of a function that is no implementation
     abbrev here : Surroundings → Tree → Seen
-    here around t = function_seen around.unresolved (expr_seen around.unresolved) DeclarationLike (Ident-span (FnDecl-ident t)) (FnDecl-function t)
+    here around t = function_seen around.bindings (expr_seen around.bindings) DeclarationLike (Ident-span (FnDecl-ident t)) (FnDecl-function t)
 
     abbrev signature_if : Surroundings → Tree → Bool → Seen → Seen
     signature_if around t is_implementation seen = if is_implementation then implementation_seen (FnDecl-function t) else seen
@@ -315,7 +315,7 @@ module _ (r : Renaming) (ok : IsRenaming r) where
 
     abbrev class_if : Surroundings → Tree → Bool → Seen
     class_if around t is_ambient' =
-        if is_ambient' then written (ambient_class (ClassDecl-class t)) else plain_class_seen around.unresolved around.is_implementation (ClassDecl-class t)
+        if is_ambient' then written (ambient_class (ClassDecl-class t)) else plain_class_seen around.bindings around.is_implementation (ClassDecl-class t)
 
     classes_alike : (p q : SourceRange) (t u : Tree) → SameClassDecl r a b t u → a.is_public p ≡ b.is_public q → Alike r ok (class_in a t) (class_in b u) →
         AllAlike r ok (public_class a p t) (public_class b q u)
@@ -355,7 +355,7 @@ module _ (r : Renaming) (ok : IsRenaming r) where
     abbrev declared_as : Tree → DeclMutabilityKind
     declared_as statement = mutability_of (VarDecl-kind statement)
 
-    decl_alike : IsPair r.scopes a.unresolved.0 b.unresolved.0 → a.is_ambient ≡ b.is_ambient →
+    decl_alike : SameBindings r a.bindings b.bindings → a.is_ambient ≡ b.is_ambient →
         (p q : SourceRange) (t u : Tree) → SameDecl r a b p q t u → DeclsAlike p q t u
     decl_alike c m p q t u (h.SameDecl.variable d n rest) = of_variables p q t u (SameDeclarator r a b (declared_as t)) d go rest
       where
@@ -377,12 +377,12 @@ module _ (r : Renaming) (ok : IsRenaming r) where
     decl_alike c m p q t u (h.SameDecl.function d e f g) =
         of_functions p q t u d.kinds (public_alike p q t u d.is_public (declared_function p q t u m d
         (subst₂ (λ x y. Alike r ok (signature_if a t x (here a t)) (signature_if b u y (here b u))) (sym e) (sym f)
-        (function_alike r ok a.unresolved b.unresolved c g DeclarationLike (Ident-span (FnDecl-ident t)) (Ident-span (FnDecl-ident u))
+        (function_alike r ok a.bindings b.bindings c g DeclarationLike (Ident-span (FnDecl-ident t)) (Ident-span (FnDecl-ident u))
         (range_to r ok (Ident-span (FnDecl-ident t)) (Ident-span (FnDecl-ident u)) (ident_place (FnDecl-ident t) (FnDecl-ident u) d.ident))))))
     decl_alike c m p q t u (h.SameDecl.implementation d e f g) =
         of_functions p q t u d.kinds (public_alike p q t u d.is_public (declared_function p q t u m d
         (subst₂ (λ x y. Alike r ok (signature_if a t x (here a t)) (signature_if b u y (here b u))) (sym e) (sym f)
-        (implementation_alike r ok a.unresolved b.unresolved (FnDecl-function t) (FnDecl-function u) g))))
+        (implementation_alike r ok a.bindings b.bindings (FnDecl-function t) (FnDecl-function u) g))))
     decl_alike c m p q t u (h.SameDecl.ambient_function k e f s) =
         of_functions p q t u k (public_alike p q t u e
         (subst₂ (λ x y. Alike r ok (if x then written t else function_form a p t) (if y then written u else function_form b q u))
@@ -390,11 +390,11 @@ module _ (r : Renaming) (ok : IsRenaming r) where
     decl_alike c m p q t u (h.SameDecl.class d e n s) =
         let n' = sym (ambient_class_same t u m d.declare) ∙ n in
         of_classes p q t u d.kinds (classes_alike p q t u d e (subst₂ (λ x y. Alike r ok (class_if a t x) (class_if b u y)) (sym n) (sym n')
-        (class_alike r ok a.unresolved b.unresolved a.is_implementation b.is_implementation c (ClassDecl-class t) (ClassDecl-class u) s)))
+        (class_alike r ok a.bindings b.bindings a.is_implementation b.is_implementation c (ClassDecl-class t) (ClassDecl-class u) s)))
     decl_alike c m p q t u (h.SameDecl.ambient_class d e n s) =
         let n' = sym (ambient_class_same t u m d.declare) ∙ n in
         of_classes p q t u d.kinds (classes_alike p q t u d e (subst₂ (λ x y. Alike r ok (class_if a t x) (class_if b u y)) (sym n) (sym n')
-        (written_alike r ok _ _ (ambient_class_alike r ok a.unresolved b.unresolved a.is_implementation b.is_implementation (ClassDecl-class t)
+        (written_alike r ok _ _ (ambient_class_alike r ok a.bindings b.bindings a.is_implementation b.is_implementation (ClassDecl-class t)
         (ClassDecl-class u) s))))
     decl_alike c m p q t u (h.SameDecl.using k d e s) =
         by_rule p q t u Using (ap decl_rule k.left) (ap decl_rule k.right) refl
@@ -413,7 +413,7 @@ module _ (r : Renaming) (ok : IsRenaming r) where
         (ap (λ x. x ∷ []) (faulty_alike r ok UnsupportedAmbientModule place place' (range_to r ok place place' s'))))
 
     -- declarations that agree are taken
-    pub decl_taken : IsPair r.scopes a.unresolved.0 b.unresolved.0 → a.is_ambient ≡ b.is_ambient →
+    pub decl_taken : SameBindings r a.bindings b.bindings → a.is_ambient ≡ b.is_ambient →
         (p q : SourceRange) (t u : Tree) → SameDecl r a b p q t u →
         (is_taken_decl (decl_rule (kind_of t)) ≡ true) × (is_taken_decl (decl_rule (kind_of u)) ≡ true)
     decl_taken c m p q t u d = let e = decl_alike c m p q t u d in (e.left, e.right)
@@ -477,7 +477,7 @@ module _ (r : Renaming) (ok : IsRenaming r) where
   namespace_kinds (h.SameNamespace.bodies d s) = d.kinds
 
   mutual
-    pub item_alike : {a b : Surroundings} {t u : Tree} → IsPair r.scopes a.unresolved.0 b.unresolved.0 → a.is_ambient ≡ b.is_ambient →
+    pub item_alike : {a b : Surroundings} {t u : Tree} → SameBindings r a.bindings b.bindings → a.is_ambient ≡ b.is_ambient →
         SameItem r a b t u → AllAlike r ok (item_seen a t) (item_seen b u)
     item_alike c m (h.SameItem.decl {a = a} {b = b} {t = t} {u = u} d) =
         let e = decl_alike a b c m (range_of_node t) (range_of_node u) t u d in
@@ -508,12 +508,12 @@ module _ (r : Renaming) (ok : IsRenaming r) where
         (subst₂ (λ x y. AllAlike r ok (seen_by_rule a t x) (seen_by_rule b u y)) (sym e) (sym f)
         (ap (λ x. faulty kind x ∷ []) (range_to r ok (range_of_node t) (range_of_node u) s)))
 
-    namespaces_alike : {a b : Surroundings} {p q : SourceRange} {t u : Tree} → IsPair r.scopes a.unresolved.0 b.unresolved.0 → a.is_ambient ≡ b.is_ambient →
+    namespaces_alike : {a b : Surroundings} {p q : SourceRange} {t u : Tree} → SameBindings r a.bindings b.bindings → a.is_ambient ≡ b.is_ambient →
         SameNamespace r a b p q t u → AllAlike r ok (namespace_seen item_look a p t) (namespace_seen item_look b q u)
     namespaces_alike c m (h.SameNamespace.bodies {a = a} {b = b} {p = p} {q = q} {t = t} {u = u} d s) =
         namespace_alike a b p q t u d (body_alike c (ap₂ (λ x y. x || y) m d.declare) s)
 
-    body_alike : {a b : Surroundings} {t u : Tree} → IsPair r.scopes a.unresolved.0 b.unresolved.0 → a.is_ambient ≡ b.is_ambient →
+    body_alike : {a b : Surroundings} {t u : Tree} → SameBindings r a.bindings b.bindings → a.is_ambient ≡ b.is_ambient →
         SameBody r a b t u → Alike r ok (body_round (body_seen item_look a (block_items (innermost t))) t)
         (body_round (body_seen item_look b (block_items (innermost u))) u)
     body_alike c m (h.SameBody.block {a = a} {b = b} {t = t} {u = u} n s rest) =
@@ -523,7 +523,7 @@ module _ (r : Renaming) (ok : IsRenaming r) where
         subst₂ (Alike r ok) (sym (body_of_inner (body_seen item_look a) t (ap (λ k. k is TsNamespaceDecl) d.kinds.left)))
         (sym (body_of_inner (body_seen item_look b) u (ap (λ k. k is TsNamespaceDecl) d.kinds.right))) (inner_alike t u _ _ d (body_alike c m s))
 
-    items_alike : {a b : Surroundings} {ts us : List Tree} → IsPair r.scopes a.unresolved.0 b.unresolved.0 → a.is_ambient ≡ b.is_ambient →
+    items_alike : {a b : Surroundings} {ts us : List Tree} → SameBindings r a.bindings b.bindings → a.is_ambient ≡ b.is_ambient →
         SameItems r a b ts us → AllAlike r ok (body_seen item_look a ts) (body_seen item_look b us)
     items_alike c m h.SameItems.end = refl
     items_alike c m (h.SameItems.left {a = a} {b = b} {t = t} {ts = ts} {us = us} q n rest) =
@@ -536,7 +536,7 @@ module _ (r : Renaming) (ok : IsRenaming r) where
 
   module _ (a b : Surroundings) where
     visible_alike : (t u : Tree) → AgreeHidden r a b t u → AllAlike r ok (visible a t) (visible b u)
-    visible_alike t u g = items_alike g.unresolved g.is_ambient g.items
+    visible_alike t u g = items_alike g.bindings g.is_ambient g.items
 
     -- ---- answers
 

@@ -19,7 +19,7 @@ use Rattle.fast_check_signatures.specs.Classes.{plain_class_seen}
 use Rattle.fast_check_signatures.specs.Expressions.{expr_seen}
 use Rattle.fast_check_signatures.specs.Functions.{function_seen, implementation_seen}
 use Rattle.fast_check_signatures.specs.Seen.{Seen, written, range, round, default_export, seens}
-use Rattle.fast_check_same_values.specs.SameValues.{Both, SameFunction}
+use Rattle.fast_check_same_values.specs.SameValues.{SameBindings, Both, SameFunction}
 use Rattle.fast_check_same_values.specs.SameValues as v
 use Rattle.fast_check_same_values.proofs.Alike.{expr_alike, function_alike}
 use Rattle.fast_check_same_values.proofs.AlikeClasses.{class_alike}
@@ -91,12 +91,12 @@ module _ (r : Renaming) (ok : IsRenaming r) (a b : Surroundings) where
   -- ---- functions
 
   -- where the functions begin
-  spans_alike : (t u : Tree) → SameFunction r a.unresolved b.unresolved t u → RangeAlike r ok (Function-span t) (Function-span u)
+  spans_alike : (t u : Tree) → SameFunction r a.bindings b.bindings t u → RangeAlike r ok (Function-span t) (Function-span u)
   spans_alike t u (v.SameFunction.typed_function h n w ps) = range_to r ok (Function-span t) (Function-span u) h.span
   spans_alike t u (v.SameFunction.classed_function h n f ps) = range_to r ok (Function-span t) (Function-span u) h.span
 
   places_alike : (t u : Tree) → SameTree r (FnExpr-ident t) (FnExpr-ident u) →
-      SameFunction r a.unresolved b.unresolved (FnExpr-function t) (FnExpr-function u) → RangeAlike r ok (default_place t) (default_place u)
+      SameFunction r a.bindings b.bindings (FnExpr-function t) (FnExpr-function u) → RangeAlike r ok (default_place t) (default_place u)
   places_alike t u d f =
       go (is_absent (FnExpr-ident t)) (is_absent (FnExpr-ident u)) (absent_alike r ok (FnExpr-ident t) (FnExpr-ident u) (tree_to r ok d))
       (spans_alike (FnExpr-function t) (FnExpr-function u) f)
@@ -114,7 +114,7 @@ module _ (r : Renaming) (ok : IsRenaming r) (a b : Surroundings) where
   abbrev signature_if : Surroundings → Tree → Bool → Seen
   signature_if around decl is_implementation =
       if is_implementation then implementation_seen (FnExpr-function decl)
-      else function_seen around.unresolved (expr_seen around.unresolved) DeclarationLike (default_place decl) (FnExpr-function decl)
+      else function_seen around.bindings (expr_seen around.bindings) DeclarationLike (default_place decl) (FnExpr-function decl)
 
   abbrev function_form : Surroundings → SourceRange → Tree → Seen
   function_form around place decl = round kinds.FnExpr (seens (written (FnExpr-ident decl) ∷ default_signature around place decl ∷ []))
@@ -136,7 +136,7 @@ module _ (r : Renaming) (ok : IsRenaming r) (a b : Surroundings) where
 
   -- ---- all
 
-  pub defaults_alike : IsPair r.scopes a.unresolved.0 b.unresolved.0 → a.is_ambient ≡ b.is_ambient → (t u : Tree) →
+  pub defaults_alike : SameBindings r a.bindings b.bindings → a.is_ambient ≡ b.is_ambient → (t u : Tree) →
       SameDefault r a b t u → DefaultsAlike t u
   defaults_alike c m t u (s.SameDefault.value k d e f) = record {
     rule = Value;
@@ -144,7 +144,7 @@ module _ (r : Renaming) (ok : IsRenaming r) (a b : Surroundings) where
     right = rule_by_kind u kinds.ExportDefaultExpr k.right;
     alike = all_alike_if r ok (is_public_value a t) (is_public_value b u) (default_value_seen a t) (default_value_seen b u) e
         (λ i. default_export (range_to r ok (ExportDefaultExpr-span t) (ExportDefaultExpr-span u) d i)
-        (expr_alike r ok a.unresolved b.unresolved c f None None refl i));
+        (expr_alike r ok a.bindings b.bindings c f None None refl i));
     begins = subst₂ (SameRange r) (sym (range_of_default_value t k.left)) (sym (range_of_default_value u k.right)) d;
   }
   defaults_alike c m t u (s.SameDefault.class d n e) =
@@ -152,20 +152,20 @@ module _ (r : Renaming) (ok : IsRenaming r) (a b : Surroundings) where
       let decl' = ExportDefaultDecl-decl u in
       decls_alike kinds.ClassExpr Class refl t u d (default_class_seen a decl) (default_class_seen b decl') refl refl
       (round_alike r ok kinds.ClassExpr
-      (written (ClassExpr-ident decl) ∷ plain_class_seen a.unresolved a.is_implementation (ClassExpr-class decl) ∷ [])
-      (written (ClassExpr-ident decl') ∷ plain_class_seen b.unresolved b.is_implementation (ClassExpr-class decl') ∷ [])
+      (written (ClassExpr-ident decl) ∷ plain_class_seen a.bindings a.is_implementation (ClassExpr-class decl) ∷ [])
+      (written (ClassExpr-ident decl') ∷ plain_class_seen b.bindings b.is_implementation (ClassExpr-class decl') ∷ [])
       (λ i. same_written r ok n i ∷
-      class_alike r ok a.unresolved b.unresolved a.is_implementation b.is_implementation c (ClassExpr-class decl) (ClassExpr-class decl') e i ∷ []))
+      class_alike r ok a.bindings b.bindings a.is_implementation b.is_implementation c (ClassExpr-class decl) (ClassExpr-class decl') e i ∷ []))
   defaults_alike c m t u (s.SameDefault.function d e f g) =
       let decl = ExportDefaultDecl-decl t in
       let decl' = ExportDefaultDecl-decl u in
       functions_alike m t u d (subst₂ (λ x y. Alike r ok (signature_if a decl x) (signature_if b decl' y)) (sym e) (sym f)
-      (function_alike r ok a.unresolved b.unresolved c g DeclarationLike (default_place decl) (default_place decl') (places_alike decl decl' d.ident g)))
+      (function_alike r ok a.bindings b.bindings c g DeclarationLike (default_place decl) (default_place decl') (places_alike decl decl' d.ident g)))
   defaults_alike c m t u (s.SameDefault.implementation d e f g) =
       let decl = ExportDefaultDecl-decl t in
       let decl' = ExportDefaultDecl-decl u in
       functions_alike m t u d (subst₂ (λ x y. Alike r ok (signature_if a decl x) (signature_if b decl' y)) (sym e) (sym f)
-      (implementation_alike r ok a.unresolved b.unresolved (FnExpr-function decl) (FnExpr-function decl') g))
+      (implementation_alike r ok a.bindings b.bindings (FnExpr-function decl) (FnExpr-function decl') g))
   defaults_alike c m t u (s.SameDefault.ambient_function d e f) =
       let decl = ExportDefaultDecl-decl t in
       let decl' = ExportDefaultDecl-decl u in

@@ -33,7 +33,7 @@ use Rattle.fast_check_skeleton.specs.Hidden as h
 use Rattle.fast_check_skeleton.specs.Visible.{items_of}
 use Rattle.fast_check_skeleton.specs.Skeleton.{skeleton_of}
 use Rattle.fast_check_skeleton.specs.ClassExample.{void_function, function_f, method_m, class_of_members, class_c, static_block, empty_statement, parameter}
-use Rattle.fast_check_skeleton.specs.ClassExample.{module_of, first, second, no_places, all_public, property_m, ClassExample}
+use Rattle.fast_check_skeleton.specs.ClassExample.{module_of, first, second, no_places, no_classes, all_public, property_m, ClassExample}
 use Rattle.fast_check_typed_grammar.proofs.TypedFunctions.{absent}
 use Rattle.fast_check_skeleton.specs.Example.{at}
 use Rattle.fast_check_skeleton.proofs.Namespaces.{item_seen_is}
@@ -94,7 +94,7 @@ are_same t u x e f s = subst₂ Same (sym e) (sym f) s
 
 -- ---- the function
 
-function_head : (ps qs ss ts : List Tree) → SameFunctionHead no_places no_scope no_scope (void_function ps ss) (void_function qs ts)
+function_head : (ps qs ss ts : List Tree) → SameFunctionHead no_places no_classes no_classes (void_function ps ss) (void_function qs ts)
 function_head ps qs ss ts = record {
   span = at_places _ _ (simp (part_node, range_of_range)) (simp (part_node, range_of_range));
   ctxt = in_scopes _ _ (simp (part_node, context_of_context)) (simp (part_node, context_of_context));
@@ -102,7 +102,7 @@ function_head ps qs ss ts = record {
   has_body = simp (part_node, is_absent_node);
 }
 
-function_return : (ps qs ss ts : List Tree) → SameReturn no_places no_scope no_scope (void_function ps ss) (void_function qs ts)
+function_return : (ps qs ss ts : List Tree) → SameReturn no_places no_classes no_classes (void_function ps ss) (void_function qs ts)
 function_return ps qs ss ts = record {
   is_async = simp (part_node, flag_of_flag);
   is_generator = simp (part_node, flag_of_flag);
@@ -112,9 +112,9 @@ function_return ps qs ss ts = record {
 no_params : (ss : List Tree) → parts (Function-params (void_function [] ss)) ≡ []
 no_params ss = simp parts_node
 
-pub functions : (ss ts : List Tree) → SameFunction no_places no_scope no_scope (void_function [] ss) (void_function [] ts)
+pub functions : (ss ts : List Tree) → SameFunction no_places no_classes no_classes (void_function [] ss) (void_function [] ts)
 functions ss ts = v.SameFunction.typed_function (function_head [] [] ss ts) (function_return [] [] ss ts) (simp (part_node, is_absent_node))
-    (subst₂ (v.SameParams no_places no_scope no_scope) (sym (no_params ss)) (sym (no_params ts)) v.SameParams.no_params)
+    (subst₂ (v.SameParams no_places no_classes no_classes) (sym (no_params ss)) (sym (no_params ts)) v.SameParams.no_params)
 
 function_made : (ss : List Tree) → FnDecl-function (function_f ss) ≡ void_function [] ss
 function_made ss = part_node _ _ _
@@ -130,14 +130,14 @@ function_decls p q ss ts = record {
 
 function_items : (ss ts : List Tree) → SameItem no_places all_public all_public (function_f ss) (function_f ts)
 function_items ss ts = h.SameItem.decl (h.SameDecl.function (function_decls _ _ ss ts) refl refl
-    (subst₂ (SameFunction no_places no_scope no_scope) (sym (function_made ss)) (sym (function_made ts)) (functions ss ts)))
+    (subst₂ (SameFunction no_places no_classes no_classes) (sym (function_made ss)) (sym (function_made ts)) (functions ss ts)))
 
 -- ---- the class
 
 abbrev f : SourceRange → Bool
 f place = false
 
-method_heads : (ps qs : List Tree) → SamePropertyHead no_places no_scope no_scope f f (private_method_head (method_m ps)) (private_method_head (method_m qs))
+method_heads : (ps qs : List Tree) → SamePropertyHead no_places no_classes no_classes f f (private_method_head (method_m ps)) (private_method_head (method_m qs))
 method_heads ps qs = record {
   span = at_places _ _ (simp (part_node, range_of_range)) (simp (part_node, range_of_range));
   key = are_same _ _ (ident_name none_range (109 ∷ [])) (part_node _ _ _) (part_node _ _ _) (same_name (109 ∷ []));
@@ -158,7 +158,7 @@ block_begins = simp (kind_of_node, part_node, range_of_range)
 block_alone : IsNoPartner no_places.starts (range_of_node static_block).start.0
 block_alone n p = let q : IsPair no_places.starts n 7 = subst (λ s. IsPair no_places.starts n s.start.0) block_begins p in grind arith
 
-members : SameMembers no_places no_scope no_scope f f [] [] (method_m [] ∷ []) (static_block ∷ method_m (parameter ∷ []) ∷ [])
+members : SameMembers no_places no_classes no_classes f f [] [] (method_m [] ∷ []) (static_block ∷ method_m (parameter ∷ []) ∷ [])
 members = s.SameMembers.right (s.IsSilentMember.static_block (kind_of_node _ _)) block_alone (s.SameMembers.next
     (s.SameMember.private_method (record { left = kind_of_node _ _; right = kind_of_node _ _ }) (method_heads [] (parameter ∷ []))
     (ap (has_word words.Private) (part_node _ _ _) ∙ word_read words.Private words.Private)) s.SameMembers.end)
@@ -166,7 +166,7 @@ members = s.SameMembers.right (s.IsSilentMember.static_block (kind_of_node _ _))
 body_made : (ms : List Tree) → parts (Class-body (class_of_members ms)) ≡ ms
 body_made ms = simp parts_node
 
-class_heads : (ms ns : List Tree) → SameClassHead no_places no_scope no_scope f f (class_of_members ms) (class_of_members ns)
+class_heads : (ms ns : List Tree) → SameClassHead no_places no_classes no_classes f f (class_of_members ms) (class_of_members ns)
 class_heads ms ns = record {
   span = at_places _ _ (simp (part_node, range_of_range)) (simp (part_node, range_of_range));
   ctxt = in_scopes _ _ (simp (part_node, context_of_context)) (simp (part_node, context_of_context));
@@ -186,12 +186,12 @@ second_members = static_block ∷ method_m (parameter ∷ []) ∷ []
 neither_hashed : list_any is_hash_named first_members ≡ list_any is_hash_named second_members
 neither_hashed = simp kind_of_node
 
-classes : SameClass no_places no_scope no_scope f f (class_of_members first_members) (class_of_members second_members)
+classes : SameClass no_places no_classes no_classes f f (class_of_members first_members) (class_of_members second_members)
 classes = record {
   head = class_heads first_members second_members;
   hash_named = subst₂ (λ x y. list_any is_hash_named x ≡ list_any is_hash_named y) (sym (body_made first_members)) (sym (body_made second_members))
       neither_hashed;
-  members = subst₂ (SameMembers no_places no_scope no_scope f f [] []) (sym (body_made first_members)) (sym (body_made second_members)) members;
+  members = subst₂ (SameMembers no_places no_classes no_classes f f [] []) (sym (body_made first_members)) (sym (body_made second_members)) members;
 }
 
 class_made : (ms : List Tree) → ClassDecl-class (class_c ms) ≡ class_of_members ms
@@ -206,7 +206,7 @@ class_decls ms ns = record {
 
 class_items : SameItem no_places all_public all_public (class_c first_members) (class_c second_members)
 class_items = h.SameItem.decl (h.SameDecl.class (class_decls first_members second_members) refl (simp (part_node, flag_of_flag))
-    (subst₂ (SameClass no_places no_scope no_scope f f) (sym (class_made first_members)) (sym (class_made second_members)) classes))
+    (subst₂ (SameClass no_places no_classes no_classes f f) (sym (class_made first_members)) (sym (class_made second_members)) classes))
 
 -- ---- the modules
 
@@ -215,7 +215,7 @@ items_made items = simp parts_node
 
 agree : AgreeHidden no_places all_public all_public first second
 agree = record {
-  unresolved = inl (refl, refl);
+  bindings = record { unresolved = inl (refl, refl); is_plain_class = λ text x y p. refl };
   is_ambient = refl;
   items = subst₂ (SameItems no_places all_public all_public) (sym (items_made _)) (sym (items_made _))
       (h.SameItems.next (function_items [] (empty_statement ∷ [])) (h.SameItems.next class_items h.SameItems.end));

@@ -37,7 +37,7 @@ use Rattle.fast_check_same_values.specs.SameClasses.{HasNoPartner, IsNoPartner}
 use Rattle.fast_check_skeleton.specs.Hidden as h
 use Rattle.fast_check_skeleton.specs.SameDefaults.{SameDefaultDecl, SameDefault}
 use Rattle.fast_check_skeleton.specs.SameDefaults as defaults
-use Rattle.fast_check_same_values.specs.SameValues.{Both}
+use Rattle.fast_check_same_values.specs.SameValues.{SameBindings, Both}
 use Rattle.fast_check_same_values.specs.SameValues as v
 use Rattle.fast_check_skeleton.specs.Worlds.{TwoWorlds}
 use Rattle.fast_check_same_values.proofs.AlikeSeen.{AllAlike}
@@ -236,7 +236,7 @@ module _ (r : Renaming) (ok : IsRenaming r) where
     decl_begins p q t u (h.SameDecl.global k e f s) = of_modules t u k s
     decl_begins p q t u (h.SameDecl.ambient_module k e f n n' s s') = of_modules t u k s
 
-    item_begins : IsPair r.scopes a.unresolved.0 b.unresolved.0 → a.is_ambient ≡ b.is_ambient → (t u : Tree) → SameItem r a b t u →
+    item_begins : SameBindings r a.bindings b.bindings → a.is_ambient ≡ b.is_ambient → (t u : Tree) → SameItem r a b t u →
         SameRange r (range_of_node t) (range_of_node u)
     item_begins c m t u (h.SameItem.decl d) = decl_begins (range_of_node t) (range_of_node u) t u d
     item_begins c m t u (h.SameItem.exported k s d) = subst₂ (SameRange r) (sym (range_of_export t k.left)) (sym (range_of_export u k.right)) s
@@ -326,7 +326,7 @@ module _ (r : Renaming) (ok : IsRenaming r) where
       decl_inside x y t u m (h.SameDecl.implementation d e f g) = none_inside x y t u FnDecl d.kinds refl
       decl_inside x y t u m (h.SameDecl.ambient_function k e f g) = none_inside x y t u FnDecl k refl
       decl_inside x y t u m (h.SameDecl.class d e n s) = class_inside x y t u m d e (λ k.
-          class_removed r ok a.unresolved b.unresolved a.is_implementation b.is_implementation p q pair (ClassDecl-class t) (ClassDecl-class u) s)
+          class_removed r ok a.bindings b.bindings a.is_implementation b.is_implementation p q pair (ClassDecl-class t) (ClassDecl-class u) s)
       decl_inside x y t u m (h.SameDecl.ambient_class d e n s) = class_inside x y t u m d e (λ k. cc)
       decl_inside x y t u m (h.SameDecl.using k s e f) = none_inside x y t u UsingDecl k refl
       decl_inside x y t u m (h.SameDecl.global k e f s) = none_inside x y t u TsModuleDecl k refl
@@ -340,14 +340,14 @@ module _ (r : Renaming) (ok : IsRenaming r) where
           by_rules t u (Default Class) (default_by_kind t kinds.ClassExpr h.kinds.left h.decls.left)
           (default_by_kind u kinds.ClassExpr h.kinds.right h.decls.right)
           (among_if (a.is_public (ExportDefaultDecl-span t)) (b.is_public (ExportDefaultDecl-span u)) _ _ h.is_public
-          (class_removed r ok a.unresolved b.unresolved a.is_implementation b.is_implementation p q pair (ClassExpr-class (ExportDefaultDecl-decl t))
+          (class_removed r ok a.bindings b.bindings a.is_implementation b.is_implementation p q pair (ClassExpr-class (ExportDefaultDecl-decl t))
           (ClassExpr-class (ExportDefaultDecl-decl u)) e))
       default_inside t u (defaults.SameDefault.function h e f g) = no_class t u kinds.FnExpr Function h.head refl refl
       default_inside t u (defaults.SameDefault.implementation h e f g) = no_class t u kinds.FnExpr Function h.head refl refl
       default_inside t u (defaults.SameDefault.ambient_function h e f) = no_class t u kinds.FnExpr Function h refl refl
       default_inside t u (defaults.SameDefault.interface h e) = no_class t u kinds.TsInterfaceDecl Interface h refl refl
 
-      item_inside : IsPair r.scopes a.unresolved.0 b.unresolved.0 → a.is_ambient ≡ b.is_ambient → (t u : Tree) → SameItem r a b t u →
+      item_inside : SameBindings r a.bindings b.bindings → a.is_ambient ≡ b.is_ambient → (t u : Tree) → SameItem r a b t u →
           is_among p (starts_inside a t (item_rule t)) ≡ is_among q (starts_inside b u (item_rule u))
       item_inside c m t u (h.SameItem.decl d) =
           let e = decl_taken r ok a b c m (range_of_node t) (range_of_node u) t u d in
@@ -420,7 +420,7 @@ module _ (r : Renaming) (ok : IsRenaming r) where
           (ap₂ (λ m n. m && n) (d.namespaces.0 ∙ sym d.namespaces.1) d.public) e
 
   module _ (p q : ℕ) (pair : IsPair r.starts p q) where
-    item_removed : (a b : Surroundings) (t u : Tree) → IsPair r.scopes a.unresolved.0 b.unresolved.0 → a.is_ambient ≡ b.is_ambient →
+    item_removed : (a b : Surroundings) (t u : Tree) → SameBindings r a.bindings b.bindings → a.is_ambient ≡ b.is_ambient →
         SameItem r a b t u → is_among p (starts_below start_look a t (item_rule t)) ≡ is_among q (starts_below start_look b u (item_rule u)) →
         is_among p (removed_start a t) ≡ is_among q (removed_start b u)
     item_removed a b t u c m s below =
@@ -429,7 +429,7 @@ module _ (r : Renaming) (ok : IsRenaming r) where
         (item_inside a b p q pair c m t u s)
 
     mutual
-      item_below : {a b : Surroundings} {t u : Tree} → IsPair r.scopes a.unresolved.0 b.unresolved.0 → a.is_ambient ≡ b.is_ambient →
+      item_below : {a b : Surroundings} {t u : Tree} → SameBindings r a.bindings b.bindings → a.is_ambient ≡ b.is_ambient →
           SameItem r a b t u → is_among p (starts_below start_look a t (item_rule t)) ≡ is_among q (starts_below start_look b u (item_rule u))
       item_below c m (h.SameItem.decl {a = a} {b = b} {t = t} {u = u} d) =
           let e = decl_taken r ok a b c m (range_of_node t) (range_of_node u) t u d in
@@ -453,13 +453,13 @@ module _ (r : Renaming) (ok : IsRenaming r) where
           let e = defaults_alike r ok a b c m t u d in below_by_rules a b p q pair t u (Default e.rule) e.left e.right refl
       item_below c m (h.SameItem.refused {a = a} {b = b} {t = t} {u = u} kind e f s) = below_by_rules a b p q pair t u (Refused kind) e f refl
 
-      namespaces_removed : {a b : Surroundings} {x y : SourceRange} {t u : Tree} → IsPair r.scopes a.unresolved.0 b.unresolved.0 →
+      namespaces_removed : {a b : Surroundings} {x y : SourceRange} {t u : Tree} → SameBindings r a.bindings b.bindings →
           a.is_ambient ≡ b.is_ambient → SameNamespace r a b x y t u →
           is_among p (starts_in_namespace start_look a x t) ≡ is_among q (starts_in_namespace start_look b y u)
       namespaces_removed c m (h.SameNamespace.bodies {a = a} {b = b} {p = x} {q = y} {t = t} {u = u} d s) =
           namespace_removed a b p q pair x y t u d (body_removed c (ap₂ (λ x y. x || y) m d.declare) s)
 
-      body_removed : {a b : Surroundings} {t u : Tree} → IsPair r.scopes a.unresolved.0 b.unresolved.0 → a.is_ambient ≡ b.is_ambient →
+      body_removed : {a b : Surroundings} {t u : Tree} → SameBindings r a.bindings b.bindings → a.is_ambient ≡ b.is_ambient →
           SameBody r a b t u → is_among p (removed_from a (block_items (innermost t))) ≡ is_among q (removed_from b (block_items (innermost u)))
       body_removed c m (h.SameBody.block {a = a} {b = b} {t = t} {u = u} n s rest) =
           subst₂ (λ x y. is_among p (removed_from a (block_items x)) ≡ is_among q (removed_from b (block_items y))) (sym (innermost_block t n.left))
@@ -469,7 +469,7 @@ module _ (r : Renaming) (ok : IsRenaming r) where
           (sym (innermost_inner t (ap (λ k. k is TsNamespaceDecl) d.kinds.left))) (sym (innermost_inner u (ap (λ k. k is TsNamespaceDecl) d.kinds.right)))
           (body_removed c m s)
 
-      removed_alike : {a b : Surroundings} {ts us : List Tree} → IsPair r.scopes a.unresolved.0 b.unresolved.0 → a.is_ambient ≡ b.is_ambient →
+      removed_alike : {a b : Surroundings} {ts us : List Tree} → SameBindings r a.bindings b.bindings → a.is_ambient ≡ b.is_ambient →
           SameItems r a b ts us → is_among p (removed_from a ts) ≡ is_among q (removed_from b us)
       removed_alike c m h.SameItems.end = refl
       removed_alike c m (h.SameItems.left {a = a} {b = b} {t = t} {ts = ts} {us = us} s n rest) =
@@ -496,7 +496,7 @@ module _ (r : Renaming) (ok : IsRenaming r) where
       leading = λ p q pair.
           subst₂ (Each (SameComment r)) (sym (all_without p (removed_starts a t) (kept c))) (sym (all_without q (removed_starts b u) (kept d)))
           (each_if (is_among p (removed_starts a t)) (is_among q (removed_starts b u)) (all_comments_at p (kept c).leading) (all_comments_at q (kept d).leading)
-          (removed_alike p q pair g.unresolved g.is_ambient g.items) (s.leading p q pair));
+          (removed_alike p q pair g.bindings g.is_ambient g.items) (s.leading p q pair));
       trailing = subst₂ (SameAtPairs r r.ends) (sym (trailing_stay (removed_starts a t) (kept c)))
           (sym (trailing_stay (removed_starts b u) (kept d))) s.trailing;
     }

@@ -8,7 +8,6 @@ use Rattle.std.proofs.lemmas.List.Elements.{filter-append}
 use Rattle.fast_check_syntax.specs.declared.kind.Kind.{Kind}
 use Rattle.fast_check_syntax.specs.declared.kind.Kind.TheVariants as kinds
 use Rattle.fast_check_syntax.specs.declared.source.SourceRange.{SourceRange}
-use Rattle.fast_check_syntax.specs.declared.source.SyntaxContext.{SyntaxContext}
 use Rattle.fast_check_syntax.specs.declared.tree.Tree.{Tree, Absent, roll-Tree, out-roll-Tree}
 use Rattle.fast_check_syntax.specs.declared.tree.Tree.TheOpen.{Tree-F}
 use Rattle.fast_check_syntax.specs.Shape.{◌is◌, kind_at, kind_of, parts, is_absent, node, list, OfAll}
@@ -21,6 +20,7 @@ use Rattle.fast_check_class_forms.specs.Methods.{ClassMethod-is_abstract, ClassM
 use Rattle.fast_check_helpers.specs.declared.literal_type.DeclMutabilityKind.TheVariants.{Mutable}
 use Rattle.fast_check_helpers.specs.Builders.{type_ann, any_type_ann}
 use Rattle.fast_check_helpers.specs.InferredType.{inferred_type}
+use Rattle.fast_check_signatures.specs.Bindings.{Bindings}
 use Rattle.fast_check_signatures.specs.Seen.{PropertyHead, Seen, written, range, scope, flag, listed, seens}
 use Rattle.fast_check_signatures.specs.Answers.{settled, with_tree, class_of, declared_property, valued_property, answer_to, parts_answer, answer_of}
 use Rattle.fast_check_signatures.specs.Members.{is_private, is_hash_named_kind, is_hash_named, hash_mark, stays_by_kind, stays_behind, each_behind, if_kept}
@@ -72,59 +72,59 @@ written_stay : (ts : List Tree) → (answer_of (map written ts)).stays ≡ ts
 written_stay [] = refl
 written_stay (t ∷ ts) = ap (λ us. t ∷ us) (written_stay ts)
 
-module _ (unresolved : SyntaxContext) (is_implementation : SourceRange → Bool) where
+module _ (bindings : Bindings) (is_implementation : SourceRange → Bool) where
   -- ---- members
 
-  untyped_plain : (p : PropertyHead) (value : Tree) (o : Option Tree) → PlainSeen (untyped_property_seen unresolved is_implementation p value o)
+  untyped_plain : (p : PropertyHead) (value : Tree) (o : Option Tree) → PlainSeen (untyped_property_seen bindings is_implementation p value o)
   untyped_plain p value (Some type) = property_plain p (type_ann type)
   untyped_plain p value None = valued_plain p _
 
-  property_seen_plain : (m : Tree) → PlainSeen (property_seen unresolved is_implementation m)
+  property_seen_plain : (m : Tree) → PlainSeen (property_seen bindings is_implementation m)
   property_seen_plain m =
       of_choice PlainSeen (is_private (property_head m).accessibility) _ _ (λ e. property_plain (property_head m) any_type_ann)
       (λ e. of_choice PlainSeen (is_absent (ClassProp-type_ann m)) _ _
       (λ n. untyped_plain (property_head m) (ClassProp-value m)
-      (inferred_type (mutability_of_property (property_head m).readonly) unresolved (ClassProp-value m))) (λ w. property_plain (property_head m) (ClassProp-type_ann m)))
+      (inferred_type (mutability_of_property (property_head m).readonly) bindings.unresolved (ClassProp-value m))) (λ w. property_plain (property_head m) (ClassProp-type_ann m)))
 
-  shown_plain : (p : PropertyHead) (o : Option Tree) → PlainSeen (untyped_accessor_seen unresolved is_implementation p o)
+  shown_plain : (p : PropertyHead) (o : Option Tree) → PlainSeen (untyped_accessor_seen bindings is_implementation p o)
   shown_plain p (Some type) = property_plain p (type_ann type)
   shown_plain p None = plain_absent
 
-  accessor_seen_plain : (m : Tree) → PlainSeen (accessor_seen unresolved is_implementation m)
+  accessor_seen_plain : (m : Tree) → PlainSeen (accessor_seen bindings is_implementation m)
   accessor_seen_plain m =
       of_choice PlainSeen (is_private (accessor_head m).accessibility) _ _ (λ e. property_plain (accessor_head m) any_type_ann)
       (λ e. of_choice PlainSeen (is_absent (AutoAccessor-type_ann m))
-      (untyped_accessor_seen unresolved is_implementation (accessor_head m) (inferred_type Mutable unresolved (AutoAccessor-value m)))
-      (typed_property (accessor_head m) (AutoAccessor-type_ann m)) (λ n. shown_plain (accessor_head m) (inferred_type Mutable unresolved (AutoAccessor-value m)))
+      (untyped_accessor_seen bindings is_implementation (accessor_head m) (inferred_type Mutable bindings.unresolved (AutoAccessor-value m)))
+      (typed_property (accessor_head m) (AutoAccessor-type_ann m)) (λ n. shown_plain (accessor_head m) (inferred_type Mutable bindings.unresolved (AutoAccessor-value m)))
       (λ w. property_plain (accessor_head m) (AutoAccessor-type_ann m)))
 
   -- what is seen of a method that is not private, and of a constructor, part by part
   abbrev method_parts : Tree → List Seen
   method_parts m =
-      range (ClassMethod-span m) ∷ written (ClassMethod-key m) ∷ method_function_seen unresolved is_implementation m ∷ written (ClassMethod-kind m) ∷
+      range (ClassMethod-span m) ∷ written (ClassMethod-key m) ∷ method_function_seen bindings is_implementation m ∷ written (ClassMethod-kind m) ∷
       flag (ClassMethod-is_static m) ∷ written (ClassMethod-accessibility m) ∷ flag (ClassMethod-is_abstract m) ∷ flag (ClassMethod-is_optional m) ∷
       flag (ClassMethod-is_override m) ∷ []
 
   abbrev constructor_parts : Tree → List Seen
   constructor_parts m =
       range (Constructor-span m) ∷ scope (Constructor-ctxt m) ∷ written (Constructor-key m) ∷
-      listed (seens (constructor_params_seen unresolved is_implementation m)) ∷ written (constructor_body (Constructor-body m)) ∷
+      listed (seens (constructor_params_seen bindings is_implementation m)) ∷ written (constructor_body (Constructor-body m)) ∷
       written (Constructor-accessibility m) ∷ flag (Constructor-is_optional m) ∷ []
 
-  method_seen_plain : (m : Tree) → PlainSeen (method_seen unresolved is_implementation m)
+  method_seen_plain : (m : Tree) → PlainSeen (method_seen bindings is_implementation m)
   method_seen_plain m =
       of_choice PlainSeen (is_private (ClassMethod-accessibility m)) _ _ (λ e. property_plain (private_method_head m) any_type_ann)
       (λ n. of_node kinds.ClassMethod (parts_answer (seens (method_parts m))).stays (λ t. refl))
 
-  constructor_seen_plain : (m : Tree) → PlainSeen (constructor_seen unresolved is_implementation m)
+  constructor_seen_plain : (m : Tree) → PlainSeen (constructor_seen bindings is_implementation m)
   constructor_seen_plain m = go (patterns_among (param_properties m))
     where
-      go : (apart : List Tree) → PlainSeen (unless_taken_apart apart (constructor_of m (constructor_params_seen unresolved is_implementation m)))
+      go : (apart : List Tree) → PlainSeen (unless_taken_apart apart (constructor_of m (constructor_params_seen bindings is_implementation m)))
       go [] = of_node kinds.Constructor (parts_answer (seens (constructor_parts m))).stays (λ t. refl)
       go (p ∷ ps) = plain_absent
 
   by_kind : (k : Kind) (earlier : List Tree) (m : Tree) → kind_of m ≡ k → stays_by_kind k earlier m ≡ true →
-      PlainSeen (member_of_kind unresolved is_implementation k m)
+      PlainSeen (member_of_kind bindings is_implementation k m)
   by_kind kinds.Constructor earlier m k e = constructor_seen_plain m
   by_kind kinds.ClassMethod earlier m k e = method_seen_plain m
   by_kind kinds.ClassProp earlier m k e = property_seen_plain m
@@ -139,57 +139,57 @@ module _ (unresolved : SyntaxContext) (is_implementation : SourceRange → Bool)
       go None p = h
       go (Some t) p = (p, h)
 
-  kept_plain : (earlier ms : List Tree) → OfAll Plain (answer_of (map (member_seen unresolved is_implementation) (each_behind if_kept earlier ms))).stays
+  kept_plain : (earlier ms : List Tree) → OfAll Plain (answer_of (map (member_seen bindings is_implementation) (each_behind if_kept earlier ms))).stays
   kept_plain earlier [] = tt
   kept_plain earlier (m ∷ ms) = go (stays_behind earlier m) refl (kept_plain (m ∷ earlier) ms)
     where
       go : (b : Bool) → stays_behind earlier m ≡ b →
-          OfAll Plain (answer_of (map (member_seen unresolved is_implementation) (each_behind if_kept (m ∷ earlier) ms))).stays →
-          OfAll Plain (answer_of (map (member_seen unresolved is_implementation) ((if b then m ∷ [] else []) ++ each_behind if_kept (m ∷ earlier) ms))).stays
-      go true e rest = with_plain (member_seen unresolved is_implementation m) (map (member_seen unresolved is_implementation) (each_behind if_kept (m ∷ earlier) ms))
+          OfAll Plain (answer_of (map (member_seen bindings is_implementation) (each_behind if_kept (m ∷ earlier) ms))).stays →
+          OfAll Plain (answer_of (map (member_seen bindings is_implementation) ((if b then m ∷ [] else []) ++ each_behind if_kept (m ∷ earlier) ms))).stays
+      go true e rest = with_plain (member_seen bindings is_implementation m) (map (member_seen bindings is_implementation) (each_behind if_kept (m ∷ earlier) ms))
           (by_kind (kind_of m) earlier m refl e) rest
       go false e rest = rest
 
-  param_properties_plain : (ps : List Tree) → OfAll Plain (map (param_property unresolved is_implementation) ps)
+  param_properties_plain : (ps : List Tree) → OfAll Plain (map (param_property bindings.unresolved) ps)
   param_properties_plain [] = tt
   param_properties_plain (p ∷ ps) =
-      (property_plain (param_property_head p) (param_property_type unresolved is_implementation p), param_properties_plain ps)
+      (property_plain (param_property_head p) (param_property_type bindings.unresolved p), param_properties_plain ps)
 
-  declared_plain : (m : Tree) → OfAll Plain (declared_by_params unresolved is_implementation m)
+  declared_plain : (m : Tree) → OfAll Plain (declared_by_params bindings.unresolved m)
   declared_plain m = of_choice (OfAll Plain) (kind_of m is kinds.Constructor) _ _ (λ e. go (patterns_among (param_properties m))) (λ e. tt)
     where
-      go : (apart : List Tree) → OfAll Plain (unless_any apart (map (param_property unresolved is_implementation) (param_properties m)))
+      go : (apart : List Tree) → OfAll Plain (unless_any apart (map (param_property bindings.unresolved) (param_properties m)))
       go [] = param_properties_plain (param_properties m)
       go (p ∷ ps) = tt
 
-  all_declared : (ms : List Tree) → OfAll Plain (flat_map (declared_by_params unresolved is_implementation) ms)
+  all_declared : (ms : List Tree) → OfAll Plain (flat_map (declared_by_params bindings.unresolved) ms)
   all_declared [] = tt
-  all_declared (m ∷ ms) = all_of (declared_by_params unresolved is_implementation m) _ (declared_plain m) (all_declared ms)
+  all_declared (m ∷ ms) = all_of (declared_by_params bindings.unresolved m) _ (declared_plain m) (all_declared ms)
 
   -- ---- classes
 
   abbrev made_by : List Tree → List Tree
-  made_by ms = flat_map (declared_by_params unresolved is_implementation) (kept_members ms)
+  made_by ms = flat_map (declared_by_params bindings.unresolved) (kept_members ms)
 
   abbrev others_of : List Tree → List Tree
-  others_of ms = made_by ms ++ (answer_of (map (member_seen unresolved is_implementation) (kept_members ms))).stays
+  others_of ms = made_by ms ++ (answer_of (map (member_seen bindings is_implementation) (kept_members ms))).stays
 
-  members_are : (ms : List Tree) → (answer_of (members_seen unresolved is_implementation ms)).stays ≡ hash_mark ms ++ others_of ms
+  members_are : (ms : List Tree) → (answer_of (members_seen bindings is_implementation ms)).stays ≡ hash_mark ms ++ others_of ms
   members_are ms =
-      let kept = map (member_seen unresolved is_implementation) (kept_members ms) in
+      let kept = map (member_seen bindings is_implementation) (kept_members ms) in
       ap (λ a. a.stays) (answer_append (map written (hash_mark ms ++ made_by ms)) kept)
       ∙ (ap (λ ts. ts ++ (answer_of kept).stays) (written_stay (hash_mark ms ++ made_by ms))
       ∙ append_assoc (hash_mark ms) (made_by ms) (answer_of kept).stays)
 
   abbrev class_tree : Tree → Tree
   class_tree t = class_of (class_head t) (settled (answer_to (superclass_seen (Class-super_class t)))).stays
-      (answer_of (members_seen unresolved is_implementation (parts (Class-body t)))).stays
+      (answer_of (members_seen bindings is_implementation (parts (Class-body t)))).stays
 
   class_marked : (t : Tree) → IsMarked t (class_tree t)
   class_marked t =
       let ms = parts (Class-body t) in
-      let rest = (answer_of (map (member_seen unresolved is_implementation) (kept_members ms))).stays in
-      let members = (answer_of (members_seen unresolved is_implementation ms)).stays in
+      let rest = (answer_of (map (member_seen bindings is_implementation) (kept_members ms))).stays in
+      let members = (answer_of (members_seen bindings is_implementation ms)).stays in
       let body : Class-body (class_tree t) ≡ list members = part_node _ _ _ in
       record {
         rest = others_of ms;
@@ -199,5 +199,5 @@ module _ (unresolved : SyntaxContext) (is_implementation : SourceRange → Bool)
       }
 
 pub hash_marked : (class : Tree) → HashMarked class
-hash_marked class unresolved is_implementation skeleton e =
-    subst (IsMarked class) (ap (λ o. unwrap_or o Absent) e) (class_marked unresolved is_implementation class)
+hash_marked class bindings is_implementation skeleton e =
+    subst (IsMarked class) (ap (λ o. unwrap_or o Absent) e) (class_marked bindings is_implementation class)

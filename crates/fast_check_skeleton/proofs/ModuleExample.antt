@@ -9,7 +9,6 @@ use Rattle.fast_check_syntax.proofs.Made.{kind_of_node, parts_node, part_node, i
 use Rattle.fast_check_syntax.proofs.Moved.{node_moved, absent_moved, text_moved, context_moved, flag_moved, range_moved, none_moved}
 use Rattle.fast_check_expression_forms.specs.Expressions.{FnExpr-ident, FnExpr-function}
 use Rattle.fast_check_program_forms.specs.ModuleDecls.{ImportDecl-specifiers, ImportDecl-src, ExportDefaultDecl-decl}
-use Rattle.fast_check_signatures.specs.NewNodes.{no_scope}
 use Rattle.fast_check_same_values.specs.SameValues.{SameFunction}
 use Rattle.fast_check_typed_grammar.proofs.TypedFunctions.{absent}
 use Rattle.fast_check_skeleton.specs.Hidden.{AgreeHidden, SameItem, SameItems}
@@ -20,7 +19,7 @@ use Rattle.fast_check_skeleton.specs.SameDefaults as d
 use Rattle.fast_check_skeleton.specs.SameLinks.{SamePublic, SameSource, SameSpecifiers, SameImport}
 use Rattle.fast_check_skeleton.specs.SameLinks as l
 use Rattle.fast_check_skeleton.specs.Skeleton.{skeleton_of}
-use Rattle.fast_check_skeleton.specs.ClassExample.{void_function, empty_statement, no_places}
+use Rattle.fast_check_skeleton.specs.ClassExample.{void_function, empty_statement, no_places, no_classes}
 use Rattle.fast_check_skeleton.specs.ModuleExample as e
 use Rattle.fast_check_skeleton.specs.ModuleExample.{specifier, written_source, import_of, default_function, first, second, around, answered, ModuleExample}
 use Rattle.fast_check_skeleton.proofs.ClassExample.{is_renaming, Same, new_same, same_absent, at_places, are_same, functions, word_read, items_made}
@@ -93,13 +92,13 @@ default_functions ss ts = record {
 
 defaults : (ss ts : List Tree) → SameItem no_places around around (default_function ss) (default_function ts)
 defaults ss ts = h.SameItem.default (d.SameDefault.function (default_functions ss ts) refl refl
-    (subst₂ (SameFunction no_places no_scope no_scope) (sym (function_made ss)) (sym (function_made ts)) (functions ss ts)))
+    (subst₂ (SameFunction no_places no_classes no_classes) (sym (function_made ss)) (sym (function_made ts)) (functions ss ts)))
 
 -- ---- the modules
 
 agree : AgreeHidden no_places around around first second
 agree = record {
-  unresolved = inl (refl, refl);
+  bindings = record { unresolved = inl (refl, refl); is_plain_class = λ text x y p. refl };
   is_ambient = refl;
   items = subst₂ (SameItems no_places around around) (sym (items_made _)) (sym (items_made _))
       (h.SameItems.next (h.SameItem.linked (l.SameLink.import imports)) (h.SameItems.next (defaults [] (empty_statement ∷ [])) h.SameItems.end));

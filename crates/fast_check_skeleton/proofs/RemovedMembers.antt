@@ -6,13 +6,13 @@ use Rattle.std.specs.List.{list_any}
 use Rattle.std.proofs.Common.{ap, ap₂, ◌∙◌, sym, subst, subst₂, eqb-true, eq-eqb}
 use Rattle.fast_check_syntax.specs.declared.source.SourcePos.{SourcePos}
 use Rattle.fast_check_syntax.specs.declared.source.SourceRange.{SourceRange}
-use Rattle.fast_check_syntax.specs.declared.source.SyntaxContext.{SyntaxContext}
 use Rattle.fast_check_syntax.specs.declared.tree.Tree.{Tree}
 use Rattle.fast_check_syntax.specs.Shape.{parts}
 use Rattle.fast_check_syntax.specs.Moves.{Renaming, IsRenaming, IsPair}
 use Rattle.fast_check_syntax.specs.Same.{SameRange}
 use Rattle.fast_check_ranges.specs.Ranges.{range_of_node}
 use Rattle.fast_check_class_forms.specs.Classes.{Class-body}
+use Rattle.fast_check_signatures.specs.Bindings.{Bindings}
 use Rattle.fast_check_signatures.specs.Members.{stays_behind, each_behind, if_removed}
 use Rattle.fast_check_same_values.specs.SameClasses.{HasNoPartner, IsNoPartner, IsSilentMember, SameMember, SameMembers, SameClass}
 use Rattle.fast_check_same_values.specs.SameClasses as s
@@ -44,7 +44,7 @@ module _ (r : Renaming) (ok : IsRenaming r) where
       go false e = refl
       go true e = absurd (n p (subst (λ z. IsPair r.starts p z) (sym (eqb-true y q e)) h))
 
-  module _ (c d : SyntaxContext) (f g : SourceRange → Bool) where
+  module _ (c d : Bindings) (f g : SourceRange → Bool) where
     member_begins : (t u : Tree) → SameMember r c d f g t u → SameRange r (range_of_node t) (range_of_node u)
     member_begins t u (s.SameMember.constructor h x) =
         subst₂ (SameRange r) (sym (range_of_constructor t h.kinds.left)) (sym (range_of_constructor u h.kinds.right)) h.span

@@ -7,7 +7,6 @@ use Rattle.fast_check_syntax.specs.declared.kind.Kind.TheVariants as kinds
 use Rattle.fast_check_syntax.specs.declared.kind.Kind.TheVariants.{Module, VarDecl, FnDecl, ClassDecl, ExportDecl, ExportDefaultDecl}
 use Rattle.fast_check_syntax.specs.declared.kind.Kind.TheVariants.{BindingIdent, List as List'}
 use Rattle.fast_check_syntax.specs.declared.source.SourceRange.{SourceRange}
-use Rattle.fast_check_syntax.specs.declared.source.SyntaxContext.{SyntaxContext}
 use Rattle.fast_check_syntax.specs.declared.tree.Tree as tree
 use Rattle.fast_check_syntax.specs.declared.tree.Tree.{Tree, Absent}
 use Rattle.fast_check_syntax.specs.Shape.{◌is◌, kind_of, parts, is_absent, flag_of, node, list, OfAll}
@@ -76,9 +75,9 @@ use Rattle.fast_check_skeleton.proofs.Ruled.{standing_kind, function_kind}
 -- ---- declarators
 
 -- a declarator of an identifier with a type and a value that go together
-typed : (unresolved : SyntaxContext) (span : SourceRange) (ident : Tree) (definite : Bool) (type value : Tree) → HasTypedValue unresolved type value →
-    IsTypedDeclarator unresolved (var_declarator span (binding_ident ident type) value definite)
-typed unresolved span ident definite type value e =
+typed : (bindings : Bindings) (span : SourceRange) (ident : Tree) (definite : Bool) (type value : Tree) → HasTypedValue bindings type value →
+    IsTypedDeclarator bindings (var_declarator span (binding_ident ident type) value definite)
+typed bindings span ident definite type value e =
     let made = var_declarator span (binding_ident ident type) value definite in
     let name : VarDeclarator-name made ≡ binding_ident ident type = part_node _ _ _ in
     let of_type : BindingIdent-type_ann (binding_ident ident type) ≡ type = part_node _ _ _ in
@@ -86,7 +85,7 @@ typed unresolved span ident definite type value e =
     record {
       kind = kind_of_node _ _;
       name = ap kind_of name ∙ kind_of_node BindingIdent (ident ∷ type ∷ []);
-      value = subst₂ (HasTypedValue unresolved) (sym (ap BindingIdent-type_ann name ∙ of_type)) (sym of_value) e;
+      value = subst₂ (HasTypedValue bindings) (sym (ap BindingIdent-type_ann name ∙ of_type)) (sym of_value) e;
     }
 
 module _ (around : Surroundings) (mutability : DeclMutabilityKind) (d : Tree) where
@@ -97,32 +96,32 @@ module _ (around : Surroundings) (mutability : DeclMutabilityKind) (d : Tree) wh
   value = VarDeclarator-init d
 
   abbrev Typed : Tree → Type 0
-  Typed = IsTypedDeclarator around.unresolved
+  Typed = IsTypedDeclarator around.bindings
 
   abbrev StaysTyped : Seen → Type 0
   StaysTyped s = Stays Typed (answer_to s)
 
   -- a value that gives a type
   abbrev Gives : Tree → Type 0
-  Gives v = (is_absent v ≡ false) × IsLeavable around.unresolved v
+  Gives v = (is_absent v ≡ false) × IsLeavable around.bindings v
 
   value_stays : Stays Gives (answer_to (value_seen around name_place value))
   value_stays =
       of_choice (λ s. Stays Gives (answer_to s)) (is_absent value) _ _ (λ e f. tt)
-      (λ e f. both_some (λ v. is_absent v ≡ false) (IsLeavable around.unresolved) (answer_to (expr_seen around.unresolved value (Some name_place))).stays
-      (stays_there around.unresolved value (Some name_place) e) (expr_stays around.unresolved value (Some name_place) f))
+      (λ e f. both_some (λ v. is_absent v ≡ false) (IsLeavable around.bindings) (answer_to (expr_seen around.bindings value (Some name_place))).stays
+      (stays_there around.bindings value (Some name_place) e) (expr_stays around.bindings value (Some name_place) f))
 
   untyped_stays : (o : Option Tree) → StaysTyped (untyped_seen around d o)
-  untyped_stays (Some type) = λ f. typed around.unresolved _ _ _ (type_ann type) never_value (inl (is_absent_node _ _, refl))
+  untyped_stays (Some type) = λ f. typed around.bindings _ _ _ (type_ann type) never_value (inl (is_absent_node _ _, refl))
   untyped_stays None =
-      λ f. typed around.unresolved _ _ _ Absent _
+      λ f. typed around.bindings _ _ _ Absent _
       (inr (demanded_holds Gives (fault_at MissingExplicitType name_place) (answer_to (value_seen around name_place value)) value_stays f))
 
   declarator_stays : StaysTyped (declarator_seen around mutability d)
   declarator_stays =
       of_choice StaysTyped (kind_of (VarDeclarator-name d) is BindingIdent) _ _
-      (λ e. of_choice StaysTyped (is_absent (declared_type d)) _ _ (λ absent. untyped_stays (inferred_type mutability around.unresolved value))
-      (λ present f. typed around.unresolved _ _ _ (declared_type d) never_value (inl (present, refl))))
+      (λ e. of_choice StaysTyped (is_absent (declared_type d)) _ _ (λ absent. untyped_stays (inferred_type mutability around.bindings.unresolved value))
+      (λ present f. typed around.bindings _ _ _ (declared_type d) never_value (inl (present, refl))))
       (λ e f. not_empty f)
 
   -- what stands of a declarator is one tree
@@ -136,14 +135,14 @@ module _ (around : Surroundings) (mutability : DeclMutabilityKind) (d : Tree) wh
   pub declarator_one : IsOne (declarator_seen around mutability d)
   declarator_one =
       of_choice IsOne (kind_of (VarDeclarator-name d) is BindingIdent) _ _
-      (λ e. of_choice IsOne (is_absent (declared_type d)) _ _ (λ absent. untyped_one (inferred_type mutability around.unresolved value)) (λ present. (_, refl)))
+      (λ e. of_choice IsOne (is_absent (declared_type d)) _ _ (λ absent. untyped_one (inferred_type mutability around.bindings.unresolved value)) (λ present. (_, refl)))
       (λ e. (Absent, refl))
 
 -- ---- statements and items
 
 module _ (around : Surroundings) where
   abbrev Typed' : Tree → Type 0
-  Typed' = IsTypedDeclarator around.unresolved
+  Typed' = IsTypedDeclarator around.bindings
 
   declarators_stay : (statement : Tree) → is_ambient_statement around statement ≡ false → AllStay Typed' (public_declarators around statement)
   declarators_stay statement n = all_flat Typed' (public_declarator around statement) (parts (VarDecl-decls statement))
@@ -179,7 +178,7 @@ module _ (around : Surroundings) where
       inr (subst (OfAll Typed') (sym (ap parts same ∙ parts_node List' ds)) (p refl))
 
   abbrev Statement : Tree → Type 0
-  Statement = IsTypedStatement around.unresolved around.is_ambient
+  Statement = IsTypedStatement around.bindings around.is_ambient
 
   statement_stays : (statement : Tree) (ds : List Seen) → (is_ambient_statement around statement ≡ false → Holds (OfAll Typed') (answer_of ds)) →
       AllStay Statement (statement_seen statement ds)
@@ -195,17 +194,17 @@ module _ (around : Surroundings) where
   -- ---- functions
 
   abbrev Function' : Tree → Type 0
-  Function' = IsTypedFunctionDecl around.unresolved around.is_ambient
+  Function' = IsTypedFunctionDecl around.bindings around.is_ambient
 
-  function_made : (decl function : Tree) → IsTypedFunction around.unresolved function → Function' (fn_decl (FnDecl-ident decl) (FnDecl-declare decl) function)
+  function_made : (decl function : Tree) → IsTypedFunction around.bindings function → Function' (fn_decl (FnDecl-ident decl) (FnDecl-declare decl) function)
   function_made decl function h =
       let same : FnDecl-function (fn_decl (FnDecl-ident decl) (FnDecl-declare decl) function) ≡ function = part_node _ _ _ in
-      record { kind = kind_of_node _ _; function = inr (subst (IsTypedFunction around.unresolved) (sym same) h) }
+      record { kind = kind_of_node _ _; function = inr (subst (IsTypedFunction around.bindings) (sym same) h) }
 
   abbrev signed : Tree → Seen → Seen
   signed decl s = round FnDecl (seens (written (FnDecl-ident decl) ∷ flag (FnDecl-declare decl) ∷ s ∷ []))
 
-  signed_stays : (decl : Tree) (s : Seen) → Stays (IsTypedFunction around.unresolved) (answer_to s) → Stays Function' (answer_to (signed decl s))
+  signed_stays : (decl : Tree) (s : Seen) → Stays (IsTypedFunction around.bindings) (answer_to s) → Stays Function' (answer_to (signed decl s))
   signed_stays decl s p =
       let ident = FnDecl-ident decl in
       let declare = tree.Flag (FnDecl-declare decl) in
@@ -214,13 +213,13 @@ module _ (around : Surroundings) where
       (parts_answer (seens (written ident ∷ written declare ∷ s ∷ [])))
       (written_before (λ ts. Function' (node FnDecl ts)) ident (visited (faultless (Some declare)) last)
       (written_before (λ ts. Function' (node FnDecl (ident ∷ ts))) declare last
-      (last_stays (IsTypedFunction around.unresolved) (λ ts. Function' (node FnDecl (ident ∷ declare ∷ ts))) (function_made decl) (answer_to s) p)))
+      (last_stays (IsTypedFunction around.bindings) (λ ts. Function' (node FnDecl (ident ∷ declare ∷ ts))) (function_made decl) (answer_to s) p)))
 
-  signature_stays : (place : SourceRange) (decl : Tree) → Stays (IsTypedFunction around.unresolved) (answer_to (signature_of around place decl))
+  signature_stays : (place : SourceRange) (decl : Tree) → Stays (IsTypedFunction around.bindings) (answer_to (signature_of around place decl))
   signature_stays place decl =
-      of_choice (λ s. Stays (IsTypedFunction around.unresolved) (answer_to s)) (around.is_implementation place) _ _
-      (λ e f. implementation_is_typed around.unresolved (FnDecl-function decl))
-      (λ e. function_is_typed around.unresolved DeclarationLike (Ident-span (FnDecl-ident decl)) (FnDecl-function decl) refl)
+      of_choice (λ s. Stays (IsTypedFunction around.bindings) (answer_to s)) (around.is_implementation place) _ _
+      (λ e f. implementation_is_typed around.bindings (FnDecl-function decl))
+      (λ e. function_is_typed around.bindings DeclarationLike (Ident-span (FnDecl-ident decl)) (FnDecl-function decl) refl)
 
   function_stays : (place : SourceRange) (decl : Tree) → kind_of decl ≡ FnDecl → AllStay Function' (public_function around place decl)
   function_stays place decl k = all_if Function' (around.is_public place) (function_decl_seen around place decl) (go around.is_ambient refl)
@@ -232,12 +231,12 @@ module _ (around : Surroundings) where
   -- ---- classes
 
   abbrev Class' : Tree → Type 0
-  Class' = IsTypedClassDecl around.unresolved around.is_ambient
+  Class' = IsTypedClassDecl around.bindings around.is_ambient
 
   -- the class of a declaration, by whether it is ambient
   abbrev FitsClass : Tree → Tree → Type 0
   FitsClass decl class =
-      (IsTrue (is_ambient_class around decl) × IsAmbientClass class) ⊎ IsTypedClass around.unresolved class
+      (IsTrue (is_ambient_class around decl) × IsAmbientClass class) ⊎ IsTypedClass around.bindings class
 
   class_made : (decl class : Tree) → FitsClass decl class → Class' (class_decl (ClassDecl-ident decl) (ClassDecl-declare decl) class)
   class_made decl class h =
@@ -246,7 +245,7 @@ module _ (around : Surroundings) where
       let declare : ClassDecl-declare made ≡ ClassDecl-declare decl = ap flag_of (part_node _ _ _) ∙ flag_of_flag (ClassDecl-declare decl) in
       record {
         kind = kind_of_node _ _;
-        class = subst₂ (λ d c. (IsTrue (around.is_ambient || d) × IsAmbientClass c) ⊎ IsTypedClass around.unresolved c) (sym declare) (sym same) h;
+        class = subst₂ (λ d c. (IsTrue (around.is_ambient || d) × IsAmbientClass c) ⊎ IsTypedClass around.bindings c) (sym declare) (sym same) h;
       }
 
   abbrev classed : Tree → Seen → Seen
@@ -266,11 +265,11 @@ module _ (around : Surroundings) where
   class_fits : (decl : Tree) → Stays (FitsClass decl) (answer_to (class_in around decl))
   class_fits decl =
       let class = ClassDecl-class decl in
-      let seen = plain_class_seen around.unresolved around.is_implementation class in
+      let seen = plain_class_seen around.bindings around.is_implementation class in
       of_choice (λ s. Stays (FitsClass decl) (answer_to s)) (is_ambient_class around decl) (written (ambient_class class)) seen
       (λ e f. inl (e, ambient_stands class))
-      (λ e f. some_weaker (IsTypedClass around.unresolved) (FitsClass decl) (λ t h. inr h) (answer_to seen).stays
-      (class_stays around.unresolved around.is_implementation class f))
+      (λ e f. some_weaker (IsTypedClass around.bindings) (FitsClass decl) (λ t h. inr h) (answer_to seen).stays
+      (class_stays around.bindings around.is_implementation class f))
 
   class_decl_stays : (place : SourceRange) (decl : Tree) → AllStay Class' (public_class around place decl)
   class_decl_stays place decl = all_if Class' (around.is_public place) (class_decl_seen around decl)
@@ -279,16 +278,16 @@ module _ (around : Surroundings) where
   -- ---- declarations
 
   abbrev IsDecl : Tree → Type 0
-  IsDecl = IsTypedDecl around.unresolved around.is_ambient
+  IsDecl = IsTypedDecl around.bindings around.is_ambient
 
   abbrev IsPlain : Tree → Type 0
-  IsPlain = IsPlainItem around.unresolved around.is_ambient
+  IsPlain = IsPlainItem around.bindings around.is_ambient
 
   abbrev IsItem : Tree → Type 0
-  IsItem = IsTypedItem around.unresolved around.is_ambient
+  IsItem = IsTypedItem around.bindings around.is_ambient
 
   abbrev IsNamespace : Tree → Type 0
-  IsNamespace = IsTypedNamespace around.unresolved around.is_ambient
+  IsNamespace = IsTypedNamespace around.bindings around.is_ambient
 
   -- what is done with declarations that are no namespaces
   abbrev is_plain : DeclRule → Bool
@@ -311,20 +310,20 @@ module _ (around : Surroundings) where
   decl_stays look place decl Untaken q n = tt
 
   -- namespaces, where what is seen of the items inside stays
-  namespace_stays : (look : ItemLook) → ((u : Tree) (here : Surroundings) → AllStay (IsTypedItem here.unresolved here.is_ambient) (look u here)) →
+  namespace_stays : (look : ItemLook) → ((u : Tree) (here : Surroundings) → AllStay (IsTypedItem here.bindings here.is_ambient) (look u here)) →
       (place : SourceRange) (decl : Tree) → AllStay IsNamespace (namespace_seen look around place decl)
   namespace_stays look h place decl = go (TsModuleDecl-global decl) (is_ambient_module decl) refl refl
     where
       items : List Seen
       items = body_seen look (inside around decl) (items_inside decl)
 
-      all_typed : AllStay (IsTypedItem around.unresolved (around.is_ambient || TsModuleDecl-declare decl)) items
-      all_typed = all_flat (IsTypedItem around.unresolved (around.is_ambient || TsModuleDecl-declare decl)) (λ u. look u (inside around decl))
+      all_typed : AllStay (IsTypedItem around.bindings (around.is_ambient || TsModuleDecl-declare decl)) items
+      all_typed = all_flat (IsTypedItem around.bindings (around.is_ambient || TsModuleDecl-declare decl)) (λ u. look u (inside around decl))
           (items_inside decl) (λ u. h u (inside around decl))
 
       stays : is_namespace decl ≡ true → Stays IsNamespace (answer_to (namespace_round items decl))
-      stays e = subst (Stays IsNamespace) (sym (namespace_is items decl)) (λ f. namespace_typed around.unresolved around.is_ambient decl (answer_of items).stays
-          e (items_stand around.unresolved (around.is_ambient || TsModuleDecl-declare decl) items all_typed f))
+      stays e = subst (Stays IsNamespace) (sym (namespace_is items decl)) (λ f. namespace_typed around.bindings around.is_ambient decl (answer_of items).stays
+          e (items_stand around.bindings (around.is_ambient || TsModuleDecl-declare decl) items all_typed f))
 
       go : (x y : Bool) → TsModuleDecl-global decl ≡ x → is_ambient_module decl ≡ y → AllStay IsNamespace
           (if x then faulty UnsupportedGlobalModule (TsModuleDecl-span decl) ∷ []
@@ -482,18 +481,18 @@ module _ (around : Surroundings) where
       (_, ap (λ a. (round_answer kind (visited (faultless (Some t)) (visited a (faultless (Some []))))).stays) same)
 
   abbrev IsDefaultDecl : Tree → Type 0
-  IsDefaultDecl = IsTypedDefaultDecl around.unresolved around.is_ambient
+  IsDefaultDecl = IsTypedDefaultDecl around.bindings around.is_ambient
 
-  default_value_made : (span : SourceRange) (value : Tree) → IsLeavable around.unresolved value → IsPlain (export_default_expr span value)
+  default_value_made : (span : SourceRange) (value : Tree) → IsLeavable around.bindings value → IsPlain (export_default_expr span value)
   default_value_made span value h =
       let same : ExportDefaultExpr-expr (export_default_expr span value) ≡ value = part_node _ _ _ in
-      inr (inr (inl (inl (kind_of_node _ _, subst (IsLeavable around.unresolved) (sym same) h))))
+      inr (inr (inl (inl (kind_of_node _ _, subst (IsLeavable around.bindings) (sym same) h))))
 
   default_value_stays : (item : Tree) → Stays IsPlain (answer_to (default_value_seen around item))
   default_value_stays item =
       let value = ExportDefaultExpr-expr item in
-      λ f. default_value_made _ _ (demanded_holds (IsLeavable around.unresolved) (fault_at UnsupportedDefaultExportExpr (ExportDefaultExpr-span item))
-      (answer_to (expr_seen around.unresolved value None)) (expr_stays around.unresolved value None) f)
+      λ f. default_value_made _ _ (demanded_holds (IsLeavable around.bindings) (fault_at UnsupportedDefaultExportExpr (ExportDefaultExpr-span item))
+      (answer_to (expr_seen around.bindings value None)) (expr_stays around.bindings value None) f)
 
   default_made : (span : SourceRange) (decl : Tree) → IsDefaultDecl decl → IsPlain (node ExportDefaultDecl (tree.Range span ∷ decl ∷ []))
   default_made span decl h =
@@ -507,28 +506,28 @@ module _ (around : Surroundings) where
       (pair_stays ExportDefaultDecl IsDefaultDecl IsPlain (tree.Range span) s (default_made span) p)
 
   default_class_stays : (decl : Tree) → Stays IsDefaultDecl (answer_to (default_class_seen around decl))
-  default_class_stays decl = pair_stays kinds.ClassExpr (IsTypedClass around.unresolved) IsDefaultDecl (ClassExpr-ident decl)
-      (plain_class_seen around.unresolved around.is_implementation (ClassExpr-class decl)) made'
-      (class_stays around.unresolved around.is_implementation (ClassExpr-class decl))
+  default_class_stays decl = pair_stays kinds.ClassExpr (IsTypedClass around.bindings) IsDefaultDecl (ClassExpr-ident decl)
+      (plain_class_seen around.bindings around.is_implementation (ClassExpr-class decl)) made'
+      (class_stays around.bindings around.is_implementation (ClassExpr-class decl))
     where
-      made' : (class : Tree) → IsTypedClass around.unresolved class → IsDefaultDecl (node kinds.ClassExpr (ClassExpr-ident decl ∷ class ∷ []))
+      made' : (class : Tree) → IsTypedClass around.bindings class → IsDefaultDecl (node kinds.ClassExpr (ClassExpr-ident decl ∷ class ∷ []))
       made' class h =
           let same : ClassExpr-class (node kinds.ClassExpr (ClassExpr-ident decl ∷ class ∷ [])) ≡ class = part_node _ _ _ in
-          inl (kind_of_node _ _, subst (IsTypedClass around.unresolved) (sym same) h)
+          inl (kind_of_node _ _, subst (IsTypedClass around.bindings) (sym same) h)
 
   default_function_stays : (place : SourceRange) (decl : Tree) → kind_of decl ≡ kinds.FnExpr →
       Stays IsDefaultDecl (answer_to (default_function_seen around place decl))
   default_function_stays place decl k =
       of_choice (λ s. Stays IsDefaultDecl (answer_to s)) around.is_ambient _ _ (λ e f. inr (inl (k, inl e)))
-      (λ e. pair_stays kinds.FnExpr (IsTypedFunction around.unresolved) IsDefaultDecl (FnExpr-ident decl) (default_signature around place decl) made'
-      (of_choice (λ s. Stays (IsTypedFunction around.unresolved) (answer_to s)) (around.is_implementation place) _ _
-      (λ e f. implementation_is_typed around.unresolved (FnExpr-function decl))
-      (λ e. function_is_typed around.unresolved DeclarationLike (default_place decl) (FnExpr-function decl) refl)))
+      (λ e. pair_stays kinds.FnExpr (IsTypedFunction around.bindings) IsDefaultDecl (FnExpr-ident decl) (default_signature around place decl) made'
+      (of_choice (λ s. Stays (IsTypedFunction around.bindings) (answer_to s)) (around.is_implementation place) _ _
+      (λ e f. implementation_is_typed around.bindings (FnExpr-function decl))
+      (λ e. function_is_typed around.bindings DeclarationLike (default_place decl) (FnExpr-function decl) refl)))
     where
-      made' : (function : Tree) → IsTypedFunction around.unresolved function → IsDefaultDecl (node kinds.FnExpr (FnExpr-ident decl ∷ function ∷ []))
+      made' : (function : Tree) → IsTypedFunction around.bindings function → IsDefaultDecl (node kinds.FnExpr (FnExpr-ident decl ∷ function ∷ []))
       made' function h =
           let same : FnExpr-function (node kinds.FnExpr (FnExpr-ident decl ∷ function ∷ [])) ≡ function = part_node _ _ _ in
-          inr (inl (kind_of_node _ _, inr (subst (IsTypedFunction around.unresolved) (sym same) h)))
+          inr (inl (kind_of_node _ _, inr (subst (IsTypedFunction around.bindings) (sym same) h)))
 
   default_stays : (item : Tree) (k : Kind) → kind_of (ExportDefaultDecl-decl item) ≡ k → AllStay IsPlain (seen_by_rule around item (default_rule k))
   default_stays item kinds.ClassExpr q =
@@ -558,7 +557,7 @@ module _ (around : Surroundings) where
   default_one item defaults.Class =
       let decl = ExportDefaultDecl-decl item in
       public_default_one item (default_class_seen around decl) (pair_one kinds.ClassExpr (ClassExpr-ident decl)
-      (plain_class_seen around.unresolved around.is_implementation (ClassExpr-class decl)) (_, refl))
+      (plain_class_seen around.bindings around.is_implementation (ClassExpr-class decl)) (_, refl))
   default_one item defaults.Function =
       let place = ExportDefaultDecl-span item in
       let decl = ExportDefaultDecl-decl item in
@@ -580,7 +579,7 @@ module _ (around : Surroundings) where
   as_items ss p = all_weaker IsPlain IsItem (λ t h. g.IsTypedItem.plain h) ss p
 
 -- an item, where what is seen of the items inside stays
-module _ (look : ItemLook) (stay : (u : Tree) (here : Surroundings) → AllStay (IsTypedItem here.unresolved here.is_ambient) (look u here)) (around : Surroundings)
+module _ (look : ItemLook) (stay : (u : Tree) (here : Surroundings) → AllStay (IsTypedItem here.bindings here.is_ambient) (look u here)) (around : Surroundings)
     (item : Tree) where
   abbrev Form : ItemRule → Type 0
   Form rule = AllStay (IsItem around) (form_by_rule look around item rule)
@@ -645,11 +644,11 @@ module _ (around : Surroundings) where
   abbrev module_parts : Tree → List Tree
   module_parts program = tree.Range (Module-span program) ∷ list (transformed around program).stays ∷ Module-shebang program ∷ []
 
-  pub skeleton_stands : (program : Tree) → faults_of around program ≡ [] → IsSkeleton around.unresolved around.is_ambient (skeleton_of around program)
+  pub skeleton_stands : (program : Tree) → faults_of around program ≡ [] → IsSkeleton around.bindings around.is_ambient (skeleton_of around program)
   skeleton_stands program e = record {
     kind = kind_of_node Module (module_parts program);
-    items = subst (AllTypedItems around.unresolved around.is_ambient)
+    items = subst (AllTypedItems around.bindings around.is_ambient)
         (sym (ap parts (part_node _ Module (module_parts program)) ∙ parts_node List' (transformed around program).stays))
-        (items_stand around.unresolved around.is_ambient (visible around program)
+        (items_stand around.bindings around.is_ambient (visible around program)
         (all_flat (IsItem around) (λ item. item_look item around) (items_of program) (λ item. item_stays item around)) e);
   }

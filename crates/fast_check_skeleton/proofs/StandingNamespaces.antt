@@ -3,7 +3,6 @@ use Rattle.std.specs.Prelude.{◌≡◌, ℕ, zero, suc, ◌<◌, Bool, true, fa
 use Rattle.std.proofs.Common.{arith, ap, ap₂, ◌∙◌, sym, subst, subst₂, append-nil}
 use Rattle.fast_check_syntax.specs.declared.kind.Kind.TheVariants.{Str, TsModuleDecl, TsModuleBlock, TsNamespaceDecl}
 use Rattle.fast_check_syntax.specs.declared.kind.Kind.TheVariants.{List as List'}
-use Rattle.fast_check_syntax.specs.declared.source.SyntaxContext.{SyntaxContext}
 use Rattle.fast_check_syntax.specs.declared.tree.Tree.{Tree, Absent}
 use Rattle.fast_check_syntax.specs.declared.tree.Tree as tree
 use Rattle.fast_check_syntax.specs.Shape.{◌is◌, is_kind, kind_of, parts, is_absent, flag_of, list}
@@ -14,6 +13,7 @@ use Rattle.fast_check_statement_forms.specs.TsDeclarations.{TsModuleDecl-span, T
 use Rattle.fast_check_statement_forms.specs.TsDeclarations.{TsModuleDecl-id, TsModuleDecl-body, TsModuleBlock-span, TsModuleBlock-body}
 use Rattle.fast_check_statement_forms.specs.TsDeclarations.{TsNamespaceDecl-span, TsNamespaceDecl-declare, TsNamespaceDecl-global, TsNamespaceDecl-id}
 use Rattle.fast_check_statement_forms.specs.TsDeclarations.{TsNamespaceDecl-body, ts_module_decl, ts_module_block}
+use Rattle.fast_check_signatures.specs.Bindings.{Bindings}
 use Rattle.fast_check_signatures.specs.Seen.{Seen, written, range, flag, listed, seens}
 use Rattle.fast_check_signatures.specs.Answers.{Answer, answer_to, answer_of, faultless, list_answer, round_answer, visited}
 use Rattle.fast_check_typed_grammar.proofs.Staying.{Holds, items_hold}
@@ -102,41 +102,41 @@ namespace_is items decl =
 
 -- ---- the grammar
 
-module _ (unresolved : SyntaxContext) (is_ambient : Bool) where
+module _ (bindings : Bindings) (is_ambient : Bool) where
   abbrev Item : Tree → Type 0
-  Item = IsTypedItem unresolved is_ambient
+  Item = IsTypedItem bindings is_ambient
 
   abbrev Items : List Tree → Type 0
-  Items = AllTypedItems unresolved is_ambient
+  Items = AllTypedItems bindings is_ambient
 
   pub items_stand : (ss : List Seen) → AllStay Item ss → Holds Items (answer_of ss)
   items_stand [] h = λ f. g.AllTypedItems.no_items
   items_stand (s ∷ ss) h = items_hold Item Items (λ t ts p q. g.AllTypedItems.next_item p q) (answer_to s) (answer_of ss) h.0 (items_stand ss h.1)
 
   module _ (ts : List Tree) (typed : Items ts) where
-    block_typed : (t : Tree) → IsTypedBody unresolved is_ambient (block_with t ts)
+    block_typed : (t : Tree) → IsTypedBody bindings is_ambient (block_with t ts)
     block_typed t =
         let made = block_with t ts in
         let same : TsModuleBlock-body made ≡ list ts = part_node _ _ _ in
         g.IsTypedBody.block (kind_of_node _ _) (subst Items (sym (ap parts same ∙ parts_node List' ts)) typed)
 
-    inner_typed : (t u : Tree) → IsTypedBody unresolved is_ambient u → IsTypedBody unresolved is_ambient (inner_with t u)
+    inner_typed : (t u : Tree) → IsTypedBody bindings is_ambient u → IsTypedBody bindings is_ambient (inner_with t u)
     inner_typed t u h =
         let same : TsNamespaceDecl-body (inner_with t u) ≡ u = part_node _ _ _ in
-        g.IsTypedBody.inner (kind_of_node _ _) (subst (IsTypedBody unresolved is_ambient) (sym same) h)
+        g.IsTypedBody.inner (kind_of_node _ _) (subst (IsTypedBody bindings is_ambient) (sym same) h)
 
-    typed_by_kind : (t : Tree) (b : Bool) → (b ≡ true → IsTypedBody unresolved is_ambient (body_with ts (TsNamespaceDecl-body t))) →
-        IsTypedBody unresolved is_ambient (if b then inner_with t (body_with ts (TsNamespaceDecl-body t)) else block_with t ts)
+    typed_by_kind : (t : Tree) (b : Bool) → (b ≡ true → IsTypedBody bindings is_ambient (body_with ts (TsNamespaceDecl-body t))) →
+        IsTypedBody bindings is_ambient (if b then inner_with t (body_with ts (TsNamespaceDecl-body t)) else block_with t ts)
     typed_by_kind t false below = block_typed t
     typed_by_kind t true below = inner_typed t (body_with ts (TsNamespaceDecl-body t)) (below refl)
 
-    typed_to : (n : ℕ) (t : Tree) → height t < n → IsTypedBody unresolved is_ambient (body_with ts t)
+    typed_to : (n : ℕ) (t : Tree) → height t < n → IsTypedBody bindings is_ambient (body_with ts t)
     typed_to zero t h = absurd (omega arith)
     typed_to (suc n) t h =
-        subst (IsTypedBody unresolved is_ambient) (sym (body_with_is ts t))
+        subst (IsTypedBody bindings is_ambient) (sym (body_with_is ts t))
         (typed_by_kind t (is_inner t) (λ e. typed_to n (TsNamespaceDecl-body t) (inner_lower n t e h)))
 
-    pub body_typed : (t : Tree) → IsTypedBody unresolved is_ambient (body_with ts t)
+    pub body_typed : (t : Tree) → IsTypedBody bindings is_ambient (body_with ts t)
     body_typed t = typed_to (suc (height t)) t (omega arith)
 
 body_present : (ts : List Tree) (t : Tree) → is_absent (body_with ts t) ≡ false
@@ -160,12 +160,12 @@ still_namespace decl ts e =
     named false y f = refl
     named true y f = cc
 
-pub namespace_typed : (unresolved : SyntaxContext) (is_ambient : Bool) (decl : Tree) (ts : List Tree) → is_namespace decl ≡ true →
-    AllTypedItems unresolved (is_ambient || TsModuleDecl-declare decl) ts → IsTypedNamespace unresolved is_ambient (namespace_with ts decl)
-namespace_typed unresolved is_ambient decl ts e typed =
+pub namespace_typed : (bindings : Bindings) (is_ambient : Bool) (decl : Tree) (ts : List Tree) → is_namespace decl ≡ true →
+    AllTypedItems bindings (is_ambient || TsModuleDecl-declare decl) ts → IsTypedNamespace bindings is_ambient (namespace_with ts decl)
+namespace_typed bindings is_ambient decl ts e typed =
     let made = namespace_with ts decl in
     let declare : TsModuleDecl-declare made ≡ TsModuleDecl-declare decl = ap flag_of (part_node _ _ _) ∙ flag_of_flag (TsModuleDecl-declare decl) in
     let body : TsModuleDecl-body made ≡ body_with ts (TsModuleDecl-body decl) = part_node _ _ _ in
     g.IsTypedNamespace.namespace (kind_of_node _ _) (still_namespace decl ts e)
-    (subst₂ (λ d b. IsTypedBody unresolved (is_ambient || d) b) (sym declare) (sym body)
-    (body_typed unresolved (is_ambient || TsModuleDecl-declare decl) ts typed (TsModuleDecl-body decl)))
+    (subst₂ (λ d b. IsTypedBody bindings (is_ambient || d) b) (sym declare) (sym body)
+    (body_typed bindings (is_ambient || TsModuleDecl-declare decl) ts typed (TsModuleDecl-body decl)))

@@ -17,6 +17,7 @@ use Rattle.fast_check_program_forms.specs.Programs.{module'}
 use Rattle.fast_check_statement_forms.specs.Declarations.{class_decl, fn_decl}
 use Rattle.fast_check_helpers.specs.Builders.{new_ident, ts_keyword_type, type_ann, any_type_ann}
 use Rattle.fast_check_signatures.specs.Answers.{declared_property}
+use Rattle.fast_check_signatures.specs.Bindings.{Bindings}
 use Rattle.fast_check_signatures.specs.NewNodes.{no_scope, new_block, ident_name}
 use Rattle.fast_check_skeleton.specs.Example.{at}
 use Rattle.fast_check_skeleton.specs.Surroundings.{Surroundings}
@@ -68,12 +69,16 @@ second = module_of (function_f (empty_statement ∷ []) ∷ class_c (static_bloc
 abbrev pub no_places : Renaming
 no_places = record { starts = (0, 0) ∷ []; ends = (0, 0) ∷ []; scopes = (0, 0) ∷ [] }
 
+-- no name is that of a class
+abbrev pub no_classes : Bindings
+no_classes = record { unresolved = no_scope; is_plain_class = λ id. false }
+
 -- all is public, and nothing is an implementation behind overloads
 abbrev pub all_public : Surroundings
 all_public = record {
   is_public = λ r. true;
   is_implementation = λ r. false;
-  unresolved = no_scope;
+  bindings = no_classes;
   is_ambient = false;
   relative = λ text. None;
 }

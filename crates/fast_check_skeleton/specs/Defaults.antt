@@ -24,12 +24,12 @@ is_public_value around t = around.is_public (ExportDefaultExpr-span t) || around
 
 -- the expression has to give a type by itself
 abbrev pub default_value_seen : Surroundings → Tree → Seen
-default_value_seen around t = default_export (ExportDefaultExpr-span t) (expr_seen around.unresolved (ExportDefaultExpr-expr t) None)
+default_value_seen around t = default_export (ExportDefaultExpr-span t) (expr_seen around.bindings (ExportDefaultExpr-expr t) None)
 
 -- a class; it is never ambient, where all else is neither
 abbrev pub default_class_seen : Surroundings → Tree → Seen
 default_class_seen around decl =
-    round ClassExpr (seens (written (ClassExpr-ident decl) ∷ plain_class_seen around.unresolved around.is_implementation (ClassExpr-class decl) ∷ []))
+    round ClassExpr (seens (written (ClassExpr-ident decl) ∷ plain_class_seen around.bindings around.is_implementation (ClassExpr-class decl) ∷ []))
 
 -- where the return type of a function would be missing: at its name, or else at the function
 abbrev pub default_place : Tree → SourceRange
@@ -39,7 +39,7 @@ default_place decl = if is_absent (FnExpr-ident decl) then Function-span (FnExpr
 abbrev pub default_signature : Surroundings → SourceRange → Tree → Seen
 default_signature around place decl =
     if around.is_implementation place then implementation_seen (FnExpr-function decl)
-    else function_seen around.unresolved (expr_seen around.unresolved) DeclarationLike (default_place decl) (FnExpr-function decl)
+    else function_seen around.bindings (expr_seen around.bindings) DeclarationLike (default_place decl) (FnExpr-function decl)
 
 -- a function; where all is ambient it stands as it is written
 abbrev pub default_function_seen : Surroundings → SourceRange → Tree → Seen

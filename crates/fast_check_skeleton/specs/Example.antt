@@ -112,7 +112,7 @@ abbrev pub around : ℕ → Surroundings
 around place = record {
   is_public = λ r. r.start.0 == place;
   is_implementation = λ r. false;
-  unresolved = scope 1;
+  bindings = record { unresolved = scope 1; is_plain_class = λ id. false };
   is_ambient = false;
   relative = λ text. None;
 }

@@ -4,7 +4,7 @@ use Rattle.fast_check_syntax.specs.declared.kind.Kind.TheVariants.{ImportDecl, N
 use Rattle.fast_check_syntax.specs.declared.kind.Kind.TheVariants.{ExportDefaultExpr, ExportDefaultDecl, ClassExpr, FnExpr, TsInterfaceDecl}
 use Rattle.fast_check_syntax.specs.declared.kind.Kind.TheVariants.{Module, ExportDecl, VarDecl, VarDeclarator, FnDecl, ClassDecl, BindingIdent}
 use Rattle.fast_check_syntax.specs.declared.kind.Kind.TheVariants.{TsModuleDecl, TsModuleBlock, TsNamespaceDecl}
-use Rattle.fast_check_syntax.specs.declared.source.SyntaxContext.{SyntaxContext}
+use Rattle.fast_check_signatures.specs.Bindings.{Bindings}
 use Rattle.fast_check_syntax.specs.declared.tree.Tree.{Tree}
 use Rattle.fast_check_syntax.specs.Shape.{kind_of, parts, is_absent, OfAll}
 use Rattle.fast_check_helpers.specs.Builders.{never_value}
@@ -22,9 +22,9 @@ use Rattle.fast_check_skeleton.specs.Namespaces.{is_namespace}
 use Rattle.fast_check_skeleton.specs.Rules.{is_require}
 
 -- a value behind a written type is `{} as never`; else there is one that gives the type
-abbrev pub HasTypedValue : SyntaxContext → Tree → Tree → Type 0
-HasTypedValue unresolved type value =
-    ((is_absent type ≡ false) × (value ≡ never_value)) ⊎ ((is_absent value ≡ false) × IsLeavable unresolved value)
+abbrev pub HasTypedValue : Bindings → Tree → Tree → Type 0
+HasTypedValue bindings type value =
+    ((is_absent type ≡ false) × (value ≡ never_value)) ⊎ ((is_absent value ≡ false) × IsLeavable bindings value)
 
 -- an import or an export of names, `export *`, or `import A = B.C`
 abbrev pub IsLink : Tree → Type 0
@@ -32,13 +32,13 @@ IsLink item =
     (kind_of item ≡ ImportDecl) ⊎ ((kind_of item ≡ NamedExport) ⊎ ((kind_of item ≡ ExportAll) ⊎
     ((kind_of item ≡ TsImportEqualsDecl) × (is_require item ≡ false))))
 
--- `unresolved` is the scope number of the names that nothing in the module binds
-module _ (unresolved : SyntaxContext) where
+-- `bindings` is what is known of the names of the module
+module _ (bindings : Bindings) where
   -- a declarator of an identifier with a written type, and `{} as never` for its value, or with a value that gives the type
   pub record IsTypedDeclarator (d : Tree) : Type 0 where
     pub kind : kind_of d ≡ VarDeclarator
     pub name : kind_of (VarDeclarator-name d) ≡ BindingIdent
-    pub value : HasTypedValue unresolved (BindingIdent-type_ann (VarDeclarator-name d)) (VarDeclarator-init d)
+    pub value : HasTypedValue bindings (BindingIdent-type_ann (VarDeclarator-name d)) (VarDeclarator-init d)
 
   -- a variable statement of typed declarators; an ambient one stands as it was written
   pub record IsTypedStatement (is_ambient : Bool) (statement : Tree) : Type 0 where
@@ -48,13 +48,13 @@ module _ (unresolved : SyntaxContext) where
   -- a function with a written return type, or without a body; where all is ambient it stands as it was written
   pub record IsTypedFunctionDecl (is_ambient : Bool) (decl : Tree) : Type 0 where
     pub kind : kind_of decl ≡ FnDecl
-    pub function : IsTrue is_ambient ⊎ IsTypedFunction unresolved (FnDecl-function decl)
+    pub function : IsTrue is_ambient ⊎ IsTypedFunction bindings (FnDecl-function decl)
 
   -- a class, of typed members; an ambient one stands as it was written, but for private members of computed keys
   pub record IsTypedClassDecl (is_ambient : Bool) (decl : Tree) : Type 0 where
     pub kind : kind_of decl ≡ ClassDecl
     pub class : (IsTrue (is_ambient || ClassDecl-declare decl) × IsAmbientClass (ClassDecl-class decl)) ⊎
-        IsTypedClass unresolved (ClassDecl-class decl)
+        IsTypedClass bindings (ClassDecl-class decl)
 
   -- a declaration of a skeleton: a variable statement, a function, a class, or an interface, type alias or enum, which stands as it was written
   abbrev pub IsTypedDecl : Bool → Tree → Type 0
@@ -66,13 +66,13 @@ module _ (unresolved : SyntaxContext) where
   -- ambient a function stands as it was written.
   abbrev pub IsTypedDefaultDecl : Bool → Tree → Type 0
   IsTypedDefaultDecl is_ambient decl =
-      ((kind_of decl ≡ ClassExpr) × IsTypedClass unresolved (ClassExpr-class decl)) ⊎
-      (((kind_of decl ≡ FnExpr) × (IsTrue is_ambient ⊎ IsTypedFunction unresolved (FnExpr-function decl))) ⊎ (kind_of decl ≡ TsInterfaceDecl))
+      ((kind_of decl ≡ ClassExpr) × IsTypedClass bindings (ClassExpr-class decl)) ⊎
+      (((kind_of decl ≡ FnExpr) × (IsTrue is_ambient ⊎ IsTypedFunction bindings (FnExpr-function decl))) ⊎ (kind_of decl ≡ TsInterfaceDecl))
 
   -- a default export: a value that gives its type, or a declaration
   abbrev pub IsTypedDefault : Bool → Tree → Type 0
   IsTypedDefault is_ambient item =
-      ((kind_of item ≡ ExportDefaultExpr) × IsLeavable unresolved (ExportDefaultExpr-expr item)) ⊎
+      ((kind_of item ≡ ExportDefaultExpr) × IsLeavable bindings (ExportDefaultExpr-expr item)) ⊎
       ((kind_of item ≡ ExportDefaultDecl) × IsTypedDefaultDecl is_ambient (ExportDefaultDecl-decl item))
 
   -- an item that is no namespace: a declaration, exported or not, a default export, or what leads to other modules

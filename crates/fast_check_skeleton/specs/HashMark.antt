@@ -2,10 +2,10 @@
 use Rattle.std.specs.Prelude.{◌≡◌, Bool, Some, List, [], ◌∷◌, ◌++◌, if◌then◌else◌}
 use Rattle.std.specs.List.{list_any, filter}
 use Rattle.fast_check_syntax.specs.declared.source.SourceRange.{SourceRange}
-use Rattle.fast_check_syntax.specs.declared.source.SyntaxContext.{SyntaxContext}
 use Rattle.fast_check_syntax.specs.declared.tree.Tree.{Tree}
 use Rattle.fast_check_syntax.specs.Shape.{parts}
 use Rattle.fast_check_class_forms.specs.Classes.{Class-body}
+use Rattle.fast_check_signatures.specs.Bindings.{Bindings}
 use Rattle.fast_check_signatures.specs.Answers.{answer_to}
 use Rattle.fast_check_signatures.specs.NewNodes.{hash_private}
 use Rattle.fast_check_signatures.specs.Members.{is_hash_named}
@@ -19,5 +19,5 @@ pub record IsMarked (class skeleton : Tree) : Type 0 where
   pub others : filter is_hash_named rest ≡ []
 
 abbrev pub HashMarked : Tree → Type 0
-HashMarked class = (unresolved : SyntaxContext) (is_implementation : SourceRange → Bool) (skeleton : Tree) →
-    (answer_to (plain_class_seen unresolved is_implementation class)).stays ≡ Some skeleton → IsMarked class skeleton
+HashMarked class = (bindings : Bindings) (is_implementation : SourceRange → Bool) (skeleton : Tree) →
+    (answer_to (plain_class_seen bindings is_implementation class)).stays ≡ Some skeleton → IsMarked class skeleton

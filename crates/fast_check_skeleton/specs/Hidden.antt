@@ -24,7 +24,7 @@ use Rattle.fast_check_statement_forms.specs.Statements.{ExprStmt-expr}
 use Rattle.fast_check_statement_forms.specs.TsDeclarations.{TsModuleDecl-span, TsModuleDecl-declare, TsModuleDecl-global, TsModuleDecl-namespace}
 use Rattle.fast_check_statement_forms.specs.TsDeclarations.{TsModuleDecl-id, TsModuleDecl-body, TsModuleBlock-span, TsNamespaceDecl-span}
 use Rattle.fast_check_statement_forms.specs.TsDeclarations.{TsNamespaceDecl-declare, TsNamespaceDecl-global, TsNamespaceDecl-id, TsNamespaceDecl-body}
-use Rattle.fast_check_same_values.specs.SameValues.{Both, Neither, SameExpr, SameFunction, SameImplementation}
+use Rattle.fast_check_same_values.specs.SameValues.{SameBindings, Both, Neither, SameExpr, SameFunction, SameImplementation}
 use Rattle.fast_check_same_values.specs.SameClasses.{HasNoPartner, IsNoPartner, SameClass, SameAmbientClass}
 use Rattle.fast_check_skeleton.specs.Kinds.{is_standing, is_statement}
 use Rattle.fast_check_skeleton.specs.Mutability.{mutability_of}
@@ -82,14 +82,14 @@ module _ (r : Renaming) (a b : Surroundings) where
     typed : {t u : Tree} → SameHead t u → is_absent (declared_type t) ≡ false → SameDeclarator mutability t u
     -- any values of the same inferred type
     inferred : {t u : Tree} (x y : Tree) → SameHead t u →
-        inferred_type mutability a.unresolved (VarDeclarator-init t) ≡ Some x → inferred_type mutability b.unresolved (VarDeclarator-init u) ≡ Some y →
+        inferred_type mutability a.bindings.unresolved (VarDeclarator-init t) ≡ Some x → inferred_type mutability b.bindings.unresolved (VarDeclarator-init u) ≡ Some y →
         SameTree r x y → SameDeclarator mutability t u
     -- the same values
     same : {t u : Tree} → SameHead t u → SameTree r (VarDeclarator-init t) (VarDeclarator-init u) → SameDeclarator mutability t u
     -- values that show no type and are to stay
     kept : {t u : Tree} → SameHead t u →
-        inferred_type mutability a.unresolved (VarDeclarator-init t) ≡ None → inferred_type mutability b.unresolved (VarDeclarator-init u) ≡ None →
-        SameExpr r a.unresolved b.unresolved (VarDeclarator-init t) (VarDeclarator-init u) → SameDeclarator mutability t u
+        inferred_type mutability a.bindings.unresolved (VarDeclarator-init t) ≡ None → inferred_type mutability b.bindings.unresolved (VarDeclarator-init u) ≡ None →
+        SameExpr r a.bindings b.bindings (VarDeclarator-init t) (VarDeclarator-init u) → SameDeclarator mutability t u
     -- any values and types of patterns, which can't be declared
     destructured : {t u : Tree} → Neither BindingIdent (VarDeclarator-name t) (VarDeclarator-name u) →
         SameRange r (range_of_node (VarDeclarator-name t)) (range_of_node (VarDeclarator-name u)) → SameDeclarator mutability t u
@@ -129,17 +129,17 @@ module _ (r : Renaming) (a b : Surroundings) where
     -- interfaces, type aliases and enums stand as they are written
     standing : {t u : Tree} (k : Kind) → Both k t u → is_standing k ≡ true → a.is_public p ≡ b.is_public q → SameTree r t u → SameDecl p q t u
     function : {t u : Tree} → SameFunctionDecl p q t u → a.is_implementation p ≡ false → b.is_implementation q ≡ false →
-        SameFunction r a.unresolved b.unresolved (FnDecl-function t) (FnDecl-function u) → SameDecl p q t u
+        SameFunction r a.bindings b.bindings (FnDecl-function t) (FnDecl-function u) → SameDecl p q t u
     -- implementations behind overloads
     implementation : {t u : Tree} → SameFunctionDecl p q t u → a.is_implementation p ≡ true → b.is_implementation q ≡ true →
-        SameImplementation r a.unresolved b.unresolved (FnDecl-function t) (FnDecl-function u) → SameDecl p q t u
+        SameImplementation r a.bindings b.bindings (FnDecl-function t) (FnDecl-function u) → SameDecl p q t u
     -- functions where all is ambient
     ambient_function : {t u : Tree} → Both FnDecl t u → a.is_public p ≡ b.is_public q → a.is_ambient ≡ true → SameTree r t u → SameDecl p q t u
     class : {t u : Tree} → SameClassDecl t u → a.is_public p ≡ b.is_public q → is_ambient_class a t ≡ false →
-        SameClass r a.unresolved b.unresolved a.is_implementation b.is_implementation (ClassDecl-class t) (ClassDecl-class u) → SameDecl p q t u
+        SameClass r a.bindings b.bindings a.is_implementation b.is_implementation (ClassDecl-class t) (ClassDecl-class u) → SameDecl p q t u
     -- ambient classes stand as they are written, but for private members of computed keys
     ambient_class : {t u : Tree} → SameClassDecl t u → a.is_public p ≡ b.is_public q → is_ambient_class a t ≡ true →
-        SameAmbientClass r a.unresolved b.unresolved a.is_implementation b.is_implementation (ClassDecl-class t) (ClassDecl-class u) → SameDecl p q t u
+        SameAmbientClass r a.bindings b.bindings a.is_implementation b.is_implementation (ClassDecl-class t) (ClassDecl-class u) → SameDecl p q t u
     -- `using`, whatever it declares
     using : {t u : Tree} → Both UsingDecl t u → SameRange r (UsingDecl-span t) (UsingDecl-span u) → is_public_using a p t ≡ is_public_using b q u →
         SameRange r (using_place t) (using_place u) → SameDecl p q t u
@@ -208,8 +208,8 @@ module _ (r : Renaming) where
 module _ (r : Renaming) (a b : Surroundings) where
   -- two modules that agree but for what is hidden
   pub record AgreeHidden (t u : Tree) : Type 0 where
-    -- what nothing in the first module binds is what nothing in the second binds
-    pub unresolved : IsPair r.scopes a.unresolved.0 b.unresolved.0
+    -- what is known of names agrees, under the renaming of scope numbers
+    pub bindings : SameBindings r a.bindings b.bindings
     pub is_ambient : a.is_ambient ≡ b.is_ambient
     pub items : SameItems r a b (items_of t) (items_of u)
     pub shebang : SameTree r (Module-shebang t) (Module-shebang u)

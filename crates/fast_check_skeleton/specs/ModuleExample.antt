@@ -13,8 +13,7 @@ use Rattle.fast_check_expression_forms.specs.Expressions.{fn_expr}
 use Rattle.fast_check_program_forms.specs.Literals.{str}
 use Rattle.fast_check_program_forms.specs.ModuleDecls.{import_decl, export_default_decl}
 use Rattle.fast_check_helpers.specs.Builders.{new_ident}
-use Rattle.fast_check_signatures.specs.NewNodes.{no_scope}
-use Rattle.fast_check_skeleton.specs.ClassExample.{void_function, empty_statement, module_of, no_places}
+use Rattle.fast_check_skeleton.specs.ClassExample.{void_function, empty_statement, module_of, no_places, no_classes}
 use Rattle.fast_check_skeleton.specs.Example.{at}
 use Rattle.fast_check_skeleton.specs.Hidden.{AgreeHidden}
 use Rattle.fast_check_skeleton.specs.SameLinks.{SameSource}
@@ -60,7 +59,7 @@ abbrev pub around : Surroundings
 around = record {
   is_public = λ r. r.start.0 == 0;
   is_implementation = λ r. false;
-  unresolved = no_scope;
+  bindings = no_classes;
   is_ambient = false;
   relative = λ text. Some resolved;
 }
@@ -70,7 +69,7 @@ abbrev pub unresolving : Surroundings
 unresolving = record {
   is_public = around.is_public;
   is_implementation = around.is_implementation;
-  unresolved = no_scope;
+  bindings = no_classes;
   is_ambient = false;
   relative = λ text. None;
 }

@@ -36,19 +36,19 @@ module _ (r : Renaming) (a b : Surroundings) where
 
   pub data SameDefault : Tree → Tree → Type 0 where
     value : {t u : Tree} → Both ExportDefaultExpr t u → SameRange r (ExportDefaultExpr-span t) (ExportDefaultExpr-span u) →
-        is_public_value a t ≡ is_public_value b u → SameExpr r a.unresolved b.unresolved (ExportDefaultExpr-expr t) (ExportDefaultExpr-expr u) →
+        is_public_value a t ≡ is_public_value b u → SameExpr r a.bindings b.bindings (ExportDefaultExpr-expr t) (ExportDefaultExpr-expr u) →
         SameDefault t u
     class : {t u : Tree} → SameDefaultDecl ClassExpr t u →
         SameTree r (ClassExpr-ident (ExportDefaultDecl-decl t)) (ClassExpr-ident (ExportDefaultDecl-decl u)) →
-        SameClass r a.unresolved b.unresolved a.is_implementation b.is_implementation
+        SameClass r a.bindings b.bindings a.is_implementation b.is_implementation
         (ClassExpr-class (ExportDefaultDecl-decl t)) (ClassExpr-class (ExportDefaultDecl-decl u)) → SameDefault t u
     function : {t u : Tree} → SameDefaultFunction t u →
         a.is_implementation (ExportDefaultDecl-span t) ≡ false → b.is_implementation (ExportDefaultDecl-span u) ≡ false →
-        SameFunction r a.unresolved b.unresolved (FnExpr-function (ExportDefaultDecl-decl t)) (FnExpr-function (ExportDefaultDecl-decl u)) → SameDefault t u
+        SameFunction r a.bindings b.bindings (FnExpr-function (ExportDefaultDecl-decl t)) (FnExpr-function (ExportDefaultDecl-decl u)) → SameDefault t u
     -- implementations behind overloads
     implementation : {t u : Tree} → SameDefaultFunction t u →
         a.is_implementation (ExportDefaultDecl-span t) ≡ true → b.is_implementation (ExportDefaultDecl-span u) ≡ true →
-        SameImplementation r a.unresolved b.unresolved (FnExpr-function (ExportDefaultDecl-decl t)) (FnExpr-function (ExportDefaultDecl-decl u)) →
+        SameImplementation r a.bindings b.bindings (FnExpr-function (ExportDefaultDecl-decl t)) (FnExpr-function (ExportDefaultDecl-decl u)) →
         SameDefault t u
     -- where all is ambient functions stand as they are written
     ambient_function : {t u : Tree} → SameDefaultDecl FnExpr t u → a.is_ambient ≡ true →

@@ -1,17 +1,17 @@
 -- What the skeleton of a module depends on beside its tree.
 use Rattle.std.specs.Prelude.{ℕ, Bool, ◌||◌, Option, List}
 use Rattle.fast_check_syntax.specs.declared.source.SourceRange.{SourceRange}
-use Rattle.fast_check_syntax.specs.declared.source.SyntaxContext.{SyntaxContext}
 use Rattle.fast_check_syntax.specs.declared.tree.Tree.{Tree}
 use Rattle.fast_check_statement_forms.specs.TsDeclarations.{TsModuleDecl-declare}
+use Rattle.fast_check_signatures.specs.Bindings.{Bindings}
 
 pub record Surroundings : Type 0 where
   -- whether a range is public, so that what stands there may be seen from outside
   pub is_public : SourceRange → Bool
   -- whether the function of a public range is an implementation behind overloads, so that its own signature is not seen
   pub is_implementation : SourceRange → Bool
-  -- the scope number of the names that nothing in the module binds
-  pub unresolved : SyntaxContext
+  -- what is known of the names of the module
+  pub bindings : Bindings
   -- whether all that stands here is ambient: in a declaration file (`.d.ts`, `.d.mts`, `.d.cts`), or inside of a namespace with `declare`
   pub is_ambient : Bool
   -- the text that stands in a skeleton for a source of imports or exports, where it is another one: a text that begins with `.`, where the graph resolves it
@@ -22,7 +22,7 @@ abbrev pub with_ambient : Bool → Surroundings → Surroundings
 with_ambient is_ambient around = record {
   is_public = around.is_public;
   is_implementation = around.is_implementation;
-  unresolved = around.unresolved;
+  bindings = around.bindings;
   is_ambient = is_ambient;
   relative = around.relative;
 }

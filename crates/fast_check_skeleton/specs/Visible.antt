@@ -55,7 +55,7 @@ typed_declarator d type = var_declarator d.span (binding_ident d.ident type) nev
 
 -- a value that is to give a type, and the place of the identifier that names it; where there is none, nothing gives the type
 abbrev pub value_seen : Surroundings → SourceRange → Tree → Seen
-value_seen around place value = if is_absent value then refused else expr_seen around.unresolved value (Some place)
+value_seen around place value = if is_absent value then refused else expr_seen around.bindings value (Some place)
 
 -- a declarator without a written type, by the type that its value shows, or else with the value as it may stay
 abbrev pub untyped_seen : Surroundings → Tree → Option Tree → Seen
@@ -65,7 +65,7 @@ untyped_seen around d None = declarator (declarator_head d) (value_seen around (
 -- a declarator of an identifier
 abbrev pub ident_declarator_seen : Surroundings → DeclMutabilityKind → Tree → Seen
 ident_declarator_seen around mutability d =
-    if is_absent (declared_type d) then untyped_seen around d (inferred_type mutability around.unresolved (VarDeclarator-init d))
+    if is_absent (declared_type d) then untyped_seen around d (inferred_type mutability around.bindings.unresolved (VarDeclarator-init d))
     else written (typed_declarator (declarator_head d) (declared_type d))
 
 -- a declarator that is not ambient; a pattern can't be one
@@ -108,7 +108,7 @@ standing_seen around place decl = if around.is_public place then written decl �
 abbrev pub signature_of : Surroundings → SourceRange → Tree → Seen
 signature_of around place decl =
     if around.is_implementation place then implementation_seen (FnDecl-function decl)
-    else function_seen around.unresolved (expr_seen around.unresolved) DeclarationLike (Ident-span (FnDecl-ident decl)) (FnDecl-function decl)
+    else function_seen around.bindings (expr_seen around.bindings) DeclarationLike (Ident-span (FnDecl-ident decl)) (FnDecl-function decl)
 
 -- a function declaration; where all is ambient it stands as it is written
 abbrev pub function_decl_seen : Surroundings → SourceRange → Tree → Seen
@@ -127,7 +127,7 @@ is_ambient_class around decl = around.is_ambient || ClassDecl-declare decl
 abbrev pub class_in : Surroundings → Tree → Seen
 class_in around decl =
     if is_ambient_class around decl then written (ambient_class (ClassDecl-class decl))
-    else plain_class_seen around.unresolved around.is_implementation (ClassDecl-class decl)
+    else plain_class_seen around.bindings around.is_implementation (ClassDecl-class decl)
 
 abbrev pub class_decl_seen : Surroundings → Tree → Seen
 class_decl_seen around decl =

@@ -2,6 +2,7 @@
 use Rattle.std.specs.Prelude.{◌≡◌, List, [], ◌++◌, Result, IfOk}
 use Rattle.std.proofs.Common.{ap, ◌∙◌, subst, sym}
 use Rattle.std.proofs.lemmas.Result.{IfOk-weaker}
+use Rattle.fast_check_bindings.specs.Bindings.{bindings_of}
 use Rattle.fast_check_syntax.specs.declared.tree.Tree.{Tree}
 use Rattle.fast_check_syntax.specs.Shape.{parts, list}
 use Rattle.fast_check_program_forms.specs.Programs.{Module-span, Module-body, Module-shebang, module'}
@@ -38,7 +39,7 @@ module _ (graph : ModuleGraph) (info : EsModule) (public : PublicRanges) {around
   unfolding program_answer
   faults_are = h.faults ∙ (ap (λ old. old ++ h.added) o ∙ (sym (ap (λ a. a.faults) h.is) ∙ (λ i. (program_answer (e i) (p i)).faults)))
 
-  pub skeleton_in_grammar : fs ≡ [] → IsSkeleton info.source.unresolved_context (is_declaration info.source.media_type) t
+  pub skeleton_in_grammar : fs ≡ [] → IsSkeleton (bindings_of info) (is_declaration info.source.media_type) t
   skeleton_in_grammar n =
-      subst (IsSkeleton info.source.unresolved_context (is_declaration info.source.media_type)) (sym skeleton_is)
+      subst (IsSkeleton (bindings_of info) (is_declaration info.source.media_type)) (sym skeleton_is)
       (skeleton_stands (surroundings_of graph info public) info.source.program (sym faults_are ∙ n))

@@ -50,7 +50,7 @@ pub fn transform(
     ensures ok { IfOk result (λ answer. IsOk answer ↔ (faults graph.now es_module_info.now public_ranges.now ≡ [])) }
     ensures skeleton { IfOk result (λ answer. IfOk answer (λ made. made.program ≡ skeleton graph.now es_module_info.now public_ranges.now)) }
     ensures grammar { IfOk result (λ answer. IfOk answer (λ made.
-        IsSkeleton es_module_info.now.source.unresolved_context (is_declaration es_module_info.now.source.media_type) made.program)) }
+        IsSkeleton (bindings_of es_module_info.now) (is_declaration es_module_info.now.source.media_type) made.program)) }
     ensures comments { IfOk result (λ answer. IfOk answer (λ made. made.comments ≡ comments graph.now es_module_info.now public_ranges.now)) }
     ensures sources { IfOk result (λ answer. IfOk answer (λ made. made.module_info.sources.items ≡ sources graph.now es_module_info.now public_ranges.now)) }
     ensures faults { IfOk result (λ answer. IfErr answer (λ diagnostics.

@@ -6,7 +6,6 @@ use Rattle.fast_check_syntax.specs.declared.kind.Kind.{Kind}
 use Rattle.fast_check_syntax.specs.declared.kind.Kind.TheVariants as kinds
 use Rattle.fast_check_syntax.specs.declared.kind.Word.TheVariants as words
 use Rattle.fast_check_syntax.specs.declared.source.SourceRange.{SourceRange}
-use Rattle.fast_check_syntax.specs.declared.source.SyntaxContext.{SyntaxContext}
 use Rattle.fast_check_syntax.specs.declared.tree.Tree as tree
 use Rattle.fast_check_syntax.specs.declared.tree.Tree.{Tree, Absent}
 use Rattle.fast_check_syntax.specs.Shape.{◌is◌, kind_of, parts, is_absent, flag_of, has_word, node, list, OfAll}
@@ -24,6 +23,7 @@ use Rattle.fast_check_statement_forms.specs.Statements.{BlockStmt-stmts, ExprStm
 use Rattle.fast_check_helpers.specs.Builders.{type_ann, any_type_ann, never_value}
 use Rattle.fast_check_helpers.specs.declared.literal_type.DeclMutabilityKind.TheVariants.{Mutable}
 use Rattle.fast_check_helpers.specs.InferredType.{inferred_type}
+use Rattle.fast_check_signatures.specs.Bindings.{Bindings}
 use Rattle.fast_check_signatures.specs.declared.fault.FaultKind.TheVariants.{MissingExplicitType}
 use Rattle.fast_check_signatures.specs.declared.function_kind.FunctionKind.{FunctionKind}
 use Rattle.fast_check_signatures.specs.declared.function_kind.FunctionKind.TheVariants.{DeclarationLike, Getter, Setter}
@@ -120,9 +120,9 @@ ambient_stands t =
     let same : Class-body (ambient_class t) ≡ list (ambient_members (parts (Class-body t))) = part_node _ _ _ in
     ap (list_all (λ m. not (is_private_computed m))) (ap parts same ∙ parts_node _ _) ∙ ambient_stay (parts (Class-body t))
 
-module _ (unresolved : SyntaxContext) (is_implementation : SourceRange → Bool) where
+module _ (bindings : Bindings) (is_implementation : SourceRange → Bool) where
   abbrev Member : Tree → Type 0
-  Member = IsTypedMember unresolved
+  Member = IsTypedMember bindings
 
   abbrev StaysMember : Seen → Type 0
   StaysMember s = Stays Member (answer_to s)
@@ -137,72 +137,72 @@ module _ (unresolved : SyntaxContext) (is_implementation : SourceRange → Bool)
 
   -- a value that gives a type
   abbrev Gives : Tree → Type 0
-  Gives v = (is_absent v ≡ false) × IsLeavable unresolved v
+  Gives v = (is_absent v ≡ false) × IsLeavable bindings v
 
   valued_stands : (p : PropertyHead) (value : Tree) → Gives value → Member (valued_property p value)
   valued_stands p value h =
       let same : ClassProp-value (valued_property p value) ≡ value = part_node _ _ _ in
       let type : ClassProp-type_ann (valued_property p value) ≡ Absent = part_node _ _ _ in
       IsTypedMember.valued (kind_of_node _ _) (part_node _ _ _) (ap is_absent type ∙ absent) (ap is_absent same ∙ h.0)
-      (subst (IsLeavable unresolved) (sym same) h.1) (ap flag_of (part_node _ _ _) ∙ flag_of_flag false) (ap flag_of (part_node _ _ _) ∙ flag_of_flag false)
+      (subst (IsLeavable bindings) (sym same) h.1) (ap flag_of (part_node _ _ _) ∙ flag_of_flag false) (ap flag_of (part_node _ _ _) ∙ flag_of_flag false)
 
-  value_stays : (place : SourceRange) (value : Tree) → Stays Gives (answer_to (member_value_seen unresolved is_implementation place value))
+  value_stays : (place : SourceRange) (value : Tree) → Stays Gives (answer_to (member_value_seen bindings is_implementation place value))
   value_stays place value =
       of_choice (λ s. Stays Gives (answer_to s)) (is_absent value) _ _ (λ e f. tt)
-      (λ e f. both_some (λ v. is_absent v ≡ false) (IsLeavable unresolved) (answer_to (expr_seen unresolved value (Some place))).stays
-      (stays_there unresolved value (Some place) e) (expr_stays unresolved value (Some place) f))
+      (λ e f. both_some (λ v. is_absent v ≡ false) (IsLeavable bindings) (answer_to (expr_seen bindings value (Some place))).stays
+      (stays_there bindings value (Some place) e) (expr_stays bindings value (Some place) f))
 
-  untyped_stays : (p : PropertyHead) (value : Tree) (o : Option Tree) → StaysMember (untyped_property_seen unresolved is_implementation p value o)
+  untyped_stays : (p : PropertyHead) (value : Tree) (o : Option Tree) → StaysMember (untyped_property_seen bindings is_implementation p value o)
   untyped_stays p value (Some type) = λ f. declared_stands p (type_ann type)
   untyped_stays p value None =
       λ f. valued_stands p _ (demanded_holds Gives (fault_at MissingExplicitType (range_of_node p.key))
-      (answer_to (member_value_seen unresolved is_implementation (range_of_node p.key) value)) (value_stays (range_of_node p.key) value) f)
+      (answer_to (member_value_seen bindings is_implementation (range_of_node p.key) value)) (value_stays (range_of_node p.key) value) f)
 
-  property_stays : (m : Tree) → StaysMember (property_seen unresolved is_implementation m)
+  property_stays : (m : Tree) → StaysMember (property_seen bindings is_implementation m)
   property_stays m =
       let p = property_head m in
       of_choice StaysMember (is_private p.accessibility) _ _ (λ e f. declared_stands p any_type_ann)
       (λ e. of_choice StaysMember (is_absent (ClassProp-type_ann m)) _ _
-      (λ n. untyped_stays p (ClassProp-value m) (inferred_type (mutability_of_property p.readonly) unresolved (ClassProp-value m)))
+      (λ n. untyped_stays p (ClassProp-value m) (inferred_type (mutability_of_property p.readonly) bindings.unresolved (ClassProp-value m)))
       (λ w f. declared_stands p (ClassProp-type_ann m)))
 
-  accessor_shown : (p : PropertyHead) (o : Option Tree) → StaysMember (untyped_accessor_seen unresolved is_implementation p o)
+  accessor_shown : (p : PropertyHead) (o : Option Tree) → StaysMember (untyped_accessor_seen bindings is_implementation p o)
   accessor_shown p (Some type) = λ f. declared_stands p (type_ann type)
   accessor_shown p None = λ f. not_empty f
 
-  accessor_stays : (m : Tree) → StaysMember (accessor_seen unresolved is_implementation m)
+  accessor_stays : (m : Tree) → StaysMember (accessor_seen bindings is_implementation m)
   accessor_stays m =
       let p = accessor_head m in
       of_choice StaysMember (is_private p.accessibility) _ _ (λ e f. declared_stands p any_type_ann)
       (λ e. of_choice StaysMember (is_absent (AutoAccessor-type_ann m))
-      (untyped_accessor_seen unresolved is_implementation p (inferred_type Mutable unresolved (AutoAccessor-value m)))
-      (typed_property p (AutoAccessor-type_ann m)) (λ n. accessor_shown p (inferred_type Mutable unresolved (AutoAccessor-value m)))
+      (untyped_accessor_seen bindings is_implementation p (inferred_type Mutable bindings.unresolved (AutoAccessor-value m)))
+      (typed_property p (AutoAccessor-type_ann m)) (λ n. accessor_shown p (inferred_type Mutable bindings.unresolved (AutoAccessor-value m)))
       (λ w f. declared_stands p (AutoAccessor-type_ann m)))
 
   -- ---- methods
 
   abbrev IsMethodFunction : Tree → Tree → Type 0
-  IsMethodFunction kind t = IsTypedFunction unresolved t ⊎ ((has_word words.Setter kind ≡ true) × IsTypedSetter unresolved t)
+  IsMethodFunction kind t = IsTypedFunction bindings t ⊎ ((has_word words.Setter kind ≡ true) × IsTypedSetter bindings t)
 
-  typed_fits : (kind : Tree) (s : Seen) → Stays (IsTypedFunction unresolved) (answer_to s) → Stays (IsMethodFunction kind) (answer_to s)
-  typed_fits kind s h = λ f. some_weaker (IsTypedFunction unresolved) (IsMethodFunction kind) (λ t h. inl h) (answer_to s).stays (h f)
+  typed_fits : (kind : Tree) (s : Seen) → Stays (IsTypedFunction bindings) (answer_to s) → Stays (IsMethodFunction kind) (answer_to s)
+  typed_fits kind s h = λ f. some_weaker (IsTypedFunction bindings) (IsMethodFunction kind) (λ t h. inl h) (answer_to s).stays (h f)
 
-  method_function_stays : (m : Tree) → Stays (IsMethodFunction (ClassMethod-kind m)) (answer_to (method_function_seen unresolved is_implementation m))
+  method_function_stays : (m : Tree) → Stays (IsMethodFunction (ClassMethod-kind m)) (answer_to (method_function_seen bindings is_implementation m))
   method_function_stays m =
       let kind = ClassMethod-kind m in
       let place = range_of_node (ClassMethod-key m) in
       let function = ClassMethod-function m in
       let Fits : Seen → Type 0 = λ s. Stays (IsMethodFunction kind) (answer_to s) in
-      let OfKind : FunctionKind → Type 0 = λ k. Fits (function_seen unresolved (expr_seen unresolved) k place function) in
-      let at : FunctionKind → Seen = λ k. function_seen unresolved (expr_seen unresolved) k place function in
+      let OfKind : FunctionKind → Type 0 = λ k. Fits (function_seen bindings (expr_seen bindings) k place function) in
+      let at : FunctionKind → Seen = λ k. function_seen bindings (expr_seen bindings) k place function in
       of_choice Fits (is_implementation (ClassMethod-span m)) (implementation_seen function) (at (method_kind kind))
-      (λ e f. typed_fits kind (implementation_seen function) (λ g. implementation_is_typed unresolved function) f)
+      (λ e f. typed_fits kind (implementation_seen function) (λ g. implementation_is_typed bindings function) f)
       (λ e. of_choice OfKind (has_word words.Setter kind) Setter (if has_word words.Getter kind then Getter else DeclarationLike)
-      (λ s f. some_weaker (IsTypedSetter unresolved) (IsMethodFunction kind) (λ t h. inr (s, h)) (answer_to (at Setter)).stays
-      (setter_stays unresolved (expr_seen unresolved) (expr_stays unresolved) place function f))
+      (λ s f. some_weaker (IsTypedSetter bindings) (IsMethodFunction kind) (λ t h. inr (s, h)) (answer_to (at Setter)).stays
+      (setter_stays bindings (expr_seen bindings) (expr_stays bindings) place function f))
       (λ n. of_choice OfKind (has_word words.Getter kind) Getter DeclarationLike
-      (λ g. typed_fits kind (at Getter) (function_is_typed unresolved Getter place function refl))
-      (λ g. typed_fits kind (at DeclarationLike) (function_is_typed unresolved DeclarationLike place function refl))))
+      (λ g. typed_fits kind (at Getter) (function_is_typed bindings Getter place function refl))
+      (λ g. typed_fits kind (at DeclarationLike) (function_is_typed bindings DeclarationLike place function refl))))
 
   -- what stands behind the function of a method
   abbrev method_rest : Tree → List Tree
@@ -234,19 +234,19 @@ module _ (unresolved : SyntaxContext) (is_implementation : SourceRange → Bool)
       (visited_stays (IsMethodFunction (ClassMethod-kind m)) (λ ts. ts ≡ method_rest m) (λ ts. Member (node kinds.ClassMethod (span ∷ key ∷ ts)))
       (λ t ts h e. subst (λ us. Member (node kinds.ClassMethod (span ∷ key ∷ t ∷ us))) (sym e) (method_stands m t n h)) (answer_to s) rest p (λ f. refl))))
 
-  method_stays : (m : Tree) → StaysMember (method_seen unresolved is_implementation m)
+  method_stays : (m : Tree) → StaysMember (method_seen bindings is_implementation m)
   method_stays m =
       of_choice StaysMember (is_private (ClassMethod-accessibility m)) _ _ (λ e f. declared_stands (private_method_head m) any_type_ann)
-      (λ n. signed_stays m (method_function_seen unresolved is_implementation m) n (method_function_stays m))
+      (λ n. signed_stays m (method_function_seen bindings is_implementation m) n (method_function_stays m))
 
   -- ---- constructors
 
-  constructor_params_hold : (m : Tree) → ParamsHold unresolved (constructor_params_seen unresolved is_implementation m)
+  constructor_params_hold : (m : Tree) → ParamsHold bindings (constructor_params_seen bindings is_implementation m)
   constructor_params_hold m =
       let ps = map plain_param (parts (Constructor-params m)) in
-      of_choice (ParamsHold unresolved) (is_private (Constructor-accessibility m)) _ _ (λ e f. AllTypedParams.no_params)
-      (λ n. of_choice (ParamsHold unresolved) (is_implementation (Constructor-span m)) _ _ (λ e. any_params_hold unresolved 0 ps)
-      (λ e. params_hold unresolved (expr_seen unresolved) (expr_stays unresolved) ps (map (λ p. Param-pat p) ps)))
+      of_choice (ParamsHold bindings) (is_private (Constructor-accessibility m)) _ _ (λ e f. AllTypedParams.no_params)
+      (λ n. of_choice (ParamsHold bindings) (is_implementation (Constructor-span m)) _ _ (λ e. any_params_hold bindings 0 ps)
+      (λ e. params_hold bindings (expr_seen bindings) (expr_stays bindings) ps (map (λ p. Param-pat p) ps)))
 
   -- what stands behind the parameters of a constructor
   abbrev constructor_rest : Tree → List Tree
@@ -257,7 +257,7 @@ module _ (unresolved : SyntaxContext) (is_implementation : SourceRange → Bool)
       node kinds.Constructor (tree.Range (Constructor-span m) ∷ tree.Context (Constructor-ctxt m) ∷ Constructor-key m ∷ params ∷ constructor_rest m)
 
   abbrev AreParams : Tree → Type 0
-  AreParams params = AllTypedParams unresolved (parts params)
+  AreParams params = AllTypedParams bindings (parts params)
 
   constructor_stands : (m params : Tree) → AreParams params → Member (made_constructor m params)
   constructor_stands m params h =
@@ -265,10 +265,10 @@ module _ (unresolved : SyntaxContext) (is_implementation : SourceRange → Bool)
       let same : Constructor-params (made_constructor m params) ≡ params = part_node _ _ _ in
       IsTypedMember.constructor (kind_of_node _ _) (subst IsBody (sym body) (body_stands (Constructor-body m))) (subst AreParams (sym same) h)
 
-  list_stays : (params : List Seen) → ParamsHold unresolved params → Stays AreParams (list_answer (answer_of params))
-  list_stays params h = λ f. subst (AllTypedParams unresolved) (sym (parts_node _ _)) (h f)
+  list_stays : (params : List Seen) → ParamsHold bindings params → Stays AreParams (list_answer (answer_of params))
+  list_stays params h = λ f. subst (AllTypedParams bindings) (sym (parts_node _ _)) (h f)
 
-  constructed_stays : (m : Tree) (params : List Seen) → ParamsHold unresolved params → StaysMember (constructor_of m params)
+  constructed_stays : (m : Tree) (params : List Seen) → ParamsHold bindings params → StaysMember (constructor_of m params)
   constructed_stays m params h =
       let span = tree.Range (Constructor-span m) in
       let ctxt = tree.Context (Constructor-ctxt m) in
@@ -284,17 +284,17 @@ module _ (unresolved : SyntaxContext) (is_implementation : SourceRange → Bool)
       (λ t ts p e. subst (λ us. Member (node kinds.Constructor (span ∷ ctxt ∷ key ∷ t ∷ us))) (sym e) (constructor_stands m t p)) ps rest
       (list_stays params h) (λ f. refl)))))
 
-  constructor_stays : (m : Tree) → StaysMember (constructor_seen unresolved is_implementation m)
+  constructor_stays : (m : Tree) → StaysMember (constructor_seen bindings is_implementation m)
   constructor_stays m = go (patterns_among (param_properties m))
     where
-      go : (apart : List Tree) → StaysMember (unless_taken_apart apart (constructor_of m (constructor_params_seen unresolved is_implementation m)))
-      go [] = constructed_stays m (constructor_params_seen unresolved is_implementation m) (constructor_params_hold m)
+      go : (apart : List Tree) → StaysMember (unless_taken_apart apart (constructor_of m (constructor_params_seen bindings is_implementation m)))
+      go [] = constructed_stays m (constructor_params_seen bindings is_implementation m) (constructor_params_hold m)
       go (p ∷ ps) = λ f. not_empty f
 
   -- ---- members
 
   by_kind : (k : Kind) (earlier : List Tree) (m : Tree) → kind_of m ≡ k → stays_by_kind k earlier m ≡ true →
-      StaysMember (member_of_kind unresolved is_implementation k m)
+      StaysMember (member_of_kind bindings is_implementation k m)
   by_kind kinds.Constructor earlier m k e = constructor_stays m
   by_kind kinds.ClassMethod earlier m k e = method_stays m
   by_kind kinds.ClassProp earlier m k e = property_stays m
@@ -302,12 +302,12 @@ module _ (unresolved : SyntaxContext) (is_implementation : SourceRange → Bool)
   by_kind kinds.TsIndexSignature earlier m k e = λ f. IsTypedMember.index_signature k
   by_kind _ earlier m k e = cc
 
-  kept_stay : (earlier ms : List Tree) → AllStay Member (map (member_seen unresolved is_implementation) (each_behind if_kept earlier ms))
+  kept_stay : (earlier ms : List Tree) → AllStay Member (map (member_seen bindings is_implementation) (each_behind if_kept earlier ms))
   kept_stay earlier [] = tt
   kept_stay earlier (m ∷ ms) = go (stays_behind earlier m) refl (kept_stay (m ∷ earlier) ms)
     where
-      go : (b : Bool) → stays_behind earlier m ≡ b → AllStay Member (map (member_seen unresolved is_implementation) (each_behind if_kept (m ∷ earlier) ms)) →
-          AllStay Member (map (member_seen unresolved is_implementation) ((if b then m ∷ [] else []) ++ each_behind if_kept (m ∷ earlier) ms))
+      go : (b : Bool) → stays_behind earlier m ≡ b → AllStay Member (map (member_seen bindings is_implementation) (each_behind if_kept (m ∷ earlier) ms)) →
+          AllStay Member (map (member_seen bindings is_implementation) ((if b then m ∷ [] else []) ++ each_behind if_kept (m ∷ earlier) ms))
       go true e rest = (by_kind (kind_of m) earlier m refl e, rest)
       go false e rest = rest
 
@@ -323,25 +323,25 @@ module _ (unresolved : SyntaxContext) (is_implementation : SourceRange → Bool)
   mark_stands true = (IsTypedMember.mark refl, tt)
   mark_stands false = tt
 
-  param_properties_stand : (ps : List Tree) → OfAll Member (map (param_property unresolved is_implementation) ps)
+  param_properties_stand : (ps : List Tree) → OfAll Member (map (param_property bindings.unresolved) ps)
   param_properties_stand [] = tt
-  param_properties_stand (p ∷ ps) = (declared_stands (param_property_head p) (param_property_type unresolved is_implementation p), param_properties_stand ps)
+  param_properties_stand (p ∷ ps) = (declared_stands (param_property_head p) (param_property_type bindings.unresolved p), param_properties_stand ps)
 
-  declared_by_stand : (m : Tree) → OfAll Member (declared_by_params unresolved is_implementation m)
+  declared_by_stand : (m : Tree) → OfAll Member (declared_by_params bindings.unresolved m)
   declared_by_stand m = of_choice (OfAll Member) (kind_of m is kinds.Constructor) _ _ (λ e. go (patterns_among (param_properties m))) (λ e. tt)
     where
-      go : (apart : List Tree) → OfAll Member (unless_any apart (map (param_property unresolved is_implementation) (param_properties m)))
+      go : (apart : List Tree) → OfAll Member (unless_any apart (map (param_property bindings.unresolved) (param_properties m)))
       go [] = param_properties_stand (param_properties m)
       go (p ∷ ps) = tt
 
-  all_declared : (ms : List Tree) → OfAll Member (flat_map (declared_by_params unresolved is_implementation) ms)
+  all_declared : (ms : List Tree) → OfAll Member (flat_map (declared_by_params bindings.unresolved) ms)
   all_declared [] = tt
-  all_declared (m ∷ ms) = all_of (declared_by_params unresolved is_implementation m) _ (declared_by_stand m) (all_declared ms)
+  all_declared (m ∷ ms) = all_of (declared_by_params bindings.unresolved m) _ (declared_by_stand m) (all_declared ms)
 
-  members_stay : (ms : List Tree) → AllStay Member (members_seen unresolved is_implementation ms)
+  members_stay : (ms : List Tree) → AllStay Member (members_seen bindings is_implementation ms)
   members_stay ms =
-      let made = hash_mark ms ++ flat_map (declared_by_params unresolved is_implementation) (kept_members ms) in
-      all_append Member (map written made) (map (member_seen unresolved is_implementation) (kept_members ms))
+      let made = hash_mark ms ++ flat_map (declared_by_params bindings.unresolved) (kept_members ms) in
+      all_append Member (map written made) (map (member_seen bindings is_implementation) (kept_members ms))
       (written_stay made (all_of (hash_mark ms) _ (mark_stands (list_any is_hash_named ms)) (all_declared (kept_members ms)))) (kept_stay [] ms)
 
   -- ---- classes
@@ -355,7 +355,7 @@ module _ (unresolved : SyntaxContext) (is_implementation : SourceRange → Bool)
       of_choice Fits (is_absent t) _ _ (λ e f. inl absent) (λ n. of_choice Fits (is_reference t) _ _ (λ e f. inr e) (λ e f. not_empty f))
 
   class_stands : (c : ClassHead) (superclass : Tree) (members : List Tree) → IsSuperclass superclass → OfAll Member members →
-      IsTypedClass unresolved (class_of c superclass members)
+      IsTypedClass bindings (class_of c superclass members)
   class_stands c superclass members p h =
       let same : Class-super_class (class_of c superclass members) ≡ superclass = part_node _ _ _ in
       let body : Class-body (class_of c superclass members) ≡ list members = part_node _ _ _ in
@@ -366,9 +366,9 @@ module _ (unresolved : SyntaxContext) (is_implementation : SourceRange → Bool)
         members = subst (OfAll Member) (sym (ap parts body ∙ parts_node _ _)) h;
       }
 
-  pub class_stays : (t : Tree) → Stays (IsTypedClass unresolved) (answer_to (plain_class_seen unresolved is_implementation t))
+  pub class_stays : (t : Tree) → Stays (IsTypedClass bindings) (answer_to (plain_class_seen bindings is_implementation t))
   class_stays t =
-      let members = members_seen unresolved is_implementation (parts (Class-body t)) in
-      joined_stays IsSuperclass (OfAll Member) (IsTypedClass unresolved) (class_of (class_head t)) (class_stands (class_head t))
+      let members = members_seen bindings is_implementation (parts (Class-body t)) in
+      joined_stays IsSuperclass (OfAll Member) (IsTypedClass bindings) (class_of (class_head t)) (class_stands (class_head t))
       (settled (answer_to (superclass_seen (Class-super_class t)))) (answer_of members) (superclass_holds (Class-super_class t))
       (all_hold Member members (members_stay (parts (Class-body t))))

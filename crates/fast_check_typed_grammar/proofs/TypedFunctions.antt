@@ -5,7 +5,6 @@ use Rattle.std.proofs.Common.{ap, ◌∙◌, sym, subst, inl, inr}
 use Rattle.std.proofs.lemmas.Bool.{false≢true}
 use Rattle.fast_check_syntax.specs.declared.kind.Kind.TheVariants.{Param, RestPat}
 use Rattle.fast_check_syntax.specs.declared.source.SourceRange.{SourceRange}
-use Rattle.fast_check_syntax.specs.declared.source.SyntaxContext.{SyntaxContext}
 use Rattle.fast_check_syntax.specs.declared.tree.Tree as tree
 use Rattle.fast_check_syntax.specs.declared.tree.Tree.{Tree, Absent, roll-Tree, out-roll-Tree}
 use Rattle.fast_check_syntax.specs.declared.tree.Tree.TheOpen.{Tree-F}
@@ -20,6 +19,7 @@ use Rattle.fast_check_helpers.specs.declared.return_class.ReturnStatementAnalysi
 use Rattle.fast_check_helpers.specs.Builders.{any_type_ann}
 use Rattle.fast_check_helpers.specs.OptionalParams.{is_optional_param}
 use Rattle.fast_check_helpers.specs.ReturnClass.{return_class}
+use Rattle.fast_check_signatures.specs.Bindings.{Bindings}
 use Rattle.fast_check_signatures.specs.declared.function_kind.FunctionKind.{FunctionKind}
 use Rattle.fast_check_signatures.specs.declared.function_kind.FunctionKind.TheVariants.{DeclarationLike, Getter, Setter}
 use Rattle.fast_check_signatures.specs.Seen.{FunctionHead, Seen, written, seens}
@@ -101,39 +101,39 @@ any_params_faultless place (p ∷ ps) = any_params_faultless (suc place) ps
 pub implementation_faultless : (t : Tree) → (answer_to (implementation_seen t)).faults ≡ []
 implementation_faultless t = any_params_faultless 0 (parts (Function-params t))
 
-module _ (unresolved : SyntaxContext) where
+module _ (bindings : Bindings) where
   -- a parameter of a function
   pub record IsTypedParam (t : Tree) : Type 0 where
     pub kind : kind_of t ≡ Param
     pub decorators : Param-decorators t ≡ list []
-    pub pat : IsTypedPat unresolved (Param-pat t)
+    pub pat : IsTypedPat bindings (Param-pat t)
 
-  next_typed_param : (t : Tree) (ts : List Tree) → IsTypedParam t → AllTypedParams unresolved ts → AllTypedParams unresolved (t ∷ ts)
+  next_typed_param : (t : Tree) (ts : List Tree) → IsTypedParam t → AllTypedParams bindings ts → AllTypedParams bindings (t ∷ ts)
   next_typed_param t ts p ps = AllTypedParams.next_param p.kind p.decorators p.pat ps
 
-  typed_param : (span : SourceRange) (pat : Tree) → IsTypedPat unresolved pat → IsTypedParam (param span (list []) pat)
+  typed_param : (span : SourceRange) (pat : Tree) → IsTypedPat bindings pat → IsTypedParam (param span (list []) pat)
   typed_param span pat p =
       let same : Param-pat (param span (list []) pat) ≡ pat = part_node _ _ _ in
-      record { kind = kind_of_node _ _; decorators = part_node _ _ _; pat = subst (IsTypedPat unresolved) (sym same) p }
+      record { kind = kind_of_node _ _; decorators = part_node _ _ _; pat = subst (IsTypedPat bindings) (sym same) p }
 
-  param_stays : (p : Tree) (pat : Seen) → Stays (IsTypedPat unresolved) (answer_to pat) → Stays IsTypedParam (answer_to (param_seen p pat))
+  param_stays : (p : Tree) (pat : Seen) → Stays (IsTypedPat bindings) (answer_to pat) → Stays IsTypedParam (answer_to (param_seen p pat))
   param_stays p pat stays =
       let span = tree.Range (Param-span p) in
       let end' = visited (answer_to pat) (faultless (Some [])) in
       round_stays Param (λ ts. IsTypedParam (node Param ts)) IsTypedParam (λ ts h. h) (parts_answer (seens (written span ∷ written (list []) ∷ pat ∷ [])))
       (written_before (λ ts. IsTypedParam (node Param ts)) span (visited (faultless (Some (list []))) end')
       (written_before (λ ts. IsTypedParam (node Param (span ∷ ts))) (list []) end'
-      (last_stays (IsTypedPat unresolved) (λ ts. IsTypedParam (node Param (span ∷ list [] ∷ ts))) (typed_param (Param-span p)) (answer_to pat) stays)))
+      (last_stays (IsTypedPat bindings) (λ ts. IsTypedParam (node Param (span ∷ list [] ∷ ts))) (typed_param (Param-span p)) (answer_to pat) stays)))
 
   -- parameters are typed
   abbrev pub ParamsHold : List Seen → Type 0
-  ParamsHold params = Holds (AllTypedParams unresolved) (answer_of params)
+  ParamsHold params = Holds (AllTypedParams bindings) (answer_of params)
 
   next_holds : (param : Seen) (params : List Seen) → Stays IsTypedParam (answer_to param) → ParamsHold params → ParamsHold (param ∷ params)
-  next_holds param params p ps = items_hold IsTypedParam (AllTypedParams unresolved) next_typed_param (answer_to param) (answer_of params) p ps
+  next_holds param params p ps = items_hold IsTypedParam (AllTypedParams bindings) next_typed_param (answer_to param) (answer_of params) p ps
 
-  typed_signature : (f : FunctionHead) (type : Tree) (params : List Tree) → Shows f.lacks_body type → AllTypedParams unresolved params →
-      IsTypedFunction unresolved (signed_function f type params)
+  typed_signature : (f : FunctionHead) (type : Tree) (params : List Tree) → Shows f.lacks_body type → AllTypedParams bindings params →
+      IsTypedFunction bindings (signed_function f type params)
   typed_signature f type params shown typed =
       let made = signed_function f type params in
       let body = if f.lacks_body then Absent else function_body type in
@@ -145,15 +145,15 @@ module _ (unresolved : SyntaxContext) where
       let async : Function-is_async made ≡ false = ap flag_of (part_node _ _ _) ∙ flag_of_flag false in
       IsTypedFunction.typed_function (kind_of_node _ _) decorators async generator
       (subst (λ b. Behind (Function-return_type made) b) (sym same_body) (subst (λ u. Behind u body) (sym same_type) (stands_behind f.lacks_body type shown)))
-      (subst (AllTypedParams unresolved) (sym (ap parts same_params ∙ parts_node _ _)) typed)
+      (subst (AllTypedParams bindings) (sym (ap parts same_params ∙ parts_node _ _)) typed)
 
   abbrev StaysFunction : Seen → Type 0
-  StaysFunction s = Stays (IsTypedFunction unresolved) (answer_to s)
+  StaysFunction s = Stays (IsTypedFunction bindings) (answer_to s)
 
   signature_stays : (t : Tree) (type : Seen) (params : List Seen) → IsTypeOrBodiless (Function-body t) type → ParamsHold params →
       StaysFunction (signature_seen t type params)
   signature_stays t type params shows hold =
-      joined_stays (Shows (is_absent (Function-body t))) (AllTypedParams unresolved) (IsTypedFunction unresolved) (signed_function (function_head t))
+      joined_stays (Shows (is_absent (Function-body t))) (AllTypedParams bindings) (IsTypedFunction bindings) (signed_function (function_head t))
       (typed_signature (function_head t)) (settled (answer_to type)) (answer_of params) shows hold
 
   -- ---- an implementation behind overloads
@@ -161,9 +161,9 @@ module _ (unresolved : SyntaxContext) where
   any_param_typed : (place : ℕ) (is_rest : Bool) → IsTypedParam (any_param place is_rest)
   any_param_typed place true =
       let arg = binding_ident (param_ident place false) Absent in
-      typed_param none_range _ (typed_rest unresolved none_range none_range arg any_type_ann (ident_gathered (param_ident place false) Absent)
+      typed_param none_range _ (typed_rest bindings none_range none_range arg any_type_ann (ident_gathered (param_ident place false) Absent)
       (is_absent_node _ _))
-  any_param_typed place false = typed_param none_range _ (typed_ident unresolved (param_ident place true) any_type_ann (is_absent_node _ _))
+  any_param_typed place false = typed_param none_range _ (typed_ident bindings (param_ident place true) any_type_ann (is_absent_node _ _))
 
   pub any_params_hold : (place : ℕ) (params : List Tree) → ParamsHold (any_params_from place params)
   any_params_hold place [] = λ f. AllTypedParams.no_params
@@ -176,26 +176,26 @@ module _ (unresolved : SyntaxContext) where
 
   -- ---- a function
 
-  module _ (look : Look) (stays : LookStays unresolved look) where
-    pub params_hold : (params pats : List Tree) → ParamsHold (params_seen params (pats_seen unresolved look pats))
+  module _ (look : Look) (stays : LookStays bindings look) where
+    pub params_hold : (params pats : List Tree) → ParamsHold (params_seen params (pats_seen bindings look pats))
     params_hold [] pats = λ f. AllTypedParams.no_params
     params_hold (p ∷ ps) [] = λ f. AllTypedParams.no_params
     params_hold (p ∷ ps) (pat ∷ pats) =
-        let is_optional = list_all is_optional_param (pat ∷ pats) in let seen = pat_seen unresolved look is_optional pat in
-        next_holds (param_seen p seen) (params_seen ps (pats_seen unresolved look pats))
-        (param_stays p seen (pat_stays unresolved look stays is_optional pat)) (params_hold ps pats)
+        let is_optional = list_all is_optional_param (pat ∷ pats) in let seen = pat_seen bindings look is_optional pat in
+        next_holds (param_seen p seen) (params_seen ps (pats_seen bindings look pats))
+        (param_stays p seen (pat_stays bindings look stays is_optional pat)) (params_hold ps pats)
 
     pub function_stays : (kind : FunctionKind) (place : SourceRange) (t : Tree) → is_setter kind ≡ false →
-        StaysFunction (function_seen unresolved look kind place t)
+        StaysFunction (function_seen bindings look kind place t)
     function_stays kind place t n =
         let params = parts (Function-params t) in
         let pats = map (λ p. Param-pat p) params in
-        signature_stays t (return_type_seen kind place t) (params_seen params (pats_seen unresolved look pats)) (return_type_shows kind place t n)
+        signature_stays t (return_type_seen kind place t) (params_seen params (pats_seen bindings look pats)) (return_type_shows kind place t n)
         (params_hold params pats)
 
     -- the function of a setter: no type shows its body
-    typed_setter : (f : FunctionHead) (type : Tree) (params : List Tree) → Unit {0} → AllTypedParams unresolved params →
-        IsTypedSetter unresolved (signed_function f type params)
+    typed_setter : (f : FunctionHead) (type : Tree) (params : List Tree) → Unit {0} → AllTypedParams bindings params →
+        IsTypedSetter bindings (signed_function f type params)
     typed_setter f type params shown typed =
         let made = signed_function f type params in
         let body = if f.lacks_body then Absent else function_body type in
@@ -209,13 +209,13 @@ module _ (unresolved : SyntaxContext) where
           is_generator = ap flag_of (part_node _ _ _) ∙ flag_of_flag false;
           body = subst (λ b. IsSetterBody (Function-return_type made) b) (sym same_body) (subst (λ u. IsSetterBody u body) (sym same_type)
               (setter_body f.lacks_body type));
-          params = subst (AllTypedParams unresolved) (sym (ap parts same_params ∙ parts_node _ _)) typed;
+          params = subst (AllTypedParams bindings) (sym (ap parts same_params ∙ parts_node _ _)) typed;
         }
 
-    pub setter_stays : (place : SourceRange) (t : Tree) → Stays (IsTypedSetter unresolved) (answer_to (function_seen unresolved look Setter place t))
+    pub setter_stays : (place : SourceRange) (t : Tree) → Stays (IsTypedSetter bindings) (answer_to (function_seen bindings look Setter place t))
     setter_stays place t =
         let params = parts (Function-params t) in
         let pats = map (λ p. Param-pat p) params in
-        joined_stays (λ (type : Tree). Unit {0}) (AllTypedParams unresolved) (IsTypedSetter unresolved) (signed_function (function_head t))
+        joined_stays (λ (type : Tree). Unit {0}) (AllTypedParams bindings) (IsTypedSetter bindings) (signed_function (function_head t))
         (typed_setter (function_head t)) (settled (answer_to (return_type_seen Setter place t)))
-        (answer_of (params_seen params (pats_seen unresolved look pats))) (λ f. tt) (params_hold params pats)
+        (answer_of (params_seen params (pats_seen bindings look pats))) (λ f. tt) (params_hold params pats)

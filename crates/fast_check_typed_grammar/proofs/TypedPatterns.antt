@@ -5,7 +5,6 @@ use Rattle.std.proofs.Common.{ap, ◌∙◌, sym, subst}
 use Rattle.fast_check_syntax.specs.declared.kind.Kind.{Kind}
 use Rattle.fast_check_syntax.specs.declared.kind.Kind.TheVariants as kinds
 use Rattle.fast_check_syntax.specs.declared.source.SourceRange.{SourceRange}
-use Rattle.fast_check_syntax.specs.declared.source.SyntaxContext.{SyntaxContext}
 use Rattle.fast_check_syntax.specs.declared.tree.Tree.{Tree}
 use Rattle.fast_check_syntax.specs.Shape.{kind_of, is_absent, list, flag_of, range_of}
 use Rattle.fast_check_syntax.proofs.Made.{kind_of_node, part_node, is_absent_node, flag_of_flag, range_of_range}
@@ -17,6 +16,7 @@ use Rattle.fast_check_helpers.specs.declared.literal_type.DeclMutabilityKind.The
 use Rattle.fast_check_helpers.specs.Builders.{type_ann, never_value}
 use Rattle.fast_check_helpers.specs.InferredType.{inferred_type}
 use Rattle.fast_check_helpers.specs.OptionalParams.{is_optional_param}
+use Rattle.fast_check_signatures.specs.Bindings.{Bindings}
 use Rattle.fast_check_signatures.specs.declared.fault.FaultKind.TheVariants.{MissingExplicitType}
 use Rattle.fast_check_signatures.specs.Seen.{Seen}
 use Rattle.fast_check_signatures.specs.NewNodes.{never_array, empty_object_pat, or_undefined}
@@ -78,12 +78,12 @@ typed_stays : (P : Tree → Type 0) (type : Tree) (place : SourceRange) (pat : T
     Stays P (answer_to (typed type place pat))
 typed_stays P type place pat p = of_choice (λ s. Stays P (answer_to s)) (is_absent type) _ _ (λ e f. not_empty f) (λ e f. p e)
 
-module _ (unresolved : SyntaxContext) where
+module _ (bindings : Bindings) where
   abbrev TypedPat : Tree → Type 0
-  TypedPat = IsTypedPat unresolved
+  TypedPat = IsTypedPat bindings
 
   abbrev Leavable : Tree → Type 0
-  Leavable = IsLeavable unresolved
+  Leavable = IsLeavable bindings
 
   abbrev StaysTyped : Seen → Type 0
   StaysTyped s = Stays TypedPat (answer_to s)
@@ -167,63 +167,63 @@ module _ (unresolved : SyntaxContext) where
       StaysTyped (default_seen span place left value)
   default_stays span place left value gives stays f = gives span _ (demanded_holds Leavable (fault_at MissingExplicitType place) (answer_to value) stays f)
 
-module _ (unresolved : SyntaxContext) (look : Look) (stays : LookStays unresolved look) where
+module _ (bindings : Bindings) (look : Look) (stays : LookStays bindings look) where
   abbrev Typed : Seen → Type 0
-  Typed s = StaysTyped unresolved s
+  Typed s = StaysTyped bindings s
 
   by_shown_stays : (b : Bool) (pat : Tree) → kind_of (AssignPat-left pat) ≡ kinds.BindingIdent → (shown : Option Tree) →
-      Typed (by_shown unresolved look b pat shown)
-  by_shown_stays b pat kind (Some type) = λ f. typed_without_default unresolved b (BindingIdent-id (AssignPat-left pat)) (type_ann type) (is_absent_node _ _)
+      Typed (by_shown bindings look b pat shown)
+  by_shown_stays b pat kind (Some type) = λ f. typed_without_default bindings b (BindingIdent-id (AssignPat-left pat)) (type_ann type) (is_absent_node _ _)
   by_shown_stays b pat kind None = let place = Ident-span (BindingIdent-id (AssignPat-left pat)) in
-      default_stays unresolved (AssignPat-span pat) place (AssignPat-left pat) (look (AssignPat-right pat) (Some place))
-      (ident_gives unresolved (AssignPat-left pat) kind) (stays (AssignPat-right pat) (Some place))
+      default_stays bindings (AssignPat-span pat) place (AssignPat-left pat) (look (AssignPat-right pat) (Some place))
+      (ident_gives bindings (AssignPat-left pat) kind) (stays (AssignPat-right pat) (Some place))
 
-  ident_default_stays : (b : Bool) (pat : Tree) → kind_of (AssignPat-left pat) ≡ kinds.BindingIdent → Typed (ident_default_seen unresolved look b pat)
+  ident_default_stays : (b : Bool) (pat : Tree) → kind_of (AssignPat-left pat) ≡ kinds.BindingIdent → Typed (ident_default_seen bindings look b pat)
   ident_default_stays b pat kind = let id = AssignPat-left pat in
-      of_choice Typed (is_absent (BindingIdent-type_ann id)) _ _ (λ e. by_shown_stays b pat kind (inferred_type Mutable unresolved (AssignPat-right pat)))
-      (λ e f. typed_without_default unresolved b (BindingIdent-id id) (BindingIdent-type_ann id) e)
+      of_choice Typed (is_absent (BindingIdent-type_ann id)) _ _ (λ e. by_shown_stays b pat kind (inferred_type Mutable bindings.unresolved (AssignPat-right pat)))
+      (λ e f. typed_without_default bindings b (BindingIdent-id id) (BindingIdent-type_ann id) e)
 
-  pattern_default_stays : (type : Tree) (place : SourceRange) (emptied never pat : Tree) → GivesType unresolved emptied →
-      (is_absent type ≡ false → IsTypedPat unresolved (assign_pat (AssignPat-span pat) emptied never)) →
-      Typed (pattern_default_seen unresolved look type place emptied never pat)
+  pattern_default_stays : (type : Tree) (place : SourceRange) (emptied never pat : Tree) → GivesType bindings emptied →
+      (is_absent type ≡ false → IsTypedPat bindings (assign_pat (AssignPat-span pat) emptied never)) →
+      Typed (pattern_default_seen bindings look type place emptied never pat)
   pattern_default_stays type place emptied never pat gives stands =
       of_choice Typed (is_absent type) _ _
-      (λ e. default_stays unresolved (AssignPat-span pat) place emptied (look (AssignPat-right pat) None) gives (stays (AssignPat-right pat) None))
+      (λ e. default_stays bindings (AssignPat-span pat) place emptied (look (AssignPat-right pat) None) gives (stays (AssignPat-right pat) None))
       (λ e f. stands e)
 
-  assign_stays : (kind : Kind) (b : Bool) (pat : Tree) → kind_of (AssignPat-left pat) ≡ kind → Typed (assign_by_left unresolved look kind b pat)
+  assign_stays : (kind : Kind) (b : Bool) (pat : Tree) → kind_of (AssignPat-left pat) ≡ kind → Typed (assign_by_left bindings look kind b pat)
   assign_stays kinds.BindingIdent b pat e = ident_default_stays b pat e
   assign_stays kinds.ArrayPat b pat e = let left = AssignPat-left pat in
       pattern_default_stays (ArrayPat-type_ann left) (ArrayPat-span left) (emptied_array left) never_array pat
-      (array_gives unresolved (emptied_array left) (emptied_array_is left)) (never_array_typed unresolved (AssignPat-span pat) left)
+      (array_gives bindings (emptied_array left) (emptied_array_is left)) (never_array_typed bindings (AssignPat-span pat) left)
   assign_stays kinds.ObjectPat b pat e = let left = AssignPat-left pat in
       pattern_default_stays (ObjectPat-type_ann left) (ObjectPat-span left) (emptied_object left) never_value pat
-      (object_gives unresolved (emptied_object left) (emptied_object_is left)) (never_object_typed unresolved (AssignPat-span pat) left)
+      (object_gives bindings (emptied_object left) (emptied_object_is left)) (never_object_typed bindings (AssignPat-span pat) left)
   assign_stays _ b pat e = λ f. not_empty f
 
   rest_stays : (pat : Tree) → Typed (rest_seen pat)
-  rest_stays pat = typed_stays (IsTypedPat unresolved) (RestPat-type_ann pat) (RestPat-span pat) _
-      (typed_rest unresolved (RestPat-span pat) (RestPat-dot3_token pat) (rest_arg (RestPat-arg pat)) (RestPat-type_ann pat) (rest_arg_twice (RestPat-arg pat)))
+  rest_stays pat = typed_stays (IsTypedPat bindings) (RestPat-type_ann pat) (RestPat-span pat) _
+      (typed_rest bindings (RestPat-span pat) (RestPat-dot3_token pat) (rest_arg (RestPat-arg pat)) (RestPat-type_ann pat) (rest_arg_twice (RestPat-arg pat)))
 
   -- a parameter, by its kind
-  by_kind_stays : (kind : Kind) (b : Bool) (pat : Tree) → kind_of pat ≡ kind → Typed (pat_by_kind unresolved look kind b pat)
+  by_kind_stays : (kind : Kind) (b : Bool) (pat : Tree) → kind_of pat ≡ kind → Typed (pat_by_kind bindings look kind b pat)
   by_kind_stays kinds.BindingIdent b pat e =
-      typed_stays (IsTypedPat unresolved) (BindingIdent-type_ann pat) (Ident-span (BindingIdent-id pat)) pat (IsTypedPat.ident e)
+      typed_stays (IsTypedPat bindings) (BindingIdent-type_ann pat) (Ident-span (BindingIdent-id pat)) pat (IsTypedPat.ident e)
   by_kind_stays kinds.AssignPat b pat e = assign_stays (kind_of (AssignPat-left pat)) b pat refl
   by_kind_stays kinds.RestPat b pat e = rest_stays pat
   by_kind_stays kinds.ArrayPat b pat e =
-      typed_stays (IsTypedPat unresolved) (ArrayPat-type_ann pat) (ArrayPat-span pat) (emptied_array pat) (typed_array unresolved pat)
+      typed_stays (IsTypedPat bindings) (ArrayPat-type_ann pat) (ArrayPat-span pat) (emptied_array pat) (typed_array bindings pat)
   by_kind_stays kinds.ObjectPat b pat e =
-      typed_stays (IsTypedPat unresolved) (ObjectPat-type_ann pat) (ObjectPat-span pat) (emptied_object pat) (typed_object unresolved pat)
+      typed_stays (IsTypedPat bindings) (ObjectPat-type_ann pat) (ObjectPat-span pat) (emptied_object pat) (typed_object bindings pat)
   by_kind_stays _ b pat e = λ f. not_empty f
 
-  pub pat_stays : (b : Bool) (pat : Tree) → Typed (pat_seen unresolved look b pat)
+  pub pat_stays : (b : Bool) (pat : Tree) → Typed (pat_seen bindings look b pat)
   pat_stays b pat = by_kind_stays (kind_of pat) b pat refl
 
   -- parameters, in order
-  pub pats_hold : (pats : List Tree) → Holds (AllTypedPats unresolved) (answer_of (pats_seen unresolved look pats))
+  pub pats_hold : (pats : List Tree) → Holds (AllTypedPats bindings) (answer_of (pats_seen bindings look pats))
   pats_hold [] = λ f. AllTypedPats.no_pats
   pats_hold (pat ∷ pats) =
-      items_hold (IsTypedPat unresolved) (AllTypedPats unresolved) (λ t ts. AllTypedPats.next_pat)
-      (answer_to (pat_seen unresolved look (list_all is_optional_param (pat ∷ pats)) pat)) (answer_of (pats_seen unresolved look pats))
+      items_hold (IsTypedPat bindings) (AllTypedPats bindings) (λ t ts. AllTypedPats.next_pat)
+      (answer_to (pat_seen bindings look (list_all is_optional_param (pat ∷ pats)) pat)) (answer_of (pats_seen bindings look pats))
       (pat_stays (list_all is_optional_param (pat ∷ pats)) pat) (pats_hold pats)

@@ -3,7 +3,6 @@ use Rattle.std.specs.Prelude.{◌≡◌, Bool, true, false, not, List, [], ◌�
 use Rattle.std.specs.List.{list_all}
 use Rattle.fast_check_syntax.specs.declared.kind.Kind.TheVariants.{Function, Class, Constructor, ClassMethod, ClassProp, TsIndexSignature}
 use Rattle.fast_check_syntax.specs.declared.kind.Word.TheVariants.{Setter}
-use Rattle.fast_check_syntax.specs.declared.source.SyntaxContext.{SyntaxContext}
 use Rattle.fast_check_syntax.specs.declared.tree.Tree.{Tree}
 use Rattle.fast_check_syntax.specs.Shape.{kind_of, parts, is_absent, has_word, list, OfAll}
 use Rattle.fast_check_class_forms.specs.Classes.{Class-decorators, Class-body, Class-super_class, Constructor-params, Constructor-body, Constructor-accessibility}
@@ -15,6 +14,7 @@ use Rattle.fast_check_expression_forms.specs.Calls.{CallExpr-args}
 use Rattle.fast_check_expression_forms.specs.Expressions.{ExprOrSpread-spread, ExprOrSpread-expr}
 use Rattle.fast_check_statement_forms.specs.Statements.{ExprStmt-expr}
 use Rattle.fast_check_helpers.specs.Builders.{never_value}
+use Rattle.fast_check_signatures.specs.Bindings.{Bindings}
 use Rattle.fast_check_signatures.specs.NewNodes.{never_array_in_parens, new_block, hash_private, function_body}
 use Rattle.fast_check_signatures.specs.Members.{is_private, is_private_computed}
 use Rattle.fast_check_signatures.specs.Classes.{is_reference, is_super_call}
@@ -39,8 +39,8 @@ pub record IsSuperBody (body : Tree) : Type 0 where
 abbrev pub IsAmbientClass : Tree → Type 0
 IsAmbientClass t = list_all (λ m. not (is_private_computed m)) (parts (Class-body t)) ≡ true
 
--- `unresolved` is the scope number of the names that nothing in the module binds
-module _ (unresolved : SyntaxContext) where
+-- `bindings` is what is known of the names of the module
+module _ (bindings : Bindings) where
   -- the function of a setter, which has no return type
   pub record IsTypedSetter (t : Tree) : Type 0 where
     pub kind : kind_of t ≡ Function
@@ -48,7 +48,7 @@ module _ (unresolved : SyntaxContext) where
     pub is_async : Function-is_async t ≡ false
     pub is_generator : Function-is_generator t ≡ false
     pub body : (is_absent (Function-body t) ≡ true) ⊎ (Function-body t ≡ function_body (Function-return_type t))
-    pub params : AllTypedParams unresolved (parts (Function-params t))
+    pub params : AllTypedParams bindings (parts (Function-params t))
 
   -- a member of a class
   pub data IsTypedMember : Tree → Type 0 where
@@ -59,14 +59,14 @@ module _ (unresolved : SyntaxContext) where
         ClassProp-definite t ≡ false → IsTypedMember t
     -- `key = value`
     valued : {t : Tree} → kind_of t ≡ ClassProp → ClassProp-decorators t ≡ list [] → is_absent (ClassProp-type_ann t) ≡ true →
-        is_absent (ClassProp-value t) ≡ false → IsLeavable unresolved (ClassProp-value t) → ClassProp-declare t ≡ false → ClassProp-definite t ≡ false →
+        is_absent (ClassProp-value t) ≡ false → IsLeavable bindings (ClassProp-value t) → ClassProp-declare t ≡ false → ClassProp-definite t ≡ false →
         IsTypedMember t
     -- a method, a getter or a setter that is not private
     method : {t : Tree} → kind_of t ≡ ClassMethod → is_private (ClassMethod-accessibility t) ≡ false →
-        IsTypedFunction unresolved (ClassMethod-function t) ⊎ ((has_word Setter (ClassMethod-kind t) ≡ true) × IsTypedSetter (ClassMethod-function t)) →
+        IsTypedFunction bindings (ClassMethod-function t) ⊎ ((has_word Setter (ClassMethod-kind t) ≡ true) × IsTypedSetter (ClassMethod-function t)) →
         IsTypedMember t
     constructor : {t : Tree} → kind_of t ≡ Constructor → (is_absent (Constructor-body t) ≡ true) ⊎ IsSuperBody (Constructor-body t) →
-        AllTypedParams unresolved (parts (Constructor-params t)) → IsTypedMember t
+        AllTypedParams bindings (parts (Constructor-params t)) → IsTypedMember t
     -- an index signature stands as it was written
     index_signature : {t : Tree} → kind_of t ≡ TsIndexSignature → IsTypedMember t
 

@@ -2,20 +2,20 @@
 use Rattle.std.specs.Prelude.{◌≡◌, true, false, List, [], ◌∷◌, ◌⊎◌, codes}
 use Rattle.fast_check_syntax.specs.declared.kind.Kind.TheVariants.{AssignPat, ArrayPat, ObjectPat, RestPat, BindingIdent, Param, Function, CallExpr}
 use Rattle.fast_check_syntax.specs.declared.kind.Kind.TheVariants.{TsSatisfiesExpr, TsAsExpr, TsTypeAssertion, FnExpr, ArrowExpr}
-use Rattle.fast_check_syntax.specs.declared.source.SyntaxContext.{SyntaxContext}
 use Rattle.fast_check_syntax.specs.declared.tree.Tree.{Tree}
 use Rattle.fast_check_syntax.specs.Shape.{kind_of, parts, is_absent, list}
 use Rattle.fast_check_class_forms.specs.Functions.{Function-params, Function-decorators, Function-body, Function-is_generator, Function-is_async}
 use Rattle.fast_check_class_forms.specs.Functions.{Function-return_type, Param-decorators, Param-pat}
 use Rattle.fast_check_expression_forms.specs.Assertions.{TsAsExpr-expr, TsTypeAssertion-expr, TsSatisfiesExpr-expr}
-use Rattle.fast_check_expression_forms.specs.Calls.{CallExpr-callee, CallExpr-args}
+use Rattle.fast_check_expression_forms.specs.Calls.{CallExpr-callee, CallExpr-args, NewExpr-args}
 use Rattle.fast_check_expression_forms.specs.Expressions.{ArrowExpr-params, ArrowExpr-body, ArrowExpr-is_async, ArrowExpr-return_type, FnExpr-function}
 use Rattle.fast_check_expression_forms.specs.Patterns.{ArrayPat-elems, ArrayPat-type_ann, ObjectPat-props, ObjectPat-type_ann, RestPat-arg, RestPat-type_ann}
 use Rattle.fast_check_expression_forms.specs.Patterns.{AssignPat-left, AssignPat-right}
 use Rattle.fast_check_program_forms.specs.Names.{BindingIdent-type_ann}
 use Rattle.fast_check_helpers.specs.Builders.{never_value}
 use Rattle.fast_check_helpers.specs.GlobalCalls.{is_global_member}
-use Rattle.fast_check_signatures.specs.Expressions.{is_plain, is_compound}
+use Rattle.fast_check_signatures.specs.Bindings.{Bindings}
+use Rattle.fast_check_signatures.specs.Expressions.{is_plain, is_compound, is_made}
 use Rattle.fast_check_signatures.specs.NewNodes.{never_array, never_in_parens, function_body, arrow_body}
 use Rattle.fast_check_signatures.specs.Parameters.{rest_arg}
 
@@ -28,8 +28,8 @@ pub record IsEmptiedObject (t : Tree) : Type 0 where
   pub kind : kind_of t ≡ ObjectPat
   pub props : ObjectPat-props t ≡ list []
 
--- `unresolved` is the scope number of the names that nothing in the module binds
-module _ (unresolved : SyntaxContext) where
+-- `bindings` is what is known of the names of the module
+module _ (bindings : Bindings) where
   mutual
     -- an expression that gives its type by itself
     pub data IsLeavable : Tree → Type 0 where
@@ -41,8 +41,10 @@ module _ (unresolved : SyntaxContext) where
       as_type : {t : Tree} → kind_of t ≡ TsAsExpr → TsAsExpr-expr t ≡ never_in_parens → IsLeavable t
       assertion : {t : Tree} → kind_of t ≡ TsTypeAssertion → TsTypeAssertion-expr t ≡ never_in_parens → IsLeavable t
       -- `Object.freeze(x)`
-      frozen : {t : Tree} → kind_of t ≡ CallExpr → is_global_member (codes "Object") (codes "freeze") unresolved (CallExpr-callee t) ≡ true →
+      frozen : {t : Tree} → kind_of t ≡ CallExpr → is_global_member (codes "Object") (codes "freeze") bindings.unresolved (CallExpr-callee t) ≡ true →
           IsLeavable (CallExpr-args t) → IsLeavable t
+      -- `new C(x)` of a class C without type parameters
+      made : {t : Tree} → is_made bindings t ≡ true → IsLeavable (NewExpr-args t) → IsLeavable t
       function : {t : Tree} → kind_of t ≡ FnExpr → IsTypedFunction (FnExpr-function t) → IsLeavable t
       -- an arrow of a written return type
       typed_arrow : {t : Tree} → kind_of t ≡ ArrowExpr → AllTypedPats (parts (ArrowExpr-params t)) → ArrowExpr-is_async t ≡ false →

@@ -3,7 +3,6 @@ use Rattle.std.specs.Prelude.{◌≡◌, Bool, true, false, Option, Some, None, 
 use Rattle.std.proofs.Common.{ap, ◌∙◌, sym, subst, append-nil}
 use Rattle.fast_check_syntax.specs.declared.kind.Kind.TheVariants as kinds
 use Rattle.fast_check_syntax.specs.declared.source.SourceRange.{SourceRange}
-use Rattle.fast_check_syntax.specs.declared.source.SyntaxContext.{SyntaxContext}
 use Rattle.fast_check_syntax.specs.declared.tree.Tree.{Tree, Absent}
 use Rattle.fast_check_syntax.specs.Shape.{◌is◌, kind_of, parts, is_absent}
 use Rattle.fast_check_expression_forms.specs.Expressions.{ArrowExpr-span, ArrowExpr-params, ArrowExpr-body, ArrowExpr-is_async, ArrowExpr-return_type}
@@ -13,6 +12,7 @@ use Rattle.fast_check_helpers.specs.InferredType.{inferred_type}
 use Rattle.fast_check_helpers.specs.ReturnClass.{return_class}
 use Rattle.fast_check_signatures.specs.declared.fault.Fault.{Fault}
 use Rattle.fast_check_signatures.specs.declared.function_kind.FunctionKind.TheVariants.{ExpressionLike}
+use Rattle.fast_check_signatures.specs.Bindings.{Bindings}
 use Rattle.fast_check_signatures.specs.Seen.{Seen, written}
 use Rattle.fast_check_signatures.specs.NewNodes.{promised}
 use Rattle.fast_check_signatures.specs.Parameters.{pats_seen}
@@ -23,30 +23,30 @@ use Rattle.fast_check_signatures.specs.Answers.{Adds, fault_at, answer_to, answe
 use Rattle.fast_check_signatures.proofs.Adding.{adds_same, adds_joined}
 use Rattle.fast_check_values.specs.Looked.{known_type, known_answer}
 
-module _ (unresolved : SyntaxContext) (own : Option SourceRange) (t : Tree) where
+module _ (bindings : Bindings) (own : Option SourceRange) (t : Tree) where
   abbrev at : SourceRange
   at = or_own own (ArrowExpr-span t)
 
   abbrev pats : List Seen
-  pats = pats_seen unresolved (expr_seen unresolved) (parts (ArrowExpr-params t))
+  pats = pats_seen bindings (expr_seen bindings) (parts (ArrowExpr-params t))
 
   abbrev by_class : Seen
   by_class = class_seen ExpressionLike (ArrowExpr-is_async t) at (return_class (ArrowExpr-body t))
 
   abbrev by_known : Option Seen → Seen
   by_known (Some type) = typed_arrow_seen t pats type
-  by_known None = valued_arrow_seen t at pats (expr_seen unresolved (ArrowExpr-body t) None)
+  by_known None = valued_arrow_seen t at pats (expr_seen bindings (ArrowExpr-body t) None)
 
   abbrev seen_arrow : Seen
-  seen_arrow = arrow_seen unresolved (expr_seen unresolved) own t
+  seen_arrow = arrow_seen bindings (expr_seen bindings) own t
 
-  arrow_is : seen_arrow ≡ by_known (known_type unresolved at t)
-  arrow_is = go (is_absent (ArrowExpr-return_type t)) (kind_of (ArrowExpr-body t) is kinds.BlockStmt) (inferred_type Mutable unresolved (ArrowExpr-body t))
+  arrow_is : seen_arrow ≡ by_known (known_type bindings.unresolved at t)
+  arrow_is = go (is_absent (ArrowExpr-return_type t)) (kind_of (ArrowExpr-body t) is kinds.BlockStmt) (inferred_type Mutable bindings.unresolved (ArrowExpr-body t))
     where
       go : (absent block : Bool) (shown : Option Tree) →
-          (if absent then (if block then typed_arrow_seen t pats by_class else by_value unresolved (expr_seen unresolved) t at pats shown)
+          (if absent then (if block then typed_arrow_seen t pats by_class else by_value bindings (expr_seen bindings) t at pats shown)
           else typed_arrow_seen t pats (written (ArrowExpr-return_type t))) ≡
-          by_known (if absent then (if block then Some by_class else option_map (λ ty. written (type_ann (promised unresolved (ArrowExpr-is_async t) ty)))
+          by_known (if absent then (if block then Some by_class else option_map (λ ty. written (type_ann (promised bindings.unresolved (ArrowExpr-is_async t) ty)))
           shown)
           else Some (written (ArrowExpr-return_type t)))
       go true true shown = refl
@@ -58,10 +58,10 @@ module _ (unresolved : SyntaxContext) (own : Option SourceRange) (t : Tree) wher
   missing = fault_at (return_type_missing false (ArrowExpr-is_async t)) at
 
   module _ {old mid : List Fault} where
-    pub arrow_known : {type : Tree} {items : List Tree} {new : List Fault} → Adds (known_answer (known_type unresolved at t)) (Some type) old mid →
+    pub arrow_known : {type : Tree} {items : List Tree} {new : List Fault} → Adds (known_answer (known_type bindings.unresolved at t)) (Some type) old mid →
         Adds (answer_of pats) items mid new →
         Adds (answer_to seen_arrow) (Some (signed_arrow (arrow_head t) type items)) old new
-    arrow_known {type = type} {items = items} {new = new} g h = adds_same (ap answer_to arrow_is) (go (known_type unresolved at t) g)
+    arrow_known {type = type} {items = items} {new = new} g h = adds_same (ap answer_to arrow_is) (go (known_type bindings.unresolved at t) g)
       where
         go : (known : Option Seen) → Adds (known_answer known) (Some type) old mid →
             Adds (answer_to (by_known known)) (Some (signed_arrow (arrow_head t) type items)) old new
@@ -71,10 +71,10 @@ module _ (unresolved : SyntaxContext) (own : Option SourceRange) (t : Tree) wher
             type_known : (s : Seen) → Adds (known_answer (Some s)) (Some type) old mid → Adds (settled (answer_to s)) type old mid
             type_known s g = record { added = g.added; is = ap (λ a. record { stays = unwrap_or a.stays Absent; faults = a.faults }) g.is; faults = g.faults }
 
-    pub arrow_valued : {value : Tree} {items : List Tree} {more new : List Fault} → Adds (known_answer (known_type unresolved at t)) None old mid →
-        Adds (demanded missing (answer_to (expr_seen unresolved (ArrowExpr-body t) None))) value mid more → Adds (answer_of pats) items more new →
+    pub arrow_valued : {value : Tree} {items : List Tree} {more new : List Fault} → Adds (known_answer (known_type bindings.unresolved at t)) None old mid →
+        Adds (demanded missing (answer_to (expr_seen bindings (ArrowExpr-body t) None))) value mid more → Adds (answer_of pats) items more new →
         Adds (answer_to seen_arrow) (Some (kept_arrow (arrow_head t) (ArrowExpr-is_async t) value items)) old new
-    arrow_valued {value = value} {items = items} {new = new} g v h = adds_same (ap answer_to arrow_is) (go (known_type unresolved at t) g)
+    arrow_valued {value = value} {items = items} {new = new} g v h = adds_same (ap answer_to arrow_is) (go (known_type bindings.unresolved at t) g)
       where
         go : (known : Option Seen) → Adds (known_answer known) None old mid →
             Adds (answer_to (by_known known)) (Some (kept_arrow (arrow_head t) (ArrowExpr-is_async t) value items)) old new

@@ -14,6 +14,7 @@ use Rattle.fast_check_helpers.specs.InferredType.{inferred_type}
 use Rattle.fast_check_helpers.specs.ReturnClass.{return_class}
 use Rattle.fast_check_helpers.specs.OptionalParams.{is_optional_param, is_from}
 use Rattle.fast_check_signatures.specs.declared.function_kind.FunctionKind.TheVariants.{ExpressionLike}
+use Rattle.fast_check_signatures.specs.Bindings.{Bindings}
 use Rattle.fast_check_signatures.specs.Seen.{Seen, written}
 use Rattle.fast_check_signatures.specs.NewNodes.{promised}
 use Rattle.fast_check_signatures.specs.Parameters.{pats_seen}
@@ -30,8 +31,8 @@ abbrev pub IsStartOfParams : Option ℕ → List Tree → Type 0
 IsStartOfParams start params = (place : ℕ) → place < length params → is_from start place ≡ list_all is_optional_param (patterns (drop place params))
 
 -- what is seen of the parameters of a function
-abbrev pub params_looked : SyntaxContext → List Tree → List Seen
-params_looked unresolved params = params_seen params (pats_seen unresolved (expr_seen unresolved) (patterns params))
+abbrev pub params_looked : Bindings → List Tree → List Seen
+params_looked bindings params = params_seen params (pats_seen bindings (expr_seen bindings) (patterns params))
 
 -- the return type of an arrow where it is known: written, or shown by its body; none where its value is to give it
 abbrev pub known_type : SyntaxContext → SourceRange → Tree → Option Seen

@@ -5,20 +5,23 @@ ghost use Rattle.fast_check_signatures.specs.Answers.{Adds, answer_to, answer_of
 ghost use Rattle.fast_check_signatures.specs.Expressions.{expr_seen};
 ghost use Rattle.fast_check_signatures.specs.Functions.{class_seen, return_type_seen, function_seen, arrow_seen, implementation_seen, any_params_from};
 ghost use Rattle.fast_check_values.specs.Looked.{known_type, known_answer};
+ghost use Rattle.fast_check_bindings.specs.Bindings.{bindings_of};
 
 use crate::expressions::leave_value;
 use crate::parameters::{transform_params, transform_pats};
+use fast_check_bindings::unresolved_context;
 use fast_check_class_forms::{Function, Param};
 use fast_check_expression_forms::ArrowExpr;
 use fast_check_helpers::{
     DeclMutabilityKind, ReturnStatementAnalysis, analyze_return_stmts_in_function_body,
     any_type_ann, maybe_infer_type, type_ann,
 };
+use fast_check_modules::EsModuleInfo;
 use fast_check_new_nodes::{
     any_param, kept_arrow, or_own, promised, signed_arrow, signed_function, void_or_promise_void,
 };
 use fast_check_signatures::{Fault, FaultKind, FunctionKind};
-use fast_check_syntax::{Items, Kind, Part, SourceRange, SyntaxContext, Tree};
+use fast_check_syntax::{Items, Kind, Part, SourceRange, Tree};
 use std::alloc::{AllocError, Global};
 
 /// The return type that a body shows by its class; where it shows none, a fault.
@@ -96,12 +99,12 @@ fn return_type(
 /// give it. An empty option stands for a type that is missing.
 fn arrow_type(
     alloc: Global,
-    unresolved: SyntaxContext,
+    info: &EsModuleInfo,
     place: SourceRange,
     arrow: Part<'_>,
     faults: &mut Vec<Fault>,
 ) -> Result<Option<Tree>, AllocError>
-    ensures { IfOk result (λ ty. Adds (known_answer (known_type unresolved place (seen arrow.entry))) ty faults.old.items faults.new.items) }
+    ensures { IfOk result (λ ty. Adds (known_answer (known_type (bindings_of info.now).unresolved place (seen arrow.entry))) ty faults.old.items faults.new.items) }
 {
     let arrow = ArrowExpr::of(arrow);
     if !arrow.return_type.is_absent() {
@@ -112,6 +115,7 @@ fn arrow_type(
         let class = analyze_return_stmts_in_function_body(arrow.body);
         return Ok(Some(type_by_class(alloc, kind, arrow.is_async, place, class, faults)?));
     }
+    let unresolved = unresolved_context(info);
     match maybe_infer_type(alloc, arrow.body, DeclMutabilityKind::Mutable, unresolved)? {
         Some(ty) => {
             let ty = promised(alloc, unresolved, arrow.is_async, ty)?;
@@ -143,44 +147,44 @@ pub fn any_params(alloc: Global, params: Part<'_>) -> Result<Items<Tree>, AllocE
 }
 
 /// A function, a `Function`: its return type is the written one, or that its body shows, and its body stands for that.
-/// A fault of the return type stands at `place`, and comes before those of the parameters. `unresolved` is the scope number
-/// of the names that nothing in the module binds.
+/// A fault of the return type stands at `place`, and comes before those of the parameters. `info` is the module that it
+/// stands in.
 #[cycle(leave)]
 pub fn transform_fn(
     alloc: Global,
-    unresolved: SyntaxContext,
+    info: &EsModuleInfo,
     kind: FunctionKind,
     place: SourceRange,
     function: Part<'_>,
     faults: &mut Vec<Fault>,
 ) -> Result<Tree, AllocError>
-    ensures { IfOk result (λ tree. Adds (answer_to (function_seen unresolved (expr_seen unresolved) kind place (seen function.entry))) (Some tree)
+    ensures { IfOk result (λ tree. Adds (answer_to (function_seen (bindings_of info.now) (expr_seen (bindings_of info.now)) kind place (seen function.entry))) (Some tree)
         faults.old.items faults.new.items) }
 {
     let return_type = return_type(alloc, kind, place, function, faults)?;
-    let params = transform_params(alloc, unresolved, Function::of(function).params, faults)?;
+    let params = transform_params(alloc, info, Function::of(function).params, faults)?;
     signed_function(alloc, function, return_type, params)
 }
 
 /// An arrow: its return type is the written one, or that its body shows; else its value gives it, if it may stay. A fault
 /// of the return type stands at `place`, that of the parent that names the arrow, or else at the arrow, and comes before
-/// those of the parameters. `unresolved` is the scope number of the names that nothing in the module binds.
+/// those of the parameters. `info` is the module that it stands in.
 #[cycle(leave)]
 pub fn transform_arrow(
     alloc: Global,
-    unresolved: SyntaxContext,
+    info: &EsModuleInfo,
     arrow: Part<'_>,
     place: Option<SourceRange>,
     faults: &mut Vec<Fault>,
 ) -> Result<Tree, AllocError>
-    ensures { IfOk result (λ tree. Adds (answer_to (arrow_seen unresolved (expr_seen unresolved) place (seen arrow.entry))) (Some tree)
+    ensures { IfOk result (λ tree. Adds (answer_to (arrow_seen (bindings_of info.now) (expr_seen (bindings_of info.now)) place (seen arrow.entry))) (Some tree)
         faults.old.items faults.new.items) }
 {
     let form = ArrowExpr::of(arrow);
     let place = or_own(place, form.span);
-    match arrow_type(alloc, unresolved, place, arrow, faults)? {
+    match arrow_type(alloc, info, place, arrow, faults)? {
         Some(return_type) => {
-            let params = transform_pats(alloc, unresolved, form.params, faults)?;
+            let params = transform_pats(alloc, info, form.params, faults)?;
             signed_arrow(alloc, arrow, return_type, params)
         }
         None => {
@@ -189,8 +193,8 @@ pub fn transform_arrow(
                 is_async: form.is_async,
             };
             let fault = Fault { kind, range: place };
-            let value = leave_value(alloc, unresolved, form.body, None, fault, faults)?;
-            let params = transform_pats(alloc, unresolved, form.params, faults)?;
+            let value = leave_value(alloc, info, form.body, None, fault, faults)?;
+            let params = transform_pats(alloc, info, form.params, faults)?;
             kept_arrow(alloc, arrow, value, params)
         }
     }

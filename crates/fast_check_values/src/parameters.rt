@@ -9,11 +9,14 @@ ghost use Rattle.fast_check_signatures.specs.declared.fault.FaultKind.TheVariant
 ghost use Rattle.fast_check_signatures.specs.Expressions.{expr_seen};
 ghost use Rattle.fast_check_signatures.specs.Parameters.{typed, rest_seen, default_seen, assign_seen, pat_seen, pats_seen};
 ghost use Rattle.fast_check_values.specs.Looked.{IsStartOfParams, params_looked};
+ghost use Rattle.fast_check_bindings.specs.Bindings.{bindings_of};
 
 use crate::expressions::leave_value;
+use fast_check_bindings::unresolved_context;
 use fast_check_class_forms::Param;
 use fast_check_expression_forms::{ArrayPat, AssignPat, ObjectPat, RestPat};
 use fast_check_helpers::{ParamsOptionalStartIndex, never_value};
+use fast_check_modules::EsModuleInfo;
 use fast_check_new_nodes::{
     default_type, emptied_array, emptied_object, never_array, rest_arg, with_default, with_pattern,
     without_default,
@@ -21,7 +24,7 @@ use fast_check_new_nodes::{
 use fast_check_program_forms::{BindingIdent, Ident};
 use fast_check_ranges::range_of_node;
 use fast_check_signatures::{Fault, FaultKind};
-use fast_check_syntax::{Items, Kind, Part, SourceRange, SyntaxContext, Tree};
+use fast_check_syntax::{Items, Kind, Part, SourceRange, Tree};
 use std::alloc::{AllocError, Global};
 
 /// A parameter that stands if its type is written; else a fault at this place.
@@ -86,11 +89,11 @@ fn start_of_params(params: &[Tree]) -> ParamsOptionalStartIndex
 #[cycle(leave)]
 pub fn transform_pats(
     alloc: Global,
-    unresolved: SyntaxContext,
+    info: &EsModuleInfo,
     params: Part<'_>,
     faults: &mut Vec<Fault>,
 ) -> Result<Items<Tree>, AllocError>
-    ensures { IfOk result (λ items. Adds (answer_of (pats_seen unresolved (expr_seen unresolved) (parts (seen params.entry)))) items
+    ensures { IfOk result (λ items. Adds (answer_of (pats_seen (bindings_of info.now) (expr_seen (bindings_of info.now)) (parts (seen params.entry)))) items
         faults.old.items faults.new.items) }
 {
     let pats = params.parts();
@@ -98,7 +101,7 @@ pub fn transform_pats(
     let mut items = Items::new(alloc);
     for (index, pat) in pats.iter().enumerate() {
         let is_optional = start.is_optional_at_index(index);
-        items.push(transform_param_pat(alloc, unresolved, is_optional, pat.read(), faults)?)?;
+        items.push(transform_param_pat(alloc, info, is_optional, pat.read(), faults)?)?;
     }
     Ok(items)
 }
@@ -107,11 +110,11 @@ pub fn transform_pats(
 #[cycle(leave)]
 pub fn transform_params(
     alloc: Global,
-    unresolved: SyntaxContext,
+    info: &EsModuleInfo,
     params: Part<'_>,
     faults: &mut Vec<Fault>,
 ) -> Result<Items<Tree>, AllocError>
-    ensures { IfOk result (λ items. Adds (answer_of (params_looked unresolved (parts (seen params.entry)))) items faults.old.items faults.new.items) }
+    ensures { IfOk result (λ items. Adds (answer_of (params_looked (bindings_of info.now) (parts (seen params.entry)))) items faults.old.items faults.new.items) }
 {
     let params = params.parts();
     let start = start_of_params(params);
@@ -120,7 +123,7 @@ pub fn transform_params(
         let param = param.read();
         let is_optional = start.is_optional_at_index(index);
         let pat = Param::of(param).pat;
-        let pat = transform_param_pat(alloc, unresolved, is_optional, pat, faults)?;
+        let pat = transform_param_pat(alloc, info, is_optional, pat, faults)?;
         items.push(with_pattern(alloc, param, pat)?)?;
     }
     Ok(items)
@@ -131,12 +134,12 @@ pub fn transform_params(
 #[cycle(leave)]
 pub fn transform_param_pat(
     alloc: Global,
-    unresolved: SyntaxContext,
+    info: &EsModuleInfo,
     is_optional: bool,
     pat: Part<'_>,
     faults: &mut Vec<Fault>,
 ) -> Result<Tree, AllocError>
-    ensures { IfOk result (λ tree. Adds (answer_to (pat_seen unresolved (expr_seen unresolved) is_optional (seen pat.entry))) (Some tree)
+    ensures { IfOk result (λ tree. Adds (answer_to (pat_seen (bindings_of info.now) (expr_seen (bindings_of info.now)) is_optional (seen pat.entry))) (Some tree)
         faults.old.items faults.new.items) }
 {
     match pat.kind() {
@@ -144,7 +147,7 @@ pub fn transform_param_pat(
             let BindingIdent { id, type_ann } = BindingIdent::of(pat);
             typed(type_ann, Ident::of(id).span, pat.to_tree(alloc)?, faults)
         }
-        Kind::AssignPat => transform_assign_pat(alloc, unresolved, is_optional, pat, faults),
+        Kind::AssignPat => transform_assign_pat(alloc, info, is_optional, pat, faults),
         Kind::RestPat => transform_rest(alloc, pat, faults),
         Kind::ArrayPat => {
             let ArrayPat { span, type_ann, .. } = ArrayPat::of(pat);
@@ -162,29 +165,29 @@ pub fn transform_param_pat(
 #[cycle(leave)]
 fn transform_assign_pat(
     alloc: Global,
-    unresolved: SyntaxContext,
+    info: &EsModuleInfo,
     is_optional: bool,
     pat: Part<'_>,
     faults: &mut Vec<Fault>,
 ) -> Result<Tree, AllocError>
-    ensures { IfOk result (λ tree. Adds (answer_to (assign_seen unresolved (expr_seen unresolved) is_optional (seen pat.entry))) (Some tree)
+    ensures { IfOk result (λ tree. Adds (answer_to (assign_seen (bindings_of info.now) (expr_seen (bindings_of info.now)) is_optional (seen pat.entry))) (Some tree)
         faults.old.items faults.new.items) }
 {
     let AssignPat { span, left, .. } = AssignPat::of(pat);
     match left.kind() {
         Kind::BindingIdent => {
-            if let Some(ty) = default_type(alloc, unresolved, pat)? {
+            if let Some(ty) = default_type(alloc, unresolved_context(info), pat)? {
                 return without_default(alloc, is_optional, left, ty);
             }
             let place = Ident::of(BindingIdent::of(left).id).span;
             let left = left.to_tree(alloc)?;
-            leave_default(alloc, unresolved, pat, left, Some(place), place, faults)
+            leave_default(alloc, info, pat, left, Some(place), place, faults)
         }
         Kind::ArrayPat => {
             let ArrayPat { span, type_ann, .. } = ArrayPat::of(left);
             let left = emptied_array(alloc, left)?;
             if type_ann.is_absent() {
-                return leave_default(alloc, unresolved, pat, left, None, span, faults);
+                return leave_default(alloc, info, pat, left, None, span, faults);
             }
             with_default(alloc, pat, left, never_array(alloc)?)
         }
@@ -192,7 +195,7 @@ fn transform_assign_pat(
             let ObjectPat { span, type_ann, .. } = ObjectPat::of(left);
             let left = emptied_object(alloc, left)?;
             if type_ann.is_absent() {
-                return leave_default(alloc, unresolved, pat, left, None, span, faults);
+                return leave_default(alloc, info, pat, left, None, span, faults);
             }
             with_default(alloc, pat, left, never_value(alloc)?)
         }
@@ -204,7 +207,7 @@ fn transform_assign_pat(
 #[cycle(leave)]
 fn leave_default(
     alloc: Global,
-    unresolved: SyntaxContext,
+    info: &EsModuleInfo,
     pat: Part<'_>,
     left: Tree,
     parent: Option<SourceRange>,
@@ -212,7 +215,7 @@ fn leave_default(
     faults: &mut Vec<Fault>,
 ) -> Result<Tree, AllocError>
     ensures { IfOk result (λ tree.
-        Adds (answer_to (default_seen (AssignPat-span (seen pat.entry)) place left (expr_seen unresolved (AssignPat-right (seen pat.entry)) parent)))
+        Adds (answer_to (default_seen (AssignPat-span (seen pat.entry)) place left (expr_seen (bindings_of info.now) (AssignPat-right (seen pat.entry)) parent)))
         (Some tree) faults.old.items faults.new.items) }
 {
     let fault = Fault {
@@ -220,6 +223,6 @@ fn leave_default(
         range: place,
     };
     let right = AssignPat::of(pat).right;
-    let right = leave_value(alloc, unresolved, right, parent, fault, faults)?;
+    let right = leave_value(alloc, info, right, parent, fault, faults)?;
     with_default(alloc, pat, left, right)
 }

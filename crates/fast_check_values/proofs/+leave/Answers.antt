@@ -17,6 +17,7 @@ use Rattle.fast_check_expression_forms.specs.Expressions.{ArrowExpr-span}
 use Rattle.fast_check_expression_forms.specs.Patterns.{AssignPat-span, AssignPat-left, AssignPat-right, assign_pat}
 use Rattle.fast_check_expression_forms.specs.Patterns.{ArrayPat-span, ArrayPat-type_ann, ObjectPat-span, ObjectPat-type_ann}
 use Rattle.fast_check_signatures.specs.declared.rules.Slot.TheVariants as slots
+use Rattle.fast_check_bindings.specs.Bindings.{bindings_of}
 use Rattle.fast_check_signatures.specs.Seen.{faulty, seens}
 use Rattle.fast_check_signatures.specs.declared.fault.FaultKind.TheVariants.{UnsupportedDestructuring}
 use Rattle.fast_check_signatures.specs.Answers.{fault_at, answer_to, answer_of, parts_answer, demanded, faultless, signed_function}
@@ -40,7 +41,7 @@ pub expressions::leave_expr-returns-then-contains : goal.expressions::leave_expr
 expressions::leave_expr-returns-then-contains t c =
     let compound : is_compound (kind_of (seen c.args.expr)) ≡ true = sym (c.contains.ensures.value ∙ ap is_compound c.kind-kind.ensures) ∙
     c.if-contains.true in
-    IfOk-weaker c.leave_parts.result _ _ (λ tree h. adds_same (ap answer_to (seen_parted c.args.unresolved (seen c.args.expr) c.args.place compound)) h)
+    IfOk-weaker c.leave_parts.result _ _ (λ tree h. adds_same (ap answer_to (seen_parted (bindings_of c.args.info.now) (seen c.args.expr) c.args.place compound)) h)
     c.leave_parts.ensures
 
 pub expressions::leave_expr-returns-then-contains-2 : goal.expressions::leave_expr-returns-then-contains-2
@@ -48,7 +49,7 @@ expressions::leave_expr-returns-then-contains-2 t c =
     let k = c.kind-kind.ensures in
     let compound : is_compound (kind_of (seen c.args.expr)) ≡ false = sym (c.contains.ensures.value ∙ ap is_compound k) ∙ c.if-contains.false in
     let plain : is_plain (kind_of (seen c.args.expr)) ≡ true = sym (c.contains-2.ensures.value ∙ ap is_plain k) ∙ c.if-contains-2.true in
-    adds_same (ap answer_to (seen_whole c.args.unresolved (seen c.args.expr) c.args.place compound plain) ∙ ap (λ (x : Tree). faultless (Some x))
+    adds_same (ap answer_to (seen_whole (bindings_of c.args.info.now) (seen c.args.expr) c.args.place compound plain) ∙ ap (λ (x : Tree). faultless (Some x))
     (sym c.in_ok-to_tree.ensures))
     (adds_nothing (Some c.in_ok-to_tree.field-0) c.args.faults.now.items)
 
@@ -61,7 +62,7 @@ pub expressions::leave_expr-returns-then-eq : goal.expressions::leave_expr-retur
 expressions::leave_expr-returns-then-eq t c =
     let arrow : kind_of (seen c.args.expr) ≡ kinds.ArrowExpr = sym c.kind-kind.ensures ∙ is_kind c.kind-kind.result kinds.ArrowExpr
     (sym c.eq.ensures ∙ c.if-eq.true) in
-    adds_same (ap answer_to (seen_arrow c.args.unresolved (seen c.args.expr) c.args.place arrow)) c.in_ok-transform_arrow.ensures
+    adds_same (ap answer_to (seen_arrow (bindings_of c.args.info.now) (seen c.args.expr) c.args.place arrow)) c.in_ok-transform_arrow.ensures
 
 pub expressions::leave_expr-leave_slots-requires : goal.expressions::leave_expr-leave_slots-requires
 expressions::leave_expr-leave_slots-requires t c =
@@ -73,9 +74,9 @@ expressions::leave_expr-returns-in-Some t c =
     let k = c.kind-kind.ensures in
     let compound : is_compound (kind_of (seen c.args.expr)) ≡ false = sym (c.contains.ensures.value ∙ ap is_compound k) ∙ c.if-contains.false in
     let plain : is_plain (kind_of (seen c.args.expr)) ≡ false = sym (c.contains-2.ensures.value ∙ ap is_plain k) ∙ c.if-contains-2.false in
-    let row = sym c.row_of.ensures ∙ ap option_copied c.in-Some.is in
+    let row = sym c.in_ok-row.ensures ∙ ap option_copied c.in-Some.is in
     IfOk-weaker c.leave_slots.result _ _
-    (λ tree h. adds_same (ap answer_to (seen_slotted c.args.unresolved (seen c.args.expr) c.args.place c.in-Some.row.now compound plain row)) h)
+    (λ tree h. adds_same (ap answer_to (seen_slotted (bindings_of c.args.info.now) (seen c.args.expr) c.args.place c.in-Some.row.now compound plain row)) h)
     c.leave_slots.ensures
 
 pub expressions::leave_expr-returns-in-None : goal.expressions::leave_expr-returns-in-None
@@ -83,9 +84,9 @@ expressions::leave_expr-returns-in-None t c =
     let k = c.kind-kind.ensures in
     let compound : is_compound (kind_of (seen c.args.expr)) ≡ false = sym (c.contains.ensures.value ∙ ap is_compound k) ∙ c.if-contains.false in
     let plain : is_plain (kind_of (seen c.args.expr)) ≡ false = sym (c.contains-2.ensures.value ∙ ap is_plain k) ∙ c.if-contains-2.false in
-    let row = sym c.row_of.ensures ∙ ap option_copied c.in-None.is in
+    let row = sym c.in_ok-row.ensures ∙ ap option_copied c.in-None.is in
     let arrow = λ (e : kind_of (seen c.args.expr) ≡ kinds.ArrowExpr). not_arrow c.kind-kind.result (sym c.eq.ensures ∙ c.if-eq.false) (k ∙ e) in
-    adds_same (ap answer_to (seen_refused c.args.unresolved (seen c.args.expr) c.args.place compound plain row arrow))
+    adds_same (ap answer_to (seen_refused (bindings_of c.args.info.now) (seen c.args.expr) c.args.place compound plain row arrow))
     (adds_nothing None c.args.faults.now.items)
 
 pub expressions::leave_parts-leave_expr-requires : goal.expressions::leave_parts-leave_expr-requires
@@ -93,7 +94,7 @@ expressions::leave_parts-leave_expr-requires t c = grind (arith, height_read)
 
 pub expressions::leave_parts-returns-in-None : goal.expressions::leave_parts-returns-in-None
 expressions::leave_parts-returns-in-None t c =
-    let u = c.args.unresolved in
+    let u = bindings_of c.args.info.now in
     let items = c.parts-part-items.result.now in
     let d = c.part-item.result in
     let within : c.loop-part.part-index < length items = c.loop-part-test.true in
@@ -109,7 +110,7 @@ expressions::leave_slots-leave_slot-requires t c = grind (arith, height_less)
 
 pub expressions::leave_slots-loop-index-preserved : goal.expressions::leave_slots-loop-index-preserved
 expressions::leave_slots-loop-index-preserved t c =
-    let u = c.args.unresolved in
+    let u = bindings_of c.args.info.now in
     let e = seen c.args.expr in
     let row = c.args.row.now in
     let i = c.loop-index.index in
@@ -132,20 +133,20 @@ functions::transform_arrow-transform_pats-requires-in-None t c = grind (arith, h
 
 pub functions::transform_arrow-returns-in_ok-params-in-Some : goal.functions::transform_arrow-returns-in_ok-params-in-Some
 functions::transform_arrow-returns-in_ok-params-in-Some t c =
-    let u = c.args.unresolved in
+    let u = bindings_of c.args.info.now in
     let a = seen c.args.arrow in
     let at : c.or_own-place.result ≡ or_own c.args.place (ArrowExpr-span a) = c.or_own-place.ensures ∙ ap (or_own c.args.place) c.of-form.ensures.span in
-    let type = adds_same (ap (λ (p : SourceRange). known_answer (known_type u p a)) (sym at)) (adds_given c.in-Some.is c.in_ok-return_type.ensures) in
+    let type = adds_same (ap (λ (p : SourceRange). known_answer (known_type u.unresolved p a)) (sym at)) (adds_given c.in-Some.is c.in_ok-return_type.ensures) in
     let pats = adds_same (ap (λ (p : Tree). answer_of (pats_seen u (expr_seen u) (parts p))) (sym c.of-form.ensures.params)) c.in_ok-params-in-Some.ensures in
     IfOk-weaker c.signed_arrow.result _ _ (λ tree e. adds_given (ap Some (sym e)) (arrow_known u c.args.place a type pats)) c.signed_arrow.ensures
 
 pub functions::transform_arrow-returns-in_ok-params-in-None : goal.functions::transform_arrow-returns-in_ok-params-in-None
 functions::transform_arrow-returns-in_ok-params-in-None t c =
-    let u = c.args.unresolved in
+    let u = bindings_of c.args.info.now in
     let a = seen c.args.arrow in
     let f = c.of-form.ensures in
     let at : c.or_own-place.result ≡ or_own c.args.place (ArrowExpr-span a) = c.or_own-place.ensures ∙ ap (or_own c.args.place) f.span in
-    let type = adds_same (ap (λ (p : SourceRange). known_answer (known_type u p a)) (sym at)) (adds_given c.in-None.is c.in_ok-return_type.ensures) in
+    let type = adds_same (ap (λ (p : SourceRange). known_answer (known_type u.unresolved p a)) (sym at)) (adds_given c.in-None.is c.in_ok-return_type.ensures) in
     let value = adds_same (λ i. demanded (fault_at (return_type_missing false (sym f.is_async i)) (sym at i))
     (answer_to (expr_seen u (sym f.body i) None))) c.in_ok-value-in-None.ensures in
     let pats = adds_same (ap (λ (p : Tree). answer_of (pats_seen u (expr_seen u) (parts p))) (sym f.params)) c.in_ok-params-in-None.ensures in
@@ -161,11 +162,12 @@ parameters::leave_default-leave_value-requires t c = grind (arith, height_at_mos
 
 pub parameters::transform_assign_pat-returns-in-Some : goal.parameters::transform_assign_pat-returns-in-Some
 parameters::transform_assign_pat-returns-in-Some t c =
-    let u = c.args.unresolved in
+    let u = bindings_of c.args.info.now in
     let b = c.args.is_optional in
     let pat = seen c.args.pat in
     let ident : kind_of (AssignPat-left pat) ≡ kinds.BindingIdent = sym (c.kind.ensures ∙ ap kind_of c.of.ensures.left) ∙ c.in-BindingIdent.is in
-    let known : default_type u pat ≡ Some c.in-Some.ty = sym c.in_ok-ty-in-BindingIdent.ensures ∙ c.in-Some.is in
+    let scope = ap (λ (x : SyntaxContext). default_type x pat) c.unresolved_context.ensures in
+    let known : default_type u.unresolved pat ≡ Some c.in-Some.ty = sym (c.in_ok-ty-in-BindingIdent.ensures ∙ scope) ∙ c.in-Some.is in
     IfOk-weaker c.without_default.result _ _
     (λ tree e. adds_same (ap answer_to (seen_known u b pat c.in-Some.ty ident known) ∙
     ap (λ (x : Tree). faultless (Some x)) (sym (e ∙ ap (λ (l : Tree). without_default b (BindingIdent-id l) c.in-Some.ty) c.of.ensures.left)))
@@ -179,7 +181,7 @@ parameters::transform_pats-transform_param_pat-requires t c = grind (arith, heig
 
 pub expressions::leave_parts-loop-part-preserved : goal.expressions::leave_parts-loop-part-preserved
 expressions::leave_parts-loop-part-preserved t c =
-    let u = c.args.unresolved in
+    let u = bindings_of c.args.info.now in
     let items = c.parts-part-items.result.now in
     let d = c.part-item.result in
     let within : c.loop-part.part-index < length items = c.loop-part-test.true in
@@ -192,20 +194,20 @@ pub parameters::transform_param_pat-returns-in-AssignPat : goal.parameters::tran
 parameters::transform_param_pat-returns-in-AssignPat t c =
     let kind = sym c.kind.ensures ∙ c.in-AssignPat.is in
     IfOk-weaker c.transform_assign_pat.result _ _
-    (λ tree h. adds_same (ap answer_to (seen_by_kind c.args.unresolved c.args.is_optional (seen c.args.pat) kinds.AssignPat kind)) h)
+    (λ tree h. adds_same (ap answer_to (seen_by_kind (bindings_of c.args.info.now) c.args.is_optional (seen c.args.pat) kinds.AssignPat kind)) h)
     c.transform_assign_pat.ensures
 
 pub parameters::transform_param_pat-returns-in-RestPat : goal.parameters::transform_param_pat-returns-in-RestPat
 parameters::transform_param_pat-returns-in-RestPat t c =
     let kind = sym c.kind.ensures ∙ c.in-RestPat.is in
     IfOk-weaker c.transform_rest.result _ _
-    (λ tree h. adds_same (ap answer_to (seen_by_kind c.args.unresolved c.args.is_optional (seen c.args.pat) kinds.RestPat kind)) h) c.transform_rest.ensures
+    (λ tree h. adds_same (ap answer_to (seen_by_kind (bindings_of c.args.info.now) c.args.is_optional (seen c.args.pat) kinds.RestPat kind)) h) c.transform_rest.ensures
 
 pub parameters::transform_param_pat-returns-in_default : goal.parameters::transform_param_pat-returns-in_default
 parameters::transform_param_pat-returns-in_default t c =
     let d = c.in_default in
     let k = c.kind.ensures in
-    let other = other_pat c.args.unresolved c.args.is_optional (seen c.args.pat) (kind_of (seen c.args.pat)) (λ e. d.not-BindingIdent (k ∙ e))
+    let other = other_pat (bindings_of c.args.info.now) c.args.is_optional (seen c.args.pat) (kind_of (seen c.args.pat)) (λ e. d.not-BindingIdent (k ∙ e))
     (λ e. d.not-AssignPat (k ∙ e)) (λ e. d.not-RestPat (k ∙ e)) (λ e. d.not-ArrayPat (k ∙ e)) (λ e. d.not-ObjectPat (k ∙ e)) in
     IfOk-weaker c.unsupported.result _ _
     (λ tree h. adds_same (ap answer_to (other ∙ ap (λ (p : SourceRange). faulty UnsupportedDestructuring p) (sym c.range_of_node.ensures))) h)
@@ -215,7 +217,7 @@ pub parameters::transform_assign_pat-returns-in_default : goal.parameters::trans
 parameters::transform_assign_pat-returns-in_default t c =
     let d = c.in_default in
     let k = c.kind.ensures ∙ ap kind_of c.of.ensures.left in
-    let other = other_left c.args.unresolved c.args.is_optional (seen c.args.pat) (kind_of (AssignPat-left (seen c.args.pat)))
+    let other = other_left (bindings_of c.args.info.now) c.args.is_optional (seen c.args.pat) (kind_of (AssignPat-left (seen c.args.pat)))
     (λ e. d.not-BindingIdent (k ∙ e)) (λ e. d.not-ArrayPat (k ∙ e)) (λ e. d.not-ObjectPat (k ∙ e)) in
     IfOk-weaker c.unsupported.result _ _
     (λ tree h. adds_same (ap answer_to (other ∙ ap (λ (p : SourceRange). faulty UnsupportedDestructuring p) (sym c.of.ensures.span))) h)
@@ -229,7 +231,7 @@ parameters::transform_params-loop-index-preserved t c = grind (arith, common_ste
 
 pub expressions::leave_slots-returns-in-None : goal.expressions::leave_slots-returns-in-None
 expressions::leave_slots-returns-in-None t c =
-    let u = c.args.unresolved in
+    let u = bindings_of c.args.info.now in
     let e = seen c.args.expr in
     let row = c.args.row.now in
     let i = c.loop-index.index in
@@ -243,35 +245,35 @@ expressions::leave_slots-returns-in-None t c =
 
 pub expressions::leave_slot-returns-in-Span : goal.expressions::leave_slot-returns-in-Span
 expressions::leave_slot-returns-in-Span t c =
-    adds_same (slot_is c.args.unresolved c.args.slot slots.Span (seen c.args.part) c.args.place c.in-Span.is
+    adds_same (slot_is (bindings_of c.args.info.now) c.args.slot slots.Span (seen c.args.part) c.args.place c.in-Span.is
     ∙ ap (λ (r : SourceRange). faultless (Some (tree.Range r))) (sym c.range.ensures)) (adds_nothing (Some (tree.Range c.range.result)) c.args.faults.now.items)
 
 pub expressions::leave_slot-returns-in-Scope : goal.expressions::leave_slot-returns-in-Scope
 expressions::leave_slot-returns-in-Scope t c =
-    adds_same (slot_is c.args.unresolved c.args.slot slots.Scope (seen c.args.part) c.args.place c.in-Scope.is
+    adds_same (slot_is (bindings_of c.args.info.now) c.args.slot slots.Scope (seen c.args.part) c.args.place c.in-Scope.is
     ∙ ap (λ (x : SyntaxContext). faultless (Some (tree.Context x))) (sym c.context.ensures))
     (adds_nothing (Some (tree.Context c.context.result)) c.args.faults.now.items)
 
 pub expressions::leave_slot-returns-in_ok-to_tree-in-Written : goal.expressions::leave_slot-returns-in_ok-to_tree-in-Written
 expressions::leave_slot-returns-in_ok-to_tree-in-Written t c =
-    adds_same (slot_is c.args.unresolved c.args.slot slots.Written (seen c.args.part) c.args.place c.in-Written.is
+    adds_same (slot_is (bindings_of c.args.info.now) c.args.slot slots.Written (seen c.args.part) c.args.place c.in-Written.is
     ∙ ap (λ (x : Tree). faultless (Some x)) (sym c.in_ok-to_tree-in-Written.ensures))
     (adds_nothing (Some c.in_ok-to_tree-in-Written.field-0) c.args.faults.now.items)
 
 pub expressions::leave_slot-returns-in_ok-never_in_parens-in-Never : goal.expressions::leave_slot-returns-in_ok-never_in_parens-in-Never
 expressions::leave_slot-returns-in_ok-never_in_parens-in-Never t c =
-    adds_same (slot_is c.args.unresolved c.args.slot slots.Never (seen c.args.part) c.args.place c.in-Never.is
+    adds_same (slot_is (bindings_of c.args.info.now) c.args.slot slots.Never (seen c.args.part) c.args.place c.in-Never.is
     ∙ ap (λ (x : Tree). faultless (Some x)) (sym c.in_ok-never_in_parens-in-Never.ensures))
     (adds_nothing (Some c.in_ok-never_in_parens-in-Never.field-0) c.args.faults.now.items)
 
 pub expressions::leave_slot-returns-in-Value : goal.expressions::leave_slot-returns-in-Value
 expressions::leave_slot-returns-in-Value t c =
     IfOk-weaker c.leave_expr.result _ _
-    (λ tree h. adds_same (slot_is c.args.unresolved c.args.slot slots.Value (seen c.args.part) c.args.place c.in-Value.is) h) c.leave_expr.ensures
+    (λ tree h. adds_same (slot_is (bindings_of c.args.info.now) c.args.slot slots.Value (seen c.args.part) c.args.place c.in-Value.is) h) c.leave_expr.ensures
 
 pub expressions::leave_slot-returns-in_ok-transform_fn-in-Function : goal.expressions::leave_slot-returns-in_ok-transform_fn-in-Function
 expressions::leave_slot-returns-in_ok-transform_fn-in-Function t c =
-    let u = c.args.unresolved in
+    let u = bindings_of c.args.info.now in
     let f = seen c.args.part in
     let at : c.or_own-place.result ≡ or_own c.args.place (Function-span f) = c.or_own-place.ensures ∙ ap (or_own c.args.place) c.of.ensures.span in
     adds_same (slot_is u c.args.slot slots.Function f c.args.place c.in-Function.is
@@ -281,7 +283,7 @@ expressions::leave_slot-returns-in_ok-transform_fn-in-Function t c =
 
 pub functions::transform_fn-returns : goal.functions::transform_fn-returns
 functions::transform_fn-returns t c =
-    let u = c.args.unresolved in
+    let u = bindings_of c.args.info.now in
     let f = seen c.args.function in
     let params = adds_same (ap (λ (ps : Tree). answer_of (params_looked u (parts ps))) (sym c.of.ensures.params)) c.in_ok-params.ensures in
     IfOk-weaker c.signed_function.result _ _ (λ tree e. adds_given (ap Some (sym e))
@@ -294,7 +296,7 @@ parameters::transform_param_pat-returns-in_ok-to_tree-in-BindingIdent t c =
     let kind = sym c.kind.ensures ∙ c.in-BindingIdent.is in
     let at = c.of-in-BindingIdent.ensures.span ∙ ap Ident-span c.of.ensures.id in
     IfOk-weaker c.typed.result _ _
-    (λ tree h. adds_same (ap answer_to (seen_by_kind c.args.unresolved c.args.is_optional (seen c.args.pat) kinds.BindingIdent kind) ∙
+    (λ tree h. adds_same (ap answer_to (seen_by_kind (bindings_of c.args.info.now) c.args.is_optional (seen c.args.pat) kinds.BindingIdent kind) ∙
     sym (λ i. answer_to (typed (c.of.ensures.type_ann i) (at i) (c.in_ok-to_tree-in-BindingIdent.ensures i)))) h) c.typed.ensures
 
 pub parameters::transform_param_pat-returns-in_ok-emptied_array-in-ArrayPat : goal.parameters::transform_param_pat-returns-in_ok-emptied_array-in-ArrayPat
@@ -302,7 +304,7 @@ parameters::transform_param_pat-returns-in_ok-emptied_array-in-ArrayPat t c =
     let kind = sym c.kind.ensures ∙ c.in-ArrayPat.is in
     let of = c.of-in-ArrayPat.ensures in
     IfOk-weaker c.typed-in-ArrayPat.result _ _
-    (λ tree h. adds_same (ap answer_to (seen_by_kind c.args.unresolved c.args.is_optional (seen c.args.pat) kinds.ArrayPat kind) ∙
+    (λ tree h. adds_same (ap answer_to (seen_by_kind (bindings_of c.args.info.now) c.args.is_optional (seen c.args.pat) kinds.ArrayPat kind) ∙
     sym (λ i. answer_to (typed (of.type_ann i) (of.span i) (c.in_ok-emptied_array-in-ArrayPat.ensures i)))) h) c.typed-in-ArrayPat.ensures
 
 pub parameters::transform_param_pat-returns-in_ok-emptied_object-in-ObjectPat : goal.parameters::transform_param_pat-returns-in_ok-emptied_object-in-ObjectPat
@@ -310,16 +312,18 @@ parameters::transform_param_pat-returns-in_ok-emptied_object-in-ObjectPat t c =
     let kind = sym c.kind.ensures ∙ c.in-ObjectPat.is in
     let of = c.of-in-ObjectPat.ensures in
     IfOk-weaker c.typed-in-ObjectPat.result _ _
-    (λ tree h. adds_same (ap answer_to (seen_by_kind c.args.unresolved c.args.is_optional (seen c.args.pat) kinds.ObjectPat kind) ∙
+    (λ tree h. adds_same (ap answer_to (seen_by_kind (bindings_of c.args.info.now) c.args.is_optional (seen c.args.pat) kinds.ObjectPat kind) ∙
     sym (λ i. answer_to (typed (of.type_ann i) (of.span i) (c.in_ok-emptied_object-in-ObjectPat.ensures i)))) h) c.typed-in-ObjectPat.ensures
 
 pub parameters::transform_assign_pat-returns-in_ok-left-in-BindingIdent : goal.parameters::transform_assign_pat-returns-in_ok-left-in-BindingIdent
 parameters::transform_assign_pat-returns-in_ok-left-in-BindingIdent t c =
-    let u = c.args.unresolved in
+    let u = bindings_of c.args.info.now in
     let pat = seen c.args.pat in
     let left = c.of.ensures.left in
     let ident : kind_of (AssignPat-left pat) ≡ kinds.BindingIdent = sym (c.kind.ensures ∙ ap kind_of left) ∙ c.in-BindingIdent.is in
-    let unknown : default_type u pat ≡ None = none_of (default_type u pat) (λ type e. c.in_default-2.not-Some type (c.in_ok-ty-in-BindingIdent.ensures ∙ e)) in
+    let scope = ap (λ (x : SyntaxContext). default_type x pat) c.unresolved_context.ensures in
+    let unknown : default_type u.unresolved pat ≡ None = none_of (default_type u.unresolved pat)
+    (λ type e. c.in_default-2.not-Some type (c.in_ok-ty-in-BindingIdent.ensures ∙ (scope ∙ e))) in
     let at = c.of-in-BindingIdent-2.ensures.span ∙ ap Ident-span (c.of-in-BindingIdent.ensures.id ∙ ap BindingIdent-id left) in
     IfOk-weaker c.leave_default.result _ _
     (λ tree h. adds_same (ap answer_to (seen_left_out u c.args.is_optional pat ident unknown) ∙ sym (λ i. answer_to
@@ -328,7 +332,7 @@ parameters::transform_assign_pat-returns-in_ok-left-in-BindingIdent t c =
 
 pub parameters::transform_assign_pat-returns-then-is_absent : goal.parameters::transform_assign_pat-returns-then-is_absent
 parameters::transform_assign_pat-returns-then-is_absent t c =
-    let u = c.args.unresolved in
+    let u = bindings_of c.args.info.now in
     let pat = seen c.args.pat in
     let left = c.of.ensures.left in
     let of = c.of-in-ArrayPat.ensures in
@@ -341,7 +345,7 @@ parameters::transform_assign_pat-returns-then-is_absent t c =
 
 pub parameters::transform_assign_pat-returns-in_ok-never_array-in-ArrayPat : goal.parameters::transform_assign_pat-returns-in_ok-never_array-in-ArrayPat
 parameters::transform_assign_pat-returns-in_ok-never_array-in-ArrayPat t c =
-    let u = c.args.unresolved in
+    let u = bindings_of c.args.info.now in
     let pat = seen c.args.pat in
     let left = c.of.ensures.left in
     let of = c.of-in-ArrayPat.ensures in
@@ -354,7 +358,7 @@ parameters::transform_assign_pat-returns-in_ok-never_array-in-ArrayPat t c =
 
 pub parameters::transform_assign_pat-returns-then-is_absent-2 : goal.parameters::transform_assign_pat-returns-then-is_absent-2
 parameters::transform_assign_pat-returns-then-is_absent-2 t c =
-    let u = c.args.unresolved in
+    let u = bindings_of c.args.info.now in
     let pat = seen c.args.pat in
     let left = c.of.ensures.left in
     let of = c.of-in-ObjectPat.ensures in
@@ -367,7 +371,7 @@ parameters::transform_assign_pat-returns-then-is_absent-2 t c =
 
 pub parameters::transform_assign_pat-returns-in_ok-never_value-in-ObjectPat : goal.parameters::transform_assign_pat-returns-in_ok-never_value-in-ObjectPat
 parameters::transform_assign_pat-returns-in_ok-never_value-in-ObjectPat t c =
-    let u = c.args.unresolved in
+    let u = bindings_of c.args.info.now in
     let pat = seen c.args.pat in
     let left = c.of.ensures.left in
     let of = c.of-in-ObjectPat.ensures in

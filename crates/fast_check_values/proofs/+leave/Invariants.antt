@@ -1,6 +1,7 @@
 use Rattle.std.proofs.Common.{◌+◌, ◌-◌, ◌*◌, None, drop, map, ◌++◌}
 use Rattle.fast_check_syntax.specs.Part.{seen}
 use Rattle.fast_check_syntax.specs.Height.{height}
+use Rattle.fast_check_bindings.specs.Bindings.{bindings_of}
 use Rattle.fast_check_signatures.specs.Seen.{seens}
 use Rattle.fast_check_signatures.specs.Answers.{answer_of, parts_answer}
 use Rattle.fast_check_signatures.specs.Expressions.{expr_seen, slots_seen}
@@ -48,21 +49,21 @@ decreases-parameters::transform_pats l = 16 * height (seen l.params) + 4
 -- what all parts give is what those give that are left, behind what was given so far
 abbrev pub invariant-expressions::leave_parts-loop-part : goal.invariant-expressions::leave_parts-loop-part
 invariant-expressions::leave_parts-loop-part l =
-    Behind (behind l.items) (parts_answer (seens (map (λ p. expr_seen l.unresolved p None) l.part-items)))
-    (parts_answer (seens (map (λ p. expr_seen l.unresolved p None) (drop l.part-index l.part-items)))) l.initial.faults.items l.faults.items
+    Behind (behind l.items) (parts_answer (seens (map (λ p. expr_seen (bindings_of l.info) p None) l.part-items)))
+    (parts_answer (seens (map (λ p. expr_seen (bindings_of l.info) p None) (drop l.part-index l.part-items)))) l.initial.faults.items l.faults.items
 
 abbrev pub invariant-expressions::leave_slots-loop-index : goal.invariant-expressions::leave_slots-loop-index
 invariant-expressions::leave_slots-loop-index l =
-    Behind (behind l.stay) (parts_answer (seens (slots_seen l.unresolved l.row 0 (seen l.expr) (expr_seen l.unresolved) l.place)))
-    (parts_answer (seens (slots_seen l.unresolved (drop l.index l.row) l.index (seen l.expr) (expr_seen l.unresolved) l.place))) l.initial.faults.items
+    Behind (behind l.stay) (parts_answer (seens (slots_seen (bindings_of l.info) l.row 0 (seen l.expr) (expr_seen (bindings_of l.info)) l.place)))
+    (parts_answer (seens (slots_seen (bindings_of l.info) (drop l.index l.row) l.index (seen l.expr) (expr_seen (bindings_of l.info)) l.place))) l.initial.faults.items
     l.faults.items
 
 abbrev pub invariant-parameters::transform_pats-loop-index : goal.invariant-parameters::transform_pats-loop-index
 invariant-parameters::transform_pats-loop-index l =
-    Behind (λ ts. l.items ++ ts) (answer_of (pats_seen l.unresolved (expr_seen l.unresolved) l.pats))
-    (answer_of (pats_seen l.unresolved (expr_seen l.unresolved) (drop l.index l.pats))) l.initial.faults.items l.faults.items
+    Behind (λ ts. l.items ++ ts) (answer_of (pats_seen (bindings_of l.info) (expr_seen (bindings_of l.info)) l.pats))
+    (answer_of (pats_seen (bindings_of l.info) (expr_seen (bindings_of l.info)) (drop l.index l.pats))) l.initial.faults.items l.faults.items
 
 abbrev pub invariant-parameters::transform_params-loop-index : goal.invariant-parameters::transform_params-loop-index
 invariant-parameters::transform_params-loop-index l =
-    Behind (λ ts. l.items ++ ts) (answer_of (params_looked l.unresolved l.params))
-    (answer_of (params_looked l.unresolved (drop l.index l.params))) l.initial.faults.items l.faults.items
+    Behind (λ ts. l.items ++ ts) (answer_of (params_looked (bindings_of l.info) l.params))
+    (answer_of (params_looked (bindings_of l.info) (drop l.index l.params))) l.initial.faults.items l.faults.items

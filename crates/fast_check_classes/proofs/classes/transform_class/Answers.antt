@@ -1,4 +1,5 @@
 use Rattle.std.proofs.Common.{ap, ◌∙◌, sym, refl}
+use Rattle.fast_check_bindings.specs.Bindings.{bindings_of}
 use Rattle.fast_check_syntax.specs.Part.{seen}
 use Rattle.fast_check_tables.specs.PublicRanges.{is_implementation}
 use Rattle.fast_check_syntax.specs.Shape.{parts}
@@ -12,7 +13,7 @@ use Rattle.fast_check_classes.proofs.classes.transform_class.Goals as goal
 
 pub returns : goal.returns
 returns c =
-    let u = c.args.unresolved in
+    let u = bindings_of c.args.info.now in
     let asked = is_implementation c.args.public_ranges.now in
     let superclass = adds_settled (adds_same (ap (λ (t : Tree). answer_to (superclass_seen t)) (sym c.of.ensures.super_class)) c.in_ok-super_class.ensures) in
     let members = adds_same (ap (λ (t : Tree). answer_of (members_seen u asked (parts t))) (sym c.of.ensures.body)) c.in_ok-members.ensures in

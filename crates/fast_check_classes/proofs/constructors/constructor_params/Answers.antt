@@ -1,5 +1,6 @@
 use Rattle.std.proofs.Common.{ap, ◌∙◌, sym, map}
 use Rattle.std.proofs.lemmas.Result.{IfOk-weaker}
+use Rattle.fast_check_bindings.specs.Bindings.{bindings_of}
 use Rattle.fast_check_syntax.specs.Part.{seen}
 use Rattle.fast_check_syntax.specs.Shape.{parts, list}
 use Rattle.fast_check_tables.specs.PublicRanges.{is_implementation}
@@ -10,7 +11,7 @@ use Rattle.fast_check_classes.proofs.constructors.constructor_params.Goals as go
 
 pub returns-then-is_private : goal.returns-then-is_private
 returns-then-is_private c =
-    private_params c.args.unresolved (is_implementation c.args.public_ranges.now) (seen c.args.member)
+    private_params (bindings_of c.args.info.now) (is_implementation c.args.public_ranges.now) (seen c.args.member)
     (ap is_private (sym c.of.ensures.accessibility) ∙ (sym c.is_private.ensures ∙ c.if-is_private.true)) c.new.ensures c.args.faults.now.items
 
 pub returns-then-is_impl_with_overloads : goal.returns-then-is_impl_with_overloads
@@ -19,7 +20,7 @@ returns-then-is_impl_with_overloads c =
     let plain = c.in_ok-params.ensures ∙ ap (λ ps. list (map (λ p. plain_param p) (parts ps))) c.of.ensures.params in
     let asked = ap (is_implementation c.args.public_ranges.now) (sym c.of.ensures.span) ∙ (sym c.is_impl_with_overloads.ensures ∙ c.if-is_impl_with_overloads.true) in
     IfOk-weaker c.any_params.result _ _
-    (λ items h. implementation_params c.args.unresolved (is_implementation c.args.public_ranges.now) (seen c.args.member) private asked
+    (λ items h. implementation_params (bindings_of c.args.info.now) (is_implementation c.args.public_ranges.now) (seen c.args.member) private asked
     (c.read.ensures ∙ plain) h c.args.faults.now.items) c.any_params.ensures
 
 pub returns : goal.returns
@@ -28,5 +29,5 @@ returns c =
     let plain = c.in_ok-params.ensures ∙ ap (λ ps. list (map (λ p. plain_param p) (parts ps))) c.of.ensures.params in
     let asked = ap (is_implementation c.args.public_ranges.now) (sym c.of.ensures.span) ∙ (sym c.is_impl_with_overloads.ensures ∙ c.if-is_impl_with_overloads.false) in
     IfOk-weaker c.transform_params.result _ _
-    (λ items h. own_params c.args.unresolved (is_implementation c.args.public_ranges.now) (seen c.args.member) private asked
+    (λ items h. own_params (bindings_of c.args.info.now) (is_implementation c.args.public_ranges.now) (seen c.args.member) private asked
     (c.read-2.ensures ∙ plain) h) c.transform_params.ensures

@@ -1,7 +1,6 @@
 use Rattle.std.proofs.Common.{rules, ap, ◌∙◌, sym, append-nil}
 use Rattle.fast_check_syntax.specs.Part.{seen}
-use Rattle.fast_check_signatures.specs.Classes.{is_param_property}
-use Rattle.fast_check_class_nodes.specs.Heads.{param_property}
+use Rattle.fast_check_signatures.specs.Classes.{is_param_property, param_property}
 use Rattle.fast_check_classes.proofs.MembersKept.{taken_more, passed_more, taken_all}
 use Rattle.fast_check_classes.proofs.members.declare_params.Goals as goal
 

@@ -2,7 +2,7 @@ use Rattle.std.proofs.Common.{rules, ap, ◌∙◌, sym, append-nil, ◌++◌, L
 use Rattle.std.specs.Prelude.{flat_map}
 use Rattle.fast_check_syntax.specs.Part.{seen}
 use Rattle.fast_check_syntax.specs.declared.tree.Tree.{Tree}
-use Rattle.fast_check_classes.specs.Parts.{declared_by_params}
+use Rattle.fast_check_signatures.specs.Classes.{declared_by_params}
 use Rattle.fast_check_classes.proofs.MembersKept.{declared_more, declared_all}
 use Rattle.fast_check_classes.proofs.members.made_members.Goals as goal
 

@@ -1,5 +1,6 @@
 use Rattle.std.proofs.Common.{ap, ◌∙◌, sym}
 use Rattle.std.proofs.lemmas.Result.{IfOk-weaker}
+use Rattle.fast_check_bindings.specs.Bindings.{bindings_of}
 use Rattle.fast_check_syntax.specs.Part.{seen}
 use Rattle.fast_check_ranges.specs.Ranges.{range_of_node}
 use Rattle.fast_check_tables.specs.PublicRanges.{is_implementation}
@@ -10,14 +11,14 @@ use Rattle.fast_check_classes.proofs.members.method_function.Goals as goal
 pub returns-then-is_impl_with_overloads : goal.returns-then-is_impl_with_overloads
 returns-then-is_impl_with_overloads c =
     IfOk-weaker c.transform_implementation.result _ _
-    (λ tree h. implementation c.args.unresolved (is_implementation c.args.public_ranges.now) (seen c.args.member)
+    (λ tree h. implementation (bindings_of c.args.info.now) (is_implementation c.args.public_ranges.now) (seen c.args.member)
     (ap (is_implementation c.args.public_ranges.now) (sym c.of.ensures.span) ∙ (sym c.is_impl_with_overloads.ensures ∙ c.if-is_impl_with_overloads.true))
     {f = seen c.of.result.function} {t = tree} c.of.ensures.function h c.args.faults.now.items) c.transform_implementation.ensures
 
 pub returns : goal.returns
 returns c =
     IfOk-weaker c.transform_fn.result _ _
-    (λ tree h. signature c.args.unresolved (is_implementation c.args.public_ranges.now) (seen c.args.member)
+    (λ tree h. signature (bindings_of c.args.info.now) (is_implementation c.args.public_ranges.now) (seen c.args.member)
     (ap (is_implementation c.args.public_ranges.now) (sym c.of.ensures.span) ∙ (sym c.is_impl_with_overloads.ensures ∙ c.if-is_impl_with_overloads.false))
     {kind = c.method_kind-kind.result} {place = c.range_of_node.result} {f = seen c.of.result.function} h (c.method_kind-kind.ensures ∙ ap method_kind c.of.ensures.kind) (c.range_of_node.ensures ∙ ap range_of_node c.of.ensures.key) c.of.ensures.function)
     c.transform_fn.ensures

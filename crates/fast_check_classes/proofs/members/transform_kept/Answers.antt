@@ -1,4 +1,5 @@
 use Rattle.std.proofs.Common.{rules, map}
+use Rattle.fast_check_bindings.specs.Bindings.{bindings_of}
 use Rattle.fast_check_syntax.specs.Part.{seen}
 use Rattle.fast_check_tables.specs.PublicRanges.{is_implementation}
 use Rattle.fast_check_classes.proofs.MembersKept.{kept_start, kept_step, kept_end}
@@ -6,15 +7,15 @@ use Rattle.fast_check_classes.proofs.members.transform_kept.Goals as goal
 
 pub loop-member-init : goal.loop-member-init
 loop-member-init c =
-    kept_start c.args.unresolved (is_implementation c.args.public_ranges.now) c.args.items (map seen c.args.kept.now) c.args.faults.now.items
+    kept_start (bindings_of c.args.info.now) (is_implementation c.args.public_ranges.now) c.args.items (map seen c.args.kept.now) c.args.faults.now.items
 
 pub loop-member-preserved : goal.loop-member-preserved
 loop-member-preserved c =
-    kept_step c.args.unresolved (is_implementation c.args.public_ranges.now) c.args.kept.now c.loop-member.member-index c.member-item.result
+    kept_step (bindings_of c.args.info.now) (is_implementation c.args.public_ranges.now) c.args.kept.now c.loop-member.member-index c.member-item.result
     c.loop-member-test.true c.member-item.is
     c.loop-member.items c.in_ok-transform_member.field-0 c.loop-member.invariant c.in_ok-transform_member.ensures c.in_ok-push.ensures.ok
 
 pub returns : goal.returns
 returns c =
-    kept_end c.args.unresolved (is_implementation c.args.public_ranges.now) c.args.kept.now c.loop-member.member-index c.loop-member-test.false
+    kept_end (bindings_of c.args.info.now) (is_implementation c.args.public_ranges.now) c.args.kept.now c.loop-member.member-index c.loop-member-test.false
     c.loop-member.items c.loop-member.invariant

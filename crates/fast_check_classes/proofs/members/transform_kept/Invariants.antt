@@ -1,4 +1,5 @@
 use Rattle.std.proofs.Common.{◌++◌, drop, map}
+use Rattle.fast_check_bindings.specs.Bindings.{bindings_of}
 use Rattle.fast_check_syntax.specs.Part.{seen}
 use Rattle.fast_check_tables.specs.PublicRanges.{is_implementation}
 use Rattle.fast_check_signatures.specs.Answers.{made}
@@ -8,5 +9,5 @@ use Rattle.fast_check_classes.proofs.members.transform_kept.Given as goal
 
 abbrev pub invariant-loop-member : goal.invariant-loop-member
 invariant-loop-member l =
-    Behind (λ ts. l.items ++ ts) (made (λ ts. l.initial.items ++ ts) (kept_answer l.unresolved (is_implementation l.public_ranges) (map seen l.kept)))
-    (kept_answer l.unresolved (is_implementation l.public_ranges) (map seen (drop l.member-index l.kept))) l.initial.faults.items l.faults.items
+    Behind (λ ts. l.items ++ ts) (made (λ ts. l.initial.items ++ ts) (kept_answer (bindings_of l.info) (is_implementation l.public_ranges) (map seen l.kept)))
+    (kept_answer (bindings_of l.info) (is_implementation l.public_ranges) (map seen (drop l.member-index l.kept))) l.initial.faults.items l.faults.items

@@ -1,5 +1,6 @@
 use Rattle.std.proofs.Common.{ap, ◌∙◌, sym}
 use Rattle.std.proofs.lemmas.Result.{IfOk-weaker}
+use Rattle.fast_check_bindings.specs.Bindings.{bindings_of}
 use Rattle.fast_check_syntax.specs.Part.{seen}
 use Rattle.fast_check_syntax.specs.Shape.{is_absent}
 use Rattle.fast_check_signatures.specs.Answers.{declared_property}
@@ -11,20 +12,20 @@ use Rattle.fast_check_classes.proofs.properties.transform_property.Goals as goal
 pub returns-then-is_private : goal.returns-then-is_private
 returns-then-is_private c =
     some_of c.declared.result c.declared.ensures
-    (private_property c.args.unresolved (seen c.args.member) (ap is_private (sym c.of.ensures.accessibility) ∙ (sym c.is_private.ensures ∙ c.if-is_private.true))
+    (private_property (bindings_of c.args.info.now) (seen c.args.member) (ap is_private (sym c.of.ensures.accessibility) ∙ (sym c.is_private.ensures ∙ c.if-is_private.true))
     c.args.faults.now.items) (λ i. declared_property (c.in_ok-property_head.ensures i) (c.in_ok-any_type_ann.ensures i))
 
 pub returns-then-is_absent : goal.returns-then-is_absent
 returns-then-is_absent c =
     IfOk-weaker c.untyped_property.result _ _
-    (λ tree h. untyped_stays c.args.unresolved (seen c.args.member)
+    (λ tree h. untyped_stays (bindings_of c.args.info.now) (seen c.args.member)
     (ap is_private (sym c.of.ensures.accessibility) ∙ (sym c.is_private.ensures ∙ c.if-is_private.false))
     (ap is_absent (sym c.of.ensures.type_ann) ∙ (sym c.is_absent.ensures ∙ c.if-is_absent.true)) h) c.untyped_property.ensures
 
 pub returns : goal.returns
 returns c =
     some_of c.declared-2.result c.declared-2.ensures
-    (written_property c.args.unresolved (seen c.args.member)
+    (written_property (bindings_of c.args.info.now) (seen c.args.member)
     (ap is_private (sym c.of.ensures.accessibility) ∙ (sym c.is_private.ensures ∙ c.if-is_private.false))
     (ap is_absent (sym c.of.ensures.type_ann) ∙ (sym c.is_absent.ensures ∙ c.if-is_absent.false)) c.args.faults.now.items)
     (λ i. declared_property (c.in_ok-property_head-2.ensures i) ((c.in_ok-to_tree.ensures ∙ c.of.ensures.type_ann) i))

@@ -1,4 +1,5 @@
 use Rattle.std.proofs.Common.{ap, ◌∙◌, sym}
+use Rattle.fast_check_bindings.specs.Bindings.{bindings_of}
 use Rattle.fast_check_syntax.specs.Part.{seen}
 use Rattle.fast_check_helpers.specs.InferredType.{inferred_type}
 use Rattle.fast_check_signatures.specs.Answers.{declared_property, valued_property}
@@ -10,15 +11,15 @@ use Rattle.fast_check_classes.proofs.properties.untyped_property.Goals as goal
 pub returns-in_ok-property_head-in-Some : goal.returns-in_ok-property_head-in-Some
 returns-in_ok-property_head-in-Some c =
     let mutability = c.mutability_of_property-mutability.ensures ∙ ap mutability_of_property c.of-readonly.ensures.readonly in
-    let shown = (λ i. inferred_type (sym mutability i) c.args.unresolved (sym c.of-readonly.ensures.value i)) ∙ (sym c.in_ok-ty.ensures.inferred ∙ c.in-Some.is) in
+    let shown = (λ i. inferred_type (sym mutability i) (sym c.unresolved_context.ensures i) (sym c.of-readonly.ensures.value i)) ∙ (sym c.in_ok-ty.ensures.inferred ∙ c.in-Some.is) in
     some_of c.declared.result c.declared.ensures
-    (shown_property c.args.unresolved (seen c.args.member) c.in-Some.ty shown c.args.faults.now.items)
+    (shown_property (bindings_of c.args.info.now) (seen c.args.member) c.in-Some.ty shown c.args.faults.now.items)
     (λ i. declared_property (c.in_ok-property_head-in-Some.ensures i) (c.in_ok-ty-in-Some.ensures i))
 
 pub returns-in_ok-property_head-in-None : goal.returns-in_ok-property_head-in-None
 returns-in_ok-property_head-in-None c =
     let mutability = c.mutability_of_property-mutability.ensures ∙ ap mutability_of_property c.of-readonly.ensures.readonly in
-    let shown = (λ i. inferred_type (sym mutability i) c.args.unresolved (sym c.of-readonly.ensures.value i)) ∙ (sym c.in_ok-ty.ensures.inferred ∙ c.in-None.is) in
+    let shown = (λ i. inferred_type (sym mutability i) (sym c.unresolved_context.ensures i) (sym c.of-readonly.ensures.value i)) ∙ (sym c.in_ok-ty.ensures.inferred ∙ c.in-None.is) in
     some_of c.valued.result c.valued.ensures
-    (valued_property_stays c.args.unresolved (seen c.args.member) shown c.in_ok-value-in-None.ensures)
+    (valued_property_stays (bindings_of c.args.info.now) (seen c.args.member) shown c.in_ok-value-in-None.ensures)
     (ap (λ h. valued_property h c.in_ok-value-in-None.value) c.in_ok-property_head-in-None.ensures)

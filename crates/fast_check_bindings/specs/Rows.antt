@@ -8,6 +8,6 @@ abbrev pub row_in : Rule → Option (List Slot)
 row_in (slotted row) = Some row
 row_in _ = None
 
--- by its kind, and for a call by whether it is `Object.freeze(x)`
+-- by its kind, and for a call and for `new` by whether it is one that is known
 abbrev pub row_of : Kind → Bool → Option (List Slot)
-row_of kind freezing = row_in (other_rule kind freezing)
+row_of kind known = row_in (other_rule kind known)

@@ -1,0 +1,76 @@
+ghost use Rattle.std.specs.Prelude.{◌≡◌, option_copied, IfOk};
+ghost use Rattle.fast_check_syntax.specs.Part.{seen};
+ghost use Rattle.fast_check_syntax.specs.Shape.{kind_of};
+ghost use Rattle.fast_check_signatures.specs.Expressions.{freezes, makes_plain, is_known};
+ghost use Rattle.fast_check_bindings.specs.Bindings.{bindings_of};
+ghost use Rattle.fast_check_bindings.specs.Rows as rows;
+
+use crate::names::{is_plain_class, unresolved_context};
+use fast_check_expression_forms::{CallExpr, NewExpr};
+use fast_check_helpers::object_freeze_call_arg;
+use fast_check_modules::EsModuleInfo;
+use fast_check_program_forms::Ident;
+use fast_check_signatures::{ASSERTION, FN_EXPR, FREEZE, NEW, SATISFIES, Slot};
+use fast_check_syntax::{Atom, Id, Kind, Part};
+use std::alloc::{AllocError, Global};
+
+/// Whether a call is `Object.freeze(x)`.
+fn freezes(info: &EsModuleInfo, expr: Part<'_>) -> bool
+    ensures { result ≡ freezes (bindings_of info.now) (seen expr.entry) }
+{
+    object_freeze_call_arg(&CallExpr::of(expr), unresolved_context(info)).is_some()
+}
+
+/// Whether `new` without type arguments makes an object of a class without type parameters.
+fn makes_plain(alloc: Global, info: &EsModuleInfo, expr: Part<'_>) -> Result<bool, AllocError>
+    ensures { IfOk result (λ made. made ≡ makes_plain (bindings_of info.now) (seen expr.entry)) }
+{
+    let form = NewExpr::of(expr);
+    if form.callee.kind() != Kind::Ident {
+        return Ok(false);
+    }
+    if !form.type_args.is_absent() {
+        return Ok(false);
+    }
+    let class = Ident::of(form.callee);
+    let id = Id(Atom::from_str(alloc, class.sym)?, class.ctxt);
+    Ok(is_plain_class(info, &id))
+}
+
+/// Whether an expression is one of these, by its kind.
+fn is_known(alloc: Global, info: &EsModuleInfo, expr: Part<'_>) -> Result<bool, AllocError>
+    ensures { IfOk result (λ known. known ≡ is_known (bindings_of info.now) (seen expr.entry)) }
+{
+    match expr.kind() {
+        Kind::CallExpr => Ok(freezes(info, expr)),
+        Kind::NewExpr => makes_plain(alloc, info, expr),
+        _ => Ok(false),
+    }
+}
+
+/// The row of a kind, where it is known whether a call or `new` may stay.
+fn row_of_kind(kind: Kind, known: bool) -> Option<&'static [Slot]>
+    ensures { option_copied result ≡ rows.row_of kind known }
+{
+    match kind {
+        Kind::TsSatisfiesExpr => Some(&SATISFIES),
+        Kind::TsAsExpr | Kind::TsTypeAssertion => Some(&ASSERTION),
+        Kind::FnExpr => Some(&FN_EXPR),
+        Kind::CallExpr => { if known { Some(&FREEZE) } else { None } }
+        Kind::NewExpr => { if known { Some(&NEW) } else { None } }
+        _ => None,
+    }
+}
+
+/// The row of an expression that stays slot by slot, as its kind says; of a call only where it is `Object.freeze(x)`, and of
+/// `new` only where it names a class without type parameters, and no type arguments.
+pub fn row_of(
+    alloc: Global,
+    info: &EsModuleInfo,
+    expr: Part<'_>,
+) -> Result<Option<&'static [Slot]>, AllocError>
+    ensures { IfOk result (λ row. option_copied row ≡ rows.row_of (kind_of (seen expr.entry)) (is_known (bindings_of info.now) (seen expr.entry))) }
+{
+    let known = is_known(alloc, info, expr)?;
+    Ok(row_of_kind(expr.kind(), known))
+}
