@@ -68,7 +68,7 @@ same_none = new_same (list []) (λ m ok. node_moved m kinds.List [])
 same_private : Same (tree.Word words.Private) (tree.Word words.Private)
 same_private = new_same (tree.Word words.Private) (λ m ok. word_moved m words.Private)
 
-same_ident : (text : List ℕ) → Same (new_ident text) (new_ident text)
+pub same_ident : (text : List ℕ) → Same (new_ident text) (new_ident text)
 same_ident text = new_same (new_ident text) (λ m ok. simp (node_moved, range_moved, none_moved m ok, context_moved, text_moved, flag_moved, ok.scope_zero))
 
 same_name : (text : List ℕ) → Same (ident_name none_range text) (ident_name none_range text)

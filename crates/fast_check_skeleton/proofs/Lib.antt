@@ -14,3 +14,4 @@ pub mod HashMarked
 pub mod Example
 pub mod ClassExample
 pub mod ModuleExample
+pub mod NamespaceExample

@@ -20,3 +20,4 @@ pub mod Worlds
 pub mod Example
 pub mod ClassExample
 pub mod ModuleExample
+pub mod NamespaceExample

@@ -5,6 +5,7 @@ ghost use Rattle.fast_check_skeleton.specs.ClassExample.{ClassExample};
 ghost use Rattle.fast_check_skeleton.specs.Example.{Example};
 ghost use Rattle.fast_check_skeleton.specs.HashMark.{HashMarked};
 ghost use Rattle.fast_check_skeleton.specs.ModuleExample.{ModuleExample};
+ghost use Rattle.fast_check_skeleton.specs.NamespaceExample.{NamespaceExample};
 
 use fast_check_syntax::Tree;
 
@@ -14,13 +15,14 @@ use fast_check_syntax::Tree;
 /// definitions, and so of what `transform` answers; it does nothing when it is called. There are such modules: the
 /// example is one documented statement, and the same behind a hidden function, which is documented too, and with
 /// another value. Another one has a function and a class on both sides, of which a body, the signature of a private method
-/// and a static block differ. The modules of the last one import a name and export a function by default: what else they import
-/// from there, and the body of the function, differ.
+/// and a static block differ. The modules of the next one import a name and export a function by default: what else they import
+/// from there, and the body of the function, differ. Those of the last one have a namespace, in which a statement differs.
 pub fn two_worlds(first: &Tree, second: &Tree)
     ensures law { (a : Surroundings) (c : Comments) (b : Surroundings) (d : Comments) → TwoWorlds a first.now c b second.now d }
     ensures not_empty { Example }
     ensures of_classes { ClassExample }
     ensures of_modules { ModuleExample }
+    ensures of_namespaces { NamespaceExample }
 {
     let _ = first;
     let _ = second;

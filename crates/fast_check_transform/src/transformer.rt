@@ -5,6 +5,7 @@ ghost use Rattle.fast_check_skeleton.specs.Grammar.{IsSkeleton};
 ghost use Rattle.fast_check_skeleton.specs.KeptComments.{removed_starts, without_all_leading};
 ghost use Rattle.fast_check_tables.specs.MediaType.{is_declaration};
 ghost use Rattle.fast_check_modules.specs.EsModule.{Admits};
+ghost use Rattle.fast_check_bindings.specs.Bindings.{bindings_of};
 ghost use Rattle.fast_check_links.specs.Asked.{Asked-around};
 ghost use Rattle.fast_check_transform.specs.PartAnswers.{program_answer};
 ghost use Rattle.fast_check_transform.specs.Transform.{skeleton, sources, comments, faults};

@@ -2,6 +2,7 @@ use Rattle.fast_check_skeleton.proofs.CommentsAlike.{two_worlds}
 use Rattle.fast_check_skeleton.proofs.Example.{example}
 use Rattle.fast_check_skeleton.proofs.ClassExample.{class_example}
 use Rattle.fast_check_skeleton.proofs.ModuleExample.{module_example}
+use Rattle.fast_check_skeleton.proofs.NamespaceExample.{namespace_example}
 use Rattle.fast_check_skeleton.proofs.worlds.two_worlds.Goals as goal
 
 pub returns : goal.returns
@@ -10,4 +11,5 @@ returns c = record {
   not_empty = example;
   of_classes = class_example;
   of_modules = module_example;
+  of_namespaces = namespace_example;
 }
