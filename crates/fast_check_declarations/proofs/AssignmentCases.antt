@@ -93,7 +93,7 @@ module _ (around : Surroundings) (a : Tree) where
 
 -- ---- what the symbols of a module say
 
-module _ (info : EsModule) {target : Tree} {id : Id} {symbol : Option Symbol} (s : symbol ≡ symbol_of_swc info.tables id) (e : id ≡ object_of target) where
+module _ (info : EsModule) (target : Tree) {id : Id} {symbol : Option Symbol} (s : symbol ≡ symbol_of_swc info.tables id) (e : id ≡ object_of target) where
   pub exports_are : exports_name symbol ≡ (objects_of info).exports (object_of target)
   unfolding objects_of
   exports_are = ap exports_name (s ∙ ap (symbol_of_swc info.tables) e)

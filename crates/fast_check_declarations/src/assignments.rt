@@ -4,7 +4,7 @@ ghost use Rattle.fast_check_syntax.specs.Part.{seen};
 ghost use Rattle.fast_check_expression_forms.specs.Calls.{MemberExpr-span};
 ghost use Rattle.fast_check_expression_forms.specs.Operators.{AssignExpr-span, AssignExpr-left};
 ghost use Rattle.fast_check_modules.specs.Expandos.{is_expando_assignment};
-ghost use Rattle.fast_check_signatures.specs.declared.fault.FaultKind.TheVariants as faults;
+ghost use Rattle.fast_check_signatures.specs.declared.fault.FaultKind.TheVariants as kinds;
 ghost use Rattle.fast_check_signatures.specs.Answers.{Adds, fault_at};
 ghost use Rattle.fast_check_expandos.specs.Assignments.{missing_place, kept_property};
 ghost use Rattle.fast_check_expandos.specs.Expandos.{property_name};
@@ -59,7 +59,7 @@ fn keep_property(
     properties: &mut Vec<ExpandoProperty>,
     faults: &mut Vec<Fault>,
 ) -> Result<(), AllocError>
-    requires { is_expando_assignment (seen assignment.entry) ≡ true }
+    requires { is_expando_assignment (seen assignment) ≡ true }
     ensures properties { OnOk result (properties.new.items ≡ properties.old.items ++
         kept_property (objects_of asked.entry.es_module_info.now) (AssignExpr-span (seen assignment.entry)) (AssignExpr-left (seen assignment.entry)) value) }
     ensures faults { OnOk result (faults.new.items ≡ faults.old.items ++
@@ -84,7 +84,7 @@ fn push_missing(
     faults: &mut Vec<Fault>,
 ) -> Result<(), AllocError>
     ensures { OnOk result (faults.new.items ≡ faults.old.items ++ (if exports_name (option_copied symbol.entry) (property_name (seen target.entry)) then []
-        else fault_at faults.MissingExplicitType (MemberExpr-span (seen target.entry)) ∷ [])) }
+        else fault_at kinds.MissingExplicitType (MemberExpr-span (seen target.entry)) ∷ [])) }
 {
     if exports_property(symbol, target) {
         return Ok(());

@@ -616,7 +616,6 @@ module _ (r : Renaming) (ok : IsRenaming r) where
     each_alike c m (h.SameItems.next {a = a} {b = b} {t = t} {u = u} {ts = ts} {us = us} s rest) =
         append_alike r ok (item_seen a t) (each_seen a ts) (item_seen b u) (each_seen b us) (item_alike c m s) (each_alike c m rest)
 
-
   module _ (a b : Surroundings) where
     visible_alike : (t u : Tree) → AgreeHidden r a b t u → AllAlike r ok (visible a t) (visible b u)
     visible_alike t u g =

@@ -79,6 +79,7 @@ module _ (r : Renaming) (ok : IsRenaming r) where
   module _ (a b : Surroundings) (t u : Tree) (d : SameAssignment r a b t u) where
     abbrev left : Tree
     left = AssignExpr-left t
+
     abbrev left' : Tree
     left' = AssignExpr-left u
 

@@ -112,10 +112,13 @@ module _ (bindings : Bindings) where
         let decl = var_decl none_range (record { 0 = 0 }) (tree.Word words.Var) false (list ds) in
         let same : ExportDecl-decl (exported_variables ds) ≡ decl = part_node _ _ _ in
         let decls : VarDecl-decls decl ≡ list ds = part_node _ _ _ in
-        g.IsTypedItem.plain (inr (inl (kind_of_node _ _, inl (record {
-          kind = ap kind_of same ∙ kind_of_node _ _;
-          declarators = inr (subst (OfAll (IsTypedDeclarator bindings)) (sym (ap (λ t. parts (VarDecl-decls t)) same ∙ (ap parts decls ∙ parts_node List' ds))) h);
-        }))))
+        g.IsTypedItem.plain (inr (inl (
+          kind_of_node _ _,
+          inl (record {
+            kind = ap kind_of same ∙ kind_of_node _ _;
+            declarators = inr (subst (OfAll (IsTypedDeclarator bindings)) (sym (ap (λ t. parts (VarDecl-decls t)) same ∙ (ap parts decls ∙ parts_node List' ds))) h);
+          }),
+        )))
 
     namespace_typed : (name : List ℕ) (ds : List Tree) → OfAll (IsTypedDeclarator bindings) ds →
         IsTypedNamespace bindings is_ambient (namespace_decl name ds)

@@ -197,7 +197,7 @@ fn keep_item(
     comments: &mut CommentsMut,
     faults: &mut Vec<Fault>,
 ) -> Result<Option<Tree>, AllocError>
-    requires no_assignment { is_assigned (item_rule (seen item.entry)) ≡ false }
+    requires no_assignment { is_assigned (item_rule (seen item)) ≡ false }
     ensures answer { IfOk result (λ tree. Adds (item_answer (Asked-around asked.entry) (seen item.entry)) (as_list tree) faults.old.items faults.new.items) }
     ensures comments { IfOk result (λ _.
         comments.new ≡ without_all_leading (starts_below start_look (Asked-around asked.entry) (seen item.entry) (item_rule (seen item.entry))) comments.old) }

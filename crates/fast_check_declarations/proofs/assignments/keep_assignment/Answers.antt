@@ -23,9 +23,9 @@ pub returns-then-not-is_expando_assignment-clause-answer : goal.returns-then-not
 returns-then-not-is_expando_assignment-clause-answer c =
     let around = Asked-around c.args.asked in
     let a = seen c.args.assignment in
-    tested_assignment around a (ap around.is_public (sym c.of.ensures.span) ∙ (sym c.contains.ensures ∙ c.if-not-contains.false)) c.in_ok-value.field-0
+    tested_assignment around a (ap around.is_public (sym c.of.ensures.span) ∙ (sym c.contains.ensures ∙ c.if-not-contains.false)) c.in_ok-value.value
     c.in_ok-value.ensures (c.range_of_node.ensures ∙ ap range_of_node c.of.ensures.right) c.of.ensures.right
-    (nothing_missing around a (sym c.is_expando_assignment.ensures ∙ c.if-not-is_expando_assignment.true) c.in_ok-value.field-0 c.keep_value.new.faults.items)
+    (nothing_missing around a (sym c.is_expando_assignment.ensures ∙ c.if-not-is_expando_assignment.true) c.in_ok-value.value c.keep_value.new.faults.items)
 
 pub returns-then-not-is_expando_assignment-clause-properties : goal.returns-then-not-is_expando_assignment-clause-properties
 returns-then-not-is_expando_assignment-clause-properties c =
@@ -42,7 +42,7 @@ returns-clause-answer c =
     let around = Asked-around c.args.asked in
     let a = seen c.args.assignment in
     on_ok_weaker c.keep_property.result
-    (λ f. tested_assignment around a (ap around.is_public (sym c.of.ensures.span) ∙ (sym c.contains.ensures ∙ c.if-not-contains.false)) c.in_ok-value.field-0
+    (λ f. tested_assignment around a (ap around.is_public (sym c.of.ensures.span) ∙ (sym c.contains.ensures ∙ c.if-not-contains.false)) c.in_ok-value.value
     c.in_ok-value.ensures (c.range_of_node.ensures ∙ ap range_of_node c.of.ensures.right) c.of.ensures.right f)
     c.keep_property.ensures.faults
 
@@ -53,6 +53,6 @@ returns-clause-properties c =
     on_ok_weaker c.keep_property.result
     (λ f. f ∙ ap (λ ps. c.args.properties.now.items ++ ps) (sym (property_stays around a
     (ap around.is_public (sym c.of.ensures.span) ∙ (sym c.contains.ensures ∙ c.if-not-contains.false))
-    (sym c.is_expando_assignment.ensures ∙ c.if-not-is_expando_assignment.false) c.in_ok-value.field-0 c.in_ok-value.ensures
+    (sym c.is_expando_assignment.ensures ∙ c.if-not-is_expando_assignment.false) c.in_ok-value.value c.in_ok-value.ensures
     (c.range_of_node.ensures ∙ ap range_of_node c.of.ensures.right) c.of.ensures.right)))
     c.keep_property.ensures.properties
