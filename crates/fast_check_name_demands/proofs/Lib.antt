@@ -1,0 +1,3 @@
+mod Depth
+mod Parts
+mod Turns
