@@ -1,0 +1,66 @@
+ghost use Rattle.std.specs.Prelude.{◌≡◌, ℕ, List, Option, option_map, codes, IfOk, OnOk, OnErr};
+ghost use Rattle.url.specs.Parts.{Parts};
+ghost use Rattle.fast_check_packages.specs.Package.{Nv, nv_of};
+ghost use Rattle.fast_check_cache.specs.Cache.{ItemView, IsSeed, item_of, with_item};
+
+use crate::item::FastCheckCacheItem;
+use fast_check_packages::PackageNv;
+use std::alloc::AllocError;
+use std::collections::BTreeSet;
+use url::Url;
+
+/// What a cache keeps the item of a package under.
+#[derive(Clone, Copy, Debug, PartialEq, Eq, PartialOrd, Ord, Hash)]
+pub struct FastCheckCacheKey {
+    hash: u64,
+}
+
+impl FastCheckCacheKey {
+    /// The key of a hash.
+    pub fn build(hash: u64) -> FastCheckCacheKey
+        ensures { result.hash ≡ hash }
+    {
+        FastCheckCacheKey { hash }
+    }
+
+    /// The hash of the key.
+    pub fn as_u64(&self) -> u64
+        ensures { result ≡ self.now.hash }
+    {
+        self.hash
+    }
+}
+
+/// A cache that a caller lends: a map from keys to items, a seed, and a function that hashes.
+pub trait FastCheckCache {
+    /// The items by their keys.
+    ghost stored: { Self → ℕ → Option ItemView };
+
+    /// A seed of its own.
+    ghost seed_text: { Self → List ℕ };
+
+    /// The hash of a seed, a package and its entry points.
+    ghost hash_of: { Self → List ℕ → Nv → List Parts → ℕ };
+
+    /// What hashes start from: a text that changes with the rules of fast check.
+    fn hash_seed(&self) -> &'static str
+        ensures { IsSeed (seed_text self.now) result.now }
+    {
+        "0.111.1"
+    }
+
+    /// The hash that the item of a package is kept under.
+    fn key_hash(&self, seed: &str, package_nv: &PackageNv, entrypoints: &BTreeSet<Url>) -> u64
+        ensures { result ≡ hash_of self.now seed.now (nv_of package_nv.now) entrypoints.now.keys };
+
+    /// The item under a key, None where there is none. `AllocError` where memory is wanting.
+    fn get(&self, key: FastCheckCacheKey) -> Result<Option<FastCheckCacheItem>, AllocError>
+        ensures { IfOk result (λ found. option_map item_of found ≡ stored self.now key.hash) };
+
+    /// Keeps an item under a key. Where memory is wanting, nothing changes and the item is dropped.
+    fn set(&mut self, key: FastCheckCacheKey, item: FastCheckCacheItem) -> Result<(), AllocError>
+        ensures kept { OnOk result (stored self.new ≡ with_item key.hash (item_of item) (stored self.old)) }
+        ensures err { OnErr result (stored self.new ≡ stored self.old) }
+        ensures seed { seed_text self.new ≡ seed_text self.old }
+        ensures hash { hash_of self.new ≡ hash_of self.old };
+}
