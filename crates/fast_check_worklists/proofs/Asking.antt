@@ -98,13 +98,15 @@ module _ (old new : ImportedExports) (answer : Option ImportedExports) (state : 
   plain_either : (d : NameDemand) → IsPlain d → asked state d ≡ true → (asked old d || asked new d ≡ true) ⊎ IsWide old new d
   plain_either d p h =
       ⊎_elim
-      (λ t. inl (⊎_elim (λ o. or_left (asked old d) (asked new d) (plain_asked old d p ∙ o)) (λ n. or_right (asked old d) (asked new d) (plain_asked new d p ∙ n))
+      (λ t. inl (⊎_elim (λ o. or_left (asked old d) (asked new d) (plain_asked old d p ∙ o))
+      (λ n. or_right (asked old d) (asked new d) (plain_asked new d p ∙ n))
       (or_cases (demands old d) (demands new d) t)))
       (λ w. inr (widened_wide old new d w))
       (a.of_either d (sym (plain_asked state d p) ∙ h))
 
 -- a set that has what another form has is asked for beside a set
-set_old : (old : ImportedExports) (s : NamedSubset) (new : ImportedExports) (answer : Option ImportedExports) → IsAdded old new answer (Subset s) → asked old (subset_at []) ≡ true
+set_old : (old : ImportedExports) (s : NamedSubset) (new : ImportedExports) (answer : Option ImportedExports) → IsAdded old new answer (Subset s) → asked old
+    (subset_at []) ≡ true
 set_old Star s new answer a = absurd (not_all s a.form.above_old)
 set_old StarWithDefault s new answer a = absurd (not_all s (λ part p t. a.form.above_old part p (star_below_all part p t)))
 set_old (Subset o) s new answer a = refl

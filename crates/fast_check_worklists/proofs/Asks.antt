@@ -22,6 +22,8 @@ pub map_last : {X Y : Type 0} (g : X → Y) (xs : List X) (x : X) → map g (xs 
 map_last g [] x = refl
 map_last {X} {Y} g (y ∷ ys) x = ap (λ (zs : List Y). g y ∷ zs) (map_last g ys x)
 
-pub adds_one : (nv : PackageNv) (xs new : List PackageNv) → list_any (λ seen. same_nv (nv_of nv) (nv_of seen)) xs ≡ false → new ≡ xs ++ nv ∷ [] → AddsPackage (nv_of nv) (map nv_of xs) (map nv_of new)
+pub adds_one : (nv : PackageNv) (xs new : List PackageNv) → list_any (λ seen. same_nv (nv_of nv) (nv_of seen)) xs ≡ false → new ≡ xs ++ nv ∷ [] → AddsPackage
+    (nv_of nv) (map nv_of xs) (map nv_of new)
 adds_one nv xs new h is =
-    ap (map nv_of) is ∙ (map_last nv_of xs nv ∙ sym (ap (λ (b : Bool). cond b (map nv_of xs) (map nv_of xs ++ nv_of nv ∷ [])) (any_map (same_nv (nv_of nv)) nv_of xs ∙ h)))
+    ap (map nv_of) is ∙ (map_last nv_of xs nv ∙ sym (ap (λ (b : Bool). cond b (map nv_of xs) (map nv_of xs ++ nv_of nv ∷ []))
+    (any_map (same_nv (nv_of nv)) nv_of xs ∙ h)))

@@ -48,7 +48,10 @@ falls_package u nv a b asks = record {
   distinct = λ d. distinct_more (nv_of nv) a.packages b.packages asks.2 d;
 }
 
-module _ (world : World) (roots : List Nv) (u : Universe) (is : IsUniverse world roots u) (home : Text → Option Nv) (done : List Trace) (a b : State) (kept : IsKept world roots home done a) (nv : PackageNv) (url : Parts) (x : ImportedExports) (asks : AsksModule nv url x a b) (chain : (d : NameDemand) → asked x d ≡ true → Chained world roots (of_module (nv_of nv) (serialize url) d)) (homely : IsHomely home (nv_of nv) (serialize url) x) where
+module _ (world : World) (roots : List Nv) (u : Universe) (is : IsUniverse world roots u) (home : Text → Option Nv) (done : List Trace) (a b : State)
+    (kept : IsKept world roots home done a) (nv : PackageNv) (url : Parts) (x : ImportedExports) (asks : AsksModule nv url x a b)
+    (chain : (d : NameDemand) → asked x d ≡ true → Chained world roots (of_module (nv_of nv) (serialize url) d))
+    (homely : IsHomely home (nv_of nv) (serialize url) x) where
   abbrev t : Text
   t = serialize url
 
@@ -98,7 +101,8 @@ module _ (world : World) (roots : List Nv) (u : Universe) (is : IsUniverse world
       total_less before after u.texts t each_le ((inside world roots u is (of_module (nv_of nv) t some.0) (chain some.0 some.1)).0)
       (omega (arith, at_state, here_less y at (handled_at a t) refl))
 
-  waits_one : (y : ImportedExports) (o : Option (PackageNv × ImportedExports)) → WaitsAt o a.waiting nv url y b.waiting → length b.waiting ≤ length a.waiting + 1
+  waits_one : (y : ImportedExports) (o : Option (PackageNv × ImportedExports)) → WaitsAt o a.waiting nv url y b.waiting →
+      length b.waiting ≤ length a.waiting + 1
   waits_one y None h = omega (arith, ap length h, length-append a.waiting ((url, (nv, y)) ∷ []))
   waits_one y (Some held) h = omega (arith, ap length h.3, length-set_value (is_module url) a.waiting (held.0, h.0))
 

@@ -1,5 +1,6 @@
 -- What holds is kept as names of a module and packages are asked for.
-use Rattle.std.proofs.Common.{◌≡◌, ◌∙◌, sym, ap, refl, subst, ◌≤◌, Bool, true, false, cond, ◌&&◌, List, [], ◌∷◌, ◌++◌, Option, Some, None, length, take, ◌⊎◌, inl, inr, ⊎_elim, arith, length-append}
+use Rattle.std.proofs.Common.{◌≡◌, ◌∙◌, sym, ap, refl, subst, ◌≤◌, Bool, true, false, cond, ◌&&◌, List, [], ◌∷◌, ◌++◌, Option, Some, None, length, take, ◌⊎◌}
+use Rattle.std.proofs.Common.{inl, inr, ⊎_elim, arith, length-append}
 use Rattle.std.specs.List.{list_any, Contains}
 use Rattle.std.specs.Str.{bytes_eq}
 use Rattle.std.proofs.lemmas.Bool.{cases_Bool, or_left, or_right, or_cases}
@@ -24,17 +25,23 @@ use Rattle.fast_check_worklists.proofs.Waiting.{IsWaiting, IsMerged, waiting}
 use Rattle.fast_check_worklists.proofs.Asking.{IsWide}
 use Rattle.fast_check_worklists.proofs.Widen.{widened_new, widened_somewhere, widened_same}
 
-more_joined : (xs a b : List Trace) (t : Text) (part : Part) (p : Path) → (joined a t part p ≡ true → joined b t part p ≡ true) → joined (xs ++ a) t part p ≡ true → joined (xs ++ b) t part p ≡ true
+more_joined : (xs a b : List Trace) (t : Text) (part : Part) (p : Path) → (joined a t part p ≡ true → joined b t part p ≡ true) → joined (xs ++ a) t part p
+    ≡ true → joined (xs ++ b) t part p ≡ true
 more_joined xs a b t part p f h =
     let g : Trace → Bool = λ x. is_of t x && imported x.exports part p in
-    list_any-append g xs b ∙ ⊎_elim (λ l. or_left (list_any g xs) (list_any g b) l) (λ r. or_right (list_any g xs) (list_any g b) (f r)) (or_cases (list_any g xs) (list_any g a) (sym (list_any-append g xs a) ∙ h))
+    list_any-append g xs b ∙ ⊎_elim (λ l. or_left (list_any g xs) (list_any g b) l) (λ r. or_right (list_any g xs) (list_any g b) (f r))
+    (or_cases (list_any g xs) (list_any g a) (sym (list_any-append g xs a) ∙ h))
 
-more_some : (xs a b : List Trace) (t : Text) → (list_any (is_of t) a ≡ true → list_any (is_of t) b ≡ true) → list_any (is_of t) (xs ++ a) ≡ true → list_any (is_of t) (xs ++ b) ≡ true
+more_some : (xs a b : List Trace) (t : Text) → (list_any (is_of t) a ≡ true → list_any (is_of t) b ≡ true) → list_any (is_of t) (xs ++ a) ≡ true → list_any
+    (is_of t) (xs ++ b) ≡ true
 more_some xs a b t f h =
-    list_any-append (is_of t) xs b ∙ ⊎_elim (λ l. or_left (list_any (is_of t) xs) (list_any (is_of t) b) l) (λ r. or_right (list_any (is_of t) xs) (list_any (is_of t) b) (f r)) (or_cases (list_any (is_of t) xs) (list_any (is_of t) a) (sym (list_any-append (is_of t) xs a) ∙ h))
+    list_any-append (is_of t) xs b ∙ ⊎_elim (λ l. or_left (list_any (is_of t) xs) (list_any (is_of t) b) l)
+    (λ r. or_right (list_any (is_of t) xs) (list_any (is_of t) b) (f r)) (or_cases (list_any (is_of t) xs) (list_any (is_of t) a)
+    (sym (list_any-append (is_of t) xs a) ∙ h))
 
 back_joined : (xs b : List Trace) (t : Text) (part : Part) (p : Path) → joined b t part p ≡ true → joined (xs ++ b) t part p ≡ true
-back_joined xs b t part p h = let g : Trace → Bool = λ x. is_of t x && imported x.exports part p in list_any-append g xs b ∙ or_right (list_any g xs) (list_any g b) h
+back_joined xs b t part p h = let g : Trace → Bool = λ x. is_of t x && imported x.exports part p in list_any-append g xs b ∙ or_right (list_any g xs)
+    (list_any g b) h
 
 back_some : (xs b : List Trace) (t : Text) → list_any (is_of t) b ≡ true → list_any (is_of t) (xs ++ b) ≡ true
 back_some xs b t h = list_any-append (is_of t) xs b ∙ or_right (list_any (is_of t) xs) (list_any (is_of t) b) h
@@ -48,7 +55,9 @@ none_some : {X : Type 0} (x : X) → None ≡ Some x → ⊥
 none_some x e = cc
 
 module _ (world : World) (roots : List Nv) (home : Text → Option Nv) (done : List Trace) (a b : State) (kept : IsKept world roots home done a) where
-  module _ (nv : PackageNv) (url : Parts) (x : ImportedExports) (asks : AsksModule nv url x a b) (chain : (d : NameDemand) → asked x d ≡ true → Chained world roots (of_module (nv_of nv) (serialize url) d)) (homely : IsHomely home (nv_of nv) (serialize url) x) where
+  module _ (nv : PackageNv) (url : Parts) (x : ImportedExports) (asks : AsksModule nv url x a b)
+      (chain : (d : NameDemand) → asked x d ≡ true → Chained world roots (of_module (nv_of nv) (serialize url) d))
+      (homely : IsHomely home (nv_of nv) (serialize url) x) where
     abbrev t : Text
     t = serialize url
 
@@ -85,7 +94,8 @@ module _ (world : World) (roots : List Nv) (home : Text → Option Nv) (done : L
         (λ r. widened_new world roots t p r.0 x d r.2 chain (kept.handled t r.0 r.1) (λ s. not_all y e (r.1 ∙ ap Some s)))
         (k.of_new y e d h)
 
-    chain_merged : (y : ImportedExports) → answer ≡ Some y → (z : Trace) → IsMerged p t y (waiting_of a) z → (d : NameDemand) → asked z.exports d ≡ true → Chained world roots (of_module z.nv z.specifier d)
+    chain_merged : (y : ImportedExports) → answer ≡ Some y → (z : Trace) → IsMerged p t y (waiting_of a) z → (d : NameDemand) → asked z.exports d ≡ true →
+        Chained world roots (of_module z.nv z.specifier d)
     chain_merged y e z m d h =
         subst (λ (q : Nv). Chained world roots (of_module q z.specifier d)) (sym m.nv_is)
         (subst (λ (u : Text). Chained world roots (of_module p u d)) (sym m.text_is)
@@ -99,11 +109,13 @@ module _ (world : World) (roots : List Nv) (home : Text → Option Nv) (done : L
         ⊎_elim (λ g. before d g) (λ g. (chain_both r.0.exports y d g before (chain_new y e))) r.3)
         (m.of_either d h)))
       where
-        chain_both : (h y : ImportedExports) (d : NameDemand) → IsWide h y d → ((c : NameDemand) → asked h c ≡ true → Chained world roots (of_module p t c)) → ((c : NameDemand) → asked y c ≡ true → Chained world roots (of_module p t c)) → Chained world roots (of_module p t d)
+        chain_both : (h y : ImportedExports) (d : NameDemand) → IsWide h y d → ((c : NameDemand) → asked h c ≡ true → Chained world roots (of_module p t c))
+            → ((c : NameDemand) → asked y c ≡ true → Chained world roots (of_module p t c)) → Chained world roots (of_module p t d)
         chain_both h y d g f n = widened_same world roots t p h y d g n f
 
     -- what was handled stays
-    more_handled : (q : Text) (h : ImportedExports) → handled_at a q ≡ Some h → (y : ImportedExports) × (handled_at b q ≡ Some y) × IsBelow (imported h) (imported y)
+    more_handled : (q : Text) (h : ImportedExports) → handled_at a q ≡ Some h → (y : ImportedExports) × (handled_at b q ≡ Some y) × IsBelow (imported h)
+        (imported y)
     more_handled q h e =
         ⊎_elim
         (λ same.
@@ -116,7 +128,8 @@ module _ (world : World) (roots : List Nv) (home : Text → Option Nv) (done : L
     all_stays q e = let m = more_handled q StarWithDefault e in m.1 ∙ ap Some (only_all m.0 m.2)
 
     -- by cases: what is handled of this module, or of another
-    here_or : (P : ImportedExports → Type 0) (q : Text) (y : ImportedExports) → handled_at b q ≡ Some y → (t ≡ q → P k.state) → (handled_at a q ≡ Some y → P y) → P y
+    here_or : (P : ImportedExports → Type 0) (q : Text) (y : ImportedExports) → handled_at b q ≡ Some y → (t ≡ q → P k.state) →
+        (handled_at a q ≡ Some y → P y) → P y
     here_or P q y e f g =
         ⊎_elim
         (λ same. let is : t ≡ q = (bytes_eq-Decides t q).0 same in subst P (some_is k.state y (sym k.now ∙ (ap (handled_at b) is ∙ e))) (f is))
@@ -136,14 +149,16 @@ module _ (world : World) (roots : List Nv) (home : Text → Option Nv) (done : L
         go None e = let h = k.none_old e in more_some done (waiting_of a) (waiting_of b) t (w.some t) (kept.some t h.0 h.1)
         go (Some y) e = back_some done (waiting_of b) t (w.some_new y e)
 
-    below_old : (z : Trace) → Contains (done ++ waiting_of a) z → (y : ImportedExports) × (handled_at b z.specifier ≡ Some y) × IsBelow (imported z.exports) (imported y)
+    below_old : (z : Trace) → Contains (done ++ waiting_of a) z → (y : ImportedExports) × (handled_at b z.specifier ≡ Some y) × IsBelow (imported z.exports)
+        (imported y)
     below_old z c =
         let o = kept.below z c in
         let m = more_handled z.specifier o.0 o.1 in
         (m.0, m.1, λ part r g. m.2 part r (o.2 part r g))
 
     -- each trace is an old one, or a merged one
-    cases_of : (z : Trace) → Contains (done ++ waiting_of b) z → Contains (done ++ waiting_of a) z ⊎ ((y : ImportedExports) × (answer ≡ Some y) × IsMerged p t y (waiting_of a) z)
+    cases_of : (z : Trace) → Contains (done ++ waiting_of b) z → Contains (done ++ waiting_of a) z ⊎
+        ((y : ImportedExports) × (answer ≡ Some y) × IsMerged p t y (waiting_of a) z)
     cases_of z c =
         ⊎_elim (λ l. inl (Contains-append_left done (waiting_of a) z l))
         (λ r. ⊎_elim (λ o. inl (old_waits z o)) (λ n. inr n) (w.each z r))
@@ -182,7 +197,8 @@ module _ (world : World) (roots : List Nv) (home : Text → Option Nv) (done : L
           (λ n.
           let m = n.2 in
           ⊎_elim (λ h. inl (ap home m.text_is ∙ (h ∙ ap Some (sym m.nv_is))))
-          (λ h. inr (ap (handled_at b) m.text_is ∙ (k.now ∙ ap Some (only_all k.state (subst (λ (v : ImportedExports). IsBelow (imported v) (imported k.state)) h.0 k.above_new)))))
+          (λ h. inr (ap (handled_at b) m.text_is ∙ (k.now ∙ ap Some (only_all k.state
+          (subst (λ (v : ImportedExports). IsBelow (imported v) (imported k.state)) h.0 k.above_new)))))
           homely.at)
           (w.each z c);
     }
@@ -202,7 +218,8 @@ module _ (world : World) (roots : List Nv) (home : Text → Option Nv) (done : L
     either_way : (P : List Nv → Type 0) → (list_any (same_nv (nv_of nv)) a.packages ≡ true → P a.packages) → P (a.packages ++ nv_of nv ∷ []) → P b.packages
     either_way P f g =
         subst P (sym asks.2)
-        (⊎_elim (λ t. subst (λ (c : Bool). P (cond c a.packages (a.packages ++ nv_of nv ∷ []))) (sym t) (f t)) (λ n. subst (λ (c : Bool). P (cond c a.packages (a.packages ++ nv_of nv ∷ []))) (sym n) g)
+        (⊎_elim (λ t. subst (λ (c : Bool). P (cond c a.packages (a.packages ++ nv_of nv ∷ []))) (sym t) (f t))
+        (λ n. subst (λ (c : Bool). P (cond c a.packages (a.packages ++ nv_of nv ∷ []))) (sym n) g)
         (cases_Bool (list_any (same_nv (nv_of nv)) a.packages)))
 
     same_state : (P : State → Type 0) → P (record { handled = a.handled; waiting = a.waiting; packages = b.packages }) → P b
@@ -214,7 +231,9 @@ module _ (world : World) (roots : List Nv) (home : Text → Option Nv) (done : L
     kept_package =
         same_state (IsKept world roots home done)
         (record {
-          packages = either_way (λ ps. (q : Nv) → Contains ps q → Chained world roots (of_package q)) (λ t. kept.packages) (λ q c. ⊎_elim (kept.packages q) (λ e. subst (λ (r : Nv). Chained world roots (of_package r)) e chain) (Contains-push_cases a.packages (nv_of nv) q c));
+          packages = either_way (λ ps. (q : Nv) → Contains ps q → Chained world roots (of_package q)) (λ t. kept.packages)
+              (λ q c. ⊎_elim (kept.packages q) (λ e. subst (λ (r : Nv). Chained world roots (of_package r)) e chain)
+              (Contains-push_cases a.packages (nv_of nv) q c));
           traces = kept.traces;
           handled = kept.handled;
           some = kept.some;
@@ -228,7 +247,8 @@ module _ (world : World) (roots : List Nv) (home : Text → Option Nv) (done : L
         same_state (IsMore a)
         (record {
           handled = λ q h e. (h, e, λ part r g. g);
-          packages = λ q h. either_way (λ ps. list_any (same_nv q) ps ≡ true) (λ t. h) (list_any-append (same_nv q) a.packages (nv_of nv ∷ []) ∙ or_left (list_any (same_nv q) a.packages) (list_any (same_nv q) (nv_of nv ∷ [])) h);
+          packages = λ q h. either_way (λ ps. list_any (same_nv q) ps ≡ true) (λ t. h)
+              (list_any-append (same_nv q) a.packages (nv_of nv ∷ []) ∙ or_left (list_any (same_nv q) a.packages) (list_any (same_nv q) (nv_of nv ∷ [])) h);
           longer = either_way (λ ps. length a.packages ≤ length ps) (λ t. omega arith) (omega (arith, length-append a.packages (nv_of nv ∷ [])));
           front = λ n le. either_way (λ ps. take n ps ≡ take n a.packages) (λ t. refl) (take-append-le n a.packages (nv_of nv ∷ []) le);
         })
@@ -236,4 +256,5 @@ module _ (world : World) (roots : List Nv) (home : Text → Option Nv) (done : L
     pub asked_package : ((q : Nv) → same_nv q q ≡ true) → list_any (same_nv (nv_of nv)) b.packages ≡ true
     asked_package itself =
         either_way (λ ps. list_any (same_nv (nv_of nv)) ps ≡ true) (λ t. t)
-        (list_any-append (same_nv (nv_of nv)) a.packages (nv_of nv ∷ []) ∙ or_right (list_any (same_nv (nv_of nv)) a.packages) (list_any (same_nv (nv_of nv)) (nv_of nv ∷ [])) (or_left (same_nv (nv_of nv) (nv_of nv)) false (itself (nv_of nv))))
+        (list_any-append (same_nv (nv_of nv)) a.packages (nv_of nv ∷ []) ∙ or_right (list_any (same_nv (nv_of nv)) a.packages)
+        (list_any (same_nv (nv_of nv)) (nv_of nv ∷ [])) (or_left (same_nv (nv_of nv) (nv_of nv)) false (itself (nv_of nv))))

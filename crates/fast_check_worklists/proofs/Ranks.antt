@@ -27,19 +27,32 @@ cost_max false = omega arith
 
 missing_le : (f g : NameSet) (ps : List Path) → IsBelow f g → missing g ps ≤ missing f ps
 missing_le f g [] h = omega arith
-missing_le f g (p ∷ ps) h = omega (arith, cost_le (f Touched p) (g Touched p) (h Touched p), cost_le (f Covered p) (g Covered p) (h Covered p), missing_le f g ps h)
+missing_le f g (p ∷ ps) h = omega (
+  arith,
+  cost_le (f Touched p) (g Touched p) (h Touched p),
+  cost_le (f Covered p) (g Covered p)
+      (h Covered p),
+  missing_le f g ps h,
+)
 
 missing_max : (f : NameSet) (ps : List Path) → missing f ps ≤ length ps + length ps
 missing_max f [] = omega arith
 missing_max f (p ∷ ps) = omega (arith, cost_max (f Touched p), cost_max (f Covered p), missing_max f ps)
 
-missing_less : (f g : NameSet) (ps : List Path) (part : Part) (p : Path) → IsBelow f g → Contains ps p → f part p ≡ false → g part p ≡ true → missing g ps < missing f ps
+missing_less : (f g : NameSet) (ps : List Path) (part : Part) (p : Path) → IsBelow f g → Contains ps p → f part p ≡ false → g part p ≡ true →
+    missing g ps < missing f ps
 missing_less f g [] part p h c lacks has = absurd (none_in p c)
 missing_less f g (q ∷ ps) part p h c lacks has =
     ⊎_elim
     (λ e.
     here part (subst (λ (r : Path). f part r ≡ false) (sym e) lacks) (subst (λ (r : Path). g part r ≡ true) (sym e) has))
-    (λ r. omega (arith, cost_le (f Touched q) (g Touched q) (h Touched q), cost_le (f Covered q) (g Covered q) (h Covered q), missing_less f g ps part p h r lacks has))
+    (λ r. omega (
+      arith,
+      cost_le (f Touched q) (g Touched q) (h Touched q),
+      cost_le (f Covered q) (g Covered q)
+          (h Covered q),
+      missing_less f g ps part p h r lacks has,
+    ))
     (split_in q p ps c)
   where
     here : (part : Part) → f part q ≡ false → g part q ≡ true → missing g (q ∷ ps) < missing f (q ∷ ps)
@@ -98,7 +111,8 @@ new_one y h more = go more.0 more.1 more.2 more.3
           demand = whole_at w.0;
           has = w.3;
           within = λ ps c. c;
-          lacks = ⊎_elim (λ c. absurd (false≢true (sym l ∙ (ap (paths h part) w.2 ∙ covers_more h w.0 w.1 part c)))) (λ f. f) (cases_Bool (paths h Covered w.0));
+          lacks = ⊎_elim (λ c. absurd (false≢true (sym l ∙ (ap (paths h part) w.2 ∙ covers_more h w.0 w.1 part c)))) (λ f. f)
+              (cases_Bool (paths h Covered w.0));
           holds = whole_covered (paths y) w.0 w.3;
         }
 
@@ -119,7 +133,8 @@ new_one y h more = go more.0 more.1 more.2 more.3
         (cases_Bool (paths y Covered (n ∷ p)))
 
 -- where something is new, less can be new
-pub rank_falls : (ps : List Path) (h y s : ImportedExports) → IsBelow (imported h) (imported s) → IsBelow (imported y) (imported s) → HasMore (imported y) (imported h) → ((d : NameDemand) → asked y d ≡ true → IsWithin ps d) → rank ps (Some s) < rank ps (Some h)
+pub rank_falls : (ps : List Path) (h y s : ImportedExports) → IsBelow (imported h) (imported s) → IsBelow (imported y) (imported s) → HasMore (imported y)
+    (imported h) → ((d : NameDemand) → asked y d ≡ true → IsWithin ps d) → rank ps (Some s) < rank ps (Some h)
 rank_falls ps StarWithDefault y s a b more within = absurd (false≢true (sym more.3 ∙ new_above y more.0 more.1 more.2))
 rank_falls ps Star y Star a b more within = absurd (false≢true (sym more.3 ∙ b more.0 more.1 more.2))
 rank_falls ps Star y StarWithDefault a b more within = omega arith
@@ -140,4 +155,5 @@ total_le f g (x ∷ xs) h = omega (arith, h x, total_le f g xs h)
 pub total_less : {X : Type 0} (f g : X → ℕ) (xs : List X) (y : X) → ((x : X) → g x ≤ f x) → Contains xs y → g y < f y → total g xs < total f xs
 total_less f g [] y h c lt = absurd (none_in y c)
 total_less {X} f g (x ∷ xs) y h c lt =
-    ⊎_elim (λ e. let l : g x < f x = subst (λ (z : X). g z < f z) (sym e) lt in omega (arith, l, total_le f g xs h)) (λ r. omega (arith, h x, total_less f g xs y h r lt)) (split_in x y xs c)
+    ⊎_elim (λ e. let l : g x < f x = subst (λ (z : X). g z < f z) (sym e) lt in omega (arith, l, total_le f g xs h))
+    (λ r. omega (arith, h x, total_less f g xs y h r lt)) (split_in x y xs c)

@@ -6,7 +6,8 @@ use Rattle.std.proofs.lemmas.Slice.Eq.{bytes_eq-Decides}
 use Rattle.fast_check_names.specs.declared.lattice.named_subset.NamedSubset.{NamedSubset}
 use Rattle.fast_check_names.specs.declared.lattice.imported_exports.ImportedExports.{ImportedExports}
 use Rattle.fast_check_names.specs.declared.lattice.imported_exports.ImportedExports.TheVariants.{Star, StarWithDefault, Subset}
-use Rattle.fast_check_names.specs.Names.{Name, Path, Part, Touched, Covered, NameSet, paths, whole_below, whole_path, named, has_subset, has_whole, IsBelow, IsClosed}
+use Rattle.fast_check_names.specs.Names.{Name, Path, Part, Touched, Covered, NameSet, paths, whole_below, whole_path, named, has_subset, has_whole, IsBelow}
+use Rattle.fast_check_names.specs.Names.{IsClosed}
 use Rattle.fast_check_names.specs.Paths.{paths_opened_nil}
 use Rattle.fast_check_names.specs.Shapes.{own_set}
 use Rattle.fast_check_names.specs.Imports.{default_name, all_but_default, all_names, imported, NameDemand, names_but_default, each_name, subset_at, whole_at}
@@ -96,7 +97,8 @@ default_in x each_name s h = h Touched (default_name ∷ []) refl
 default_in x (subset_at []) s h = absurd s
 default_in x (subset_at (n ∷ q)) s h = h Touched (default_name ∷ []) (and_from (bytes_eq n default_name) true (flip default_name n s) refl)
 default_in x (whole_at []) s h = absurd s
-default_in x (whole_at (n ∷ q)) s h = h Touched (default_name ∷ []) (and_from (bytes_eq n default_name) (whole_below q Touched []) (flip default_name n s) (whole_start q))
+default_in x (whole_at (n ∷ q)) s h = h Touched (default_name ∷ []) (and_from (bytes_eq n default_name) (whole_below q Touched []) (flip default_name n s)
+    (whole_start q))
   where
     whole_start : (q : Path) → whole_below q Touched [] ≡ true
     whole_start [] = refl

@@ -1,5 +1,6 @@
 -- The turns of the search, from its beginning to an account.
-use Rattle.std.proofs.Common.{◌≡◌, ◌∙◌, sym, ap, refl, subst, ℕ, ◌+◌, ◌<◌, ◌≤◌, Bool, true, ◌&&◌, List, [], ◌∷◌, ◌++◌, Option, Some, None, map, length, take, get_or, ◌⊎◌, inl, inr, ⊎_elim, arith, append-nil, append_assoc}
+use Rattle.std.proofs.Common.{◌≡◌, ◌∙◌, sym, ap, refl, subst, ℕ, ◌+◌, ◌<◌, ◌≤◌, Bool, true, ◌&&◌, List, [], ◌∷◌, ◌++◌, Option, Some, None, map, length, take}
+use Rattle.std.proofs.Common.{get_or, ◌⊎◌, inl, inr, ⊎_elim, arith, append-nil, append_assoc}
 use Rattle.std.specs.List.{list_any, Contains, flat_map}
 use Rattle.std.specs.Cmp.{eq_by_cmp_equiv}
 use Rattle.std.proofs.lemmas.Bool.{false≢true, or_left, or_right, or_cases}
@@ -17,7 +18,8 @@ use Rattle.fast_check_names.proofs.Forms.{least_all}
 use Rattle.fast_check_demands.specs.Demands.{Demand as SymbolDemand}
 use Rattle.fast_check_worklists.specs.declared.asked.Step.{Step}
 use Rattle.fast_check_worklists.specs.declared.asked.Step.TheVariants.{Package as PackageStep, Module as ModuleStep}
-use Rattle.fast_check_worklists.specs.Demands.{Text, Wanted, same_nv, asked, one, Want, to_package, to_module, to_symbol, Demand, of_package, of_module, of_symbol}
+use Rattle.fast_check_worklists.specs.Demands.{Text, Wanted, same_nv, asked, one, Want, to_package, to_module, to_symbol, Demand, of_package, of_module}
+use Rattle.fast_check_worklists.specs.Demands.{of_symbol}
 use Rattle.fast_check_worklists.specs.Demands.{World, Gives, Follows}
 use Rattle.fast_check_worklists.specs.Account.{Trace, Followed, Account, HasIn, Has, traces_of, Chained, step, is_of, joined, IsSymbolMet, IsCovered}
 use Rattle.fast_check_worklists.specs.Account.{IsWidening, IsAccount, IsYield}
@@ -84,7 +86,8 @@ module _ (world : World) (roots : List Nv) (u : Universe) (is_universe : IsUnive
     }
       where
         by_package : (e : Demand) → Gives (to_package (nv_of nv)) e → IsAsked b e
-        by_package (of_package p) g = subst (λ (q : Nv). list_any (same_nv q) b.packages ≡ true) g (asked_package world roots home done a b kept nv asks fair same_self)
+        by_package (of_package p) g = subst (λ (q : Nv). list_any (same_nv q) b.packages ≡ true) g
+            (asked_package world roots home done a b kept nv asks fair same_self)
         by_package (of_module p t d) g = absurd g
         by_package (of_symbol p t d) g = absurd g
     one_step (ModuleStep nv url x) a b kept fair asks = record {
@@ -104,7 +107,8 @@ module _ (world : World) (roots : List Nv) (u : Universe) (is_universe : IsUnive
             let m = asked_module world roots home done a b kept nv url x asks fair.0 homely in
             (m.0, ap (handled_at b) (sym g.1) ∙ m.1, λ part r h. m.2 part r (one_in x d g.2 part r h))
 
-    all_steps : (steps : List Step) (a b : State) → IsKept world roots home done a → ((w : Want) → Contains (map want_of steps) w → IsFair home w) → AsksAll steps a b → IsAfter home done a b (map want_of steps)
+    all_steps : (steps : List Step) (a b : State) → IsKept world roots home done a → ((w : Want) → Contains (map want_of steps) w → IsFair home w) →
+        AsksAll steps a b → IsAfter home done a b (map want_of steps)
     all_steps [] a b kept fair asks = record {
       kept = subst (IsKept world roots home done) (sym asks) kept;
       more = subst (IsMore a) (sym asks) (more_self a);
@@ -119,11 +123,13 @@ module _ (world : World) (roots : List Nv) (u : Universe) (is_universe : IsUnive
           more = more_then a asks.0 b first.more rest.more;
           falls = falls_then u a asks.0 b first.falls rest.falls;
           asked = λ w c e g.
-              ⊎_elim (λ here. asked_more asks.0 b rest.more e (first.asked w (subst (λ (v : Want). Contains (v ∷ []) w) (sym here) (first_in w [])) e g)) (λ there. rest.asked w there e g) (split_in (want_of s) w (map want_of steps) c);
+              ⊎_elim (λ here. asked_more asks.0 b rest.more e (first.asked w (subst (λ (v : Want). Contains (v ∷ []) w) (sym here) (first_in w [])) e g))
+              (λ there. rest.asked w there e g) (split_in (want_of s) w (map want_of steps) c);
         }
 
   -- the first trace that waits is followed next
-  popped : (home : Text → Option Nv) (done : List Trace) (a b : State) (x : Trace) → IsKept world roots home done a → waiting_of a ≡ waiting_of b ++ x ∷ [] → b.handled ≡ a.handled → b.packages ≡ a.packages → IsKept world roots home (done ++ x ∷ []) b
+  popped : (home : Text → Option Nv) (done : List Trace) (a b : State) (x : Trace) → IsKept world roots home done a → waiting_of a ≡ waiting_of b ++ x ∷ [] →
+      b.handled ≡ a.handled → b.packages ≡ a.packages → IsKept world roots home (done ++ x ∷ []) b
   popped home done a b x kept is same_handled same_packages = record {
     packages = λ p c. kept.packages p (subst (λ (ps : List Nv). Contains ps p) same_packages c);
     traces = λ z c. kept.traces z (back z c);
@@ -131,17 +137,21 @@ module _ (world : World) (roots : List Nv) (u : Universe) (is_universe : IsUnive
     some = λ t y e. any_same (is_of t) (kept.some t y (at_a t ∙ e));
     held = λ t y e part p h. any_same (λ z. is_of t z && imported z.exports part p) (kept.held t y (at_a t ∙ e) part p h);
     below = λ z c. let m = kept.below z (back z c) in (m.0, sym (at_a z.specifier) ∙ m.1, m.2);
-    homes = λ z c. ⊎_elim (λ h. inl h) (λ h. inr (sym (at_a z.specifier) ∙ h)) (kept.homes z (subst (λ (zs : List Trace). Contains zs z) (sym is) (Contains-append_left (waiting_of b) (x ∷ []) z c)));
+    homes = λ z c. ⊎_elim (λ h. inl h) (λ h. inr (sym (at_a z.specifier) ∙ h)) (kept.homes z
+        (subst (λ (zs : List Trace). Contains zs z) (sym is) (Contains-append_left (waiting_of b) (x ∷ []) z c)));
   }
     where
       at_a : (t : Text) → handled_at a t ≡ handled_at b t
-      at_a t = ap (λ (hs : List (Parts × ImportedExports)). handled_at (record { handled = hs; waiting = a.waiting; packages = a.packages }) t) (sym same_handled)
+      at_a t = ap (λ (hs : List (Parts × ImportedExports)). handled_at (record { handled = hs; waiting = a.waiting; packages = a.packages }) t)
+          (sym same_handled)
 
       back : (z : Trace) → Contains ((done ++ x ∷ []) ++ waiting_of b) z → Contains (done ++ waiting_of a) z
       back z c =
           subst (λ (ws : List Trace). Contains (done ++ ws) z) (sym is)
           (⊎_elim
-          (λ l. ⊎_elim (λ d. Contains-append_left done (waiting_of b ++ x ∷ []) z d) (λ n. Contains-append_right done (waiting_of b ++ x ∷ []) z (Contains-append_right (waiting_of b) (x ∷ []) z n)) (Contains-append_cases done (x ∷ []) z l))
+          (λ l. ⊎_elim (λ d. Contains-append_left done (waiting_of b ++ x ∷ []) z d)
+          (λ n. Contains-append_right done (waiting_of b ++ x ∷ []) z (Contains-append_right (waiting_of b) (x ∷ []) z n))
+          (Contains-append_cases done (x ∷ []) z l))
           (λ r. Contains-append_right done (waiting_of b ++ x ∷ []) z (Contains-append_left (waiting_of b) (x ∷ []) z r))
           (Contains-append_cases (done ++ x ∷ []) (waiting_of b) z c))
 
@@ -149,10 +159,12 @@ module _ (world : World) (roots : List Nv) (u : Universe) (is_universe : IsUnive
       any_same f h =
           let g : list_any f (done ++ (waiting_of b ++ x ∷ [])) ≡ true = subst (λ (ws : List Trace). list_any f (done ++ ws) ≡ true) is h in
           list_any-append f (done ++ x ∷ []) (waiting_of b)
-          ∙ ⊎_elim (λ l. or_left (list_any f (done ++ x ∷ [])) (list_any f (waiting_of b)) (list_any-append f done (x ∷ []) ∙ or_left (list_any f done) (list_any f (x ∷ [])) l))
+          ∙ ⊎_elim (λ l. or_left (list_any f (done ++ x ∷ [])) (list_any f (waiting_of b))
+          (list_any-append f done (x ∷ []) ∙ or_left (list_any f done) (list_any f (x ∷ [])) l))
           (λ r.
           ⊎_elim (λ w. or_right (list_any f (done ++ x ∷ [])) (list_any f (waiting_of b)) w)
-          (λ n. or_left (list_any f (done ++ x ∷ [])) (list_any f (waiting_of b)) (list_any-append f done (x ∷ []) ∙ or_right (list_any f done) (list_any f (x ∷ [])) n))
+          (λ n. or_left (list_any f (done ++ x ∷ [])) (list_any f (waiting_of b)) (list_any-append f done (x ∷ []) ∙ or_right (list_any f done)
+          (list_any f (x ∷ [])) n))
           (or_cases (list_any f (waiting_of b)) (list_any f (x ∷ [])) (sym (list_any-append f (waiting_of b) (x ∷ [])) ∙ r)))
           (or_cases (list_any f done) (list_any f (waiting_of b ++ x ∷ [])) (sym (list_any-append f done (waiting_of b ++ x ∷ [])) ∙ g))
 
@@ -201,7 +213,12 @@ module _ (world : World) (roots : List Nv) (u : Universe) (is_universe : IsUnive
 
       more_mid : IsMore a mid
       more_mid = record {
-        handled = λ t y e. (y, ap (λ (hs : List (Parts × ImportedExports)). handled_at (record { handled = hs; waiting = a.waiting; packages = a.packages }) t) same_handled ∙ e, λ part p h. h);
+        handled = λ t y e. (
+          y,
+          ap (λ (hs : List (Parts × ImportedExports)). handled_at
+              (record { handled = hs; waiting = a.waiting; packages = a.packages }) t) same_handled ∙ e,
+          λ part p h. h,
+        );
         packages = λ p h. subst (λ (ps : List Nv). list_any (same_nv p) ps ≡ true) (sym same_packages) h;
         longer = omega (arith, ap length same_packages);
         front = λ n le. ap (take n) same_packages;
@@ -250,7 +267,8 @@ module _ (world : World) (roots : List Nv) (u : Universe) (is_universe : IsUnive
           by_want (to_symbol p t s) c (of_module q v e) g = absurd g
           by_want (to_symbol p t s) c (of_symbol q v e) g = tt
 
-      older : (e : Demand) → Has (record { packages = take next a.packages; followed = done }) e → Has (record { packages = take next b.packages; followed = now }) e
+      older : (e : Demand) → Has (record { packages = take next a.packages; followed = done }) e → Has
+          (record { packages = take next b.packages; followed = now }) e
       older (of_package p) h = subst (λ (ps : List Nv). Contains ps p) (sym (more.front next way.reached)) h
       older (of_module nv t d) h = (h.0, Contains-append_left done (new ∷ []) h.0 h.1, h.2)
       older (of_symbol nv t s) h = (h.0, Contains-append_left done (new ∷ []) h.0 h.1, h.2)
@@ -276,7 +294,8 @@ module _ (world : World) (roots : List Nv) (u : Universe) (is_universe : IsUnive
               (λ r. Contains-append_right found f.given y (f.yields.complete e y (subst (λ (v : Followed). HasIn v e) (sym r) h) c))
               (Contains-push_cases done new z m)
 
-          from : (e : Demand) (y : Y) → Has (record { packages = take next b.packages; followed = now }) e → Contains (gives e) y → Contains (found ++ f.given) y
+          from : (e : Demand) (y : Y) → Has (record { packages = take next b.packages; followed = now }) e → Contains (gives e) y → Contains
+              (found ++ f.given) y
           from (of_package p) y h c =
               Contains-append_left found f.given y
               (way.yielded.complete (of_package p) y (subst (λ (ps : List Nv). Contains ps p) (more.front next way.reached) h) c)
@@ -304,7 +323,8 @@ module _ (world : World) (roots : List Nv) (u : Universe) (is_universe : IsUnive
 
     -- the entry points of the next package are asked for, while nothing waits
     module _ (done : List Followed) (next : ℕ) (a b : State) (p : Nv) (found after : List Y) (way : IsOnTheWay world gives owner roots done next a found)
-        (empty : waiting_of a ≡ []) (lt : next < length a.packages) (here : get_or a.packages next p ≡ p) (enter : IsEntered world gives p a b found after) where
+        (empty : waiting_of a ≡ []) (lt : next < length a.packages) (here : get_or a.packages next p ≡ p)
+        (enter : IsEntered world gives p a b found after) where
       abbrev nobody : Text → Option Nv
       nobody t = None
 
@@ -345,7 +365,8 @@ module _ (world : World) (roots : List Nv) (u : Universe) (is_universe : IsUnive
       closed_entry : (e : Demand) → Follows world (of_package p) e → IsAsked b e
       closed_entry e f = entry_after.asked f.want (subst (λ (vs : List Want). Contains vs f.want) (sym enter.wants) f.among) e f.gives
 
-      grown : (e : Demand) → Has (record { packages = take next a.packages; followed = done }) e → Has (record { packages = take (next + 1) b.packages; followed = done }) e
+      grown : (e : Demand) → Has (record { packages = take next a.packages; followed = done }) e → Has
+          (record { packages = take (next + 1) b.packages; followed = done }) e
       grown (of_package q) h = subst (λ (ps : List Nv). Contains ps q) (sym front) (Contains-append_left (take next a.packages) (p ∷ []) q h)
       grown (of_module nv t d) h = h
       grown (of_symbol nv t s) h = h

@@ -30,9 +30,11 @@ Entry = Parts × (PackageNv × ImportedExports)
 pub record IsMerged (nv : Nv) (t : Text) (y : ImportedExports) (old : List Trace) (x : Trace) : Type 0 where
   pub text_is : x.specifier ≡ t
   pub nv_is : x.nv ≡ nv
-  pub of_either : (d : NameDemand) → asked x.exports d ≡ true → (asked y d ≡ true) ⊎ ((z : Trace) × Contains old z × (z.specifier ≡ t) × ((asked z.exports d ≡ true) ⊎ IsWide z.exports y d))
+  pub of_either : (d : NameDemand) → asked x.exports d ≡ true → (asked y d ≡ true) ⊎
+      ((z : Trace) × Contains old z × (z.specifier ≡ t) × ((asked z.exports d ≡ true) ⊎ IsWide z.exports y d))
   pub above : IsBelow (imported y) (imported x.exports)
-  pub least : (w : ImportedExports) → IsBelow (imported y) (imported w) → ((z : Trace) → Contains old z → z.specifier ≡ t → IsBelow (imported z.exports) (imported w)) → IsBelow (imported x.exports) (imported w)
+  pub least : (w : ImportedExports) → IsBelow (imported y) (imported w) → ((z : Trace) → Contains old z → z.specifier ≡ t → IsBelow (imported z.exports)
+      (imported w)) → IsBelow (imported x.exports) (imported w)
 
 -- what waits after an answer
 pub record IsWaiting (nv : Nv) (t : Text) (answer : Option ImportedExports) (old new : List Trace) : Type 0 where
@@ -48,7 +50,8 @@ no_answer x e = cc
 pub contains_map : {X Y : Type 0} (g : X → Y) (xs : List X) (x : X) → Contains xs x → Contains (map g xs) (g x)
 contains_map g [] x c = absurd (none_in x c)
 contains_map {X} {Y} g (y ∷ ys) x c =
-    ⊎_elim (λ e. subst (λ (z : Y). Contains (g y ∷ map g ys) z) (ap g e) (first_in (g y) (map g ys))) (λ r. rest_in (g y) (g x) (map g ys) (contains_map g ys x r)) (split_in y x ys c)
+    ⊎_elim (λ e. subst (λ (z : Y). Contains (g y ∷ map g ys) z) (ap g e) (first_in (g y) (map g ys)))
+    (λ r. rest_in (g y) (g x) (map g ys) (contains_map g ys x r)) (split_in y x ys c)
 
 pub map_contains : {X Y : Type 0} (g : X → Y) (xs : List X) (y : Y) → Contains (map g xs) y → (x : X) × Contains xs x × (g x ≡ y)
 map_contains g [] y c = absurd (none_in y c)
@@ -88,34 +91,47 @@ module _ (nv : PackageNv) (url : Parts) (old new : List Entry) where
           each = λ x c.
               ⊎_elim (λ l. inl l) (λ r. inr (y, refl, subst (λ (z : Trace). IsMerged (nv_of nv) (serialize url) y (W old) z) (only_in last x r) merged_self))
               (Contains-append_cases (W old) (last ∷ []) x (subst (λ (xs : List Trace). Contains xs x) front c));
-          some = λ q h. ap (list_any (is_of q)) front ∙ (list_any-append (is_of q) (W old) (last ∷ []) ∙ or_left (list_any (is_of q) (W old)) (list_any (is_of q) (last ∷ [])) h);
+          some = λ q h. ap (list_any (is_of q)) front ∙ (list_any-append (is_of q) (W old) (last ∷ []) ∙ or_left (list_any (is_of q) (W old))
+              (list_any (is_of q) (last ∷ [])) h);
           grows = λ q part p h.
               let f : Trace → Bool = λ x. is_of q x && imported x.exports part p in
               ap (list_any f) front ∙ (list_any-append f (W old) (last ∷ []) ∙ or_left (list_any f (W old)) (list_any f (last ∷ [])) h);
           some_new = λ z e.
               ap (list_any (is_of (serialize url))) front
-              ∙ (list_any-append (is_of (serialize url)) (W old) (last ∷ []) ∙ or_right (list_any (is_of (serialize url)) (W old)) (list_any (is_of (serialize url)) (last ∷ [])) (or_left (is_of (serialize url) last) false (bytes_same (serialize url))));
+              ∙ (list_any-append (is_of (serialize url)) (W old) (last ∷ []) ∙ or_right (list_any (is_of (serialize url)) (W old))
+              (list_any (is_of (serialize url)) (last ∷ [])) (or_left (is_of (serialize url) last) false (bytes_same (serialize url))));
           has_new = answer_is (λ z. (part : Part) (p : Path) → imported z part p ≡ true → joined (W new) (serialize url) part p ≡ true) (λ part p h.
               let f : Trace → Bool = λ x. is_of (serialize url) x && imported x.exports part p in
               ap (list_any f) front
-              ∙ (list_any-append f (W old) (last ∷ []) ∙ or_right (list_any f (W old)) (list_any f (last ∷ [])) (or_left (f last) false (and_from (is_of (serialize url) last) (imported y part p) (bytes_same (serialize url)) h))));
+              ∙ (list_any-append f (W old) (last ∷ []) ∙ or_right (list_any f (W old)) (list_any f (last ∷ []))
+              (or_left (f last) false (and_from (is_of (serialize url) last) (imported y part p) (bytes_same (serialize url)) h))));
         }
 
-    module _ (held : PackageNv × ImportedExports) (state : ImportedExports) (answer : Option ImportedExports) (found : lookup (is_module url) old ≡ Some held) (added : IsAdded held.1 y answer state) (is : new ≡ set_value (is_module url) old (held.0, state)) (alike : (z : Trace) → Contains (W old) z → z.specifier ≡ serialize url → z.nv ≡ nv_of nv) where
+    module _ (held : PackageNv × ImportedExports) (state : ImportedExports) (answer : Option ImportedExports)
+        (found : lookup (is_module url) old ≡ Some held) (added : IsAdded held.1 y answer state) (is : new ≡ set_value (is_module url) old (held.0, state))
+        (alike : (z : Trace) → Contains (W old) z → z.specifier ≡ serialize url → z.nv ≡ nv_of nv) where
       -- what waited
       before : (z : Trace) × Contains (W old) z × (z.specifier ≡ serialize url) × (z.nv ≡ nv_of held.0) × (z.exports ≡ held.1)
       before =
-          let f = found_in (is_module url) old held found in
-          (waiting_trace (f.0, held), contains_map waiting_trace old (f.0, held) f.1, sym ((bytes_eq-Decides (serialize url) (serialize f.0)).0 f.2), refl, refl)
+          let f = found_in (is_module url) old held found in (
+            waiting_trace (f.0, held),
+            contains_map waiting_trace old (f.0, held) f.1,
+            sym
+                ((bytes_eq-Decides (serialize url) (serialize f.0)).0 f.2),
+            refl,
+            refl,
+          )
 
       merged_held : (k : Parts) → is_module url k ≡ true → IsMerged (nv_of nv) (serialize url) y (W old) (waiting_trace (k, (held.0, state)))
       merged_held k t = record {
         text_is = sym ((bytes_eq-Decides (serialize url) (serialize k)).0 t);
         nv_is = sym before.3 ∙ alike before.0 before.1 before.2;
         of_either = λ d h.
-            let with : ((asked held.1 d ≡ true) ⊎ IsWide held.1 y d) → (asked y d ≡ true) ⊎ ((z : Trace) × Contains (W old) z × (z.specifier ≡ serialize url) × ((asked z.exports d ≡ true) ⊎ IsWide z.exports y d)) =
+            let with : ((asked held.1 d ≡ true) ⊎ IsWide held.1 y d) → (asked y d ≡ true) ⊎
+            ((z : Trace) × Contains (W old) z × (z.specifier ≡ serialize url) × ((asked z.exports d ≡ true) ⊎ IsWide z.exports y d)) =
             λ g. inr (before.0, before.1, before.2, subst (λ (x : ImportedExports). (asked x d ≡ true) ⊎ IsWide x y d) (sym before.4) g) in
-            ⊎_elim (λ l. ⊎_elim (λ o. with (inl o)) (λ n. inl n) (or_cases (asked held.1 d) (asked y d) l)) (λ w. with (inr w)) (asked_either held.1 y answer state added d h);
+            ⊎_elim (λ l. ⊎_elim (λ o. with (inl o)) (λ n. inl n) (or_cases (asked held.1 d) (asked y d) l)) (λ w. with (inr w))
+            (asked_either held.1 y answer state added d h);
         above = added.form.above_new;
         least = λ w b f. added.form.least w (subst (λ (x : ImportedExports). IsBelow (imported x) (imported w)) before.4 (f before.0 before.1 before.2)) b;
       }
@@ -130,13 +146,15 @@ module _ (nv : PackageNv) (url : Parts) (old new : List Entry) where
         some = λ q h.
             ap (λ (es : List Entry). list_any (is_of q) (W es)) is
             ∙ (any_map (is_of q) waiting_trace (set_value (is_module url) old (held.0, state))
-            ∙ any_changed (is_module url) (λ e. is_of q (waiting_trace e)) old held (held.0, state) found (λ k t g. g) (sym (any_map (is_of q) waiting_trace old) ∙ h));
+            ∙ any_changed (is_module url) (λ e. is_of q (waiting_trace e)) old held (held.0, state) found (λ k t g. g)
+            (sym (any_map (is_of q) waiting_trace old) ∙ h));
         grows = λ q part p h.
             let f : Trace → Bool = λ x. is_of q x && imported x.exports part p in
             ap (λ (es : List Entry). list_any f (W es)) is
             ∙ (any_map f waiting_trace (set_value (is_module url) old (held.0, state))
             ∙ any_changed (is_module url) (λ e. f (waiting_trace e)) old held (held.0, state) found
-            (λ k t g. let a = and_parts (bytes_eq q (serialize k)) (imported held.1 part p) g in and_from (bytes_eq q (serialize k)) (imported state part p) a.0 (added.form.above_old part p a.1))
+            (λ k t g. let a = and_parts (bytes_eq q (serialize k)) (imported held.1 part p) g in and_from (bytes_eq q (serialize k))
+            (imported state part p) a.0 (added.form.above_old part p a.1))
             (sym (any_map f waiting_trace old) ∙ h));
         some_new = λ z e.
             ap (λ (es : List Entry). list_any (is_of (serialize url)) (W es)) is
@@ -146,14 +164,18 @@ module _ (nv : PackageNv) (url : Parts) (old new : List Entry) where
             let f : Trace → Bool = λ x. is_of (serialize url) x && imported x.exports part p in
             ap (λ (es : List Entry). list_any f (W es)) is
             ∙ (any_map f waiting_trace (set_value (is_module url) old (held.0, state))
-            ∙ any_of_changed (is_module url) (λ e. f (waiting_trace e)) old held (held.0, state) found (λ k t. and_from (bytes_eq (serialize url) (serialize k)) (imported state part p) t (added.form.above_new part p h))));
+            ∙ any_of_changed (is_module url) (λ e. f (waiting_trace e)) old held (held.0, state) found
+            (λ k t. and_from (bytes_eq (serialize url) (serialize k)) (imported state part p) t (added.form.above_new part p h))));
       }
 
   -- what waits, if all that waits for the module waits under the same package
-  pub waiting : (answer : Option ImportedExports) → WaitsFor nv url answer old new → ((y : ImportedExports) → answer ≡ Some y → (z : Trace) → Contains (W old) z → z.specifier ≡ serialize url → z.nv ≡ nv_of nv) → IsWaiting (nv_of nv) (serialize url) answer (W old) (W new)
+  pub waiting : (answer : Option ImportedExports) → WaitsFor nv url answer old new →
+      ((y : ImportedExports) → answer ≡ Some y → (z : Trace) → Contains (W old) z → z.specifier ≡ serialize url → z.nv ≡ nv_of nv) → IsWaiting (nv_of nv)
+      (serialize url) answer (W old) (W new)
   waiting None h alike = none_waiting h
   waiting (Some y) h alike = go (lookup (is_module url) old) refl h
     where
-      go : (o : Option (PackageNv × ImportedExports)) → lookup (is_module url) old ≡ o → WaitsAt o old nv url y new → IsWaiting (nv_of nv) (serialize url) (Some y) (W old) (W new)
+      go : (o : Option (PackageNv × ImportedExports)) → lookup (is_module url) old ≡ o → WaitsAt o old nv url y new → IsWaiting (nv_of nv) (serialize url)
+          (Some y) (W old) (W new)
       go None e h = new_waiting y h
       go (Some held) e h = held_waiting y held h.0 h.1 e h.2 h.3 (alike y refl)

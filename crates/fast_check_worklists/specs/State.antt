@@ -12,7 +12,8 @@ use Rattle.fast_check_demands.specs.Demands.{Demand as SymbolDemand}
 use Rattle.fast_check_worklists.specs.declared.asked.Step.{Step}
 use Rattle.fast_check_worklists.specs.declared.asked.Step.TheVariants.{Package, Module}
 use Rattle.fast_check_worklists.specs.declared.asked.Asked.{Asked}
-use Rattle.fast_check_worklists.specs.Demands.{Text, same_nv, asked, Want, to_package, to_module, to_symbol, Demand, of_package, of_module, of_symbol, World, Follows}
+use Rattle.fast_check_worklists.specs.Demands.{Text, same_nv, asked, Want, to_package, to_module, to_symbol, Demand, of_package, of_module, of_symbol, World}
+use Rattle.fast_check_worklists.specs.Demands.{Follows}
 use Rattle.fast_check_worklists.specs.Account.{Trace, Followed, HasIn, IsSymbolMet}
 
 abbrev pub want_of : Step → Want
