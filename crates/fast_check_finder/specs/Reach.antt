@@ -1,0 +1,73 @@
+-- All that can be demanded.
+use Rattle.std.specs.Prelude.{ℕ, zero, suc, ◌+◌, List, [], ◌∷◌, ◌++◌, map, length, Some, None, option_to_list, string_bytes}
+use Rattle.std.specs.List.{flat_map}
+use Rattle.url.specs.Parts.{Parts, serialize}
+use Rattle.fast_check_packages.specs.Package.{Nv}
+use Rattle.fast_check_names.specs.Names.{Name, Path, path_of}
+use Rattle.fast_check_names.specs.Imports.{default_name}
+use Rattle.fast_check_names.specs.declared.lattice.file_dep_name.FileDepName.{FileDepName}
+use Rattle.fast_check_names.specs.declared.lattice.file_dep_name.FileDepName.TheVariants.{Star, Name as Named}
+use Rattle.fast_check_symbols.specs.declared.symbol.Symbol.{Symbol}
+use Rattle.fast_check_symbols.specs.declared.decl.SymbolDeclKind.{SymbolDeclKind}
+use Rattle.fast_check_symbols.specs.declared.decl.SymbolDeclKind.TheVariants.{Target, QualifiedTarget, FileRef, Definition}
+use Rattle.fast_check_symbols.specs.declared.node.SymbolDep.{SymbolDep}
+use Rattle.fast_check_symbols.specs.declared.node.SymbolDep.TheVariants as deps
+use Rattle.fast_check_modules.specs.Tables.{Tables}
+use Rattle.fast_check_graph.specs.declared.root_symbol.ModuleInfo.{ModuleInfo}
+use Rattle.fast_check_traces.specs.Modules.{tables_in}
+use Rattle.fast_check_worklists.specs.Demands.{Text}
+use Rattle.fast_check_worklists.specs.Measure.{Universe}
+use Rattle.fast_check_finder.specs.Sources.{Known}
+
+-- the names that the tables of a module write
+
+abbrev pub dep_names : SymbolDep → List Name
+dep_names (deps.Id id) = []
+dep_names (deps.QualifiedId id parts) = path_of parts.items
+dep_names (deps.ImportType specifier parts) = path_of parts.items
+
+abbrev pub file_names : FileDepName → List Name
+file_names Star = []
+file_names (Named name) = string_bytes name ∷ []
+
+abbrev pub kind_names : SymbolDeclKind → List Name
+kind_names (Target id) = []
+kind_names (QualifiedTarget id parts) = path_of parts.items
+kind_names (FileRef specifier name) = file_names name
+kind_names (Definition None) = []
+kind_names (Definition (Some node)) = flat_map (λ x. dep_names x.dep) node.deps.items
+
+abbrev pub symbol_names : Symbol → List Name
+symbol_names s = flat_map (λ x. kind_names x.kind) s.decls.items
+
+abbrev pub table_names : Tables → List Name
+table_names t = flat_map symbol_names t.symbols
+
+abbrev pub all_names : Known → List Name
+all_names k = default_name ∷ flat_map (λ e. table_names (tables_in e.1)) k.root_symbol.modules.entries
+
+-- the paths of these names, up to a length
+abbrev pub paths_up_to : ℕ → List Name → List Path
+paths_up_to zero ns = [] ∷ []
+paths_up_to (suc n) ns = [] ∷ flat_map (λ m. map (λ p. m ∷ p) (paths_up_to n ns)) ns
+
+-- what the texts of modules resolve to, and the modules that answer exports
+abbrev pub targets : Known → List Text
+targets k = flat_map (λ e. map (λ x. serialize x.1) e.1.entries) k.graph.resolutions.entries
+
+abbrev pub answers : Known → List Text
+answers k = flat_map (λ e. map (λ x. serialize x.1) (tables_in e.1).resolved) k.root_symbol.modules.entries
+
+abbrev pub entry_texts : Known → List Text
+entry_texts k = flat_map (λ p. map serialize p.entry_points.items) k.packages
+
+abbrev pub outer_texts : Known → List Text
+outer_texts k = targets k ++ answers k
+
+abbrev pub reach : Known → List Nv → Universe
+reach k roots = record {
+  packages = roots ++ flat_map (λ t. option_to_list (k.owner t)) (outer_texts k);
+  texts = outer_texts k ++ entry_texts k;
+  paths = paths_up_to (suc (length (all_names k))) (all_names k);
+  below = paths_up_to (length (all_names k)) (all_names k);
+}

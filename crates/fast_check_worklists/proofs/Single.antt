@@ -1,0 +1,121 @@
+-- Single demands and their paths.
+use Rattle.std.proofs.Common.{◌≡◌, ◌∙◌, sym, ap, refl, subst, Bool, true, ◌&&◌, not, [], ◌∷◌, ◌++◌, ◌⊎◌, inl, inr, ⊎_elim}
+use Rattle.std.specs.Str.{bytes_eq}
+use Rattle.std.proofs.lemmas.Bool.{cases_Bool, false≢true, and_parts, and_from}
+use Rattle.std.proofs.lemmas.Slice.Eq.{bytes_eq-Decides}
+use Rattle.fast_check_names.specs.declared.lattice.named_subset.NamedSubset.{NamedSubset}
+use Rattle.fast_check_names.specs.declared.lattice.imported_exports.ImportedExports.{ImportedExports}
+use Rattle.fast_check_names.specs.declared.lattice.imported_exports.ImportedExports.TheVariants.{Star, StarWithDefault, Subset}
+use Rattle.fast_check_names.specs.Names.{Name, Path, Part, Touched, Covered, NameSet, paths, whole_below, whole_path, named, has_subset, has_whole, IsBelow}
+use Rattle.fast_check_names.specs.Names.{IsClosed}
+use Rattle.fast_check_names.specs.Paths.{paths_opened_nil}
+use Rattle.fast_check_names.specs.Shapes.{own_set}
+use Rattle.fast_check_names.specs.Imports.{default_name, all_but_default, all_names, imported, NameDemand, names_but_default, each_name, subset_at, whole_at}
+use Rattle.fast_check_names.proofs.Forms.{star_below_all}
+use Rattle.fast_check_worklists.specs.Demands.{asked, one, touched_path, begins}
+use Rattle.fast_check_worklists.specs.Account.{IsStarred, HasDefault}
+use Rattle.fast_check_worklists.proofs.Taken.{bytes_same}
+
+-- what is whole is covered
+pub whole_covered : (f : NameSet) (p : Path) → has_whole f p ≡ true → f Covered p ≡ true
+whole_covered f [] h = h
+whole_covered f (n ∷ p) h = whole_covered (λ part q. f part (n ∷ q)) p (and_parts (not (f Covered [])) (has_whole (λ part q. f part (n ∷ q)) p) h).1
+
+-- below a name, what has a path touches the name
+touched_start : (e : NameSet) → IsClosed e → (part : Part) (q : Path) → e part q ≡ true → e Touched [] ≡ true
+touched_start e c Touched q h = c.beginnings [] q h
+touched_start e c Covered q h = c.beginnings [] (q ++ []) (c.longer q [] Touched h)
+
+-- a covered path has what a demand of it has
+whole_in : (e : NameSet) → IsClosed e → (p : Path) → e Covered p ≡ true → (part : Part) (q : Path) → whole_below p part q ≡ true → e part q ≡ true
+whole_in e c [] h part q t = c.longer [] q part h
+whole_in e c (n ∷ p) h Touched [] t = touched_start e c Covered (n ∷ p) h
+whole_in e c (n ∷ p) h Covered [] t = absurd (false≢true t)
+whole_in e c (n ∷ p) h part (m ∷ q) t =
+    let a = and_parts (bytes_eq n m) (whole_below p part q) t in
+    subst (λ (k : Name). e part (k ∷ q) ≡ true) ((bytes_eq-Decides n m).0 a.0)
+    (whole_in (λ r u. e r (n ∷ u)) (record { beginnings = λ u v. c.beginnings (n ∷ u) v; longer = λ u v r. c.longer (n ∷ u) v r }) p h part q a.1)
+
+begins_in : (e : NameSet) → IsClosed e → (p q : Path) → e Touched p ≡ true → begins q p ≡ true → e Touched q ≡ true
+begins_in e c p [] h t = c.beginnings [] p h
+begins_in e c [] (m ∷ q) h t = absurd (false≢true t)
+begins_in e c (n ∷ p) (m ∷ q) h t =
+    let a = and_parts (bytes_eq n m) (begins q p) t in
+    subst (λ (k : Name). e Touched (k ∷ q) ≡ true) ((bytes_eq-Decides n m).0 a.0)
+    (begins_in (λ r u. e r (n ∷ u)) (record { beginnings = λ u v. c.beginnings (n ∷ u) v; longer = λ u v r. c.longer (n ∷ u) v r }) p q h a.1)
+
+touched_in : (s : NamedSubset) (p : Path) → paths s Touched p ≡ true → IsBelow (touched_path p) (paths s)
+touched_in s p h part [] t = absurd (false≢true t)
+touched_in s [] h part (m ∷ q) t = absurd (false≢true (sym (paths_opened_nil s Touched) ∙ h))
+touched_in s (n ∷ p) h Covered (m ∷ q) t = absurd (false≢true t)
+touched_in s (n ∷ p) h Touched (m ∷ q) t =
+    let a = and_parts (bytes_eq n m) (begins q p) t in
+    subst (λ (k : Name). paths s Touched (k ∷ q) ≡ true) ((bytes_eq-Decides n m).0 a.0) (begins_in (λ r u. paths s r (n ∷ u)) (own_set s n) p q h a.1)
+
+whole_path_in : (s : NamedSubset) (p : Path) → paths s Covered p ≡ true → IsBelow (whole_path p) (paths s)
+whole_path_in s [] h part q t = absurd (false≢true t)
+whole_path_in s (n ∷ p) h part [] t = absurd (false≢true t)
+whole_path_in s (n ∷ p) h part (m ∷ q) t =
+    let a = and_parts (bytes_eq n m) (whole_below p part q) t in
+    subst (λ (k : Name). paths s part (k ∷ q) ≡ true) ((bytes_eq-Decides n m).0 a.0) (whole_in (λ r u. paths s r (n ∷ u)) (own_set s n) p h part q a.1)
+
+-- names have what each single demand of theirs has
+pub one_in : (x : ImportedExports) (d : NameDemand) → asked x d ≡ true → IsBelow (one d) (imported x)
+one_in Star names_but_default h = λ part p t. t
+one_in Star each_name h = absurd (false≢true h)
+one_in Star (subset_at p) h = absurd (false≢true h)
+one_in Star (whole_at p) h = absurd (false≢true h)
+one_in StarWithDefault names_but_default h = absurd (false≢true h)
+one_in StarWithDefault each_name h = λ part p t. t
+one_in StarWithDefault (subset_at p) h = absurd (false≢true h)
+one_in StarWithDefault (whole_at p) h = absurd (false≢true h)
+one_in (Subset s) names_but_default h = absurd (false≢true h)
+one_in (Subset s) each_name h = absurd (false≢true h)
+one_in (Subset s) (subset_at []) h = λ part p t. nothing_touched part p t
+  where
+    nothing_touched : (part : Part) (p : Path) → touched_path [] part p ≡ true → paths s part p ≡ true
+    nothing_touched part [] t = absurd (false≢true t)
+    nothing_touched Touched (m ∷ q) t = absurd (false≢true t)
+    nothing_touched Covered (m ∷ q) t = absurd (false≢true t)
+one_in (Subset s) (subset_at (n ∷ p)) h = touched_in s (n ∷ p) (and_parts (paths s Touched (n ∷ p)) (not (paths s Covered (n ∷ p))) h).0
+one_in (Subset s) (whole_at p) h = whole_path_in s p (whole_covered (paths s) p h)
+
+-- stars have all names but `default`
+pub star_in : (x : ImportedExports) (d : NameDemand) → IsStarred d → IsBelow (one d) (imported x) → IsBelow all_but_default (imported x)
+star_in x names_but_default s h = h
+star_in x each_name s h = λ part p t. h part p (star_below_all part p t)
+star_in x (subset_at p) s h = absurd s
+star_in x (whole_at p) s h = absurd s
+
+flip : (n m : Name) → bytes_eq n m ≡ true → bytes_eq m n ≡ true
+flip n m h = (bytes_eq-Decides m n).1 (sym ((bytes_eq-Decides n m).0 h))
+
+-- and what has `default` touches it
+pub default_in : (x : ImportedExports) (d : NameDemand) → HasDefault d → IsBelow (one d) (imported x) → imported x Touched (default_name ∷ []) ≡ true
+default_in x names_but_default s h = absurd s
+default_in x each_name s h = h Touched (default_name ∷ []) refl
+default_in x (subset_at []) s h = absurd s
+default_in x (subset_at (n ∷ q)) s h = h Touched (default_name ∷ []) (and_from (bytes_eq n default_name) true (flip default_name n s) refl)
+default_in x (whole_at []) s h = absurd s
+default_in x (whole_at (n ∷ q)) s h = h Touched (default_name ∷ []) (and_from (bytes_eq n default_name) (whole_below q Touched []) (flip default_name n s)
+    (whole_start q))
+  where
+    whole_start : (q : Path) → whole_below q Touched [] ≡ true
+    whole_start [] = refl
+    whole_start (m ∷ q) = refl
+
+-- a single demand is of names
+pub one_below_all : (d : NameDemand) → IsBelow (one d) all_names
+one_below_all names_but_default = star_below_all
+one_below_all each_name = λ part p t. t
+one_below_all (subset_at p) = λ part q t. by_first part q t
+  where
+    by_first : (part : Part) (q : Path) → touched_path p part q ≡ true → all_names part q ≡ true
+    by_first part [] t = absurd (false≢true t)
+    by_first part (m ∷ q) t = refl
+one_below_all (whole_at []) = λ part q t. absurd (false≢true t)
+one_below_all (whole_at (n ∷ p)) = λ part q t. by_first part q t
+  where
+    by_first : (part : Part) (q : Path) → whole_path (n ∷ p) part q ≡ true → all_names part q ≡ true
+    by_first part [] t = absurd (false≢true t)
+    by_first part (m ∷ q) t = refl

@@ -1,0 +1,5 @@
+pub mod Demands
+pub mod Account
+pub mod State
+pub mod Turn
+pub mod Measure

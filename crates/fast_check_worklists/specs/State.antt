@@ -1,0 +1,104 @@
+-- What is asked in one turn of the search.
+use Rattle.std.specs.Prelude.{◌≡◌, ◌++◌, cond, List, [], ◌∷◌, Option, Some, None, map, IsTrue}
+use Rattle.std.specs.List.{list_any, Contains}
+use Rattle.url.specs.Parts.{Parts, serialize}
+use Rattle.fast_check_packages.specs.declared.package.PackageNv.{PackageNv}
+use Rattle.fast_check_names.specs.declared.lattice.imported_exports.ImportedExports.{ImportedExports}
+use Rattle.fast_check_names.specs.Imports.{NameDemand}
+use Rattle.fast_check_packages.specs.declared.traced_modules.PendingTrace.{PendingTrace}
+use Rattle.fast_check_packages.specs.Package.{Nv, nv_of}
+use Rattle.fast_check_packages.specs.Traces.{handled, pending, Handles, Waits}
+use Rattle.fast_check_demands.specs.Demands.{Demand as SymbolDemand}
+use Rattle.fast_check_worklists.specs.declared.asked.Step.{Step}
+use Rattle.fast_check_worklists.specs.declared.asked.Step.TheVariants.{Package, Module}
+use Rattle.fast_check_worklists.specs.declared.asked.Asked.{Asked}
+use Rattle.fast_check_worklists.specs.Demands.{Text, same_nv, asked, Want, to_package, to_module, to_symbol, Demand, of_package, of_module, of_symbol, World}
+use Rattle.fast_check_worklists.specs.Demands.{Follows}
+use Rattle.fast_check_worklists.specs.Account.{Trace, Followed, HasIn, IsSymbolMet}
+
+abbrev pub want_of : Step → Want
+want_of (Package nv) = to_package (nv_of nv)
+want_of (Module nv url x) = to_module (nv_of nv) (serialize url) (asked x)
+
+-- what was asked of each module, what waits, and the packages
+pub record State : Type 0 where
+  pub handled : List (Parts × ImportedExports)
+  pub waiting : List (Parts × (PackageNv × ImportedExports))
+  pub packages : List Nv
+
+abbrev pub state_of : Asked → State
+state_of a = record { handled = handled a.handled; waiting = pending a.waiting; packages = map nv_of a.packages.items }
+
+abbrev pub trace_of : PendingTrace → Trace
+trace_of t = record { nv = nv_of t.package_nv; specifier = serialize t.specifier; exports = t.exports_to_trace }
+
+-- what is new waits
+abbrev pub WaitsFor : PackageNv → Parts → Option ImportedExports → List (Parts × (PackageNv × ImportedExports)) →
+    List (Parts × (PackageNv × ImportedExports)) → Type 0
+WaitsFor nv url None old new = new ≡ old
+WaitsFor nv url (Some x) old new = Waits old nv url x new
+
+-- a package stands once
+abbrev pub AddsPackage : Nv → List Nv → List Nv → Type 0
+AddsPackage p old new = new ≡ cond (list_any (same_nv p) old) old (old ++ p ∷ [])
+
+abbrev pub AsksModule : PackageNv → Parts → ImportedExports → State → State → Type 0
+AsksModule nv url x a b =
+    (b.packages ≡ a.packages) × ((answer : Option ImportedExports) × Handles a.handled url x answer b.handled × WaitsFor nv url answer a.waiting b.waiting)
+
+abbrev pub AsksPackage : PackageNv → State → State → Type 0
+AsksPackage nv a b = (b.handled ≡ a.handled) × (b.waiting ≡ a.waiting) × AddsPackage (nv_of nv) a.packages b.packages
+
+abbrev pub AsksOne : Step → State → State → Type 0
+AsksOne (Package nv) a b = AsksPackage nv a b
+AsksOne (Module nv url x) a b = AsksModule nv url x a b
+
+-- each step in turn
+abbrev pub AsksAll : List Step → State → State → Type 0
+AsksAll [] a b = b ≡ a
+AsksAll (s ∷ steps) a b = (mid : State) × AsksOne s a mid × AsksAll steps mid b
+
+-- demands of symbols to which a trace leads
+pub data Reached (world : World) (x : Trace) : SymbolDemand → Type 0 where
+  root : (d : NameDemand) (s : SymbolDemand) → IsTrue (asked x.exports d) →
+      Contains (world (of_module x.nv x.specifier d)) (to_symbol x.nv x.specifier s) → Reached world x s
+  step : (s e : SymbolDemand) → Reached world x s → Contains (world (of_symbol x.nv x.specifier s)) (to_symbol x.nv x.specifier e) → Reached world x e
+
+-- the demands of symbols of a trace are those to which it leads, up to cover
+pub record IsSearched (world : World) (x : Followed) : Type 0 where
+  pub reached : (s : SymbolDemand) → Contains x.symbols s → Reached world x.trace s
+  pub closed : (d : Demand) → HasIn x d → (p : Nv) (t : Text) (s : SymbolDemand) → Contains (world d) (to_symbol p t s) → IsSymbolMet p t s x
+
+-- wants of other than symbols
+abbrev pub IsOuter : Want → Type 0
+IsOuter (to_package p) = Unit {0}
+IsOuter (to_module p t w) = Unit {0}
+IsOuter (to_symbol p t s) = ⊥
+
+-- the wants of a trace that was followed
+pub record AreWants (world : World) (x : Followed) (wants : List Want) : Type 0 where
+  pub sound : (w : Want) → Contains wants w → (d : Demand) × HasIn x d × Contains (world d) w
+  pub complete : (d : Demand) (w : Want) → HasIn x d → Contains (world d) w → IsOuter w → Contains wants w
+
+-- what a trace that was followed gives
+pub record AreGiven {Y : Type 0} (gives : Demand → List Y) (x : Followed) (given : List Y) : Type 0 where
+  pub sound : (y : Y) → Contains given y → (d : Demand) × HasIn x d × Contains (gives d) y
+  pub complete : (d : Demand) (y : Y) → HasIn x d → Contains (gives d) y → Contains given y
+
+-- a trace was followed
+pub record IsFollowed {Y : Type 0} (world : World) (gives : Demand → List Y) (trace : Trace) (a b : State) (old new : List Y) : Type 0 where
+  pub symbols : List SymbolDemand
+  pub steps : List Step
+  pub given : List Y
+  pub searched : IsSearched world (record { trace = trace; symbols = symbols })
+  pub wants : AreWants world (record { trace = trace; symbols = symbols }) (map want_of steps)
+  pub yields : AreGiven gives (record { trace = trace; symbols = symbols }) given
+  pub asks : AsksAll steps a b
+  pub new_is : new ≡ old ++ given
+
+-- the entry points of a package were asked for
+pub record IsEntered {Y : Type 0} (world : World) (gives : Demand → List Y) (nv : Nv) (a b : State) (old new : List Y) : Type 0 where
+  pub steps : List Step
+  pub wants : map want_of steps ≡ world (of_package nv)
+  pub asks : AsksAll steps a b
+  pub new_is : new ≡ old ++ gives (of_package nv)

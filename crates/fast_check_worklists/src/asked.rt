@@ -1,0 +1,112 @@
+ghost use Rattle.std.specs.Prelude.{◌≡◌, map, OnOk, IfOk};
+ghost use Rattle.std.specs.List.{list_any};
+ghost use Rattle.fast_check_packages.specs.Package.{nv_of};
+ghost use Rattle.fast_check_worklists.specs.Demands.{same_nv};
+ghost use Rattle.fast_check_worklists.specs.State.{state_of, AsksModule, AsksPackage, AsksOne, AsksAll};
+ghost use Rattle.fast_check_worklists.specs.Turn.{IsBegun};
+
+use fast_check_names::ImportedExports;
+use fast_check_packages::{HandledExports, PackageNv, PendingTraces};
+use std::alloc::{AllocError, Global};
+use std::cmp::Ordering;
+use url::Url;
+
+/// What is asked for next.
+#[derive(Drop)]
+pub enum Step {
+    /// A package, on which the one that asks depends.
+    Package(PackageNv),
+    /// Names of a module, for a package.
+    Module(PackageNv, Url, ImportedExports),
+}
+
+/// What was asked for: of each module so far, what of it waits, and the packages in the order in which they came.
+#[derive(Drop)]
+pub struct Asked {
+    pub handled: HandledExports,
+    pub waiting: PendingTraces,
+    pub packages: Vec<PackageNv>,
+}
+
+impl Asked {
+    /// Asks for a package, once.
+    fn ask_package(&mut self, nv: PackageNv) -> Result<(), AllocError>
+        ensures { OnOk result (AsksPackage nv (state_of self.old) (state_of self.new)) }
+    {
+        if has_package(&self.packages, &nv) {
+            return Ok(());
+        }
+        self.packages.push(nv)?;
+        Ok(())
+    }
+
+    /// Asks for names of a module. Only what is new waits.
+    fn ask_module(
+        &mut self,
+        alloc: Global,
+        nv: PackageNv,
+        specifier: Url,
+        exports: ImportedExports,
+    ) -> Result<(), AllocError>
+        ensures { OnOk result (AsksModule nv specifier exports (state_of self.old) (state_of self.new)) }
+    {
+        if let Some(new) = self.handled.add(alloc, &specifier, exports)? {
+            self.waiting.add(alloc, nv, specifier, new)?;
+        }
+        Ok(())
+    }
+
+    fn ask(&mut self, alloc: Global, step: Step) -> Result<(), AllocError>
+        ensures { OnOk result (AsksOne step (state_of self.old) (state_of self.new)) }
+    {
+        match step {
+            Step::Package(nv) => self.ask_package(nv),
+            Step::Module(nv, specifier, exports) => self.ask_module(alloc, nv, specifier, exports),
+        }
+    }
+
+    /// Asks for each of these, in turn.
+    pub fn ask_all(&mut self, alloc: Global, steps: Vec<Step>) -> Result<(), AllocError>
+        ensures { OnOk result (AsksAll steps.items (state_of self.old) (state_of self.new)) }
+    {
+        for step in steps {
+            self.ask(alloc, step)?;
+        }
+        Ok(())
+    }
+}
+
+/// Whether two packages have the same name and version.
+pub fn is_same(a: &PackageNv, b: &PackageNv) -> bool
+    ensures { result ≡ same_nv (nv_of a.now) (nv_of b.now) }
+{
+    a.cmp(b).is_eq()
+}
+
+fn has_package(packages: &[PackageNv], nv: &PackageNv) -> bool
+    ensures { result ≡ list_any (λ seen. same_nv (nv_of nv.now) (nv_of seen)) packages.now }
+{
+    packages.iter().any(|seen| is_same(nv, seen))
+}
+
+/// A copy of a package.
+pub fn copy_of(nv: &PackageNv) -> Result<PackageNv, AllocError>
+    ensures { IfOk result (λ copy. nv_of copy ≡ nv_of nv.now) }
+{
+    nv.clone()
+}
+
+/// The packages that are handed in, each once.
+pub fn begin(alloc: Global, roots: &[PackageNv]) -> Result<Asked, AllocError>
+    ensures { IfOk result (λ asked. IsBegun (map nv_of roots.now) (state_of asked)) }
+{
+    let mut asked = Asked {
+        handled: HandledExports::default(alloc),
+        waiting: PendingTraces::default(alloc),
+        packages: Vec::new(alloc),
+    };
+    for nv in roots {
+        asked.ask_package(copy_of(nv)?)?;
+    }
+    Ok(asked)
+}

@@ -1,0 +1,6 @@
+//! What is demanded of packages and modules, and which of it is still to be followed.
+#![tactic(auto)]
+
+mod asked;
+
+pub use asked::{Asked, Step, begin, copy_of, is_same};
