@@ -131,7 +131,7 @@ fn remove_in_decl(
         | DeclRule::Standing
         | DeclRule::Namespace
         | DeclRule::Using
-        | DeclRule::Untaken => Ok(()),
+        | DeclRule::NoDeclaration => Ok(()),
     }
 }
 

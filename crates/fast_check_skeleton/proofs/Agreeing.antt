@@ -66,7 +66,7 @@ use Rattle.fast_check_skeleton.specs.Hidden.{IsSilentDecl, IsSilent, SameHead, S
 use Rattle.fast_check_skeleton.specs.Hidden.{SameFunctionDecl, SameClassDecl, SameDecl, SameNamespaceHead, SameInnerHead, SameItem, SameNamespace}
 use Rattle.fast_check_skeleton.specs.Hidden.{SameBody, SameItems, AgreeHidden}
 use Rattle.fast_check_skeleton.specs.Kinds.{is_standing}
-use Rattle.fast_check_skeleton.specs.Rules.{decl_rule, rule_of_kind, is_taken_decl}
+use Rattle.fast_check_skeleton.specs.Rules.{decl_rule, rule_of_kind, declares}
 use Rattle.fast_check_skeleton.specs.declared.rules.DeclRule.{DeclRule}
 use Rattle.fast_check_skeleton.specs.declared.rules.DeclRule.TheVariants.{Variables, Function, Class, Standing, Namespace, Using}
 use Rattle.fast_check_skeleton.proofs.Ruled.{assigned_rule, standing_rule, declared_rule, silent_rule, namespace_rule}
@@ -111,14 +111,14 @@ module _ (around : Surroundings) where
   abbrev pub rule_of : Tree → DeclRule
   rule_of t = decl_rule (kind_of t)
 
-  -- a declaration that goes without a word is taken
-  pub silent_taken : (p : SourceRange) (t : Tree) → IsSilentDecl around p t → is_taken_decl (rule_of t) ≡ true
-  silent_taken p t (h.IsSilentDecl.variable k e) = ap (λ j. is_taken_decl (decl_rule j)) k
-  silent_taken p t (h.IsSilentDecl.standing s e) = ap is_taken_decl (standing_rule (kind_of t) s)
-  silent_taken p t (h.IsSilentDecl.function k e) = ap (λ j. is_taken_decl (decl_rule j)) k
-  silent_taken p t (h.IsSilentDecl.class k e) = ap (λ j. is_taken_decl (decl_rule j)) k
-  silent_taken p t (h.IsSilentDecl.using k e) = ap (λ j. is_taken_decl (decl_rule j)) k
-  silent_taken p t (h.IsSilentDecl.namespace k n e) = ap (λ j. is_taken_decl (decl_rule j)) k
+  -- what goes without a word as a declaration is one
+  pub silent_declares : (p : SourceRange) (t : Tree) → IsSilentDecl around p t → declares (rule_of t) ≡ true
+  silent_declares p t (h.IsSilentDecl.variable k e) = ap (λ j. declares (decl_rule j)) k
+  silent_declares p t (h.IsSilentDecl.standing s e) = ap declares (standing_rule (kind_of t) s)
+  silent_declares p t (h.IsSilentDecl.function k e) = ap (λ j. declares (decl_rule j)) k
+  silent_declares p t (h.IsSilentDecl.class k e) = ap (λ j. declares (decl_rule j)) k
+  silent_declares p t (h.IsSilentDecl.using k e) = ap (λ j. declares (decl_rule j)) k
+  silent_declares p t (h.IsSilentDecl.namespace k n e) = ap (λ j. declares (decl_rule j)) k
 
   silent_decl : (p : SourceRange) (t : Tree) → IsSilentDecl around p t → decl_seen around p t (rule_of t) ≡ []
   silent_decl p t (h.IsSilentDecl.variable k e) =
@@ -133,7 +133,7 @@ module _ (around : Surroundings) where
       ap (λ j. decl_seen around p t (decl_rule j)) k ∙ ap (λ b. if b then faulty UnsupportedUsing (using_place t) ∷ [] else []) e
   silent_decl p t (h.IsSilentDecl.namespace k n e) = ap (λ j. decl_seen around p t (decl_rule j)) k ∙ hidden_namespace around p t n e
 
-  item_of : (t : Tree) → is_taken_decl (rule_of t) ≡ true → item_seen around t ≡ decl_seen around (range_of_node t) t (rule_of t)
+  item_of : (t : Tree) → declares (rule_of t) ≡ true → item_seen around t ≡ decl_seen around (range_of_node t) t (rule_of t)
   item_of t e = item_seen_is around t ∙ ap (seen_by_rule around t) (declared_rule (kind_of t) t e)
 
   export_of : (t : Tree) → kind_of t ≡ ExportDecl →
@@ -141,7 +141,7 @@ module _ (around : Surroundings) where
   export_of t e = item_seen_is around t ∙ ap (λ k. seen_by_rule around t (rule_of_kind k t)) e
 
   pub silent_item : (t : Tree) → IsSilent around t → item_seen around t ≡ []
-  silent_item t (h.IsSilent.decl s) = item_of t (silent_taken (range_of_node t) t s) ∙ silent_decl (range_of_node t) t s
+  silent_item t (h.IsSilent.decl s) = item_of t (silent_declares (range_of_node t) t s) ∙ silent_decl (range_of_node t) t s
   silent_item t (h.IsSilent.statement s) = item_seen_is around t ∙ ap (seen_by_rule around t) (silent_rule t s)
   silent_item t (h.IsSilent.exported k s) = export_of t k ∙ ap (exported_seen t) (silent_decl (ExportDecl-span t) (ExportDecl-decl t) s)
   silent_item t (h.IsSilent.assigned k n e) =
@@ -151,8 +151,8 @@ module _ (around : Surroundings) where
   silent_item t (h.IsSilent.default s) = let e = silent_default around t s in item_seen_is around t ∙ (ap (seen_by_rule around t) e.is ∙ e.unseen)
 
   -- nor does it declare a property
-  silent_properties : (t : Tree) → IsSilent around t → item_properties around t ≡ []
-  silent_properties t (h.IsSilent.decl s) = ap (properties_by_rule around t) (declared_rule (kind_of t) t (silent_taken (range_of_node t) t s))
+  pub silent_properties : (t : Tree) → IsSilent around t → item_properties around t ≡ []
+  silent_properties t (h.IsSilent.decl s) = ap (properties_by_rule around t) (declared_rule (kind_of t) t (silent_declares (range_of_node t) t s))
   silent_properties t (h.IsSilent.statement s) = ap (properties_by_rule around t) (silent_rule t s)
   silent_properties t (h.IsSilent.exported k s) = ap (λ j. properties_by_rule around t (rule_of_kind j t)) k
   silent_properties t (h.IsSilent.assigned k n e) =
@@ -359,15 +359,15 @@ module _ (r : Renaming) (ok : IsRenaming r) where
 
     -- both are taken, and what is seen is alike
     record DeclsAlike (p q : SourceRange) (t u : Tree) : Type 0 where
-      left : is_taken_decl (decl_rule (kind_of t)) ≡ true
-      right : is_taken_decl (decl_rule (kind_of u)) ≡ true
+      left : declares (decl_rule (kind_of t)) ≡ true
+      right : declares (decl_rule (kind_of u)) ≡ true
       alike : AllAlike r ok (decl_seen a p t (decl_rule (kind_of t))) (decl_seen b q u (decl_rule (kind_of u)))
 
     by_rule : (p q : SourceRange) (t u : Tree) (rule : DeclRule) → decl_rule (kind_of t) ≡ rule → decl_rule (kind_of u) ≡ rule →
-        is_taken_decl rule ≡ true → AllAlike r ok (decl_seen a p t rule) (decl_seen b q u rule) → DeclsAlike p q t u
+        declares rule ≡ true → AllAlike r ok (decl_seen a p t rule) (decl_seen b q u rule) → DeclsAlike p q t u
     by_rule p q t u rule e f taken s = record {
-      left = ap is_taken_decl e ∙ taken;
-      right = ap is_taken_decl f ∙ taken;
+      left = ap declares e ∙ taken;
+      right = ap declares f ∙ taken;
       alike = subst₂ (λ x y. AllAlike r ok (decl_seen a p t x) (decl_seen b q u y)) (sym e) (sym f) s;
     }
 
@@ -448,7 +448,7 @@ module _ (r : Renaming) (ok : IsRenaming r) where
     -- declarations that agree are taken
     pub decl_taken : SameBindings r a.bindings b.bindings → a.is_ambient ≡ b.is_ambient →
         (p q : SourceRange) (t u : Tree) → SameDecl r a b p q t u →
-        (is_taken_decl (decl_rule (kind_of t)) ≡ true) × (is_taken_decl (decl_rule (kind_of u)) ≡ true)
+        (declares (decl_rule (kind_of t)) ≡ true) × (declares (decl_rule (kind_of u)) ≡ true)
     decl_taken c m p q t u d = let e = decl_alike c m p q t u d in (e.left, e.right)
 
     -- ---- items
@@ -484,7 +484,7 @@ module _ (r : Renaming) (ok : IsRenaming r) where
     namespace_of : (around : Surroundings) (t : Tree) → kind_of t ≡ TsModuleDecl →
         item_seen around t ≡ namespace_seen item_look around (range_of_node t) t
     namespace_of around t k =
-        item_of around t (ap (λ j. is_taken_decl (decl_rule j)) k) ∙ ap (λ j. decl_seen around (range_of_node t) t (decl_rule j)) k
+        item_of around t (ap (λ j. declares (decl_rule j)) k) ∙ ap (λ j. decl_seen around (range_of_node t) t (decl_rule j)) k
 
     exported_namespace_of : (around : Surroundings) (t : Tree) → kind_of t ≡ ExportDecl → kind_of (ExportDecl-decl t) ≡ TsModuleDecl →
         item_seen around t ≡ exported_seen t (namespace_seen item_look around (ExportDecl-span t) (ExportDecl-decl t))

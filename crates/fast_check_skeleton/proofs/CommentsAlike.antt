@@ -53,7 +53,7 @@ use Rattle.fast_check_skeleton.proofs.Namespaces.{innermost_block, innermost_inn
 use Rattle.fast_check_skeleton.proofs.AgreeingLinks.{silent_link, links_alike}
 use Rattle.fast_check_skeleton.proofs.AgreeingDefaults.{silent_default, defaults_alike}
 use Rattle.fast_check_skeleton.proofs.RemovedMembers.{is_among, one_start, no_left, no_right, class_removed}
-use Rattle.fast_check_skeleton.proofs.Agreeing.{silent_taken, silent_item, ambient_class_same, decl_taken, namespace_kinds, item_alike, same_trees}
+use Rattle.fast_check_skeleton.proofs.Agreeing.{silent_declares, silent_item, ambient_class_same, decl_taken, namespace_kinds, item_alike, same_trees}
 use Rattle.fast_check_skeleton.proofs.ItemRanges.{range_of_variables, range_of_function, range_of_class, range_of_module, range_of_using, range_of_export, range_alike}
 
 -- ---- what is left at a position
@@ -144,7 +144,7 @@ silent_default_inside around t Interface e = refl
 
 silent_inside : (around : Surroundings) (t : Tree) → h.IsSilent around t → starts_inside around t (item_rule t) ≡ []
 silent_inside around t (h.IsSilent.decl s) =
-    ap (starts_inside around t) (declared_rule (kind_of t) t (silent_taken around (range_of_node t) t s)) ∙ silent_decl_inside around (range_of_node t) t s
+    ap (starts_inside around t) (declared_rule (kind_of t) t (silent_declares around (range_of_node t) t s)) ∙ silent_decl_inside around (range_of_node t) t s
 silent_inside around t (h.IsSilent.statement s) = ap (starts_inside around t) (silent_rule t s)
 silent_inside around t (h.IsSilent.exported k s) =
     ap (λ j. starts_inside around t (rule_of_kind j t)) k ∙ silent_decl_inside around (ExportDecl-span t) (ExportDecl-decl t) s
@@ -198,7 +198,7 @@ silent_decl_below around place t (h.IsSilentDecl.namespace k n e) =
 
 silent_below : (around : Surroundings) (t : Tree) → h.IsSilent around t → starts_below start_look around t (item_rule t) ≡ []
 silent_below around t (h.IsSilent.decl s) =
-    ap (starts_below start_look around t) (declared_rule (kind_of t) t (silent_taken around (range_of_node t) t s))
+    ap (starts_below start_look around t) (declared_rule (kind_of t) t (silent_declares around (range_of_node t) t s))
     ∙ silent_decl_below around (range_of_node t) t s
 silent_below around t (h.IsSilent.statement s) = ap (starts_below start_look around t) (silent_rule t s)
 silent_below around t (h.IsSilent.exported k s) =

@@ -13,6 +13,7 @@ use Rattle.fast_check_helpers.specs.Builders.{new_ident}
 use Rattle.fast_check_ranges.specs.Ranges.{range_of_node}
 use Rattle.fast_check_same_values.specs.SameClasses.{IsNoPartner}
 use Rattle.fast_check_signatures.specs.Seen.{Seen, written, range, flag, round, seens}
+use Rattle.fast_check_expandos.specs.Expandos.{namespaces_seen}
 use Rattle.fast_check_skeleton.specs.ClassExample.{no_places, all_public}
 use Rattle.fast_check_skeleton.specs.Example.{at}
 use Rattle.fast_check_skeleton.specs.Hidden.{SameNamespaceHead, SameInnerHead, SameBody, SameItem, SameItems, IsSilent, AgreeHidden}
@@ -22,7 +23,7 @@ use Rattle.fast_check_skeleton.specs.Namespaces.{is_namespace, innermost, block_
 use Rattle.fast_check_skeleton.specs.Skeleton.{skeleton_of}
 use Rattle.fast_check_skeleton.specs.Surroundings.{Surroundings, inside}
 use Rattle.fast_check_skeleton.specs.Visible.{item_look, body_seen, item_seen, seen_by_rule}
-use Rattle.fast_check_skeleton.proofs.Agreeing.{silent_item}
+use Rattle.fast_check_skeleton.proofs.Agreeing.{silent_item, silent_properties}
 use Rattle.fast_check_skeleton.proofs.ClassExample.{is_renaming, same_absent, same_ident, at_places, are_same, items_made}
 use Rattle.fast_check_skeleton.proofs.Namespaces.{inner_round, block_round, innermost_block, innermost_inner, body_of_block, body_of_inner, item_seen_is}
 use Rattle.fast_check_skeleton.proofs.Namespaces.{namespace_if}
@@ -134,7 +135,7 @@ seen_as ts e =
     ∙ ap (λ body. round_body decl body ∷ []) (body_is ts))))
 
 nothing_hidden : (around : Surroundings) → body_seen item_look around (hidden ∷ []) ≡ []
-nothing_hidden around = ap (λ ss. ss ++ []) (silent_item around hidden (silent around))
+nothing_hidden around = λ i. (silent_item around hidden (silent around) i ++ []) ++ namespaces_seen (silent_properties around hidden (silent around) i ++ [])
 
 first_is : skeleton_of all_public first ≡ first
 first_is = simp (seen_as [] refl, parts_node, kind_of_node, range_of_range, flag_of_flag, is_absent_node)

@@ -16,7 +16,7 @@ use Rattle.fast_check_skeleton.specs.declared.rules.ItemRule.TheVariants.{Declar
 use Rattle.fast_check_skeleton.specs.declared.rules.LinkRule.TheVariants.{Alias}
 use Rattle.fast_check_skeleton.specs.Hidden.{is_plain_statement}
 use Rattle.fast_check_skeleton.specs.Kinds.{is_standing, is_statement}
-use Rattle.fast_check_skeleton.specs.Rules.{decl_rule, expr_stmt_rule, default_rule, is_require, rule_of_kind, item_rule, is_taken_decl}
+use Rattle.fast_check_skeleton.specs.Rules.{decl_rule, expr_stmt_rule, default_rule, is_require, rule_of_kind, item_rule, declares}
 
 abbrev stands : DeclRule → Bool
 stands Standing = true
@@ -86,7 +86,7 @@ pub assigned_rule : (t : Tree) → kind_of t ≡ kinds.ExprStmt → kind_of (Exp
 assigned_rule t e d = rule_by_kind t kinds.ExprStmt e ∙ ap expr_stmt_rule d
 
 -- a declaration that is taken is an item of its own
-pub declared_rule : (k : Kind) (t : Tree) → is_taken_decl (decl_rule k) ≡ true → rule_of_kind k t ≡ Declared (decl_rule k)
+pub declared_rule : (k : Kind) (t : Tree) → declares (decl_rule k) ≡ true → rule_of_kind k t ≡ Declared (decl_rule k)
 declared_rule kinds.VarDecl t e = refl
 declared_rule kinds.FnDecl t e = refl
 declared_rule kinds.ClassDecl t e = refl

@@ -44,7 +44,7 @@ use Rattle.fast_check_typed_grammar.proofs.TypedClasses.{ambient_stands, class_s
 use Rattle.fast_check_typed_grammar.proofs.Present.{stays_there}
 use Rattle.fast_check_typed_grammar.proofs.Typed.{expr_stays, function_is_typed, implementation_is_typed}
 use Rattle.fast_check_skeleton.specs.declared.rules.DeclRule.{DeclRule}
-use Rattle.fast_check_skeleton.specs.declared.rules.DeclRule.TheVariants.{Variables, Function, Class, Standing, Namespace, Using, Untaken}
+use Rattle.fast_check_skeleton.specs.declared.rules.DeclRule.TheVariants.{Variables, Function, Class, Standing, Namespace, Using, NoDeclaration}
 use Rattle.fast_check_skeleton.specs.declared.rules.DefaultRule.{DefaultRule}
 use Rattle.fast_check_skeleton.specs.declared.rules.DefaultRule.TheVariants as defaults
 use Rattle.fast_check_skeleton.specs.declared.rules.DefaultRule.TheVariants.{Value, Interface}
@@ -302,7 +302,7 @@ module _ (around : Surroundings) where
       all_if IsDecl (around.is_public place) (written decl) (λ f. inr (inr (inr (standing_kind (kind_of decl) q))))
   decl_stays look place decl Namespace q n = cc
   decl_stays look place decl Using q n = all_if IsDecl (is_public_using around place decl) (faulty UnsupportedUsing (using_place decl)) (λ f. not_empty f)
-  decl_stays look place decl Untaken q n = tt
+  decl_stays look place decl NoDeclaration q n = tt
 
   -- namespaces, where what is seen of the lower items stays
   namespace_stays : (limit : ℕ) → ((u : Tree) (here : Surroundings) → height u < limit → AllStay (IsTypedItem here.bindings here.is_ambient) (item_look u here)) →
@@ -366,7 +366,7 @@ module _ (around : Surroundings) where
   form_one look place decl Standing = one_if (around.is_public place) (written decl) (decl, refl)
   form_one look place decl Namespace = namespace_one look place decl
   form_one look place decl Using = one_if (is_public_using around place decl) (faulty UnsupportedUsing (using_place decl)) (Absent, refl)
-  form_one look place decl Untaken = tt
+  form_one look place decl NoDeclaration = tt
 
   pub decl_one : (place : SourceRange) (decl : Tree) (rule : DeclRule) → OneTree (decl_seen around place decl rule)
   decl_one = form_one item_look

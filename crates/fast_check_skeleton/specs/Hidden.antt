@@ -87,13 +87,15 @@ module _ (r : Renaming) (a b : Surroundings) where
     typed : {t u : Tree} → SameHead t u → is_absent (declared_type t) ≡ false → SameDeclarator mutability t u
     -- any values of the same inferred type
     inferred : {t u : Tree} (x y : Tree) → SameHead t u →
-        inferred_type mutability a.bindings.unresolved (VarDeclarator-init t) ≡ Some x → inferred_type mutability b.bindings.unresolved (VarDeclarator-init u) ≡ Some y →
+        inferred_type mutability a.bindings.unresolved (VarDeclarator-init t) ≡ Some x →
+        inferred_type mutability b.bindings.unresolved (VarDeclarator-init u) ≡ Some y →
         SameTree r x y → SameDeclarator mutability t u
     -- the same values
     same : {t u : Tree} → SameHead t u → SameTree r (VarDeclarator-init t) (VarDeclarator-init u) → SameDeclarator mutability t u
     -- values that show no type and are to stay
     kept : {t u : Tree} → SameHead t u →
-        inferred_type mutability a.bindings.unresolved (VarDeclarator-init t) ≡ None → inferred_type mutability b.bindings.unresolved (VarDeclarator-init u) ≡ None →
+        inferred_type mutability a.bindings.unresolved (VarDeclarator-init t) ≡ None →
+        inferred_type mutability b.bindings.unresolved (VarDeclarator-init u) ≡ None →
         SameExpr r a.bindings b.bindings (VarDeclarator-init t) (VarDeclarator-init u) → SameDeclarator mutability t u
     -- any values and types of patterns, which can't be declared
     destructured : {t u : Tree} → Neither BindingIdent (VarDeclarator-name t) (VarDeclarator-name u) →

@@ -9,7 +9,6 @@ pub mod Visible
 pub mod Skeleton
 pub mod Grammar
 pub mod KeptComments
-pub mod Carried
 pub mod SameComments
 pub mod SameAssignments
 pub mod SameLinks

@@ -1,4 +1,4 @@
--- What is done with the items of a module, kind by kind. What no row names is not taken so far.
+-- What is done with the items of a module, kind by kind. Of what no row names nothing is seen.
 use Rattle.std.specs.Prelude.{Bool, true, false, if◌then◌else◌}
 use Rattle.fast_check_syntax.specs.declared.kind.Kind.{Kind}
 use Rattle.fast_check_syntax.specs.declared.kind.Kind.TheVariants as kinds
@@ -7,7 +7,7 @@ use Rattle.fast_check_syntax.specs.Shape.{◌is◌, kind_of}
 use Rattle.fast_check_program_forms.specs.ModuleDecls.{ExportDecl-decl, ExportDefaultDecl-decl, TsImportEqualsDecl-module_ref}
 use Rattle.fast_check_statement_forms.specs.Statements.{ExprStmt-expr}
 use Rattle.fast_check_skeleton.specs.declared.rules.DeclRule.{DeclRule}
-use Rattle.fast_check_skeleton.specs.declared.rules.DeclRule.TheVariants.{Variables, Function, Class, Standing, Namespace, Using, Untaken}
+use Rattle.fast_check_skeleton.specs.declared.rules.DeclRule.TheVariants.{Variables, Function, Class, Standing, Namespace, Using, NoDeclaration}
 use Rattle.fast_check_signatures.specs.declared.fault.FaultKind.TheVariants.{UnsupportedRequire, UnsupportedTsExportAssignment, UnsupportedTsNamespaceExport}
 use Rattle.fast_check_skeleton.specs.declared.rules.DefaultRule.TheVariants as defaults
 use Rattle.fast_check_skeleton.specs.declared.rules.LinkRule.TheVariants as links
@@ -24,7 +24,7 @@ decl_rule kinds.TsTypeAliasDecl = Standing
 decl_rule kinds.TsEnumDecl = Standing
 decl_rule kinds.TsModuleDecl = Namespace
 decl_rule kinds.UsingDecl = Using
-decl_rule _ = Untaken
+decl_rule _ = NoDeclaration
 
 -- what is done with an expression that is a statement, by its kind
 abbrev pub expr_stmt_rule : Kind → ItemRule
@@ -36,7 +36,7 @@ abbrev pub default_rule : Kind → ItemRule
 default_rule kinds.ClassExpr = Default defaults.Class
 default_rule kinds.FnExpr = Default defaults.Function
 default_rule kinds.TsInterfaceDecl = Default defaults.Interface
-default_rule _ = Declared Untaken
+default_rule _ = Declared NoDeclaration
 
 -- whether an import is `import x = require(..)`, and not `import x = A.B`
 abbrev pub is_require : Tree → Bool
@@ -81,12 +81,7 @@ abbrev pub is_assigned : ItemRule → Bool
 is_assigned Assigned = true
 is_assigned _ = false
 
--- whether a declaration is taken, and an item
-abbrev pub is_taken_decl : DeclRule → Bool
-is_taken_decl Untaken = false
-is_taken_decl _ = true
-
-abbrev pub is_taken : ItemRule → Bool
-is_taken (Declared rule) = is_taken_decl rule
-is_taken (Exported rule) = is_taken_decl rule
-is_taken _ = true
+-- whether it declares something
+abbrev pub declares : DeclRule → Bool
+declares NoDeclaration = false
+declares _ = true

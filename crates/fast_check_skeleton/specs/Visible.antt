@@ -28,7 +28,7 @@ use Rattle.fast_check_signatures.specs.Expressions.{expr_seen}
 use Rattle.fast_check_signatures.specs.Functions.{function_seen, implementation_seen}
 use Rattle.fast_check_signatures.specs.Seen.{DeclaratorHead, Seen, written, range, scope, flag, round, listed, declarator, faulty, refused, seens}
 use Rattle.fast_check_skeleton.specs.declared.rules.DeclRule.{DeclRule}
-use Rattle.fast_check_skeleton.specs.declared.rules.DeclRule.TheVariants.{Variables, Function, Class, Standing, Namespace, Using, Untaken}
+use Rattle.fast_check_skeleton.specs.declared.rules.DeclRule.TheVariants.{Variables, Function, Class, Standing, Namespace, Using, NoDeclaration}
 use Rattle.fast_check_skeleton.specs.declared.rules.ItemRule.{ItemRule}
 use Rattle.fast_check_skeleton.specs.declared.rules.ItemRule.TheVariants.{Declared, Exported, Linked, Default, Refused, Assigned, Silent}
 use Rattle.fast_check_expandos.specs.declared.properties.ExpandoProperty.{ExpandoProperty}
@@ -182,7 +182,7 @@ namespace_seen look around place decl =
     else (if around.is_public place then namespace_round (body_seen look (inside around decl) (items_inside decl)) decl ∷ [] else []))
 
 -- A declaration, by what is done with it. Of a variable statement the declarators are public, by their own ranges; another is public by `place`, which is the
--- range of its export, or else its own. Of one that is not taken nothing is seen.
+-- range of its export, or else its own. Of what is no declaration nothing is seen.
 abbrev pub decl_form : ItemLook → Surroundings → SourceRange → Tree → DeclRule → List Seen
 decl_form look around place decl Variables = statement_seen decl (public_declarators around decl)
 decl_form look around place decl Function = public_function around place decl
@@ -190,7 +190,7 @@ decl_form look around place decl Class = public_class around place decl
 decl_form look around place decl Standing = standing_seen around place decl
 decl_form look around place decl Namespace = namespace_seen look around place decl
 decl_form look around place decl Using = using_seen around place decl
-decl_form look around place decl Untaken = []
+decl_form look around place decl NoDeclaration = []
 
 -- an exported declaration; nothing where none of it is seen
 abbrev pub exported_seen : Tree → List Seen → List Seen

@@ -22,8 +22,8 @@ pub enum DeclRule {
     Namespace,
     /// `using`: no skeleton has what it declares.
     Using,
-    /// A declaration that is not taken so far.
-    Untaken,
+    /// What is no declaration: nothing of it is seen.
+    NoDeclaration,
 }
 
 /// An import or an export that leads to other modules, or to other names.
@@ -83,7 +83,7 @@ pub fn decl_rule(kind: Kind) -> DeclRule
         Kind::TsInterfaceDecl | Kind::TsTypeAliasDecl | Kind::TsEnumDecl => DeclRule::Standing,
         Kind::TsModuleDecl => DeclRule::Namespace,
         Kind::UsingDecl => DeclRule::Using,
-        _ => DeclRule::Untaken,
+        _ => DeclRule::NoDeclaration,
     }
 }
 
@@ -95,7 +95,7 @@ fn default_rule(kind: Kind) -> ItemRule
         Kind::ClassExpr => ItemRule::Default(DefaultRule::Class),
         Kind::FnExpr => ItemRule::Default(DefaultRule::Function),
         Kind::TsInterfaceDecl => ItemRule::Default(DefaultRule::Interface),
-        _ => ItemRule::Declared(DeclRule::Untaken),
+        _ => ItemRule::Declared(DeclRule::NoDeclaration),
     }
 }
 

@@ -12,7 +12,7 @@ use Rattle.fast_check_signatures.specs.Answers.{Answer, Adds, fault_at, faultles
 use Rattle.fast_check_signatures.specs.Seen.{Seen, written, faulty}
 use Rattle.fast_check_signatures.proofs.Adding.{adds_nothing, adds_fault, adds_same}
 use Rattle.fast_check_skeleton.specs.declared.rules.DeclRule.{DeclRule}
-use Rattle.fast_check_skeleton.specs.declared.rules.DeclRule.TheVariants.{Variables, Function, Class, Standing, Namespace, Using, Untaken}
+use Rattle.fast_check_skeleton.specs.declared.rules.DeclRule.TheVariants.{Variables, Function, Class, Standing, Namespace, Using, NoDeclaration}
 use Rattle.fast_check_skeleton.specs.declared.rules.DefaultRule.{DefaultRule}
 use Rattle.fast_check_skeleton.specs.declared.rules.LinkRule.{LinkRule}
 use Rattle.fast_check_skeleton.specs.declared.rules.ItemRule.{ItemRule}
@@ -74,7 +74,7 @@ module _ (around : Surroundings) (place : SourceRange) (decl : Tree) where
   unfolding decl_answer using_answer
   using_stays r h = adds_same (ap by_rule r) h
 
-  pub untaken : {rule : DeclRule} → rule ≡ Untaken → (old : List Fault) → Adds (decl_answer around place decl rule) [] old old
+  pub untaken : {rule : DeclRule} → rule ≡ NoDeclaration → (old : List Fault) → Adds (decl_answer around place decl rule) [] old old
   unfolding decl_answer
   untaken r old = adds_same (ap by_rule r) (adds_nothing [] old)
 

@@ -141,7 +141,7 @@ fn keep_decl(
         DeclRule::Standing => keep_standing(alloc, asked, place, decl),
         DeclRule::Namespace => keep_namespace(alloc, asked, place, decl, comments, faults),
         DeclRule::Using => keep_using(asked, place, decl, faults),
-        DeclRule::Untaken => Ok(None),
+        DeclRule::NoDeclaration => Ok(None),
     }
 }
 

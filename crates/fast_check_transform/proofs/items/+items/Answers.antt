@@ -186,9 +186,9 @@ keep_decl-returns-in-Namespace-clause-answer t c =
     IfOk-weaker c.keep_namespace.result _ _
     (λ tree h. namespaces (Asked-around c.args.asked) c.args.place (seen c.args.decl) c.in-Namespace.is h) c.keep_namespace.ensures.answer
 
-pub keep_decl-returns-in-Untaken-clause-answer : goal.keep_decl-returns-in-Untaken-clause-answer
-keep_decl-returns-in-Untaken-clause-answer t c =
-    untaken (Asked-around c.args.asked) c.args.place (seen c.args.decl) c.in-Untaken.is c.args.faults.now.items
+pub keep_decl-returns-in-NoDeclaration-clause-answer : goal.keep_decl-returns-in-NoDeclaration-clause-answer
+keep_decl-returns-in-NoDeclaration-clause-answer t c =
+    untaken (Asked-around c.args.asked) c.args.place (seen c.args.decl) c.in-NoDeclaration.is c.args.faults.now.items
 
 pub keep_decl-returns-in-Variables-clause-comments : goal.keep_decl-returns-in-Variables-clause-comments
 keep_decl-returns-in-Variables-clause-comments t c =
@@ -220,10 +220,10 @@ keep_decl-returns-in-Namespace-clause-comments t c =
     IfOk-weaker c.keep_namespace.result _ _ (λ tree h. h ∙ ap (λ r. without_all_leading (starts_in_body start_look (Asked-around c.args.asked) c.args.place
     (seen c.args.decl) r) c.args.comments.now) (sym c.in-Namespace.is)) c.keep_namespace.ensures.comments
 
-pub keep_decl-returns-in-Untaken-clause-comments : goal.keep_decl-returns-in-Untaken-clause-comments
-keep_decl-returns-in-Untaken-clause-comments t c =
+pub keep_decl-returns-in-NoDeclaration-clause-comments : goal.keep_decl-returns-in-NoDeclaration-clause-comments
+keep_decl-returns-in-NoDeclaration-clause-comments t c =
     ap (λ r. without_all_leading (starts_in_body start_look (Asked-around c.args.asked) c.args.place (seen c.args.decl) r) c.args.comments.now)
-    (sym c.in-Untaken.is)
+    (sym c.in-NoDeclaration.is)
 
 -- ---- exports
 
