@@ -1,4 +1,4 @@
-ghost use Rattle.std.specs.Prelude.{◌≡◌, IfOk};
+ghost use Rattle.std.specs.Prelude.{◌≡◌, [], IfOk};
 ghost use Rattle.std.specs.List.{list_any};
 ghost use Rattle.fast_check_tables.specs.PublicRanges.{is_public, is_implementation, same_range};
 
@@ -7,6 +7,7 @@ use fast_check_syntax::SourceRange;
 use std::alloc::{AllocError, Global};
 use std::collections::BTreeSet;
 use std::marker::Model;
+use std::mem;
 
 /// What is public in a module, by ranges of its source text, with the diagnostics that were found with it.
 #[derive(Debug, Drop)]
@@ -56,6 +57,15 @@ impl ModulePublicRanges {
         ensures { result ≡ is_implementation self.now range.now }
     {
         self.impl_with_overload_ranges.contains(range)
+    }
+
+    /// Takes the diagnostics out, and leaves none. It takes no memory.
+    pub fn take_diagnostics(&mut self) -> Vec<FastCheckDiagnostic>
+        ensures taken { result.items ≡ self.old.diagnostics }
+        ensures left { self.new ≡ record self.old { diagnostics = [] } }
+    {
+        let none = Vec::new(*self.diagnostics.allocator());
+        mem::replace(&mut self.diagnostics, none)
     }
 }
 
