@@ -74,9 +74,9 @@ module _ (around : Surroundings) (place : SourceRange) (decl : Tree) where
   unfolding decl_answer using_answer
   using_stays r h = adds_same (ap by_rule r) h
 
-  pub untaken : {rule : DeclRule} → rule ≡ NoDeclaration → (old : List Fault) → Adds (decl_answer around place decl rule) [] old old
+  pub undeclared : {rule : DeclRule} → rule ≡ NoDeclaration → (old : List Fault) → Adds (decl_answer around place decl rule) [] old old
   unfolding decl_answer
-  untaken r old = adds_same (ap by_rule r) (adds_nothing [] old)
+  undeclared r old = adds_same (ap by_rule r) (adds_nothing [] old)
 
 module _ (around : Surroundings) (item : Tree) where
   -- what is seen of a declaration is one form at most
@@ -191,11 +191,11 @@ module _ (around : Surroundings) where
       (sym (append-nil xs))
 
   -- the namespaces behind them
-  pub with_namespaces : {items : List Tree} {ps : List ExpandoProperty} {xs ys zs : List Tree} {old mid new : List Fault} →
+  pub with_namespaces : (items : List Tree) {ps : List ExpandoProperty} {xs ys zs : List Tree} {old mid new : List Fault} →
       Adds (each_answer around items) xs old mid → ps ≡ flat_map (item_properties around) items → Adds (answer_of (namespaces_seen ps)) ys mid new →
       zs ≡ xs ++ ys → Adds (items_answer around items) zs old new
   unfolding each_answer items_answer
-  with_namespaces {items} {old = old} {new = new} g e k p =
+  with_namespaces items {old = old} {new = new} g e k p =
       subst (λ x. Adds (items_answer around items) x old new) (sym p)
       (adds_same (answer_append (flat_map (λ item. item_look item around) items) (namespaces_seen (flat_map (item_properties around) items)))
       (adds_joined ◌++◌ g (adds_same (ap (λ qs. answer_of (namespaces_seen qs)) (sym e)) k)))
@@ -228,21 +228,21 @@ module _ (around : Surroundings) (items : List Tree) (i : ℕ) (item : Tree) (h 
       ∙ (flat_map-append (item_properties around) (take i items) (item ∷ [])
       ∙ ap (λ ps. flat_map (item_properties around) (take i items) ++ ps) (append-nil (item_properties around item)))
 
-  pub same_properties : is_assigned (item_rule item) ≡ false → {old new : List ExpandoProperty} →
+  pub same_properties : is_assigned (item_rule item) ≡ false → (old : List ExpandoProperty) {new : List ExpandoProperty} →
       new ≡ old ++ flat_map (item_properties around) (take i items) → new ≡ old ++ flat_map (item_properties around) (take (i + 1) items)
-  same_properties n {old} p =
+  same_properties n old p =
       p ∙ ap (λ ps. old ++ ps) (sym (taken ∙ (ap (λ ps. flat_map (item_properties around) (take i items) ++ ps) (none_by_rule around item (item_rule item) n)
       ∙ append-nil (flat_map (item_properties around) (take i items)))))
 
-  pub more_properties : item_rule item ≡ Assigned → {assignment : Tree} → assignment ≡ ExprStmt-expr item → {old mid new : List ExpandoProperty} →
+  pub more_properties : item_rule item ≡ Assigned → {assignment : Tree} → assignment ≡ ExprStmt-expr item → (old : List ExpandoProperty) {mid new : List ExpandoProperty} →
       mid ≡ old ++ flat_map (item_properties around) (take i items) → new ≡ mid ++ assignment_properties around assignment →
       new ≡ old ++ flat_map (item_properties around) (take (i + 1) items)
   unfolding assignment_properties
-  more_properties r a {old} p q =
+  more_properties r a old p q =
       q ∙ (λ j. p j ++ declared_properties around.is_public around.bindings around.objects (a j))
       ∙ (append_assoc old (flat_map (item_properties around) (take i items)) (declared_properties around.is_public around.bindings around.objects (ExprStmt-expr item))
       ∙ ap (λ ps. old ++ ps) (sym (taken ∙ ap (λ x. flat_map (item_properties around) (take i items) ++ properties_by_rule around item x) r)))
 
-pub all_properties : (around : Surroundings) {items all : List Tree} (i : ℕ) → length items ≤ i → items ≡ all → {old new : List ExpandoProperty} →
+pub all_properties : (around : Surroundings) {items all : List Tree} (i : ℕ) → length items ≤ i → items ≡ all → (old : List ExpandoProperty) {new : List ExpandoProperty} →
     new ≡ old ++ flat_map (item_properties around) (take i items) → new ≡ old ++ flat_map (item_properties around) all
-all_properties around {items} i h e {old} p = p ∙ ap (λ ts. old ++ flat_map (item_properties around) ts) (take_all i items h ∙ e)
+all_properties around {items} i h e old p = p ∙ ap (λ ts. old ++ flat_map (item_properties around) ts) (take_all i items h ∙ e)

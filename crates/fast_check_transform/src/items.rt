@@ -216,6 +216,7 @@ fn keep_item(
         ItemRule::Linked(rule) => keep_link(alloc, asked, item, rule),
         ItemRule::Default(rule) => keep_default(alloc, asked, item, rule, faults),
         ItemRule::Refused(kind) => refuse(item, kind, faults),
-        ItemRule::Assigned | ItemRule::Silent => Ok(None),
+        ItemRule::Assigned => Ok(None),
+        ItemRule::Silent => Ok(None),
     }
 }

@@ -5,12 +5,17 @@ use Rattle.fast_check_comments.specs.Kept.{without_leading}
 use Rattle.fast_check_program_forms.specs.ModuleDecls.{export_decl}
 use Rattle.fast_check_ranges.specs.Ranges.{range_of_node}
 use Rattle.fast_check_skeleton.specs.KeptComments.{start_look, starts_in_body, starts_below, without_all_leading}
+use Rattle.std.specs.Prelude.{List}
+use Rattle.std.specs.List.{flat_map}
+use Rattle.fast_check_expandos.specs.declared.properties.ExpandoProperty.{ExpandoProperty}
+use Rattle.fast_check_skeleton.specs.Visible.{item_properties}
 use Rattle.fast_check_syntax.specs.Part.{seen}
+use Rattle.fast_check_syntax.specs.Shape.{parts}
 use Rattle.fast_check_syntax.specs.Height.{height_read, height_at_most}
 use Rattle.fast_check_classes.proofs.Making.{none_of}
 use Rattle.fast_check_links.specs.Asked.{Asked-around}
 use Rattle.fast_check_links.specs.Links.{as_list}
-use Rattle.fast_check_transform.proofs.ByRule.{variables, functions, classes, standing, namespaces, using_stays, untaken}
+use Rattle.fast_check_transform.proofs.ByRule.{variables, functions, classes, standing, namespaces, using_stays, undeclared}
 use Rattle.fast_check_transform.proofs.ByRule.{declared, exported, no_export, made_export, linked, default_export, refused, silent}
 use Rattle.fast_check_transform.proofs.ByRule.{no_items, one_more_item, one_more_assigned, all_items, with_namespaces}
 use Rattle.fast_check_transform.proofs.ByRule.{assigned_is, same_properties, more_properties, all_properties}
@@ -27,8 +32,11 @@ keep_items-keep_each-requires t c = grind (arith, common_steps)
 
 pub keep_items-returns-clause-answer : goal.keep_items-returns-clause-answer
 keep_items-returns-clause-answer t c =
+    let around = Asked-around c.args.asked in
+    let items = parts (seen c.args.body) in
     let each = c.in_ok-items.ensures in
-    with_namespaces (Asked-around c.args.asked) each.answer (each.properties ∙ ap (λ p. p.items ++ _) c.new-properties.ensures)
+    with_namespaces around items each.answer
+    (each.properties ∙ ap (λ (ps : List ExpandoProperty). ps ++ flat_map (item_properties around) items) c.new-properties.ensures.items)
     c.in_ok-keep_namespaces.ensures c.in_ok-append.ensures
 
 pub keep_items-returns-clause-comments : goal.keep_items-returns-clause-comments
@@ -55,7 +63,7 @@ keep_each-loop-item-preserved-then-is_assigned t c =
     let kept = c.in_ok-keep_assignment.ensures in
     record {
       answer = one_more_assigned around all i item c.loop-item-test.true (search rules) rule c.of.ensures.expr c.loop-item.invariant.answer kept.answer;
-      properties = more_properties around all i item c.loop-item-test.true (search rules) rule c.of.ensures.expr c.loop-item.invariant.properties kept.properties;
+      properties = more_properties around all i item c.loop-item-test.true (search rules) rule c.of.ensures.expr _ c.loop-item.invariant.properties kept.properties;
       comments = c.remove_leading.ensures ∙ ((λ i. without_leading (start i) (c.loop-item.invariant.comments i))
           ∙ sym (one_more around all i item ((range_of_node item).start ∷ []) c.args.comments.now c.loop-item-test.true (search rules)
           (removed_if_assigned around item rule)));
@@ -65,7 +73,7 @@ pub keep_each-loop-item-preserved-in-None : goal.keep_each-loop-item-preserved-i
 keep_each-loop-item-preserved-in-None t c =
     let around = Asked-around c.args.asked in
     let item = seen c.read-item.result in
-    let start = ap (λ r. r.start) c.range_of_node.ensures in
+    let start = ap (λ r. r.start) c.range_of_node-in-None.ensures in
     let kept = c.in_ok-keep_item.ensures in
     let starts = (range_of_node item).start ∷ inside around item in
     record {
@@ -73,10 +81,10 @@ keep_each-loop-item-preserved-in-None t c =
           (search rules) c.loop-item.invariant.answer
           kept.answer (sym (append-nil c.loop-item.items) ∙ ap (λ o. c.loop-item.items ++ as_list o) (sym c.in-None.is));
       properties = same_properties around c.parts-item-items.result.now c.loop-item.item-index item c.loop-item-test.true (search rules)
-          (sym c.is_assigned.ensures ∙ c.if-is_assigned.false) c.loop-item.invariant.properties;
+          (sym c.is_assigned.ensures ∙ c.if-is_assigned.false) _ c.loop-item.invariant.properties;
       comments = c.in_ok-remove_inside-in-None.ensures
           ∙ (ap (without_all_leading (inside around item))
-          (c.remove_leading.ensures ∙ (λ i. without_leading (start i)
+          (c.remove_leading-in-None.ensures ∙ (λ i. without_leading (start i)
           ((kept.comments ∙ ap (without_all_leading (below around item)) c.loop-item.invariant.comments) i)))
           ∙ sym (one_more around c.parts-item-items.result.now c.loop-item.item-index item (below around item ++ starts) c.args.comments.now
           c.loop-item-test.true (search rules) (removed_if_none around item (sym c.is_assigned.ensures ∙ c.if-is_assigned.false) kept.answer (ap as_list c.in-None.is))
@@ -93,7 +101,7 @@ keep_each-loop-item-preserved t c =
           (search rules) c.loop-item.invariant.answer
           kept.answer (c.in_ok-push-in-Some.ensures.ok ∙ ap (λ o. c.loop-item.items ++ as_list o) (sym c.in-Some.is));
       properties = same_properties around c.parts-item-items.result.now c.loop-item.item-index item c.loop-item-test.true (search rules)
-          (sym c.is_assigned.ensures ∙ c.if-is_assigned.false) c.loop-item.invariant.properties;
+          (sym c.is_assigned.ensures ∙ c.if-is_assigned.false) _ c.loop-item.invariant.properties;
       comments = c.in_ok-remove_inside-in-Some.ensures
           ∙ (ap (without_all_leading (inside around item)) (kept.comments ∙ ap (without_all_leading (below around item)) c.loop-item.invariant.comments)
           ∙ sym (one_more around c.parts-item-items.result.now c.loop-item.item-index item (below around item ++ inside around item)
@@ -107,7 +115,7 @@ keep_each-returns-clause-answer t c =
 
 pub keep_each-returns-clause-properties : goal.keep_each-returns-clause-properties
 keep_each-returns-clause-properties t c =
-    all_properties (Asked-around c.args.asked) c.loop-item.item-index c.loop-item-test.false c.parts-item-items.ensures c.loop-item.invariant.properties
+    all_properties (Asked-around c.args.asked) c.loop-item.item-index c.loop-item-test.false c.parts-item-items.ensures _ c.loop-item.invariant.properties
 
 pub keep_each-returns-clause-comments : goal.keep_each-returns-clause-comments
 keep_each-returns-clause-comments t c = grind (arith, common_steps)
@@ -188,7 +196,7 @@ keep_decl-returns-in-Namespace-clause-answer t c =
 
 pub keep_decl-returns-in-NoDeclaration-clause-answer : goal.keep_decl-returns-in-NoDeclaration-clause-answer
 keep_decl-returns-in-NoDeclaration-clause-answer t c =
-    untaken (Asked-around c.args.asked) c.args.place (seen c.args.decl) c.in-NoDeclaration.is c.args.faults.now.items
+    undeclared (Asked-around c.args.asked) c.args.place (seen c.args.decl) c.in-NoDeclaration.is c.args.faults.now.items
 
 pub keep_decl-returns-in-Variables-clause-comments : goal.keep_decl-returns-in-Variables-clause-comments
 keep_decl-returns-in-Variables-clause-comments t c =
