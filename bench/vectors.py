@@ -518,21 +518,30 @@ def refusals():
     refused("fraction", changed(FIRST_VAR + ("ctxt",), 1.0))
     refused("a_fraction_anywhere", changed(("more",), [{"deep": 0.5}]))
     refused("an_exponent_anywhere", json.dumps(changed(("more",), 7)).replace(": 7}", ": 1e3}").encode())
-    title("modules that are not carried yet")
     left_out()
     assignment = {"Assign": {"op": "=", "left": {"Simple": {"Ident": ident(DUMMY, "a")}}, "right": {"Ident": ident(DUMMY, "b")}}}
-    refused("assignment", changed(BODY + (0,), {"Stmt": {"Expr": {"expr": assignment}}}))
+    rest = first_module()
+    rest.skeleton = rest.skeleton[1:]
+    answered("assignment", changed(BODY + (0,), {"Stmt": {"Expr": {"expr": assignment}}}), rest.answer())
     for what, namespace in [("namespace", {}), ("ambient_namespace", {"declare": True}), ("global_namespace", {"declare": True, "global": True})]:
         decl = {"TsModule": dict(namespace, id={"Ident": ident(DUMMY, "global" if "global" in namespace else "N")}, body={"TsModuleBlock": {}})}
-        refused(what, changed(BODY + (0,), {"Stmt": {"Decl": decl}}))
-        refused(f"exported_{what}", changed(BODY + (0,), {"ModuleDecl": {"ExportDecl": {"decl": decl}}}))
-    refused("ambient_module", changed(BODY + (0,), {"Stmt": {"Decl": {"TsModule": {"declare": True, "id": {"Str": {"value": "m"}}}}}}))
+        answer = fault_at_nothing("unsupported-global-module") if "global" in namespace else rest.answer()
+        answered(what, changed(BODY + (0,), {"Stmt": {"Decl": decl}}), answer)
+        answered(f"exported_{what}", changed(BODY + (0,), {"ModuleDecl": {"ExportDecl": {"decl": decl}}}), answer)
+    answered("ambient_module", changed(BODY + (0,), {"Stmt": {"Decl": {"TsModule": {"declare": True, "id": {"Str": {"value": "m"}}}}}}),
+        fault_at_nothing("unsupported-ambient-module"))
     title("comments of another form")
     refused("a_comment_of_no_kind", changed(SOURCE + ("comments", "leading"), [[1, [{"span": [1, 5], "text": " a"}]]]))
     refused("comments_without_position", changed(SOURCE + ("comments", "leading"), [[{"kind": "Line", "text": " a"}]]))
 
 
+def fault_at_nothing(kind):
+    """The answer of one fault at the range of no text."""
+    return {"Err": [diagnostic((kind, DUMMY, None, None), SPECIFIER, DOCS)]}
+
+
 def left_out():
+    title("items that are left out, or are not public")
     empty = {"span": DUMMY, "stmts": [], "ctxt": 0}
     rest = first_module()
     rest.skeleton = rest.skeleton[1:]
@@ -621,9 +630,18 @@ def tables():
     title("the same of public ranges: they are not admitted; faults of tables go before")
     refused("a_public_expando_without_symbol", expando_request([1, 8]), "ranges-not-admitted")
     refused("an_expando_of_the_tables_goes_before", expando_request([1, 8], symbols=ranged), "table-fault 4")
-    title("expando statements are not taken yet, which is asked last")
-    refused("a_public_expando_with_symbol", expando_request([1, 8], symbols=ranged, swc_ids=[[["q", 2], 1]]))
-    refused("an_expando_by_its_statement", expando_request([1, 9]))
+    title("a public expando whose object has a symbol declares a property; it is public by the range of the assignment alone")
+    name = {"span": DUMMY, "ctxt": 0, "sym": "x", "optional": False}
+    value = {"Lit": {"Num": {"span": [7, 8], "raw": "1"}}}
+    declarator = {"span": [1, 8], "name": {"Ident": {"id": name, "type_ann": None}}, "init": value, "definite": False}
+    variables = {"Var": {"span": DUMMY, "ctxt": 0, "kind": "Var", "declare": False, "decls": [declarator]}}
+    block = {"TsModuleBlock": {"span": DUMMY, "body": [{"ModuleDecl": {"ExportDecl": {"span": DUMMY, "decl": variables}}}]}}
+    namespace = {"span": DUMMY, "declare": False, "global": False, "namespace": True, "id": {"Ident": dict(name, sym="q")}, "body": block}
+    for case_name, ranges, items, more in (
+            ("a_public_expando_with_symbol", [1, 8], [{"Stmt": {"Decl": {"TsModule": namespace}}}], {"symbols": ranged, "swc_ids": [[["q", 2], 1]]}),
+            ("an_expando_by_its_statement", [1, 9], [], {})):
+        made = expando_request(ranges, **more)
+        answered(case_name, made, {"Ok": module_answer(program(items, "q.x = 1;"))})
     refused("an_import_with_a_fault", with_tables(changed(BODY + (0,), {"ModuleDecl": {"Import": {"src": {"value": "./a"}, "phase": "evaluation"}}}),
         symbols=[]), "table-fault 1")
     title("tables and graphs of another form; it goes before faults of tables")
