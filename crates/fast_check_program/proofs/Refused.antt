@@ -9,7 +9,7 @@ use Rattle.fast_check_program.specs.Program.{AnswersRequest, IsAnswerTo, Refuses
 
 pub refused : (refusal : Refusal) (bytes : List ℕ) → LacksRequest bytes refusal → RefusesBytes refusal bytes
 refused refusals.NotJson bytes lacks = lacks
-refused refusals.BadForm bytes lacks = inl lacks
+refused refusals.BadForm bytes lacks = lacks
 refused refusals.OutOfMemory bytes lacks = lacks
 refused refusals.Usage bytes lacks = absurd lacks
 refused refusals.Unreadable bytes lacks = absurd lacks

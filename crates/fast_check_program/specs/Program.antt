@@ -1,5 +1,5 @@
 -- What the program does with its words and its file.
-use Rattle.std.specs.Prelude.{◌≡◌, ℕ, ◌<◌, IsTrue, List, true, false, Option, ◌⊎◌}
+use Rattle.std.specs.Prelude.{◌≡◌, ℕ, ◌<◌, IsTrue, List, true, false, Option}
 use Rattle.std.specs.Io.KnownBytes.{Appends}
 use Rattle.fast_check_modules.specs.EsModule.{EsModule, Admits}
 use Rattle.fast_check_modules.specs.WellFormed.{AreMadeOf, FitProgram, IsModuleFault}
@@ -54,7 +54,7 @@ IsAnswerTo bytes line status = OfRequest (λ asked. AnswersRequest asked line st
 -- why they are refused: they are no JSON, or the JSON of no request, or their request is refused; memory may run out at any bytes
 abbrev pub RefusesBytes : Refusal → List ℕ → Type 0
 RefusesBytes refusals.NotJson bytes = IsNotJson bytes
-RefusesBytes refusals.BadForm bytes = IsNoRequest bytes ⊎ OfRequest (λ asked. RefusesRequest asked refusals.BadForm) bytes
+RefusesBytes refusals.BadForm bytes = IsNoRequest bytes
 RefusesBytes (refusals.TableFault fault) bytes = OfRequest (λ asked. RefusesRequest asked (refusals.TableFault fault)) bytes
 RefusesBytes refusals.RangesNotAdmitted bytes = OfRequest (λ asked. RefusesRequest asked refusals.RangesNotAdmitted) bytes
 RefusesBytes refusals.OutOfMemory bytes = Unit {0}
