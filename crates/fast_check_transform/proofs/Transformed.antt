@@ -39,7 +39,8 @@ module _ (graph : ModuleGraph) (info : EsModule) (public : PublicRanges) {around
   unfolding program_answer
   faults_are = h.faults ∙ (ap (λ old. old ++ h.added) o ∙ (sym (ap (λ a. a.faults) h.is) ∙ (λ i. (program_answer (e i) (p i)).faults)))
 
-  pub skeleton_in_grammar : fs ≡ [] → IsSkeleton (bindings_of info) (is_declaration info.source.media_type) t
-  skeleton_in_grammar n =
-      subst (IsSkeleton (bindings_of info) (is_declaration info.source.media_type)) (sym skeleton_is)
-      (skeleton_stands (surroundings_of graph info public) info.source.program (sym faults_are ∙ n))
+pub in_grammar : (graph : ModuleGraph) (info : EsModule) (public : PublicRanges) {t : Tree} → t ≡ skeleton graph info public →
+    faults graph info public ≡ [] → IsSkeleton (bindings_of info) (is_declaration info.source.media_type) t
+in_grammar graph info public e n =
+    subst (IsSkeleton (bindings_of info) (is_declaration info.source.media_type)) (sym e)
+    (skeleton_stands (surroundings_of graph info public) info.source.program n)

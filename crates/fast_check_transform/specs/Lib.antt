@@ -1,2 +1,3 @@
 pub mod PartAnswers
 pub mod Transform
+pub mod Transformer

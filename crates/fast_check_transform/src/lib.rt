@@ -2,7 +2,8 @@
 #![tactic(auto)]
 
 mod items;
+mod program;
 mod transformer;
 
 pub use fast_check_tables::{FastCheckModule, ModuleInfo, StaticSource};
-pub use transformer::{TransformOptions, transform};
+pub use transformer::{FastCheckTransformer, TransformOptions, transform};

@@ -1,24 +1,17 @@
-ghost use Rattle.std.specs.Prelude.{◌≡◌, ◌↔◌, [], IfOk, IsOk, IfErr};
-ghost use Rattle.fast_check_syntax.specs.Part.{seen};
-ghost use Rattle.fast_check_signatures.specs.Answers.{Adds};
+ghost use Rattle.std.specs.Prelude.{◌≡◌, ◌↔◌, [], true, IfOk, IsOk, IfErr, IsTrue};
 ghost use Rattle.fast_check_skeleton.specs.Grammar.{IsSkeleton};
-ghost use Rattle.fast_check_skeleton.specs.KeptComments.{removed_starts, without_all_leading};
 ghost use Rattle.fast_check_tables.specs.MediaType.{is_declaration};
 ghost use Rattle.fast_check_modules.specs.EsModule.{Admits};
 ghost use Rattle.fast_check_bindings.specs.Bindings.{bindings_of};
-ghost use Rattle.fast_check_links.specs.Asked.{Asked-around};
-ghost use Rattle.fast_check_transform.specs.PartAnswers.{program_answer};
 ghost use Rattle.fast_check_transform.specs.Transform.{skeleton, sources, comments, faults};
 ghost use Rattle.fast_check_transform_faults.specs.Diagnostics.{AreDiagnosticsOf, told};
 
-use crate::items::keep_items;
-use fast_check_comments::{Comments, CommentsMut};
+use crate::program::{KeptModule, keep_module};
+use fast_check_comments::Comments;
 use fast_check_graph::ModuleGraph;
-use fast_check_links::{Asked, static_sources};
+use fast_check_links::static_sources;
 use fast_check_modules::EsModuleInfo;
-use fast_check_program_forms::Module;
-use fast_check_signatures::Fault;
-use fast_check_syntax::{Part, Tree};
+use fast_check_syntax::Tree;
 use fast_check_tables::{
     FastCheckDiagnostic, FastCheckModule, ModuleInfo, ModulePublicRanges, WorkspaceMember,
 };
@@ -57,17 +50,11 @@ pub fn transform(
         AreDiagnosticsOf es_module_info.now
         (told options.now.should_error_on_first_diagnostic (faults graph.now es_module_info.now public_ranges.now)) diagnostics.items)) }
 {
-    let asked = Asked::of(graph, es_module_info, public_ranges);
-    let source = es_module_info.source();
-    let mut comments = CommentsMut::new(source.comments.clone()?);
-    let mut faults = Vec::new(alloc);
-    let program = keep_program(
-        alloc,
-        asked,
-        source.program.read(),
-        &mut comments,
-        &mut faults,
-    )?;
+    let KeptModule {
+        program,
+        comments,
+        faults,
+    } = keep_module(alloc, graph, es_module_info, public_ranges)?;
     if !faults.is_empty() {
         let first_alone = options.should_error_on_first_diagnostic;
         return Ok(Err(tell(alloc, es_module_info, faults, first_alone)?));
@@ -77,31 +64,83 @@ pub fn transform(
             sources: static_sources(alloc, program.read())?,
         },
         program,
-        comments: comments.into_comments(),
+        comments,
     }))
 }
 
-/// A module with what is public of its items. The comments before the others go.
-fn keep_program(
-    alloc: Global,
-    asked: Asked<'_>,
-    program: Part<'_>,
-    comments: &mut CommentsMut,
-    faults: &mut Vec<Fault>,
-) -> Result<Tree, AllocError>
-    ensures answer { IfOk result (λ tree. Adds (program_answer (Asked-around asked.entry) (seen program.entry)) tree faults.old.items faults.new.items) }
-    ensures comments { IfOk result (λ _. comments.new ≡ without_all_leading (removed_starts (Asked-around asked.entry) (seen program.entry)) comments.old) }
-{
-    let Module {
-        span,
-        body,
-        shebang,
-    } = Module::of(program);
-    let items = keep_items(alloc, asked, body, comments, faults)?;
-    let module = Module {
-        span,
-        body: Tree::list(items),
-        shebang: shebang.to_tree(alloc)?,
-    };
-    module.into_tree(alloc)
+/// Transforms a module, and keeps what is wrong with it beside what is public of it. `transform` answers the one or the other.
+#[derive(Drop)]
+pub struct FastCheckTransformer<'a> {
+    graph: &'a ModuleGraph,
+    es_module_info: &'a EsModuleInfo,
+    public_ranges: &'a ModulePublicRanges,
+    should_error_on_first_diagnostic: bool,
+    diagnostics: Vec<FastCheckDiagnostic>,
+}
+
+impl<'a> FastCheckTransformer<'a> {
+    ghost use Rattle.fast_check_transform.specs.Transformer.{own_skeleton, own_comments, own_faults, kept_faults};
+
+    /// A transformer of a module of this graph, which has told nothing so far. The module has to admit the public ranges. It takes no memory.
+    pub fn new(
+        alloc: Global,
+        graph: &'a ModuleGraph,
+        es_module_info: &'a EsModuleInfo,
+        public_ranges: &'a ModulePublicRanges,
+        should_error_on_first_diagnostic: bool,
+    ) -> Self
+        requires admitted { Admits es_module_info.now public_ranges.now }
+        ensures graph { result.graph.now ≡ graph.now }
+        ensures es_module_info { result.es_module_info.now ≡ es_module_info.now }
+        ensures public_ranges { result.public_ranges.now ≡ public_ranges.now }
+        ensures first_alone { result.should_error_on_first_diagnostic ≡ should_error_on_first_diagnostic }
+        ensures diagnostics { result.diagnostics.items ≡ [] }
+    {
+        FastCheckTransformer {
+            graph,
+            es_module_info,
+            public_ranges,
+            should_error_on_first_diagnostic,
+            diagnostics: Vec::new(alloc),
+        }
+    }
+
+    /// What is public of the module, and the comments that stay with it. What is wrong with it are the `diagnostics` from then on, and those of an
+    /// earlier call go. The skeleton of a module with faults is not to be used. Under the option the first fault is answered in its place, and no
+    /// diagnostics are kept.
+    ///
+    /// An `Err` outside is want of memory, after which the diagnostics may be any.
+    pub fn transform(
+        &mut self,
+        alloc: Global,
+    ) -> Result<Result<(Tree, Comments), Vec<FastCheckDiagnostic>>, AllocError>
+        ensures ok { IfOk result (λ answer. IsOk answer ↔ (IsTrue self.old.should_error_on_first_diagnostic → own_faults self.old ≡ [])) }
+        ensures skeleton { IfOk result (λ answer. IfOk answer (λ made. own_faults self.old ≡ [] → made.0 ≡ own_skeleton self.old)) }
+        ensures grammar { IfOk result (λ answer. IfOk answer (λ made. own_faults self.old ≡ [] →
+            IsSkeleton (bindings_of self.old.es_module_info.now) (is_declaration self.old.es_module_info.now.source.media_type) made.0)) }
+        ensures comments { IfOk result (λ answer. IfOk answer (λ made. own_faults self.old ≡ [] → made.1 ≡ own_comments self.old)) }
+        ensures first_fault { IfOk result (λ answer. IfErr answer (λ diagnostics.
+            AreDiagnosticsOf self.old.es_module_info.now (told true (own_faults self.old)) diagnostics.items)) }
+        ensures diagnostics { IfOk result (λ _. AreDiagnosticsOf self.old.es_module_info.now (kept_faults self.old) self.new.diagnostics.items) }
+        ensures unchanged { self.new ≡ record self.old { diagnostics = self.new.diagnostics } }
+    {
+        self.diagnostics.clear();
+        let KeptModule {
+            program,
+            comments,
+            faults,
+        } = keep_module(alloc, self.graph, self.es_module_info, self.public_ranges)?;
+        if self.should_error_on_first_diagnostic && !faults.is_empty() {
+            return Ok(Err(tell(alloc, self.es_module_info, faults, true)?));
+        }
+        self.diagnostics = tell(alloc, self.es_module_info, faults, false)?;
+        Ok(Ok((program, comments)))
+    }
+
+    /// What is wrong with the module by the last call of `transform`, in reading order.
+    pub fn diagnostics(&self) -> &[FastCheckDiagnostic]
+        ensures { result.now ≡ self.now.diagnostics.items }
+    {
+        self.diagnostics.as_slice()
+    }
 }

@@ -4,7 +4,7 @@ use Rattle.fast_check_syntax.specs.Part.{seen}
 use Rattle.fast_check_syntax.specs.Shape.{parts}
 use Rattle.fast_check_links.specs.Asked.{Asked-around}
 use Rattle.fast_check_transform.proofs.Transformed.{made_program}
-use Rattle.fast_check_transform.proofs.transformer.keep_program.Goals as goal
+use Rattle.fast_check_transform.proofs.program.keep_program.Goals as goal
 
 pub returns-clause-answer : goal.returns-clause-answer
 returns-clause-answer c =
