@@ -2,7 +2,7 @@
 """Random modules through `fast-check transform`, against the skeletons that `skeletons` makes by rules of its own.
 
 Each module has items of all kinds, nested at random, with random public ranges and implementations with overloads, and tables of its objects and classes.
-What the program answers has to be what the rules give: skeleton, sources and comments, or the diagnostics, under the option the first alone. A module that
+What the program answers has to be what the rules give: the skeleton and its sources, or the diagnostics, under the option the first alone. A module that
 differs is written to a file.
 
 Usage: bench/random_modules.py [COUNT [SEED [PROGRAM]]]       the program has to be built first: ./fast-check transform examples/first.json
@@ -222,7 +222,8 @@ class Writer:
 
     def expando(self):
         if self.chance(0.85):
-            return put(self.one("a", "b", "x"), self.value(2), self.one(*OBJECTS), op=self.one("=", "=", "=", "+="))
+            value = array(ref(self.one("a", "b")), self.value(1)) if self.chance(0.3) else self.value(2)
+            return put(self.one("a", "b", "x"), value, self.one(*OBJECTS), op=self.one("=", "=", "=", "+="))
         target = self.one(ref("x"), computed_of(ref("f"), lit('"a"')), member(member(ref("f"), "a"), "b"))
         return unexported(run(assign_to(target, self.value(2), "=")))
 
@@ -329,9 +330,7 @@ def answer_of(program, request):
 
 def without_pages(answer):
     """An answer without the pages of its diagnostics."""
-    for told in answer.get("Err", []):
-        told["docs_url"] = told["docs_url"].rsplit("/", 1)[-1]
-    return answer
+    return {"Err": [dict(told, docs_url=None) for told in answer["Err"]]} if "Err" in answer else answer
 
 
 def main():

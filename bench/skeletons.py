@@ -270,7 +270,8 @@ class Skeleton(Classes, Expandos, Modules):
     def arrow(self, arrow, place):
         body, written, is_async = arrow["body"], arrow["return_type"], arrow["is_async"]
         if written is None and "BlockStmt" in body:
-            written = self.of_body(arrow, body["BlockStmt"], place, None)
+            # what a body says is hidden, also where its type is missing
+            written, body = self.of_body(arrow, body["BlockStmt"], place, None), {"BlockStmt": NEW_BLOCK}
         elif written is None:
             of_value = self.shown(False, body["Expr"])
             if of_value is not None:
