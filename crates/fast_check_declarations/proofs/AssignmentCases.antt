@@ -1,6 +1,6 @@
 -- What is answered to assignments that are statements, and what they declare.
-use Rattle.std.specs.Prelude.{◌≡◌, ℕ, Bool, true, false, not, ◌&&◌, Option, Some, None, List, [], ◌∷◌, ◌++◌, refl, if◌then◌else◌}
-use Rattle.std.proofs.Common.{ap, ap₂, ◌∙◌, sym, subst}
+use Rattle.std.specs.Prelude.{◌≡◌, Bool, true, false, not, ◌&&◌, Option, Some, None, List, [], ◌∷◌, ◌++◌, refl, if◌then◌else◌}
+use Rattle.std.proofs.Common.{ap, ◌∙◌, sym}
 use Rattle.std.proofs.lemmas.List.{append-nil, append_assoc}
 use Rattle.fast_check_syntax.specs.declared.atom.Id.{Id}
 use Rattle.fast_check_syntax.specs.declared.source.SourceRange.{SourceRange}
@@ -17,9 +17,8 @@ use Rattle.fast_check_signatures.specs.declared.fault.FaultKind.TheVariants.{Mis
 use Rattle.fast_check_signatures.specs.Answers.{Answer, Adds, fault_at, unless_stays, answer_to, answer_of}
 use Rattle.fast_check_signatures.specs.Seen.{Seen, tested}
 use Rattle.fast_check_signatures.proofs.Adding.{adds_nothing, adds_same}
-use Rattle.fast_check_expandos.specs.declared.properties.ExpandoProperty.{ExpandoProperty}
 use Rattle.fast_check_expandos.specs.Assignments.{right_seen, is_declared, missing_place, kept_property}
-use Rattle.fast_check_expandos.specs.Expandos.{object_of, property_name}
+use Rattle.fast_check_expandos.specs.Expandos.{object_of}
 use Rattle.fast_check_expandos.specs.ModuleObjects.{objects_of}
 use Rattle.fast_check_expandos.specs.Objects.{Objects, exports_name, stands_exported}
 use Rattle.fast_check_skeleton.specs.Surroundings.{Surroundings}

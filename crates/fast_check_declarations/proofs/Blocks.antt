@@ -1,6 +1,6 @@
 -- Bodies of namespaces, by what follows the name.
-use Rattle.std.specs.Prelude.{◌≡◌, ℕ, suc, ◌<◌, true, false, List, if◌then◌else◌}
-use Rattle.std.proofs.Common.{ap, ◌∙◌, sym}
+use Rattle.std.specs.Prelude.{◌≡◌, ◌<◌, true, false, List, if◌then◌else◌}
+use Rattle.std.proofs.Common.{ap, ◌∙◌}
 use Rattle.fast_check_syntax.specs.declared.kind.Kind.TheVariants.{TsNamespaceDecl}
 use Rattle.fast_check_syntax.specs.declared.tree.Tree.{Tree}
 use Rattle.fast_check_syntax.specs.Shape.{◌is◌, is_kind, kind_of, list}

@@ -4,10 +4,8 @@ use Rattle.std.specs.List.{flat_map}
 use Rattle.fast_check_syntax.specs.declared.kind.Kind.TheVariants.{ExportDefaultDecl}
 use Rattle.fast_check_syntax.specs.declared.source.SourceRange.{SourceRange}
 use Rattle.fast_check_syntax.specs.declared.tree.Tree.{Tree}
-use Rattle.fast_check_syntax.specs.Shape.{list}
 use Rattle.fast_check_program_forms.specs.Names.{Ident-span, binding_ident}
 use Rattle.fast_check_program_forms.specs.ModuleDecls.{ExportDefaultDecl-span, ExportDefaultDecl-decl}
-use Rattle.fast_check_program_forms.specs.Programs.{Module-span, Module-shebang, module'}
 use Rattle.fast_check_ranges.specs.Ranges.{range_of_node}
 use Rattle.fast_check_statement_forms.specs.TsDeclarations.{TsModuleDecl-span, TsModuleDecl-global, TsModuleDecl-id}
 use Rattle.fast_check_statement_forms.specs.Declarations.{VarDeclarator-span, VarDeclarator-init, VarDeclarator-definite, var_declarator}
@@ -16,11 +14,9 @@ use Rattle.fast_check_signatures.specs.Seen.{Seen, written, range, round, declar
 use Rattle.fast_check_signatures.specs.declared.fault.Fault.{Fault}
 use Rattle.fast_check_signatures.specs.declared.fault.FaultKind.TheVariants.{UnsupportedGlobalModule, UnsupportedAmbientModule}
 use Rattle.fast_check_signatures.specs.Answers.{Answer, fault_at, answer_to, answer_of}
-use Rattle.fast_check_skeleton.specs.declared.rules.DeclRule.{DeclRule}
 use Rattle.fast_check_skeleton.specs.declared.rules.DefaultRule.{DefaultRule}
 use Rattle.fast_check_skeleton.specs.declared.rules.DefaultRule.TheVariants as defaults
 use Rattle.fast_check_skeleton.specs.Defaults.{is_public_value, default_value_seen, default_class_seen, default_signature, default_function_seen, default_seen}
-use Rattle.fast_check_skeleton.specs.Skeleton.{transformed}
 use Rattle.fast_check_skeleton.specs.Namespaces.{is_ambient_module}
 use Rattle.fast_check_skeleton.specs.Surroundings.{Surroundings}
 use Rattle.fast_check_skeleton.specs.Visible.{declared_ident, declarator_head, value_seen, ident_declarator_seen, declarator_seen, public_declarator}

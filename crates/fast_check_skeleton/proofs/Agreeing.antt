@@ -10,7 +10,7 @@ use Rattle.fast_check_syntax.specs.declared.source.SourceRange.{SourceRange}
 use Rattle.fast_check_syntax.specs.declared.tree.Tree as tree
 use Rattle.fast_check_syntax.specs.declared.tree.Tree.{Tree}
 use Rattle.fast_check_syntax.specs.Shape.{◌is◌, kind_of, parts, is_absent, has_word, list}
-use Rattle.fast_check_syntax.specs.Moves.{Renaming, IsRenaming, IsPair, partners, twice, moved}
+use Rattle.fast_check_syntax.specs.Moves.{Renaming, IsRenaming, partners, twice, moved}
 use Rattle.fast_check_syntax.specs.Same.{SameTree, SameRange, Each}
 use Rattle.fast_check_syntax.proofs.Moved.{has_word_moved, node_moved}
 use Rattle.fast_check_syntax.proofs.Made.{part_node}

@@ -1,27 +1,23 @@
 -- Assignments that agree are seen alike, and declare the same properties.
 use Rattle.std.specs.Prelude.{◌≡◌, ℕ, Bool, true, false, not, ◌&&◌, Option, Some, None, List, [], ◌∷◌, ◌++◌, map, option_map, refl, codes, if◌then◌else◌}
 use Rattle.std.proofs.Common.{ap, ap₂, ◌∙◌, sym}
-use Rattle.std.specs.List.{flat_map}
 use Rattle.std.specs.Str.{bytes_eq}
 use mathlib.Core.Path.{fun_ext}
 use Rattle.fast_check_syntax.specs.declared.kind.Kind.TheVariants as kinds
-use Rattle.fast_check_syntax.specs.declared.source.SourceRange.{SourceRange}
 use Rattle.fast_check_syntax.specs.declared.tree.Tree.{Tree}
 use Rattle.fast_check_syntax.specs.Shape.{◌is◌, kind_of, part, text_of, is_absent}
 use Rattle.fast_check_syntax.specs.Moves.{Renaming, IsRenaming, partners, twice, moved, moved_range}
-use Rattle.fast_check_syntax.specs.Same.{SameTree, SameRange}
+use Rattle.fast_check_syntax.specs.Same.{SameTree}
 use Rattle.fast_check_syntax.proofs.Moved.{kind_of_moved, part_moved, text_of_moved}
 use Rattle.fast_check_syntax.proofs.Partners.{partners-keep as partners_keep, twice-keeps as twice_keeps}
 use Rattle.fast_check_syntax.proofs.Same.{tree_to, range_to}
-use Rattle.fast_check_expression_forms.specs.Calls.{MemberExpr-span, MemberExpr-obj, MemberExpr-prop}
+use Rattle.fast_check_expression_forms.specs.Calls.{MemberExpr-span}
 use Rattle.fast_check_expression_forms.specs.Operators.{AssignExpr-span, AssignExpr-op, AssignExpr-left, AssignExpr-right}
 use Rattle.fast_check_ranges.specs.Ranges.{range_of_node}
-use Rattle.fast_check_statement_forms.specs.Statements.{ExprStmt-expr}
 use Rattle.fast_check_modules.specs.Expandos.{is_expando_target, is_expando_assignment}
 use Rattle.fast_check_signatures.specs.Answers.{answer_to}
-use Rattle.fast_check_signatures.specs.Seen.{Seen, tested, refused}
+use Rattle.fast_check_signatures.specs.Seen.{tested, refused}
 use Rattle.fast_check_signatures.proofs.AnswersMoved.{answer_to_moved}
-use Rattle.fast_check_signatures.proofs.MovedParts.{moved_seen}
 use Rattle.fast_check_same_values.specs.SameValues.{SameBindings}
 use Rattle.fast_check_same_values.proofs.Alike.{expr_alike}
 use Rattle.fast_check_same_values.proofs.AlikeSeen.{Alike, AllAlike, alike_if, all_alike_if}

@@ -6,7 +6,7 @@ use Rattle.fast_check_syntax.specs.declared.kind.Kind.TheVariants as kinds
 use Rattle.fast_check_syntax.specs.declared.source.SourceRange.{SourceRange}
 use Rattle.fast_check_syntax.specs.declared.tree.Tree.{Tree}
 use Rattle.fast_check_syntax.specs.Shape.{kind_of, is_absent}
-use Rattle.fast_check_syntax.specs.Moves.{Renaming, IsRenaming, IsPair}
+use Rattle.fast_check_syntax.specs.Moves.{Renaming, IsRenaming}
 use Rattle.fast_check_syntax.specs.Same.{SameTree, SameRange}
 use Rattle.fast_check_syntax.proofs.Same.{tree_to, range_to}
 use Rattle.fast_check_class_forms.specs.Functions.{Function-span}
@@ -19,7 +19,7 @@ use Rattle.fast_check_signatures.specs.Classes.{plain_class_seen}
 use Rattle.fast_check_signatures.specs.Expressions.{expr_seen}
 use Rattle.fast_check_signatures.specs.Functions.{function_seen, implementation_seen}
 use Rattle.fast_check_signatures.specs.Seen.{Seen, written, range, round, default_export, seens}
-use Rattle.fast_check_same_values.specs.SameValues.{SameBindings, Both, SameFunction}
+use Rattle.fast_check_same_values.specs.SameValues.{SameBindings, SameFunction}
 use Rattle.fast_check_same_values.specs.SameValues as v
 use Rattle.fast_check_same_values.proofs.Alike.{expr_alike, function_alike}
 use Rattle.fast_check_same_values.proofs.AlikeClasses.{class_alike}

@@ -23,7 +23,7 @@ use Rattle.fast_check_ranges.specs.Ranges.{range_of_node}
 use Rattle.fast_check_signatures.specs.NewNodes.{no_scope, ident_name}
 use Rattle.fast_check_signatures.specs.Members.{is_hash_named}
 use Rattle.fast_check_signatures.specs.Classes.{private_method_head}
-use Rattle.fast_check_same_values.specs.SameValues.{Both, SameFunctionHead, SameReturn, SameFunction}
+use Rattle.fast_check_same_values.specs.SameValues.{SameFunctionHead, SameReturn, SameFunction}
 use Rattle.fast_check_same_values.specs.SameValues as v
 use Rattle.fast_check_same_values.specs.SameClasses.{IsNoPartner, SamePropertyHead, SameMembers, SameClassHead, SameClass}
 use Rattle.fast_check_same_values.specs.SameClasses as s
@@ -128,7 +128,7 @@ function_decls p q ss ts = record {
   declare = simp (part_node, flag_of_flag);
 }
 
-function_items : (ss ts : List Tree) → SameItem no_places all_public all_public (function_f ss) (function_f ts)
+pub function_items : (ss ts : List Tree) → SameItem no_places all_public all_public (function_f ss) (function_f ts)
 function_items ss ts = h.SameItem.decl (h.SameDecl.function (function_decls _ _ ss ts) refl refl
     (subst₂ (SameFunction no_places no_classes no_classes) (sym (function_made ss)) (sym (function_made ts)) (functions ss ts)))
 

@@ -1,5 +1,5 @@
 -- Modules that agree but for what is hidden, and so do their comments, keep the same comments.
-use Rattle.std.specs.Prelude.{◌≡◌, ℕ, ◌==◌, Bool, true, false, not, ◌&&◌, ◌||◌, List, [], ◌∷◌, ◌++◌, flat_map, refl, if◌then◌else◌}
+use Rattle.std.specs.Prelude.{◌≡◌, ℕ, ◌==◌, Bool, true, false, not, ◌&&◌, ◌||◌, List, [], ◌∷◌, ◌++◌, refl, if◌then◌else◌}
 use Rattle.std.specs.Cmp.{unsigned_ties}
 use Rattle.std.specs.Ordering.{is_eq, nat_cmp}
 use Rattle.std.proofs.Common.{ap, ap₂, ◌∙◌, sym, subst₂, cond, eqb-true, eq-eqb}
@@ -27,7 +27,7 @@ use Rattle.fast_check_ranges.specs.Ranges.{range_of_node}
 use Rattle.fast_check_skeleton.specs.Surroundings.{Surroundings, inside}
 use Rattle.fast_check_skeleton.specs.Namespaces.{is_namespace, innermost, block_items, items_inside}
 use Rattle.fast_check_signatures.specs.Seen.{Seen}
-use Rattle.fast_check_skeleton.specs.Visible.{is_ambient_class, item_seen, items_of}
+use Rattle.fast_check_skeleton.specs.Visible.{is_ambient_class, item_seen}
 use Rattle.fast_check_skeleton.specs.KeptComments.{start_of_unseen, starts_of_removed, starts_in_decl, starts_in_default, starts_inside, removed_start}
 use Rattle.fast_check_skeleton.specs.KeptComments.{starts_in_namespace, starts_in_body, starts_below, start_look, removed_from, removed_starts, without_all_leading}
 use Rattle.fast_check_skeleton.specs.KeptComments.{kept_comments}

@@ -16,12 +16,12 @@ use Rattle.fast_check_skeleton.specs.Hidden as h
 use Rattle.fast_check_skeleton.specs.Links.{is_public_specifier}
 use Rattle.fast_check_skeleton.specs.SameDefaults.{SameDefaultFunction}
 use Rattle.fast_check_skeleton.specs.SameDefaults as d
-use Rattle.fast_check_skeleton.specs.SameLinks.{SamePublic, SameSource, SameSpecifiers, SameImport}
+use Rattle.fast_check_skeleton.specs.SameLinks.{SamePublic, SameSource, SameImport}
 use Rattle.fast_check_skeleton.specs.SameLinks as l
 use Rattle.fast_check_skeleton.specs.Skeleton.{skeleton_of}
 use Rattle.fast_check_skeleton.specs.ClassExample.{void_function, empty_statement, no_places, no_classes}
 use Rattle.fast_check_skeleton.specs.ModuleExample as e
-use Rattle.fast_check_skeleton.specs.ModuleExample.{specifier, written_source, import_of, default_function, first, second, around, answered, ModuleExample}
+use Rattle.fast_check_skeleton.specs.ModuleExample.{written_source, import_of, default_function, first, second, around, answered, ModuleExample}
 use Rattle.fast_check_skeleton.proofs.ClassExample.{is_renaming, Same, new_same, same_absent, at_places, are_same, functions, word_read, items_made}
 use Rattle.fast_check_skeleton.proofs.Namespaces.{item_seen_is}
 use Rattle.fast_check_skeleton.proofs.Example.{context_of_context}
@@ -105,7 +105,7 @@ agree = record {
   shebang = are_same _ _ Absent (part_node _ _ _) (part_node _ _ _) same_absent;
 }
 
-text_of_text : (text : List ℕ) → text_of (tree.Text text) ≡ text
+pub text_of_text : (text : List ℕ) → text_of (tree.Text text) ≡ text
 unfolding roll-Tree denote.Hole.Carrier.roll
 text_of_text text = ap text_at (out-roll-Tree (Tree-F.Text text))
 

@@ -138,7 +138,7 @@ nothing_hidden : (around : Surroundings) → body_seen item_look around (hidden 
 nothing_hidden around = λ i. (silent_item around hidden (silent around) i ++ []) ++ namespaces_seen (silent_properties around hidden (silent around) i ++ [])
 
 first_is : skeleton_of all_public first ≡ first
-first_is = simp (seen_as [] refl, parts_node, kind_of_node, range_of_range, flag_of_flag, is_absent_node)
+first_is = simp (seen_as [] refl, parts_node, kind_of_node, range_of_range, flag_of_flag)
 
 second_is : skeleton_of all_public second ≡ first
 second_is = simp (
@@ -147,7 +147,6 @@ second_is = simp (
   kind_of_node,
   range_of_range,
   flag_of_flag,
-  is_absent_node,
 )
 
 pub namespace_example : NamespaceExample

@@ -6,7 +6,7 @@ use Rattle.fast_check_syntax.specs.declared.kind.Kind.TheVariants.{TsModuleBlock
 use Rattle.fast_check_syntax.specs.declared.source.SourcePos.{SourcePos}
 use Rattle.fast_check_syntax.specs.declared.source.SourceRange.{SourceRange}
 use Rattle.fast_check_syntax.specs.declared.tree.Tree.{Tree, Absent}
-use Rattle.fast_check_syntax.specs.Shape.{◌is◌, is_kind, kind_of, parts, OfAll}
+use Rattle.fast_check_syntax.specs.Shape.{◌is◌, is_kind, kind_of, OfAll}
 use Rattle.fast_check_syntax.specs.Descent.{by_descent_is, given, given_lower, given_part}
 use Rattle.fast_check_syntax.specs.Height.{height, height_part, height_at_most, height_one}
 use Rattle.fast_check_ranges.specs.Ranges.{range_of_node}
@@ -20,7 +20,7 @@ use Rattle.fast_check_skeleton.specs.declared.rules.DeclRule.{DeclRule}
 use Rattle.fast_check_skeleton.specs.declared.rules.DeclRule.TheVariants.{Namespace}
 use Rattle.fast_check_skeleton.specs.declared.rules.ItemRule.{ItemRule}
 use Rattle.fast_check_skeleton.specs.declared.rules.ItemRule.TheVariants.{Declared, Exported}
-use Rattle.fast_check_skeleton.specs.KeptComments.{starts_inside, start_of_unseen, starts_in_namespace, starts_in_body, starts_below, start_form, start_look}
+use Rattle.fast_check_skeleton.specs.KeptComments.{starts_inside, start_of_unseen, starts_in_body, starts_below, start_form, start_look}
 use Rattle.fast_check_skeleton.specs.KeptComments.{removed_start}
 use Rattle.fast_check_skeleton.specs.Namespaces.{is_ambient_module, is_namespace, innermost_form, innermost, block_items, items_inside, body_form, body_round}
 use Rattle.fast_check_skeleton.specs.Namespaces.{namespace_round}

@@ -1,9 +1,9 @@
 -- The namespaces of expando properties stand in the grammar, where nothing is wrong with the right sides of their assignments.
-use Rattle.std.specs.Prelude.{◌≡◌, ℕ, ◌<◌, Bool, true, false, not, ◌&&◌, ◌||◌, Option, Some, None, IfSome, List, [], ◌∷◌, ◌++◌, map, refl, if◌then◌else◌}
-use Rattle.std.proofs.Common.{ap, ap₂, ◌∙◌, sym, subst, subst₂, inl, inr}
-use Rattle.std.specs.List.{filter, flat_map, list_any}
+use Rattle.std.specs.Prelude.{◌≡◌, ℕ, ◌<◌, Bool, true, false, ◌&&◌, ◌||◌, Option, Some, None, IfSome, List, [], ◌∷◌, ◌++◌, map, refl, if◌then◌else◌}
+use Rattle.std.proofs.Common.{ap, ◌∙◌, sym, subst, subst₂, inl, inr}
+use Rattle.std.specs.List.{flat_map, list_any}
 use Rattle.fast_check_syntax.specs.declared.atom.Id.{Id}
-use Rattle.fast_check_syntax.specs.declared.kind.Kind.TheVariants.{BindingIdent, VarDeclarator, VarDecl, ExportDecl, TsModuleDecl, TsModuleBlock, Leaf}
+use Rattle.fast_check_syntax.specs.declared.kind.Kind.TheVariants.{BindingIdent, VarDeclarator, VarDecl, ExportDecl, TsModuleDecl, TsModuleBlock}
 use Rattle.fast_check_syntax.specs.declared.kind.Kind.TheVariants.{List as List'}
 use Rattle.fast_check_syntax.specs.declared.source.SourceRange.{SourceRange}
 use Rattle.fast_check_syntax.specs.declared.kind.Word.TheVariants as words
@@ -17,7 +17,7 @@ use Rattle.fast_check_helpers.specs.Builders.{new_ident}
 use Rattle.fast_check_program_forms.specs.ModuleDecls.{ExportDecl-decl, export_decl}
 use Rattle.fast_check_expression_forms.specs.Operators.{AssignExpr-span, AssignExpr-left, AssignExpr-right}
 use Rattle.fast_check_ranges.specs.Ranges.{range_of_node}
-use Rattle.fast_check_statement_forms.specs.Declarations.{VarDecl-decls, VarDecl-declare, var_decl}
+use Rattle.fast_check_statement_forms.specs.Declarations.{VarDecl-decls, var_decl}
 use Rattle.fast_check_statement_forms.specs.Statements.{ExprStmt-expr}
 use Rattle.fast_check_statement_forms.specs.TsDeclarations.{TsModuleDecl-global, TsModuleDecl-declare, TsModuleDecl-id, TsModuleDecl-body}
 use Rattle.fast_check_statement_forms.specs.TsDeclarations.{TsModuleBlock-body, ts_module_block}
@@ -27,9 +27,8 @@ use Rattle.fast_check_modules.specs.Tables.{same_id}
 use Rattle.fast_check_modules.specs.Expandos.{is_expando_assignment}
 use Rattle.fast_check_signatures.specs.Bindings.{Bindings}
 use Rattle.fast_check_signatures.specs.declared.fault.FaultKind.TheVariants.{MissingExplicitType}
-use Rattle.fast_check_signatures.specs.Seen.{Seen, written, tested}
+use Rattle.fast_check_signatures.specs.Seen.{Seen, tested}
 use Rattle.fast_check_signatures.specs.Answers.{Answer, answer_to, answer_of, tested_answer, unless_stays, fault_at}
-use Rattle.fast_check_signatures.specs.Expressions.{expr_seen}
 use Rattle.fast_check_signatures.proofs.Choices.{of_choice, no_left, no_right, not_empty}
 use Rattle.fast_check_signatures.proofs.Adding.{answer_append}
 use Rattle.fast_check_typed_grammar.specs.TypedGrammar.{IsLeavable}
@@ -41,10 +40,9 @@ use Rattle.fast_check_expandos.specs.declared.properties.ExpandoProperty.{Expand
 use Rattle.fast_check_expandos.specs.declared.references.Reference.{Reference}
 use Rattle.fast_check_expandos.specs.Assignments.{right_seen, missing_place, assignment_seen, kept_property, declared_properties}
 use Rattle.fast_check_expandos.specs.Expandos.{exported_variables, namespace_decl, namespace_item, conflict_seen, namespace_seen, by_object, namespaces_seen}
-use Rattle.fast_check_expandos.specs.Groups.{others, items_of, grouped}
+use Rattle.fast_check_expandos.specs.Groups.{others, items_of}
 use Rattle.fast_check_skeleton.specs.Grammar.{HasTypedValue, IsTypedDeclarator, IsTypedItem, IsTypedNamespace, IsTypedBody, AllTypedItems}
 use Rattle.fast_check_skeleton.specs.Grammar as g
-use Rattle.fast_check_skeleton.specs.Namespaces.{is_namespace}
 use Rattle.fast_check_skeleton.specs.Rules.{item_rule}
 use Rattle.fast_check_skeleton.specs.Surroundings.{Surroundings}
 use Rattle.fast_check_skeleton.specs.Visible.{properties_by_rule, item_properties, body_seen, item_look, item_seen, seen_by_rule}

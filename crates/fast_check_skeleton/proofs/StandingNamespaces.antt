@@ -1,6 +1,6 @@
 -- What stands of namespaces, and that it stands in the grammar.
-use Rattle.std.specs.Prelude.{◌≡◌, ℕ, zero, suc, ◌<◌, Bool, true, false, not, ◌&&◌, ◌||◌, Option, Some, List, [], ◌∷◌, ◌++◌, refl, if◌then◌else◌}
-use Rattle.std.proofs.Common.{arith, ap, ap₂, ◌∙◌, sym, subst, subst₂, append-nil}
+use Rattle.std.specs.Prelude.{◌≡◌, ℕ, zero, suc, ◌<◌, Bool, true, false, not, ◌&&◌, ◌||◌, Option, Some, List, [], ◌∷◌, refl, if◌then◌else◌}
+use Rattle.std.proofs.Common.{arith, ap, ◌∙◌, sym, subst, subst₂, append-nil}
 use Rattle.fast_check_syntax.specs.declared.kind.Kind.TheVariants.{Str, TsModuleDecl, TsModuleBlock, TsNamespaceDecl}
 use Rattle.fast_check_syntax.specs.declared.kind.Kind.TheVariants.{List as List'}
 use Rattle.fast_check_syntax.specs.declared.tree.Tree.{Tree, Absent}
@@ -12,10 +12,10 @@ use Rattle.fast_check_syntax.proofs.Made.{part_node, parts_node, kind_of_node, i
 use Rattle.fast_check_statement_forms.specs.TsDeclarations.{TsModuleDecl-span, TsModuleDecl-declare, TsModuleDecl-global, TsModuleDecl-namespace}
 use Rattle.fast_check_statement_forms.specs.TsDeclarations.{TsModuleDecl-id, TsModuleDecl-body, TsModuleBlock-span, TsModuleBlock-body}
 use Rattle.fast_check_statement_forms.specs.TsDeclarations.{TsNamespaceDecl-span, TsNamespaceDecl-declare, TsNamespaceDecl-global, TsNamespaceDecl-id}
-use Rattle.fast_check_statement_forms.specs.TsDeclarations.{TsNamespaceDecl-body, ts_module_decl, ts_module_block}
+use Rattle.fast_check_statement_forms.specs.TsDeclarations.{TsNamespaceDecl-body, ts_module_block}
 use Rattle.fast_check_signatures.specs.Bindings.{Bindings}
-use Rattle.fast_check_signatures.specs.Seen.{Seen, written, range, flag, listed, seens}
-use Rattle.fast_check_signatures.specs.Answers.{Answer, answer_to, answer_of, faultless, list_answer, round_answer, visited}
+use Rattle.fast_check_signatures.specs.Seen.{Seen}
+use Rattle.fast_check_signatures.specs.Answers.{Answer, answer_to, answer_of, faultless, round_answer, visited}
 use Rattle.fast_check_typed_grammar.proofs.Staying.{Holds, items_hold}
 use Rattle.fast_check_typed_grammar.proofs.StayingLists.{AllStay}
 use Rattle.fast_check_skeleton.specs.Grammar.{IsTypedItem, IsTypedNamespace, IsTypedBody, AllTypedItems}

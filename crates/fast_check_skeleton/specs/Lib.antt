@@ -20,3 +20,4 @@ pub mod Example
 pub mod ClassExample
 pub mod ModuleExample
 pub mod NamespaceExample
+pub mod ExpandoExample

@@ -3,6 +3,7 @@ ghost use Rattle.fast_check_skeleton.specs.Surroundings.{Surroundings};
 ghost use Rattle.fast_check_skeleton.specs.Worlds.{TwoWorlds};
 ghost use Rattle.fast_check_skeleton.specs.ClassExample.{ClassExample};
 ghost use Rattle.fast_check_skeleton.specs.Example.{Example};
+ghost use Rattle.fast_check_skeleton.specs.ExpandoExample.{ExpandoExample};
 ghost use Rattle.fast_check_skeleton.specs.HashMark.{HashMarked};
 ghost use Rattle.fast_check_skeleton.specs.ModuleExample.{ModuleExample};
 ghost use Rattle.fast_check_skeleton.specs.NamespaceExample.{NamespaceExample};
@@ -16,13 +17,15 @@ use fast_check_syntax::Tree;
 /// example is one documented statement, and the same behind a hidden function, which is documented too, and with
 /// another value. Another one has a function and a class on both sides, of which a body, the signature of a private method
 /// and a static block differ. The modules of the next one import a name and export a function by default: what else they import
-/// from there, and the body of the function, differ. Those of the last one have a namespace, in which a statement differs.
+/// from there, and the body of the function, differ. Those of another one have a namespace, in which a statement differs. Those of the
+/// last one assign a property to a function: its body differs, and what the value asserts to be a number.
 pub fn two_worlds(first: &Tree, second: &Tree)
     ensures law { (a : Surroundings) (c : Comments) (b : Surroundings) (d : Comments) → TwoWorlds a first.now c b second.now d }
     ensures not_empty { Example }
     ensures of_classes { ClassExample }
     ensures of_modules { ModuleExample }
     ensures of_namespaces { NamespaceExample }
+    ensures of_expandos { ExpandoExample }
 {
     let _ = first;
     let _ = second;

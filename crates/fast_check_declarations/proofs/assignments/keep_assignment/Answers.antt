@@ -1,4 +1,4 @@
-use Rattle.std.proofs.Common.{◌≡◌, ◌∙◌, sym, ap, ◌++◌, append-nil}
+use Rattle.std.proofs.Common.{◌∙◌, sym, ap, ◌++◌, append-nil}
 use Rattle.std.proofs.lemmas.Result.{on_ok_weaker}
 use Rattle.fast_check_syntax.specs.Part.{seen}
 use Rattle.fast_check_ranges.specs.Ranges.{range_of_node}

@@ -3,6 +3,7 @@ use Rattle.fast_check_skeleton.proofs.Example.{example}
 use Rattle.fast_check_skeleton.proofs.ClassExample.{class_example}
 use Rattle.fast_check_skeleton.proofs.ModuleExample.{module_example}
 use Rattle.fast_check_skeleton.proofs.NamespaceExample.{namespace_example}
+use Rattle.fast_check_skeleton.proofs.ExpandoExample.{expando_example}
 use Rattle.fast_check_skeleton.proofs.worlds.two_worlds.Goals as goal
 
 pub returns : goal.returns
@@ -12,4 +13,5 @@ returns c = record {
   of_classes = class_example;
   of_modules = module_example;
   of_namespaces = namespace_example;
+  of_expandos = expando_example;
 }

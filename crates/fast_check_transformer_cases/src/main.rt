@@ -1,0 +1,37 @@
+//! Transforms the module of each file that `cases` names by one transformer, twice, first without the option that answers the first fault alone, and then
+//! with it. Prints what each call answers, and which diagnostics are kept then, each by its code and the place where it begins.
+#![tactic(auto)]
+
+mod calls;
+
+use crate::calls::tell_calls;
+use fast_check_requests::{Refusal, read_request};
+use fast_check_said::Said;
+use std::alloc::Global;
+use std::{fs, io};
+
+/// Transforms the module of a request.
+fn tell_request(alloc: Global, bytes: &[u8], said: &mut Said) -> Result<(), Refusal> {
+    tell_calls(alloc, read_request(alloc, bytes)?, said)
+}
+
+fn run_file(rt: &HostRuntime, name: &str) -> io::Result<()> {
+    println!(rt; "{name}")?;
+    let bytes = fs::read(rt, name)?;
+    let mut said = Said::new(rt.alloc());
+    if let Err(refusal) = tell_request(rt.alloc(), bytes.as_slice(), &mut said) {
+        said.tell(refusal.line());
+    }
+    match said.text() {
+        Some(text) => println!(rt; "{text}"),
+        None => println!(rt; "no memory"),
+    }
+}
+
+fn main(rt: HostRuntime) -> io::Result<()> {
+    let cases = fs::read_to_string(&rt, "cases")?;
+    for name in cases.as_str().lines() {
+        run_file(&rt, name)?;
+    }
+    Ok(())
+}
