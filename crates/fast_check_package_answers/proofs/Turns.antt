@@ -1,0 +1,267 @@
+-- One module more of a package.
+use Rattle.std.specs.Prelude.{◌≡◌, ◌≢◌, ℕ, ◌==◌, Bool, true, false, not, ◌&&◌, List, [], ◌∷◌, ◌++◌, length, map, Option, Some, refl}
+use Rattle.std.specs.Prelude.{Result, Ok, Err, IfOk, IfErr, Vec, vec_len}
+use Rattle.std.specs.List.{AllZip, AllByRecursion, flat_map}
+use Rattle.std.specs.declared.alloc.Global.{Global}
+use Rattle.std.specs.declared.alloc.AllocError.{AllocError}
+use Rattle.std.proofs.Common.{◌∙◌, sym, ap, subst, append_assoc, eq-eqb, eqb-true}
+use Rattle.std.proofs.lemmas.Bool.{false≢true}
+use Rattle.std.proofs.lemmas.List.{append-nil, map-append, nil_from_length}
+use Rattle.std.proofs.lemmas.Grind.{flat_map-append}
+use Rattle.fast_check_tables.specs.PublicRanges.{PublicRanges}
+use Rattle.fast_check_tables.specs.declared.diagnostics.FastCheckDiagnostic.{FastCheckDiagnostic}
+use Rattle.fast_check_signatures.specs.declared.fault.Fault.{Fault}
+use Rattle.fast_check_tables.specs.MediaType.{is_declaration}
+use Rattle.fast_check_tables.specs.declared.tables.fast_check_module.FastCheckModule.{FastCheckModule}
+use Rattle.fast_check_skeleton.specs.Grammar.{IsSkeleton}
+use Rattle.fast_check_bindings.specs.Bindings.{bindings_of}
+use Rattle.fast_check_modules.specs.EsModule.{EsModule}
+use Rattle.fast_check_graph.specs.Root.{found_module}
+use Rattle.fast_check_graph.specs.declared.graph.ModuleGraph.{ModuleGraph}
+use Rattle.fast_check_graph.specs.declared.root_symbol.ModuleInfo.{ModuleInfo}
+use Rattle.fast_check_graph.specs.declared.root_symbol.ModuleInfo.TheVariants.{Esm}
+use Rattle.fast_check_graph.specs.declared.root_symbol.RootSymbol.{RootSymbol}
+use Rattle.fast_check_cache.specs.declared.package_ranges.PackagePublicRanges.{PackagePublicRanges}
+use Rattle.fast_check_transform.specs.Transform.{skeleton, sources, comments}
+use Rattle.fast_check_transform_faults.specs.Diagnostics.{AreDiagnosticsOf, told}
+use Rattle.fast_check_package_answers.specs.Reasons.{PublicModule, Reason, met, found, Tells, found_or, reasons_in_tree, first_list, module_reasons}
+use Rattle.fast_check_package_answers.specs.Reasons.{package_reasons}
+use Rattle.fast_check_package_answers.specs.PackageAnswer.{Answer, TreeModule, IsShown, ShowsMore, with_tree, tree_modules}
+use Rattle.fast_check_package_answers.specs.PackageAnswer.{IsSkeletonOf, IsPackageAnswer, AdmitsPublic, AdmitsModule, AdmitsAll}
+use Rattle.fast_check_package_answers.proofs.Lists.{first_last, first_front, both_append, left_empty, right_empty, front_empty, back_empty}
+use Rattle.fast_check_package_answers.proofs.Lists.{all_front, all_back}
+
+abbrev Diagnostics : Type 0
+Diagnostics = Vec FastCheckDiagnostic Global
+
+abbrev Answered : Type 0
+Answered = Result Diagnostics AllocError
+
+abbrev Made : Type 0
+Made = Result FastCheckModule Diagnostics
+
+-- ---- vectors that are empty, or not
+
+pub empty_vec : (v : Diagnostics) (b : Bool) → b ≡ (vec_len v == 0) → b ≡ true → v.items ≡ []
+empty_vec v b is e = nil_from_length v.items (sym v.ok.0 ∙ eqb-true (vec_len v) 0 (sym is ∙ e))
+
+pub full_vec : (v : Diagnostics) (b : Bool) → b ≡ (vec_len v == 0) → b ≡ false → v.items ≡ [] → ⊥
+full_vec v b is e none =
+    let zero : vec_len v ≡ 0 = v.ok.0 ∙ ap {B = ℕ} length none in
+    false≢true (sym e ∙ (is ∙ eq-eqb (vec_len v) 0 zero))
+
+not_true : (x : Bool) → not x ≡ true → x ≡ true → ⊥
+not_true true p q = cc
+not_true false p q = cc
+
+not_false : (x : Bool) → not x ≡ false → x ≡ true
+not_false true p = refl
+not_false false p = cc
+
+pub early : (first : Bool) (wrong : List FastCheckDiagnostic) (b : Bool) → b ≡ (first && not (length wrong == 0)) → b ≡ true →
+    (first ≡ true) × (wrong ≡ [] → ⊥)
+early false wrong b is e = cc
+early true wrong b is e = (
+  refl,
+  λ none. let zero : length wrong ≡ 0 = ap {B = ℕ} length none in not_true (length wrong == 0) (sym is ∙ e) (eq-eqb (length wrong) 0 zero),
+)
+
+pub goes_on : (first : Bool) (wrong : List FastCheckDiagnostic) (b : Bool) → b ≡ (first && not (length wrong == 0)) → b ≡ false → first ≡ true → wrong ≡ []
+goes_on false wrong b is e t = cc
+goes_on true wrong b is e t = nil_from_length wrong (eqb-true (length wrong) 0 (not_false (length wrong == 0) (sym is ∙ e)))
+
+-- ---- one module
+
+-- what the finder found is told as it is
+pub found_told : (ds : List FastCheckDiagnostic) → AllZip Tells (map found ds) ds
+found_told [] = tt
+found_told (d ∷ ds) = (refl, found_told ds)
+
+-- and the faults of the transform as diagnostics
+pub faults_told : (info : EsModule) (fs : List Fault) (ds : List FastCheckDiagnostic) → AreDiagnosticsOf info fs ds → AllZip Tells (map (met info) fs) ds
+faults_told info [] [] h = tt
+faults_told info [] (d ∷ ds) h = absurd h
+faults_told info (f ∷ fs) [] h = absurd h
+faults_told info (f ∷ fs) (d ∷ ds) h = (h.0, faults_told info fs ds h.1)
+
+-- of these there are none exactly where nothing is wrong
+pub nothing_told : (first : Bool) (info : EsModule) (fs : List Fault) → fs ≡ [] → AllZip Tells (map (met info) (told first fs)) []
+nothing_told false info [] e = tt
+nothing_told true info [] e = tt
+nothing_told first info (f ∷ fs) e = cc
+
+pub nothing_met : (first : Bool) (info : EsModule) (fs : List Fault) (ds : List FastCheckDiagnostic) → AreDiagnosticsOf info (told first fs) ds → ds ≡ [] →
+    fs ≡ []
+nothing_met first info [] ds h e = refl
+nothing_met false info (f ∷ fs) [] h e = absurd h
+nothing_met true info (f ∷ fs) [] h e = absurd h
+nothing_met first info (f ∷ fs) (d ∷ ds) h e = cc
+
+pub faults_answered : (first : Bool) (info : EsModule) (fs : List Fault) (r : Made) (ds : Diagnostics) → r ≡ Err ds →
+    IfErr r (λ d. AreDiagnosticsOf info (told first fs) d.items) → AllZip Tells (map (met info) (told first fs)) ds.items
+faults_answered first info fs (Ok made) ds e h = cc
+faults_answered first info fs (Err d) ds e h =
+    let same : d ≡ ds = cc in
+    faults_told info (told first fs) ds.items (subst (λ (v : Diagnostics). AreDiagnosticsOf info (told first fs) v.items) same h)
+
+-- what the finder found goes first
+pub told_found : (ds : List FastCheckDiagnostic) (others : List Reason) (wrong : List FastCheckDiagnostic) → ds ≢ [] → wrong ≡ ds →
+    AllZip Tells (found_or ds others) wrong
+told_found [] others wrong some e = absurd (some refl)
+told_found (d ∷ ds) others wrong some e = subst (AllZip Tells (map found (d ∷ ds))) (sym e) (found_told (d ∷ ds))
+
+pub told_others : (ds : List FastCheckDiagnostic) (others : List Reason) (wrong : List FastCheckDiagnostic) → ds ≡ [] → AllZip Tells others wrong →
+    AllZip Tells (found_or ds others) wrong
+told_others [] others wrong e h = h
+told_others (d ∷ ds) others wrong e h = cc
+
+-- ranges without diagnostics
+abbrev pub without : PublicRanges → PublicRanges
+without public = record public { diagnostics = [] }
+
+without_same : (public : PublicRanges) → public.diagnostics ≡ [] → without public ≡ public
+without_same public e = ap {B = PublicRanges} (λ ds. record public { diagnostics = ds }) (sym e)
+
+-- what is left when none are taken out
+pub left_same : (public left : PublicRanges) (taken : Diagnostics) → taken.items ≡ public.diagnostics → left ≡ without public → taken.items ≡ [] →
+    left ≡ public
+left_same public left taken is rest e = rest ∙ without_same public (sym is ∙ e)
+
+found_none : (ds : List FastCheckDiagnostic) (rs : List Reason) → ds ≡ [] → rs ≡ found_or ds rs
+found_none [] rs e = refl
+found_none (d ∷ ds) rs e = cc
+
+-- what is wrong with a module of which the finder found nothing
+pub told_rest : (first : Bool) (graph : ModuleGraph) (root : RootSymbol) (m : PublicModule) (left : PublicRanges) (r : Answered) → left ≡ m.1 →
+    m.1.diagnostics ≡ [] → IfOk r (λ w. AllZip Tells (reasons_in_tree first graph left (found_module root m.0)) w.items) →
+    IfOk r (λ w. AllZip Tells (module_reasons first graph root m) w.items)
+told_rest first graph root m left r same none h =
+    let o = found_module root m.0 in
+    let P : List Reason → Type 0 = λ rs. IfOk r (λ w. AllZip Tells rs w.items) in
+    let at : P (reasons_in_tree first graph m.1 o) =
+    subst (λ (public : PublicRanges). P (reasons_in_tree first graph public o)) same h in
+    subst P (found_none m.1.diagnostics (reasons_in_tree first graph m.1 o) none) at
+
+-- ---- one module more
+
+pub reasons_more : (first : Bool) (graph : ModuleGraph) (root : RootSymbol) (ms : List PublicModule) (m : PublicModule) →
+    (first ≡ true → package_reasons first graph root ms ≡ []) →
+    package_reasons first graph root (ms ++ m ∷ []) ≡ package_reasons first graph root ms ++ module_reasons first graph root m
+reasons_more false graph root ms m h =
+    let f = module_reasons false graph root in
+    flat_map-append f ms (m ∷ []) ∙ ap (λ rs. flat_map f ms ++ rs) (append-nil (f m))
+reasons_more true graph root ms m h =
+    let f = module_reasons true graph root in
+    ap first_list (map-append f ms (m ∷ [])) ∙ (first_last (map f ms) (f m) (h refl) ∙ sym (ap (λ rs. rs ++ f m) (h refl)))
+
+-- once something is wrong, what follows plays no part
+reasons_stop : (graph : ModuleGraph) (root : RootSymbol) (ms more : List PublicModule) → package_reasons true graph root ms ≢ [] →
+    package_reasons true graph root (ms ++ more) ≡ package_reasons true graph root ms
+reasons_stop graph root ms more some =
+    let f = module_reasons true graph root in
+    ap first_list (map-append f ms more) ∙ first_front (map f ms) (map f more) some
+
+-- what is told of some modules, and of one more
+pub told_more : (first : Bool) (graph : ModuleGraph) (root : RootSymbol) (ms : List PublicModule) (m : PublicModule)
+    (old more new : List FastCheckDiagnostic) →
+    (first ≡ true → old ≡ []) → AllZip Tells (package_reasons first graph root ms) old → AllZip Tells (module_reasons first graph root m) more →
+    new ≡ old ++ more → AllZip Tells (package_reasons first graph root (ms ++ m ∷ [])) new
+told_more first graph root ms m old more new none before one is =
+    let reasons = reasons_more first graph root ms m (λ e. left_empty Tells _ old before (none e)) in
+    subst (λ rs. AllZip Tells rs new) (sym reasons)
+    (subst (AllZip Tells _) (sym is) (both_append Tells _ old _ more before one))
+
+-- where the first fault is wanted alone, what is told of some modules is all
+pub told_all : (first : Bool) (graph : ModuleGraph) (root : RootSymbol) (ms more all : List PublicModule) (wrong : List FastCheckDiagnostic) →
+    first ≡ true → wrong ≢ [] → ms ++ more ≡ all → AllZip Tells (package_reasons first graph root ms) wrong →
+    AllZip Tells (package_reasons first graph root all) wrong
+told_all false graph root ms more all wrong is some e h = cc
+told_all true graph root ms more all wrong is some e h =
+    let none : package_reasons true graph root ms ≢ [] = λ n. some (right_empty Tells _ wrong h n) in
+    subst (λ rs. AllZip Tells rs wrong) (sym (reasons_stop graph root ms more none) ∙ ap (package_reasons true graph root) e) h
+
+-- ---- skeletons
+
+pub shows_none : (graph : ModuleGraph) (answers : List Answer) → ShowsMore graph [] answers answers
+shows_none graph answers modules h = subst (λ ms. AllZip (IsShown graph) ms answers) (sym (append-nil modules)) h
+
+pub shows_one : (graph : ModuleGraph) (m : TreeModule) (old new : List Answer) (answer : Answer) → new ≡ old ++ answer ∷ [] → IsShown graph m answer →
+    ShowsMore graph (m ∷ []) old new
+shows_one graph m old new answer is one modules h =
+    subst (AllZip (IsShown graph) _) (sym is) (both_append (IsShown graph) modules old (m ∷ []) (answer ∷ []) h (one, tt))
+
+-- a module that was transformed
+pub shows_tree : (graph : ModuleGraph) (m : TreeModule) (r : Made) (made : FastCheckModule) (old new : List Answer) → r ≡ Ok made →
+    IfOk r (λ x. x.program ≡ skeleton graph m.info m.public) →
+    IfOk r (λ x. IsSkeleton (bindings_of m.info) (is_declaration m.info.source.media_type) x.program) →
+    IfOk r (λ x. x.comments ≡ comments graph m.info m.public) →
+    IfOk r (λ x. x.module_info.sources.items ≡ sources graph m.info m.public) →
+    new ≡ old ++ (m.specifier, Ok made) ∷ [] → ShowsMore graph (m ∷ []) old new
+shows_tree graph m (Err ds) made old new e p g k d is = cc
+shows_tree graph m (Ok x) made old new e p g k d is =
+    let same : x ≡ made = cc in
+    let one : IsSkeletonOf graph m x = record { program = p; grammar = g; kept = k; depends = d } in
+    shows_one graph m old new (m.specifier, Ok made) is (refl, subst (IsSkeletonOf graph m) same one)
+
+-- a module that was found
+pub shows_found : (graph : ModuleGraph) (m : PublicModule) (info : EsModule) (o : Option ModuleInfo) (old new : List Answer) (r : Answered) →
+    Some (Esm info) ≡ o → IfOk r (λ w. w.items ≡ [] → ShowsMore graph (with_tree m (Some (Esm info))) old new) →
+    IfOk r (λ w. w.items ≡ [] → ShowsMore graph (with_tree m o) old new)
+shows_found graph m info o old new r e h =
+    subst (λ (x : Option ModuleInfo). IfOk r (λ w. w.items ≡ [] → ShowsMore graph (with_tree m x) old new)) e h
+
+-- and one of which the finder found nothing
+pub shows_rest : (graph : ModuleGraph) (root : RootSymbol) (m : PublicModule) (left : PublicRanges) (old new : List Answer) (r : Answered) → left ≡ m.1 →
+    IfOk r (λ w. w.items ≡ [] → ShowsMore graph (with_tree (m.0, left) (found_module root m.0)) old new) →
+    IfOk r (λ w. w.items ≡ [] → ShowsMore graph (with_tree m (found_module root m.0)) old new)
+shows_rest graph root m left old new r e h =
+    subst (λ (public : PublicRanges). IfOk r (λ w. w.items ≡ [] → ShowsMore graph (with_tree (m.0, public) (found_module root m.0)) old new)) e h
+
+-- the modules with a tree of some modules, and of one more
+trees_more : (root : RootSymbol) (ms : List PublicModule) (m : PublicModule) →
+    tree_modules root (ms ++ m ∷ []) ≡ tree_modules root ms ++ with_tree m (found_module root m.0)
+trees_more root ms m =
+    let f : PublicModule → List TreeModule = λ x. with_tree x (found_module root x.0) in
+    flat_map-append f ms (m ∷ []) ∙ ap (λ rs. flat_map f ms ++ rs) (append-nil (f m))
+
+pub shows_more : (graph : ModuleGraph) (root : RootSymbol) (ms : List PublicModule) (m : PublicModule) (first middle last : List Answer) →
+    ShowsMore graph (tree_modules root ms) first middle → ShowsMore graph (with_tree m (found_module root m.0)) middle last →
+    ShowsMore graph (tree_modules root (ms ++ m ∷ [])) first last
+shows_more graph root ms m first middle last h k modules shown =
+    let t = tree_modules root ms in
+    let more = with_tree m (found_module root m.0) in
+    let joined = append_assoc modules t more ∙ sym (ap (λ ts. modules ++ ts) (trees_more root ms m)) in
+    subst (λ ts. AllZip (IsShown graph) ts last) joined (k (modules ++ t) (h modules shown))
+
+-- where nothing is wrong with one module more, its answer is kept
+pub shows_turn : (graph : ModuleGraph) (root : RootSymbol) (ms : List PublicModule) (m : PublicModule) (first before after kept : List Answer)
+    (old more new : List FastCheckDiagnostic) → new ≡ old ++ more → (new ≡ [] → kept ≡ after) →
+    (old ≡ [] → ShowsMore graph (tree_modules root ms) first before) →
+    (more ≡ [] → ShowsMore graph (with_tree m (found_module root m.0)) before after) → new ≡ [] →
+    ShowsMore graph (tree_modules root (ms ++ m ∷ [])) first kept
+shows_turn graph root ms m first before after kept old more new is same h k none =
+    let both = sym is ∙ none in
+    let last = shows_more graph root ms m first before after (h (front_empty old more both)) (k (back_empty old more both)) in
+    λ modules shown. subst (AllZip (IsShown graph) _) (sym (same none)) (last modules shown)
+
+-- ---- a package
+
+pub package_shown : (graph : ModuleGraph) (root : RootSymbol) (ranges : PackagePublicRanges) (first : Bool) (before after : List Answer)
+    (wrong : List FastCheckDiagnostic) → before ≡ [] → wrong ≡ [] →
+    AllZip Tells (package_reasons first graph root ranges.module_ranges.entries) wrong →
+    (wrong ≡ [] → ShowsMore graph (tree_modules root ranges.module_ranges.entries) before after) → IsPackageAnswer graph root ranges first after
+package_shown graph root ranges first before after wrong begin none tells shows = record {
+  shown = λ e. shows none [] (subst (AllZip (IsShown graph) []) (sym begin) tt);
+  refused = λ some. absurd (some (left_empty Tells _ wrong tells none));
+}
+
+-- ---- what is admitted
+
+pub admits_next : (root : RootSymbol) (ms : List PublicModule) (m : PublicModule) (rest all : List PublicModule) → ms ++ m ∷ rest ≡ all →
+    AdmitsAll root all → AdmitsModule root m
+admits_next root ms m rest all e h =
+    let f : PublicModule → List TreeModule = λ x. with_tree x (found_module root x.0) in
+    let split = flat_map-append f ms (m ∷ rest) in
+    let later : AllByRecursion AdmitsPublic (flat_map f ms ++ flat_map f (m ∷ rest)) =
+    subst (AllByRecursion AdmitsPublic) (sym (ap (flat_map f) e) ∙ split) h in
+    all_front AdmitsPublic (f m) (flat_map f rest) (all_back AdmitsPublic (flat_map f ms) (flat_map f (m ∷ rest)) later)

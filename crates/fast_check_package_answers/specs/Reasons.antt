@@ -1,0 +1,55 @@
+-- What speaks against a package: the reasons for which its modules have no skeletons.
+use Rattle.std.specs.Prelude.{◌≡◌, Bool, true, false, List, [], ◌∷◌, map, Option, Some, None}
+use Rattle.std.specs.List.{flat_map}
+use Rattle.url.specs.Parts.{Parts}
+use Rattle.fast_check_signatures.specs.declared.fault.Fault.{Fault}
+use Rattle.fast_check_tables.specs.PublicRanges.{PublicRanges}
+use Rattle.fast_check_tables.specs.declared.diagnostics.FastCheckDiagnostic.{FastCheckDiagnostic}
+use Rattle.fast_check_modules.specs.EsModule.{EsModule}
+use Rattle.fast_check_graph.specs.Root.{found_module}
+use Rattle.fast_check_graph.specs.declared.graph.ModuleGraph.{ModuleGraph}
+use Rattle.fast_check_graph.specs.declared.root_symbol.ModuleInfo.{ModuleInfo}
+use Rattle.fast_check_graph.specs.declared.root_symbol.ModuleInfo.TheVariants.{Esm, Json}
+use Rattle.fast_check_graph.specs.declared.root_symbol.RootSymbol.{RootSymbol}
+use Rattle.fast_check_transform.specs.Transform.{faults}
+use Rattle.fast_check_transform_faults.specs.Diagnostics.{IsDiagnosticOf, told}
+
+-- a module of a package: its specifier, and what is public in it
+abbrev pub PublicModule : Type 0
+PublicModule = Parts × PublicRanges
+
+-- what the finder found wrong with a module, or a fault that the transform meets in one
+pub data Reason : Type 0 where
+  found : FastCheckDiagnostic → Reason
+  met : EsModule → Fault → Reason
+
+-- what the finder found is told as it is, and a fault as a diagnostic of its kind at its place
+abbrev pub Tells : Reason → FastCheckDiagnostic → Type 0
+Tells (found d) told_as = told_as ≡ d
+Tells (met info fault) told_as = IsDiagnosticOf info fault told_as
+
+-- the faults of the transform, all or the first alone; none without a syntax tree
+abbrev pub reasons_in_tree : Bool → ModuleGraph → PublicRanges → Option ModuleInfo → List Reason
+reasons_in_tree first graph public (Some (Esm info)) = map (met info) (told first (faults graph info public))
+reasons_in_tree first graph public (Some (Json _)) = []
+reasons_in_tree first graph public None = []
+
+-- what the finder found goes before all else
+abbrev pub found_or : List FastCheckDiagnostic → List Reason → List Reason
+found_or [] others = others
+found_or (d ∷ ds) others = map found (d ∷ ds)
+
+-- a module's list: what the finder found wrong with it, or else the faults of the transform
+abbrev pub module_reasons : Bool → ModuleGraph → RootSymbol → PublicModule → List Reason
+module_reasons first graph root m = found_or m.1.diagnostics (reasons_in_tree first graph m.1 (found_module root m.0))
+
+-- the first of the lists that has anything
+abbrev pub first_list : List (List Reason) → List Reason
+first_list [] = []
+first_list ([] ∷ lists) = first_list lists
+first_list ((r ∷ rs) ∷ lists) = r ∷ rs
+
+-- the list of a package: those of its modules joined, or where the first fault is wanted alone, that of the first module that has one
+abbrev pub package_reasons : Bool → ModuleGraph → RootSymbol → List PublicModule → List Reason
+package_reasons false graph root modules = flat_map (module_reasons false graph root) modules
+package_reasons true graph root modules = first_list (map (module_reasons true graph root) modules)

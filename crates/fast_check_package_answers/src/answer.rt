@@ -1,0 +1,236 @@
+ghost use Rattle.std.specs.Prelude.{◌≡◌, ◌==◌, ◌&&◌, not, [], ◌∷◌, ◌++◌, length, IfOk, OnOk};
+ghost use Rattle.std.specs.List.{AllZip};
+ghost use Rattle.fast_check_modules.specs.EsModule.{Admits};
+ghost use Rattle.fast_check_graph.specs.Root.{found_module};
+ghost use Rattle.fast_check_package_answers.specs.Reasons.{Tells, reasons_in_tree, module_reasons, package_reasons};
+ghost use Rattle.fast_check_package_answers.specs.PackageAnswer.{ShowsMore, with_tree, tree_modules, AdmitsModule, AdmitsAll};
+ghost use Rattle.fast_check_package_answers.specs.PackageAnswer.{IsRefused, IsPackageAnswer};
+
+use fast_check_cache::PackagePublicRanges;
+use fast_check_graph::{ModuleGraph, ModuleInfo, RootSymbol};
+use fast_check_modules::EsModuleInfo;
+use fast_check_tables::{
+    FastCheckDiagnostic, FastCheckModule, ModulePublicRanges, ModuleSpecifier,
+};
+use fast_check_transform::{TransformOptions, transform};
+use std::alloc::{AllocError, Global};
+use std::collections::{BTreeMap, BTreeSet};
+use url::Url;
+
+/// A specifier, and the skeleton or the diagnostics that it is answered by.
+pub type ModuleAnswer = (
+    ModuleSpecifier,
+    Result<FastCheckModule, Vec<FastCheckDiagnostic>>,
+);
+
+/// What the transform finds wrong with a module. Where that is nothing, its skeleton goes to the answers.
+fn answer_tree(
+    alloc: Global,
+    graph: &ModuleGraph,
+    es_module_info: &EsModuleInfo,
+    specifier: Url,
+    public_ranges: &ModulePublicRanges,
+    options: &TransformOptions,
+    answers: &mut Vec<ModuleAnswer>,
+) -> Result<Vec<FastCheckDiagnostic>, AllocError>
+    requires { Admits es_module_info.now public_ranges.now }
+    ensures reasons { IfOk result (λ wrong. AllZip Tells
+        (reasons_in_tree options.now.should_error_on_first_diagnostic graph.now public_ranges.now (Some (ModuleInfo.Esm es_module_info.now)))
+        wrong.items) }
+    ensures shown { IfOk result (λ wrong. wrong.items ≡ [] → ShowsMore graph.now
+        (with_tree (specifier, public_ranges.now) (Some (ModuleInfo.Esm es_module_info.now))) answers.old.items answers.new.items) }
+{
+    match transform(alloc, graph, es_module_info, public_ranges, options)? {
+        Ok(made) => {
+            answers.push((specifier, Ok(made)))?;
+            Ok(Vec::new(alloc))
+        }
+        Err(diagnostics) => Ok(diagnostics),
+    }
+}
+
+/// The same of a module that may have no syntax tree: without one, nothing is wrong, and nothing goes to the answers.
+fn answer_if_tree(
+    alloc: Global,
+    graph: &ModuleGraph,
+    root_symbol: &RootSymbol,
+    specifier: Url,
+    public_ranges: &ModulePublicRanges,
+    options: &TransformOptions,
+    answers: &mut Vec<ModuleAnswer>,
+) -> Result<Vec<FastCheckDiagnostic>, AllocError>
+    requires { AdmitsModule root_symbol.now (specifier, public_ranges.now) }
+    ensures reasons { IfOk result (λ wrong. AllZip Tells
+        (reasons_in_tree options.now.should_error_on_first_diagnostic graph.now public_ranges.now (found_module root_symbol.now specifier))
+        wrong.items) }
+    ensures shown { IfOk result (λ wrong. wrong.items ≡ [] → ShowsMore graph.now
+        (with_tree (specifier, public_ranges.now) (found_module root_symbol.now specifier)) answers.old.items answers.new.items) }
+{
+    match root_symbol.module_from_specifier(&specifier) {
+        Some(ModuleInfo::Esm(info)) => answer_tree(
+            alloc,
+            graph,
+            info,
+            specifier,
+            public_ranges,
+            options,
+            answers,
+        ),
+        _ => Ok(Vec::new(alloc)),
+    }
+}
+
+/// What is wrong with a module: what the finder found, or else what the transform finds. Where that is nothing, the skeleton of a module
+/// with a syntax tree goes to the answers.
+fn answer_module(
+    alloc: Global,
+    graph: &ModuleGraph,
+    root_symbol: &RootSymbol,
+    specifier: Url,
+    mut public_ranges: ModulePublicRanges,
+    options: &TransformOptions,
+    answers: &mut Vec<ModuleAnswer>,
+) -> Result<Vec<FastCheckDiagnostic>, AllocError>
+    requires { AdmitsModule root_symbol.now (specifier, public_ranges) }
+    ensures reasons { IfOk result (λ wrong. AllZip Tells
+        (module_reasons options.now.should_error_on_first_diagnostic graph.now root_symbol.now (specifier, public_ranges)) wrong.items) }
+    ensures shown { IfOk result (λ wrong. wrong.items ≡ [] → ShowsMore graph.now
+        (with_tree (specifier, public_ranges) (found_module root_symbol.now specifier)) answers.old.items answers.new.items) }
+{
+    let found = public_ranges.take_diagnostics();
+    if found.is_empty() {
+        return answer_if_tree(
+            alloc,
+            graph,
+            root_symbol,
+            specifier,
+            &public_ranges,
+            options,
+            answers,
+        );
+    }
+    Ok(found)
+}
+
+/// Adds what is wrong with one module more. Where anything is wrong, no tree is answered, and those that are there are dropped.
+fn add_wrong(
+    mut more: Vec<FastCheckDiagnostic>,
+    wrong: &mut Vec<FastCheckDiagnostic>,
+    answers: &mut Vec<ModuleAnswer>,
+) -> Result<(), AllocError>
+    ensures added { OnOk result (wrong.new.items ≡ wrong.old.items ++ more.items) }
+    ensures kept { OnOk result (wrong.new.items ≡ [] → answers.new.items ≡ answers.old.items) }
+{
+    wrong.append(&mut more)?;
+    if !wrong.is_empty() {
+        answers.clear();
+    }
+    Ok(())
+}
+
+/// Whether nothing more is to be told of a package.
+fn ends_early(options: &TransformOptions, wrong: &[FastCheckDiagnostic]) -> bool
+    ensures { result ≡ (options.now.should_error_on_first_diagnostic && not (length wrong.now == 0)) }
+{
+    options.should_error_on_first_diagnostic && !wrong.is_empty()
+}
+
+/// What is wrong with the modules of a package, or under the option with the first that has something wrong. Where that is nothing, the
+/// skeletons of those with a syntax tree go to the answers, in order.
+fn answer_modules(
+    alloc: Global,
+    graph: &ModuleGraph,
+    root_symbol: &RootSymbol,
+    module_ranges: BTreeMap<Url, ModulePublicRanges>,
+    options: &TransformOptions,
+    answers: &mut Vec<ModuleAnswer>,
+) -> Result<Vec<FastCheckDiagnostic>, AllocError>
+    requires { AdmitsAll root_symbol.now module_ranges.entries }
+    ensures reasons { IfOk result (λ wrong. AllZip Tells
+        (package_reasons options.now.should_error_on_first_diagnostic graph.now root_symbol.now module_ranges.entries) wrong.items) }
+    ensures shown { IfOk result (λ wrong. wrong.items ≡ [] → ShowsMore graph.now
+        (tree_modules root_symbol.now module_ranges.entries) answers.old.items answers.new.items) }
+{
+    let mut wrong = Vec::new(alloc);
+    for (specifier, public_ranges) in module_ranges {
+        let more = answer_module(
+            alloc,
+            graph,
+            root_symbol,
+            specifier,
+            public_ranges,
+            options,
+            answers,
+        )?;
+        add_wrong(more, &mut wrong, answers)?;
+        if ends_early(options, &wrong) {
+            return Ok(wrong);
+        }
+    }
+    Ok(wrong)
+}
+
+/// An entry point, answered by a copy of what is wrong with its package.
+fn refused(
+    alloc: Global,
+    entrypoint: Url,
+    wrong: &[FastCheckDiagnostic],
+) -> Result<ModuleAnswer, AllocError>
+    ensures { IfOk result (IsRefused wrong.now entrypoint) }
+{
+    Ok((entrypoint, Err(wrong.to_vec(alloc)?)))
+}
+
+/// Each entry point, in order, answered by what is wrong with the package.
+fn refuse(
+    alloc: Global,
+    entrypoints: BTreeSet<Url>,
+    wrong: &[FastCheckDiagnostic],
+) -> Result<Vec<ModuleAnswer>, AllocError>
+    ensures { IfOk result (λ answers. AllZip (IsRefused wrong.now) entrypoints.keys answers.items) }
+{
+    let mut answers = Vec::new(alloc);
+    for entrypoint in entrypoints {
+        answers.push(refused(alloc, entrypoint, wrong)?)?;
+    }
+    Ok(answers)
+}
+
+/// The answer of a package, of which it is known what is public. Where nothing is wrong with it, each module with a syntax tree is answered
+/// by its skeleton, in the order of the specifiers. Else each entry point, in order, is answered by all that is wrong with the modules, and
+/// no module by a skeleton; with `should_error_on_first_diagnostic` by what the finder found wrong with the first faulty module, or by
+/// its first fault.
+///
+/// This is what `build_fast_check_type_graph` of deno_graph does with each package that no cache answers: what a cache keeps of it
+/// is not read. Each module with a syntax tree has to admit what is public in it. An `Err` is want of memory.
+pub fn answer_package(
+    alloc: Global,
+    graph: &ModuleGraph,
+    root_symbol: &RootSymbol,
+    package_ranges: PackagePublicRanges,
+    options: &TransformOptions,
+) -> Result<Vec<ModuleAnswer>, AllocError>
+    requires admitted { AdmitsAll root_symbol.now package_ranges.module_ranges.entries }
+    ensures { IfOk result (λ answers.
+        IsPackageAnswer graph.now root_symbol.now package_ranges options.now.should_error_on_first_diagnostic answers.items) }
+{
+    let PackagePublicRanges {
+        entrypoints,
+        module_ranges,
+        cache_items: _,
+        dependencies: _,
+    } = package_ranges;
+    let mut answers = Vec::new(alloc);
+    let wrong = answer_modules(
+        alloc,
+        graph,
+        root_symbol,
+        module_ranges,
+        options,
+        &mut answers,
+    )?;
+    if wrong.is_empty() {
+        return Ok(answers);
+    }
+    refuse(alloc, entrypoints, &wrong)
+}
