@@ -4,12 +4,10 @@ use Rattle.std.specs.List.{list_any, flat_map}
 use Rattle.std.specs.Prelude.{not}
 use Rattle.std.specs.BTreeMap.{BTreeMap}
 use Rattle.std.proofs.lemmas.List.Folds.{list_any-append}
-use Rattle.std.proofs.lemmas.Bool.{false≢true}
 use Rattle.url.specs.Parts.{serialize}
 use Rattle.fast_check_packages.specs.Package.{Nv, nv_of}
 use Rattle.fast_check_packages.specs.declared.package.PackageNv.{PackageNv}
 use Rattle.fast_check_tables.specs.PublicRanges.{PublicRanges}
-use Rattle.fast_check_tables.specs.declared.diagnostics.FastCheckDiagnostic.{FastCheckDiagnostic}
 use Rattle.fast_check_cache.specs.declared.package_ranges.PackagePublicRanges.{PackagePublicRanges}
 use Rattle.fast_check_faults.specs.Reports.{Report, told}
 use Rattle.fast_check_worklists.specs.Demands.{same_nv}
@@ -25,11 +23,11 @@ use Rattle.fast_check_package_ranges.specs.declared.parts.PackageParts.{PackageP
 use Rattle.fast_check_package_ranges.specs.Questions.{ModuleQuestion, whether_recorded, whether_public, whether_implementing}
 use Rattle.fast_check_package_ranges.specs.Questions.{whether_missing, whether_untyped_entry, whether_untyped, whether_told, whether_otherwise_faulty}
 use Rattle.fast_check_package_ranges.specs.Questions.{Question, whether_known, whether_entry_point, whether_dependency, whether_refused, about}
-use Rattle.fast_check_package_ranges.specs.Questions.{package_of, yield_says, yields_say, is_said, IsTextless, IsTextlessAbout}
-use Rattle.fast_check_package_ranges.specs.Parts.{where_found, is_text, is_package, module_says, package_says, packages_say, lookup_text, lookup_package}
-use Rattle.fast_check_package_ranges.specs.Parts.{package_found, finding_says, finding_says_of, findings_say}
-use Rattle.fast_check_package_ranges.specs.Answers.{module_answer, package_answer, answer, found_to_say, IsSaid, IsExact}
-use Rattle.fast_check_package_ranges.specs.Made.{module_is_said, IsModuleAnswer, AreModuleAnswers, IsPackageAnswer, ArePackageAnswers}
+use Rattle.fast_check_package_ranges.specs.Questions.{package_of, yield_says, yields_say, IsTextless, IsTextlessAbout}
+use Rattle.fast_check_package_ranges.specs.Parts.{where_found, module_says, package_says, packages_say, lookup_text, lookup_package}
+use Rattle.fast_check_package_ranges.specs.Parts.{package_found, finding_says_of, findings_say}
+use Rattle.fast_check_package_ranges.specs.Answers.{module_answer, package_answer, answer, IsSaid, IsExact}
+use Rattle.fast_check_package_ranges.specs.Made.{module_is_said, AreModuleAnswers, IsPackageAnswer, ArePackageAnswers}
 use Rattle.fast_check_package_ranges.proofs.Bools.{or_none, and_or, and_none}
 use Rattle.fast_check_package_ranges.proofs.Lists.{any_map, any_flat, any_alike, any_and}
 
@@ -126,7 +124,8 @@ abbrev package_is_said : PackageParts → Question → Bool
 package_is_said p (about t q) = where_found (λ m. module_is_said m q) (lookup_text t p.modules.entries)
 package_is_said p q = package_says p q
 
-package_one : (q : Question) → IsTextless q → (parts : PackageParts) (p : PackagePublicRanges) → IsPackageAnswer parts p → package_answer q p ≡ package_is_said parts q
+package_one : (q : Question) → IsTextless q → (parts : PackageParts) (p : PackagePublicRanges) → IsPackageAnswer parts p →
+    package_answer q p ≡ package_is_said parts q
 package_one whether_known fair parts p h = refl
 package_one (whether_entry_point t) fair parts p h = h.entry_points t
 package_one (whether_dependency nv) fair parts p h = h.dependencies nv
@@ -169,7 +168,8 @@ module _ (found : List Finding) (packages : List (PackageNv × PackageParts)) (a
 
   pub said : IsSaid found answers
   said nv whether_known fair = first nv whether_known fair ∙ (joined nv whether_known ∙ known found nv)
-  said nv (whether_entry_point t) fair = first nv (whether_entry_point t) fair ∙ (joined nv (whether_entry_point t) ∙ all_yields found nv (whether_entry_point t))
+  said nv (whether_entry_point t) fair = first nv (whether_entry_point t) fair ∙
+      (joined nv (whether_entry_point t) ∙ all_yields found nv (whether_entry_point t))
   said nv (whether_dependency d) fair = first nv (whether_dependency d) fair ∙ (joined nv (whether_dependency d) ∙ all_yields found nv (whether_dependency d))
   said nv (whether_refused t) fair = first nv (whether_refused t) fair ∙ (joined nv (whether_refused t) ∙ all_yields found nv (whether_refused t))
   said nv (about t whether_untyped) fair = first nv (about t whether_untyped) fair ∙ (hidden t (lookup_package nv packages) ∙

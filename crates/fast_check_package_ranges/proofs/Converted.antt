@@ -58,14 +58,16 @@ module _ {K X Y Q : Type 0} {cmp : K → K → Ordering} (o : IsTotalOrder cmp) 
   convert_more source front k x y old new found u r h = record {
     there = λ t p. ⊎_elim
         (λ yes. subst (λ (a : Option X). R t a (lookup (test t) new.entries)) (sym (lookup_key o (test t) (one t) k source yes ∙ found))
-        (subst (λ (b : Option Y). R t (Some x) b) (sym (lookup_after o (test t) (one t) k old new (Some y) u ∙ ap (λ b. cond b (Some y) (lookup (test t) old.entries)) yes)) (r t yes)))
+        (subst (λ (b : Option Y). R t (Some x) b) (sym (lookup_after o (test t) (one t) k old new (Some y) u ∙
+        ap (λ b. cond b (Some y) (lookup (test t) old.entries)) yes)) (r t yes)))
         (λ no. subst (λ (b : Option Y). R t (lookup (test t) source) b)
         (sym (lookup_after o (test t) (one t) k old new (Some y) u ∙ ap (λ b. cond b (Some y) (lookup (test t) old.entries)) no))
         (h.there t (or_split (passes (test t) front) (test t k) (sym (passes_more (test t) front (k, x)) ∙ p) no)))
         (cases_Bool (test t k));
     absent = λ t p.
         let q : (passes (test t) front || test t k) ≡ false = sym (passes_more (test t) front (k, x)) ∙ p in
-        (lookup_after o (test t) (one t) k old new (Some y) u ∙ ap (λ b. cond b (Some y) (lookup (test t) old.entries)) (or_right (passes (test t) front) (test t k) q))
+        (lookup_after o (test t) (one t) k old new (Some y) u ∙
+        ap (λ b. cond b (Some y) (lookup (test t) old.entries)) (or_right (passes (test t) front) (test t k) q))
         ∙ h.absent t (or_left (passes (test t) front) (test t k) q);
   }
 

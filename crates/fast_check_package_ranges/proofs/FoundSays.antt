@@ -15,24 +15,26 @@ use Rattle.fast_check_findings.specs.declared.finding.EnteredPackage.{EnteredPac
 use Rattle.fast_check_findings.specs.declared.finding.FollowedModule.{FollowedModule}
 use Rattle.fast_check_findings.specs.declared.finding.UntypedModule.{UntypedModule}
 use Rattle.fast_check_findings.specs.declared.finding.Finding.TheVariants.{Entered, Followed, Untyped}
-use Rattle.fast_check_findings.specs.Yields.{ModuleFault, missing_entry, untyped_entry, untyped_module, of_demand}
-use Rattle.fast_check_findings.specs.Yields.{Yield, entry_point, dependency, recorded, public, implementing, faulty}
+use Rattle.fast_check_findings.specs.Yields.{ModuleFault, untyped_module, of_demand}
+use Rattle.fast_check_findings.specs.Yields.{Yield, entry_point, dependency, public, implementing}
 use Rattle.fast_check_findings.specs.Findings.{entry_fault, faulty_module, entered_yields, told_at, diagnostic_yields, followed_yields}
 use Rattle.fast_check_package_ranges.specs.declared.parts.ModuleParts.{ModuleParts}
 use Rattle.fast_check_package_ranges.specs.declared.parts.FoundPackage.{FoundPackage}
 use Rattle.fast_check_package_ranges.specs.Questions.{ModuleQuestion, whether_recorded, whether_public, whether_implementing}
 use Rattle.fast_check_package_ranges.specs.Questions.{whether_missing, whether_untyped_entry, whether_untyped, whether_told, whether_otherwise_faulty}
 use Rattle.fast_check_package_ranges.specs.Questions.{Question, whether_known, whether_entry_point, whether_dependency, whether_refused, about}
-use Rattle.fast_check_package_ranges.specs.Questions.{fault_says, is_recorded, range_says, implementation_says, asks_entry_point, asks_dependency, asks_module, yield_says}
+use Rattle.fast_check_package_ranges.specs.Questions.{fault_says, is_recorded, range_says, implementation_says}
+use Rattle.fast_check_package_ranges.specs.Questions.{asks_entry_point, asks_dependency, asks_module, yield_says}
 use Rattle.fast_check_package_ranges.specs.Parts.{where_found, is_text, is_package, tells, any_report, module_says, found_module_says, found_says, finding_says}
-use Rattle.fast_check_package_ranges.proofs.Bools.{or_none, and_or, and_none}
-use Rattle.fast_check_package_ranges.proofs.Lists.{any_map, any_flat, any_alike, any_false, any_none, any_and, found_none}
+use Rattle.fast_check_package_ranges.proofs.Bools.{or_none, and_or}
+use Rattle.fast_check_package_ranges.proofs.Lists.{any_map, any_flat, any_alike, any_false, any_none, found_none}
 
 abbrev says : Question → Yield → Bool
 says q y = yield_says y q
 
 -- a module that is recorded with a fault
-faulty_says : (nv : Nv) (t : List ℕ) (f : ModuleFault) (q : Question) → list_any (says q) (faulty_module nv t f) ≡ asks_module t (λ m. is_recorded m || fault_says f m) q
+faulty_says : (nv : Nv) (t : List ℕ) (f : ModuleFault) (q : Question) →
+    list_any (says q) (faulty_module nv t f) ≡ asks_module t (λ m. is_recorded m || fault_says f m) q
 faulty_says nv t f whether_known = refl
 faulty_says nv t f (whether_entry_point u) = refl
 faulty_says nv t f (whether_dependency d) = refl
@@ -78,7 +80,8 @@ pub record IsOne (found : FoundPackage) (specifier : Parts) (parts : ModuleParts
 
 one_about : (found : FoundPackage) (specifier : Parts) (parts : ModuleParts) (dependencies : List PackageNv) → IsOne found specifier parts dependencies →
     (t : List ℕ) (m : ModuleQuestion) → found_says found (about t m) ≡ (bytes_eq t (serialize specifier) && module_says parts m)
-one_about found specifier parts dependencies h t m = ap (list_any (found_module_says t m)) h.modules ∙ or_none (bytes_eq t (serialize specifier) && module_says parts m)
+one_about found specifier parts dependencies h t m = ap (list_any (found_module_says t m)) h.modules ∙
+    or_none (bytes_eq t (serialize specifier) && module_says parts m)
 
 pub untyped_found : (u : UntypedModule) (found : FoundPackage) (parts : ModuleParts) → IsOne found u.specifier parts [] →
     ((m : ModuleQuestion) → module_says parts m ≡ (is_recorded m || fault_says untyped_module m)) →
@@ -94,7 +97,8 @@ untyped_found u found parts h p (about t m) = one_about found u.specifier parts 
 abbrev diagnostic_says : List ℕ → Question → FastCheckDiagnostic → Bool
 diagnostic_says t q d = where_found (λ r. asks_module t (fault_says (of_demand r)) q) (told d)
 
-told_says : (nv : Nv) (t : List ℕ) (q : Question) (o : Option Report) → list_any (says q) (told_at nv t o) ≡ where_found (λ r. asks_module t (fault_says (of_demand r)) q) o
+told_says : (nv : Nv) (t : List ℕ) (q : Question) (o : Option Report) →
+    list_any (says q) (told_at nv t o) ≡ where_found (λ r. asks_module t (fault_says (of_demand r)) q) o
 told_says nv t q None = refl
 told_says nv t q (Some r) = or_none (asks_module t (fault_says (of_demand r)) q)
 
@@ -134,7 +138,8 @@ followed_pieces f q =
 
 -- none of these pieces is asked for
 none_of : (t : List ℕ) (q : Question) (ranges implementations : List SourceRange) (ds : List FastCheckDiagnostic) (dependencies : List PackageNv) →
-    ((s : ModuleQuestion → Bool) → asks_module t s q ≡ false) → pieces t q ranges implementations ds dependencies ≡ list_any (λ p. asks_dependency (nv_of p) q) dependencies
+    ((s : ModuleQuestion → Bool) → asks_module t s q ≡ false) →
+    pieces t q ranges implementations ds dependencies ≡ list_any (λ p. asks_dependency (nv_of p) q) dependencies
 none_of t q ranges implementations ds dependencies h =
     ap (λ b. b || (list_any (λ r. asks_module t (range_says r) q) ranges || (list_any (λ r. asks_module t (implementation_says r) q) implementations
     || (list_any (diagnostic_says t q) ds || list_any (λ p. asks_dependency (nv_of p) q) dependencies)))) (h is_recorded) ∙
@@ -200,8 +205,8 @@ pieces_about : (b : Bool) (m : ModuleQuestion) (ranges implementations : List So
 pieces_about true m ranges implementations ds dependencies = refl
 pieces_about false m ranges implementations ds dependencies = all_false ranges implementations ds dependencies
 
-pub followed_found : (f : FollowedModule) (found : FoundPackage) (parts : ModuleParts) → IsOne found f.specifier parts f.dependencies.items → IsFollowed f parts →
-    (q : Question) → found_says found q ≡ finding_says (Followed f) q
+pub followed_found : (f : FollowedModule) (found : FoundPackage) (parts : ModuleParts) → IsOne found f.specifier parts f.dependencies.items →
+    IsFollowed f parts → (q : Question) → found_says found q ≡ finding_says (Followed f) q
 followed_found f found parts h p whether_known = refl
 followed_found f found parts h p (whether_entry_point t) = ap (list_any (is_text t)) h.entry_points ∙ sym (followed_pieces f (whether_entry_point t) ∙
     (none_of (serialize f.specifier) (whether_entry_point t) (f.re_export_ranges.items ++ f.ranges.items) f.implementations.items f.diagnostics.items
@@ -214,4 +219,5 @@ followed_found f found parts h p (whether_refused t) = sym (followed_pieces f (w
     f.dependencies.items (λ s. refl) ∙ any_false f.dependencies.items))
 followed_found f found parts h p (about t m) = one_about found f.specifier parts f.dependencies.items h t m ∙
     (ap (λ b. bytes_eq t (serialize f.specifier) && b) (parts_here f parts p m) ∙ sym (followed_pieces f (about t m) ∙
-    pieces_about (bytes_eq t (serialize f.specifier)) m (f.re_export_ranges.items ++ f.ranges.items) f.implementations.items f.diagnostics.items f.dependencies.items))
+    pieces_about (bytes_eq t (serialize f.specifier)) m (f.re_export_ranges.items ++ f.ranges.items) f.implementations.items f.diagnostics.items
+    f.dependencies.items))

@@ -1,5 +1,5 @@
 -- How a map of faults grows.
-use Rattle.std.proofs.Common.{◌≡◌, ◌∙◌, refl, sym, ap, ℕ, Bool, true, false, cond, ◌||◌, List, [], ◌∷◌, Option, Some, None, ⊎_elim}
+use Rattle.std.proofs.Common.{◌≡◌, ◌∙◌, refl, sym, ap, Bool, true, false, cond, ◌||◌, List, [], ◌∷◌, Option, Some, None, ⊎_elim}
 use Rattle.std.specs.List.{list_any}
 use Rattle.std.specs.Option.{is_some}
 use Rattle.std.specs.Ordering.{is_eq, match_ordering}
@@ -38,7 +38,8 @@ inserted cmp test [] k v h = or_none (test (k, v))
 inserted cmp test (e ∷ es) k v h = inserted_at test (cmp k e.0) e (k, v) es (insert_entry cmp es k v) (lookup (is_at (cmp k)) es) h
     (λ g. inserted cmp test es k v g)
 
-there_at : (b c d : Bool) (o : Option (RcStr Global)) (x : RcStr Global) → is_some (cond b (Some x) o) ≡ true → (b ≡ true → c ≡ true) → (is_some o ≡ true → d ≡ true) → (c || d) ≡ true
+there_at : (b c d : Bool) (o : Option (RcStr Global)) (x : RcStr Global) → is_some (cond b (Some x) o) ≡ true →
+    (b ≡ true → c ≡ true) → (is_some o ≡ true → d ≡ true) → (c || d) ≡ true
 there_at true c d o x h f g = ap (λ z. z || d) (f refl)
 there_at false true d o x h f g = refl
 there_at false false d o x h f g = g h
@@ -49,7 +50,8 @@ pub there : (test : Report → Bool) → IsFair test → (es : List (ToldFault �
 there test fair [] f text h t = absurd (false≢true h)
 there test fair (e ∷ es) f text h t = there_at (is_eq (order.cmp-value.it f e.0)) (entry_tells test e) (list_any (entry_tells test) es)
     (lookup (is_at (order.cmp-value.it f)) es) e.1 h
-    (λ same. sym (fair (report_with f (rc_str_bytes text)) (report_with e.0 (rc_str_bytes e.1)) (compares f e.0 (rc_str_bytes text) (rc_str_bytes e.1) ∙ same)) ∙ t)
+    (λ same. sym (fair (report_with f (rc_str_bytes text)) (report_with e.0 (rc_str_bytes e.1))
+    (compares f e.0 (rc_str_bytes text) (rc_str_bytes e.1) ∙ same)) ∙ t)
     (λ rest. there test fair es f text rest t)
 
 -- it adds nothing

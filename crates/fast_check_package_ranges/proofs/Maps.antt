@@ -66,7 +66,8 @@ module _ {K X : Type 0} {cmp : K → K → Ordering} (o : IsTotalOrder cmp) (tes
       lookup test new.entries ≡ cond (test key) (Some v) (lookup test old.entries) →
       says v ≡ (where_found says (lookup (is_at (cmp key)) old.entries) || b) →
       where_found says (lookup test new.entries) ≡ (where_found says (lookup test old.entries) || (test key && b))
-  says_after says key old new v b e h = says_put says (test key) (lookup test new.entries) (lookup test old.entries) (lookup (is_at (cmp key)) old.entries) v b e
+  says_after says key old new v b e h = says_put says (test key) (lookup test new.entries) (lookup test old.entries)
+      (lookup (is_at (cmp key)) old.entries) v b e
       (λ t. lookup_key key old.entries t) h
 
 -- the tests of specifiers and of packages pick what compares alike

@@ -1,10 +1,10 @@
 -- What is told of a module.
-use Rattle.std.proofs.Common.{◌≡◌, ◌∙◌, refl, sym, ap, ℕ, Bool, true, false, ◌&&◌, ◌||◌, List, [], ◌∷◌, ◌++◌, ⊎_elim}
+use Rattle.std.proofs.Common.{◌≡◌, ◌∙◌, refl, sym, ap, ℕ, Bool, true, false, ◌&&◌, ◌||◌, List, [], ◌∷◌}
 use Rattle.std.specs.List.{list_any}
 use Rattle.std.specs.Prelude.{not}
 use Rattle.std.specs.Str.{bytes_eq}
 use Rattle.std.specs.Cmp.Lexicographic.{nat_list_eq_equiv}
-use Rattle.std.proofs.lemmas.Bool.{cases_Bool, false≢true}
+use Rattle.std.proofs.lemmas.Bool.{false≢true}
 use Rattle.url.specs.Parts.{Parts, serialize}
 use Rattle.fast_check_syntax.specs.declared.source.SourceRange.{SourceRange}
 use Rattle.fast_check_tables.specs.PublicRanges.{PublicRanges, is_public, is_implementation, same_range}
@@ -16,7 +16,7 @@ use Rattle.fast_check_faults.specs.Reports.{Report, told}
 use Rattle.fast_check_package_ranges.specs.declared.parts.ModuleParts.{ModuleParts}
 use Rattle.fast_check_package_ranges.specs.Questions.{IsTextlessAbout, ModuleQuestion, whether_recorded, whether_public, whether_implementing}
 use Rattle.fast_check_package_ranges.specs.Questions.{whether_missing, whether_untyped_entry, whether_untyped, whether_told, whether_otherwise_faulty}
-use Rattle.fast_check_package_ranges.specs.Parts.{is_text, tells, any_report, module_says}
+use Rattle.fast_check_package_ranges.specs.Parts.{tells, any_report, module_says}
 use Rattle.fast_check_package_ranges.specs.Answers.{tells_missing, tells_untyped_entry, tells_untyped, tells_otherwise, module_answer}
 use Rattle.fast_check_package_ranges.specs.Once.{IsFair, is_whole}
 use Rattle.fast_check_package_ranges.specs.Made.{whole_tell, module_is_said, IsModuleAnswer}
@@ -114,6 +114,10 @@ no_one false true false = refl
 no_one false false true = refl
 no_one false false false = refl
 
+-- whether that its types are not known is told
+abbrev shown : ModuleParts → Bool
+shown parts = parts.is_untyped && not (module_says parts whether_otherwise_faulty)
+
 -- the diagnostics of a module: those of it as a whole, and then those of demands, each once
 pub record IsTold (specifier : Parts) (parts : ModuleParts) (out told_once : List FastCheckDiagnostic) : Type 0 where
   pub all : (test : FastCheckDiagnostic → Bool) → list_any test out ≡ (whole_tell specifier parts.is_missing parts.is_untyped_entry
@@ -128,42 +132,46 @@ module _ (specifier : Parts) (parts : ModuleParts) (out told_once : List FastChe
 
   pub told_missing : list_any (tells_missing (serialize specifier)) out ≡ parts.is_missing
   told_missing = h.all (tells_missing (serialize specifier)) ∙
-      (ap (λ b. whole_tell specifier parts.is_missing parts.is_untyped_entry (parts.is_untyped && not (module_says parts whether_otherwise_faulty)) (tells_missing (serialize specifier)) || b)
+      (ap (λ b. whole_tell specifier parts.is_missing parts.is_untyped_entry (shown parts)
+      (tells_missing (serialize specifier)) || b)
       (alike (tells_missing (serialize specifier)) (λ d. false) (missing_whole (serialize specifier)) told_once h.whole ∙ none told_once) ∙
-      (or_none _ ∙ (wholes parts.is_missing parts.is_untyped_entry (parts.is_untyped && not (module_says parts whether_otherwise_faulty)) _ false false true false false itself refl refl ∙
-      only_first parts.is_missing parts.is_untyped_entry (parts.is_untyped && not (module_says parts whether_otherwise_faulty)))))
+      (or_none _ ∙ (wholes parts.is_missing parts.is_untyped_entry (shown parts) _ false false true false false itself refl refl ∙
+      only_first parts.is_missing parts.is_untyped_entry (shown parts))))
 
   pub told_untyped_entry : list_any (tells_untyped_entry (serialize specifier)) out ≡ parts.is_untyped_entry
   told_untyped_entry = h.all (tells_untyped_entry (serialize specifier)) ∙
-      (ap (λ b. whole_tell specifier parts.is_missing parts.is_untyped_entry (parts.is_untyped && not (module_says parts whether_otherwise_faulty)) (tells_untyped_entry (serialize specifier)) || b)
+      (ap (λ b. whole_tell specifier parts.is_missing parts.is_untyped_entry (shown parts)
+      (tells_untyped_entry (serialize specifier)) || b)
       (alike (tells_untyped_entry (serialize specifier)) (λ d. false) (untyped_entry_whole (serialize specifier)) told_once h.whole ∙ none told_once) ∙
-      (or_none _ ∙ (wholes parts.is_missing parts.is_untyped_entry (parts.is_untyped && not (module_says parts whether_otherwise_faulty)) false _ false false true false refl itself refl ∙
-      only_second parts.is_missing parts.is_untyped_entry (parts.is_untyped && not (module_says parts whether_otherwise_faulty)))))
+      (or_none _ ∙ (wholes parts.is_missing parts.is_untyped_entry (shown parts) false _ false false true false refl itself refl ∙
+      only_second parts.is_missing parts.is_untyped_entry (shown parts))))
 
-  pub told_untyped : list_any (tells_untyped (serialize specifier)) out ≡ (parts.is_untyped && not (module_says parts whether_otherwise_faulty))
+  pub told_untyped : list_any (tells_untyped (serialize specifier)) out ≡ shown parts
   told_untyped = h.all (tells_untyped (serialize specifier)) ∙
-      (ap (λ b. whole_tell specifier parts.is_missing parts.is_untyped_entry (parts.is_untyped && not (module_says parts whether_otherwise_faulty)) (tells_untyped (serialize specifier)) || b)
+      (ap (λ b. whole_tell specifier parts.is_missing parts.is_untyped_entry (shown parts)
+      (tells_untyped (serialize specifier)) || b)
       (alike (tells_untyped (serialize specifier)) (λ d. false) (untyped_whole (serialize specifier)) told_once h.whole ∙ none told_once) ∙
-      (or_none _ ∙ (wholes parts.is_missing parts.is_untyped_entry (parts.is_untyped && not (module_says parts whether_otherwise_faulty)) false false _ false false true refl refl itself ∙
-      only_third parts.is_missing parts.is_untyped_entry (parts.is_untyped && not (module_says parts whether_otherwise_faulty)))))
+      (or_none _ ∙ (wholes parts.is_missing parts.is_untyped_entry (shown parts) false false _ false false true refl refl itself ∙
+      only_third parts.is_missing parts.is_untyped_entry (shown parts))))
 
   pub told_of_demands : (test : Report → Bool) → list_any (tells test) out ≡ list_any (tells test) told_once
   told_of_demands test = h.all (tells test) ∙
       ap (λ b. b || list_any (tells test) told_once)
-      (wholes parts.is_missing parts.is_untyped_entry (parts.is_untyped && not (module_says parts whether_otherwise_faulty)) _ _ _ false false false
+      (wholes parts.is_missing parts.is_untyped_entry (shown parts) _ _ _ false false false
       (missing_tells test specifier) (untyped_entry_tells test specifier) (untyped_tells test specifier) ∙
-      no_one parts.is_missing parts.is_untyped_entry (parts.is_untyped && not (module_says parts whether_otherwise_faulty)))
+      no_one parts.is_missing parts.is_untyped_entry (shown parts))
 
   pub told_otherwise : list_any (tells_otherwise (serialize specifier)) out ≡ module_says parts whether_otherwise_faulty
   told_otherwise = h.all (tells_otherwise (serialize specifier)) ∙
       (ap (λ b. b || list_any (tells_otherwise (serialize specifier)) told_once)
-      (wholes parts.is_missing parts.is_untyped_entry (parts.is_untyped && not (module_says parts whether_otherwise_faulty)) _ _ _ true true false
+      (wholes parts.is_missing parts.is_untyped_entry (shown parts) _ _ _ true true false
       (ap (λ b. b || (false || tells any_report (ExportNotFound specifier))) itself)
       (ap (λ b. b || tells any_report (UnsupportedJavaScriptEntrypoint specifier)) itself)
       (untyped_tells any_report specifier) ∙
-      first_two parts.is_missing parts.is_untyped_entry (parts.is_untyped && not (module_says parts whether_otherwise_faulty))) ∙
+      first_two parts.is_missing parts.is_untyped_entry (shown parts)) ∙
       (ap (λ b. (parts.is_missing || parts.is_untyped_entry) || b)
-      (alike (tells_otherwise (serialize specifier)) (tells any_report) (otherwise_whole (serialize specifier)) told_once h.whole ∙ h.same any_report (λ a b e. refl)) ∙
+      (alike (tells_otherwise (serialize specifier)) (tells any_report) (otherwise_whole (serialize specifier)) told_once h.whole ∙
+      h.same any_report (λ a b e. refl)) ∙
       or_assoc parts.is_missing parts.is_untyped_entry (list_any (tells any_report) parts.diagnostics.items)))
 
 said : (specifier : Parts) (parts : ModuleParts) (m : PublicRanges) (told_once : List FastCheckDiagnostic) →

@@ -1,5 +1,5 @@
 -- What answers by package say.
-use Rattle.std.specs.Prelude.{◌≡◌, Bool, true, false, ◌&&◌, ◌||◌, List}
+use Rattle.std.specs.Prelude.{◌≡◌, Bool, true, false, ◌||◌, List}
 use Rattle.std.specs.List.{list_any, flat_map}
 use Rattle.std.specs.BTreeMap.{BTreeMap}
 use Rattle.fast_check_packages.specs.Package.{Nv}

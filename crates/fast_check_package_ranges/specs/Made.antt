@@ -1,10 +1,9 @@
 -- How answers stand for what is known of modules and packages.
-use Rattle.std.specs.Prelude.{◌≡◌, ⊤, Bool, true, false, ◌&&◌, ◌||◌, not, List, Option, Some, None}
+use Rattle.std.specs.Prelude.{◌≡◌, ⊤, Bool, true, ◌&&◌, ◌||◌, not, Option, Some, None}
 use Rattle.std.specs.List.{list_any}
-use Rattle.url.specs.Parts.{Parts, serialize}
+use Rattle.url.specs.Parts.{Parts}
 use Rattle.fast_check_packages.specs.Package.{Nv}
-use Rattle.fast_check_tables.specs.PublicRanges.{PublicRanges, is_public, is_implementation, same_range}
-use Rattle.fast_check_syntax.specs.declared.source.SourceRange.{SourceRange}
+use Rattle.fast_check_tables.specs.PublicRanges.{PublicRanges}
 use Rattle.fast_check_tables.specs.declared.diagnostics.FastCheckDiagnostic.{FastCheckDiagnostic}
 use Rattle.fast_check_tables.specs.declared.diagnostics.FastCheckDiagnostic.TheVariants.{ExportNotFound}
 use Rattle.fast_check_tables.specs.declared.diagnostics.FastCheckDiagnostic.TheVariants.{UnsupportedJavaScriptEntrypoint}
@@ -15,7 +14,7 @@ use Rattle.fast_check_faults.specs.Reports.{Report}
 use Rattle.fast_check_package_ranges.specs.declared.parts.ModuleParts.{ModuleParts}
 use Rattle.fast_check_package_ranges.specs.declared.parts.PackageParts.{PackageParts}
 use Rattle.fast_check_package_ranges.specs.Questions.{ModuleQuestion, whether_untyped, whether_told, whether_otherwise_faulty, IsTextlessAbout}
-use Rattle.fast_check_package_ranges.specs.Parts.{is_text, is_package, tells, module_says, lookup_text}
+use Rattle.fast_check_package_ranges.specs.Parts.{is_text, is_package, module_says, lookup_text}
 use Rattle.fast_check_package_ranges.specs.Answers.{module_answer}
 
 -- what is wrong with a module as a whole, by a test of diagnostics

@@ -6,8 +6,6 @@ use Rattle.url.specs.Parts.{serialize}
 use Rattle.fast_check_syntax.specs.declared.source.SourceRange.{SourceRange}
 use Rattle.fast_check_packages.specs.Package.{Nv}
 use Rattle.fast_check_tables.specs.PublicRanges.{same_range}
-use Rattle.fast_check_demands.specs.declared.fault.FaultKind.{FaultKind}
-use Rattle.fast_check_demands.specs.declared.fault.FaultKind.TheVariants.{PrivateMember, NotFound, TooComplex}
 use Rattle.fast_check_faults.specs.Once.{same_kind}
 use Rattle.fast_check_faults.specs.Reports.{Report}
 use Rattle.fast_check_worklists.specs.Demands.{Text, same_nv}

@@ -6,7 +6,8 @@ ghost use Rattle.fast_check_findings.specs.Yields.{untyped_module};
 ghost use Rattle.fast_check_worklists.specs.Demands.{Text};
 ghost use Rattle.fast_check_findings.specs.Findings.{entry_fault};
 ghost use Rattle.fast_check_package_ranges.specs.Questions.{ModuleQuestion, Question, is_recorded, fault_says};
-ghost use Rattle.fast_check_package_ranges.specs.Parts.{is_text, module_says, packages_say, found_module_says, found_says, package_found, finding_says, finding_says_of, findings_say};
+ghost use Rattle.fast_check_package_ranges.specs.Parts.{is_text, module_says, packages_say, found_module_says, found_says};
+ghost use Rattle.fast_check_package_ranges.specs.Parts.{package_found, finding_says, finding_says_of, findings_say};
 
 use crate::parts::{FoundPackage, ModuleParts, PackageParts, add_package};
 use fast_check_findings::{
