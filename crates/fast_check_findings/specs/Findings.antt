@@ -1,0 +1,52 @@
+-- What was found, as it is answered.
+use Rattle.std.specs.Prelude.{List, [], ◌∷◌, ◌++◌, map, Option, Some, None}
+use Rattle.std.specs.List.{flat_map}
+use Rattle.url.specs.Parts.{Parts, serialize}
+use Rattle.fast_check_packages.specs.Package.{Nv, nv_of}
+use Rattle.fast_check_tables.specs.declared.diagnostics.FastCheckDiagnostic.{FastCheckDiagnostic}
+use Rattle.fast_check_faults.specs.Reports.{Report, told}
+use Rattle.fast_check_worklists.specs.Demands.{Text}
+use Rattle.fast_check_findings.specs.declared.finding.EntryFault.{EntryFault}
+use Rattle.fast_check_findings.specs.declared.finding.EntryFault.TheVariants.{NotFound, Untyped as UntypedEntry}
+use Rattle.fast_check_findings.specs.declared.finding.EnteredPackage.{EnteredPackage}
+use Rattle.fast_check_findings.specs.declared.finding.FollowedModule.{FollowedModule}
+use Rattle.fast_check_findings.specs.declared.finding.UntypedModule.{UntypedModule}
+use Rattle.fast_check_findings.specs.declared.finding.Finding.{Finding}
+use Rattle.fast_check_findings.specs.declared.finding.Finding.TheVariants.{Entered, Followed, Untyped}
+use Rattle.fast_check_findings.specs.Yields.{ModuleFault, missing_entry, untyped_entry, untyped_module, of_demand}
+use Rattle.fast_check_findings.specs.Yields.{Yield, entry_point, dependency, recorded, public, implementing, faulty}
+
+-- a module is recorded with what is wrong with it as a whole
+abbrev pub faulty_module : Nv → Text → ModuleFault → List Yield
+faulty_module nv t fault = recorded nv t ∷ faulty nv t fault ∷ []
+
+abbrev pub entry_fault : EntryFault → ModuleFault
+entry_fault NotFound = missing_entry
+entry_fault UntypedEntry = untyped_entry
+
+abbrev pub entered_yields : EnteredPackage → List Yield
+entered_yields e =
+    map (λ url. entry_point (nv_of e.package) (serialize url)) e.entry_points.items
+    ++ flat_map (λ f. faulty_module (nv_of e.package) (serialize f.0) (entry_fault f.1)) e.faults.items
+
+abbrev pub told_at : Nv → Text → Option Report → List Yield
+told_at nv t None = []
+told_at nv t (Some r) = faulty nv t (of_demand r) ∷ []
+
+-- what is wrong with what was demanded of a module
+abbrev pub diagnostic_yields : Nv → Text → List FastCheckDiagnostic → List Yield
+diagnostic_yields nv t diagnostics = flat_map (λ d. told_at nv t (told d)) diagnostics
+
+abbrev pub followed_yields : FollowedModule → List Yield
+followed_yields f =
+    recorded (nv_of f.package) (serialize f.specifier)
+    ∷ (map (public (nv_of f.package) (serialize f.specifier)) (f.re_export_ranges.items ++ f.ranges.items)
+    ++ (map (implementing (nv_of f.package) (serialize f.specifier)) f.implementations.items
+    ++ (diagnostic_yields (nv_of f.package) (serialize f.specifier) f.diagnostics.items
+    ++ map (λ p. dependency (nv_of f.package) (nv_of p)) f.dependencies.items)))
+
+-- what a finding says
+abbrev pub yields_of : Finding → List Yield
+yields_of (Entered e) = entered_yields e
+yields_of (Followed f) = followed_yields f
+yields_of (Untyped u) = faulty_module (nv_of u.package) (serialize u.specifier) untyped_module

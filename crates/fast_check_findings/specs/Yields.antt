@@ -1,0 +1,24 @@
+-- What a demand gives.
+use Rattle.fast_check_syntax.specs.declared.source.SourceRange.{SourceRange}
+use Rattle.fast_check_packages.specs.Package.{Nv}
+use Rattle.fast_check_faults.specs.Reports.{Report}
+use Rattle.fast_check_worklists.specs.Demands.{Text}
+
+-- What is wrong with a module: an entry point that the graph does not have, one whose types are not known, another module whose types are not known,
+-- or something that was demanded of it.
+pub data ModuleFault : Type 0 where
+  missing_entry : ModuleFault
+  untyped_entry : ModuleFault
+  untyped_module : ModuleFault
+  of_demand : Report → ModuleFault
+
+-- An entry point of a package; an export text of a package that cannot be joined to its URL; a package on which another depends; and by package and
+-- module: that the module is recorded, a public range, a public range of an implementation of overloads, and what is wrong.
+pub data Yield : Type 0 where
+  entry_point : Nv → Text → Yield
+  refused_export : Nv → Text → Yield
+  dependency : Nv → Nv → Yield
+  recorded : Nv → Text → Yield
+  public : Nv → Text → SourceRange → Yield
+  implementing : Nv → Text → SourceRange → Yield
+  faulty : Nv → Text → ModuleFault → Yield
