@@ -64,19 +64,28 @@ first_of (x ∷ xs) = Some x.range
 abbrev pub first_range : Option Symbol → Option SourceRange
 first_range s = option_and_then (λ x. first_of x.decls.items) s
 
-abbrev pub report_at : FaultyModule → Fault → SourceRange → Report
+-- a module, by what is told of it
+pub record ReportedModule : Type 0 where
+  pub specifier : Parts
+  pub text : List ℕ
+  pub symbols : List Symbol
+
+abbrev pub reported : FaultyModule → ReportedModule
+reported m = record { specifier = m.specifier.now; text = rc_str_bytes m.text.now; symbols = m.tables.now.symbols }
+
+abbrev pub report_at : ReportedModule → Fault → SourceRange → Report
 report_at m f range = record {
   kind = f.kind;
-  specifier = m.specifier.now;
-  text = rc_str_bytes m.text.now;
+  specifier = m.specifier;
+  text = m.text;
   range = range;
-  name = full_name (name_of (symbol_of f.symbol m.tables.now.symbols)) f.names;
-  referrer = name_of (symbol_of f.referrer m.tables.now.symbols);
+  name = full_name (name_of (symbol_of f.symbol m.symbols)) f.names;
+  referrer = name_of (symbol_of f.referrer m.symbols);
 }
 
 -- what is told of a fault: at the first declaration of its symbol
-abbrev pub report : FaultyModule → Fault → Option Report
-report m f = option_map (report_at m f) (first_range (symbol_of f.symbol m.tables.now.symbols))
+abbrev pub report : ReportedModule → Fault → Option Report
+report m f = option_map (report_at m f) (first_range (symbol_of f.symbol m.symbols))
 
 abbrev pub told_each : Option Report → List (Option Report)
 told_each None = []

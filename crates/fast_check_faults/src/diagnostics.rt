@@ -5,7 +5,7 @@ ghost use Rattle.std.specs.Rc.{rc_str_bytes};
 ghost use Rattle.fast_check_names.specs.Names.{path_of};
 ghost use Rattle.fast_check_symbols.specs.Symbols.{symbol_of};
 ghost use Rattle.fast_check_demands.specs.Yields.{fault_seen};
-ghost use Rattle.fast_check_faults.specs.Reports.{report_of, told, name_of, full_name, below, first_range, first_of, report_at, report, told_each};
+ghost use Rattle.fast_check_faults.specs.Reports.{report_of, told, name_of, full_name, below, first_range, first_of, reported, report_at, report, told_each};
 
 use fast_check_demands::{CheckedTables, FaultKind, SourceRange, SymbolFault, SymbolId};
 use fast_check_symbols::Symbol;
@@ -121,7 +121,7 @@ fn diagnostic_at(
     fault: SymbolFault<'_>,
     range: SourceRange,
 ) -> Result<FastCheckDiagnostic, AllocError>
-    ensures { IfOk result (λ d. told d ≡ Some (report_at faulty.entry (fault_seen fault.entry) range)) }
+    ensures { IfOk result (λ d. told d ≡ Some (report_at (reported faulty.entry) (fault_seen fault.entry) range)) }
 {
     let symbol = name_of(faulty.tables.symbol(fault.symbol));
     let name = full_name(alloc, symbol, fault.names)?;
@@ -136,7 +136,8 @@ fn push_diagnostic_at(
     range: Option<SourceRange>,
     out: &mut Vec<FastCheckDiagnostic>,
 ) -> Result<(), AllocError>
-    ensures { OnOk result (map told out.new.items ≡ map told out.old.items ++ told_each (option_map (report_at faulty.entry (fault_seen fault.entry)) range)) }
+    ensures { OnOk result (map told out.new.items
+        ≡ map told out.old.items ++ told_each (option_map (report_at (reported faulty.entry) (fault_seen fault.entry)) range)) }
 {
     match range {
         None => Ok(()),
@@ -154,7 +155,8 @@ fn push_all(
     faults: &[SymbolFault<'_>],
     out: &mut Vec<FastCheckDiagnostic>,
 ) -> Result<(), AllocError>
-    ensures { OnOk result (map told out.new.items ≡ map told out.old.items ++ flat_map (λ f. told_each (report faulty.entry (fault_seen f))) faults.now) }
+    ensures { OnOk result (map told out.new.items
+        ≡ map told out.old.items ++ flat_map (λ f. told_each (report (reported faulty.entry) (fault_seen f))) faults.now) }
 {
     for fault in faults {
         let range = range_of(faulty.tables, fault.symbol);
@@ -169,7 +171,7 @@ pub fn diagnostics_of(
     faulty: FaultyModule<'_>,
     faults: &[SymbolFault<'_>],
 ) -> Result<Vec<FastCheckDiagnostic>, AllocError>
-    ensures { IfOk result (λ out. map told out.items ≡ flat_map (λ f. told_each (report faulty.entry (fault_seen f))) faults.now) }
+    ensures { IfOk result (λ out. map told out.items ≡ flat_map (λ f. told_each (report (reported faulty.entry) (fault_seen f))) faults.now) }
 {
     let mut out = Vec::new(alloc);
     push_all(alloc, faulty, faults, &mut out)?;

@@ -1,0 +1,9 @@
+//! The entry points of packages: what their exports name, and what is wrong with it.
+#![tactic(auto)]
+
+mod exports;
+mod faults;
+mod joined;
+
+pub use faults::entry_faults;
+pub use joined::entry_points;
