@@ -1,0 +1,188 @@
+-- Answers say what findings say.
+use Rattle.std.proofs.Common.{◌≡◌, ◌∙◌, refl, sym, ap, ℕ, Bool, true, false, ◌&&◌, ◌||◌, List, [], ◌∷◌, ◌++◌, map, Option, Some, None}
+use Rattle.std.specs.List.{list_any, flat_map}
+use Rattle.std.specs.Prelude.{not}
+use Rattle.std.specs.BTreeMap.{BTreeMap}
+use Rattle.std.proofs.lemmas.List.Folds.{list_any-append}
+use Rattle.url.specs.Parts.{serialize}
+use Rattle.fast_check_packages.specs.Package.{Nv, nv_of}
+use Rattle.fast_check_packages.specs.declared.package.PackageNv.{PackageNv}
+use Rattle.fast_check_tables.specs.PublicRanges.{PublicRanges}
+use Rattle.fast_check_cache.specs.declared.package_ranges.PackagePublicRanges.{PackagePublicRanges}
+use Rattle.fast_check_faults.specs.Reports.{Report, told}
+use Rattle.fast_check_worklists.specs.Demands.{same_nv}
+use Rattle.fast_check_findings.specs.declared.finding.EnteredPackage.{EnteredPackage}
+use Rattle.fast_check_findings.specs.declared.finding.FollowedModule.{FollowedModule}
+use Rattle.fast_check_findings.specs.declared.finding.Finding.{Finding}
+use Rattle.fast_check_findings.specs.declared.finding.Finding.TheVariants.{Entered, Followed, Untyped}
+use Rattle.fast_check_findings.specs.Yields.{ModuleFault, untyped_module, of_demand}
+use Rattle.fast_check_findings.specs.Yields.{Yield, entry_point, dependency, recorded, public, implementing, faulty}
+use Rattle.fast_check_findings.specs.Findings.{entry_fault, faulty_module, entered_yields, told_at, diagnostic_yields, followed_yields, yields_of}
+use Rattle.fast_check_package_ranges.specs.declared.parts.ModuleParts.{ModuleParts}
+use Rattle.fast_check_package_ranges.specs.declared.parts.PackageParts.{PackageParts}
+use Rattle.fast_check_package_ranges.specs.Questions.{ModuleQuestion, whether_recorded, whether_public, whether_implementing}
+use Rattle.fast_check_package_ranges.specs.Questions.{whether_missing, whether_untyped_entry, whether_untyped, whether_told, whether_otherwise_faulty}
+use Rattle.fast_check_package_ranges.specs.Questions.{Question, whether_known, whether_entry_point, whether_dependency, whether_refused, about}
+use Rattle.fast_check_package_ranges.specs.Questions.{package_of, yield_says, yields_say, IsTextless, IsTextlessAbout}
+use Rattle.fast_check_package_ranges.specs.Parts.{where_found, module_says, package_says, packages_say, lookup_text, lookup_package}
+use Rattle.fast_check_package_ranges.specs.Parts.{package_found, finding_says_of, findings_say}
+use Rattle.fast_check_package_ranges.specs.Answers.{module_answer, package_answer, answer, IsSaid, IsExact}
+use Rattle.fast_check_package_ranges.specs.Made.{module_is_said, AreModuleAnswers, IsPackageAnswer, ArePackageAnswers}
+use Rattle.fast_check_package_ranges.proofs.Bools.{or_none, and_or, and_none}
+use Rattle.fast_check_package_ranges.proofs.Lists.{any_map, any_flat, any_alike, any_and}
+
+-- all these yields are of one package
+abbrev Owned : Nv → Nv → List Yield → Type 0
+Owned nv n ys = (g : Yield → Bool) → list_any (λ y. same_nv nv (package_of y) && g y) ys ≡ (same_nv nv n && list_any g ys)
+
+own_none : (nv n : Nv) → Owned nv n []
+own_none nv n g = sym (and_none (same_nv nv n))
+
+own_both : (nv n : Nv) (xs ys : List Yield) → Owned nv n xs → Owned nv n ys → Owned nv n (xs ++ ys)
+own_both nv n xs ys h k g = list_any-append (λ y. same_nv nv (package_of y) && g y) xs ys ∙
+    (ap (λ b. b || list_any (λ y. same_nv nv (package_of y) && g y) ys) (h g) ∙
+    (ap (λ b. (same_nv nv n && list_any g xs) || b) (k g) ∙
+    (sym (and_or (same_nv nv n) (list_any g xs) (list_any g ys)) ∙ ap (λ b. same_nv nv n && b) (sym (list_any-append g xs ys)))))
+
+own_one : (nv : Nv) (y : Yield) → Owned nv (package_of y) (y ∷ [])
+own_one nv y g = or_none (same_nv nv (package_of y) && g y) ∙ ap (λ b. same_nv nv (package_of y) && b) (sym (or_none (g y)))
+
+own_map : {X : Type 0} (nv n : Nv) (f : X → Yield) → ((x : X) → package_of (f x) ≡ n) → (xs : List X) → Owned nv n (map f xs)
+own_map nv n f h xs g = any_map (λ y. same_nv nv (package_of y) && g y) f xs ∙
+    (any_alike (λ x. same_nv nv (package_of (f x)) && g (f x)) (λ x. same_nv nv n && g (f x)) (λ x. ap (λ p. same_nv nv p && g (f x)) (h x)) xs ∙
+    (any_and (same_nv nv n) (λ x. g (f x)) xs ∙ ap (λ b. same_nv nv n && b) (sym (any_map g f xs))))
+
+own_flat : {X : Type 0} (nv n : Nv) (f : X → List Yield) → ((x : X) → Owned nv n (f x)) → (xs : List X) → Owned nv n (flat_map f xs)
+own_flat nv n f h xs g = any_flat (λ y. same_nv nv (package_of y) && g y) f xs ∙
+    (any_alike (λ x. list_any (λ y. same_nv nv (package_of y) && g y) (f x)) (λ x. same_nv nv n && list_any g (f x)) (λ x. h x g) xs ∙
+    (any_and (same_nv nv n) (λ x. list_any g (f x)) xs ∙ ap (λ b. same_nv nv n && b) (sym (any_flat g f xs))))
+
+own_faulty : (nv n : Nv) (t : List ℕ) (f : ModuleFault) → Owned nv n (faulty_module n t f)
+own_faulty nv n t f = own_both nv n (recorded n t ∷ []) (faulty n t f ∷ []) (own_one nv (recorded n t)) (own_one nv (faulty n t f))
+
+own_entered : (nv : Nv) (e : EnteredPackage) → Owned nv (nv_of e.package) (entered_yields e)
+own_entered nv e = own_both nv (nv_of e.package) (map (λ url. entry_point (nv_of e.package) (serialize url)) e.entry_points.items)
+    (flat_map (λ f. faulty_module (nv_of e.package) (serialize f.0) (entry_fault f.1)) e.faults.items)
+    (own_map nv (nv_of e.package) (λ url. entry_point (nv_of e.package) (serialize url)) (λ url. refl) e.entry_points.items)
+    (own_flat nv (nv_of e.package) (λ f. faulty_module (nv_of e.package) (serialize f.0) (entry_fault f.1))
+    (λ f. own_faulty nv (nv_of e.package) (serialize f.0) (entry_fault f.1)) e.faults.items)
+
+own_told : (nv n : Nv) (t : List ℕ) (o : Option Report) → Owned nv n (told_at n t o)
+own_told nv n t None = own_none nv n
+own_told nv n t (Some r) = own_one nv (faulty n t (of_demand r))
+
+own_followed : (nv : Nv) (f : FollowedModule) → Owned nv (nv_of f.package) (followed_yields f)
+own_followed nv f =
+    let n = nv_of f.package in
+    let t = serialize f.specifier in
+    let publics = map (public n t) (f.re_export_ranges.items ++ f.ranges.items) in
+    let others = map (implementing n t) f.implementations.items in
+    let faults = diagnostic_yields n t f.diagnostics.items in
+    let asked = map (λ p. dependency n (nv_of p)) f.dependencies.items in
+    own_both nv n (recorded n t ∷ []) (publics ++ (others ++ (faults ++ asked))) (own_one nv (recorded n t))
+    (own_both nv n publics (others ++ (faults ++ asked)) (own_map nv n (public n t) (λ r. refl) (f.re_export_ranges.items ++ f.ranges.items))
+    (own_both nv n others (faults ++ asked) (own_map nv n (implementing n t) (λ r. refl) f.implementations.items)
+    (own_both nv n faults asked (own_flat nv n (λ d. told_at n t (told d)) (λ d. own_told nv n t (told d)) f.diagnostics.items)
+    (own_map nv n (λ p. dependency n (nv_of p)) (λ p. refl) f.dependencies.items))))
+
+own_finding : (nv : Nv) (f : Finding) → Owned nv (package_found f) (yields_of f)
+own_finding nv (Entered e) = own_entered nv e
+own_finding nv (Followed f) = own_followed nv f
+own_finding nv (Untyped u) = own_faulty nv (nv_of u.package) (serialize u.specifier) untyped_module
+
+-- findings say what their yields say
+all_yields : (found : List Finding) (nv : Nv) (q : Question) →
+    list_any (λ f. same_nv nv (package_found f) && list_any (λ y. yield_says y q) (yields_of f)) found ≡ yields_say (flat_map yields_of found) nv q
+all_yields found nv q = sym (any_flat (λ y. same_nv nv (package_of y) && yield_says y q) yields_of found ∙
+    any_alike (λ f. list_any (λ y. same_nv nv (package_of y) && yield_says y q) (yields_of f))
+    (λ f. same_nv nv (package_found f) && list_any (λ y. yield_says y q) (yields_of f)) (λ f. own_finding nv f (λ y. yield_says y q)) found)
+
+and_true : (b : Bool) → (b && true) ≡ b
+and_true true = refl
+and_true false = refl
+
+known : (found : List Finding) (nv : Nv) → findings_say found nv whether_known ≡ list_any (λ f. same_nv nv (package_found f)) found
+known found nv = any_alike (finding_says_of nv whether_known) (λ f. same_nv nv (package_found f)) (λ f. and_true (same_nv nv (package_found f))) found
+
+-- the answer about a module, by what is known of it
+module_one : (t : List ℕ) (q : ModuleQuestion) → IsTextlessAbout q → (parts : Option ModuleParts) (m : Option PublicRanges) → AreModuleAnswers t parts m →
+    where_found (module_answer t q) m ≡ where_found (λ p. module_is_said p q) parts
+module_one t q fair None None h = refl
+module_one t q fair None (Some m) h = absurd h
+module_one t q fair (Some p) None h = absurd h
+module_one t q fair (Some p) (Some m) h = h.said q fair
+
+exact_one : (t : List ℕ) (test : Report → Bool) (parts : Option ModuleParts) (m : Option PublicRanges) → AreModuleAnswers t parts m →
+    where_found (module_answer t (whether_told test)) m ≡ true → where_found (λ p. module_says p (whether_told test)) parts ≡ true
+exact_one t test None None h e = e
+exact_one t test None (Some m) h e = absurd h
+exact_one t test (Some p) None h e = absurd h
+exact_one t test (Some p) (Some m) h e = h.exact test e
+
+-- what is to be said of a package
+abbrev package_is_said : PackageParts → Question → Bool
+package_is_said p (about t q) = where_found (λ m. module_is_said m q) (lookup_text t p.modules.entries)
+package_is_said p q = package_says p q
+
+package_one : (q : Question) → IsTextless q → (parts : PackageParts) (p : PackagePublicRanges) → IsPackageAnswer parts p →
+    package_answer q p ≡ package_is_said parts q
+package_one whether_known fair parts p h = refl
+package_one (whether_entry_point t) fair parts p h = h.entry_points t
+package_one (whether_dependency nv) fair parts p h = h.dependencies nv
+package_one (whether_refused t) fair parts p h = refl
+package_one (about t q) fair parts p h = module_one t q fair (lookup_text t parts.modules.entries) (lookup_text t p.module_ranges.entries) (h.modules t)
+
+packages_one : (q : Question) → IsTextless q → (parts : Option PackageParts) (p : Option PackagePublicRanges) → ArePackageAnswers parts p →
+    where_found (package_answer q) p ≡ where_found (λ x. package_is_said x q) parts
+packages_one q fair None None h = refl
+packages_one q fair None (Some p) h = absurd h
+packages_one q fair (Some x) None h = absurd h
+packages_one q fair (Some x) (Some p) h = package_one q fair x p h
+
+packages_exact : (t : List ℕ) (test : Report → Bool) (parts : Option PackageParts) (p : Option PackagePublicRanges) → ArePackageAnswers parts p →
+    where_found (package_answer (about t (whether_told test))) p ≡ true → where_found (λ x. package_says x (about t (whether_told test))) parts ≡ true
+packages_exact t test None None h e = e
+packages_exact t test None (Some p) h e = absurd h
+packages_exact t test (Some x) None h e = absurd h
+packages_exact t test (Some x) (Some p) h e = exact_one t test (lookup_text t x.modules.entries) (lookup_text t p.module_ranges.entries) (h.modules t) e
+
+-- that types are not known, where nothing else is wrong
+hidden_module : (o : Option ModuleParts) → where_found (λ m. module_is_said m whether_untyped) o
+    ≡ (where_found (λ m. module_says m whether_untyped) o && not (where_found (λ m. module_says m whether_otherwise_faulty) o))
+hidden_module None = refl
+hidden_module (Some m) = refl
+
+hidden : (t : List ℕ) (o : Option PackageParts) → where_found (λ x. package_is_said x (about t whether_untyped)) o
+    ≡ (where_found (λ x. package_says x (about t whether_untyped)) o && not (where_found (λ x. package_says x (about t whether_otherwise_faulty)) o))
+hidden t None = refl
+hidden t (Some p) = hidden_module (lookup_text t p.modules.entries)
+
+module _ (found : List Finding) (packages : List (PackageNv × PackageParts)) (answers : BTreeMap PackageNv PackagePublicRanges)
+    (joined : (nv : Nv) (q : Question) → packages_say packages nv q ≡ findings_say found nv q)
+    (made : (nv : Nv) → ArePackageAnswers (lookup_package nv packages) (lookup_package nv answers.entries)) where
+  first : (nv : Nv) (q : Question) → IsTextless q → answer answers nv q ≡ where_found (λ x. package_is_said x q) (lookup_package nv packages)
+  first nv q fair = packages_one q fair (lookup_package nv packages) (lookup_package nv answers.entries) (made nv)
+
+  module_says_so : (nv : Nv) (t : List ℕ) (q : ModuleQuestion) → packages_say packages nv (about t q) ≡ yields_say (flat_map yields_of found) nv (about t q)
+  module_says_so nv t q = joined nv (about t q) ∙ all_yields found nv (about t q)
+
+  pub said : IsSaid found answers
+  said nv whether_known fair = first nv whether_known fair ∙ (joined nv whether_known ∙ known found nv)
+  said nv (whether_entry_point t) fair = first nv (whether_entry_point t) fair ∙
+      (joined nv (whether_entry_point t) ∙ all_yields found nv (whether_entry_point t))
+  said nv (whether_dependency d) fair = first nv (whether_dependency d) fair ∙ (joined nv (whether_dependency d) ∙ all_yields found nv (whether_dependency d))
+  said nv (whether_refused t) fair = first nv (whether_refused t) fair ∙ (joined nv (whether_refused t) ∙ all_yields found nv (whether_refused t))
+  said nv (about t whether_untyped) fair = first nv (about t whether_untyped) fair ∙ (hidden t (lookup_package nv packages) ∙
+      (ap (λ b. b && not (packages_say packages nv (about t whether_otherwise_faulty))) (module_says_so nv t whether_untyped) ∙
+      ap (λ b. yields_say (flat_map yields_of found) nv (about t whether_untyped) && not b) (module_says_so nv t whether_otherwise_faulty)))
+  said nv (about t whether_recorded) fair = first nv (about t whether_recorded) fair ∙ module_says_so nv t whether_recorded
+  said nv (about t (whether_public r)) fair = first nv (about t (whether_public r)) fair ∙ module_says_so nv t (whether_public r)
+  said nv (about t (whether_implementing r)) fair = first nv (about t (whether_implementing r)) fair ∙ module_says_so nv t (whether_implementing r)
+  said nv (about t whether_missing) fair = first nv (about t whether_missing) fair ∙ module_says_so nv t whether_missing
+  said nv (about t whether_untyped_entry) fair = first nv (about t whether_untyped_entry) fair ∙ module_says_so nv t whether_untyped_entry
+  said nv (about t (whether_told test)) fair = first nv (about t (whether_told test)) fair ∙ module_says_so nv t (whether_told test)
+  said nv (about t whether_otherwise_faulty) fair = first nv (about t whether_otherwise_faulty) fair ∙ module_says_so nv t whether_otherwise_faulty
+
+  pub exact : IsExact found answers
+  exact nv t test e = sym (module_says_so nv t (whether_told test)) ∙
+      packages_exact t test (lookup_package nv packages) (lookup_package nv answers.entries) (made nv) e

@@ -1,0 +1,5 @@
+pub mod Questions
+pub mod Parts
+pub mod Answers
+pub mod Once
+pub mod Made

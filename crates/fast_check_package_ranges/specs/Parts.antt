@@ -1,0 +1,97 @@
+-- What is known of packages while their findings are joined.
+use Rattle.std.specs.Prelude.{Bool, true, false, ◌&&◌, ◌||◌, List, Option, Some, None}
+use Rattle.std.specs.List.{list_any}
+use Rattle.std.specs.Map.{lookup}
+use Rattle.std.specs.Str.{bytes_eq}
+use Rattle.url.specs.Parts.{Parts, serialize}
+use Rattle.fast_check_packages.specs.Package.{Nv, nv_of}
+use Rattle.fast_check_packages.specs.declared.package.PackageNv.{PackageNv}
+use Rattle.fast_check_tables.specs.PublicRanges.{same_range}
+use Rattle.fast_check_tables.specs.declared.diagnostics.FastCheckDiagnostic.{FastCheckDiagnostic}
+use Rattle.fast_check_faults.specs.Reports.{Report, told}
+use Rattle.fast_check_worklists.specs.Demands.{Text, same_nv}
+use Rattle.fast_check_findings.specs.declared.finding.Finding.{Finding}
+use Rattle.fast_check_findings.specs.declared.finding.Finding.TheVariants.{Entered, Followed, Untyped}
+use Rattle.fast_check_findings.specs.Findings.{yields_of}
+use Rattle.fast_check_package_ranges.specs.declared.parts.ModuleParts.{ModuleParts}
+use Rattle.fast_check_package_ranges.specs.declared.parts.PackageParts.{PackageParts}
+use Rattle.fast_check_package_ranges.specs.declared.parts.FoundPackage.{FoundPackage}
+use Rattle.fast_check_package_ranges.specs.Questions.{ModuleQuestion, whether_recorded, whether_public, whether_implementing}
+use Rattle.fast_check_package_ranges.specs.Questions.{whether_missing, whether_untyped_entry, whether_untyped, whether_told, whether_otherwise_faulty}
+use Rattle.fast_check_package_ranges.specs.Questions.{Question, whether_known, whether_entry_point, whether_dependency, whether_refused, about}
+use Rattle.fast_check_package_ranges.specs.Questions.{yield_says}
+
+-- there is one, and it passes the test
+abbrev pub where_found : {X : Type 0} → (X → Bool) → Option X → Bool
+where_found test None = false
+where_found test (Some x) = test x
+
+abbrev pub is_text : Text → Parts → Bool
+is_text t url = bytes_eq t (serialize url)
+
+abbrev pub is_package : Nv → PackageNv → Bool
+is_package nv p = same_nv nv (nv_of p)
+
+-- a diagnostic of a demand's fault that passes the test
+abbrev pub tells : (Report → Bool) → FastCheckDiagnostic → Bool
+tells test d = where_found test (told d)
+
+abbrev pub any_report : Report → Bool
+any_report r = true
+
+abbrev pub module_says : ModuleParts → ModuleQuestion → Bool
+module_says m whether_recorded = true
+module_says m (whether_public r) = list_any (same_range r) m.ranges.items
+module_says m (whether_implementing r) = list_any (same_range r) m.implementations.items
+module_says m whether_missing = m.is_missing
+module_says m whether_untyped_entry = m.is_untyped_entry
+module_says m whether_untyped = m.is_untyped
+module_says m (whether_told test) = list_any (tells test) m.diagnostics.items
+module_says m whether_otherwise_faulty = m.is_missing || (m.is_untyped_entry || list_any (tells any_report) m.diagnostics.items)
+
+abbrev pub lookup_text : {X : Type 0} → Text → List (Parts × X) → Option X
+lookup_text t modules = lookup (is_text t) modules
+
+abbrev pub lookup_package : {X : Type 0} → Nv → List (PackageNv × X) → Option X
+lookup_package nv packages = lookup (is_package nv) packages
+
+abbrev pub modules_say : List (Parts × ModuleParts) → Text → ModuleQuestion → Bool
+modules_say modules t q = where_found (λ m. module_says m q) (lookup_text t modules)
+
+abbrev pub package_says : PackageParts → Question → Bool
+package_says p whether_known = true
+package_says p (whether_entry_point t) = list_any (is_text t) p.entry_points.items
+package_says p (whether_dependency nv) = list_any (is_package nv) p.dependencies.items
+package_says p (whether_refused t) = false
+package_says p (about t q) = modules_say p.modules.entries t q
+
+abbrev pub packages_say : List (PackageNv × PackageParts) → Nv → Question → Bool
+packages_say packages nv q = where_found (λ p. package_says p q) (lookup_package nv packages)
+
+-- what was found of a module by itself
+abbrev pub found_module_says : Text → ModuleQuestion → Parts × ModuleParts → Bool
+found_module_says t q found = is_text t found.0 && module_says found.1 q
+
+abbrev pub found_says : FoundPackage → Question → Bool
+found_says f whether_known = true
+found_says f (whether_entry_point t) = list_any (is_text t) f.entry_points.items
+found_says f (whether_dependency nv) = list_any (is_package nv) f.dependencies.items
+found_says f (whether_refused t) = false
+found_says f (about t q) = list_any (found_module_says t q) f.modules.items
+
+-- the package of which something was found
+abbrev pub package_found : Finding → Nv
+package_found (Entered e) = nv_of e.package
+package_found (Followed f) = nv_of f.package
+package_found (Untyped u) = nv_of u.package
+
+-- what a finding says of its package
+abbrev pub finding_says : Finding → Question → Bool
+finding_says f whether_known = true
+finding_says f q = list_any (λ y. yield_says y q) (yields_of f)
+
+abbrev pub finding_says_of : Nv → Question → Finding → Bool
+finding_says_of nv q f = same_nv nv (package_found f) && finding_says f q
+
+abbrev pub findings_say : List Finding → Nv → Question → Bool
+findings_say found nv q = list_any (finding_says_of nv q) found

@@ -1,0 +1,118 @@
+-- What can be asked about packages, and which yields say that it is so.
+use Rattle.std.specs.Prelude.{◌≡◌, ⊤, Bool, true, false, ◌&&◌, not, List}
+use Rattle.std.specs.List.{list_any}
+use Rattle.std.specs.Str.{bytes_eq}
+use Rattle.url.specs.Parts.{serialize}
+use Rattle.fast_check_syntax.specs.declared.source.SourceRange.{SourceRange}
+use Rattle.fast_check_packages.specs.Package.{Nv}
+use Rattle.fast_check_tables.specs.PublicRanges.{same_range}
+use Rattle.fast_check_faults.specs.Once.{same_kind}
+use Rattle.fast_check_faults.specs.Reports.{Report}
+use Rattle.fast_check_worklists.specs.Demands.{Text, same_nv}
+use Rattle.fast_check_findings.specs.Yields.{ModuleFault, missing_entry, untyped_entry, untyped_module, of_demand}
+use Rattle.fast_check_findings.specs.Yields.{Yield, entry_point, refused_export, dependency, recorded, public, implementing, faulty}
+
+-- About a module: whether it is recorded; whether a range is public, or one of an implementation of overloads; whether it is an entry point that is
+-- not found, one whose types are not known, or another module whose types are not known; whether a fault of a demand that passes a test is told;
+-- and whether anything is told but that its types are not known.
+pub data ModuleQuestion : Type 0 where
+  whether_recorded : ModuleQuestion
+  whether_public : SourceRange → ModuleQuestion
+  whether_implementing : SourceRange → ModuleQuestion
+  whether_missing : ModuleQuestion
+  whether_untyped_entry : ModuleQuestion
+  whether_untyped : ModuleQuestion
+  whether_told : (Report → Bool) → ModuleQuestion
+  whether_otherwise_faulty : ModuleQuestion
+
+-- About a package: whether anything is found of it; whether a module is an entry point; whether it depends on another; whether an export text
+-- is refused; and what can be asked about a module.
+pub data Question : Type 0 where
+  whether_known : Question
+  whether_entry_point : Text → Question
+  whether_dependency : Nv → Question
+  whether_refused : Text → Question
+  about : Text → ModuleQuestion → Question
+
+-- what a fault says of the module
+abbrev pub fault_says : ModuleFault → ModuleQuestion → Bool
+fault_says missing_entry whether_missing = true
+fault_says missing_entry whether_otherwise_faulty = true
+fault_says untyped_entry whether_untyped_entry = true
+fault_says untyped_entry whether_otherwise_faulty = true
+fault_says untyped_module whether_untyped = true
+fault_says (of_demand r) (whether_told test) = test r
+fault_says (of_demand r) whether_otherwise_faulty = true
+fault_says _ _ = false
+
+abbrev pub is_recorded : ModuleQuestion → Bool
+is_recorded whether_recorded = true
+is_recorded _ = false
+
+abbrev pub range_says : SourceRange → ModuleQuestion → Bool
+range_says s (whether_public r) = same_range r s
+range_says s _ = false
+
+abbrev pub implementation_says : SourceRange → ModuleQuestion → Bool
+implementation_says s (whether_implementing r) = same_range r s
+implementation_says s _ = false
+
+abbrev pub asks_entry_point : Text → Question → Bool
+asks_entry_point u (whether_entry_point t) = bytes_eq t u
+asks_entry_point u _ = false
+
+abbrev pub asks_refused : Text → Question → Bool
+asks_refused u (whether_refused t) = bytes_eq t u
+asks_refused u _ = false
+
+abbrev pub asks_dependency : Nv → Question → Bool
+asks_dependency e (whether_dependency d) = same_nv d e
+asks_dependency e _ = false
+
+-- the question is about the module, and passes the test
+abbrev pub asks_module : Text → (ModuleQuestion → Bool) → Question → Bool
+asks_module u says (about t q) = bytes_eq t u && says q
+asks_module u says _ = false
+
+abbrev pub package_of : Yield → Nv
+package_of (entry_point nv t) = nv
+package_of (refused_export nv t) = nv
+package_of (dependency nv d) = nv
+package_of (recorded nv t) = nv
+package_of (public nv t r) = nv
+package_of (implementing nv t r) = nv
+package_of (faulty nv t f) = nv
+
+-- what a yield says of its package
+abbrev pub yield_says : Yield → Question → Bool
+yield_says (entry_point nv t) = asks_entry_point t
+yield_says (refused_export nv t) = asks_refused t
+yield_says (dependency nv d) = asks_dependency d
+yield_says (recorded nv t) = asks_module t is_recorded
+yield_says (public nv t r) = asks_module t (range_says r)
+yield_says (implementing nv t r) = asks_module t (implementation_says r)
+yield_says (faulty nv t f) = asks_module t (fault_says f)
+
+-- some of the yields say that it is so
+abbrev pub yields_say : List Yield → Nv → Question → Bool
+yields_say yields nv q = list_any (λ y. same_nv nv (package_of y) && yield_says y q) yields
+
+-- That the types of a module are not known is said where nothing else is wrong with it.
+abbrev pub is_said : List Yield → Nv → Question → Bool
+is_said yields nv (about t whether_untyped) = yields_say yields nv (about t whether_untyped) && not (yields_say yields nv (about t whether_otherwise_faulty))
+is_said yields nv q = yields_say yields nv q
+
+-- two reports are one: the same fault at the same place of the same module. The source text isn't compared.
+abbrev pub same_report : Report → Report → Bool
+same_report a b = same_range a.range b.range
+    && (same_kind a.kind b.kind
+    && (bytes_eq a.name b.name && (bytes_eq a.referrer b.referrer && bytes_eq (serialize a.specifier) (serialize b.specifier))))
+
+-- reports that are one answer the question alike
+abbrev pub IsTextlessAbout : ModuleQuestion → Type 0
+IsTextlessAbout (whether_told test) = (a b : Report) → same_report a b ≡ true → test a ≡ test b
+IsTextlessAbout _ = ⊤
+
+abbrev pub IsTextless : Question → Type 0
+IsTextless (about t q) = IsTextlessAbout q
+IsTextless _ = ⊤

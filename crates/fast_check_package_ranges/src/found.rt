@@ -1,0 +1,183 @@
+ghost use Rattle.std.specs.Prelude.{◌≡◌, [], ◌∷◌, ◌&&◌, ◌||◌, OnOk, IfOk};
+ghost use Rattle.std.specs.List.{list_any};
+ghost use Rattle.fast_check_packages.specs.Package.{Nv, nv_of};
+ghost use Rattle.fast_check_findings.specs.declared.finding.Finding.TheVariants.{Entered, Followed, Untyped};
+ghost use Rattle.fast_check_findings.specs.Yields.{untyped_module};
+ghost use Rattle.fast_check_worklists.specs.Demands.{Text};
+ghost use Rattle.fast_check_findings.specs.Findings.{entry_fault};
+ghost use Rattle.fast_check_package_ranges.specs.Questions.{ModuleQuestion, Question, is_recorded, fault_says};
+ghost use Rattle.fast_check_package_ranges.specs.Parts.{is_text, module_says, packages_say, found_module_says, found_says};
+ghost use Rattle.fast_check_package_ranges.specs.Parts.{package_found, finding_says, finding_says_of, findings_say};
+
+use crate::parts::{FoundPackage, ModuleParts, PackageParts, add_package};
+use fast_check_findings::{
+    EnteredPackage, EntryFault, Finding, FollowedModule, PackageNv, UntypedModule,
+};
+use std::alloc::{AllocError, Global};
+use std::collections::BTreeMap;
+use url::Url;
+
+fn untyped_parts(alloc: Global) -> ModuleParts
+    ensures { (q : ModuleQuestion) → module_says result q ≡ (is_recorded q || fault_says untyped_module q) }
+{
+    ModuleParts {
+        ranges: Vec::new(alloc),
+        implementations: Vec::new(alloc),
+        diagnostics: Vec::new(alloc),
+        is_missing: false,
+        is_untyped_entry: false,
+        is_untyped: true,
+    }
+}
+
+fn entry_parts(alloc: Global, fault: EntryFault) -> ModuleParts
+    ensures { (q : ModuleQuestion) → module_says result q ≡ (is_recorded q || fault_says (entry_fault fault) q) }
+{
+    let (is_missing, is_untyped_entry) = match fault {
+        EntryFault::NotFound => (true, false),
+        EntryFault::Untyped => (false, true),
+    };
+    ModuleParts {
+        ranges: Vec::new(alloc),
+        implementations: Vec::new(alloc),
+        diagnostics: Vec::new(alloc),
+        is_missing,
+        is_untyped_entry,
+        is_untyped: false,
+    }
+}
+
+fn faulty_entries(
+    alloc: Global,
+    faults: Vec<(Url, EntryFault)>,
+) -> Result<Vec<(Url, ModuleParts)>, AllocError>
+    ensures { IfOk result (λ modules. (t : Text) (q : ModuleQuestion) → list_any (found_module_says t q) modules.items
+        ≡ list_any (λ f. is_text t f.0 && (is_recorded q || fault_says (entry_fault f.1) q)) faults.items) }
+{
+    let mut modules = Vec::new(alloc);
+    for (specifier, fault) in faults {
+        modules.push((specifier, entry_parts(alloc, fault)))?;
+    }
+    Ok(modules)
+}
+
+fn found_entered(
+    alloc: Global,
+    entered: EnteredPackage,
+) -> Result<(PackageNv, FoundPackage), AllocError>
+    ensures nv { IfOk result (λ r. nv_of r.0 ≡ package_found (Entered entered)) }
+    ensures says { IfOk result (λ r. (q : Question) → found_says r.1 q ≡ finding_says (Entered entered) q) }
+{
+    let EnteredPackage {
+        package,
+        entry_points,
+        faults,
+    } = entered;
+    let modules = faulty_entries(alloc, faults)?;
+    Ok((
+        package,
+        FoundPackage {
+            entry_points,
+            modules,
+            dependencies: Vec::new(alloc),
+        },
+    ))
+}
+
+fn found_followed(
+    alloc: Global,
+    followed: FollowedModule,
+) -> Result<(PackageNv, FoundPackage), AllocError>
+    ensures nv { IfOk result (λ r. nv_of r.0 ≡ package_found (Followed followed)) }
+    ensures says { IfOk result (λ r. (q : Question) → found_says r.1 q ≡ finding_says (Followed followed) q) }
+{
+    let FollowedModule {
+        package,
+        specifier,
+        mut ranges,
+        implementations,
+        mut re_export_ranges,
+        diagnostics,
+        dependencies,
+    } = followed;
+    re_export_ranges.append(&mut ranges)?;
+    let parts = ModuleParts {
+        ranges: re_export_ranges,
+        implementations,
+        diagnostics,
+        is_missing: false,
+        is_untyped_entry: false,
+        is_untyped: false,
+    };
+    let found = one_module(alloc, specifier, parts, dependencies)?;
+    Ok((package, found))
+}
+
+fn found_untyped(
+    alloc: Global,
+    untyped: UntypedModule,
+) -> Result<(PackageNv, FoundPackage), AllocError>
+    ensures nv { IfOk result (λ r. nv_of r.0 ≡ package_found (Untyped untyped)) }
+    ensures says { IfOk result (λ r. (q : Question) → found_says r.1 q ≡ finding_says (Untyped untyped) q) }
+{
+    let UntypedModule { package, specifier } = untyped;
+    let found = one_module(alloc, specifier, untyped_parts(alloc), Vec::new(alloc))?;
+    Ok((package, found))
+}
+
+/// What was found of one module.
+fn one_module(
+    alloc: Global,
+    specifier: Url,
+    parts: ModuleParts,
+    dependencies: Vec<PackageNv>,
+) -> Result<FoundPackage, AllocError>
+    ensures entry_points { IfOk result (λ found. found.entry_points.items ≡ []) }
+    ensures modules { IfOk result (λ found. found.modules.items ≡ (specifier, parts) ∷ []) }
+    ensures dependencies { IfOk result (λ found. found.dependencies.items ≡ dependencies.items) }
+{
+    let mut modules = Vec::new(alloc);
+    modules.push((specifier, parts))?;
+    Ok(FoundPackage {
+        entry_points: Vec::new(alloc),
+        modules,
+        dependencies,
+    })
+}
+
+fn found_package(alloc: Global, finding: Finding) -> Result<(PackageNv, FoundPackage), AllocError>
+    ensures nv { IfOk result (λ r. nv_of r.0 ≡ package_found finding) }
+    ensures says { IfOk result (λ r. (q : Question) → found_says r.1 q ≡ finding_says finding q) }
+{
+    match finding {
+        Finding::Entered(entered) => found_entered(alloc, entered),
+        Finding::Followed(followed) => found_followed(alloc, followed),
+        Finding::Untyped(untyped) => found_untyped(alloc, untyped),
+    }
+}
+
+fn add_finding(
+    alloc: Global,
+    packages: &mut BTreeMap<PackageNv, PackageParts>,
+    finding: Finding,
+) -> Result<(), AllocError>
+    ensures { OnOk result ((nv : Nv) (q : Question) →
+        packages_say packages.new.entries nv q ≡ (packages_say packages.old.entries nv q || finding_says_of nv q finding)) }
+{
+    let (package, found) = found_package(alloc, finding)?;
+    add_package(alloc, packages, package, found)
+}
+
+/// What was found of each package.
+pub fn packages_found(
+    alloc: Global,
+    findings: Vec<Finding>,
+) -> Result<BTreeMap<PackageNv, PackageParts>, AllocError>
+    ensures { IfOk result (λ packages. (nv : Nv) (q : Question) → packages_say packages.entries nv q ≡ findings_say findings.items nv q) }
+{
+    let mut packages = BTreeMap::new(alloc);
+    for finding in findings {
+        add_finding(alloc, &mut packages, finding)?;
+    }
+    Ok(packages)
+}

@@ -1,0 +1,9 @@
+//! What following packages found, by package and module.
+#![tactic(auto)]
+
+mod found;
+mod once;
+mod parts;
+mod ranges;
+
+pub use ranges::package_ranges;

@@ -1,0 +1,172 @@
+ghost use Rattle.std.specs.Prelude.{◌≡◌, [], ◌&&◌, ◌||◌, OnOk, IfOk};
+ghost use Rattle.std.specs.List.{list_any};
+ghost use Rattle.url.specs.Parts.{serialize};
+ghost use Rattle.fast_check_packages.specs.Package.{Nv, nv_of};
+ghost use Rattle.fast_check_worklists.specs.Demands.{Text, same_nv};
+ghost use Rattle.fast_check_package_ranges.specs.Questions.{ModuleQuestion, Question};
+ghost use Rattle.fast_check_package_ranges.specs.Parts.{is_text, module_says, modules_say, package_says, packages_say, found_module_says, found_says};
+
+use fast_check_packages::PackageNv;
+use fast_check_syntax::SourceRange;
+use fast_check_tables::FastCheckDiagnostic;
+use std::alloc::{AllocError, Global};
+use std::collections::BTreeMap;
+use url::Url;
+
+/// What was found of a module.
+#[derive(Drop)]
+pub struct ModuleParts {
+    pub ranges: Vec<SourceRange>,
+    /// The ranges of public implementations of overloads.
+    pub implementations: Vec<SourceRange>,
+    /// What is wrong with what was demanded, perhaps told more than once.
+    pub diagnostics: Vec<FastCheckDiagnostic>,
+    /// Whether it is an entry point that the graph does not have.
+    pub is_missing: bool,
+    /// Whether it is an entry point whose types are not known.
+    pub is_untyped_entry: bool,
+    /// Whether it is another module whose types are not known.
+    pub is_untyped: bool,
+}
+
+/// Whether one of two is so.
+pub fn either(a: bool, b: bool) -> bool
+    ensures { result ≡ (a || b) }
+{
+    a || b
+}
+
+impl ModuleParts {
+    /// Adds what was found in another turn.
+    pub fn join(&mut self, found: ModuleParts) -> Result<(), AllocError>
+        ensures { OnOk result ((q : ModuleQuestion) → module_says self.new q ≡ (module_says self.old q || module_says found q)) }
+    {
+        let ModuleParts {
+            mut ranges,
+            mut implementations,
+            mut diagnostics,
+            is_missing,
+            is_untyped_entry,
+            is_untyped,
+        } = found;
+        self.ranges.append(&mut ranges)?;
+        self.implementations.append(&mut implementations)?;
+        self.diagnostics.append(&mut diagnostics)?;
+        self.is_missing = either(self.is_missing, is_missing);
+        self.is_untyped_entry = either(self.is_untyped_entry, is_untyped_entry);
+        self.is_untyped = either(self.is_untyped, is_untyped);
+        Ok(())
+    }
+}
+
+/// What was found of a package.
+#[derive(Drop)]
+pub struct PackageParts {
+    pub entry_points: Vec<Url>,
+    pub modules: BTreeMap<Url, ModuleParts>,
+    /// The packages that it depends on, perhaps more than once.
+    pub dependencies: Vec<PackageNv>,
+}
+
+/// What was found of a package in a turn.
+#[derive(Drop)]
+pub struct FoundPackage {
+    pub entry_points: Vec<Url>,
+    pub modules: Vec<(Url, ModuleParts)>,
+    pub dependencies: Vec<PackageNv>,
+}
+
+/// Adds what was found of a module.
+fn add_module(
+    modules: &mut BTreeMap<Url, ModuleParts>,
+    specifier: Url,
+    found: ModuleParts,
+) -> Result<(), AllocError>
+    ensures { OnOk result ((t : Text) (q : ModuleQuestion) →
+        modules_say modules.new.entries t q ≡ (modules_say modules.old.entries t q || found_module_says t q (specifier, found))) }
+{
+    match modules.remove(&specifier) {
+        None => {
+            modules.insert(specifier, found)?;
+        }
+        Some(mut module) => {
+            module.join(found)?;
+            modules.insert(specifier, module)?;
+        }
+    }
+    Ok(())
+}
+
+fn add_modules(
+    modules: &mut BTreeMap<Url, ModuleParts>,
+    found: Vec<(Url, ModuleParts)>,
+) -> Result<(), AllocError>
+    ensures { OnOk result ((t : Text) (q : ModuleQuestion) →
+        modules_say modules.new.entries t q ≡ (modules_say modules.old.entries t q || list_any (found_module_says t q) found.items)) }
+{
+    for (specifier, module) in found {
+        add_module(modules, specifier, module)?;
+    }
+    Ok(())
+}
+
+impl PackageParts {
+    /// Nothing. It takes no memory.
+    fn new(alloc: Global) -> PackageParts
+        ensures entry_points { result.entry_points.items ≡ [] }
+        ensures modules { result.modules.entries ≡ [] }
+        ensures dependencies { result.dependencies.items ≡ [] }
+    {
+        PackageParts {
+            entry_points: Vec::new(alloc),
+            modules: BTreeMap::new(alloc),
+            dependencies: Vec::new(alloc),
+        }
+    }
+
+    /// Adds what was found in another turn.
+    fn join(&mut self, found: FoundPackage) -> Result<(), AllocError>
+        ensures { OnOk result ((q : Question) → package_says self.new q ≡ (package_says self.old q || found_says found q)) }
+    {
+        let FoundPackage {
+            mut entry_points,
+            modules,
+            mut dependencies,
+        } = found;
+        self.entry_points.append(&mut entry_points)?;
+        self.dependencies.append(&mut dependencies)?;
+        add_modules(&mut self.modules, modules)
+    }
+
+    /// What was found in one turn.
+    fn of(alloc: Global, found: FoundPackage) -> Result<PackageParts, AllocError>
+        ensures { IfOk result (λ parts. (q : Question) → package_says parts q ≡ found_says found q) }
+    {
+        let mut parts = PackageParts::new(alloc);
+        parts.join(found)?;
+        Ok(parts)
+    }
+}
+
+/// Adds what was found of a package.
+pub fn add_package(
+    alloc: Global,
+    packages: &mut BTreeMap<PackageNv, PackageParts>,
+    package: PackageNv,
+    found: FoundPackage,
+) -> Result<(), AllocError>
+    ensures { OnOk result ((nv : Nv) (q : Question) →
+        packages_say packages.new.entries nv q ≡ (packages_say packages.old.entries nv q || (same_nv nv (nv_of «package») && found_says found q))) }
+{
+    match packages.remove(&package) {
+        None => {
+            let parts = PackageParts::of(alloc, found)?;
+            packages.insert(package, parts)?;
+        }
+        Some(mut parts) => {
+            parts.join(found)?;
+            packages.insert(package, parts)?;
+        }
+    }
+    Ok(())
+}

@@ -1,0 +1,215 @@
+ghost use Rattle.std.specs.Prelude.{◌≡◌, ◌&&◌, ◌||◌, not, Bool, OnOk, IfOk};
+ghost use Rattle.std.specs.List.{list_any};
+ghost use Rattle.url.specs.Parts.{serialize};
+ghost use Rattle.fast_check_packages.specs.Package.{Nv};
+ghost use Rattle.fast_check_tables.specs.declared.diagnostics.FastCheckDiagnostic.TheVariants.{ExportNotFound, UnsupportedJavaScriptEntrypoint};
+ghost use Rattle.fast_check_tables.specs.declared.diagnostics.FastCheckDiagnostic.TheVariants.{UnsupportedNestedJavaScript};
+ghost use Rattle.fast_check_worklists.specs.Demands.{Text};
+ghost use Rattle.fast_check_package_ranges.specs.Parts.{is_text, is_package, tells, any_report, lookup_text, lookup_package};
+ghost use Rattle.fast_check_package_ranges.specs.Answers.{IsSaid, IsExact};
+ghost use Rattle.fast_check_package_ranges.specs.Made.{whole_tell, IsModuleAnswer, AreModuleAnswers, IsPackageAnswer, ArePackageAnswers};
+
+use crate::found::packages_found;
+use crate::once::{each_once, is_told};
+use crate::parts::{ModuleParts, PackageParts, either};
+use fast_check_cache::PackagePublicRanges;
+use fast_check_findings::{Finding, PackageNv};
+use fast_check_tables::{FastCheckDiagnostic, ModulePublicRanges};
+use std::alloc::{AllocError, Global};
+use std::collections::{BTreeMap, BTreeSet};
+use url::Url;
+
+fn push_missing(
+    specifier: &Url,
+    is_missing: bool,
+    out: &mut Vec<FastCheckDiagnostic>,
+) -> Result<(), AllocError>
+    ensures { OnOk result ((test : FastCheckDiagnostic → Bool) → list_any test out.new.items
+        ≡ (list_any test out.old.items || (is_missing && test (ExportNotFound specifier.now)))) }
+{
+    if !is_missing {
+        return Ok(());
+    }
+    let specifier = specifier.clone()?;
+    out.push(FastCheckDiagnostic::ExportNotFound { specifier })?;
+    Ok(())
+}
+
+fn push_untyped_entry(
+    specifier: &Url,
+    is_untyped_entry: bool,
+    out: &mut Vec<FastCheckDiagnostic>,
+) -> Result<(), AllocError>
+    ensures { OnOk result ((test : FastCheckDiagnostic → Bool) → list_any test out.new.items
+        ≡ (list_any test out.old.items || (is_untyped_entry && test (UnsupportedJavaScriptEntrypoint specifier.now)))) }
+{
+    if !is_untyped_entry {
+        return Ok(());
+    }
+    let specifier = specifier.clone()?;
+    out.push(FastCheckDiagnostic::UnsupportedJavaScriptEntrypoint { specifier })?;
+    Ok(())
+}
+
+fn push_untyped(
+    specifier: &Url,
+    is_untyped: bool,
+    out: &mut Vec<FastCheckDiagnostic>,
+) -> Result<(), AllocError>
+    ensures { OnOk result ((test : FastCheckDiagnostic → Bool) → list_any test out.new.items
+        ≡ (list_any test out.old.items || (is_untyped && test (UnsupportedNestedJavaScript specifier.now)))) }
+{
+    if !is_untyped {
+        return Ok(());
+    }
+    let specifier = specifier.clone()?;
+    out.push(FastCheckDiagnostic::UnsupportedNestedJavaScript { specifier })?;
+    Ok(())
+}
+
+/// What is wrong with a module as a whole.
+fn whole_diagnostics(
+    alloc: Global,
+    specifier: &Url,
+    is_missing: bool,
+    is_untyped_entry: bool,
+    is_untyped: bool,
+) -> Result<Vec<FastCheckDiagnostic>, AllocError>
+    ensures { IfOk result (λ out. (test : FastCheckDiagnostic → Bool) →
+        list_any test out.items ≡ whole_tell specifier.now is_missing is_untyped_entry is_untyped test) }
+{
+    let mut out = Vec::new(alloc);
+    push_missing(specifier, is_missing, &mut out)?;
+    push_untyped_entry(specifier, is_untyped_entry, &mut out)?;
+    push_untyped(specifier, is_untyped, &mut out)?;
+    Ok(out)
+}
+
+/// Whether any diagnostic is of a fault of a demand.
+fn any_told(diagnostics: &[FastCheckDiagnostic]) -> bool
+    ensures { result ≡ list_any (tells any_report) diagnostics.now }
+{
+    diagnostics.iter().any(|diagnostic| is_told(diagnostic))
+}
+
+/// Whether anything is told of a module but that its types are not known.
+fn is_otherwise_faulty(
+    is_missing: bool,
+    is_untyped_entry: bool,
+    diagnostics: &[FastCheckDiagnostic],
+) -> bool
+    ensures { result ≡ (is_missing || (is_untyped_entry || list_any (tells any_report) diagnostics.now)) }
+{
+    let is_told = any_told(diagnostics);
+    either(is_missing, either(is_untyped_entry, is_told))
+}
+
+/// Whether the first is so and the second is not.
+fn only_first(a: bool, b: bool) -> bool
+    ensures { result ≡ (a && not b) }
+{
+    a && !b
+}
+
+/// What is told of a module. That its types are not known is told where nothing else is.
+fn module_ranges(
+    alloc: Global,
+    specifier: &Url,
+    parts: ModuleParts,
+) -> Result<ModulePublicRanges, AllocError>
+    ensures { IfOk result (IsModuleAnswer (serialize specifier.now) parts) }
+{
+    let ModuleParts {
+        ranges,
+        implementations,
+        diagnostics,
+        is_missing,
+        is_untyped_entry,
+        is_untyped,
+    } = parts;
+    let is_faulty = is_otherwise_faulty(is_missing, is_untyped_entry, diagnostics.as_slice());
+    let is_untyped = only_first(is_untyped, is_faulty);
+    let mut out = whole_diagnostics(alloc, specifier, is_missing, is_untyped_entry, is_untyped)?;
+    let mut told = each_once(alloc, diagnostics)?;
+    out.append(&mut told)?;
+    let made = ModulePublicRanges::from_parts(alloc, ranges, implementations, out)?;
+    Ok(made)
+}
+
+fn all_module_ranges(
+    alloc: Global,
+    modules: BTreeMap<Url, ModuleParts>,
+) -> Result<BTreeMap<Url, ModulePublicRanges>, AllocError>
+    ensures { IfOk result (λ made. (t : Text) → AreModuleAnswers t (lookup_text t modules.entries) (lookup_text t made.entries)) }
+{
+    let mut made = BTreeMap::new(alloc);
+    for (specifier, parts) in modules {
+        let ranges = module_ranges(alloc, &specifier, parts)?;
+        made.insert(specifier, ranges)?;
+    }
+    Ok(made)
+}
+
+fn entry_point_set(alloc: Global, urls: Vec<Url>) -> Result<BTreeSet<Url>, AllocError>
+    ensures { IfOk result (λ set. (t : Text) → list_any (is_text t) set.keys ≡ list_any (is_text t) urls.items) }
+{
+    urls.into_iter().collect(alloc)
+}
+
+fn dependency_set(
+    alloc: Global,
+    packages: Vec<PackageNv>,
+) -> Result<BTreeSet<PackageNv>, AllocError>
+    ensures { IfOk result (λ set. (nv : Nv) → list_any (is_package nv) set.keys ≡ list_any (is_package nv) packages.items) }
+{
+    packages.into_iter().collect(alloc)
+}
+
+fn ranges_of(alloc: Global, parts: PackageParts) -> Result<PackagePublicRanges, AllocError>
+    ensures { IfOk result (IsPackageAnswer parts) }
+{
+    let PackageParts {
+        entry_points,
+        modules,
+        dependencies,
+    } = parts;
+    let entrypoints = entry_point_set(alloc, entry_points)?;
+    let module_ranges = all_module_ranges(alloc, modules)?;
+    let dependencies = dependency_set(alloc, dependencies)?;
+    Ok(PackagePublicRanges {
+        entrypoints,
+        module_ranges,
+        cache_items: Vec::new(alloc),
+        dependencies,
+    })
+}
+
+fn all_ranges(
+    alloc: Global,
+    packages: BTreeMap<PackageNv, PackageParts>,
+) -> Result<BTreeMap<PackageNv, PackagePublicRanges>, AllocError>
+    ensures { IfOk result (λ made. (nv : Nv) → ArePackageAnswers (lookup_package nv packages.entries) (lookup_package nv made.entries)) }
+{
+    let mut made = BTreeMap::new(alloc);
+    for (package, parts) in packages {
+        let ranges = ranges_of(alloc, parts)?;
+        made.insert(package, ranges)?;
+    }
+    Ok(made)
+}
+
+/// What was found, by package and module. A package is there if it was entered, or if anything was found of it.
+///
+/// No diagnostic is told twice of a module. Those of the module as a whole come first, and then the faults of demands by their places in the text.
+/// That the types of a module are not known is told where nothing else is told of it. Nothing comes from a cache.
+pub fn package_ranges(
+    alloc: Global,
+    found: Vec<Finding>,
+) -> Result<BTreeMap<PackageNv, PackagePublicRanges>, AllocError>
+    ensures said { IfOk result (IsSaid found.items) }
+    ensures exact { IfOk result (IsExact found.items) }
+{
+    let packages = packages_found(alloc, found)?;
+    let answers = all_ranges(alloc, packages)?;
+    Ok(answers)
+}
