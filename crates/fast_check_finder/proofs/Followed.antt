@@ -14,7 +14,8 @@ use Rattle.fast_check_names.specs.Imports.{NameDemand, names_but_default, each_n
 use Rattle.fast_check_demands.specs.Demands.{Demand as SymbolDemand}
 use Rattle.fast_check_demands.specs.Account.{Chained, root as symbol_root, step as symbol_step, IsCovered as IsSymbolCovered}
 use Rattle.fast_check_demands.specs.Rules.{each_of, names}
-use Rattle.fast_check_demands.specs.Yields.{ranges, implementations}
+use Rattle.fast_check_demands.specs.Yields.{ranges, implementations, faults}
+use Rattle.fast_check_faults.specs.Reports.{Report}
 use Rattle.fast_check_files.specs.Files.{FileDemand, files}
 use Rattle.fast_check_traces.specs.declared.modules.TracedModule.{TracedModule}
 use Rattle.fast_check_traces.specs.Modules.{own_tables}
@@ -29,11 +30,14 @@ use Rattle.fast_check_worklists.specs.Account.{Trace, Followed, HasIn, IsSymbolM
 use Rattle.fast_check_worklists.specs.declared.asked.Step.{Step}
 use Rattle.fast_check_worklists.specs.State.{State, want_of, AsksAll, Reached, root, step, IsSearched, IsOuter, AreWants, AreGiven, IsFollowed}
 use Rattle.fast_check_name_demands.specs.NameDemands.{AreDemands, IsDemandOf, IsEmpty}
-use Rattle.fast_check_finder.specs.Sources.{Known, module_at}
-use Rattle.fast_check_finder.specs.Rules.{file_wants, left_wants, names_wants, symbol_wants, world}
-use Rattle.fast_check_finder.specs.Yields.{Yield, entry_point, dependency, recorded, public, implementing, own_text, dependency_of, dependencies, public_at}
-use Rattle.fast_check_finder.specs.Yields.{implementing_at, names_yields, symbol_yields, gives}
-use Rattle.fast_check_finder.specs.Analysis.{IsAnalyzed, given_by}
+use Rattle.fast_check_turns.specs.Sources.{Known, module_at}
+use Rattle.fast_check_turns.specs.Rules.{file_wants, left_wants, names_wants, symbol_wants, world}
+use Rattle.fast_check_findings.specs.Yields.{Yield, entry_point, dependency, recorded, public, implementing}
+use Rattle.fast_check_findings.specs.Findings.{told_at}
+use Rattle.fast_check_turns.specs.Yields.{own_text, dependency_of, dependencies, public_at, implementing_at, reported_as, fault_yields, faults_at}
+use Rattle.fast_check_turns.specs.Yields.{names_yields, symbol_yields, untyped_yields, gives}
+use Rattle.fast_check_turns.proofs.Reported.{told_flat}
+use Rattle.fast_check_turns.specs.Analysis.{IsAnalyzed, given_by}
 use Rattle.fast_check_finder.proofs.Owned.{IsOwned, owned_outer, owned_files, owned_left}
 
 pub flat_contains : {X Y : Type 0} (f : X → List Y) (xs : List X) (y : Y) → Contains (flat_map f xs) y → (x : X) × Contains xs x × Contains (f x) y
@@ -79,9 +83,9 @@ asked_demanded (Subset s) (subset_at []) h = inr refl
 asked_demanded (Subset s) (subset_at (n ∷ p)) h = inl h
 asked_demanded (Subset s) (whole_at p) h = inl h
 
-module _ (k : Known) (nv : Nv) (t : Text) (m : TracedModule) (here : module_at k t ≡ Some m) (x : ImportedExports) (listed : List NameDemand)
-    (are : AreDemands x listed) (wants : List Want) (found implementations_found again : List SourceRange)
-    (a : IsAnalyzed k nv m listed wants found implementations_found again) where
+module _ (k : Known) (nv : Nv) (t : Text) (m : TracedModule) (here : module_at k t ≡ Some m) (typed : untyped_yields k.graph nv t ≡ [])
+    (x : ImportedExports) (listed : List NameDemand) (are : AreDemands x listed) (wants : List Want) (found implementations_found again : List SourceRange)
+    (reports : List (Option Report)) (a : IsAnalyzed k nv m listed wants found implementations_found again reports) where
   abbrev new : Followed
   new = record { trace = record { nv = nv; specifier = t; exports = x }; symbols = a.symbols }
 
@@ -230,13 +234,18 @@ module _ (k : Known) (nv : Nv) (t : Text) (m : TracedModule) (here : module_at k
   -- what is given
 
   abbrev given : List Yield
-  given = given_by nv m wants found implementations_found again
+  given = given_by nv m wants found implementations_found again reports
 
   abbrev Gift : Yield → Type 0
   Gift y = (d : Demand) × HasIn new d × Contains (gives k d) y
 
   names_gift : (d : NameDemand) (y : Yield) → asked x d ≡ true → Contains (names_yields k nv t d m) y → Gift y
-  names_gift d y h c = (of_module nv t d, (refl, refl, h), subst (λ (o : Option TracedModule). Contains (each_of (names_yields k nv t d) o) y) (sym here) c)
+  names_gift d y h c = (
+    of_module nv t d,
+    (refl, refl, h),
+    Contains-append_left (each_of (names_yields k nv t d) (module_at k t)) (untyped_yields k.graph nv t) y
+        (subst (λ (o : Option TracedModule). Contains (each_of (names_yields k nv t d) o) y) (sym here) c),
+  )
 
   symbol_gift : (s : SymbolDemand) (y : Yield) → Contains a.symbols s → Contains (symbol_yields k nv t s m) y → Gift y
   symbol_gift s y h c = (of_symbol nv t s, (refl, refl, h), subst (λ (o : Option TracedModule). Contains (each_of (symbol_yields k nv t s) o) y) (sym here) c)
@@ -269,6 +278,19 @@ module _ (k : Known) (nv : Nv) (t : Text) (m : TracedModule) (here : module_at k
       (Contains-append_left (implementing_at nv m (implementations (own_tables m) s.0)) _ y
       (contains_map (implementing nv (own_text m)) (implementations (own_tables m) s.0) r s.2)))
 
+  told_is : flat_map (told_at nv (own_text m)) reports ≡ faults_at nv m a.wrong
+  told_is = ap (flat_map (told_at nv (own_text m))) a.reports_is ∙ told_flat nv (own_text m) (reported_as m) a.wrong
+
+  told_gift : (y : Yield) → Contains (flat_map (told_at nv (own_text m)) reports) y → Gift y
+  told_gift y c =
+      let f = flat_contains (fault_yields nv m) a.wrong y (subst (λ (ys : List Yield). Contains ys y) told_is c) in
+      let s = a.found_wrong.sound f.0 f.1 in
+      symbol_gift s.0 y s.1
+      (Contains-append_right (public_at nv m (ranges (own_tables m) s.0)) _ y
+      (Contains-append_right (implementing_at nv m (implementations (own_tables m) s.0)) _ y
+      (Contains-append_left (faults_at nv m (faults (own_tables m) s.0)) _ y
+      (contains_flat_map (fault_yields nv m) (faults (own_tables m) s.0) f.0 y s.2 f.2))))
+
   dependency_gift : (y : Yield) → Contains (dependencies nv wants) y → Gift y
   dependency_gift y c =
       let f = flat_contains (dependency_of nv) wants y c in
@@ -280,38 +302,48 @@ module _ (k : Known) (nv : Nv) (t : Text) (m : TracedModule) (here : module_at k
       (contains_flat_map (dependency_of nv) (names_wants k nv t d m) f.0 y (subst (λ (ws : List Want). Contains ws f.0) (names_world d) j) f.2))))
       (λ e i j. symbol_gift e y i
       (Contains-append_right (public_at nv m (ranges (own_tables m) e)) _ y
-      (Contains-append_right (implementing_at nv m (implementations (own_tables m) e)) (dependencies nv (symbol_wants k nv t e m)) y
-      (contains_flat_map (dependency_of nv) (symbol_wants k nv t e m) f.0 y (subst (λ (ws : List Want). Contains ws f.0) (symbols_world e) j) f.2))))
+      (Contains-append_right (implementing_at nv m (implementations (own_tables m) e)) _ y
+      (Contains-append_right (faults_at nv m (faults (own_tables m) e)) (dependencies nv (symbol_wants k nv t e m)) y
+      (contains_flat_map (dependency_of nv) (symbol_wants k nv t e m) f.0 y (subst (λ (ws : List Want). Contains ws f.0) (symbols_world e) j) f.2)))))
       s.0 s.1 s.2
+
+  shown_gift : (r : SourceRange) → Contains (again ++ found) r → Gift (public nv (own_text m) r)
+  shown_gift r c = ⊎_elim (λ l. again_gift r l) (λ i. public_gift r i) (Contains-append_cases again found r c)
 
   given_sound : Each Gift given
   given_sound y c =
       ⊎_elim (λ e. subst Gift e recorded_gift)
-      (λ r. each_append Gift (public_at nv m again) _ (each_map Gift (public nv (own_text m)) again again_gift)
-      (each_append Gift (public_at nv m found) _ (each_map Gift (public nv (own_text m)) found public_gift)
-      (each_append Gift (implementing_at nv m implementations_found) (dependencies nv wants)
-      (each_map Gift (implementing nv (own_text m)) implementations_found implementing_gift) dependency_gift)) y r)
+      (λ r. each_append Gift (public_at nv m (again ++ found)) _ (each_map Gift (public nv (own_text m)) (again ++ found) shown_gift)
+      (each_append Gift (implementing_at nv m implementations_found) _
+      (each_map Gift (implementing nv (own_text m)) implementations_found implementing_gift)
+      (each_append Gift (flat_map (told_at nv (own_text m)) reports) (dependencies nv wants) told_gift dependency_gift)) y r)
       (Contains_cases (recorded nv (own_text m)) _ y c)
 
   abbrev IsGiven : Yield → Type 0
   IsGiven y = Contains given y
 
-  in_again : Each IsGiven (public_at nv m again)
-  in_again y c = Contains_later (recorded nv (own_text m)) _ y (Contains-append_left (public_at nv m again) _ y c)
-
-  in_found : Each IsGiven (public_at nv m found)
-  in_found y c = Contains_later (recorded nv (own_text m)) _ y (Contains-append_right (public_at nv m again) _ y
-      (Contains-append_left (public_at nv m found) _ y c))
+  in_shown : (r : SourceRange) → Contains (again ++ found) r → IsGiven (public nv (own_text m) r)
+  in_shown r c =
+      let y = public nv (own_text m) r in
+      Contains_later (recorded nv (own_text m)) _ y
+      (Contains-append_left (public_at nv m (again ++ found)) _ y (contains_map (public nv (own_text m)) (again ++ found) r c))
 
   in_implementing : Each IsGiven (implementing_at nv m implementations_found)
   in_implementing y c = Contains_later (recorded nv (own_text m)) _ y
-      (Contains-append_right (public_at nv m again) _ y (Contains-append_right (public_at nv m found) _ y
-      (Contains-append_left (implementing_at nv m implementations_found) _ y c)))
+      (Contains-append_right (public_at nv m (again ++ found)) _ y
+      (Contains-append_left (implementing_at nv m implementations_found) _ y c))
+
+  in_told : Each IsGiven (faults_at nv m a.wrong)
+  in_told y c = Contains_later (recorded nv (own_text m)) _ y
+      (Contains-append_right (public_at nv m (again ++ found)) _ y
+      (Contains-append_right (implementing_at nv m implementations_found) _ y
+      (Contains-append_left (flat_map (told_at nv (own_text m)) reports) _ y (subst (λ (ys : List Yield). Contains ys y) (sym told_is) c))))
 
   in_dependencies : Each IsGiven (dependencies nv wants)
   in_dependencies y c = Contains_later (recorded nv (own_text m)) _ y
-      (Contains-append_right (public_at nv m again) _ y (Contains-append_right (public_at nv m found) _ y
-      (Contains-append_right (implementing_at nv m implementations_found) (dependencies nv wants) y c)))
+      (Contains-append_right (public_at nv m (again ++ found)) _ y
+      (Contains-append_right (implementing_at nv m implementations_found) _ y
+      (Contains-append_right (flat_map (told_at nv (own_text m)) reports) (dependencies nv wants) y c)))
 
   -- what is asked of packages alone makes dependencies
   dependency_outer : (w : Want) (y : Yield) → Contains (dependency_of nv w) y → IsOuter w
@@ -331,7 +363,7 @@ module _ (k : Known) (nv : Nv) (t : Text) (m : TracedModule) (here : module_at k
       again_in : (r : SourceRange) → Contains (re_export_ranges m d) r → IsGiven (public nv (own_text m) r)
       again_in r i =
           ⊎_elim
-          (λ l. in_again (public nv (own_text m) r) (contains_map (public nv (own_text m)) again r
+          (λ l. in_shown r (Contains-append_left again found r
           (subst (λ (rs : List SourceRange). Contains rs r) (sym a.found_again) (contains_flat_map (re_export_ranges m) listed d r l i))))
           (λ e. absurd (Contains_none r (subst (λ (z : NameDemand). Contains (re_export_ranges m z) r) e i)))
           (asked_listed d h)
@@ -340,20 +372,28 @@ module _ (k : Known) (nv : Nv) (t : Text) (m : TracedModule) (here : module_at k
   symbols_given s h =
       each_append IsGiven (public_at nv m (ranges (own_tables m) s)) _
       (each_map IsGiven (public nv (own_text m)) (ranges (own_tables m) s)
-      (λ r i. in_found (public nv (own_text m) r) (contains_map (public nv (own_text m)) found r (a.found_ranges.complete s r h i))))
-      (each_append IsGiven (implementing_at nv m (implementations (own_tables m) s)) (dependencies nv (symbol_wants k nv t s m))
+      (λ r i. in_shown r (Contains-append_right again found r (a.found_ranges.complete s r h i))))
+      (each_append IsGiven (implementing_at nv m (implementations (own_tables m) s)) _
       (each_map IsGiven (implementing nv (own_text m)) (implementations (own_tables m) s)
       (λ r i. in_implementing (implementing nv (own_text m) r) (contains_map (implementing nv (own_text m)) implementations_found r
       (a.found_implementations.complete s r h i))))
+      (each_append IsGiven (faults_at nv m (faults (own_tables m) s)) (dependencies nv (symbol_wants k nv t s m))
+      (λ z i. let f = flat_contains (fault_yields nv m) (faults (own_tables m) s) z i in
+      in_told z (contains_flat_map (fault_yields nv m) a.wrong f.0 z (a.found_wrong.complete s f.0 h f.1) f.2))
       (λ z i. let f = flat_contains (dependency_of nv) (symbol_wants k nv t s m) z i in
-      in_dependencies z (contains_flat_map (dependency_of nv) wants f.0 z (symbols_complete s h f.0 f.1 (dependency_outer f.0 z f.2)) f.2)))
+      in_dependencies z (contains_flat_map (dependency_of nv) wants f.0 z (symbols_complete s h f.0 f.1 (dependency_outer f.0 z f.2)) f.2))))
+
+  names_only : (d : NameDemand) (y : Yield) → Contains (gives k (of_module nv t d)) y → Contains (each_of (names_yields k nv t d) (module_at k t)) y
+  names_only d y c =
+      ⊎_elim (λ l. l) (λ r. absurd (Contains_none y (subst (λ (ys : List Yield). Contains ys y) typed r)))
+      (Contains-append_cases (each_of (names_yields k nv t d) (module_at k t)) (untyped_yields k.graph nv t) y c)
 
   are_given : AreGiven (gives k) new given
   are_given = record {
     sound = given_sound;
     complete = λ d y h c.
         by_kind (λ e. Contains (gives k e) y → IsGiven y)
-        (λ e i j. names_given e i y (subst (λ (o : Option TracedModule). Contains (each_of (names_yields k nv t e) o) y) here j))
+        (λ e i j. names_given e i y (subst (λ (o : Option TracedModule). Contains (each_of (names_yields k nv t e) o) y) here (names_only e y j)))
         (λ s i j. symbols_given s i y (subst (λ (o : Option TracedModule). Contains (each_of (symbol_yields k nv t s) o) y) here j)) d h c;
   }
 

@@ -17,9 +17,10 @@ use Rattle.fast_check_worklists.specs.Demands.{Text, Wanted, same_nv, asked_by, 
 use Rattle.fast_check_worklists.specs.Demands.{of_symbol}
 use Rattle.fast_check_worklists.specs.State.{IsOuter}
 use Rattle.fast_check_worklists.specs.Turn.{IsOrderly}
-use Rattle.fast_check_finder.specs.declared.sources.KnownPackage.{KnownPackage}
-use Rattle.fast_check_finder.specs.Sources.{Known, module_at, package_at}
-use Rattle.fast_check_finder.specs.Rules.{file_at, behind, resolved, file_wants, left_wants, names_wants, symbol_wants, entry_want, entry_wants, world}
+use Rattle.fast_check_findings.specs.declared.finding.EntryFault.{EntryFault}
+use Rattle.fast_check_entries.specs.Entries.{Entrance, passed_over, refused, entered, all_faults}
+use Rattle.fast_check_turns.specs.Sources.{Known, module_at, entrance_at}
+use Rattle.fast_check_turns.specs.Rules.{file_at, behind, resolved, file_wants, left_wants, names_wants, symbol_wants, entry_want, unless_faulty, entry_wants, world}
 
 module _ (k : Known) where
   -- asked for from outside, under its own package
@@ -86,7 +87,16 @@ module _ (k : Known) where
   IsEntry (to_symbol p t s) = ⊥
 
   entries : (nv : Nv) → Each IsEntry (world k (of_package nv))
-  entries nv = each_each_of IsEntry (entry_wants nv) (package_at k.packages nv) (λ p e. each_map IsEntry (entry_want nv) p.entry_points.items (λ url c. refl))
+  entries nv = go (entrance_at k nv)
+    where
+      sound : (urls : List Parts) (faults : List (Parts × EntryFault)) → Each IsEntry (unless_faulty faults (map (entry_want nv) urls))
+      sound urls [] = each_map IsEntry (entry_want nv) urls (λ url c. refl)
+      sound urls (f ∷ faults) = each_nil IsEntry
+
+      go : (entrance : Entrance) → Each IsEntry (entry_wants k.graph nv entrance)
+      go passed_over = each_nil IsEntry
+      go (refused text) = each_nil IsEntry
+      go (entered urls) = sound urls (all_faults k.graph urls)
 
   pub orderly : IsOrderly (world k) k.owner
   orderly = record {

@@ -52,11 +52,12 @@ use Rattle.fast_check_worklists.proofs.Maps.{found_in}
 use Rattle.fast_check_worklists.specs.Demands.{Text, Wanted, same_nv, asked_by, Want, to_package, to_module, to_symbol, Demand, of_package, of_module}
 use Rattle.fast_check_worklists.specs.Demands.{of_symbol}
 use Rattle.fast_check_worklists.specs.Measure.{IsWithin, IsPathWithin, IsInside, IsWantInside, IsUniverse}
-use Rattle.fast_check_finder.specs.declared.sources.KnownPackage.{KnownPackage}
-use Rattle.fast_check_finder.specs.Sources.{Known, is_text, node_at, named_at, typed_info, info_at, traced_as, module_at, package_at}
-use Rattle.fast_check_finder.specs.Rules.{file_at, behind, resolved, file_wants, left_wants, names_wants, symbol_wants, entry_want, entry_wants, world}
+use Rattle.fast_check_findings.specs.declared.finding.EntryFault.{EntryFault}
+use Rattle.fast_check_entries.specs.Entries.{Entrance, passed_over, refused, entered, all_faults}
+use Rattle.fast_check_turns.specs.Sources.{Known, is_text, node_at, named_at, typed_info, info_at, traced_as, module_at, entrance_at}
+use Rattle.fast_check_turns.specs.Rules.{file_at, behind, resolved, file_wants, left_wants, names_wants, symbol_wants, entry_want, unless_faulty, entry_wants, world}
 use Rattle.fast_check_finder.specs.Reach.{dep_names, file_names, kind_names, symbol_names, table_names, all_names, paths_up_to, targets, answers, entry_texts}
-use Rattle.fast_check_finder.specs.Reach.{outer_texts, reach}
+use Rattle.fast_check_finder.specs.Reach.{outer_texts, all_packages, urls_in, reach}
 use Rattle.fast_check_finder.proofs.Paths.{flat_contains, flat_longer, Fits, fits_in, in_fits, fits_empty, fits_more, fits_longer, fits_tail, fits_piece}
 use Rattle.fast_check_finder.proofs.Paths.{empty_in, star_within, all_within, asked_within}
 
@@ -129,7 +130,7 @@ module _ (k : Known) (roots_in : List Nv) where
       (subst (λ (o : Option Nv). Contains (option_to_list o) p) (sym e) (Contains_first p [])))
 
   text_in : (t : Text) → Contains (outer_texts k) t → Contains (reach k roots_in).texts t
-  text_in t c = Contains-append_left (outer_texts k) (entry_texts k) t c
+  text_in t c = Contains-append_left (outer_texts k) (entry_texts k (all_packages k roots_in)) t c
 
   abbrev Within : NameDemand → Type 0
   Within = IsWithin (paths_up_to (suc L) A)
@@ -406,18 +407,30 @@ module _ (k : Known) (roots_in : List Nv) where
         each_each_of In (λ url. file_at nv (serialize url) (asked_by f.names) (k.owner (serialize url))) (resolved m f.text)
         (λ url e. in_file nv (serialize url) f.names (k.owner (serialize url)) refl (target_in info f.text url e) (files_within s h f c))))
 
-  entries_in : (nv : Nv) → Each In (world k (of_package nv))
-  entries_in nv = each_each_of In (entry_wants nv) (package_at k.packages nv) (λ p e.
-      each_map In (entry_want nv) p.entry_points.items (λ url c. (
-        Contains-append_right (outer_texts k) (entry_texts k) (serialize url)
-            (contains_flat_map (λ (q : KnownPackage). map serialize q.entry_points.items) k.packages p (serialize url)
-            (find_in (λ q. same_nv nv (nv_of q.nv)) k.packages p e)
-            (contains_map serialize p.entry_points.items url c)),
-        all_within A (suc L),
-      )))
+  entry_in : (nv : Nv) → Contains (all_packages k roots_in) nv → (urls : List Parts) → entrance_at k nv ≡ entered urls → (url : Parts) → Contains urls url →
+      In (entry_want nv url)
+  entry_in nv i urls e url c = (
+    Contains-append_right (outer_texts k) (entry_texts k (all_packages k roots_in)) (serialize url)
+        (contains_flat_map (λ (p : Nv). map serialize (urls_in (entrance_at k p))) (all_packages k roots_in) nv (serialize url) i
+        (subst (λ (x : Entrance). Contains (map serialize (urls_in x)) (serialize url)) (sym e) (contains_map serialize urls url c))),
+    all_within A (suc L),
+  )
+
+  entries_in : (nv : Nv) → Contains (all_packages k roots_in) nv → Each In (world k (of_package nv))
+  entries_in nv i = go (entrance_at k nv) refl
+    where
+      sound : (urls : List Parts) → entrance_at k nv ≡ entered urls → (faults : List (Parts × EntryFault)) →
+          Each In (unless_faulty faults (map (entry_want nv) urls))
+      sound urls e [] = each_map In (entry_want nv) urls (λ url c. entry_in nv i urls e url c)
+      sound urls e (f ∷ faults) = each_nil In
+
+      go : (entrance : Entrance) → entrance_at k nv ≡ entrance → Each In (entry_wants k.graph nv entrance)
+      go passed_over e = each_nil In
+      go (refused text) e = each_nil In
+      go (entered urls) e = sound urls e (all_faults k.graph urls)
 
   closed : (d : Demand) → IsInside (reach k roots_in) d → Each In (world k d)
-  closed (of_package nv) i = entries_in nv
+  closed (of_package nv) i = entries_in nv i
   closed (of_module nv t d) i = each_traced In (names_wants k nv t d) t (λ info is. in_names info is nv t d i.1)
   closed (of_symbol nv t s) i = each_traced In (symbol_wants k nv t s) t (λ info is. in_symbols info is nv t s i)
 

@@ -1,7 +1,2 @@
-pub mod Sources
-pub mod Exports
-pub mod Rules
-pub mod Yields
-pub mod Analysis
+pub mod Refusals
 pub mod Reach
-pub mod Findings

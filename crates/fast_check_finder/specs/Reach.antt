@@ -17,7 +17,8 @@ use Rattle.fast_check_graph.specs.declared.root_symbol.ModuleInfo.{ModuleInfo}
 use Rattle.fast_check_traces.specs.Modules.{tables_in}
 use Rattle.fast_check_worklists.specs.Demands.{Text}
 use Rattle.fast_check_worklists.specs.Measure.{Universe}
-use Rattle.fast_check_finder.specs.Sources.{Known}
+use Rattle.fast_check_entries.specs.Entries.{Entrance, passed_over, refused, entered}
+use Rattle.fast_check_turns.specs.Sources.{Known, entrance_at}
 
 -- the names that the tables of a module write
 
@@ -58,16 +59,25 @@ targets k = flat_map (λ e. map (λ x. serialize x.1) e.1.entries) k.graph.resol
 abbrev pub answers : Known → List Text
 answers k = flat_map (λ e. map (λ x. serialize x.1) (tables_in e.1).resolved) k.root_symbol.modules.entries
 
-abbrev pub entry_texts : Known → List Text
-entry_texts k = flat_map (λ p. map serialize p.entry_points.items) k.packages
-
 abbrev pub outer_texts : Known → List Text
 outer_texts k = targets k ++ answers k
 
+-- the packages that are handed in, and those that the others belong to
+abbrev pub all_packages : Known → List Nv → List Nv
+all_packages k roots = roots ++ flat_map (λ t. option_to_list (k.owner t)) (outer_texts k)
+
+abbrev pub urls_in : Entrance → List Parts
+urls_in passed_over = []
+urls_in (refused text) = []
+urls_in (entered urls) = urls
+
+abbrev pub entry_texts : Known → List Nv → List Text
+entry_texts k packages = flat_map (λ p. map serialize (urls_in (entrance_at k p))) packages
+
 abbrev pub reach : Known → List Nv → Universe
 reach k roots = record {
-  packages = roots ++ flat_map (λ t. option_to_list (k.owner t)) (outer_texts k);
-  texts = outer_texts k ++ entry_texts k;
+  packages = all_packages k roots;
+  texts = outer_texts k ++ entry_texts k (all_packages k roots);
   paths = paths_up_to (suc (length (all_names k))) (all_names k);
   below = paths_up_to (length (all_names k)) (all_names k);
 }

@@ -1,11 +1,9 @@
 //! Follows packages and modules, until all that is demanded was followed.
 #![tactic(auto)]
 
-mod analysis;
 mod search;
-mod sources;
-mod steps;
 
 pub use fast_check_packages::{PackageNv, WorkspaceMember};
-pub use search::{Finding, FollowedModule, find_all};
-pub use sources::{KnownPackage, Sources};
+pub use fast_check_provider::BuildFault;
+pub use fast_check_turns::{EnteredPackage, EntryFault, Finding, FollowedModule, Sources, UntypedModule};
+pub use search::find_all;

@@ -4,19 +4,34 @@ use Rattle.std.proofs.lemmas.List.{length-map, get_or-map}
 use Rattle.fast_check_packages.specs.Package.{nv_of}
 use Rattle.fast_check_worklists.specs.State.{state_of}
 use Rattle.fast_check_worklists.specs.Turn.{waiting_trace}
-use Rattle.fast_check_finder.specs.Sources.{known}
-use Rattle.fast_check_finder.specs.Findings.{yields_of}
+use Rattle.fast_check_turns.specs.Sources.{known}
+use Rattle.fast_check_findings.specs.Findings.{yields_of}
+use Rattle.fast_check_entries.proofs.Passed.{passed_on}
+use Rattle.fast_check_finder.specs.Refusals.{IsRefusedOf}
+use Rattle.fast_check_finder.proofs.Refused.{refused_of}
 use Rattle.fast_check_finder.proofs.Turns.{entered_at}
 use Rattle.fast_check_finder.proofs.search.enter_next.Goals as goal
 
-pub returns : goal.returns
-returns c = λ nv_at. inr (record {
-  package_nv = nv_of c.in_ok-nv.nv;
-  empty = ap (map waiting_trace) c.requires;
-  left = omega (arith, length-map c.args.asked.now.packages.items nv_of, c.if-next-len.false, c.len.ensures);
-  here = get_or-map nv_of c.args.asked.now.packages.items c.args.next c.index.result.now (nv_of c.in_ok-nv.nv)
-      (omega (arith, c.if-next-len.false, c.len.ensures)) ∙ (ap nv_of (sym c.index.ensures) ∙ sym c.in_ok-nv.ensures);
-  entered = entered_at (known c.args.sources nv_at) (nv_of c.in_ok-nv.nv) (state_of c.args.asked.now) (state_of c.enter.new.asked)
-      (flat_map yields_of c.args.found.now.items) (flat_map yields_of c.enter.new.found.items) c.in_ok-enter.ensures;
-  next_is = refl;
-})
+pub returns-clause-turned : goal.returns-clause-turned
+returns-clause-turned g c =
+    let m = goal.JsrUrlProvider-dyn g c.args.provider.now in
+    inr (record {
+      package_nv = nv_of c.in_ok-nv.nv;
+      empty = ap (map waiting_trace) c.requires;
+      left = omega (arith, length-map c.args.asked.now.packages.items nv_of, c.if-next-len.false, c.len.ensures);
+      here = get_or-map nv_of c.args.asked.now.packages.items c.args.next c.index.result.now (nv_of c.in_ok-nv.nv)
+          (omega (arith, c.if-next-len.false, c.len.ensures)) ∙ (ap nv_of (sym c.index.ensures) ∙ sym c.in_ok-nv.ensures);
+      entered = entered_at (known c.args.sources (m.url_of c.args.provider.now.1) (m.nv_at c.args.provider.now.1)) (nv_of c.in_ok-nv.nv)
+          (state_of c.args.asked.now) (state_of c.enter.new.asked)
+          (flat_map yields_of c.args.found.now.items) (flat_map yields_of c.enter.new.found.items) c.in_ok-enter.ensures.entered;
+      next_is = refl;
+    })
+
+pub returns-in_err-enter-clause-refused : goal.returns-in_err-enter-clause-refused
+returns-in_err-enter-clause-refused g c =
+    let m = goal.JsrUrlProvider-dyn g c.args.provider.now in
+    let k = known c.args.sources (m.url_of c.args.provider.now.1) (m.nv_at c.args.provider.now.1) in
+    let f = c.in_err-enter.field-0.0 in
+    passed_on c.from_residual-in_err-enter.result f (IsRefusedOf k (map nv_of c.args.asked.now.packages.items)) c.from_residual-in_err-enter.ensures.1
+    (refused_of k c.args.asked.now.packages.items c.args.next c.index.result.now (nv_of c.in_ok-nv.nv)
+    (omega (arith, c.if-next-len.false, c.len.ensures)) c.index.ensures c.in_ok-nv.ensures f c.in_err-enter.ensures.refused)

@@ -3,19 +3,22 @@ use Rattle.std.specs.List.{flat_map}
 use Rattle.fast_check_packages.specs.Package.{nv_of}
 use Rattle.fast_check_worklists.specs.State.{state_of}
 use Rattle.fast_check_worklists.proofs.Last.{started, later, over}
-use Rattle.fast_check_finder.specs.Sources.{known}
-use Rattle.fast_check_finder.specs.Rules.{world}
-use Rattle.fast_check_finder.specs.Yields.{gives}
-use Rattle.fast_check_finder.specs.Findings.{yields_of}
+use Rattle.fast_check_turns.specs.Sources.{known}
+use Rattle.fast_check_turns.specs.Rules.{world}
+use Rattle.fast_check_turns.specs.Yields.{gives}
+use Rattle.fast_check_findings.specs.Findings.{yields_of}
 use Rattle.fast_check_finder.specs.Reach.{reach}
 use Rattle.fast_check_finder.proofs.Owned.{orderly}
 use Rattle.fast_check_finder.proofs.Reach.{universe}
+use Rattle.fast_check_entries.proofs.Passed.{passed_on}
+use Rattle.fast_check_finder.specs.Refusals.{IsRefusal}
+use Rattle.fast_check_finder.proofs.Refused.{all_join, refusal}
 use Rattle.fast_check_finder.proofs.search.find_all.Goals as goal
 
 pub turns-init : goal.turns-init
 turns-init g c =
     let m = goal.JsrUrlProvider-dyn g c.args.provider.now in
-    let k = known c.args.sources (m.nv_at c.args.provider.now.1) in
+    let k = known c.args.sources (m.url_of c.args.provider.now.1) (m.nv_at c.args.provider.now.1) in
     record {
       way = (
         [],
@@ -28,29 +31,40 @@ turns-init g c =
 pub turns-smaller : goal.turns-smaller
 turns-smaller g c =
     let m = goal.JsrUrlProvider-dyn g c.args.provider.now in
-    let k = known c.args.sources (m.nv_at c.args.provider.now.1) in
+    let k = known c.args.sources (m.url_of c.args.provider.now.1) (m.nv_at c.args.provider.now.1) in
     let i = c.turns.invariant in
     let rs = map nv_of c.args.roots.now in
     (later (world k) (gives k) k.owner (orderly k) rs (reach k rs) (universe k rs) i.way.0 c.turns.next (state_of c.turns.asked) (state_of c.turn.new.asked)
     (flat_map yields_of c.turns.found.items) (flat_map yields_of c.turn.new.found.items) i.way.1 i.bounded c.in-Some.after
-    (rw c.in-Some.is at c.in_ok-after.ensures)).falls
+    (rw c.in-Some.is at c.in_ok-after.ensures.turned)).falls
 
 pub turns-preserved : goal.turns-preserved
 turns-preserved g c =
     let m = goal.JsrUrlProvider-dyn g c.args.provider.now in
-    let k = known c.args.sources (m.nv_at c.args.provider.now.1) in
+    let k = known c.args.sources (m.url_of c.args.provider.now.1) (m.nv_at c.args.provider.now.1) in
     let i = c.turns.invariant in
     let rs = map nv_of c.args.roots.now in
     let l = later (world k) (gives k) k.owner (orderly k) rs (reach k rs) (universe k rs) i.way.0 c.turns.next (state_of c.turns.asked)
     (state_of c.turn.new.asked) (flat_map yields_of c.turns.found.items) (flat_map yields_of c.turn.new.found.items) i.way.1 i.bounded c.in-Some.after
-    (rw c.in-Some.is at c.in_ok-after.ensures) in
+    (rw c.in-Some.is at c.in_ok-after.ensures.turned) in
     record { way = (l.traces, l.next_way); bounded = l.still }
 
-pub returns : goal.returns
-returns g c =
+pub returns-clause-found : goal.returns-clause-found
+returns-clause-found g c =
     let m = goal.JsrUrlProvider-dyn g c.args.provider.now in
-    let k = known c.args.sources (m.nv_at c.args.provider.now.1) in
+    let k = known c.args.sources (m.url_of c.args.provider.now.1) (m.nv_at c.args.provider.now.1) in
     let i = c.turns.invariant in
     let rs = map nv_of c.args.roots.now in
-    over (world k) (gives k) k.owner (orderly k) rs (reach k rs) (universe k rs) i.way.0 c.turns.next (state_of c.turns.asked) (state_of c.turn.new.asked)
-    (flat_map yields_of c.turns.found.items) (flat_map yields_of c.turn.new.found.items) i.way.1 i.bounded (rw c.in_default.is at c.in_ok-after.ensures)
+    let o = over (world k) (gives k) k.owner (orderly k) rs (reach k rs) (universe k rs) i.way.0 c.turns.next (state_of c.turns.asked)
+    (state_of c.turn.new.asked) (flat_map yields_of c.turns.found.items) (flat_map yields_of c.turn.new.found.items) i.way.1 i.bounded
+    (rw c.in_default.is at c.in_ok-after.ensures.turned) in
+    (o.0, o.1, o.2, all_join k o.0 c.turn.new.found.items o.2)
+
+pub returns-in_err-after-clause-refused : goal.returns-in_err-after-clause-refused
+returns-in_err-after-clause-refused g c =
+    let m = goal.JsrUrlProvider-dyn g c.args.provider.now in
+    let k = known c.args.sources (m.url_of c.args.provider.now.1) (m.nv_at c.args.provider.now.1) in
+    let rs = map nv_of c.args.roots.now in
+    let f = c.in_err-after.field-0.0 in
+    passed_on c.from_residual-in_err-after.result f (IsRefusal k rs) c.from_residual-in_err-after.ensures.1
+    (refusal k rs (map nv_of c.turns.asked.packages.items) c.turns.invariant.way.1.kept.packages f c.in_err-after.ensures.refused)

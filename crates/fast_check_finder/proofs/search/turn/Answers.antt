@@ -4,25 +4,25 @@ use Rattle.fast_check_packages.specs.Package.{nv_of}
 use Rattle.fast_check_packages.specs.Traces.{handled, pending}
 use Rattle.fast_check_worklists.specs.State.{state_of}
 use Rattle.fast_check_worklists.proofs.Last.{same_turn}
-use Rattle.fast_check_finder.specs.Sources.{known}
-use Rattle.fast_check_finder.specs.Rules.{world}
-use Rattle.fast_check_finder.specs.Yields.{gives}
-use Rattle.fast_check_finder.specs.Findings.{yields_of}
+use Rattle.fast_check_turns.specs.Sources.{known}
+use Rattle.fast_check_turns.specs.Rules.{world}
+use Rattle.fast_check_turns.specs.Yields.{gives}
+use Rattle.fast_check_findings.specs.Findings.{yields_of}
 use Rattle.fast_check_finder.proofs.Turns.{traced_turn}
 use Rattle.fast_check_finder.proofs.search.turn.Goals as goal
 
-pub returns-in_ok-after-in-None : goal.returns-in_ok-after-in-None
-returns-in_ok-after-in-None g c =
+pub returns-in_ok-after-in-None-clause-turned : goal.returns-in_ok-after-in-None-clause-turned
+returns-in_ok-after-in-None-clause-turned g c =
     let m = goal.JsrUrlProvider-dyn g c.args.provider.now in
-    let k = known c.args.sources (m.nv_at c.args.provider.now.1) in
+    let k = known c.args.sources (m.url_of c.args.provider.now.1) (m.nv_at c.args.provider.now.1) in
     same_turn (world k) (gives k) c.args.next (handled c.args.asked.now.handled) (map nv_of c.args.asked.now.packages.items) (pending c.args.asked.now.waiting)
     (pending c.pop.new.self) (state_of c.enter_next.new.asked) (flat_map yields_of c.args.found.now.items) (flat_map yields_of c.enter_next.new.found.items)
-    c.in_ok-after-in-None.after c.in-None.ensures.taken (c.in_ok-after-in-None.ensures (m.nv_at c.args.provider.now.1))
+    c.in_ok-after-in-None.after c.in-None.ensures.taken c.in_ok-after-in-None.ensures.turned
 
-pub returns-in_ok-after-in-Some : goal.returns-in_ok-after-in-Some
-returns-in_ok-after-in-Some g c =
+pub returns-in_ok-after-in-Some-clause-turned : goal.returns-in_ok-after-in-Some-clause-turned
+returns-in_ok-after-in-Some-clause-turned g c =
     let m = goal.JsrUrlProvider-dyn g c.args.provider.now in
-    traced_turn (known c.args.sources (m.nv_at c.args.provider.now.1)) c.args.next (handled c.args.asked.now.handled)
+    traced_turn (known c.args.sources (m.url_of c.args.provider.now.1) (m.nv_at c.args.provider.now.1)) c.args.next (handled c.args.asked.now.handled)
     (map nv_of c.args.asked.now.packages.items) (pending c.args.asked.now.waiting) (pending c.pop.new.self) c.in-Some.trace
     (state_of c.follow_next.new.asked) (flat_map yields_of c.args.found.now.items) (flat_map yields_of c.follow_next.new.found.items)
     c.in_ok-after-in-Some.after c.in-Some.ensures.taken c.in_ok-after-in-Some.ensures.followed c.in_ok-after-in-Some.ensures.next

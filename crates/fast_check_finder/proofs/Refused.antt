@@ -1,0 +1,90 @@
+-- Packages with a text that does not join: the search stops at one, and an answer has none.
+use Rattle.std.proofs.Common.{◌≡◌, ◌∙◌, sym, ap, refl, subst, ℕ, ◌<◌, List, [], ◌∷◌, ◌++◌, map, length, get_or, Option, Some, None, ⊎_elim, string_bytes, arith}
+use Rattle.std.specs.List.{Contains, flat_map}
+use Rattle.std.proofs.lemmas.List.{length-map, get_or-map}
+use Rattle.std.proofs.lemmas.List.Elements.{Contains-get_or}
+use Rattle.url.specs.Parts.{Parts, serialize}
+use Rattle.fast_check_packages.specs.declared.package.PackageNv.{PackageNv}
+use Rattle.fast_check_packages.specs.Package.{Nv, nv_of}
+use Rattle.fast_check_syntax.specs.declared.source.SourceRange.{SourceRange}
+use Rattle.fast_check_provider.specs.declared.fault.BuildFault.{BuildFault}
+use Rattle.fast_check_provider.specs.declared.fault.BuildFault.TheVariants.{InvalidExport, OutOfMemory}
+use Rattle.fast_check_faults.specs.Reports.{Report, told}
+use Rattle.fast_check_findings.specs.declared.finding.Finding.{Finding}
+use Rattle.fast_check_findings.specs.declared.finding.Finding.TheVariants.{Entered, Followed, Untyped}
+use Rattle.fast_check_findings.specs.Yields.{ModuleFault, Yield, entry_point, refused_export, dependency, recorded, public, implementing, faulty, of_demand}
+use Rattle.fast_check_findings.specs.Yields.{untyped_module}
+use Rattle.fast_check_findings.specs.Findings.{faulty_module, entry_fault, told_at, diagnostic_yields, yields_of}
+use Rattle.fast_check_entries.specs.Entries.{Entrance, passed_over, refused, entered, TellsRefused}
+use Rattle.fast_check_search.proofs.Each.{Contains_first, Each, each_nil, each_one, each_cons, each_append, each_map, each_flat}
+use Rattle.fast_check_worklists.specs.Demands.{Text, of_package}
+use Rattle.fast_check_worklists.specs.Account.{Account, Chained, IsYield}
+use Rattle.fast_check_turns.specs.Sources.{Known, entrance_at}
+use Rattle.fast_check_turns.specs.Rules.{world}
+use Rattle.fast_check_turns.specs.Yields.{entry_yields, gives}
+use Rattle.fast_check_finder.specs.Refusals.{IsRefusal, IsNotRefused, JoinAll, IsRefusedOf}
+
+-- no finding tells a text that does not join
+
+abbrev Joins : Yield → Type 0
+Joins (refused_export p t) = ⊥
+Joins (entry_point p t) = Unit {0}
+Joins (dependency p q) = Unit {0}
+Joins (recorded p t) = Unit {0}
+Joins (public p t r) = Unit {0}
+Joins (implementing p t r) = Unit {0}
+Joins (faulty p t f) = Unit {0}
+
+faulty_joins : (p : Nv) (t : Text) (f : ModuleFault) → Each Joins (faulty_module p t f)
+faulty_joins p t f = each_cons Joins (recorded p t) (faulty p t f ∷ []) tt (each_one Joins (faulty p t f) tt)
+
+told_joins : (p : Nv) (t : Text) (o : Option Report) → Each Joins (told_at p t o)
+told_joins p t None = each_nil Joins
+told_joins p t (Some r) = each_one Joins (faulty p t (of_demand r)) tt
+
+finding_joins : (f : Finding) → Each Joins (yields_of f)
+finding_joins (Entered e) =
+    each_append Joins (map (λ url. entry_point (nv_of e.package) (serialize url)) e.entry_points.items) _
+    (each_map Joins (λ url. entry_point (nv_of e.package) (serialize url)) e.entry_points.items (λ url c. tt))
+    (each_flat Joins (λ x. faulty_module (nv_of e.package) (serialize x.0) (entry_fault x.1)) e.faults.items
+    (λ x c. faulty_joins (nv_of e.package) (serialize x.0) (entry_fault x.1)))
+finding_joins (Followed f) =
+    let p = nv_of f.package in
+    let t = serialize f.specifier in
+    each_cons Joins (recorded p t) _ tt
+    (each_append Joins (map (public p t) (f.re_export_ranges.items ++ f.ranges.items)) _
+    (each_map Joins (public p t) (f.re_export_ranges.items ++ f.ranges.items) (λ r c. tt))
+    (each_append Joins (map (implementing p t) f.implementations.items) _
+    (each_map Joins (implementing p t) f.implementations.items (λ r c. tt))
+    (each_append Joins (diagnostic_yields p t f.diagnostics.items) _
+    (each_flat Joins (λ d. told_at p t (told d)) f.diagnostics.items (λ d c. told_joins p t (told d)))
+    (each_map Joins (λ q. dependency p (nv_of q)) f.dependencies.items (λ q c. tt)))))
+finding_joins (Untyped u) = faulty_joins (nv_of u.package) (serialize u.specifier) untyped_module
+
+pub all_join : (k : Known) (account : Account) (found : List Finding) → IsYield (gives k) account (flat_map yields_of found) → JoinAll k account
+all_join k account found y nv c = go (entrance_at k nv) refl
+  where
+    go : (e : Entrance) → entrance_at k nv ≡ e → IsNotRefused e
+    go passed_over e = tt
+    go (entered urls) e = tt
+    go (refused text) e =
+        each_flat Joins yields_of found (λ f i. finding_joins f) (refused_export nv text)
+        (y.complete (of_package nv) (refused_export nv text) c
+        (subst (λ (x : Entrance). Contains (entry_yields k.graph nv x) (refused_export nv text)) (sym e) (Contains_first (refused_export nv text) [])))
+
+-- the package that stops the search is one of those that were asked for
+pub refused_of : (k : Known) (packages : List PackageNv) (i : ℕ) (p : PackageNv) (nv : Nv) → i < length packages → p ≡ get_or packages i p →
+    nv ≡ nv_of p → (f : BuildFault) → TellsRefused nv (entrance_at k nv) f → IsRefusedOf k (map nv_of packages) f
+refused_of k packages i p nv le is e OutOfMemory t = tt
+refused_of k packages i p nv le is e (InvalidExport q text) t = (
+  subst (λ (x : Nv). Contains (map nv_of packages) x) (sym (t.0 ∙ (e ∙ ap nv_of is)))
+      (subst (λ (x : Nv). Contains (map nv_of packages) x) (get_or-map nv_of packages i p (nv_of p) le)
+      (Contains-get_or (map nv_of packages) i (nv_of p) (omega (arith, le, length-map packages nv_of)))),
+  ap (entrance_at k) t.0 ∙ t.1,
+)
+
+-- and so is demanded
+pub refusal : (k : Known) (roots packages : List Nv) → ((p : Nv) → Contains packages p → Chained (world k) roots (of_package p)) → (f : BuildFault) →
+    IsRefusedOf k packages f → IsRefusal k roots f
+refusal k roots packages chained OutOfMemory t = tt
+refusal k roots packages chained (InvalidExport p text) t = (chained (nv_of p) t.0, t.1)

@@ -1,8 +1,0 @@
-use Rattle.std.proofs.Common.{◌≡◌, map, take}
-use Rattle.fast_check_packages.specs.Package.{nv_of}
-use Rattle.fast_check_worklists.specs.State.{want_of}
-use Rattle.fast_check_finder.specs.Rules.{entry_want}
-use Rattle.fast_check_finder.proofs.search.entries_of.Given as goal
-
-abbrev pub invariant-loop-specifier : goal.invariant-loop-specifier
-invariant-loop-specifier l = map want_of l.out.items ≡ map (entry_want (nv_of l.nv)) (take l.specifier-index l.entry_points)

@@ -1,0 +1,5 @@
+mod Exports
+pub mod Lists
+mod Analyzed
+pub mod Reported
+mod Entered

@@ -1,0 +1,11 @@
+use Rattle.std.proofs.Common.{refl}
+use Rattle.std.specs.List.{flat_map}
+use Rattle.fast_check_packages.specs.Package.{nv_of}
+use Rattle.fast_check_findings.specs.Findings.{yields_of}
+use Rattle.fast_check_worklists.specs.State.{state_of}
+use Rattle.fast_check_turns.proofs.Entered.{entered_nowhere}
+use Rattle.fast_check_turns.proofs.packages.enter_some.Goals as goal
+
+pub returns-in-None : goal.returns-in-None
+returns-in-None c = entered_nowhere c.args.graph.now (nv_of c.args.nv.now) c.args.entry_points c.in-None.is
+    (state_of c.args.asked.now) (state_of c.args.asked.now) refl (flat_map yields_of c.args.found.now.items) (flat_map yields_of c.args.found.now.items) refl

@@ -1,0 +1,6 @@
+pub mod Sources
+pub mod Exports
+pub mod Rules
+pub mod Yields
+pub mod Analysis
+pub mod Turns

@@ -1,0 +1,87 @@
+-- What is known of modules and packages.
+use Rattle.std.specs.Prelude.{Bool, false, cond, not, ◌||◌, List, Option, Some, None, option_map, codes, nat_eq, string_bytes}
+use Rattle.std.specs.List.{find, starts_with}
+use Rattle.std.specs.Map.{lookup}
+use Rattle.std.specs.Option.{option_and_then, option_or}
+use Rattle.std.specs.Str.{bytes_eq}
+use Rattle.std.specs.Borrow.{Bor}
+use Rattle.url.specs.Parts.{Parts, serialize}
+use Rattle.fast_check_packages.specs.Package.{Nv, version_or_zero}
+use Rattle.fast_check_packages.specs.declared.package.WorkspaceMember.{WorkspaceMember}
+use Rattle.fast_check_graph.specs.declared.graph.ModuleGraph.{ModuleGraph}
+use Rattle.fast_check_graph.specs.declared.module.Module.{Module}
+use Rattle.fast_check_graph.specs.declared.root_symbol.ModuleInfo.{ModuleInfo}
+use Rattle.fast_check_graph.specs.declared.root_symbol.RootSymbol.{RootSymbol}
+use Rattle.fast_check_graph.specs.Modules.{is_typed_module, is_external}
+use Rattle.fast_check_graph.specs.Root.{module_named}
+use Rattle.fast_check_traces.specs.declared.modules.TracedModule.{TracedModule}
+use Rattle.fast_check_entries.specs.Entries.{Entrance, entrance_of}
+use Rattle.fast_check_worklists.specs.Demands.{Text}
+use Rattle.fast_check_turns.specs.declared.sources.Sources.{Sources}
+
+abbrev pub member_nv : WorkspaceMember → Nv
+member_nv m = (string_bytes m.name, version_or_zero m.version)
+
+-- the graph, the tables of modules by name, the members of the workspace, the URLs of packages, and the package that a specifier belongs to
+pub record Known : Type 0 where
+  pub graph : ModuleGraph
+  pub root_symbol : RootSymbol
+  pub workspace_members : List WorkspaceMember
+  pub url_of : Nv → Parts
+  pub owner : Text → Option Nv
+
+-- the first member whose base begins the text
+abbrev pub member_of : List WorkspaceMember → Text → Option WorkspaceMember
+member_of members t = find (λ m. starts_with nat_eq t (serialize m.base)) members
+
+-- a file belongs to a member of the workspace, or to no package; other specifiers to what the provider says
+abbrev pub owner_by : List WorkspaceMember → (Text → Option Nv) → Text → Option Nv
+owner_by members nv_at t = cond (starts_with nat_eq t (codes "file:")) (option_map member_nv (member_of members t)) (nv_at t)
+
+abbrev pub known : Sources → (Nv → Parts) → (Text → Option Nv) → Known
+known s url_of nv_at = record {
+  graph = s.graph.now;
+  root_symbol = s.root_symbol.now;
+  workspace_members = s.workspace_members.now;
+  url_of = url_of;
+  owner = owner_by s.workspace_members.now nv_at;
+}
+
+abbrev pub is_text : Text → Parts → Bool
+is_text t k = bytes_eq t (serialize k)
+
+-- the module of the graph
+abbrev pub node_at : ModuleGraph → Text → Option Module
+node_at g t = lookup (is_text t) g.modules.entries
+
+-- a module's own name goes before an alias
+abbrev pub named_at : RootSymbol → Text → Option ModuleInfo
+named_at r t = option_or (lookup (is_text t) r.modules.entries) (option_and_then (module_named r.modules.entries) (lookup (is_text t) r.aliases.entries))
+
+abbrev pub lent : {X : Type 0} → X → Bor X
+lent x = record { ref_ptr = (0, 0); now = x }
+
+abbrev pub traced_as : Known → ModuleInfo → TracedModule
+traced_as k info = record { graph = lent k.graph; root_symbol = lent k.root_symbol; info = lent info }
+
+abbrev pub typed_info : RootSymbol → Text → Module → Option ModuleInfo
+typed_info r t m = cond (is_typed_module m) (named_at r t) None
+
+-- the module that is followed: one of the graph that is typed and has tables
+abbrev pub info_at : ModuleGraph → RootSymbol → Text → Option ModuleInfo
+info_at g r t = option_and_then (typed_info r t) (node_at g t)
+
+abbrev pub module_at : Known → Text → Option TracedModule
+module_at k t = option_map (traced_as k) (info_at k.graph k.root_symbol t)
+
+-- a module of the graph whose types are not known, and which is not external
+abbrev pub is_untyped : Option Module → Bool
+is_untyped None = false
+is_untyped (Some m) = not (is_typed_module m || is_external m)
+
+abbrev pub untyped_at : ModuleGraph → Text → Bool
+untyped_at g t = is_untyped (node_at g t)
+
+-- the entry points of a package
+abbrev pub entrance_at : Known → Nv → Entrance
+entrance_at k nv = entrance_of k.graph k.workspace_members k.url_of nv

@@ -1,0 +1,90 @@
+-- What a demand gives.
+use Rattle.std.specs.Prelude.{ℕ, cond, List, [], ◌∷◌, ◌++◌, map}
+use Rattle.std.specs.List.{flat_map}
+use Rattle.std.specs.Rc.{rc_str_bytes}
+use Rattle.url.specs.Parts.{Parts, serialize}
+use Rattle.fast_check_syntax.specs.declared.source.SourceRange.{SourceRange}
+use Rattle.fast_check_packages.specs.Package.{Nv}
+use Rattle.fast_check_names.specs.Imports.{NameDemand}
+use Rattle.fast_check_graph.specs.declared.graph.ModuleGraph.{ModuleGraph}
+use Rattle.fast_check_graph.specs.declared.root_symbol.ModuleInfo.{ModuleInfo}
+use Rattle.fast_check_graph.specs.declared.root_symbol.ModuleInfo.TheVariants.{Esm, Json}
+use Rattle.fast_check_graph.specs.Root.{specifier_of}
+use Rattle.fast_check_demands.specs.Demands.{Demand as SymbolDemand}
+use Rattle.fast_check_demands.specs.Rules.{each_of}
+use Rattle.fast_check_demands.specs.Yields.{ranges, implementations, Fault, faults}
+use Rattle.fast_check_faults.specs.Reports.{ReportedModule, report}
+use Rattle.fast_check_traces.specs.declared.modules.TracedModule.{TracedModule}
+use Rattle.fast_check_traces.specs.Modules.{own_tables}
+use Rattle.fast_check_traces.specs.Wants.{re_export_ranges}
+use Rattle.fast_check_worklists.specs.Demands.{Text, Want, to_package, to_module, to_symbol, Demand, of_package, of_module, of_symbol}
+use Rattle.fast_check_findings.specs.declared.finding.EntryFault.{EntryFault}
+use Rattle.fast_check_findings.specs.Yields.{Yield, entry_point, refused_export, dependency, recorded, public, implementing, untyped_module}
+use Rattle.fast_check_findings.specs.Findings.{faulty_module, entry_fault, told_at}
+use Rattle.fast_check_entries.specs.Entries.{Entrance, passed_over, refused, entered, all_faults}
+use Rattle.fast_check_turns.specs.Sources.{Known, module_at, untyped_at, entrance_at}
+use Rattle.fast_check_turns.specs.Rules.{names_wants, symbol_wants}
+
+-- the module's own name
+abbrev pub own_text : TracedModule → Text
+own_text m = serialize (specifier_of m.info.now)
+
+-- a package that is asked for is a dependency
+abbrev pub dependency_of : Nv → Want → List Yield
+dependency_of nv (to_package p) = dependency nv p ∷ []
+dependency_of nv (to_module p t w) = []
+dependency_of nv (to_symbol p t s) = []
+
+abbrev pub dependencies : Nv → List Want → List Yield
+dependencies nv wants = flat_map (dependency_of nv) wants
+
+abbrev pub public_at : Nv → TracedModule → List SourceRange → List Yield
+public_at nv m found = map (public nv (own_text m)) found
+
+abbrev pub implementing_at : Nv → TracedModule → List SourceRange → List Yield
+implementing_at nv m found = map (implementing nv (own_text m)) found
+
+abbrev pub names_yields : Known → Nv → Text → NameDemand → TracedModule → List Yield
+names_yields k nv t d m = recorded nv (own_text m) ∷ (public_at nv m (re_export_ranges m d) ++ dependencies nv (names_wants k nv t d m))
+
+-- the source text of a module; one of JSON has none
+abbrev pub text_of : ModuleInfo → List ℕ
+text_of (Esm info) = rc_str_bytes info.source.text
+text_of (Json info) = []
+
+abbrev pub reported_with : TracedModule → List ℕ → ReportedModule
+reported_with m text = record { specifier = specifier_of m.info.now; text = text; symbols = (own_tables m).symbols }
+
+abbrev pub reported_as : TracedModule → ReportedModule
+reported_as m = reported_with m (text_of m.info.now)
+
+-- what is told of a fault of a demand
+abbrev pub fault_yields : Nv → TracedModule → Fault → List Yield
+fault_yields nv m f = told_at nv (own_text m) (report (reported_as m) f)
+
+abbrev pub faults_at : Nv → TracedModule → List Fault → List Yield
+faults_at nv m found = flat_map (fault_yields nv m) found
+
+abbrev pub symbol_yields : Known → Nv → Text → SymbolDemand → TracedModule → List Yield
+symbol_yields k nv t s m =
+    public_at nv m (ranges (own_tables m) s)
+    ++ (implementing_at nv m (implementations (own_tables m) s)
+    ++ (faults_at nv m (faults (own_tables m) s)
+    ++ dependencies nv (symbol_wants k nv t s m)))
+
+-- an untyped module is told under the name by which it was asked for
+abbrev pub untyped_yields : ModuleGraph → Nv → Text → List Yield
+untyped_yields g nv t = cond (untyped_at g t) (faulty_module nv t untyped_module) []
+
+abbrev pub entry_fault_yields : Nv → Parts × EntryFault → List Yield
+entry_fault_yields nv f = faulty_module nv (serialize f.0) (entry_fault f.1)
+
+abbrev pub entry_yields : ModuleGraph → Nv → Entrance → List Yield
+entry_yields g nv passed_over = []
+entry_yields g nv (refused text) = refused_export nv text ∷ []
+entry_yields g nv (entered urls) = map (λ url. entry_point nv (serialize url)) urls ++ flat_map (entry_fault_yields nv) (all_faults g urls)
+
+abbrev pub gives : Known → Demand → List Yield
+gives k (of_package nv) = entry_yields k.graph nv (entrance_at k nv)
+gives k (of_module nv t d) = each_of (names_yields k nv t d) (module_at k t) ++ untyped_yields k.graph nv t
+gives k (of_symbol nv t s) = each_of (symbol_yields k nv t s) (module_at k t)

@@ -1,0 +1,14 @@
+ghost use Rattle.std.specs.Prelude.{◌≡◌, ◌++◌, OnOk};
+ghost use Rattle.std.specs.List.{flat_map};
+ghost use Rattle.fast_check_findings.specs.Findings.{yields_of};
+
+use fast_check_findings::Finding;
+use std::alloc::AllocError;
+
+/// Adds what was found in a turn.
+pub fn push_finding(found: &mut Vec<Finding>, finding: Finding) -> Result<(), AllocError>
+    ensures { OnOk result (flat_map yields_of found.new.items ≡ flat_map yields_of found.old.items ++ yields_of finding) }
+{
+    found.push(finding)?;
+    Ok(())
+}

@@ -1,0 +1,15 @@
+//! What one turn of the search asks and gives: a package that is entered, or a module that is followed.
+#![tactic(auto)]
+
+mod analysis;
+
+mod findings;
+mod modules;
+mod packages;
+mod sources;
+mod steps;
+
+pub use packages::enter;
+pub use fast_check_findings::{EnteredPackage, EntryFault, Finding, FollowedModule, UntypedModule};
+pub use modules::follow;
+pub use sources::Sources;
