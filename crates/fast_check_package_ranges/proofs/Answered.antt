@@ -24,12 +24,13 @@ use Rattle.fast_check_package_ranges.specs.Questions.{ModuleQuestion, whether_re
 use Rattle.fast_check_package_ranges.specs.Questions.{whether_missing, whether_untyped_entry, whether_untyped, whether_told, whether_otherwise_faulty}
 use Rattle.fast_check_package_ranges.specs.Questions.{Question, whether_known, whether_entry_point, whether_dependency, whether_refused, about}
 use Rattle.fast_check_package_ranges.specs.Questions.{package_of, yield_says, yields_say, IsTextless, IsTextlessAbout}
-use Rattle.fast_check_package_ranges.specs.Parts.{where_found, module_says, package_says, packages_say, lookup_text, lookup_package}
+use Rattle.fast_check_told_faults.specs.Once.{where_found}
+use Rattle.fast_check_package_ranges.specs.Parts.{module_says, package_says, packages_say, lookup_text, lookup_package}
 use Rattle.fast_check_package_ranges.specs.Parts.{package_found, finding_says_of, findings_say}
-use Rattle.fast_check_package_ranges.specs.Answers.{module_answer, package_answer, answer, IsSaid, IsExact}
+use Rattle.fast_check_package_ranges.specs.Answers.{module_answer, package_answer, answer, IsSaid, IsExact, IsToldOnce, AreToldOnce, IsOnce}
 use Rattle.fast_check_package_ranges.specs.Made.{module_is_said, AreModuleAnswers, IsPackageAnswer, ArePackageAnswers}
-use Rattle.fast_check_package_ranges.proofs.Bools.{or_none, and_or, and_none}
-use Rattle.fast_check_package_ranges.proofs.Lists.{any_map, any_flat, any_alike, any_and}
+use Rattle.fast_check_told_faults.proofs.Bools.{or_none, and_or, and_none}
+use Rattle.fast_check_told_faults.proofs.Lists.{any_map, any_flat, any_alike, any_and}
 
 -- all these yields are of one package
 abbrev Owned : Nv → Nv → List Yield → Type 0
@@ -145,6 +146,22 @@ packages_exact t test None None h e = e
 packages_exact t test None (Some p) h e = absurd h
 packages_exact t test (Some x) None h e = absurd h
 packages_exact t test (Some x) (Some p) h e = exact_one t test (lookup_text t x.modules.entries) (lookup_text t p.module_ranges.entries) (h.modules t) e
+
+module_once : (t : List ℕ) (parts : Option ModuleParts) (m : Option PublicRanges) → AreModuleAnswers t parts m → IsToldOnce m
+module_once t None None h = tt
+module_once t None (Some m) h = absurd h
+module_once t (Some p) None h = absurd h
+module_once t (Some p) (Some m) h = h.once
+
+package_once : (t : List ℕ) (parts : Option PackageParts) (p : Option PackagePublicRanges) → ArePackageAnswers parts p → AreToldOnce t p
+package_once t None None h = tt
+package_once t None (Some p) h = absurd h
+package_once t (Some x) None h = absurd h
+package_once t (Some x) (Some p) h = module_once t (lookup_text t x.modules.entries) (lookup_text t p.module_ranges.entries) (h.modules t)
+
+pub once : (packages : List (PackageNv × PackageParts)) (answers : BTreeMap PackageNv PackagePublicRanges) →
+    ((nv : Nv) → ArePackageAnswers (lookup_package nv packages) (lookup_package nv answers.entries)) → IsOnce answers
+once packages answers made nv t = package_once t (lookup_package nv packages) (lookup_package nv answers.entries) (made nv)
 
 -- that types are not known, where nothing else is wrong
 hidden_module : (o : Option ModuleParts) → where_found (λ m. module_is_said m whether_untyped) o

@@ -25,9 +25,10 @@ use Rattle.fast_check_package_ranges.specs.Questions.{whether_missing, whether_u
 use Rattle.fast_check_package_ranges.specs.Questions.{Question, whether_known, whether_entry_point, whether_dependency, whether_refused, about}
 use Rattle.fast_check_package_ranges.specs.Questions.{fault_says, is_recorded, range_says, implementation_says}
 use Rattle.fast_check_package_ranges.specs.Questions.{asks_entry_point, asks_dependency, asks_module, yield_says}
-use Rattle.fast_check_package_ranges.specs.Parts.{where_found, is_text, is_package, tells, any_report, module_says, found_module_says, found_says, finding_says}
-use Rattle.fast_check_package_ranges.proofs.Bools.{or_none, and_or}
-use Rattle.fast_check_package_ranges.proofs.Lists.{any_map, any_flat, any_alike, any_false, any_none, found_none}
+use Rattle.fast_check_told_faults.specs.Once.{any_report, tells, where_found}
+use Rattle.fast_check_package_ranges.specs.Parts.{is_text, is_package, module_says, found_module_says, found_says, finding_says}
+use Rattle.fast_check_told_faults.proofs.Bools.{or_none, and_or}
+use Rattle.fast_check_told_faults.proofs.Lists.{any_map, any_flat, any_alike, any_false, any_none, found_none}
 
 abbrev says : Question → Yield → Bool
 says q y = yield_says y q

@@ -1,11 +1,7 @@
-pub mod Bools
-pub mod Lists
 pub mod Maps
 pub mod Sets
 pub mod Converted
 pub mod Joined
 pub mod FoundSays
-pub mod Compared
-pub mod Kept
 pub mod Told
 pub mod Answered

@@ -1,6 +1,7 @@
 -- What is told of a module.
-use Rattle.std.proofs.Common.{◌≡◌, ◌∙◌, refl, sym, ap, ℕ, Bool, true, false, ◌&&◌, ◌||◌, List, [], ◌∷◌}
-use Rattle.std.specs.List.{list_any}
+use Rattle.std.proofs.Common.{◌≡◌, ◌∙◌, refl, sym, ap, ℕ, Bool, true, false, ◌&&◌, ◌||◌, List, [], ◌∷◌, subst, ◌++◌}
+use Rattle.std.specs.List.{list_any, IsDistinct}
+use Rattle.fast_check_told_faults.proofs.Distinct.{before}
 use Rattle.std.specs.Prelude.{not}
 use Rattle.std.specs.Str.{bytes_eq}
 use Rattle.std.specs.Cmp.Lexicographic.{nat_list_eq_equiv}
@@ -16,11 +17,11 @@ use Rattle.fast_check_faults.specs.Reports.{Report, told}
 use Rattle.fast_check_package_ranges.specs.declared.parts.ModuleParts.{ModuleParts}
 use Rattle.fast_check_package_ranges.specs.Questions.{IsTextlessAbout, ModuleQuestion, whether_recorded, whether_public, whether_implementing}
 use Rattle.fast_check_package_ranges.specs.Questions.{whether_missing, whether_untyped_entry, whether_untyped, whether_told, whether_otherwise_faulty}
-use Rattle.fast_check_package_ranges.specs.Parts.{tells, any_report, module_says}
+use Rattle.fast_check_told_faults.specs.Once.{IsFair, any_report, is_whole, tells, same_told}
+use Rattle.fast_check_package_ranges.specs.Parts.{module_says}
 use Rattle.fast_check_package_ranges.specs.Answers.{tells_missing, tells_untyped_entry, tells_untyped, tells_otherwise, module_answer}
-use Rattle.fast_check_package_ranges.specs.Once.{IsFair, is_whole}
 use Rattle.fast_check_package_ranges.specs.Made.{whole_tell, module_is_said, IsModuleAnswer}
-use Rattle.fast_check_package_ranges.proofs.Bools.{or_none, or_assoc}
+use Rattle.fast_check_told_faults.proofs.Bools.{or_none, or_assoc}
 
 -- a diagnostic that is not of a module as a whole tells none of these
 missing_whole : (t : List ℕ) (d : FastCheckDiagnostic) → is_whole d ≡ false → tells_missing t d ≡ false
@@ -125,6 +126,10 @@ pub record IsTold (specifier : Parts) (parts : ModuleParts) (out told_once : Lis
   pub same : (test : Report → Bool) → IsFair test → list_any (tells test) told_once ≡ list_any (tells test) parts.diagnostics.items
   pub exact : (test : Report → Bool) → list_any (tells test) told_once ≡ true → list_any (tells test) parts.diagnostics.items ≡ true
   pub whole : list_any is_whole told_once ≡ false
+  pub wholes_first : List FastCheckDiagnostic
+  pub out_is : out ≡ wholes_first ++ told_once
+  pub wholes_are : list_any (tells any_report) wholes_first ≡ whole_tell specifier parts.is_missing parts.is_untyped_entry (shown parts) (tells any_report)
+  pub once : IsDistinct same_told told_once
 
 module _ (specifier : Parts) (parts : ModuleParts) (out told_once : List FastCheckDiagnostic) (h : IsTold specifier parts out told_once) where
   itself : bytes_eq (serialize specifier) (serialize specifier) ≡ true
@@ -161,6 +166,13 @@ module _ (specifier : Parts) (parts : ModuleParts) (out told_once : List FastChe
       (missing_tells test specifier) (untyped_entry_tells test specifier) (untyped_tells test specifier) ∙
       no_one parts.is_missing parts.is_untyped_entry (shown parts))
 
+  pub told_once_each : IsDistinct same_told out
+  told_once_each = subst (λ (ds : List FastCheckDiagnostic). IsDistinct same_told ds) (sym h.out_is)
+      (before h.wholes_first told_once (h.wholes_are ∙
+      (wholes parts.is_missing parts.is_untyped_entry (shown parts) _ _ _ false false false
+      (missing_tells any_report specifier) (untyped_entry_tells any_report specifier) (untyped_tells any_report specifier) ∙
+      no_one parts.is_missing parts.is_untyped_entry (shown parts))) h.once)
+
   pub told_otherwise : list_any (tells_otherwise (serialize specifier)) out ≡ module_says parts whether_otherwise_faulty
   told_otherwise = h.all (tells_otherwise (serialize specifier)) ∙
       (ap (λ b. b || list_any (tells_otherwise (serialize specifier)) told_once)
@@ -193,5 +205,6 @@ pub module_made : (specifier : Parts) (parts : ModuleParts) (m : PublicRanges) (
     IsTold specifier parts m.diagnostics told_once → IsModuleAnswer (serialize specifier) parts m
 module_made specifier parts m told_once publics others h = record {
   said = said specifier parts m told_once publics others h;
+  once = told_once_each specifier parts m.diagnostics told_once h;
   exact = λ test e. h.exact test (sym (told_of_demands specifier parts m.diagnostics told_once h test) ∙ e);
 }

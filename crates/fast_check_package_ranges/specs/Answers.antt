@@ -1,6 +1,6 @@
 -- What answers by package say.
-use Rattle.std.specs.Prelude.{◌≡◌, Bool, true, false, ◌||◌, List}
-use Rattle.std.specs.List.{list_any, flat_map}
+use Rattle.std.specs.Prelude.{◌≡◌, Bool, true, false, ◌||◌, List, ⊤, Option, Some, None}
+use Rattle.std.specs.List.{list_any, flat_map, IsDistinct}
 use Rattle.std.specs.BTreeMap.{BTreeMap}
 use Rattle.fast_check_packages.specs.Package.{Nv}
 use Rattle.fast_check_packages.specs.declared.package.PackageNv.{PackageNv}
@@ -18,7 +18,8 @@ use Rattle.fast_check_package_ranges.specs.Questions.{ModuleQuestion, whether_re
 use Rattle.fast_check_package_ranges.specs.Questions.{whether_missing, whether_untyped_entry, whether_untyped, whether_told, whether_otherwise_faulty}
 use Rattle.fast_check_package_ranges.specs.Questions.{Question, whether_known, whether_entry_point, whether_dependency, whether_refused, about}
 use Rattle.fast_check_package_ranges.specs.Questions.{yields_say, is_said, IsTextless}
-use Rattle.fast_check_package_ranges.specs.Parts.{where_found, is_text, is_package, tells, any_report, lookup_text, lookup_package, package_found}
+use Rattle.fast_check_told_faults.specs.Once.{any_report, tells, where_found, same_told}
+use Rattle.fast_check_package_ranges.specs.Parts.{is_text, is_package, lookup_text, lookup_package, package_found}
 
 -- Diagnostics of a module as a whole carry its specifier.
 abbrev pub tells_missing : Text → FastCheckDiagnostic → Bool
@@ -58,6 +59,18 @@ package_answer (about t q) p = where_found (module_answer t q) (lookup_text t p.
 -- and about any
 abbrev pub answer : BTreeMap PackageNv PackagePublicRanges → Nv → Question → Bool
 answer answers nv q = where_found (package_answer q) (lookup_package nv answers.entries)
+
+-- no fault is told twice of a module
+abbrev pub IsToldOnce : Option PublicRanges → Type 0
+IsToldOnce None = ⊤
+IsToldOnce (Some m) = IsDistinct same_told m.diagnostics
+
+abbrev pub AreToldOnce : Text → Option PackagePublicRanges → Type 0
+AreToldOnce t None = ⊤
+AreToldOnce t (Some p) = IsToldOnce (lookup_text t p.module_ranges.entries)
+
+abbrev pub IsOnce : BTreeMap PackageNv PackagePublicRanges → Type 0
+IsOnce answers = (nv : Nv) (t : Text) → AreToldOnce t (lookup_package nv answers.entries)
 
 -- what findings say: of a package that anything was found of it, and else what their yields say
 abbrev pub found_to_say : List Finding → Nv → Question → Bool

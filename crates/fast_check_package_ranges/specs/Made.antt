@@ -1,6 +1,6 @@
 -- How answers stand for what is known of modules and packages.
 use Rattle.std.specs.Prelude.{◌≡◌, ⊤, Bool, true, ◌&&◌, ◌||◌, not, Option, Some, None}
-use Rattle.std.specs.List.{list_any}
+use Rattle.std.specs.List.{list_any, IsDistinct}
 use Rattle.url.specs.Parts.{Parts}
 use Rattle.fast_check_packages.specs.Package.{Nv}
 use Rattle.fast_check_tables.specs.PublicRanges.{PublicRanges}
@@ -9,6 +9,7 @@ use Rattle.fast_check_tables.specs.declared.diagnostics.FastCheckDiagnostic.TheV
 use Rattle.fast_check_tables.specs.declared.diagnostics.FastCheckDiagnostic.TheVariants.{UnsupportedJavaScriptEntrypoint}
 use Rattle.fast_check_tables.specs.declared.diagnostics.FastCheckDiagnostic.TheVariants.{UnsupportedNestedJavaScript}
 use Rattle.fast_check_cache.specs.declared.package_ranges.PackagePublicRanges.{PackagePublicRanges}
+use Rattle.fast_check_told_faults.specs.Once.{same_told}
 use Rattle.fast_check_worklists.specs.Demands.{Text}
 use Rattle.fast_check_faults.specs.Reports.{Report}
 use Rattle.fast_check_package_ranges.specs.declared.parts.ModuleParts.{ModuleParts}
@@ -31,6 +32,7 @@ module_is_said m q = module_says m q
 pub record IsModuleAnswer (t : Text) (parts : ModuleParts) (m : PublicRanges) : Type 0 where
   pub said : (q : ModuleQuestion) → IsTextlessAbout q → module_answer t q m ≡ module_is_said parts q
   pub exact : (test : Report → Bool) → module_answer t (whether_told test) m ≡ true → module_says parts (whether_told test) ≡ true
+  pub once : IsDistinct same_told m.diagnostics
 
 abbrev pub AreModuleAnswers : Text → Option ModuleParts → Option PublicRanges → Type 0
 AreModuleAnswers t None None = ⊤

@@ -9,6 +9,7 @@ use Rattle.fast_check_packages.specs.declared.package.PackageNv.{PackageNv}
 use Rattle.fast_check_tables.specs.PublicRanges.{same_range}
 use Rattle.fast_check_tables.specs.declared.diagnostics.FastCheckDiagnostic.{FastCheckDiagnostic}
 use Rattle.fast_check_faults.specs.Reports.{Report, told}
+use Rattle.fast_check_told_faults.specs.Once.{where_found, tells, any_report}
 use Rattle.fast_check_worklists.specs.Demands.{Text, same_nv}
 use Rattle.fast_check_findings.specs.declared.finding.Finding.{Finding}
 use Rattle.fast_check_findings.specs.declared.finding.Finding.TheVariants.{Entered, Followed, Untyped}
@@ -21,23 +22,11 @@ use Rattle.fast_check_package_ranges.specs.Questions.{whether_missing, whether_u
 use Rattle.fast_check_package_ranges.specs.Questions.{Question, whether_known, whether_entry_point, whether_dependency, whether_refused, about}
 use Rattle.fast_check_package_ranges.specs.Questions.{yield_says}
 
--- there is one, and it passes the test
-abbrev pub where_found : {X : Type 0} → (X → Bool) → Option X → Bool
-where_found test None = false
-where_found test (Some x) = test x
-
 abbrev pub is_text : Text → Parts → Bool
 is_text t url = bytes_eq t (serialize url)
 
 abbrev pub is_package : Nv → PackageNv → Bool
 is_package nv p = same_nv nv (nv_of p)
-
--- a diagnostic of a demand's fault that passes the test
-abbrev pub tells : (Report → Bool) → FastCheckDiagnostic → Bool
-tells test d = where_found test (told d)
-
-abbrev pub any_report : Report → Bool
-any_report r = true
 
 abbrev pub module_says : ModuleParts → ModuleQuestion → Bool
 module_says m whether_recorded = true

@@ -8,6 +8,7 @@ use Rattle.fast_check_packages.specs.Package.{Nv}
 use Rattle.fast_check_tables.specs.PublicRanges.{same_range}
 use Rattle.fast_check_faults.specs.Once.{same_kind}
 use Rattle.fast_check_faults.specs.Reports.{Report}
+use Rattle.fast_check_told_faults.specs.Once.{same_report}
 use Rattle.fast_check_worklists.specs.Demands.{Text, same_nv}
 use Rattle.fast_check_findings.specs.Yields.{ModuleFault, missing_entry, untyped_entry, untyped_module, of_demand}
 use Rattle.fast_check_findings.specs.Yields.{Yield, entry_point, refused_export, dependency, recorded, public, implementing, faulty}
@@ -101,12 +102,6 @@ yields_say yields nv q = list_any (λ y. same_nv nv (package_of y) && yield_says
 abbrev pub is_said : List Yield → Nv → Question → Bool
 is_said yields nv (about t whether_untyped) = yields_say yields nv (about t whether_untyped) && not (yields_say yields nv (about t whether_otherwise_faulty))
 is_said yields nv q = yields_say yields nv q
-
--- two reports are one: the same fault at the same place of the same module. The source text isn't compared.
-abbrev pub same_report : Report → Report → Bool
-same_report a b = same_range a.range b.range
-    && (same_kind a.kind b.kind
-    && (bytes_eq a.name b.name && (bytes_eq a.referrer b.referrer && bytes_eq (serialize a.specifier) (serialize b.specifier))))
 
 -- reports that are one answer the question alike
 abbrev pub IsTextlessAbout : ModuleQuestion → Type 0

@@ -2,7 +2,6 @@
 #![tactic(auto)]
 
 mod found;
-mod once;
 mod parts;
 mod ranges;
 

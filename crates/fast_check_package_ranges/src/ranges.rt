@@ -5,16 +5,17 @@ ghost use Rattle.fast_check_packages.specs.Package.{Nv};
 ghost use Rattle.fast_check_tables.specs.declared.diagnostics.FastCheckDiagnostic.TheVariants.{ExportNotFound, UnsupportedJavaScriptEntrypoint};
 ghost use Rattle.fast_check_tables.specs.declared.diagnostics.FastCheckDiagnostic.TheVariants.{UnsupportedNestedJavaScript};
 ghost use Rattle.fast_check_worklists.specs.Demands.{Text};
-ghost use Rattle.fast_check_package_ranges.specs.Parts.{is_text, is_package, tells, any_report, lookup_text, lookup_package};
-ghost use Rattle.fast_check_package_ranges.specs.Answers.{IsSaid, IsExact};
+ghost use Rattle.fast_check_told_faults.specs.Once.{any_report, tells};
+ghost use Rattle.fast_check_package_ranges.specs.Parts.{is_text, is_package, lookup_text, lookup_package};
+ghost use Rattle.fast_check_package_ranges.specs.Answers.{IsSaid, IsExact, IsOnce};
 ghost use Rattle.fast_check_package_ranges.specs.Made.{whole_tell, IsModuleAnswer, AreModuleAnswers, IsPackageAnswer, ArePackageAnswers};
 
 use crate::found::packages_found;
-use crate::once::{each_once, is_told};
 use crate::parts::{ModuleParts, PackageParts, either};
 use fast_check_cache::PackagePublicRanges;
 use fast_check_findings::{Finding, PackageNv};
 use fast_check_tables::{FastCheckDiagnostic, ModulePublicRanges};
+use fast_check_told_faults::{each_once, is_told};
 use std::alloc::{AllocError, Global};
 use std::collections::{BTreeMap, BTreeSet};
 use url::Url;
@@ -208,6 +209,7 @@ pub fn package_ranges(
 ) -> Result<BTreeMap<PackageNv, PackagePublicRanges>, AllocError>
     ensures said { IfOk result (IsSaid found.items) }
     ensures exact { IfOk result (IsExact found.items) }
+    ensures once { IfOk result IsOnce }
 {
     let packages = packages_found(alloc, found)?;
     let answers = all_ranges(alloc, packages)?;

@@ -3,8 +3,8 @@ use Rattle.std.specs.List.{list_any}
 use Rattle.url.specs.Parts.{Parts}
 use Rattle.fast_check_package_ranges.specs.declared.parts.ModuleParts.{ModuleParts}
 use Rattle.fast_check_package_ranges.specs.Parts.{modules_say, found_module_says}
-use Rattle.fast_check_package_ranges.proofs.Bools.{or_assoc}
-use Rattle.fast_check_package_ranges.proofs.Lists.{any_push}
+use Rattle.fast_check_told_faults.proofs.Bools.{or_assoc}
+use Rattle.fast_check_told_faults.proofs.Lists.{any_push}
 use Rattle.fast_check_package_ranges.proofs.parts.add_modules.Goals as goal
 
 pub loop-specifier-preserved : goal.loop-specifier-preserved

@@ -12,11 +12,11 @@ use Rattle.std.specs.BTreeMap.{is_at, insert_entry}
 use Rattle.std.specs.Map.{lookup}
 use Rattle.std.proofs.lemmas.Bool.{cases_Bool, false≢true}
 use Rattle.fast_check_faults.specs.Reports.{Report}
-use Rattle.fast_check_package_ranges.specs.contracts.once.ToldFaultOrd.TheImpl as order
-use Rattle.fast_check_package_ranges.specs.declared.once.ToldFault.{ToldFault}
-use Rattle.fast_check_package_ranges.specs.Once.{entry_tells, IsFair, report_with}
-use Rattle.fast_check_package_ranges.proofs.Bools.{or_none, or_assoc}
-use Rattle.fast_check_package_ranges.proofs.Compared.{compares}
+use Rattle.fast_check_told_faults.specs.contracts.once.ToldFaultOrd.TheImpl as order
+use Rattle.fast_check_told_faults.specs.declared.once.ToldFault.{ToldFault}
+use Rattle.fast_check_told_faults.specs.Once.{IsFair, entry_tells, report_with}
+use Rattle.fast_check_told_faults.proofs.Bools.{or_none, or_assoc}
+use Rattle.fast_check_told_faults.proofs.Compared.{compares}
 
 or_comm : (a b : Bool) → (a || b) ≡ (b || a)
 or_comm true true = refl

@@ -1,10 +1,10 @@
 use Rattle.std.proofs.Common.{◌∙◌, sym, ap}
 use Rattle.std.specs.List.{list_any}
-use Rattle.fast_check_package_ranges.specs.contracts.once.ToldFaultOrd.TheImpl as order
-use Rattle.fast_check_package_ranges.specs.Once.{entry_tells}
-use Rattle.fast_check_package_ranges.proofs.Kept.{kept, inserted, or_first}
-use Rattle.fast_check_package_ranges.proofs.Lists.{none_found}
-use Rattle.fast_check_package_ranges.proofs.once.add_fault.Goals as goal
+use Rattle.fast_check_told_faults.specs.contracts.once.ToldFaultOrd.TheImpl as order
+use Rattle.fast_check_told_faults.specs.Once.{entry_tells}
+use Rattle.fast_check_told_faults.proofs.Kept.{kept, inserted, or_first}
+use Rattle.fast_check_told_faults.proofs.Lists.{none_found}
+use Rattle.fast_check_told_faults.proofs.once.add_fault.Goals as goal
 
 pub returns-then-contains_key-clause-same : goal.returns-then-contains_key-clause-same
 returns-then-contains_key-clause-same c = λ test fair.

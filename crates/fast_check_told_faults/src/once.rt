@@ -1,9 +1,8 @@
 ghost use Rattle.std.specs.Prelude.{◌≡◌, true, false, ◌||◌, Bool, Some, option_map, OnOk, IfOk, string_bytes};
-ghost use Rattle.std.specs.List.{list_any};
+ghost use Rattle.std.specs.List.{list_any, IsDistinct};
 ghost use Rattle.std.specs.Rc.{rc_str_bytes};
 ghost use Rattle.fast_check_faults.specs.Reports.{Report, report_of, told};
-ghost use Rattle.fast_check_package_ranges.specs.Parts.{tells, any_report};
-ghost use Rattle.fast_check_package_ranges.specs.Once.{report_with, entry_tells, IsFair, is_whole};
+ghost use Rattle.fast_check_told_faults.specs.Once.{IsFair, any_report, entry_tells, is_whole, same_told, report_with, tells};
 
 use fast_check_demands::FaultKind;
 use fast_check_syntax::SourceRange;
@@ -178,6 +177,7 @@ fn diagnostics_of(
 ) -> Result<Vec<FastCheckDiagnostic>, AllocError>
     ensures told { IfOk result (λ told. (test : Report → Bool) → list_any (tells test) told.items ≡ list_any (entry_tells test) faults.entries) }
     ensures whole { IfOk result (λ told. list_any is_whole told.items ≡ false) }
+    ensures once { IfOk result (λ told. IsDistinct same_told told.items) }
 {
     let mut told = Vec::new(alloc);
     for (fault, text_info) in faults {
@@ -196,6 +196,7 @@ pub fn each_once(
     ensures exact { IfOk result (λ told. (test : Report → Bool) →
         list_any (tells test) told.items ≡ true → list_any (tells test) diagnostics.items ≡ true) }
     ensures whole { IfOk result (λ told. list_any is_whole told.items ≡ false) }
+    ensures once { IfOk result (λ told. IsDistinct same_told told.items) }
 {
     let faults = faults_of(alloc, diagnostics)?;
     diagnostics_of(alloc, faults)

@@ -12,10 +12,9 @@ use Rattle.fast_check_demands.specs.declared.fault.FaultKind.{FaultKind}
 use Rattle.fast_check_demands.specs.declared.fault.FaultKind.TheVariants.{PrivateMember, NotFound, TooComplex}
 use Rattle.fast_check_tables.specs.PublicRanges.{same_range}
 use Rattle.fast_check_faults.specs.Once.{same_kind}
-use Rattle.fast_check_package_ranges.specs.contracts.once.ToldFaultOrd.TheImpl as order
-use Rattle.fast_check_package_ranges.specs.declared.once.ToldFault.{ToldFault}
-use Rattle.fast_check_package_ranges.specs.Questions.{same_report}
-use Rattle.fast_check_package_ranges.specs.Once.{report_with}
+use Rattle.fast_check_told_faults.specs.contracts.once.ToldFaultOrd.TheImpl as order
+use Rattle.fast_check_told_faults.specs.declared.once.ToldFault.{ToldFault}
+use Rattle.fast_check_told_faults.specs.Once.{report_with, same_report}
 
 kinds_tie : (a b : FaultKind) → same_kind a b ≡ is_eq (kind_order.cmp-value.it a b)
 kinds_tie PrivateMember PrivateMember = refl

@@ -1,9 +1,8 @@
 use Rattle.std.proofs.Common.{◌∙◌, sym, ap, ◌||◌}
 use Rattle.std.specs.List.{list_any}
-use Rattle.fast_check_package_ranges.specs.Parts.{tells}
-use Rattle.fast_check_package_ranges.specs.Once.{entry_tells}
-use Rattle.fast_check_package_ranges.proofs.Lists.{any_push, or_weaker}
-use Rattle.fast_check_package_ranges.proofs.once.faults_of.Goals as goal
+use Rattle.fast_check_told_faults.specs.Once.{entry_tells, tells}
+use Rattle.fast_check_told_faults.proofs.Lists.{any_push, or_weaker}
+use Rattle.fast_check_told_faults.proofs.once.faults_of.Goals as goal
 
 pub loop-diagnostic-preserved : goal.loop-diagnostic-preserved
 loop-diagnostic-preserved c = record {

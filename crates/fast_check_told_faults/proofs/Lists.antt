@@ -4,8 +4,8 @@ use Rattle.std.specs.List.{list_any, flat_map}
 use Rattle.std.specs.Option.{is_some}
 use Rattle.std.proofs.lemmas.Bool.{false≢true}
 use Rattle.std.proofs.lemmas.List.Folds.{list_any-append}
-use Rattle.fast_check_package_ranges.specs.Parts.{where_found}
-use Rattle.fast_check_package_ranges.proofs.Bools.{or_none}
+use Rattle.fast_check_told_faults.specs.Once.{where_found}
+use Rattle.fast_check_told_faults.proofs.Bools.{or_none}
 
 pub any_map : {X Y : Type 0} (test : Y → Bool) (f : X → Y) (xs : List X) → list_any test (map f xs) ≡ list_any (λ x. test (f x)) xs
 any_map test f [] = refl

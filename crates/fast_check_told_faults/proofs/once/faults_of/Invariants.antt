@@ -1,9 +1,8 @@
 use Rattle.std.proofs.Common.{◌≡◌, Bool, true}
 use Rattle.std.specs.List.{list_any}
 use Rattle.fast_check_faults.specs.Reports.{Report}
-use Rattle.fast_check_package_ranges.specs.Parts.{tells}
-use Rattle.fast_check_package_ranges.specs.Once.{entry_tells, IsFair}
-use Rattle.fast_check_package_ranges.proofs.once.faults_of.Given as goal
+use Rattle.fast_check_told_faults.specs.Once.{IsFair, entry_tells, tells}
+use Rattle.fast_check_told_faults.proofs.once.faults_of.Given as goal
 
 abbrev pub invariant-loop-diagnostic : goal.invariant-loop-diagnostic
 invariant-loop-diagnostic l = record {

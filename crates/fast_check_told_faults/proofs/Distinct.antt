@@ -1,0 +1,71 @@
+-- No fault is told twice.
+use Rattle.std.proofs.Common.{◌≡◌, ◌∙◌, sym, refl, ap, Bool, false, true, ◌||◌, List, [], ◌∷◌, ◌++◌, Option, Some, None}
+use Rattle.std.specs.List.{list_any, IsDistinct, AllByRecursion}
+use Rattle.std.specs.Map.{keys_of}
+use Rattle.std.specs.Ordering.{eq_by_cmp}
+use Rattle.std.specs.declared.alloc.Global.{Global}
+use Rattle.std.specs.declared.rc.RcStr.{RcStr}
+use Rattle.std.specs.Rc.{rc_str_bytes}
+use Rattle.std.proofs.lemmas.Bool.{false≢true}
+use Rattle.std.proofs.lemmas.Map.Keys.{IsDistinct-cons, IsDistinct-head, IsDistinct-tail}
+use Rattle.fast_check_tables.specs.declared.diagnostics.FastCheckDiagnostic.{FastCheckDiagnostic}
+use Rattle.fast_check_faults.specs.Reports.{Report, told}
+use Rattle.fast_check_told_faults.specs.contracts.once.ToldFaultOrd.TheImpl as order
+use Rattle.fast_check_told_faults.specs.declared.once.ToldFault.{ToldFault}
+use Rattle.fast_check_told_faults.specs.Once.{where_found, tells, any_report, same_report, same_told, report_with, AreOf}
+use Rattle.fast_check_told_faults.proofs.Compared.{compares}
+
+pub of_push : (ds : List FastCheckDiagnostic) (es : List (ToldFault × RcStr Global)) (d : FastCheckDiagnostic) (e : ToldFault × RcStr Global) →
+    AreOf ds es → told d ≡ Some (report_with e.0 (rc_str_bytes e.1)) → AreOf (ds ++ d ∷ []) (es ++ e ∷ [])
+of_push [] [] d e h p = (p, tt)
+of_push [] (y ∷ ys) d e h p = absurd h
+of_push (x ∷ xs) [] d e h p = absurd h
+of_push (x ∷ xs) (y ∷ ys) d e h p = (h.0, of_push xs ys d e h.1 p)
+
+one_apart : (d x : FastCheckDiagnostic) (e y : ToldFault × RcStr Global) → told d ≡ Some (report_with e.0 (rc_str_bytes e.1)) →
+    told x ≡ Some (report_with y.0 (rc_str_bytes y.1)) → eq_by_cmp order.cmp-value.it e.0 y.0 ≡ false → same_told d x ≡ false
+one_apart d x e y p q h = ap (where_found (λ r. tells (same_report r) x)) p ∙
+    (ap (where_found (same_report (report_with e.0 (rc_str_bytes e.1)))) q ∙ (compares e.0 y.0 (rc_str_bytes e.1) (rc_str_bytes y.1) ∙ h))
+
+apart : (d : FastCheckDiagnostic) (e : ToldFault × RcStr Global) (ds : List FastCheckDiagnostic) (es : List (ToldFault × RcStr Global)) →
+    told d ≡ Some (report_with e.0 (rc_str_bytes e.1)) → AreOf ds es → AllByRecursion (λ k. eq_by_cmp order.cmp-value.it e.0 k ≡ false) (keys_of es) →
+    AllByRecursion (λ x. same_told d x ≡ false) ds
+apart d e [] [] p h a = tt
+apart d e [] (y ∷ ys) p h a = absurd h
+apart d e (x ∷ xs) [] p h a = absurd h
+apart d e (x ∷ xs) (y ∷ ys) p h a = (one_apart d x e y p h.0 a.0, apart d e xs ys p h.1 a.1)
+
+none_twice : IsDistinct same_told []
+unfolding IsDistinct
+none_twice = tt
+
+pub told_once : (ds : List FastCheckDiagnostic) (es : List (ToldFault × RcStr Global)) → AreOf ds es →
+    IsDistinct (eq_by_cmp order.cmp-value.it) (keys_of es) → IsDistinct same_told ds
+told_once [] [] h s = none_twice
+told_once [] (y ∷ ys) h s = absurd h
+told_once (x ∷ xs) [] h s = absurd h
+told_once (x ∷ xs) (y ∷ ys) h s = IsDistinct-cons same_told x xs
+    (apart x y xs ys h.0 h.1 (IsDistinct-head (eq_by_cmp order.cmp-value.it) y.0 (keys_of ys) s))
+    (told_once xs ys h.1 (IsDistinct-tail (eq_by_cmp order.cmp-value.it) y.0 (keys_of ys) s))
+
+-- what tells of no demand is told beside others
+no_report : (f : Report → Bool) (o : Option Report) → where_found any_report o ≡ false → where_found f o ≡ false
+no_report f None h = refl
+no_report f (Some r) h = absurd (false≢true (sym h))
+
+all_apart : (w : FastCheckDiagnostic) (ys : List FastCheckDiagnostic) → tells any_report w ≡ false → AllByRecursion (λ y. same_told w y ≡ false) ys
+all_apart w [] h = tt
+all_apart w (y ∷ ys) h = (no_report (λ r. tells (same_report r) y) (told w) h, all_apart w ys h)
+
+or_left : (b c : Bool) → (b || c) ≡ false → b ≡ false
+or_left true c h = absurd (false≢true (sym h))
+or_left false c h = refl
+
+or_right : (b c : Bool) → (b || c) ≡ false → c ≡ false
+or_right true c h = absurd (false≢true (sym h))
+or_right false c h = h
+
+pub before : (ws xs : List FastCheckDiagnostic) → list_any (tells any_report) ws ≡ false → IsDistinct same_told xs → IsDistinct same_told (ws ++ xs)
+before [] xs h k = k
+before (w ∷ ws) xs h k = IsDistinct-cons same_told w (ws ++ xs) (all_apart w (ws ++ xs) (or_left (tells any_report w) (list_any (tells any_report) ws) h))
+    (before ws xs (or_right (tells any_report w) (list_any (tells any_report) ws) h) k)

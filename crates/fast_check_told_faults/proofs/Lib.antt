@@ -1,0 +1,5 @@
+pub mod Bools
+pub mod Lists
+pub mod Compared
+pub mod Kept
+pub mod Distinct
