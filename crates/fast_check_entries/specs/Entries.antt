@@ -1,5 +1,5 @@
 -- The entry points of a package, and what is wrong with them.
-use Rattle.std.specs.Prelude.{◌≡◌, ℕ, Bool, true, ◌&&◌, cond, List, [], ◌∷◌, map, Option, Some, None, option_map, is_none, option_to_list}
+use Rattle.std.specs.Prelude.{◌≡◌, ℕ, Bool, true, ◌&&◌, cond, List, map, Option, Some, None, option_map, is_none, option_to_list}
 use Rattle.std.specs.Prelude.{String, string_bytes}
 use Rattle.std.specs.List.{find, flat_map}
 use Rattle.std.specs.Map.{values_of}

@@ -1,44 +1,42 @@
 -- What came of a trace is what its demands name and give.
-use Rattle.std.proofs.Common.{◌≡◌, ◌∙◌, sym, ap, refl, subst, Bool, true, false, cond, List, [], ◌∷◌, ◌++◌, Option, Some, None, map, option_map, ⊎_elim, ◌⊎◌}
+use Rattle.std.proofs.Common.{◌≡◌, ◌∙◌, sym, ap, refl, subst, true, List, [], ◌∷◌, ◌++◌, Option, Some, map, ⊎_elim, ◌⊎◌}
 use Rattle.std.proofs.Common.{inl, inr}
 use Rattle.std.specs.List.{Contains, flat_map}
-use Rattle.std.proofs.lemmas.Bool.{false≢true, and_parts}
+use Rattle.std.proofs.lemmas.Bool.{false≢true}
 use Rattle.std.proofs.lemmas.List.Elements.{Contains-append_cases, Contains-append_left, Contains-append_right}
 use Rattle.fast_check_syntax.specs.declared.source.SourceRange.{SourceRange}
 use Rattle.fast_check_packages.specs.Package.{Nv}
 use Rattle.fast_check_names.specs.declared.lattice.imported_exports.ImportedExports.{ImportedExports}
 use Rattle.fast_check_names.specs.declared.lattice.imported_exports.ImportedExports.TheVariants.{Star, StarWithDefault, Subset}
-use Rattle.fast_check_names.specs.Names.{Touched, Covered, paths}
-use Rattle.fast_check_names.specs.Paths.{paths_opened_nil}
 use Rattle.fast_check_names.specs.Imports.{NameDemand, names_but_default, each_name, subset_at, whole_at, demands}
 use Rattle.fast_check_demands.specs.Demands.{Demand as SymbolDemand}
 use Rattle.fast_check_demands.specs.Account.{Chained, root as symbol_root, step as symbol_step, IsCovered as IsSymbolCovered}
 use Rattle.fast_check_demands.specs.Rules.{each_of, names}
 use Rattle.fast_check_demands.specs.Yields.{ranges, implementations, faults}
 use Rattle.fast_check_faults.specs.Reports.{Report}
-use Rattle.fast_check_files.specs.Files.{FileDemand, files}
+use Rattle.fast_check_files.specs.Files.{files}
 use Rattle.fast_check_traces.specs.declared.modules.TracedModule.{TracedModule}
 use Rattle.fast_check_traces.specs.Modules.{own_tables}
 use Rattle.fast_check_traces.specs.Roots.{roots}
-use Rattle.fast_check_traces.specs.Wants.{Want as ModuleWant, re_export_ranges, module_wants}
-use Rattle.fast_check_search.proofs.Each.{Contains_none, Contains_first, Contains_later, Contains_cases, contains_map, contains_flat_map, Each, each_nil}
+use Rattle.fast_check_traces.specs.Wants.{re_export_ranges, module_wants}
+use Rattle.fast_check_search.proofs.Each.{Contains_none, Contains_first, Contains_later, Contains_cases, contains_map, contains_flat_map, Each}
 use Rattle.fast_check_search.proofs.Each.{each_append, each_map, each_flat}
 use Rattle.fast_check_worklists.proofs.Waiting.{map_contains}
 use Rattle.fast_check_worklists.proofs.Asking.{asked_some}
 use Rattle.fast_check_worklists.specs.Demands.{Text, asked, Want, to_package, to_module, to_symbol, Demand, of_package, of_module, of_symbol}
-use Rattle.fast_check_worklists.specs.Account.{Trace, Followed, HasIn, IsSymbolMet}
+use Rattle.fast_check_worklists.specs.Account.{Followed, HasIn, IsSymbolMet}
 use Rattle.fast_check_worklists.specs.declared.asked.Step.{Step}
 use Rattle.fast_check_worklists.specs.State.{State, want_of, AsksAll, Reached, root, step, IsSearched, IsOuter, AreWants, AreGiven, IsFollowed}
-use Rattle.fast_check_name_demands.specs.NameDemands.{AreDemands, IsDemandOf, IsEmpty}
+use Rattle.fast_check_name_demands.specs.NameDemands.{AreDemands, IsEmpty}
 use Rattle.fast_check_turns.specs.Sources.{Known, module_at}
 use Rattle.fast_check_turns.specs.Rules.{file_wants, left_wants, names_wants, symbol_wants, world}
-use Rattle.fast_check_findings.specs.Yields.{Yield, entry_point, dependency, recorded, public, implementing}
+use Rattle.fast_check_findings.specs.Yields.{Yield, recorded, public, implementing}
 use Rattle.fast_check_findings.specs.Findings.{told_at}
 use Rattle.fast_check_turns.specs.Yields.{own_text, dependency_of, dependencies, public_at, implementing_at, reported_as, fault_yields, faults_at}
 use Rattle.fast_check_turns.specs.Yields.{names_yields, symbol_yields, untyped_yields, gives}
 use Rattle.fast_check_turns.proofs.Reported.{told_flat}
 use Rattle.fast_check_turns.specs.Analysis.{IsAnalyzed, given_by}
-use Rattle.fast_check_finder.proofs.Owned.{IsOwned, owned_outer, owned_files, owned_left}
+use Rattle.fast_check_finder.proofs.Owned.{IsOwned, owned_files, owned_left}
 
 pub flat_contains : {X Y : Type 0} (f : X → List Y) (xs : List X) (y : Y) → Contains (flat_map f xs) y → (x : X) × Contains xs x × Contains (f x) y
 flat_contains f [] y c = absurd (Contains_none y c)

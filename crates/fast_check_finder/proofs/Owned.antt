@@ -1,19 +1,18 @@
 -- Each module that is asked for from outside is asked for under the package that its specifier belongs to.
-use Rattle.std.proofs.Common.{◌≡◌, ◌∙◌, sym, ap, refl, subst, Bool, true, cond, List, [], ◌∷◌, ◌++◌, Option, Some, None, map, ⊎_elim}
-use Rattle.std.specs.List.{Contains, flat_map}
-use Rattle.std.proofs.lemmas.List.Elements.{Contains-append_cases}
+use Rattle.std.proofs.Common.{◌≡◌, refl, true, List, [], ◌∷◌, Option, Some, None, map}
+use Rattle.std.specs.List.{flat_map}
 use Rattle.url.specs.Parts.{Parts, serialize}
 use Rattle.fast_check_packages.specs.Package.{Nv}
 use Rattle.fast_check_names.specs.Imports.{NameDemand, names_but_default, each_name}
 use Rattle.fast_check_demands.specs.Demands.{Demand as SymbolDemand}
-use Rattle.fast_check_demands.specs.Rules.{each_of, names}
+use Rattle.fast_check_demands.specs.Rules.{names}
 use Rattle.fast_check_files.specs.Files.{FileDemand, files}
 use Rattle.fast_check_traces.specs.declared.modules.TracedModule.{TracedModule}
 use Rattle.fast_check_traces.specs.Modules.{own_tables}
 use Rattle.fast_check_traces.specs.Roots.{roots}
 use Rattle.fast_check_traces.specs.Wants.{Want as ModuleWant, re_exported, answered, module_wants}
 use Rattle.fast_check_search.proofs.Each.{Each, each_nil, each_one, each_cons, each_append, each_map, each_flat, each_cond, each_each_of}
-use Rattle.fast_check_worklists.specs.Demands.{Text, Wanted, same_nv, asked_by, Want, to_package, to_module, to_symbol, Demand, of_package, of_module}
+use Rattle.fast_check_worklists.specs.Demands.{Text, Wanted, same_nv, asked_by, Want, to_package, to_module, to_symbol, of_package, of_module}
 use Rattle.fast_check_worklists.specs.Demands.{of_symbol}
 use Rattle.fast_check_worklists.specs.State.{IsOuter}
 use Rattle.fast_check_worklists.specs.Turn.{IsOrderly}

@@ -1,18 +1,17 @@
 -- What follows from what can be demanded can be demanded.
-use Rattle.std.proofs.Common.{◌≡◌, ◌∙◌, sym, ap, refl, subst, ℕ, zero, suc, ◌+◌, ◌≤◌, Bool, true, false, cond, ◌&&◌, ◌||◌, not, List, [], ◌∷◌, ◌++◌, map}
-use Rattle.std.proofs.Common.{length, Option, Some, None, option_map, option_to_list, ⊎_elim, ◌⊎◌, inl, inr, arith, length-append, is_some, String}
+use Rattle.std.proofs.Common.{◌≡◌, ◌∙◌, sym, ap, refl, subst, ℕ, suc, ◌≤◌, Bool, true, false, cond, ◌&&◌, ◌||◌, not, List, [], ◌∷◌, map}
+use Rattle.std.proofs.Common.{length, Option, Some, None, option_map, option_to_list, ⊎_elim, ◌⊎◌, inl, inr, arith, is_some}
 use Rattle.std.proofs.Common.{string_bytes}
 use Rattle.std.specs.List.{Contains, flat_map, find}
 use Rattle.std.specs.Map.{lookup}
 use Rattle.std.specs.Str.{bytes_eq}
 use Rattle.std.specs.Option.{option_and_then, option_or}
-use Rattle.std.proofs.lemmas.Bool.{cases_Bool, false≢true}
-use Rattle.std.proofs.lemmas.List.Elements.{Contains-append_left, Contains-append_right, Contains-append_cases}
+use Rattle.std.proofs.lemmas.Bool.{cases_Bool}
+use Rattle.std.proofs.lemmas.List.Elements.{Contains-append_left, Contains-append_right}
 use Rattle.url.specs.Parts.{Parts, serialize}
-use Rattle.fast_check_packages.specs.Package.{Nv, nv_of}
+use Rattle.fast_check_packages.specs.Package.{Nv}
 use Rattle.fast_check_names.specs.Names.{Name, Path, path_of}
 use Rattle.fast_check_names.specs.Imports.{default_name, NameDemand, names_but_default, each_name, subset_at, whole_at}
-use Rattle.fast_check_names.specs.declared.lattice.file_dep_name.FileDepName.{FileDepName}
 use Rattle.fast_check_names.specs.declared.lattice.file_dep_name.FileDepName.TheVariants.{Star, Name as Named}
 use Rattle.fast_check_symbols.specs.declared.symbol_id.SymbolId.{SymbolId}
 use Rattle.fast_check_symbols.specs.declared.symbol.Symbol.{Symbol}
@@ -25,10 +24,9 @@ use Rattle.fast_check_symbols.specs.declared.node.SymbolNodeDep.{SymbolNodeDep}
 use Rattle.fast_check_symbols.specs.Symbols.{symbol_of, has_id}
 use Rattle.fast_check_modules.specs.declared.tables.ReExportAllNode.{ReExportAllNode}
 use Rattle.fast_check_modules.specs.Tables.{Tables, resolved_export}
-use Rattle.fast_check_graph.specs.declared.module.Module.{Module}
 use Rattle.fast_check_graph.specs.declared.root_symbol.ModuleInfo.{ModuleInfo}
 use Rattle.fast_check_graph.specs.Modules.{is_typed_module}
-use Rattle.fast_check_graph.specs.Graph.{is_specifier, text_resolved, resolved_to}
+use Rattle.fast_check_graph.specs.Graph.{is_specifier, text_resolved}
 use Rattle.fast_check_graph.specs.Root.{specifier_of, module_named, found_module}
 use Rattle.fast_check_demands.specs.declared.demand.Namespace.{Namespace}
 use Rattle.fast_check_demands.specs.declared.demand.Namespace.TheVariants.{Value, Type_}
@@ -36,30 +34,30 @@ use Rattle.fast_check_demands.specs.declared.demand.Extent.{Extent}
 use Rattle.fast_check_demands.specs.declared.demand.Extent.TheVariants.{Touched, Whole}
 use Rattle.fast_check_demands.specs.Demands.{Demand as SymbolDemand, Asked, by_reference, as_child, by_path}
 use Rattle.fast_check_demands.specs.Decls.{binds, is_implementation}
-use Rattle.fast_check_demands.specs.Account.{Chained, root, step}
+use Rattle.fast_check_demands.specs.Account.{root, step}
 use Rattle.fast_check_demands.specs.Rules.{each_of, names, reference, references, qualified}
-use Rattle.fast_check_files.specs.Files.{FileDemand, wants, path_demand, reference_demand, path_in_file, import_demand, dep_files, deps_files, kind_files}
+use Rattle.fast_check_files.specs.Files.{FileDemand, wants, path_demand, import_demand, dep_files, kind_files}
 use Rattle.fast_check_files.specs.Files.{decl_files, symbol_files, alias_files, asked_files, files}
 use Rattle.fast_check_traces.specs.declared.modules.TracedModule.{TracedModule}
-use Rattle.fast_check_traces.specs.Modules.{tables_in, own_tables, own_export, led_to, answer_of, first_with, answer_to}
+use Rattle.fast_check_traces.specs.Modules.{tables_in, own_export, led_to, answer_of, first_with, answer_to}
 use Rattle.fast_check_traces.specs.Roots.{roots, is_exported_in, references_as, exported_as, export_whole, star_export, star_roots, path_roots}
 use Rattle.fast_check_traces.specs.Wants.{Want as ModuleWant, re_exported, answered, all_wants, answered_at, path_wants, module_wants}
 use Rattle.fast_check_search.specs.Universe as inner
 use Rattle.fast_check_search.proofs.Inside.{inside as inside_module, last_inside}
-use Rattle.fast_check_search.proofs.Each.{Contains_none, Contains_first, Contains_later, Contains_only, Contains_cases, contains_map, contains_flat_map, Each}
+use Rattle.fast_check_search.proofs.Each.{Contains_first, Contains_later, Contains_only, contains_map, contains_flat_map, Each}
 use Rattle.fast_check_search.proofs.Each.{each_nil, each_one, each_cons, each_append, each_map, each_flat, each_cond, each_each_of}
 use Rattle.fast_check_worklists.proofs.Maps.{found_in}
-use Rattle.fast_check_worklists.specs.Demands.{Text, Wanted, same_nv, asked_by, Want, to_package, to_module, to_symbol, Demand, of_package, of_module}
+use Rattle.fast_check_worklists.specs.Demands.{Text, same_nv, asked_by, Want, to_package, to_module, to_symbol, Demand, of_package, of_module}
 use Rattle.fast_check_worklists.specs.Demands.{of_symbol}
 use Rattle.fast_check_worklists.specs.Measure.{IsWithin, IsPathWithin, IsInside, IsWantInside, IsUniverse}
 use Rattle.fast_check_findings.specs.declared.finding.EntryFault.{EntryFault}
 use Rattle.fast_check_entries.specs.Entries.{Entrance, passed_over, refused, entered, all_faults}
 use Rattle.fast_check_turns.specs.Sources.{Known, is_text, node_at, named_at, typed_info, info_at, traced_as, module_at, entrance_at}
 use Rattle.fast_check_turns.specs.Rules.{file_at, behind, resolved, file_wants, left_wants, names_wants, symbol_wants, entry_want, unless_faulty, entry_wants, world}
-use Rattle.fast_check_finder.specs.Reach.{dep_names, file_names, kind_names, symbol_names, table_names, all_names, paths_up_to, targets, answers, entry_texts}
+use Rattle.fast_check_finder.specs.Reach.{dep_names, kind_names, symbol_names, table_names, all_names, paths_up_to, targets, answers, entry_texts}
 use Rattle.fast_check_finder.specs.Reach.{outer_texts, all_packages, urls_in, reach}
 use Rattle.fast_check_finder.proofs.Paths.{flat_contains, flat_longer, Fits, fits_in, in_fits, fits_empty, fits_more, fits_longer, fits_tail, fits_piece}
-use Rattle.fast_check_finder.proofs.Paths.{empty_in, star_within, all_within, asked_within}
+use Rattle.fast_check_finder.proofs.Paths.{empty_in, all_within, asked_within}
 
 none_some : {X : Type 0} (x : X) → None ≡ Some x → ⊥
 none_some x e = cc

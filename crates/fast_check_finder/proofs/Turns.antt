@@ -1,7 +1,7 @@
 -- What a turn does, where there is nothing to follow or to enter, and where there is.
 use Rattle.std.proofs.Common.{ℕ, inl, ◌≡◌, ◌∙◌, sym, ap, refl, subst, Bool, true, cond, not, ◌||◌, List, [], ◌∷◌, ◌++◌, Option, Some, None, map, option_map}
-use Rattle.std.proofs.Common.{append-nil, ⊎_elim}
-use Rattle.std.specs.List.{Contains, flat_map}
+use Rattle.std.proofs.Common.{⊎_elim}
+use Rattle.std.specs.List.{Contains}
 use Rattle.std.specs.Option.{option_and_then}
 use Rattle.std.proofs.lemmas.Bool.{cases_Bool}
 use Rattle.std.proofs.lemmas.List.Elements.{Contains-append_cases, Contains-append_right}
@@ -15,13 +15,11 @@ use Rattle.fast_check_findings.specs.Findings.{faulty_module, told_at}
 use Rattle.fast_check_packages.specs.Package.{Nv}
 use Rattle.fast_check_graph.specs.declared.root_symbol.ModuleInfo.{ModuleInfo}
 use Rattle.fast_check_names.specs.Imports.{NameDemand}
-use Rattle.fast_check_demands.specs.Demands.{Demand as SymbolDemand}
 use Rattle.fast_check_demands.specs.Rules.{each_of}
-use Rattle.fast_check_traces.specs.declared.modules.TracedModule.{TracedModule}
 use Rattle.fast_check_search.proofs.Each.{Contains_none, Each}
 use Rattle.fast_check_worklists.proofs.Asking.{asked_some}
 use Rattle.fast_check_worklists.specs.Demands.{Text, asked, Want, to_symbol, Demand, of_package, of_module, of_symbol}
-use Rattle.fast_check_worklists.specs.Account.{Trace, Followed, HasIn, IsSymbolMet}
+use Rattle.fast_check_worklists.specs.Account.{Trace, Followed, HasIn}
 use Rattle.fast_check_worklists.specs.Turn.{waiting_trace, IsTurn}
 use Rattle.fast_check_worklists.proofs.Asks.{map_last}
 use Rattle.url.specs.Parts.{Parts}
@@ -29,7 +27,7 @@ use Rattle.fast_check_names.specs.declared.lattice.imported_exports.ImportedExpo
 use Rattle.fast_check_packages.specs.declared.package.PackageNv.{PackageNv}
 use Rattle.fast_check_packages.specs.declared.traced_modules.PendingTrace.{PendingTrace}
 use Rattle.fast_check_packages.specs.Traces.{entry_of}
-use Rattle.fast_check_worklists.specs.State.{trace_of, want_of, State, AsksAll, IsSearched, IsOuter, AreWants, AreGiven, IsFollowed, IsEntered}
+use Rattle.fast_check_worklists.specs.State.{trace_of, want_of, State, IsFollowed, IsEntered}
 use Rattle.fast_check_turns.specs.Sources.{Known, node_at, named_at, typed_info, info_at, traced_as, module_at, is_untyped, entrance_at}
 use Rattle.fast_check_turns.specs.Rules.{names_wants, world}
 use Rattle.fast_check_turns.specs.Yields.{dependencies, names_yields, untyped_yields, gives}
@@ -114,9 +112,9 @@ followed_at k x a b old new h = go (info_at k.graph k.root_symbol x.specifier) r
     go None e h = followed_nowhere k x a b old new e h.0 h.1
     go (Some info) e h =
         let given_with : List Yield → List Yield = λ ys.
-            recorded x.nv (serialize (specifier_of info))
-            ∷ (map (public x.nv (serialize (specifier_of info))) (h.4 ++ h.2)
-            ++ (map (implementing x.nv (serialize (specifier_of info))) h.3 ++ (ys ++ dependencies x.nv (map want_of h.1)))) in
+        recorded x.nv (serialize (specifier_of info))
+        ∷ (map (public x.nv (serialize (specifier_of info))) (h.4 ++ h.2)
+        ++ (map (implementing x.nv (serialize (specifier_of info))) h.3 ++ (ys ++ dependencies x.nv (map want_of h.1)))) in
         followed_there k x.nv x.specifier (traced_as k info) (ap (option_map (traced_as k)) e) (typed_only k x.nv x.specifier info e) x.exports h.0 h.6
         (map want_of h.1) h.2 h.3 h.4 (map told h.5) h.7 h.1 a b old new refl h.8
         (h.9 ∙ ap (λ (ys : List Yield). old ++ given_with ys) (sym (flat_mapped (told_at x.nv (serialize (specifier_of info))) told h.5)))

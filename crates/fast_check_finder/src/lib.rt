@@ -5,5 +5,7 @@ mod search;
 
 pub use fast_check_packages::{PackageNv, WorkspaceMember};
 pub use fast_check_provider::BuildFault;
-pub use fast_check_turns::{EnteredPackage, EntryFault, Finding, FollowedModule, Sources, UntypedModule};
+pub use fast_check_turns::{
+    EnteredPackage, EntryFault, Finding, FollowedModule, Sources, UntypedModule,
+};
 pub use search::find_all;

@@ -27,8 +27,7 @@ fn enter_next(
     found: &mut Vec<Finding>,
 ) -> Result<Option<usize>, BuildFault>
     requires { pending asked.old.waiting ≡ [] }
-    ensures turned {
-        let k = known sources.entry (url_of provider.now) (nv_at provider.now) in
+    ensures turned { let k = known sources.entry (url_of provider.now) (nv_at provider.now) in
         IfOk result (IsTurn (world k) (gives k) next (state_of asked.old) (state_of asked.new)
         (flat_map yields_of found.old.items) (flat_map yields_of found.new.items)) }
     ensures refused { IfErr result (IsRefusedOf (known sources.entry (url_of provider.now) (nv_at provider.now)) (map nv_of asked.old.packages.items)) }
@@ -51,8 +50,7 @@ fn follow_next(
     asked: &mut Asked,
     found: &mut Vec<Finding>,
 ) -> Result<Option<usize>, AllocError>
-    ensures followed {
-        let k = known sources.entry (url_of provider.now) (nv_at provider.now) in
+    ensures followed { let k = known sources.entry (url_of provider.now) (nv_at provider.now) in
         OnOk result (IsFollowed (world k) (gives k) (trace_of trace) (state_of asked.old) (state_of asked.new)
         (flat_map yields_of found.old.items) (flat_map yields_of found.new.items)) }
     ensures next { IfOk result (λ after. after ≡ Some next) }
@@ -71,8 +69,7 @@ fn turn(
     asked: &mut Asked,
     found: &mut Vec<Finding>,
 ) -> Result<Option<usize>, BuildFault>
-    ensures turned {
-        let k = known sources.entry (url_of provider.now) (nv_at provider.now) in
+    ensures turned { let k = known sources.entry (url_of provider.now) (nv_at provider.now) in
         IfOk result (IsTurn (world k) (gives k) next (state_of asked.old) (state_of asked.new)
         (flat_map yields_of found.old.items) (flat_map yields_of found.new.items)) }
     ensures refused { IfErr result (IsRefusedOf (known sources.entry (url_of provider.now) (nv_at provider.now)) (map nv_of asked.old.packages.items)) }
@@ -100,8 +97,7 @@ pub fn find_all(
     provider: &dyn JsrUrlProvider,
     roots: &[PackageNv],
 ) -> Result<Vec<Finding>, BuildFault>
-    ensures found {
-        let k = known sources.entry (url_of provider.now) (nv_at provider.now) in
+    ensures found { let k = known sources.entry (url_of provider.now) (nv_at provider.now) in
         IfOk result (λ found. (account : Account) × IsAccount (world k) (map nv_of roots.now) account
         × IsYield (gives k) account (flat_map yields_of found.items)
         × JoinAll k account) }

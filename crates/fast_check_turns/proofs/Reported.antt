@@ -24,9 +24,9 @@ pub told_with : (m : TracedModule) (text : List ℕ) (specifier : Parts) (tables
     reports ≡ flat_map (λ f. told_each (report (reported_with m text) f)) (map fault_seen fs)
 told_with m text specifier tables is of fs gs same reports r =
     let a = subst (λ (s : Parts). reports ≡ flat_map (λ f. told_each (report (record { specifier = s; text = text; symbols = tables.symbols })
-        (fault_seen f))) gs) is r in
+    (fault_seen f))) gs) is r in
     let b = subst (λ (t : Tables). reports ≡ flat_map (λ f. told_each (report (record { specifier = specifier_of m.info.now; text = text; symbols = t.symbols })
-        (fault_seen f))) gs) of a in
+    (fault_seen f))) gs) of a in
     let d = subst (λ (xs : List SymbolFault). reports ≡ flat_map (λ f. told_each (report (reported_with m text) (fault_seen f))) xs) same b in
     d ∙ sym (flat_mapped (λ f. told_each (report (reported_with m text) f)) fault_seen fs)
 

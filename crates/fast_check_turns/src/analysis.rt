@@ -92,8 +92,7 @@ fn analyze<'a>(
     info: &'a ModuleInfo,
     demands: &[NameDemand],
 ) -> Result<Analysis, AllocError>
-    ensures {
-        let k = known sources.entry (url_of provider.now) (nv_at provider.now) in
+    ensures { let k = known sources.entry (url_of provider.now) (nv_at provider.now) in
         IfOk result (λ r. IsAnalyzed k (nv_of nv.now) (traced_as k info.now) (map demand_of demands.now) (map want_of r.steps.items)
         r.ranges.items r.implementations.items r.re_export_ranges.items (map told r.diagnostics.items)) }
 {
@@ -133,8 +132,7 @@ pub fn analyze_exports<'a>(
     info: &'a ModuleInfo,
     exports: ImportedExports,
 ) -> Result<Analysis, AllocError>
-    ensures {
-        let k = known sources.entry (url_of provider.now) (nv_at provider.now) in
+    ensures { let k = known sources.entry (url_of provider.now) (nv_at provider.now) in
         IfOk result (λ r. (names : List Demanded) × AreDemands exports names
         × IsAnalyzed k (nv_of nv.now) (traced_as k info.now) names (map want_of r.steps.items)
         r.ranges.items r.implementations.items r.re_export_ranges.items (map told r.diagnostics.items)) }

@@ -2,14 +2,13 @@
 #![tactic(auto)]
 
 mod analysis;
-
 mod findings;
 mod modules;
 mod packages;
 mod sources;
 mod steps;
 
-pub use packages::enter;
 pub use fast_check_findings::{EnteredPackage, EntryFault, Finding, FollowedModule, UntypedModule};
 pub use modules::follow;
+pub use packages::enter;
 pub use sources::Sources;

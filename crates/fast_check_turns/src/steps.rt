@@ -323,8 +323,7 @@ pub fn steps_of(
     files: &FileWants<'_>,
     wants: &ModuleWants<'_>,
 ) -> Result<Vec<Step>, AllocError>
-    ensures {
-        let k = known sources.entry (url_of provider.now) (nv_at provider.now) in
+    ensures { let k = known sources.entry (url_of provider.now) (nv_at provider.now) in
         IfOk result (λ out. map want_of out.items
         ≡ flat_map (file_wants k (nv_of nv.now) traced.entry) files.now ++ flat_map (left_wants k (nv_of nv.now) traced.entry) wants.now) }
 {

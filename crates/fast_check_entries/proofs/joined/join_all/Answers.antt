@@ -1,5 +1,4 @@
-use Rattle.std.proofs.Common.{◌≡◌, ◌∙◌, sym, ap, List, [], ◌∷◌, ◌++◌, map, take, is_none, option_to_list, string_bytes, ℕ}
-use Rattle.std.specs.List.{find}
+use Rattle.std.proofs.Common.{◌∙◌, sym, ap, List, [], ◌∷◌, ◌++◌, map, take, is_none, option_to_list, string_bytes, ℕ}
 use Rattle.url.specs.Parts.{Parts}
 use Rattle.fast_check_packages.specs.Package.{nv_of}
 use Rattle.fast_check_entries.specs.Entries.{joined, all_joined, first_refused, Tells}

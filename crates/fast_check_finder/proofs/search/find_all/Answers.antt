@@ -1,4 +1,4 @@
-use Rattle.std.proofs.Common.{ap, map, []}
+use Rattle.std.proofs.Common.{map, []}
 use Rattle.std.specs.List.{flat_map}
 use Rattle.fast_check_packages.specs.Package.{nv_of}
 use Rattle.fast_check_worklists.specs.State.{state_of}
