@@ -32,10 +32,13 @@ def shown_ranges(name, ranges):
     return ' '.join(['    ' + name] + ['%d-%d' % range for range in sorted(ranges)])
 
 
+KINDS = ['unsupported-private-member-reference', 'not-found-reference', 'unsupported-complex-reference']
+
+
 def order_of_fault(fault):
-    """Faults of the module as a whole come first, and then by their places in the text."""
+    """Faults of the module as a whole come first, and then the others by their places in the text and by their kinds."""
     place, code, message = fault
-    return [int(n) for n in place.split()[0].split('-')] if place else [], code, message
+    return ([*map(int, place.split()[0].split('-')), KINDS.index(code)] if place else []), message
 
 
 def shown_fault(url, fault):
