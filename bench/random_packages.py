@@ -17,8 +17,10 @@ class RandomModule:
     def name(self):
         return ['s%d' % self.rng.randrange(self.count + 1), 1]
 
-    def path(self, least=0):
-        return [self.rng.choice(NAMES) for _ in range(self.rng.choice([0, 1, 1, 2, 3]) or least)]
+    def path(self):
+        if self.rng.random() < 0.2:
+            return ['prototype'] + [self.rng.choice(NAMES) for _ in range(self.rng.choice([0, 1, 1, 2]))]
+        return [self.rng.choice(NAMES) for _ in range(self.rng.choice([0, 1, 1, 2, 3]))]
 
     def dep(self):
         kind = self.rng.random()
@@ -39,7 +41,7 @@ class RandomModule:
             return {'FileRef': {'specifier': rng.choice(self.texts), 'name': name}}
         if kind < 0.5:
             return {'Definition': None}
-        node = {flag: True for flag in FLAGS if rng.random() < 0.2}
+        node = {flag: True for flag in FLAGS if rng.random() < (0.4 if flag == 'is_class' else 0.2)}
         return {'Definition': {**node, 'deps': [self.dep() for _ in range(rng.randint(0, 2))]}}
 
     def decl(self):
@@ -57,7 +59,7 @@ class RandomModule:
         return {'id': id, 'parent_id': rng.choice([None, 0, rng.randint(1, self.count)]),
                 'maybe_name': rng.choice(NAMES + [None]), 'qualified_name': rng.choice(['q%d' % id, 'q%d' % id, None]),
                 'is_private_member': rng.random() < 0.12, 'exports': self.exports(rng.choice([0, 0, 1, 2])),
-                'members': [rng.randint(1, self.count) for _ in range(rng.choice([0, 0, 0, 1, 2]))],
+                'members': [rng.randint(1, self.count) for _ in range(rng.choice([0, 0, 1, 2]))],
                 'decls': [self.decl() for _ in range(rng.choice([1, 1, 1, 2]))]}
 
     def tables(self, urls):
