@@ -12,7 +12,7 @@
 
 The lines of a module are indented. A symbol is `NAME: DECLARATION; DECLARATION`; before the name may stand `export`, or `export NAME as` for
 another export name, and `private`. What it lists is indented further: `member NAME: ..` and `child NAME: ..` (an export of the symbol).
-A declaration may have `value` or `type` (else both), `overloads`, `body`, and is one of
+A declaration may have `value` or `type` (else both), `overloads`, `body`, `inside` (of the declaration before it), and is one of
 
     target NAME | part NAME.a.b | file TEXT NAME | file TEXT * | define FLAG.. DEP..
 
@@ -50,6 +50,10 @@ class ModuleText:
         self.at += 10
         return [self.at - 10, self.at - 1]
 
+    def range_inside(self):
+        """A range inside of the last one."""
+        return [self.at - 8, self.at - 3]
+
     def text(self, text):
         self.texts.add(text)
         return text
@@ -84,7 +88,8 @@ class ModuleText:
         at = next(i for i, word in enumerate(words) if word in ('target', 'part', 'file', 'define'))
         flags = set(words[:at])
         both = not flags & {'value', 'type'}
-        made = {'range': self.range(), 'kind': self.kind(words[at:]), 'value': both or 'value' in flags, 'type_': both or 'type' in flags}
+        range = self.range_inside() if 'inside' in flags else self.range()
+        made = {'range': range, 'kind': self.kind(words[at:]), 'value': both or 'value' in flags, 'type_': both or 'type' in flags}
         made.update({'has_' + flag: True for flag in ('overloads', 'body') if flag in flags})
         return made
 

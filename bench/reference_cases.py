@@ -514,3 +514,53 @@ module p/mod.ts
   v: value define; type define type:x
   x: define
 ''')
+
+case('an alias passes the namespace on', '''
+package p ./mod.ts
+pending p
+module p/mod.ts
+  export f: define keyword type:a
+  a: target b
+  b: value define value:x; type define
+  x: define
+''')
+
+case('a path below a part is passed on, with the parts beside it', '''
+package p ./mod.ts
+pending p
+module p/mod.ts
+  export f: define keyword path:A.y
+  A: part B.x
+  B: define namespace
+    child x: define
+    child y: define
+    child z: define
+''')
+
+case('the prototype of a class is the class', '''
+package p ./mod.ts
+pending p
+module p/mod.ts
+  export f: define keyword path:C.prototype
+  C: define class type:t
+    member m: define member
+  t: define
+''')
+
+case('what is assigned to a function is public though it is private', '''
+package p ./mod.ts
+pending p
+module p/mod.ts
+  export f: define function keyword
+    private child a: define value:x
+  x: define
+''')
+
+case('what stands inside of a function is not assigned to it', '''
+package p ./mod.ts
+pending p
+module p/mod.ts
+  export f: define function keyword
+    private child a: inside define value:x
+  x: define
+''')
