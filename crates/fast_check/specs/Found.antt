@@ -1,0 +1,48 @@
+-- What is found of packages that are handed in.
+use Rattle.std.specs.Prelude.{◌≡◌, ⊤, Bool, true, List, Option}
+use Rattle.std.specs.BTreeMap.{BTreeMap}
+use Rattle.fast_check_packages.specs.Package.{Nv}
+use Rattle.fast_check_packages.specs.declared.package.PackageNv.{PackageNv}
+use Rattle.url.specs.Parts.{Parts}
+use Rattle.fast_check_packages.specs.declared.package.WorkspaceMember.{WorkspaceMember}
+use Rattle.fast_check_graph.specs.declared.graph.ModuleGraph.{ModuleGraph}
+use Rattle.fast_check_graph.specs.declared.root_symbol.RootSymbol.{RootSymbol}
+use Rattle.fast_check_cache.specs.declared.package_ranges.PackagePublicRanges.{PackagePublicRanges}
+use Rattle.fast_check_faults.specs.Reports.{Report}
+use Rattle.fast_check_worklists.specs.Demands.{Text}
+use Rattle.fast_check_worklists.specs.Account.{Account, IsAccount, IsYield}
+use Rattle.fast_check_findings.specs.Yields.{Yield}
+use Rattle.fast_check_package_ranges.specs.Questions.{Question, whether_known, about, whether_told, yields_say, is_said, IsTextless}
+use Rattle.fast_check_package_ranges.specs.Answers.{answer, IsOnce}
+use Rattle.fast_check_turns.specs.Sources.{Known, owner_by}
+use Rattle.fast_check_turns.specs.Rules.{world}
+use Rattle.fast_check_turns.specs.Yields.{gives}
+use Rattle.fast_check_finder.specs.Refusals.{JoinAll}
+
+-- what is known of modules and packages, where a provider is lent
+abbrev pub known_of : ModuleGraph → RootSymbol → List WorkspaceMember → (Nv → Parts) → (Text → Option Nv) → Known
+known_of graph root_symbol members url_of nv_at = record {
+  graph = graph;
+  root_symbol = root_symbol;
+  workspace_members = members;
+  url_of = url_of;
+  owner = owner_by members nv_at;
+}
+
+-- what yields say: all that can be asked, but whether a package is known of which nothing is found
+abbrev pub IsOfYields : Question → Type 0
+IsOfYields whether_known = ⊥
+IsOfYields _ = ⊤
+
+-- There is an account of demands, from the packages that are handed in, whose export texts all join; and the answers say what its demands give,
+-- and nothing else.
+pub record IsFound (k : Known) (roots : List Nv) (answers : BTreeMap PackageNv PackagePublicRanges) : Type 0 where
+  pub account : Account
+  pub yields : List Yield
+  pub is_account : IsAccount (world k) roots account
+  pub is_yield : IsYield (gives k) account yields
+  pub join : JoinAll k account
+  pub said : (nv : Nv) (q : Question) → IsOfYields q → IsTextless q → answer answers nv q ≡ is_said yields nv q
+  pub exact : (nv : Nv) (t : Text) (test : Report → Bool) → answer answers nv (about t (whether_told test)) ≡ true →
+      yields_say yields nv (about t (whether_told test)) ≡ true
+  pub once : IsOnce answers

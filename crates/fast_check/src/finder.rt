@@ -1,0 +1,124 @@
+ghost use Rattle.std.specs.Prelude.{◌≡◌, false, map, is_some, IfOk, IfErr};
+ghost use Rattle.fast_check_packages.specs.Package.{nv_of};
+ghost use Rattle.fast_check_turns.specs.Sources.{known};
+ghost use Rattle.fast_check_finder.specs.Refusals.{IsRefusal};
+ghost use Rattle.fast_check.specs.Found.{known_of, IsFound};
+
+use fast_check_cache::{FastCheckCache, PackagePublicRanges};
+use fast_check_finder::{Sources, find_all};
+use fast_check_graph::{ModuleGraph, RootSymbol};
+use fast_check_package_ranges::package_ranges;
+use fast_check_packages::{PackageNv, WorkspaceMember};
+use fast_check_provider::{BuildFault, JsrUrlProvider};
+use std::alloc::Global;
+use std::collections::{BTreeMap, VecDeque};
+
+/// What is found of these packages, and of those that follow from them.
+fn ranges_of(
+    alloc: Global,
+    sources: Sources<'_>,
+    provider: &dyn JsrUrlProvider,
+    roots: &[PackageNv],
+) -> Result<BTreeMap<PackageNv, PackagePublicRanges>, BuildFault>
+    ensures found { IfOk result (IsFound (known sources.entry (url_of provider.now) (nv_at provider.now)) (map nv_of roots.now)) }
+    ensures refused { IfErr result (IsRefusal (known sources.entry (url_of provider.now) (nv_at provider.now)) (map nv_of roots.now)) }
+{
+    let found = find_all(alloc, sources, provider, roots)?;
+    let answers = package_ranges(alloc, found)?;
+    Ok(answers)
+}
+
+/// What is public in these packages, and in all that follow from them. A package that is handed in twice is followed once.
+///
+/// No cache can be handed in yet. `InvalidExport` has the first export text of a package that does not join to the package's URL. `OutOfMemory`
+/// where memory is wanting, or a URL comes to 4 GB.
+pub fn find_public_ranges(
+    alloc: Global,
+    cache: Option<&dyn FastCheckCache>,
+    jsr_url_provider: &dyn JsrUrlProvider,
+    graph: &ModuleGraph,
+    root_symbol: &RootSymbol,
+    workspace_members: &[WorkspaceMember],
+    pending_nvs: VecDeque<PackageNv>,
+) -> Result<BTreeMap<PackageNv, PackagePublicRanges>, BuildFault>
+    requires { is_some cache ≡ false }
+    ensures found {
+        let k = known_of graph.now root_symbol.now workspace_members.now (url_of jsr_url_provider.now) (nv_at jsr_url_provider.now) in
+        IfOk result (IsFound k (map nv_of pending_nvs.items)) }
+    ensures refused {
+        let k = known_of graph.now root_symbol.now workspace_members.now (url_of jsr_url_provider.now) (nv_at jsr_url_provider.now) in
+        IfErr result (IsRefusal k (map nv_of pending_nvs.items)) }
+{
+    let sources = Sources {
+        graph,
+        root_symbol,
+        workspace_members,
+    };
+    let roots = pending_nvs.into_vec();
+    ranges_of(alloc, sources, jsr_url_provider, roots.as_slice())
+}
+
+/// Finds what is public in the packages that are handed in.
+#[derive(Drop)]
+pub struct PublicRangeFinder<'a> {
+    graph: &'a ModuleGraph,
+    root_symbol: &'a RootSymbol,
+    workspace_members: &'a [WorkspaceMember],
+    pending_nvs: VecDeque<PackageNv>,
+}
+
+impl<'a> PublicRangeFinder<'a> {
+    /// A finder for these packages. It takes no memory.
+    pub fn new(
+        graph: &'a ModuleGraph,
+        root_symbol: &'a RootSymbol,
+        workspace_members: &'a [WorkspaceMember],
+        pending_nvs: VecDeque<PackageNv>,
+    ) -> PublicRangeFinder<'a>
+        ensures graph { result.graph.now ≡ graph.entry.now }
+        ensures root_symbol { result.root_symbol.now ≡ root_symbol.entry.now }
+        ensures workspace_members { result.workspace_members.now ≡ workspace_members.entry.now }
+        ensures pending_nvs { result.pending_nvs.items ≡ pending_nvs.items }
+    {
+        PublicRangeFinder {
+            graph,
+            root_symbol,
+            workspace_members,
+            pending_nvs,
+        }
+    }
+
+    /// The answer of [`find_public_ranges`].
+    pub fn find(
+        self,
+        alloc: Global,
+        cache: Option<&dyn FastCheckCache>,
+        jsr_url_provider: &dyn JsrUrlProvider,
+    ) -> Result<BTreeMap<PackageNv, PackagePublicRanges>, BuildFault>
+        requires { is_some cache ≡ false }
+        ensures found {
+            let f = self.entry in
+            let k = known_of f.graph.now f.root_symbol.now f.workspace_members.now (url_of jsr_url_provider.now) (nv_at jsr_url_provider.now) in
+            IfOk result (IsFound k (map nv_of f.pending_nvs.items)) }
+        ensures refused {
+            let f = self.entry in
+            let k = known_of f.graph.now f.root_symbol.now f.workspace_members.now (url_of jsr_url_provider.now) (nv_at jsr_url_provider.now) in
+            IfErr result (IsRefusal k (map nv_of f.pending_nvs.items)) }
+    {
+        let PublicRangeFinder {
+            graph,
+            root_symbol,
+            workspace_members,
+            pending_nvs,
+        } = self;
+        find_public_ranges(
+            alloc,
+            cache,
+            jsr_url_provider,
+            graph,
+            root_symbol,
+            workspace_members,
+            pending_nvs,
+        )
+    }
+}
