@@ -42,11 +42,9 @@ pub fn find_public_ranges(
     pending_nvs: VecDeque<PackageNv>,
 ) -> Result<BTreeMap<PackageNv, PackagePublicRanges>, BuildFault>
     requires { is_some cache ≡ false }
-    ensures found {
-        let k = known_of graph.now root_symbol.now workspace_members.now (url_of jsr_url_provider.now) (nv_at jsr_url_provider.now) in
+    ensures found { let k = known_of graph.now root_symbol.now workspace_members.now (url_of jsr_url_provider.now) (nv_at jsr_url_provider.now) in
         IfOk result (IsFound k (map nv_of pending_nvs.items)) }
-    ensures refused {
-        let k = known_of graph.now root_symbol.now workspace_members.now (url_of jsr_url_provider.now) (nv_at jsr_url_provider.now) in
+    ensures refused { let k = known_of graph.now root_symbol.now workspace_members.now (url_of jsr_url_provider.now) (nv_at jsr_url_provider.now) in
         IfErr result (IsRefusal k (map nv_of pending_nvs.items)) }
 {
     let sources = Sources {
@@ -96,12 +94,10 @@ impl<'a> PublicRangeFinder<'a> {
         jsr_url_provider: &dyn JsrUrlProvider,
     ) -> Result<BTreeMap<PackageNv, PackagePublicRanges>, BuildFault>
         requires { is_some cache ≡ false }
-        ensures found {
-            let f = self.entry in
+        ensures found { let f = self.entry in
             let k = known_of f.graph.now f.root_symbol.now f.workspace_members.now (url_of jsr_url_provider.now) (nv_at jsr_url_provider.now) in
             IfOk result (IsFound k (map nv_of f.pending_nvs.items)) }
-        ensures refused {
-            let f = self.entry in
+        ensures refused { let f = self.entry in
             let k = known_of f.graph.now f.root_symbol.now f.workspace_members.now (url_of jsr_url_provider.now) (nv_at jsr_url_provider.now) in
             IfErr result (IsRefusal k (map nv_of f.pending_nvs.items)) }
     {
