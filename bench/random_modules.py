@@ -42,6 +42,17 @@ RESOLVED = {"./a": "file:///p/q/a.ts", "../b": "file:///p/b.ts", "./c.ts": "http
 SOURCES = [*RESOLVED, "./none", "https://h/d.ts"]
 
 
+def members(node):
+    """All members of a tree by their names, each before those inside of it."""
+    if isinstance(node, list):
+        for each in node:
+            yield from members(each)
+    elif isinstance(node, dict):
+        for name, inside in node.items():
+            yield name, inside
+            yield from members(inside)
+
+
 class Writer:
     """Makes random trees. `depth` is how deep a tree may still go."""
 
@@ -265,17 +276,9 @@ class Writer:
             plain |= {(text, MODULE)} if is_plain else set()
         return {"symbols": symbols, "module_symbol": 0, "swc_ids": ids}, exports, keyworded, plain
 
-    def public(self, node, part):
+    def public(self, items, part):
         """Ranges at random, of those that a rule may ask for."""
-        found = []
-        if isinstance(node, list):
-            for each in node:
-                found += self.public(each, part)
-        elif isinstance(node, dict):
-            for kind, inside in node.items():
-                found += self.ranges_of(kind, inside, part)
-                found += self.public(inside, part)
-        return found
+        return [span for kind, inside in members(items) for span in self.ranges_of(kind, inside, part)]
 
     def ranges_of(self, kind, node, part):
         if kind in ("ExportDecl", "ExportAll", "TsImportEquals", "ExportDefaultExpr", "ExportDefaultDecl", "Assign", "Import", "ExportNamed"):
@@ -289,17 +292,10 @@ class Writer:
             spans = []
         return [span for span in spans if self.chance(part)]
 
-    def implementations(self, node, part):
-        found = []
-        if isinstance(node, list):
-            for each in node:
-                found += self.implementations(each, part)
-        elif isinstance(node, dict):
-            for kind, inside in node.items():
-                if kind in ("ExportDecl", "Method", "Constructor", "ExportDefaultDecl") and "span" in inside and self.chance(part):
-                    found.append(inside["span"])
-                found += self.implementations(inside, part)
-        return found
+    def implementations(self, items, part):
+        """Ranges at random, of those that may be implementations with overloads."""
+        kinds = ("ExportDecl", "Method", "Constructor", "ExportDefaultDecl")
+        return [inside["span"] for kind, inside in members(items) if kind in kinds and "span" in inside and self.chance(part)]
 
     def case(self):
         """A request, and what has to be answered."""
