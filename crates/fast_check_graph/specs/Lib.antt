@@ -1,3 +1,4 @@
 pub mod Modules
 pub mod Graph
+pub mod ModuleNames
 pub mod Root

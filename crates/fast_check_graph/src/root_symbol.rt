@@ -1,8 +1,7 @@
-ghost use Rattle.std.specs.Prelude.{◌≡◌, IfOk, IfErr, OnOk};
+ghost use Rattle.std.specs.Prelude.{◌≡◌, false, IfOk, IfErr, OnOk};
 ghost use Rattle.std.specs.Option.{option_copied};
 ghost use Rattle.std.specs.List.{list_any};
-ghost use Rattle.fast_check_graph.specs.Root.{IsRootOf, StandUnderOwnNames, IsRootFault, found_module, module_named, module_aliased};
-ghost use Rattle.fast_check_graph.specs.Root.{specifier_of, is_misplaced};
+ghost use Rattle.fast_check_graph.specs.ModuleNames.{specifier_of, is_misplaced};
 
 use fast_check_modules::{EsModuleInfo, JsonModuleInfo, TableFault};
 use std::collections::BTreeMap;
@@ -32,9 +31,13 @@ impl ModuleInfo {
 pub struct RootSymbol {
     modules: BTreeMap<Url, ModuleInfo>,
     aliases: BTreeMap<Url, Url>,
+    ghost own_names: { list_any is_misplaced modules.entries ≡ false },
 }
 
 impl RootSymbol {
+    ghost use Rattle.fast_check_graph.specs.ModuleNames.{StandUnderOwnNames, IsRootFault, module_named, module_aliased};
+    ghost use Rattle.fast_check_graph.specs.Root.{IsRootOf, AreFoundByOwnNames, found_module};
+
     /// These modules and aliases, where each module stands under its own name; else `ModuleNotUnderOwnName`, and what was handed in is dropped.
     /// It takes no memory.
     pub fn new(
@@ -49,6 +52,13 @@ impl RootSymbol {
             return Err(TableFault::ModuleNotUnderOwnName);
         }
         Ok(RootSymbol { modules, aliases })
+    }
+
+    /// The law of names: each module is found by its own. It holds of every value, and does nothing when it is called.
+    pub fn own_names_find(&self)
+        ensures { AreFoundByOwnNames self.now }
+    {
+        let _ = self.modules.len();
     }
 
     /// The module of a name, or else that of the name that it stands for.
