@@ -1,1 +1,2 @@
+mod OwnRanges
 pub mod Said

@@ -1,6 +1,7 @@
 -- What is found of packages that are handed in.
 use Rattle.std.specs.Prelude.{◌≡◌, ⊤, Bool, true, List, Option}
 use Rattle.std.specs.BTreeMap.{BTreeMap}
+use Rattle.fast_check_syntax.specs.declared.source.SourceRange.{SourceRange}
 use Rattle.fast_check_packages.specs.Package.{Nv}
 use Rattle.fast_check_packages.specs.declared.package.PackageNv.{PackageNv}
 use Rattle.url.specs.Parts.{Parts}
@@ -12,11 +13,13 @@ use Rattle.fast_check_faults.specs.Reports.{Report}
 use Rattle.fast_check_worklists.specs.Demands.{Text}
 use Rattle.fast_check_worklists.specs.Account.{Account, IsAccount, IsYield}
 use Rattle.fast_check_findings.specs.Yields.{Yield}
-use Rattle.fast_check_package_ranges.specs.Questions.{Question, whether_known, about, whether_told, yields_say, is_said, IsTextless}
+use Rattle.fast_check_package_ranges.specs.Questions.{Question, whether_known, about, whether_public, whether_implementing}
+use Rattle.fast_check_package_ranges.specs.Questions.{whether_told, yields_say, is_said, IsTextless}
 use Rattle.fast_check_package_ranges.specs.Answers.{answer, IsOnce}
-use Rattle.fast_check_turns.specs.Sources.{Known, owner_by}
+use Rattle.fast_check_turns.specs.Sources.{Known, owner_by, named_at}
 use Rattle.fast_check_turns.specs.Rules.{world}
 use Rattle.fast_check_turns.specs.Yields.{gives}
+use Rattle.fast_check_turns.specs.Own.{IsOwnRange}
 use Rattle.fast_check_finder.specs.Refusals.{JoinAll}
 
 -- what is known of modules and packages, where a provider is lent
@@ -35,7 +38,7 @@ IsOfYields whether_known = ⊥
 IsOfYields _ = ⊤
 
 -- There is an account of demands, from the packages that are handed in, whose export texts all join; and the answers say what its demands give,
--- and nothing else.
+-- and nothing else. What is public in a module is declared in it, so that the module admits it.
 pub record IsFound (k : Known) (roots : List Nv) (answers : BTreeMap PackageNv PackagePublicRanges) : Type 0 where
   pub account : Account
   pub yields : List Yield
@@ -46,3 +49,6 @@ pub record IsFound (k : Known) (roots : List Nv) (answers : BTreeMap PackageNv P
   pub exact : (nv : Nv) (t : Text) (test : Report → Bool) → answer answers nv (about t (whether_told test)) ≡ true →
       yields_say yields nv (about t (whether_told test)) ≡ true
   pub once : IsOnce answers
+  pub own : (nv : Nv) (t : Text) (r : SourceRange) → answer answers nv (about t (whether_public r)) ≡ true → IsOwnRange (named_at k.root_symbol t) r
+  pub own_implementations : (nv : Nv) (t : Text) (r : SourceRange) → answer answers nv (about t (whether_implementing r)) ≡ true →
+      IsOwnRange (named_at k.root_symbol t) r

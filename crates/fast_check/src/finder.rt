@@ -23,6 +23,7 @@ fn ranges_of(
     ensures found { IfOk result (IsFound (known sources.entry (url_of provider.now) (nv_at provider.now)) (map nv_of roots.now)) }
     ensures refused { IfErr result (IsRefusal (known sources.entry (url_of provider.now) (nv_at provider.now)) (map nv_of roots.now)) }
 {
+    sources.root_symbol.own_names_find();
     let found = find_all(alloc, sources, provider, roots)?;
     let answers = package_ranges(alloc, found)?;
     Ok(answers)

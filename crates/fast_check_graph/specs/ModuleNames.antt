@@ -1,5 +1,5 @@
 -- Names of modules.
-use Rattle.std.specs.Prelude.{◌≡◌, Bool, not, IsTrue, List, Option}
+use Rattle.std.specs.Prelude.{Bool, not, IsTrue, List, Option}
 use Rattle.std.specs.List.{Contains}
 use Rattle.std.specs.Map.{lookup}
 use Rattle.std.specs.Option.{option_and_then, option_or}

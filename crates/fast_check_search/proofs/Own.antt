@@ -57,7 +57,7 @@ module _ (t : Tables) where
   own_asked (as_child n) s h = own_symbol n s h
   own_asked (by_path p e) s h = own_all s.decls.items (own_decl s h)
 
-  own_ranges : (d : Demand) → Each Q (ranges t d)
+  pub own_ranges : (d : Demand) → Each Q (ranges t d)
   own_ranges d = each_each_of Q (asked_ranges t d.asked) (symbol_of d.symbol t.symbols) (λ s e. own_asked d.asked s (last_inside (has_id d.symbol) t.symbols s e))
 
   own_implementing : (n : Namespace) (s : Symbol) → Contains t.symbols s → Each Q (symbol_implementations n s)
@@ -70,7 +70,7 @@ module _ (t : Tables) where
   own_asked_implementations (as_child n) s h = own_implementing n s h
   own_asked_implementations (by_path p e) s h = each_nil Q
 
-  own_implementations : (d : Demand) → Each Q (implementations t d)
+  pub own_implementations : (d : Demand) → Each Q (implementations t d)
   own_implementations d = each_each_of Q (asked_implementations d.asked) (symbol_of d.symbol t.symbols)
       (λ s e. own_asked_implementations d.asked s (last_inside (has_id d.symbol) t.symbols s e))
 

@@ -51,7 +51,7 @@ module _ (m : TracedModule) where
       (each_nil Own)
       (own_first (first_with m name (own_tables m).re_exports) (λ x e. found_inside (λ y. is_some (answer_of m name y)) (own_tables m).re_exports x e))
 
-  own_demand : (d : NameDemand) → Each Own (re_export_ranges m d)
+  pub own_demand : (d : NameDemand) → Each Own (re_export_ranges m d)
   own_demand names_but_default = own_nodes
   own_demand each_name = own_nodes
   own_demand (subset_at []) = each_nil Own

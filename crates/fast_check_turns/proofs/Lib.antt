@@ -3,3 +3,4 @@ pub mod Lists
 mod Analyzed
 pub mod Reported
 mod Entered
+pub mod OwnYields

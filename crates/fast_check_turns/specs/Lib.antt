@@ -3,4 +3,5 @@ pub mod Exports
 pub mod Rules
 pub mod Yields
 pub mod Analysis
+pub mod Own
 pub mod Turns
