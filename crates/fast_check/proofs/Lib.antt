@@ -1,2 +1,3 @@
 mod OwnRanges
+pub mod Built
 pub mod Said

@@ -30,7 +30,7 @@ fn enter_next(
     ensures turned { let k = known sources.entry (url_of provider.now) (nv_at provider.now) in
         IfOk result (IsTurn (world k) (gives k) next (state_of asked.old) (state_of asked.new)
         (flat_map yields_of found.old.items) (flat_map yields_of found.new.items)) }
-    ensures refused { IfErr result (IsRefusedOf (known sources.entry (url_of provider.now) (nv_at provider.now)) (map nv_of asked.old.packages.items)) }
+    ensures refused { IfErr result (IsRefusedOf (known sources.entry (url_of provider.now) (nv_at provider.now)) (map nv_of asked.old.packages.keys)) }
 {
     if next >= asked.packages.len() {
         return Ok(None);
@@ -72,7 +72,7 @@ fn turn(
     ensures turned { let k = known sources.entry (url_of provider.now) (nv_at provider.now) in
         IfOk result (IsTurn (world k) (gives k) next (state_of asked.old) (state_of asked.new)
         (flat_map yields_of found.old.items) (flat_map yields_of found.new.items)) }
-    ensures refused { IfErr result (IsRefusedOf (known sources.entry (url_of provider.now) (nv_at provider.now)) (map nv_of asked.old.packages.items)) }
+    ensures refused { IfErr result (IsRefusedOf (known sources.entry (url_of provider.now) (nv_at provider.now)) (map nv_of asked.old.packages.keys)) }
 {
     match asked.waiting.pop() {
         None => {

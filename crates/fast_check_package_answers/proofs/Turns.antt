@@ -27,7 +27,7 @@ use Rattle.fast_check_transform_faults.specs.Diagnostics.{AreDiagnosticsOf, told
 use Rattle.fast_check_package_answers.specs.Reasons.{PublicModule, Reason, met, found, Tells, found_or, reasons_in_tree, first_list, module_reasons}
 use Rattle.fast_check_package_answers.specs.Reasons.{package_reasons}
 use Rattle.fast_check_package_answers.specs.PackageAnswer.{Answer, TreeModule, IsShown, ShowsMore, with_tree, tree_modules}
-use Rattle.fast_check_package_answers.specs.PackageAnswer.{IsSkeletonOf, IsPackageAnswer, AdmitsPublic, AdmitsModule, AdmitsAll}
+use Rattle.fast_check_package_answers.specs.PackageAnswer.{IsSkeletonOf, IsPackageAnswer, OwnsPublic, OwnsModule, OwnsAll}
 use Rattle.fast_check_package_answers.proofs.Lists.{first_last, first_front, both_append, left_empty, right_empty, front_empty, back_empty}
 use Rattle.fast_check_package_answers.proofs.Lists.{all_front, all_back}
 
@@ -255,13 +255,13 @@ package_shown graph root ranges first before after wrong begin none tells shows 
   refused = λ some. absurd (some (left_empty Tells _ wrong tells none));
 }
 
--- ---- what is admitted
+-- ---- what is public is declared
 
-pub admits_next : (root : RootSymbol) (ms : List PublicModule) (m : PublicModule) (rest all : List PublicModule) → ms ++ m ∷ rest ≡ all →
-    AdmitsAll root all → AdmitsModule root m
-admits_next root ms m rest all e h =
+pub owns_next : (root : RootSymbol) (ms : List PublicModule) (m : PublicModule) (rest all : List PublicModule) → ms ++ m ∷ rest ≡ all →
+    OwnsAll root all → OwnsModule root m
+owns_next root ms m rest all e h =
     let f : PublicModule → List TreeModule = λ x. with_tree x (found_module root x.0) in
     let split = flat_map-append f ms (m ∷ rest) in
-    let later : AllByRecursion AdmitsPublic (flat_map f ms ++ flat_map f (m ∷ rest)) =
-    subst (AllByRecursion AdmitsPublic) (sym (ap (flat_map f) e) ∙ split) h in
-    all_front AdmitsPublic (f m) (flat_map f rest) (all_back AdmitsPublic (flat_map f ms) (flat_map f (m ∷ rest)) later)
+    let later : AllByRecursion OwnsPublic (flat_map f ms ++ flat_map f (m ∷ rest)) =
+    subst (AllByRecursion OwnsPublic) (sym (ap (flat_map f) e) ∙ split) h in
+    all_front OwnsPublic (f m) (flat_map f rest) (all_back OwnsPublic (flat_map f ms) (flat_map f (m ∷ rest)) later)

@@ -8,7 +8,7 @@ use Rattle.fast_check_tables.specs.PublicRanges.{PublicRanges}
 use Rattle.fast_check_tables.specs.contracts.diagnostics.FastCheckDiagnosticClone.TheImpl as copies
 use Rattle.fast_check_tables.specs.declared.diagnostics.FastCheckDiagnostic.{FastCheckDiagnostic}
 use Rattle.fast_check_tables.specs.declared.tables.fast_check_module.FastCheckModule.{FastCheckModule}
-use Rattle.fast_check_modules.specs.EsModule.{EsModule, Admits}
+use Rattle.fast_check_modules.specs.EsModule.{EsModule, AreOwnRanges}
 use Rattle.fast_check_skeleton.specs.Grammar.{IsSkeleton}
 use Rattle.fast_check_bindings.specs.Bindings.{bindings_of}
 use Rattle.fast_check_graph.specs.Root.{found_module}
@@ -83,15 +83,15 @@ pub record IsPackageAnswer (graph : ModuleGraph) (root : RootSymbol) (ranges : P
   pub refused : package_reasons first graph root ranges.module_ranges.entries ≢ []
       → AreRefused (package_reasons first graph root ranges.module_ranges.entries) ranges.entrypoints.keys answers
 
--- each module with a tree admits what is public in it
-abbrev pub AdmitsPublic : TreeModule → Type 0
-AdmitsPublic m = Admits m.info m.public
+-- what is public in each module with a tree is declared in it
+abbrev pub OwnsPublic : TreeModule → Type 0
+OwnsPublic m = AreOwnRanges m.info.tables m.public
 
-abbrev pub AdmitsModule : RootSymbol → PublicModule → Type 0
-AdmitsModule root m = AllByRecursion AdmitsPublic (with_tree m (found_module root m.0))
+abbrev pub OwnsModule : RootSymbol → PublicModule → Type 0
+OwnsModule root m = AllByRecursion OwnsPublic (with_tree m (found_module root m.0))
 
-abbrev pub AdmitsAll : RootSymbol → List PublicModule → Type 0
-AdmitsAll root modules = AllByRecursion AdmitsPublic (tree_modules root modules)
+abbrev pub OwnsAll : RootSymbol → List PublicModule → Type 0
+OwnsAll root modules = AllByRecursion OwnsPublic (tree_modules root modules)
 
 -- ---- the option
 

@@ -1,9 +1,9 @@
 ghost use Rattle.std.specs.Prelude.{◌≡◌, ◌==◌, ◌&&◌, not, [], ◌∷◌, ◌++◌, length, IfOk, OnOk};
 ghost use Rattle.std.specs.List.{AllZip};
-ghost use Rattle.fast_check_modules.specs.EsModule.{Admits};
+ghost use Rattle.fast_check_modules.specs.EsModule.{AreOwnRanges};
 ghost use Rattle.fast_check_graph.specs.Root.{found_module};
 ghost use Rattle.fast_check_package_answers.specs.Reasons.{Tells, reasons_in_tree, module_reasons, package_reasons};
-ghost use Rattle.fast_check_package_answers.specs.PackageAnswer.{ShowsMore, with_tree, tree_modules, AdmitsModule, AdmitsAll};
+ghost use Rattle.fast_check_package_answers.specs.PackageAnswer.{ShowsMore, with_tree, tree_modules, OwnsModule, OwnsAll};
 ghost use Rattle.fast_check_package_answers.specs.PackageAnswer.{IsRefused, IsPackageAnswer};
 
 use fast_check_cache::PackagePublicRanges;
@@ -33,13 +33,15 @@ fn answer_tree(
     options: &TransformOptions,
     answers: &mut Vec<ModuleAnswer>,
 ) -> Result<Vec<FastCheckDiagnostic>, AllocError>
-    requires { Admits es_module_info.now public_ranges.now }
+    requires { AreOwnRanges es_module_info.now.tables public_ranges.now }
     ensures reasons { IfOk result (λ wrong. AllZip Tells
         (reasons_in_tree options.now.should_error_on_first_diagnostic graph.now public_ranges.now (Some (ModuleInfo.Esm es_module_info.now)))
         wrong.items) }
     ensures shown { IfOk result (λ wrong. wrong.items ≡ [] → ShowsMore graph.now
         (with_tree (specifier, public_ranges.now) (Some (ModuleInfo.Esm es_module_info.now))) answers.old.items answers.new.items) }
 {
+    // Ranges of the module's own tables are admitted.
+    let _ = es_module_info.admits(public_ranges);
     match transform(alloc, graph, es_module_info, public_ranges, options)? {
         Ok(made) => {
             answers.push((specifier, Ok(made)))?;
@@ -59,7 +61,7 @@ fn answer_if_tree(
     options: &TransformOptions,
     answers: &mut Vec<ModuleAnswer>,
 ) -> Result<Vec<FastCheckDiagnostic>, AllocError>
-    requires { AdmitsModule root_symbol.now (specifier, public_ranges.now) }
+    requires { OwnsModule root_symbol.now (specifier, public_ranges.now) }
     ensures reasons { IfOk result (λ wrong. AllZip Tells
         (reasons_in_tree options.now.should_error_on_first_diagnostic graph.now public_ranges.now (found_module root_symbol.now specifier))
         wrong.items) }
@@ -91,7 +93,7 @@ fn answer_module(
     options: &TransformOptions,
     answers: &mut Vec<ModuleAnswer>,
 ) -> Result<Vec<FastCheckDiagnostic>, AllocError>
-    requires { AdmitsModule root_symbol.now (specifier, public_ranges) }
+    requires { OwnsModule root_symbol.now (specifier, public_ranges) }
     ensures reasons { IfOk result (λ wrong. AllZip Tells
         (module_reasons options.now.should_error_on_first_diagnostic graph.now root_symbol.now (specifier, public_ranges)) wrong.items) }
     ensures shown { IfOk result (λ wrong. wrong.items ≡ [] → ShowsMore graph.now
@@ -145,7 +147,7 @@ fn answer_modules(
     options: &TransformOptions,
     answers: &mut Vec<ModuleAnswer>,
 ) -> Result<Vec<FastCheckDiagnostic>, AllocError>
-    requires { AdmitsAll root_symbol.now module_ranges.entries }
+    requires { OwnsAll root_symbol.now module_ranges.entries }
     ensures reasons { IfOk result (λ wrong. AllZip Tells
         (package_reasons options.now.should_error_on_first_diagnostic graph.now root_symbol.now module_ranges.entries) wrong.items) }
     ensures shown { IfOk result (λ wrong. wrong.items ≡ [] → ShowsMore graph.now
@@ -202,7 +204,7 @@ fn refuse(
 /// its first fault.
 ///
 /// This is what `build_fast_check_type_graph` of deno_graph does with each package that no cache answers: what a cache keeps of it
-/// is not read. Each module with a syntax tree has to admit what is public in it. An `Err` is want of memory.
+/// is not read. What is public in a module with a syntax tree has to be declared in it, as it is where it was found. An `Err` is want of memory.
 pub fn answer_package(
     alloc: Global,
     graph: &ModuleGraph,
@@ -210,7 +212,7 @@ pub fn answer_package(
     package_ranges: PackagePublicRanges,
     options: &TransformOptions,
 ) -> Result<Vec<ModuleAnswer>, AllocError>
-    requires admitted { AdmitsAll root_symbol.now package_ranges.module_ranges.entries }
+    requires own { OwnsAll root_symbol.now package_ranges.module_ranges.entries }
     ensures { IfOk result (λ answers.
         IsPackageAnswer graph.now root_symbol.now package_ranges options.now.should_error_on_first_diagnostic answers.items) }
 {

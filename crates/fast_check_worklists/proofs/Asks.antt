@@ -1,8 +1,8 @@
 -- Steps in turn, and small facts of what they name.
-use Rattle.std.proofs.Common.{◌≡◌, ◌∙◌, sym, ap, refl, subst, Bool, true, false, cond, ◌||◌, List, [], ◌∷◌, ◌++◌, Option, Some, map}
+use Rattle.std.proofs.Common.{◌≡◌, ◌∙◌, sym, ap, refl, subst, Bool, true, false, cond, ◌||◌, List, [], ◌∷◌, ◌++◌, map}
 use Rattle.std.specs.List.{list_any}
 use Rattle.fast_check_packages.specs.declared.package.PackageNv.{PackageNv}
-use Rattle.fast_check_packages.specs.Package.{Nv, nv_of}
+use Rattle.fast_check_packages.specs.Package.{nv_of}
 use Rattle.fast_check_worklists.specs.declared.asked.Step.{Step}
 use Rattle.fast_check_worklists.specs.Demands.{same_nv}
 use Rattle.fast_check_worklists.specs.State.{State, AddsPackage, AsksOne, AsksAll}
@@ -15,15 +15,21 @@ pub any_map : {X Y : Type 0} (f : Y → Bool) (g : X → Y) (xs : List X) → li
 any_map f g [] = refl
 any_map f g (x ∷ xs) = ap (λ (b : Bool). f (g x) || b) (any_map f g xs)
 
-pub adds_none : (p : Nv) (xs : List PackageNv) → list_any (λ seen. same_nv p (nv_of seen)) xs ≡ true → AddsPackage p (map nv_of xs) (map nv_of xs)
-adds_none p xs h = sym (ap (λ (b : Bool). cond b (map nv_of xs) (map nv_of xs ++ p ∷ [])) (any_map (same_nv p) nv_of xs ∙ h))
-
 pub map_last : {X Y : Type 0} (g : X → Y) (xs : List X) (x : X) → map g (xs ++ x ∷ []) ≡ map g xs ++ g x ∷ []
 map_last g [] x = refl
 map_last {X} {Y} g (y ∷ ys) x = ap (λ (zs : List Y). g y ∷ zs) (map_last g ys x)
 
-pub adds_one : (nv : PackageNv) (xs new : List PackageNv) → list_any (λ seen. same_nv (nv_of nv) (nv_of seen)) xs ≡ false → new ≡ xs ++ nv ∷ [] → AddsPackage
-    (nv_of nv) (map nv_of xs) (map nv_of new)
-adds_one nv xs new h is =
-    ap (map nv_of) is ∙ (map_last nv_of xs nv ∙ sym (ap (λ (b : Bool). cond b (map nv_of xs) (map nv_of xs ++ nv_of nv ∷ []))
-    (any_map (same_nv (nv_of nv)) nv_of xs ∙ h)))
+any_alike : {X : Type 0} (f g : X → Bool) → ((x : X) → f x ≡ g x) → (xs : List X) → list_any f xs ≡ list_any g xs
+any_alike f g h [] = refl
+any_alike f g h (x ∷ xs) = ap (λ (b : Bool). b || list_any f xs) (h x) ∙ ap (λ (b : Bool). g x || b) (any_alike f g h xs)
+
+-- a package that is inserted into a set stands there once, where the set's test goes by name and version
+pub inserted : (eq : PackageNv → PackageNv → Bool) → ((a b : PackageNv) → eq a b ≡ same_nv (nv_of a) (nv_of b)) → (nv : PackageNv) (xs new : List PackageNv) →
+    new ≡ cond (list_any (eq nv) xs) xs (xs ++ nv ∷ []) → AddsPackage (nv_of nv) (map nv_of xs) (map nv_of new)
+inserted eq ties nv xs new is = ap (map nv_of) is ∙ go (list_any (eq nv) xs) ∙
+    ap (λ (b : Bool). cond b (map nv_of xs) (map nv_of xs ++ nv_of nv ∷ []))
+    (any_alike (eq nv) (λ seen. same_nv (nv_of nv) (nv_of seen)) (ties nv) xs ∙ sym (any_map (same_nv (nv_of nv)) nv_of xs))
+  where
+    go : (b : Bool) → map nv_of (cond b xs (xs ++ nv ∷ [])) ≡ cond b (map nv_of xs) (map nv_of xs ++ nv_of nv ∷ [])
+    go true = refl
+    go false = map_last nv_of xs nv

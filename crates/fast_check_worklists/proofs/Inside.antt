@@ -1,11 +1,11 @@
 -- Each chained demand is inside.
-use Rattle.std.proofs.Common.{◌≡◌, ◌∙◌, sym, ap, refl, subst, Bool, true, false, ◌&&◌, not, List, [], ◌∷◌, ⊎_elim}
+use Rattle.std.proofs.Common.{◌≡◌, ◌∙◌, sym, ap, subst, Bool, true, false, ◌&&◌, not, List, [], ◌∷◌, ⊎_elim}
 use Rattle.std.specs.List.{Contains}
 use Rattle.std.specs.Str.{bytes_eq}
-use Rattle.std.proofs.lemmas.Bool.{cases_Bool, false≢true, and_parts}
+use Rattle.std.proofs.lemmas.Bool.{cases_Bool, false≢true}
 use Rattle.std.proofs.lemmas.Slice.Eq.{bytes_eq-Decides}
 use Rattle.fast_check_packages.specs.Package.{Nv}
-use Rattle.fast_check_names.specs.Names.{Name, Path, Covered, whole_path, has_whole}
+use Rattle.fast_check_names.specs.Names.{Name, Path, whole_path, has_whole}
 use Rattle.fast_check_names.specs.Imports.{default_name, NameDemand, names_but_default, each_name, subset_at, whole_at}
 use Rattle.fast_check_demands.specs.Demands.{Demand as SymbolDemand}
 use Rattle.fast_check_worklists.specs.Demands.{asked_by, Want, to_package, to_module, to_symbol, Demand, of_package, of_module, of_symbol, World, Gives}

@@ -1,5 +1,5 @@
 -- The search from its beginning, turn by turn, to its end.
-use Rattle.std.proofs.Common.{◌≡◌, ◌∙◌, sym, ap, subst, ℕ, ◌+◌, ◌-◌, ◌<◌, ◌≤◌, Bool, true, List, [], ◌∷◌, ◌++◌, Option, Some, None, map, length, take, ◌⊎◌}
+use Rattle.std.proofs.Common.{◌≡◌, ◌∙◌, sym, ap, subst, ℕ, ◌-◌, ◌<◌, ◌≤◌, Bool, true, List, [], ◌∷◌, ◌++◌, Option, Some, None, map, length, take, ◌⊎◌}
 use Rattle.std.proofs.Common.{⊎_elim, arith, append-nil, length-append}
 use Rattle.std.specs.List.{list_any, Contains, IsDistinct}
 use Rattle.std.specs.Cmp.{eq_by_cmp_equiv}

@@ -8,7 +8,7 @@ use Rattle.fast_check_names.specs.declared.lattice.imported_exports.ImportedExpo
 use Rattle.fast_check_names.specs.Names.{Path, Part, Touched, Covered, NameSet, paths, has_whole, IsBelow, HasMore}
 use Rattle.fast_check_names.specs.Paths.{paths_opened_nil}
 use Rattle.fast_check_names.specs.Shapes.{own_set}
-use Rattle.fast_check_names.specs.Imports.{default_name, imported, NameDemand, names_but_default, each_name, subset_at, whole_at}
+use Rattle.fast_check_names.specs.Imports.{default_name, imported, NameDemand, subset_at, whole_at}
 use Rattle.fast_check_names.proofs.Forms.{not_all, star_below_all, new_above}
 use Rattle.fast_check_worklists.specs.Demands.{asked}
 use Rattle.fast_check_worklists.specs.Measure.{IsWithin, cost, total, missing, rank}

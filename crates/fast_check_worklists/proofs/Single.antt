@@ -1,12 +1,12 @@
 -- Single demands and their paths.
-use Rattle.std.proofs.Common.{◌≡◌, ◌∙◌, sym, ap, refl, subst, Bool, true, ◌&&◌, not, [], ◌∷◌, ◌++◌, ◌⊎◌, inl, inr, ⊎_elim}
+use Rattle.std.proofs.Common.{◌≡◌, ◌∙◌, sym, refl, subst, true, not, [], ◌∷◌, ◌++◌}
 use Rattle.std.specs.Str.{bytes_eq}
-use Rattle.std.proofs.lemmas.Bool.{cases_Bool, false≢true, and_parts, and_from}
+use Rattle.std.proofs.lemmas.Bool.{false≢true, and_parts, and_from}
 use Rattle.std.proofs.lemmas.Slice.Eq.{bytes_eq-Decides}
 use Rattle.fast_check_names.specs.declared.lattice.named_subset.NamedSubset.{NamedSubset}
 use Rattle.fast_check_names.specs.declared.lattice.imported_exports.ImportedExports.{ImportedExports}
 use Rattle.fast_check_names.specs.declared.lattice.imported_exports.ImportedExports.TheVariants.{Star, StarWithDefault, Subset}
-use Rattle.fast_check_names.specs.Names.{Name, Path, Part, Touched, Covered, NameSet, paths, whole_below, whole_path, named, has_subset, has_whole, IsBelow}
+use Rattle.fast_check_names.specs.Names.{Name, Path, Part, Touched, Covered, NameSet, paths, whole_below, whole_path, has_whole, IsBelow}
 use Rattle.fast_check_names.specs.Names.{IsClosed}
 use Rattle.fast_check_names.specs.Paths.{paths_opened_nil}
 use Rattle.fast_check_names.specs.Shapes.{own_set}
@@ -14,7 +14,6 @@ use Rattle.fast_check_names.specs.Imports.{default_name, all_but_default, all_na
 use Rattle.fast_check_names.proofs.Forms.{star_below_all}
 use Rattle.fast_check_worklists.specs.Demands.{asked, one, touched_path, begins}
 use Rattle.fast_check_worklists.specs.Account.{IsStarred, HasDefault}
-use Rattle.fast_check_worklists.proofs.Taken.{bytes_same}
 
 -- what is whole is covered
 pub whole_covered : (f : NameSet) (p : Path) → has_whole f p ≡ true → f Covered p ≡ true

@@ -7,7 +7,7 @@ use Rattle.std.proofs.lemmas.Slice.Eq.{bytes_eq-Decides}
 use Rattle.url.specs.Parts.{Parts, serialize}
 use Rattle.fast_check_names.specs.declared.lattice.imported_exports.ImportedExports.{ImportedExports}
 use Rattle.fast_check_names.specs.declared.lattice.imported_exports.ImportedExports.TheVariants.{Star, StarWithDefault, Subset}
-use Rattle.fast_check_names.specs.Names.{Part, Path, Touched, paths, IsSame, IsBelow, HasMore}
+use Rattle.fast_check_names.specs.Names.{Part, Path, Touched, IsSame, IsBelow, HasMore}
 use Rattle.fast_check_names.specs.Imports.{default_name, all_names, imported, answered, NameDemand, IsCopy, IsAdded}
 use Rattle.fast_check_packages.specs.Traces.{is_module, Handles, HandlesAt}
 use Rattle.fast_check_names.proofs.Forms.{not_all, star_below_all}

@@ -1,7 +1,7 @@
 -- The turns of the search, from its beginning to an account.
 use Rattle.std.proofs.Common.{◌≡◌, ◌∙◌, sym, ap, refl, subst, ℕ, ◌+◌, ◌<◌, ◌≤◌, Bool, true, ◌&&◌, List, [], ◌∷◌, ◌++◌, Option, Some, None, map, length, take}
-use Rattle.std.proofs.Common.{get_or, ◌⊎◌, inl, inr, ⊎_elim, arith, append-nil, append_assoc}
-use Rattle.std.specs.List.{list_any, Contains, flat_map}
+use Rattle.std.proofs.Common.{get_or, ◌⊎◌, inl, inr, ⊎_elim, arith, append-nil}
+use Rattle.std.specs.List.{list_any, Contains}
 use Rattle.std.specs.Cmp.{eq_by_cmp_equiv}
 use Rattle.std.proofs.lemmas.Bool.{false≢true, or_left, or_right, or_cases}
 use Rattle.std.proofs.lemmas.List.{take_more, take_all}
@@ -12,7 +12,7 @@ use Rattle.fast_check_packages.specs.Package.{Nv, nv_of}
 use Rattle.fast_check_packages.specs.PackageOrder.{nv_total}
 use Rattle.fast_check_names.specs.declared.lattice.imported_exports.ImportedExports.{ImportedExports}
 use Rattle.fast_check_names.specs.declared.lattice.imported_exports.ImportedExports.TheVariants.{Star, StarWithDefault, Subset}
-use Rattle.fast_check_names.specs.Names.{Part, Path, IsBelow}
+use Rattle.fast_check_names.specs.Names.{IsBelow}
 use Rattle.fast_check_names.specs.Imports.{imported, NameDemand, each_name}
 use Rattle.fast_check_names.proofs.Forms.{least_all}
 use Rattle.fast_check_demands.specs.Demands.{Demand as SymbolDemand}
@@ -24,7 +24,7 @@ use Rattle.fast_check_worklists.specs.Demands.{World, Gives, Follows}
 use Rattle.fast_check_worklists.specs.Account.{Trace, Followed, Account, HasIn, Has, traces_of, Chained, step, is_of, joined, IsSymbolMet, IsCovered}
 use Rattle.fast_check_worklists.specs.Account.{IsWidening, IsAccount, IsYield}
 use Rattle.fast_check_worklists.specs.State.{want_of, State, AsksOne, AsksAll, Reached, root as reached_root, step as reached_step, IsSearched, IsOuter}
-use Rattle.fast_check_worklists.specs.State.{AreWants, AreGiven, IsFollowed, IsEntered}
+use Rattle.fast_check_worklists.specs.State.{IsFollowed, IsEntered}
 use Rattle.fast_check_worklists.specs.Turn.{IsOrderly, handled_at, waiting_of, IsKept, IsAsked, IsMore, IsOnTheWay}
 use Rattle.fast_check_worklists.specs.Measure.{Universe, IsUniverse}
 use Rattle.fast_check_worklists.proofs.Maps.{split_in, first_in, rest_in, none_in, only_in}

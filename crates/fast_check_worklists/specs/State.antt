@@ -13,7 +13,6 @@ use Rattle.fast_check_worklists.specs.declared.asked.Step.{Step}
 use Rattle.fast_check_worklists.specs.declared.asked.Step.TheVariants.{Package, Module}
 use Rattle.fast_check_worklists.specs.declared.asked.Asked.{Asked}
 use Rattle.fast_check_worklists.specs.Demands.{Text, same_nv, asked, Want, to_package, to_module, to_symbol, Demand, of_package, of_module, of_symbol, World}
-use Rattle.fast_check_worklists.specs.Demands.{Follows}
 use Rattle.fast_check_worklists.specs.Account.{Trace, Followed, HasIn, IsSymbolMet}
 
 abbrev pub want_of : Step → Want
@@ -27,7 +26,7 @@ pub record State : Type 0 where
   pub packages : List Nv
 
 abbrev pub state_of : Asked → State
-state_of a = record { handled = handled a.handled; waiting = pending a.waiting; packages = map nv_of a.packages.items }
+state_of a = record { handled = handled a.handled; waiting = pending a.waiting; packages = map nv_of a.packages.keys }
 
 abbrev pub trace_of : PendingTrace → Trace
 trace_of t = record { nv = nv_of t.package_nv; specifier = serialize t.specifier; exports = t.exports_to_trace }

@@ -11,7 +11,7 @@ use Rattle.fast_check_names.specs.declared.lattice.imported_exports.ImportedExpo
 use Rattle.fast_check_names.specs.Names.{IsBelow}
 use Rattle.fast_check_names.specs.Imports.{imported, NameDemand, each_name}
 use Rattle.fast_check_demands.specs.Demands.{Demand as SymbolDemand}
-use Rattle.fast_check_worklists.specs.Demands.{Text, Wanted, same_nv, asked, one, Want, to_package, to_module, to_symbol, Demand, of_package, of_module}
+use Rattle.fast_check_worklists.specs.Demands.{Text, Wanted, same_nv, asked, one, to_module, to_symbol, Demand, of_package, of_module}
 use Rattle.fast_check_worklists.specs.Demands.{of_symbol, World, Follows}
 use Rattle.fast_check_worklists.specs.Account.{Trace, Followed, HasIn, traces_of, Chained, is_of, joined, IsYield}
 use Rattle.fast_check_worklists.specs.State.{State, IsSearched, IsFollowed, IsEntered}

@@ -1,5 +1,4 @@
 ghost use Rattle.std.specs.Prelude.{◌≡◌, map, OnOk, IfOk};
-ghost use Rattle.std.specs.List.{list_any};
 ghost use Rattle.fast_check_packages.specs.Package.{nv_of};
 ghost use Rattle.fast_check_worklists.specs.Demands.{same_nv};
 ghost use Rattle.fast_check_worklists.specs.State.{state_of, AsksModule, AsksPackage, AsksOne, AsksAll};
@@ -7,6 +6,7 @@ ghost use Rattle.fast_check_worklists.specs.Turn.{IsBegun};
 
 use fast_check_names::ImportedExports;
 use fast_check_packages::{HandledExports, PackageNv, PendingTraces};
+use indexmap::IndexSet;
 use std::alloc::{AllocError, Global};
 use std::cmp::Ordering;
 use url::Url;
@@ -25,7 +25,7 @@ pub enum Step {
 pub struct Asked {
     pub handled: HandledExports,
     pub waiting: PendingTraces,
-    pub packages: Vec<PackageNv>,
+    pub packages: IndexSet<PackageNv>,
 }
 
 impl Asked {
@@ -33,10 +33,7 @@ impl Asked {
     fn ask_package(&mut self, nv: PackageNv) -> Result<(), AllocError>
         ensures { OnOk result (AsksPackage nv (state_of self.old) (state_of self.new)) }
     {
-        if has_package(&self.packages, &nv) {
-            return Ok(());
-        }
-        self.packages.push(nv)?;
+        self.packages.insert(nv)?;
         Ok(())
     }
 
@@ -83,12 +80,6 @@ pub fn is_same(a: &PackageNv, b: &PackageNv) -> bool
     a.cmp(b).is_eq()
 }
 
-fn has_package(packages: &[PackageNv], nv: &PackageNv) -> bool
-    ensures { result ≡ list_any (λ seen. same_nv (nv_of nv.now) (nv_of seen)) packages.now }
-{
-    packages.iter().any(|seen| is_same(nv, seen))
-}
-
 /// A copy of a package.
 pub fn copy_of(nv: &PackageNv) -> Result<PackageNv, AllocError>
     ensures { IfOk result (λ copy. nv_of copy ≡ nv_of nv.now) }
@@ -103,7 +94,7 @@ pub fn begin(alloc: Global, roots: &[PackageNv]) -> Result<Asked, AllocError>
     let mut asked = Asked {
         handled: HandledExports::default(alloc),
         waiting: PendingTraces::default(alloc),
-        packages: Vec::new(alloc),
+        packages: IndexSet::new(alloc),
     };
     for nv in roots {
         asked.ask_package(copy_of(nv)?)?;

@@ -1,6 +1,7 @@
 use Rattle.std.proofs.Common.{◌∙◌, sym, ap, refl, inr, map, arith}
 use Rattle.std.specs.List.{flat_map}
 use Rattle.std.proofs.lemmas.List.{length-map, get_or-map}
+use Rattle.std.proofs.lemmas.Option.{get_or_from_slice_get}
 use Rattle.fast_check_packages.specs.Package.{nv_of}
 use Rattle.fast_check_worklists.specs.State.{state_of}
 use Rattle.fast_check_worklists.specs.Turn.{waiting_trace}
@@ -18,9 +19,10 @@ returns-clause-turned g c =
     inr (record {
       package_nv = nv_of c.in_ok-nv.nv;
       empty = ap (map waiting_trace) c.requires;
-      left = omega (arith, length-map c.args.asked.now.packages.items nv_of, c.if-next-len.false, c.len.ensures);
-      here = get_or-map nv_of c.args.asked.now.packages.items c.args.next c.index.result.now (nv_of c.in_ok-nv.nv)
-          (omega (arith, c.if-next-len.false, c.len.ensures)) ∙ (ap nv_of (sym c.index.ensures) ∙ sym c.in_ok-nv.ensures);
+      left = omega (arith, length-map c.args.asked.now.packages.keys nv_of, c.if-next-len.false, c.len.ensures);
+      here = get_or-map nv_of c.args.asked.now.packages.keys c.args.next c.index.result.now (nv_of c.in_ok-nv.nv)
+          (omega (arith, c.if-next-len.false, c.len.ensures)) ∙ (ap nv_of (get_or_from_slice_get c.args.asked.now.packages.keys c.args.next c.index.result.now c.index.result.now c.index.ensures)
+          ∙ sym c.in_ok-nv.ensures);
       entered = entered_at (known c.args.sources (m.url_of c.args.provider.now.1) (m.nv_at c.args.provider.now.1)) (nv_of c.in_ok-nv.nv)
           (state_of c.args.asked.now) (state_of c.enter.new.asked)
           (flat_map yields_of c.args.found.now.items) (flat_map yields_of c.enter.new.found.items) c.in_ok-enter.ensures.entered;
@@ -32,6 +34,7 @@ returns-in_err-enter-clause-refused g c =
     let m = goal.JsrUrlProvider-dyn g c.args.provider.now in
     let k = known c.args.sources (m.url_of c.args.provider.now.1) (m.nv_at c.args.provider.now.1) in
     let f = c.in_err-enter.field-0.0 in
-    passed_on c.from_residual-in_err-enter.result f (IsRefusedOf k (map nv_of c.args.asked.now.packages.items)) c.from_residual-in_err-enter.ensures.1
-    (refused_of k c.args.asked.now.packages.items c.args.next c.index.result.now (nv_of c.in_ok-nv.nv)
-    (omega (arith, c.if-next-len.false, c.len.ensures)) c.index.ensures c.in_ok-nv.ensures f c.in_err-enter.ensures.refused)
+    passed_on c.from_residual-in_err-enter.result f (IsRefusedOf k (map nv_of c.args.asked.now.packages.keys)) c.from_residual-in_err-enter.ensures.1
+    (refused_of k c.args.asked.now.packages.keys c.args.next c.index.result.now (nv_of c.in_ok-nv.nv)
+    (omega (arith, c.if-next-len.false, c.len.ensures))
+    (sym (get_or_from_slice_get c.args.asked.now.packages.keys c.args.next c.index.result.now c.index.result.now c.index.ensures)) c.in_ok-nv.ensures f c.in_err-enter.ensures.refused)

@@ -15,7 +15,7 @@ pub returns-in_ok-after-in-None-clause-turned : goal.returns-in_ok-after-in-None
 returns-in_ok-after-in-None-clause-turned g c =
     let m = goal.JsrUrlProvider-dyn g c.args.provider.now in
     let k = known c.args.sources (m.url_of c.args.provider.now.1) (m.nv_at c.args.provider.now.1) in
-    same_turn (world k) (gives k) c.args.next (handled c.args.asked.now.handled) (map nv_of c.args.asked.now.packages.items) (pending c.args.asked.now.waiting)
+    same_turn (world k) (gives k) c.args.next (handled c.args.asked.now.handled) (map nv_of c.args.asked.now.packages.keys) (pending c.args.asked.now.waiting)
     (pending c.pop.new.self) (state_of c.enter_next.new.asked) (flat_map yields_of c.args.found.now.items) (flat_map yields_of c.enter_next.new.found.items)
     c.in_ok-after-in-None.after c.in-None.ensures.taken c.in_ok-after-in-None.ensures.turned
 
@@ -23,6 +23,6 @@ pub returns-in_ok-after-in-Some-clause-turned : goal.returns-in_ok-after-in-Some
 returns-in_ok-after-in-Some-clause-turned g c =
     let m = goal.JsrUrlProvider-dyn g c.args.provider.now in
     traced_turn (known c.args.sources (m.url_of c.args.provider.now.1) (m.nv_at c.args.provider.now.1)) c.args.next (handled c.args.asked.now.handled)
-    (map nv_of c.args.asked.now.packages.items) (pending c.args.asked.now.waiting) (pending c.pop.new.self) c.in-Some.trace
+    (map nv_of c.args.asked.now.packages.keys) (pending c.args.asked.now.waiting) (pending c.pop.new.self) c.in-Some.trace
     (state_of c.follow_next.new.asked) (flat_map yields_of c.args.found.now.items) (flat_map yields_of c.follow_next.new.found.items)
     c.in_ok-after-in-Some.after c.in-Some.ensures.taken c.in_ok-after-in-Some.ensures.followed c.in_ok-after-in-Some.ensures.next

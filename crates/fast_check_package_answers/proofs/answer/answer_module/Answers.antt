@@ -1,6 +1,6 @@
 use Rattle.std.proofs.Common.{◌∙◌, sym, subst}
 use Rattle.fast_check_tables.specs.PublicRanges.{PublicRanges}
-use Rattle.fast_check_package_answers.specs.PackageAnswer.{AdmitsModule}
+use Rattle.fast_check_package_answers.specs.PackageAnswer.{OwnsModule}
 use Rattle.fast_check_package_answers.proofs.Turns.{empty_vec, full_vec, left_same, told_rest, told_found, shows_rest}
 use Rattle.fast_check_package_answers.proofs.answer.answer_module.Goals as goal
 
@@ -9,7 +9,7 @@ answer_if_tree-requires c =
     let found = c.take_diagnostics-found in
     let none = empty_vec found.result c.is_empty.result c.is_empty.ensures c.if-is_empty.true in
     let same = left_same c.args.public_ranges found.new.self found.result found.ensures.taken found.ensures.left none in
-    subst (λ (public : PublicRanges). AdmitsModule c.args.root_symbol.now (c.args.specifier, public)) (sym same) c.requires
+    subst (λ (public : PublicRanges). OwnsModule c.args.root_symbol.now (c.args.specifier, public)) (sym same) c.requires
 
 pub returns-then-is_empty-clause-reasons : goal.returns-then-is_empty-clause-reasons
 returns-then-is_empty-clause-reasons c =

@@ -9,4 +9,4 @@ loop-nv-preserved c = begun_more c.args.roots.now c.loop-nv.nv-index c.nv-item.r
     (state_of c.ask_package.new.self) c.loop-nv-test.true (c.in_ok-copy_of.ensures ∙ ap nv_of c.nv-item.is) c.loop-nv.invariant c.in_ok-ask_package.ensures
 
 pub loop-nv-init : goal.loop-nv-init
-loop-nv-init c = begun_none _ c.default.ensures c.default-2.ensures (ap (map nv_of) c.new.ensures.items)
+loop-nv-init c = begun_none _ c.default.ensures c.default-2.ensures (ap (map nv_of) c.new.ensures.empty)

@@ -1,0 +1,112 @@
+-- What is public in modules is declared in them, and packages are answered one after the other.
+use Rattle.std.proofs.Common.{◌≡◌, ◌∙◌, sym, ap, refl, subst, Bool, true, IsTrue, List, [], ◌∷◌, ◌++◌, append-nil, append_assoc, Option, Some, None}
+use Rattle.std.specs.List.{Contains, AllByRecursion, flat_map}
+use Rattle.std.specs.Map.{lookup, IsKeyTest}
+use Rattle.std.specs.BTreeMap.{BTreeMap, keys, IsOrdered}
+use Rattle.std.specs.Ordering.{eq_by_cmp}
+use Rattle.std.specs.Cmp.{IsTotalOrder, eq_by_cmp_equiv}
+use Rattle.std.specs.Cmp.Lexicographic.{nat_list_eq_equiv}
+use Rattle.std.specs.declared.cmp.Ordering.{Ordering}
+use Rattle.std.proofs.lemmas.Map.Keys.{IsDistinct-from_sorted}
+use Rattle.std.proofs.lemmas.Map.Views.{lookup-from_Contains}
+use Rattle.std.proofs.lemmas.List.Elements.{Contains-append_left, Contains-append_right}
+use Rattle.url.specs.Parts.{Parts, serialize}
+use Rattle.fast_check_syntax.specs.declared.source.SourceRange.{SourceRange}
+use Rattle.fast_check_packages.specs.Package.{Nv, nv_of}
+use Rattle.fast_check_packages.specs.PackageOrder.{nv_total}
+use Rattle.fast_check_packages.specs.declared.package.PackageNv.{PackageNv}
+use Rattle.fast_check_tables.specs.PublicRanges.{PublicRanges, is_public}
+use Rattle.fast_check_graph.specs.declared.graph.ModuleGraph.{ModuleGraph}
+use Rattle.fast_check_graph.specs.declared.root_symbol.ModuleInfo.{ModuleInfo}
+use Rattle.fast_check_graph.specs.declared.root_symbol.ModuleInfo.TheVariants.{Esm, Json}
+use Rattle.fast_check_graph.specs.declared.root_symbol.RootSymbol.{RootSymbol}
+use Rattle.fast_check_graph.specs.Root.{found_module}
+use Rattle.fast_check_cache.specs.declared.package_ranges.PackagePublicRanges.{PackagePublicRanges}
+use Rattle.fast_check_search.proofs.Each.{Contains_first, Contains_later}
+use Rattle.fast_check_package_ranges.specs.Questions.{about, whether_public}
+use Rattle.fast_check_package_ranges.specs.Parts.{is_text, is_package, lookup_text, lookup_package}
+use Rattle.fast_check_package_ranges.specs.Answers.{module_answer, package_answer, answer}
+use Rattle.fast_check_package_ranges.proofs.Maps.{lookup_key, text_one, text_total, package_one, package_total}
+use Rattle.fast_check_told_faults.specs.Once.{where_found}
+use Rattle.fast_check_package_answers.specs.Reasons.{PublicModule}
+use Rattle.fast_check_package_answers.specs.PackageAnswer.{Answer, TreeModule, with_tree, tree_modules, OwnsPublic, OwnsModule, OwnsAll}
+use Rattle.fast_check_package_answers.proofs.Lists.{all_back}
+use Rattle.fast_check_turns.specs.Sources.{Known, named_at}
+use Rattle.fast_check_turns.specs.Own.{IsOwnRange}
+use Rattle.fast_check.specs.Found.{IsFound}
+use Rattle.fast_check.specs.Build.{by_text, by_nv, IsAnswered, AreAnswered, IsBuilt}
+use Rattle.fast_check.specs.Owned.{IsOwned, AreOwned}
+
+-- an entry of a map is found by its own key
+found_entry : {K X : Type 0} {cmp : K → K → Ordering} (o : IsTotalOrder cmp) (test : K → Bool) → IsKeyTest (eq_by_cmp cmp) test → (m : BTreeMap K X) →
+    IsOrdered cmp m → (e : K × X) → Contains m.entries e → test e.0 ≡ true → lookup test m.entries ≡ Some e.1
+found_entry {K} {X} {cmp} o test one m ordered e h t = lookup_key o test one e.0 m.entries t ∙
+    lookup-from_Contains (eq_by_cmp_equiv o) e.0 e.1 m.entries (IsDistinct-from_sorted cmp (keys m) ordered) h
+
+found_package : (m : BTreeMap PackageNv PackagePublicRanges) → IsOrdered by_nv m → (e : PackageNv × PackagePublicRanges) → Contains m.entries e →
+    lookup_package (nv_of e.0) m.entries ≡ Some e.1
+found_package m ordered e h = found_entry package_total (is_package (nv_of e.0)) (package_one (nv_of e.0)) m ordered e h ((eq_by_cmp_equiv nv_total).refl (nv_of e.0))
+
+found_ranges : (m : BTreeMap Parts PublicRanges) → IsOrdered by_text m → (e : PublicModule) → Contains m.entries e →
+    lookup_text (serialize e.0) m.entries ≡ Some e.1
+found_ranges m ordered e h =
+    found_entry text_total (is_text (serialize e.0)) (text_one (serialize e.0)) m ordered e h (nat_list_eq_equiv.refl (serialize e.0))
+
+-- what holds of the trees of each module holds of all trees
+all_trees : (root : RootSymbol) (ms : List PublicModule) → ((m : PublicModule) → Contains ms m → OwnsModule root m) → OwnsAll root ms
+all_trees root [] h = tt
+all_trees root (m ∷ ms) h = both (with_tree m (found_module root m.0)) (tree_modules root ms) (h m (Contains_first m ms))
+    (all_trees root ms (λ x c. h x (Contains_later m ms x c)))
+  where
+    both : (xs ys : List TreeModule) → AllByRecursion OwnsPublic xs → AllByRecursion OwnsPublic ys → AllByRecursion OwnsPublic (xs ++ ys)
+    both [] ys h k = k
+    both (x ∷ xs) ys h k = (h.0, both xs ys h.1 k)
+
+module _ (k : Known) (roots : List Nv) (ranges : BTreeMap PackageNv PackagePublicRanges) (found : IsFound k roots ranges) (ordered : IsOrdered by_nv ranges) where
+  -- what is public in a module of a package is what is answered about it
+  is_answered : (p : PackageNv × PackagePublicRanges) → Contains ranges.entries p → IsOrdered by_text p.1.module_ranges → (m : PublicModule) →
+      Contains p.1.module_ranges.entries m → (r : SourceRange) → answer ranges (nv_of p.0) (about (serialize m.0) (whether_public r)) ≡ is_public m.1 r
+  is_answered p c in_order m d r =
+      ap (where_found (package_answer (about (serialize m.0) (whether_public r)))) (found_package ranges ordered p c)
+      ∙ ap (where_found (module_answer (serialize m.0) (whether_public r))) (found_ranges p.1.module_ranges in_order m d)
+
+  owned_module : (p : PackageNv × PackagePublicRanges) → Contains ranges.entries p → IsOrdered by_text p.1.module_ranges → (m : PublicModule) →
+      Contains p.1.module_ranges.entries m → OwnsModule k.root_symbol m
+  owned_module p c in_order m d = go (found_module k.root_symbol m.0) refl
+    where
+      go : (o : Option ModuleInfo) → found_module k.root_symbol m.0 ≡ o → AllByRecursion OwnsPublic (with_tree m o)
+      go None e = tt
+      go (Some (Json info)) e = tt
+      go (Some (Esm info)) e = (
+        λ r h. subst (λ (o : Option ModuleInfo). IsOwnRange o r) e
+            (found.own (nv_of p.0) (serialize m.0) r (is_answered p c in_order m d r ∙ h)),
+        tt,
+      )
+
+  owned_packages : (ps : List (PackageNv × PackagePublicRanges)) → ((p : PackageNv × PackagePublicRanges) → Contains ps p → IsOwned k.root_symbol p.1) →
+      AreOwned k.root_symbol ps
+  owned_packages [] h = tt
+  owned_packages (p ∷ ps) h = (h p (Contains_first p ps), owned_packages ps (λ x c. h x (Contains_later p ps x c)))
+
+  pub all_owned : AreOwned k.root_symbol ranges.entries
+  all_owned = owned_packages ranges.entries
+      (λ p c in_order. all_trees k.root_symbol p.1.module_ranges.entries (λ m d. owned_module p c in_order m d))
+
+-- the next package is owned
+pub owned_next : (root : RootSymbol) (ps : List (PackageNv × PackagePublicRanges)) (p : PackageNv × PackagePublicRanges)
+    (rest all : List (PackageNv × PackagePublicRanges)) → ps ++ p ∷ rest ≡ all → AreOwned root all → IsOwned root p.1
+owned_next root ps p rest all e h = (all_back (λ (x : PackageNv × PackagePublicRanges). IsOwned root x.1) ps (p ∷ rest)
+    (subst (λ (xs : List (PackageNv × PackagePublicRanges)). AreOwned root xs) (sym e) h)).0
+
+-- one package more is answered
+pub answered_more : (graph : ModuleGraph) (root : RootSymbol) (first : Bool) (ps : List (PackageNv × PackagePublicRanges))
+    (p : PackageNv × PackagePublicRanges) (done part : List Answer) → AreAnswered graph root first ps done → IsAnswered graph root first p.1 part →
+    AreAnswered graph root first (ps ++ p ∷ []) (done ++ part)
+answered_more graph root first [] p done part e h = (part, [], ap (λ (xs : List Answer). xs ++ part) e ∙ sym (append-nil part), h, refl)
+answered_more graph root first (q ∷ ps) p done part k h = (
+  k.0,
+  k.1 ++ part,
+  ap (λ (xs : List Answer). xs ++ part) k.2 ∙ append_assoc k.0 k.1 part,
+  k.3,
+  answered_more graph root first ps p k.1 part k.4 h,
+)
