@@ -1,6 +1,6 @@
 -- What is public in modules is declared in them, and packages are answered one after the other.
-use Rattle.std.proofs.Common.{◌≡◌, ◌∙◌, sym, ap, refl, subst, Bool, true, IsTrue, List, [], ◌∷◌, ◌++◌, append-nil, append_assoc, Option, Some, None}
-use Rattle.std.specs.List.{Contains, AllByRecursion, flat_map}
+use Rattle.std.proofs.Common.{◌≡◌, ◌∙◌, sym, ap, refl, subst, Bool, true, List, [], ◌∷◌, ◌++◌, append-nil, append_assoc, Option, Some, None}
+use Rattle.std.specs.List.{Contains, AllByRecursion}
 use Rattle.std.specs.Map.{lookup, IsKeyTest}
 use Rattle.std.specs.BTreeMap.{BTreeMap, keys, IsOrdered}
 use Rattle.std.specs.Ordering.{eq_by_cmp}
@@ -9,7 +9,6 @@ use Rattle.std.specs.Cmp.Lexicographic.{nat_list_eq_equiv}
 use Rattle.std.specs.declared.cmp.Ordering.{Ordering}
 use Rattle.std.proofs.lemmas.Map.Keys.{IsDistinct-from_sorted}
 use Rattle.std.proofs.lemmas.Map.Views.{lookup-from_Contains}
-use Rattle.std.proofs.lemmas.List.Elements.{Contains-append_left, Contains-append_right}
 use Rattle.url.specs.Parts.{Parts, serialize}
 use Rattle.fast_check_syntax.specs.declared.source.SourceRange.{SourceRange}
 use Rattle.fast_check_packages.specs.Package.{Nv, nv_of}
@@ -31,10 +30,10 @@ use Rattle.fast_check_told_faults.specs.Once.{where_found}
 use Rattle.fast_check_package_answers.specs.Reasons.{PublicModule}
 use Rattle.fast_check_package_answers.specs.PackageAnswer.{Answer, TreeModule, with_tree, tree_modules, OwnsPublic, OwnsModule, OwnsAll}
 use Rattle.fast_check_package_answers.proofs.Lists.{all_back}
-use Rattle.fast_check_turns.specs.Sources.{Known, named_at}
+use Rattle.fast_check_turns.specs.Sources.{Known}
 use Rattle.fast_check_turns.specs.Own.{IsOwnRange}
 use Rattle.fast_check.specs.Found.{IsFound}
-use Rattle.fast_check.specs.Build.{by_text, by_nv, IsAnswered, AreAnswered, IsBuilt}
+use Rattle.fast_check.specs.Build.{by_text, by_nv, IsAnswered, AreAnswered}
 use Rattle.fast_check.specs.Owned.{IsOwned, AreOwned}
 
 -- an entry of a map is found by its own key
@@ -109,4 +108,14 @@ answered_more graph root first (q ∷ ps) p done part k h = (
   ap (λ (xs : List Answer). xs ++ part) k.2 ∙ append_assoc k.0 k.1 part,
   k.3,
   answered_more graph root first ps p k.1 part k.4 h,
+)
+
+-- one turn more: the packages that are answered, and their answers
+pub turned : (graph : ModuleGraph) (root : RootSymbol) (first : Bool) (ps : List (PackageNv × PackagePublicRanges)) (p : PackageNv × PackagePublicRanges)
+    (left rest all : List (PackageNv × PackagePublicRanges)) (done part answers : List Answer) → ps ++ left ≡ all → left ≡ p ∷ rest →
+    AreAnswered graph root first ps done → IsAnswered graph root first p.1 part → answers ≡ done ++ part →
+    ((ps ++ p ∷ []) ++ rest ≡ all) × AreAnswered graph root first (ps ++ p ∷ []) answers
+turned graph root first ps p left rest all done part answers e step h k is = (
+  append_assoc ps (p ∷ []) rest ∙ (sym (ap (λ (es : List (PackageNv × PackagePublicRanges)). ps ++ es) step) ∙ e),
+  subst (λ (xs : List Answer). AreAnswered graph root first (ps ++ p ∷ []) xs) (sym is) (answered_more graph root first ps p done part h k),
 )

@@ -1,6 +1,6 @@
 -- What answers say is public in a module is declared in it.
 use Rattle.std.proofs.Common.{◌≡◌, ◌∙◌, sym, ap, refl, subst, ℕ, Bool, true, false, ◌&&◌, ◌==◌, List}
-use Rattle.std.specs.List.{list_any, Contains}
+use Rattle.std.specs.List.{Contains}
 use Rattle.std.specs.Cmp.{unsigned_Decides}
 use Rattle.std.specs.Str.{bytes_eq}
 use Rattle.std.proofs.lemmas.Slice.Eq.{bytes_eq-Decides}
@@ -39,7 +39,6 @@ exact_range a b e =
 module _ (root : RootSymbol) (t : Text) (r : SourceRange) (q : ModuleQuestion) (of_public : (x : SourceRange) → range_says x q ≡ true → same_range r x ≡ true)
     (of_implementing : (x : SourceRange) → implementation_says x q ≡ true → same_range r x ≡ true) (not_recorded : is_recorded q ≡ false)
     (no_fault : (f : ModuleFault) → fault_says f q ≡ false) where
-
   at_module : (u : Text) (x : SourceRange) → bytes_eq t u ≡ true → same_range r x ≡ true → IsOwnRange (named_at root u) x → IsOwnRange (named_at root t) r
   at_module u x e same h = subst (λ (s : SourceRange). IsOwnRange (named_at root t) s) (sym (exact_range r x same))
       (subst (λ (s : Text). IsOwnRange (named_at root s) x) (sym ((bytes_eq-Decides t u).0 e)) h)

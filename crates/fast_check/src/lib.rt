@@ -2,6 +2,7 @@
 #![tactic(auto)]
 
 mod finder;
+mod type_graph;
 
 /// What is public in packages.
 pub mod range_finder {
@@ -51,6 +52,12 @@ pub mod transform {
     };
 }
 
+/// The skeletons of packages, or what is wrong with them.
+pub mod build {
+    pub use crate::type_graph::build_fast_check_type_graph;
+    pub use fast_check_package_answers::{ModuleAnswer, first_alone};
+}
+
 /// New nodes, and the types that values show by themselves.
 pub mod helpers {
     pub use fast_check_helpers::{
@@ -70,3 +77,4 @@ pub mod comments {
 }
 
 pub use finder::{PublicRangeFinder, find_public_ranges};
+pub use type_graph::build_fast_check_type_graph;

@@ -1,5 +1,5 @@
 -- What is known of packages while their findings are joined.
-use Rattle.std.specs.Prelude.{Bool, true, false, ◌&&◌, ◌||◌, List, Option, Some, None}
+use Rattle.std.specs.Prelude.{Bool, true, false, ◌&&◌, ◌||◌, List, Option}
 use Rattle.std.specs.List.{list_any}
 use Rattle.std.specs.Map.{lookup}
 use Rattle.std.specs.Str.{bytes_eq}
@@ -7,8 +7,6 @@ use Rattle.url.specs.Parts.{Parts, serialize}
 use Rattle.fast_check_packages.specs.Package.{Nv, nv_of}
 use Rattle.fast_check_packages.specs.declared.package.PackageNv.{PackageNv}
 use Rattle.fast_check_tables.specs.PublicRanges.{same_range}
-use Rattle.fast_check_tables.specs.declared.diagnostics.FastCheckDiagnostic.{FastCheckDiagnostic}
-use Rattle.fast_check_faults.specs.Reports.{Report, told}
 use Rattle.fast_check_told_faults.specs.Once.{where_found, tells, any_report}
 use Rattle.fast_check_worklists.specs.Demands.{Text, same_nv}
 use Rattle.fast_check_findings.specs.declared.finding.Finding.{Finding}

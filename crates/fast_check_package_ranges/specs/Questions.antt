@@ -2,11 +2,9 @@
 use Rattle.std.specs.Prelude.{◌≡◌, ⊤, Bool, true, false, ◌&&◌, not, List}
 use Rattle.std.specs.List.{list_any}
 use Rattle.std.specs.Str.{bytes_eq}
-use Rattle.url.specs.Parts.{serialize}
 use Rattle.fast_check_syntax.specs.declared.source.SourceRange.{SourceRange}
 use Rattle.fast_check_packages.specs.Package.{Nv}
 use Rattle.fast_check_tables.specs.PublicRanges.{same_range}
-use Rattle.fast_check_faults.specs.Once.{same_kind}
 use Rattle.fast_check_faults.specs.Reports.{Report}
 use Rattle.fast_check_told_faults.specs.Once.{same_report}
 use Rattle.fast_check_worklists.specs.Demands.{Text, same_nv}

@@ -1,11 +1,11 @@
 use Rattle.std.proofs.Common.{◌∙◌, sym, ap, append_assoc, [], ◌∷◌, ◌++◌}
 use Rattle.fast_check_package_answers.specs.Reasons.{PublicModule}
-use Rattle.fast_check_package_answers.proofs.Turns.{admits_next, told_more, told_all, shows_turn, early, goes_on}
+use Rattle.fast_check_package_answers.proofs.Turns.{owns_next, told_more, told_all, shows_turn, early, goes_on}
 use Rattle.fast_check_package_answers.proofs.answer.answer_modules.Goals as goal
 
 pub answer_module-requires : goal.answer_module-requires
 answer_module-requires c =
-    admits_next c.args.root_symbol.now c.loop-specifier.yielded (c.in-Some.specifier, c.in-Some.public_ranges) c.next.new.self c.args.module_ranges.entries
+    owns_next c.args.root_symbol.now c.loop-specifier.yielded (c.in-Some.specifier, c.in-Some.public_ranges) c.next.new.self c.args.module_ranges.entries
     (sym (ap (λ es. c.loop-specifier.yielded ++ es) c.in-Some.ensures.steps) ∙ c.loop-specifier.invariant.all) c.requires
 
 pub returns-then-ends_early-clause-reasons : goal.returns-then-ends_early-clause-reasons

@@ -47,8 +47,7 @@ fn answer_all(
         AreAnswered graph.now root_symbol.now options.now.should_error_on_first_diagnostic ranges.entries answers.items) }
 {
     let mut answers = Vec::new(alloc);
-    for (package, package_ranges) in ranges {
-        let _ = package;
+    for (_, package_ranges) in ranges {
         let mut more = answer_one(alloc, graph, root_symbol, package_ranges, options)?;
         answers.append(&mut more)?;
     }
@@ -74,7 +73,7 @@ pub fn build_fast_check_type_graph(
     pending_nvs: VecDeque<PackageNv>,
     options: &TransformOptions,
 ) -> Result<Vec<ModuleAnswer>, BuildFault>
-    requires { is_some cache.entry ≡ false }
+    requires { is_some cache ≡ false }
     ensures built { let k = known_of graph.now root_symbol.now options.now.workspace_members.items (url_of jsr_url_provider.now) (nv_at jsr_url_provider.now) in
         IfOk result (λ answers. IsBuilt k (map nv_of pending_nvs.items) options.now.should_error_on_first_diagnostic answers.items) }
     ensures refused { let k = known_of graph.now root_symbol.now options.now.workspace_members.items (url_of jsr_url_provider.now) (nv_at jsr_url_provider.now) in
