@@ -1,5 +1,5 @@
 -- Texts that are parted at the last `@`, as `rsplit_once` parts them.
-use Rattle.std.proofs.Common.{◌≡◌, ◌≢◌, ◌∙◌, sym, ap, refl, ℕ, ◌<◌, ◌==◌, suc, false, List, [], ◌∷◌, ◌++◌, length, get_or, take, drop, Option, Some, None, option_map}
+use Rattle.std.proofs.Common.{◌≡◌, ◌≢◌, ◌∙◌, sym, ap, refl, ℕ, ◌<◌, ◌==◌, suc, List, [], ◌∷◌, ◌++◌, length, get_or, take, drop, Option, Some, None, option_map}
 use Rattle.std.proofs.Common.{arith, if◌then◌else◌, lit<}
 use Rattle.std.proofs.Math.ListN.{take-append-drop}
 use Rattle.std.proofs.lemmas.Bool.{ne_eqb}

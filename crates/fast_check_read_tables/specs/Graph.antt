@@ -60,6 +60,9 @@ parted (c ∷ text) = option_or (option_map (λ p. (c ∷ p.0, p.1)) (parted tex
 abbrev pub version_of : List ℕ → Option VersionParts
 version_of text = result_ok (version_parts text)
 
+abbrev pub version_text_of : Data → Option VersionParts
+version_text_of value = given (as_str value) version_of
+
 -- `name@version`
 abbrev pub package_named : List ℕ → Option Nv
 package_named text = given (parted text) (λ p. option_map (λ version. (p.0, version)) (version_of p.1))

@@ -4,3 +4,4 @@ pub mod Reads
 pub mod Seen
 pub mod Symbols
 pub mod Tables
+pub mod Workspace

@@ -1,6 +1,6 @@
 //! The graph of modules.
 
-ghost use Rattle.std.specs.Prelude.{◌≡◌, OnOk, IfOk, string_bytes, option_map};
+ghost use Rattle.std.specs.Prelude.{◌≡◌, [], OnOk, IfOk, string_bytes, option_map};
 ghost use Rattle.std.specs.Str.{bytes_eq};
 ghost use Rattle.indexmap.specs.IndexMap.{insert_entry};
 ghost use Rattle.semver.specs.Identifiers.{parts_of};
@@ -31,6 +31,21 @@ fn read_version(alloc: Global, text: &str) -> Result<Version, ReadError>
         Ok(version) => Ok(version),
         Err(error) if error == Error::from(AllocError) => Err(ReadError::OutOfMemory),
         Err(_) => Err(ReadError::BadForm),
+    }
+}
+
+/// A text that is a version.
+impl FromJson for Version {
+    ghost use Rattle.fast_check_packages.specs.Package.{VersionParts};
+
+    ghost Seen = { VersionParts };
+
+    ghost seen = { parts_of };
+
+    ghost read_of = { graph.version_text_of };
+
+    fn from_json(alloc: Global, value: &Value) -> Result<Version, ReadError> {
+        read_version(alloc, read_text(value)?)
     }
 }
 
@@ -80,6 +95,20 @@ impl FromJson for IndexMap<String, String> {
             put_export(&mut exports, name, text)?;
         }
         Ok(exports)
+    }
+}
+
+/// Export texts by their export names, which are none where they are left out.
+pub fn read_package_exports(
+    alloc: Global,
+    value: Option<&Value>,
+) -> Result<IndexMap<String, String>, ReadError>
+    ensures { Reads (λ exports. graph.seen_exports exports.entries)
+        (or_default [] graph.package_exports_of (option_map (λ v. view v.now) value.entry)) result }
+{
+    match value {
+        Some(value) => FromJson::from_json(alloc, value),
+        None => Ok(IndexMap::new(alloc)),
     }
 }
 

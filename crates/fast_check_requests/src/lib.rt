@@ -10,5 +10,5 @@ mod words;
 pub use ending::Ending;
 pub use input::{read_bytes, read_request};
 pub use refusal::Refusal;
-pub use request::{EsModuleParts, TransformRequest, read_transform_request};
+pub use request::{EsModuleParts, TransformRequest, read_es_module, read_transform_request};
 pub use words::is_call;

@@ -98,7 +98,8 @@ fn read_optional_ranges(
     Ok(ranges)
 }
 
-fn read_es_module(alloc: Global, value: &Value) -> Result<EsModuleParts, ReadError>
+/// Reads an object of the members `specifier` and `source`, and of those of tables.
+pub fn read_es_module(alloc: Global, value: &Value) -> Result<EsModuleParts, ReadError>
     ensures { Makes HoldsModule (module_of (view value.now)) result }
 {
     Ok(EsModuleParts {

@@ -1,0 +1,4 @@
+pub mod Input
+pub mod ModuleParts
+pub mod Provider
+pub mod Request
