@@ -1,0 +1,7 @@
+//! The modules of a build: their tables, made of the parts that are handed in.
+#![tactic(auto)]
+
+mod modules;
+mod root;
+
+pub use root::root_symbol_of;
