@@ -24,6 +24,7 @@ module_seen asked m is = λ i. record {
 }
 
 -- parts that hold what is expected are seen as that
-pub reads_seen : (expected : Option Module) (result : Result EsModuleParts ReadError) → Makes HoldsModule expected result → Reads parts.es_module expected result
+pub reads_seen : (expected : Option Module) (result : Result EsModuleParts ReadError) → Makes HoldsModule expected result
+    → Reads parts.es_module expected result
 reads_seen expected (Ok m) (asked, is, holds) = is ∙ ap Some (module_seen asked m holds)
 reads_seen expected (Err error) h = h

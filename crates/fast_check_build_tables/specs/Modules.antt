@@ -1,7 +1,6 @@
 -- The modules that are made of the parts that are handed in, and the first fault of these.
-use Rattle.std.specs.Prelude.{◌≡◌, List, [], ◌∷◌}
+use Rattle.std.specs.Prelude.{◌≡◌, ◌⊎◌, List, [], ◌∷◌}
 use Rattle.std.specs.List.{AllZip}
-use Rattle.std.proofs.Math.Logic.{◌⊎◌}
 use Rattle.url.specs.Parts.{Parts}
 use Rattle.fast_check_modules.specs.declared.fault.TableFault.{TableFault}
 use Rattle.fast_check_modules.specs.EsModule.{EsModule, JsonModule}
