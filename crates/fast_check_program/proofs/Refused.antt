@@ -15,6 +15,7 @@ refused refusals.Usage bytes lacks = absurd lacks
 refused refusals.Unreadable bytes lacks = absurd lacks
 refused (refusals.TableFault fault) bytes lacks = absurd lacks
 refused refusals.RangesNotAdmitted bytes lacks = absurd lacks
+refused refusals.InvalidExport bytes lacks = absurd lacks
 refused refusals.Unwritable bytes lacks = absurd lacks
 
 pub request_refused : (refusal : Refusal) (bytes : List ℕ) (asked : TransformRequest) → HoldsRequest bytes asked → RefusesRequest asked refusal
@@ -26,6 +27,7 @@ request_refused refusals.Usage bytes asked holds refuses = absurd refuses
 request_refused refusals.Unreadable bytes asked holds refuses = absurd refuses
 request_refused (refusals.TableFault fault) bytes asked holds refuses = (asked, holds, refuses)
 request_refused refusals.RangesNotAdmitted bytes asked holds refuses = (asked, holds, refuses)
+request_refused refusals.InvalidExport bytes asked holds refuses = absurd refuses
 request_refused refusals.Unwritable bytes asked holds refuses = absurd refuses
 
 -- what holds of the bytes that were read holds of the file
@@ -51,4 +53,5 @@ call_refused words file items bytes refusals.BadForm is h e r = (is, of_file (Re
 call_refused words file items bytes (refusals.TableFault fault) is h e r = (is, of_file (RefusesBytes (refusals.TableFault fault)) file items bytes h e r)
 call_refused words file items bytes refusals.RangesNotAdmitted is h e r = (is, of_file (RefusesBytes refusals.RangesNotAdmitted) file items bytes h e r)
 call_refused words file items bytes refusals.OutOfMemory is h e r = (is, of_file (RefusesBytes refusals.OutOfMemory) file items bytes h e r)
+call_refused words file items bytes refusals.InvalidExport is h e r = absurd r
 call_refused words file items bytes refusals.Unwritable is h e r = absurd r

@@ -10,7 +10,7 @@ use Rattle.fast_check_read.specs.declared.input.InputFault.TheVariants as faults
 use Rattle.fast_check_requests.specs.declared.ending.Ending.{Ending}
 use Rattle.fast_check_requests.specs.declared.refusal.Refusal.{Refusal}
 use Rattle.fast_check_requests.specs.declared.refusal.Refusal.TheVariants.{Usage, Unreadable, NotJson, BadForm, TableFault, RangesNotAdmitted}
-use Rattle.fast_check_requests.specs.declared.refusal.Refusal.TheVariants.{Unwritable, OutOfMemory}
+use Rattle.fast_check_requests.specs.declared.refusal.Refusal.TheVariants.{InvalidExport, Unwritable, OutOfMemory}
 
 -- what a line ends with
 abbrev pub line_end : List ℕ
@@ -32,6 +32,7 @@ line_of NotJson = codes "error: input refused: not-json" ++ line_end
 line_of BadForm = codes "error: input refused: bad-form" ++ line_end
 line_of (TableFault fault) = line_of_fault fault
 line_of RangesNotAdmitted = codes "error: input refused: ranges-not-admitted" ++ line_end
+line_of InvalidExport = codes "error: input refused: invalid-export" ++ line_end
 line_of Unwritable = codes "error: output refused" ++ line_end
 line_of OutOfMemory = codes "error: out of memory" ++ line_end
 

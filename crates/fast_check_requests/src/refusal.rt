@@ -24,6 +24,8 @@ pub enum Refusal {
     TableFault(TableFault),
     /// A range is public that no module with these tables admits.
     RangesNotAdmitted,
+    /// An export text of a package does not join to the package's URL.
+    InvalidExport,
     /// The answer cannot be written.
     Unwritable,
     OutOfMemory,
@@ -41,6 +43,7 @@ impl Refusal {
             Refusal::BadForm => "error: input refused: bad-form\n",
             Refusal::TableFault(fault) => line_of_fault(fault),
             Refusal::RangesNotAdmitted => "error: input refused: ranges-not-admitted\n",
+            Refusal::InvalidExport => "error: input refused: invalid-export\n",
             Refusal::Unwritable => "error: output refused\n",
             Refusal::OutOfMemory => "error: out of memory\n",
         }

@@ -13,6 +13,9 @@ returns-in-NotJson c = search rules
 pub returns-in-BadForm : goal.returns-in-BadForm
 returns-in-BadForm c = search rules
 
+pub returns-in-InvalidExport : goal.returns-in-InvalidExport
+returns-in-InvalidExport c = search rules
+
 pub returns-in-Unwritable : goal.returns-in-Unwritable
 returns-in-Unwritable c = search rules
 
