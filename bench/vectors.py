@@ -3,7 +3,7 @@
 
 Each case stands here as TypeScript with what is public of it and what has to come out. The trees of the sources and of
 the skeletons are laid out by the rules of this script and its modules alone (`trees`, `skeletons`, `function_cases`, `new_cases`,
-`class_cases`, `module_cases`, `namespace_cases`): the program's own output is nowhere taken for right.
+`class_cases`, `module_cases`, `namespace_cases`, `build_cases`): the program's own output is nowhere taken for right.
 
 Usage: bench/vectors.py
 """
@@ -14,6 +14,7 @@ import sys
 
 sys.dont_write_bytecode = True
 
+import build_cases
 import class_cases
 import function_cases
 import module_cases
@@ -779,13 +780,33 @@ def groups_of_cases(groups):
             function_case(case)
 
 
+def builds():
+    """Each group of builds, with what it shows."""
+    for words, cases in build_cases.GROUPS:
+        title(words)
+        for each in cases():
+            if isinstance(each, build_cases.Refused):
+                put(f"{each.name}.json", each.content)
+                case(f"build {each.name}.json", 2, f"error: input refused: {each.word}\n")
+                continue
+            answers = each.world.answers(DOCS)
+            agree(each.name, "answer", each.expected, build_cases.given(each.world, answers, lambda items: lay_items(items)[1]))
+            put(f"{each.name}.json", each.more or each.world.request())
+            case(f"build {each.name}.json", int(any("Err" in answer for _, answer in answers)), line(answers))
+
+
 def words():
     title("words that are no command and a file")
     usage = "usage: fast-check (build|transform|pair) FILE\n"
-    for text in ("", "transform", "transform both_public.json more", "check both_public.json", "build both_public.json", "pair both_public.json"):
+    for text in ("", "transform", "transform both_public.json more", "check both_public.json", "build", "build build_nothing.json more",
+                 "pair both_public.json"):
         case(text, 2, usage)
+    title("what one command asks is refused by the other")
+    case("build both_public.json", 2, "error: input refused: bad-form\n")
+    case("transform build_nothing.json", 2, "error: input refused: bad-form\n")
     title("a file that is not there")
     case("transform missing.json", 2, "error: input refused: unreadable\n")
+    case("build missing.json", 2, "error: input refused: unreadable\n")
 
 
 def streams():
@@ -797,6 +818,11 @@ def streams():
     case("transform empty_module.json >closed 2>closed", 4, "", is_told=False)
     case("transform array.json >closed", 2, "error: input refused: bad-form\n")
     case("transform array.json 2>closed", 2, "", is_told=False)
+    case("build build_nothing.json <broken", 2, "error: input refused: unreadable\n")
+    case("build build_nothing.json >closed", 4, "error: output refused\n")
+    case("build build_faults_of_two_entry_points.json >closed", 4, "error: output refused\n")
+    case("build build_nothing.json >closed 2>closed", 4, "", is_told=False)
+    case("build build_a_missing_symbol.json 2>closed", 2, "", is_told=False)
 
 
 def main():
@@ -817,6 +843,7 @@ def main():
     defaults()
     refusals()
     tables()
+    builds()
     words()
     streams()
     put("cases", "".join(CASES).encode())

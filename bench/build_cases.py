@@ -1,0 +1,342 @@
+"""Runs of `fast-check build`, as `build_worlds` lays them out: packages of modules, each with what its answer has to show, stated by hand.
+
+An answer is stated as pairs: a module by its word, and the TypeScript of its skeleton, or the list of what is wrong. A fault is stated by its
+code, the module, and the text of its range where it has one: `missing-explicit-type p/u.ts a`.
+"""
+import json
+from dataclasses import dataclass
+
+from build_worlds import JsonModule, Module, World
+from expando_cases import put
+from function_cases import F, ONE, THROW, const, func, unknown
+from module_trees import attributes, default_import, default_value, export, export_all, import_, interface, named_export, property_signature, star_import
+from package_worlds import HOST, url_of
+from trees import (
+    binary, call, class_method, class_stmt, constructor, declarator, exported, fn_stmt, form, hash_prop, ident, ident_name, index, lit, member, name, named, new,
+    param_prop, prop, ref, returned, run, unexported, var_stmt,
+)
+
+
+@dataclass
+class Build:
+    name: str
+    world: World
+    # pairs of words of modules with the text of a skeleton or a list of faults
+    expected: list
+    # what the request has beside the world's members
+    more: dict = None
+
+
+@dataclass
+class Refused:
+    name: str
+    content: object
+    word: str = "bad-form"
+
+
+def let(name_, written=None, value=None):
+    return exported(var_stmt("Let", declarator(name(name_, written) if written else name_, value)))
+
+
+def secret():
+    """`const secret = f();`, which nothing asks for, and which shows no type."""
+    return unexported(var_stmt("Const", declarator("secret", unknown())))
+
+
+def part_of(left, right):
+    """The type `left.right`."""
+    return {"TsTypeRef": form(type_name={"TsQualifiedName": form(left={"Ident": ident(left)}, right=ident_name(right))}, type_params=None)}
+
+
+# ---- worlds that several cases are made of
+
+
+def drawing(**more):
+    """Two packages of three modules: draw depends on shapes, and its entry point shows a class of a module beside it."""
+    point = exported(interface("Point", property_signature("x", "number"), property_signature("y", "number")))
+    area = class_method("area", [], returned(binary(member({"This": form()}, "r"), "*", lit("3"))), ret="number")
+    circle = exported(class_stmt("Circle", hash_prop("id", value=unknown()), prop("r", value=ONE), constructor([param_prop(name("at", named("Point")), "private")]),
+                                 area))
+    shapes = Module("shapes/mod.ts", point, circle, secret())
+    pen = Module("draw/pen.ts", exported(class_stmt("Pen", prop("width", value=ONE), class_method("ink", [], returned(ref("secret")), access="private"))),
+                 const("hidden", unknown()))
+    mod = Module("draw/mod.ts", import_("@shapes/shapes", "Circle", "Point"), import_("./pen", "hidden"), export("Pen", src="./pen"), secret(),
+                 func("line", [name("a", named("Point")), name("b", named("Point"))], run(call(ref("hidden"))), returned(call(ref("secret"), ref("a"))), ret="string"),
+                 const("unit", new(ref("Circle"))) if more.pop("unit", False) else let("count", value=lit("0")),
+                 resolved={"@shapes/shapes": "shapes/mod.ts", "./pen": "draw/pen.ts"})
+    return World({"draw": ["./mod.ts"], "shapes": ["./mod.ts"]}, mod, pen, shapes, pending=["draw"], **more)
+
+
+DRAWN = [
+    ("draw/mod.ts", 'import { Point } from "@shapes/shapes"; export { Pen } from "./pen.ts"; '
+                    "export function line(a: Point, b: Point): string { return {} as never; } export let count: number = {} as never;"),
+    ("draw/pen.ts", "export class Pen { declare width: number; declare private ink: any; }"),
+    ("shapes/mod.ts", "export interface Point { x: number; y: number; } "
+                      "export class Circle { #private!: unknown; declare private at: any; declare r: number; constructor(at: Point) {} "
+                      "area(): number { return {} as never; } }")]
+
+
+def faulty(**more):
+    """A package of two entry points with three faults, the first two of which are those of u."""
+    u = Module("p/u.ts", let("a"), func("f", [], returned(ONE)))
+    return World({"p": ["./v.ts", "./u.ts"]}, u, Module("p/v.ts", let("b"), let("c", value=ONE)), **more)
+
+
+FAULTS = ["missing-explicit-type p/u.ts a", "missing-explicit-return-type p/u.ts f", "missing-explicit-type p/v.ts b"]
+
+
+def single(*items, **more):
+    """One package of one module with these items."""
+    return World({"p": ["./mod.ts"]}, Module("p/mod.ts", *(items or [let("x", value=ONE)])), **more)
+
+
+SINGLE = [("p/mod.ts", "export let x: number = {} as never;")]
+
+
+# ---- packages and their modules
+
+
+def packages():
+    yield Build("build_two_packages", drawing(), DRAWN)
+    yield Build("build_nothing", World({"p": ["./mod.ts"]}, Module("p/mod.ts", let("x")), pending=[]), [])
+    yield Build("build_a_package_of_one_module", single(), SINGLE)
+    yield Build("build_a_package_handed_in_twice", single(pending=["p", "p"]), SINGLE)
+    yield Build("build_a_module_beyond_ascii", World({"p": ["./%C3%A9.ts"]}, Module("p/%C3%A9.ts", const("é", ONE), const("y", unknown()))),
+                [("p/%C3%A9.ts", ["missing-explicit-type p/%C3%A9.ts y"])])
+    entries = [Module("p/b.ts", import_("./a.ts", "A"), let("b", named("A"), call(F)), resolved={"./a.ts": "p/a.ts"}),
+               Module("p/a.ts", exported(class_stmt("A", hash_prop("x", value=unknown()))), let("z"))]
+    yield Build("build_a_module_that_the_entry_point_refers_to", World({"p": ["./b.ts"]}, *entries),
+                [("p/a.ts", "export class A { #private!: unknown; }"), ("p/b.ts", 'import { A } from "./a.ts"; export let b: A = {} as never;')])
+    versions = [Module(f"p@{version}/mod.ts", let("x", value=lit(value))) for version, value in [("1.9.0", "1"), ("1.10.0", '"a"')]]
+    yield Build("build_two_versions_of_a_package", World({"p@1.10.0": ["./mod.ts"], "p@1.9.0": ["./mod.ts"]}, *versions, pending=["p@1.10.0", "p@1.9.0"]),
+                [("p@1.9.0/mod.ts", "export let x: number = {} as never;"), ("p@1.10.0/mod.ts", "export let x: string = {} as never;")])
+    all_of_r = lambda word: Module(word, export_all("@r/r"), resolved={"@r/r": "r/mod.ts"})
+    yield Build("build_a_module_that_two_packages_ask_for",
+                World({"p": ["./mod.ts"], "q": ["./mod.ts"], "r": ["./mod.ts"]}, all_of_r("q/mod.ts"), all_of_r("p/mod.ts"),
+                      Module("r/mod.ts", let("x", value=ONE), secret()), pending=["q", "p"]),
+                [("p/mod.ts", 'export * from "@r/r";'), ("q/mod.ts", 'export * from "@r/r";'), ("r/mod.ts", "export let x: number = {} as never;")])
+    overloads = [func("f", [name("a", "string")], ret="string", body=False), func("f", [name("a", "number")], ret="number", body=False),
+                 func("f", [name("a")], returned(ref("a")))]
+    yield Build("build_overloads", single(*overloads),
+                [("p/mod.ts", "export function f(a: string): string; export function f(a: number): number; "
+                              "export function f(param0?: any): any { return {} as never; }")])
+    yield Build("build_names_that_are_exported_under_others",
+                World({"p": ["./mod.ts"]}, Module("p/mod.ts", import_("./a.ts", star_import("a")), export(named_export("f", "g")), export("a"),
+                                                  unexported(fn_stmt("f", [], THROW)), resolved={"./a.ts": "p/a.ts"}),
+                      Module("p/a.ts", default_value(ONE), let("x", value=ONE))),
+                [("p/a.ts", "export let x: number = {} as never;"),
+                 ("p/mod.ts", 'import * as a from "./a.ts"; export { f as g }; export { a }; function f(): void {}')])
+    yield Build("build_modules_that_nothing_asks_for", World({"p": ["./mod.ts"], "q": ["./mod.ts"]}, Module("q/mod.ts", let("z")), Module("p/a.ts", let("z")),
+                                                             Module("p/mod.ts", let("x", value=ONE))), SINGLE)
+
+
+def graphs():
+    yield Build("build_a_package_that_nobody_knows", single(pending=["q", "p"]), SINGLE)
+    yield Build("build_a_package_that_nobody_knows_alone", single(pending=["q"]), [])
+    yield Build("build_a_package_without_exports", World({"p": []}), [])
+    yield Build("build_a_package_that_the_provider_lacks", World({}, Module("other/mod.ts", let("x", value=ONE)), unlisted={"p": ["./mod.ts"]}),
+                [("other/mod.ts", "export let x: number = {} as never;")])
+    data = import_("./d.json", default_import("data"), with_=attributes(type="json"))
+    mod = lambda word: Module(word, data, default_value(ref("data")), resolved={"./d.json": "p/d.json"})
+    shown = ("p/mod.ts", 'import data from "./d.json" with { type: "json" }; export default data;')
+    yield Build("build_a_json_module", World({"p": ["./mod.ts"]}, mod("p/mod.ts"), JsonModule("p/d.json")), [shown])
+    yield Build("build_a_json_module_as_entry_point", World({"p": ["./d.json", "./mod.ts"]}, mod("p/mod.ts"), JsonModule("p/d.json")), [shown])
+    yield Build("build_an_entry_point_without_tables", World({"p": ["./mod.ts"]}, only={"p/mod.ts": {"Js": {"media_type": "TypeScript"}}}), [])
+    file = "file:///w/a/"
+    members = [Module(file + "mod.ts", import_("./b.ts", "b"), export("b"), resolved={"./b.ts": file + "b.ts"}), Module(file + "b.ts", let("b", value=ONE), let("z"))]
+    shown = [(file + "b.ts", "export let b: number = {} as never;"), (file + "mod.ts", 'import { b } from "./b.ts"; export { b };')]
+    for case, version, asked in [("build_a_member_of_the_workspace", "1.2.0", "1.2.0"), ("build_a_member_without_version", None, "0.0.0")]:
+        yield Build(case, World({}, *members, members=[["@w/a", version, file, ["./mod.ts"]]], pending=[f"w/a@{asked}"]), shown)
+    yield Build("build_a_member_of_another_version", World({}, *members, members=[["@w/a", "1.2.0", file, ["./mod.ts"]]], pending=["w/a@1.2.1"]), [])
+    main = {"p/main.ts": {"Js": {"media_type": "TypeScript"}}}
+    alias = lambda *items: World({"p": ["./main.ts"]}, Module("p/mod.ts", *items), only=main, aliases={"p/main.ts": "p/mod.ts"})
+    yield Build("build_an_alias", alias(let("x", value=ONE)), SINGLE)
+    yield Build("build_an_alias_of_a_module_with_a_fault", alias(let("x")), [("p/main.ts", ["missing-explicit-type p/mod.ts x"])])
+
+
+# ---- what is wrong
+
+
+def faults():
+    yield Build("build_faults_of_two_entry_points", faulty(), [("p/u.ts", FAULTS), ("p/v.ts", FAULTS)])
+    yield Build("build_the_first_fault_of_two_entry_points", faulty(first=True), [("p/u.ts", FAULTS[:1]), ("p/v.ts", FAULTS[:1])])
+    yield Build("build_the_first_of_no_faults", single(first=True), SINGLE)
+    mods = [Module("p/mod.ts", import_("./b.ts", "b"), const("x", ref("b")), resolved={"./b.ts": "p/b.ts"}), Module("p/b.ts", let("b"), let("c"))]
+    yield Build("build_faults_beside_the_entry_point", World({"p": ["./mod.ts"]}, *mods), [("p/mod.ts", ["missing-explicit-type p/b.ts b"])])
+    both = lambda **more: World({"p": ["./u.ts"], "q": ["./mod.ts"]}, Module("p/u.ts", let("a"), let("b")), Module("q/mod.ts", let("x", value=ONE)), pending=["q", "p"],
+                                **more)
+    told = ["missing-explicit-type p/u.ts a", "missing-explicit-type p/u.ts b"]
+    shown = ("q/mod.ts", "export let x: number = {} as never;")
+    yield Build("build_a_faulty_package_beside_another", both(), [("p/u.ts", told), shown])
+    yield Build("build_the_first_fault_of_a_package_beside_another", both(first=True), [("p/u.ts", told[:1]), shown])
+
+
+def entry_points():
+    lacking = lambda **more: World({"p": ["./a.ts", "./b.js", "./mod.ts"]}, Module("p/mod.ts", let("z")), only={"p/b.js": "JavaScript"}, **more)
+    told = ["export-not-found p/a.ts", "unsupported-javascript-entrypoint p/b.js"]
+    yield Build("build_entry_points_that_are_lacking", lacking(), [(f"p/{name}", told) for name in ("a.ts", "b.js", "mod.ts")])
+    yield Build("build_the_first_entry_point_that_is_lacking", lacking(first=True), [(f"p/{name}", told[:1]) for name in ("a.ts", "b.js", "mod.ts")])
+    yield Build("build_an_external_entry_point", World({"p": ["./a.ts"]}, only={"p/a.ts": "External"}), [("p/a.ts", ["unsupported-javascript-entrypoint p/a.ts"])])
+    nested = Module("p/mod.ts", export("a", src="./b.js"), let("z"), resolved={"./b.js": "p/b.js"})
+    yield Build("build_a_nested_javascript_module", World({"p": ["./mod.ts"]}, nested, only={"p/b.js": "JavaScript"}),
+                [("p/mod.ts", ["unsupported-nested-javascript p/b.js", "missing-explicit-type p/mod.ts z"])])
+
+
+def references():
+    nothing = lambda **more: single(exported(class_stmt("C")), let("a", part_of("C", "D")), let("z"), **more)
+    told = ["not-found-reference p/mod.ts export class C {}"]
+    yield Build("build_a_reference_that_is_not_found", nothing(), [("p/mod.ts", told)])
+    yield Build("build_the_first_reference_that_is_not_found", nothing(first=True), [("p/mod.ts", told)])
+    paths = {each: [[{"QualifiedId": [["C", 2], path]}, "Type_"]] for each, path in
+             [("a", ["prototype", "p"]), ("b", ["prototype", "m", "x"]), ("c", ["prototype", "n"])]}
+    members = [prop("p", "number", access="private"), class_method("m", [], ret="string")]
+    items = [exported(class_stmt("C", *members)), let("a", named("C")), let("b", named("C")), let("c", named("C")), func("f", [], returned(ONE))]
+    told = ["not-found-reference p/mod.ts export class C { private p: number; m(): string {} }",
+            "unsupported-complex-reference p/mod.ts export class C { private p: number; m(): string {} }",
+            "unsupported-private-member-reference p/mod.ts private p: number;"]
+    for case, first in [("build_references_of_three_kinds", False), ("build_references_of_three_kinds_under_the_option", True)]:
+        yield Build(case, World({"p": ["./mod.ts"]}, Module("p/mod.ts", *items, deps=paths), first=first), [("p/mod.ts", told)])
+    other = lambda **more: World({"p": ["./mod.ts"]}, Module("p/mod.ts", import_("./z.ts", "C"), let("z"), let("a", named("C")), resolved={"./z.ts": "p/z.ts"}),
+                                 Module("p/z.ts", exported(class_stmt("C")), let("c", part_of("C", "D")), export_all("./mod.ts"), resolved={"./mod.ts": "p/mod.ts"}),
+                                 **more)
+    yield Build("build_a_fault_of_the_transform_alone", other(), [("p/mod.ts", ["missing-explicit-type p/mod.ts z"])])
+    listed = World({"p": ["./mod.ts", "./z.ts"]}, *other().modules)
+    told = ["missing-explicit-type p/mod.ts z", "not-found-reference p/z.ts export class C {}"]
+    yield Build("build_faults_of_the_transform_and_the_finder", listed, [("p/mod.ts", told), ("p/z.ts", told)])
+    listed = World({"p": ["./mod.ts", "./z.ts"]}, *other().modules, first=True)
+    yield Build("build_the_first_of_the_transform_and_the_finder", listed, [("p/mod.ts", told[:1]), ("p/z.ts", told[:1])])
+
+
+# ---- what is refused, and what may be left out
+
+
+def with_tables(*changes, **more):
+    """A world of modules a, b, .. with these members of their parts changed."""
+    modules = [Module(f"p/{'abcd'[place]}.ts", let("x", value=ONE)) for place in range(len(changes))]
+    request = World({"p": ["./a.ts"]}, *modules).request(**more)
+    for (_, parts), change in zip(request["modules"], changes):
+        parts["Esm"].update(change)
+    return request
+
+
+MISSING, UNDECLARED = {"module_symbol": 7}, {"symbols": [{"id": 0}, {"id": 1}], "swc_ids": []}
+
+
+def under_another_name(request, *places):
+    for place in places:
+        request["modules"][place][0] = HOST + "p/other.ts"
+    return request
+
+
+def faults_of_tables():
+    yield Refused("build_a_missing_symbol", with_tables(MISSING), "table-fault 1")
+    yield Refused("build_a_symbol_without_declaration", with_tables(UNDECLARED), "table-fault 2")
+    yield Refused("build_a_module_under_another_name", under_another_name(with_tables({}), 0), "table-fault 3")
+    expando = World({"p": ["./mod.ts"]}, Module("p/mod.ts", func("f", [], THROW), put("a", ONE))).request()
+    tables = expando["modules"][0][1]["Esm"]
+    span = tables["source"]["program"]["Module"]["body"][1]["Stmt"]["Expr"]["expr"]["Assign"]["span"]
+    tables["symbols"][1]["decls"].append({"range": span, "kind": {"Definition": None}})
+    tables["swc_ids"] = []
+    yield Refused("build_an_expando_without_symbol", expando, "table-fault 4")
+    yield Refused("build_the_faults_of_the_first_module_that_has_one", with_tables({}, UNDECLARED, MISSING), "table-fault 2")
+    yield Refused("build_the_first_fault_of_a_module", with_tables({**UNDECLARED, **MISSING}), "table-fault 1")
+    yield Refused("build_another_name_comes_last", under_another_name(with_tables({}, MISSING), 0), "table-fault 1")
+    data = World({"p": ["./mod.ts"]}, Module("p/mod.ts", let("x", value=ONE)), JsonModule("p/d.json")).request()
+    data["modules"][1][1]["Json"]["symbols"] = []
+    yield Refused("build_a_missing_symbol_of_a_json_module", data, "table-fault 1")
+    data = World({"p": ["./mod.ts"]}, Module("p/mod.ts", let("x", value=ONE)), JsonModule("p/d.json")).request()
+    data["modules"][1][0] = HOST + "p/e.json"
+    yield Refused("build_a_json_module_under_another_name", data, "table-fault 3")
+    replaced = [Module("p/other.ts", let("y")), *single().modules]
+    world = World({"p": ["./mod.ts"]}, *replaced)
+    world.parts["modules"][0][0] = HOST + "p/mod.ts"
+    yield Build("build_the_last_module_of_a_name_counts", world, SINGLE)
+    world = World({"p": ["./mod.ts"]}, *replaced).request()
+    world["modules"][0][0], world["modules"][0][1]["Esm"]["module_symbol"] = HOST + "p/mod.ts", 7
+    yield Refused("build_a_fault_of_a_module_that_does_not_count", world, "table-fault 1")
+    world = World({"p": ["./mod.ts"]}, *reversed(replaced)).request()
+    world["modules"][1][0] = HOST + "p/mod.ts"
+    yield Refused("build_the_last_module_of_a_name_has_another", world, "table-fault 3")
+
+
+def forms():
+    plain = lambda **more: single().request(**more)
+    without = lambda member: {each: value for each, value in plain().items() if each != member}
+    yield Refused("build_no_json", json.dumps(plain()).encode()[:-1], "not-json")
+    yield Refused("build_no_text", b"\xff", "not-json")
+    yield Refused("build_a_list", [])
+    yield Refused("build_without_provider", without("provider"))
+    yield Refused("build_without_fallback", plain(provider={"packages": []}))
+    yield Refused("build_a_fallback_of_no_url", plain(provider={"fallback": "p/"}))
+    for case, pending in [("build_a_version_of_two_numbers", ["@p/p@1.0"]), ("build_a_version_that_is_a_range", ["@p/p@^1.0.0"]),
+                          ("build_a_package_without_version", ["p"]), ("build_packages_that_are_null", None), ("build_a_package_that_is_a_number", [1])]:
+        yield Refused(case, plain(pending=pending))
+    yield Refused("build_a_version_of_the_provider", plain(provider={"fallback": HOST, "packages": [["@p/p@1", HOST]]}))
+    for case, change in [("build_a_version_of_a_member", {"version": "1"}), ("build_a_base_of_no_url", {"base": "w/"}), ("build_a_member_without_name", {"name": None})]:
+        yield Refused(case, plain(workspace_members=[{"name": "@w/a", "version": None, "base": "file:///w/", "exports": [], **change}]))
+    yield Refused("build_a_float", plain(more=[1.0]))
+    yield Refused("build_first_is_no_flag", plain(first=1))
+    yield Refused("build_modules_that_are_null", plain(modules=None))
+    yield Refused("build_a_module_of_no_kind", plain(modules=[[HOST + "p/mod.ts", {"Wasm": {}}]]))
+    yield Refused("build_a_module_under_no_url", plain(modules=[["p/mod.ts", plain()["modules"][0][1]]]))
+    yield Refused("build_a_json_module_without_specifier", plain(modules=[[HOST + "p/d.json", {"Json": {}}]]))
+    yield Refused("build_a_tree_of_another_form", with_tables({"source": {}}))
+    yield Refused("build_an_alias_of_one_name", plain(aliases=[[HOST + "p/a.ts"]]))
+    yield Refused("build_a_graph_that_is_a_list", plain(graph=[]))
+    yield Refused("build_a_bad_form_beside_a_fault", with_tables(MISSING, pending=["p"]))
+    empty = World({})
+    for case, request in [("build_a_provider_alone", {"provider": {"fallback": HOST}}), ("build_a_graph_that_is_null", {"provider": {"fallback": HOST}, "graph": None}),
+                          ("build_members_that_nothing_asks_for", {"provider": {"fallback": HOST, "x": 1}, "more": {}, "first": True, "pending": ["@p/p@1.0.0"]})]:
+        empty.parts = {"graph": {}, "modules": [], "pending": [], "workspace_members": [], "provider": {"packages": []}}
+        yield Build(case, empty, [], more=request)
+    members = World({}, Module("file:///w/mod.ts", let("x")), pending=["w/a"])
+    members.parts["workspace_members"] = [{"base": "file:///w/", "name": "@w/a"}]
+    members.parts["workspace_members"][0]["exports"] = []
+    yield Build("build_a_member_without_exports", members, [])
+
+
+def exports_that_do_not_join():
+    yield Refused("build_an_export_that_does_not_join", World({"p": ["./mod.ts", "http://["]}, Module("p/mod.ts", let("x", value=ONE))).request(), "invalid-export")
+    mod = Module("p/mod.ts", import_("@q/q", "y"), export("y"), resolved={"@q/q": "q/mod.ts"})
+    world = lambda mod: World({"p": ["./mod.ts"], "q": ["http://["]}, mod, Module("q/mod.ts", let("y")))
+    yield Refused("build_an_export_of_a_package_that_follows", world(mod).request(), "invalid-export")
+    yield Build("build_an_export_of_a_package_that_does_not_follow", world(single().modules[0]), SINGLE)
+    request = with_tables(MISSING)
+    request["graph"]["packages"][0][1] = [[".", "http://["]]
+    yield Refused("build_a_fault_beside_an_export_that_does_not_join", request, "table-fault 1")
+    faulty_and_not = World({"p": ["./mod.ts", "./none.ts"], "q": ["http://["]}, Module("p/mod.ts", let("x")), pending=["p", "q"])
+    yield Refused("build_an_export_that_does_not_join_beside_a_faulty_package", faulty_and_not.request(), "invalid-export")
+
+
+GROUPS = [
+    ("builds: packages in order of their names and versions, and the modules of each in order of their specifiers", packages),
+    ("what the graph, the workspace and the aliases say of packages and modules", graphs),
+    ("where anything is wrong with a package, each entry point is answered by all of it; under the option by that of the first module", faults),
+    ("what is wrong with entry points, and with modules whose types are not known", entry_points),
+    ("a module with a diagnostic of the finder is not transformed", references),
+    ("faults of tables: that of the first module that has one, and a module under another name last", faults_of_tables),
+    ("requests of another form, and what may be left out", forms),
+    ("an export text that does not join refuses all", exports_that_do_not_join),
+]
+
+
+# ---- what is stated has to agree with what the rules give
+
+
+def stated(fault, modules):
+    """A fault in words."""
+    text = next((module.text for module in modules if module.url == fault["specifier"]), None)
+    words = [fault["code"], fault["specifier"].removeprefix(HOST)]
+    if fault["range"]:
+        start, end = fault["range"]
+        words.append(text.encode()[start - 1:end - 1].decode())
+    return " ".join(words)
+
+
+def given(world, answers, text_of):
+    """Answers as they are stated; `text_of` writes the items of a skeleton."""
+    found = []
+    for url, answer in answers:
+        shown = [stated(fault, world.modules) for fault in answer["Err"]] if "Err" in answer else text_of(answer["Ok"]["program"]["body"])
+        found.append((url.removeprefix(HOST), shown))
+    return found
