@@ -6,8 +6,9 @@
 mod streams;
 
 use crate::streams::{Input, Output};
+use fast_check_build_program::run as run_build;
 use fast_check_program::{Ending, run};
-use std::alloc::AllocError;
+use std::alloc::{AllocError, Global};
 use std::fs::File;
 use std::io::Write;
 use std::{fs, io};
@@ -43,7 +44,7 @@ fn run_line<W: Write>(rt: &HostRuntime, line: &str, out: &mut W) -> io::Result<E
     };
     let mut answer = Output::new(rt.alloc(), redirects(line, ">closed"));
     let mut errors = Output::new(rt.alloc(), redirects(line, "2>closed"));
-    let ending = run(
+    let ending = run_command(
         rt.alloc(),
         words.as_slice(),
         input,
@@ -53,6 +54,20 @@ fn run_line<W: Write>(rt: &HostRuntime, line: &str, out: &mut W) -> io::Result<E
     out.write_all(answer.bytes())?;
     out.write_all(errors.bytes())?;
     Ok(ending)
+}
+
+/// Runs the command that the first word names: `build`, or `transform` and what is refused.
+fn run_command(
+    alloc: Global,
+    words: &[String],
+    input: Option<Input>,
+    out: &mut Output,
+    err: &mut Output,
+) -> Ending {
+    match words {
+        [command, ..] if command.as_str() == "build" => run_build(alloc, words, input, out, err),
+        _ => run(alloc, words, input, out, err),
+    }
 }
 
 /// Whether a line has this redirection.
