@@ -9,11 +9,14 @@ from dataclasses import dataclass
 from build_worlds import JsonModule, Module, World
 from expando_cases import put
 from function_cases import F, ONE, THROW, const, func, unknown
-from module_trees import attributes, default_import, default_value, export, export_all, import_, interface, named_export, property_signature, star_import
-from package_worlds import HOST, url_of
+from module_trees import (
+    attributes, default_decl, default_import, default_value, export, export_all, import_, interface, named_export, named_import, property_signature,
+    star_import,
+)
+from package_worlds import HOST
 from trees import (
-    binary, call, class_method, class_stmt, constructor, declarator, exported, fn_stmt, form, hash_prop, ident, ident_name, index, lit, member, name, named, new,
-    param_prop, prop, ref, returned, run, unexported, var_stmt,
+    array, array_of, binary, call, class_, class_method, class_stmt, constructor, declarator, default, exported, fn_stmt, form, hash_prop, ident, ident_name,
+    lit, member, name, named, param_prop, prop, ref, returned, run, unexported, var_stmt,
 )
 
 
@@ -23,8 +26,8 @@ class Build:
     world: World
     # pairs of words of modules with the text of a skeleton or a list of faults
     expected: list
-    # what the request has beside the world's members
-    more: dict = None
+    # the request, where it is not the world's as it is
+    request: dict = None
 
 
 @dataclass
@@ -51,29 +54,64 @@ def part_of(left, right):
 # ---- worlds that several cases are made of
 
 
-def drawing(**more):
-    """Two packages of three modules: draw depends on shapes, and its entry point shows a class of a module beside it."""
-    point = exported(interface("Point", property_signature("x", "number"), property_signature("y", "number")))
-    area = class_method("area", [], returned(binary(member({"This": form()}, "r"), "*", lit("3"))), ret="number")
-    circle = exported(class_stmt("Circle", hash_prop("id", value=unknown()), prop("r", value=ONE), constructor([param_prop(name("at", named("Point")), "private")]),
-                                 area))
-    shapes = Module("shapes/mod.ts", point, circle, secret())
-    pen = Module("draw/pen.ts", exported(class_stmt("Pen", prop("width", value=ONE), class_method("ink", [], returned(ref("secret")), access="private"))),
-                 const("hidden", unknown()))
-    mod = Module("draw/mod.ts", import_("@shapes/shapes", "Circle", "Point"), import_("./pen", "hidden"), export("Pen", src="./pen"), secret(),
-                 func("line", [name("a", named("Point")), name("b", named("Point"))], run(call(ref("hidden"))), returned(call(ref("secret"), ref("a"))), ret="string"),
-                 const("unit", new(ref("Circle"))) if more.pop("unit", False) else let("count", value=lit("0")),
-                 resolved={"@shapes/shapes": "shapes/mod.ts", "./pen": "draw/pen.ts"})
-    return World({"draw": ["./mod.ts"], "shapes": ["./mod.ts"]}, mod, pen, shapes, pending=["draw"], **more)
+def hello(**more):
+    """A package of one module."""
+    return World({"example/hello@1.0.0": ["./mod.ts"]}, Module("example/hello@1.0.0/mod.ts", const("hello", lit('"world"')), let("count", value=ONE), secret()),
+                 pending=["example/hello@1.0.0"], **more)
+
+
+HELLO = [("example/hello@1.0.0/mod.ts", 'export const hello: "world" = {} as never; export let count: number = {} as never;')]
+SHAPES, CANVAS = "example/shapes@1.2.0", "example/canvas@0.3.1"
+
+
+def drawing():
+    """Two packages of three modules: canvas depends on shapes, and exports a class of a module beside its entry point."""
+    this = lambda field: member({"This": form()}, field)
+    point, circle = named("Point"), named("Circle")
+    shapes = Module(
+        f"{SHAPES}/mod.ts", exported(interface("Point", property_signature("x", "number"), property_signature("y", "number"))),
+        unexported(var_stmt("Const", declarator("next", call(ref("counter"))))),
+        exported(class_stmt(
+            "Circle", hash_prop("id", value=call(ref("next"))), prop("unit", value=ONE, static=True),
+            constructor([param_prop(name("center", point), readonly=True), param_prop(default(name("radius"), ONE), "private")]),
+            class_method("area", [], returned(binary(lit("3"), "*", this("radius"))), ret="number"))),
+        func("distance", [name("from", point)], ret="number", body=False),
+        func("distance", [name("from", point), name("to", point)], ret="number", body=False),
+        func("distance", [name("from", point), default(name("to", point), ref("origin"))], returned(call(ref("hypot"), ref("from"), ref("to")))))
+    to_shapes = {"@example/shapes": f"{SHAPES}/mod.ts"}
+    pen = Module(
+        f"{CANVAS}/pen.ts", import_("@example/shapes", "Point"),
+        exported(class_stmt("Pen", constructor([param_prop(default(name("width", "number"), ONE), readonly=True)]),
+                            class_method("move", [name("to", point)], run(call(ref("trace"), ref("to")))),
+                            class_method("trace", [name("to")], returned(ref("to")), access="private"))),
+        const("strokes", call(ref("counter"))), resolved=to_shapes)
+    mod = Module(
+        f"{CANVAS}/mod.ts", import_("@example/shapes", "Circle", "distance", named_import("Point", is_type=True)), import_("./pen", "strokes"),
+        export("Pen", src="./pen"),
+        default_decl({"Class": {"ident": ident("Canvas"), "class": class_(
+            None, hash_prop("shapes", array_of(circle), array()), constructor([param_prop(default(name("scale"), ONE), "private")]),
+            class_method("add", [name("shape", circle)], returned(call(ref("draw"), ref("shape"))), ret="boolean"))}}),
+        func("line", [name("from", point), name("to", point), default(name("width"), ONE)], run(ref("strokes")),
+             returned(call(ref("distance"), ref("from"), ref("to"))), ret="string"),
+        unexported(fn_stmt("draw", [name("shape")], returned(ref("shape")))), resolved={**to_shapes, "./pen": f"{CANVAS}/pen.ts"})
+    return World({SHAPES: ["./mod.ts"], CANVAS: ["./mod.ts"]}, mod, pen, shapes, pending=[CANVAS])
 
 
 DRAWN = [
-    ("draw/mod.ts", 'import { Point } from "@shapes/shapes"; export { Pen } from "./pen.ts"; '
-                    "export function line(a: Point, b: Point): string { return {} as never; } export let count: number = {} as never;"),
-    ("draw/pen.ts", "export class Pen { declare width: number; declare private ink: any; }"),
-    ("shapes/mod.ts", "export interface Point { x: number; y: number; } "
-                      "export class Circle { #private!: unknown; declare private at: any; declare r: number; constructor(at: Point) {} "
-                      "area(): number { return {} as never; } }")]
+    (f"{CANVAS}/mod.ts",
+     'import { Circle, type Point } from "@example/shapes"; export { Pen } from "./pen.ts"; '
+     "export default class Canvas { #private!: unknown; declare private scale: any; constructor(scale?: number) {} "
+     "add(shape: Circle): boolean { return {} as never; } } "
+     "export function line(from: Point, to: Point, width?: number): string { return {} as never; }"),
+    (f"{CANVAS}/pen.ts",
+     'import { Point } from "@example/shapes"; '
+     "export class Pen { declare readonly width: number; constructor(width?: number) {} move(to: Point): void {} declare private trace: any; }"),
+    (f"{SHAPES}/mod.ts",
+     "export interface Point { x: number; y: number; } "
+     "export class Circle { #private!: unknown; declare readonly center: Point; declare private radius: any; declare static unit: number; "
+     "constructor(center: Point, radius?: number) {} area(): number { return {} as never; } } "
+     "export function distance(from: Point): number; export function distance(from: Point, to: Point): number; "
+     "export function distance(param0?: any, param1?: any): any { return {} as never; }")]
 
 
 def faulty(**more):
@@ -97,7 +135,8 @@ SINGLE = [("p/mod.ts", "export let x: number = {} as never;")]
 
 
 def packages():
-    yield Build("build_two_packages", drawing(), DRAWN)
+    yield Build("build_hello", hello(), HELLO)
+    yield Build("build_canvas", drawing(), DRAWN)
     yield Build("build_nothing", World({"p": ["./mod.ts"]}, Module("p/mod.ts", let("x")), pending=[]), [])
     yield Build("build_a_package_of_one_module", single(), SINGLE)
     yield Build("build_a_package_handed_in_twice", single(pending=["p", "p"]), SINGLE)
@@ -143,7 +182,8 @@ def graphs():
     yield Build("build_a_json_module_as_entry_point", World({"p": ["./d.json", "./mod.ts"]}, mod("p/mod.ts"), JsonModule("p/d.json")), [shown])
     yield Build("build_an_entry_point_without_tables", World({"p": ["./mod.ts"]}, only={"p/mod.ts": {"Js": {"media_type": "TypeScript"}}}), [])
     file = "file:///w/a/"
-    members = [Module(file + "mod.ts", import_("./b.ts", "b"), export("b"), resolved={"./b.ts": file + "b.ts"}), Module(file + "b.ts", let("b", value=ONE), let("z"))]
+    members = [Module(file + "mod.ts", import_("./b.ts", "b"), export("b"), resolved={"./b.ts": file + "b.ts"}),
+               Module(file + "b.ts", let("b", value=ONE), let("z"))]
     shown = [(file + "b.ts", "export let b: number = {} as never;"), (file + "mod.ts", 'import { b } from "./b.ts"; export { b };')]
     for case, version, asked in [("build_a_member_of_the_workspace", "1.2.0", "1.2.0"), ("build_a_member_without_version", None, "0.0.0")]:
         yield Build(case, World({}, *members, members=[["@w/a", version, file, ["./mod.ts"]]], pending=[f"w/a@{asked}"]), shown)
@@ -163,8 +203,8 @@ def faults():
     yield Build("build_the_first_of_no_faults", single(first=True), SINGLE)
     mods = [Module("p/mod.ts", import_("./b.ts", "b"), const("x", ref("b")), resolved={"./b.ts": "p/b.ts"}), Module("p/b.ts", let("b"), let("c"))]
     yield Build("build_faults_beside_the_entry_point", World({"p": ["./mod.ts"]}, *mods), [("p/mod.ts", ["missing-explicit-type p/b.ts b"])])
-    both = lambda **more: World({"p": ["./u.ts"], "q": ["./mod.ts"]}, Module("p/u.ts", let("a"), let("b")), Module("q/mod.ts", let("x", value=ONE)), pending=["q", "p"],
-                                **more)
+    both = lambda **more: World({"p": ["./u.ts"], "q": ["./mod.ts"]}, Module("p/u.ts", let("a"), let("b")), Module("q/mod.ts", let("x", value=ONE)),
+                                pending=["q", "p"], **more)
     told = ["missing-explicit-type p/u.ts a", "missing-explicit-type p/u.ts b"]
     shown = ("q/mod.ts", "export let x: number = {} as never;")
     yield Build("build_a_faulty_package_beside_another", both(), [("p/u.ts", told), shown])
@@ -176,7 +216,8 @@ def entry_points():
     told = ["export-not-found p/a.ts", "unsupported-javascript-entrypoint p/b.js"]
     yield Build("build_entry_points_that_are_lacking", lacking(), [(f"p/{name}", told) for name in ("a.ts", "b.js", "mod.ts")])
     yield Build("build_the_first_entry_point_that_is_lacking", lacking(first=True), [(f"p/{name}", told[:1]) for name in ("a.ts", "b.js", "mod.ts")])
-    yield Build("build_an_external_entry_point", World({"p": ["./a.ts"]}, only={"p/a.ts": "External"}), [("p/a.ts", ["unsupported-javascript-entrypoint p/a.ts"])])
+    yield Build("build_an_external_entry_point", World({"p": ["./a.ts"]}, only={"p/a.ts": "External"}),
+                [("p/a.ts", ["unsupported-javascript-entrypoint p/a.ts"])])
     nested = Module("p/mod.ts", export("a", src="./b.js"), let("z"), resolved={"./b.js": "p/b.js"})
     yield Build("build_a_nested_javascript_module", World({"p": ["./mod.ts"]}, nested, only={"p/b.js": "JavaScript"}),
                 [("p/mod.ts", ["unsupported-nested-javascript p/b.js", "missing-explicit-type p/mod.ts z"])])
@@ -196,15 +237,13 @@ def references():
             "unsupported-private-member-reference p/mod.ts private p: number;"]
     for case, first in [("build_references_of_three_kinds", False), ("build_references_of_three_kinds_under_the_option", True)]:
         yield Build(case, World({"p": ["./mod.ts"]}, Module("p/mod.ts", *items, deps=paths), first=first), [("p/mod.ts", told)])
-    other = lambda **more: World({"p": ["./mod.ts"]}, Module("p/mod.ts", import_("./z.ts", "C"), let("z"), let("a", named("C")), resolved={"./z.ts": "p/z.ts"}),
-                                 Module("p/z.ts", exported(class_stmt("C")), let("c", part_of("C", "D")), export_all("./mod.ts"), resolved={"./mod.ts": "p/mod.ts"}),
-                                 **more)
-    yield Build("build_a_fault_of_the_transform_alone", other(), [("p/mod.ts", ["missing-explicit-type p/mod.ts z"])])
-    listed = World({"p": ["./mod.ts", "./z.ts"]}, *other().modules)
+    modules = [Module("p/mod.ts", import_("./z.ts", "C"), let("z"), let("a", named("C")), resolved={"./z.ts": "p/z.ts"}),
+               Module("p/z.ts", exported(class_stmt("C")), let("c", part_of("C", "D")), export_all("./mod.ts"), resolved={"./mod.ts": "p/mod.ts"})]
     told = ["missing-explicit-type p/mod.ts z", "not-found-reference p/z.ts export class C {}"]
-    yield Build("build_faults_of_the_transform_and_the_finder", listed, [("p/mod.ts", told), ("p/z.ts", told)])
-    listed = World({"p": ["./mod.ts", "./z.ts"]}, *other().modules, first=True)
-    yield Build("build_the_first_of_the_transform_and_the_finder", listed, [("p/mod.ts", told[:1]), ("p/z.ts", told[:1])])
+    yield Build("build_a_fault_of_the_transform_alone", World({"p": ["./mod.ts"]}, *modules), [("p/mod.ts", told[:1])])
+    both = lambda **more: World({"p": ["./mod.ts", "./z.ts"]}, *modules, **more)
+    yield Build("build_faults_of_the_transform_and_the_finder", both(), [("p/mod.ts", told), ("p/z.ts", told)])
+    yield Build("build_the_first_of_the_transform_and_the_finder", both(first=True), [("p/mod.ts", told[:1]), ("p/z.ts", told[:1])])
 
 
 # ---- what is refused, and what may be left out
@@ -272,7 +311,8 @@ def forms():
                           ("build_a_package_without_version", ["p"]), ("build_packages_that_are_null", None), ("build_a_package_that_is_a_number", [1])]:
         yield Refused(case, plain(pending=pending))
     yield Refused("build_a_version_of_the_provider", plain(provider={"fallback": HOST, "packages": [["@p/p@1", HOST]]}))
-    for case, change in [("build_a_version_of_a_member", {"version": "1"}), ("build_a_base_of_no_url", {"base": "w/"}), ("build_a_member_without_name", {"name": None})]:
+    for case, change in [("build_a_version_of_a_member", {"version": "1"}), ("build_a_base_of_no_url", {"base": "w/"}),
+                         ("build_a_member_without_name", {"name": None})]:
         yield Refused(case, plain(workspace_members=[{"name": "@w/a", "version": None, "base": "file:///w/", "exports": [], **change}]))
     yield Refused("build_a_float", plain(more=[1.0]))
     yield Refused("build_first_is_no_flag", plain(first=1))
@@ -284,19 +324,19 @@ def forms():
     yield Refused("build_an_alias_of_one_name", plain(aliases=[[HOST + "p/a.ts"]]))
     yield Refused("build_a_graph_that_is_a_list", plain(graph=[]))
     yield Refused("build_a_bad_form_beside_a_fault", with_tables(MISSING, pending=["p"]))
-    empty = World({})
-    for case, request in [("build_a_provider_alone", {"provider": {"fallback": HOST}}), ("build_a_graph_that_is_null", {"provider": {"fallback": HOST}, "graph": None}),
-                          ("build_members_that_nothing_asks_for", {"provider": {"fallback": HOST, "x": 1}, "more": {}, "first": True, "pending": ["@p/p@1.0.0"]})]:
-        empty.parts = {"graph": {}, "modules": [], "pending": [], "workspace_members": [], "provider": {"packages": []}}
-        yield Build(case, empty, [], more=request)
-    members = World({}, Module("file:///w/mod.ts", let("x")), pending=["w/a"])
-    members.parts["workspace_members"] = [{"base": "file:///w/", "name": "@w/a"}]
-    members.parts["workspace_members"][0]["exports"] = []
-    yield Build("build_a_member_without_exports", members, [])
+    provider = {"provider": {"fallback": HOST}}
+    for case, more in [("build_a_provider_alone", {}), ("build_a_graph_that_is_null", {"graph": None}),
+                       ("build_members_that_are_passed_over", {"pending": ["@p/p@1.0.0"], "provider": {"fallback": HOST, "x": 1}, "x": [], "first": True})]:
+        yield Build(case, World({}, pending=["p"] if "pending" in more else []), [], request={**provider, **more})
+    member = World({}, Module("file:///w/mod.ts", let("x")), members=[["@w/a", None, "file:///w/", []]], pending=["w/a"])
+    request = member.request()
+    request["workspace_members"] = [{"base": "file:///w/", "name": "@w/a"}]
+    yield Build("build_a_member_of_base_and_name", member, [], request=request)
 
 
 def exports_that_do_not_join():
-    yield Refused("build_an_export_that_does_not_join", World({"p": ["./mod.ts", "http://["]}, Module("p/mod.ts", let("x", value=ONE))).request(), "invalid-export")
+    one = World({"p": ["./mod.ts", "http://["]}, Module("p/mod.ts", let("x", value=ONE)))
+    yield Refused("build_an_export_that_does_not_join", one.request(), "invalid-export")
     mod = Module("p/mod.ts", import_("@q/q", "y"), export("y"), resolved={"@q/q": "q/mod.ts"})
     world = lambda mod: World({"p": ["./mod.ts"], "q": ["http://["]}, mod, Module("q/mod.ts", let("y")))
     yield Refused("build_an_export_of_a_package_that_follows", world(mod).request(), "invalid-export")
@@ -318,6 +358,10 @@ GROUPS = [
     ("requests of another form, and what may be left out", forms),
     ("an export text that does not join refuses all", exports_that_do_not_join),
 ]
+
+
+# the builds that stand in examples/ too
+EXAMPLES = ["build_hello", "build_canvas"]
 
 
 # ---- what is stated has to agree with what the rules give

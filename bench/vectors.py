@@ -29,6 +29,7 @@ from trees import DUMMY, Source, lay_items
 TOP = os.path.dirname(os.path.dirname(os.path.abspath(__file__)))
 CRATE = os.path.join(TOP, "crates/fast_check_vectors")
 DATA = os.path.join(CRATE, "data")
+EXAMPLES = os.path.join(TOP, "examples")
 SPECIFIER = "file:///p/mod.ts"
 
 # ---- sources: a text that grows, with the tree of what is written
@@ -791,8 +792,17 @@ def builds():
                 continue
             answers = each.world.answers(DOCS)
             agree(each.name, "answer", each.expected, build_cases.given(each.world, answers, lambda items: lay_items(items)[1]))
-            put(f"{each.name}.json", each.more or each.world.request())
+            put(f"{each.name}.json", each.request or each.world.request())
             case(f"build {each.name}.json", int(any("Err" in answer for _, answer in answers)), line(answers))
+            if each.name in build_cases.EXAMPLES:
+                example(each.name, answers)
+
+
+def example(name, answers):
+    """A build with its answer, as an example."""
+    shutil.copy(os.path.join(DATA, f"{name}.json"), os.path.join(EXAMPLES, f"{name}.json"))
+    with open(os.path.join(EXAMPLES, f"{name}.answer.json"), "w") as file:
+        file.write(line(answers))
 
 
 def words():
