@@ -1,0 +1,2 @@
+mod NoCall
+mod Refused

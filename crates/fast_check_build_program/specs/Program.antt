@@ -1,0 +1,122 @@
+-- What the command does with its words and its file.
+use Rattle.std.specs.Prelude.{◌≡◌, ℕ, ◌<◌, IsTrue, List, true, false, map, Option, String}
+use Rattle.std.specs.declared.alloc.Global.{Global}
+use Rattle.std.specs.Io.KnownBytes.{Appends}
+use Rattle.fast_check_packages.specs.Package.{Nv, nv_of}
+use Rattle.fast_check_packages.specs.declared.package.PackageNv.{PackageNv}
+use Rattle.fast_check_packages.specs.declared.package.WorkspaceMember.{WorkspaceMember}
+use Rattle.fast_check_provider.specs.declared.fault.BuildFault.TheVariants as faults
+use Rattle.fast_check_provider.specs.declared.listed.ListedPackages.{ListedPackages}
+use Rattle.fast_check_provider.specs.Listed.{url_in, nv_in, row_of, row_at}
+use Rattle.fast_check_graph.specs.declared.graph.ModuleGraph.{ModuleGraph}
+use Rattle.fast_check_graph.specs.declared.root_symbol.RootSymbol.{RootSymbol}
+use Rattle.fast_check_turns.specs.Sources.{Known}
+use Rattle.fast_check_finder.specs.Refusals.{IsRefusal}
+use Rattle.fast_check_package_answers.specs.PackageAnswer.{Answer}
+use Rattle.fast_check.specs.Found.{known_of}
+use Rattle.fast_check.specs.Build.{IsBuilt}
+use Rattle.fast_check_requests.specs.declared.ending.Ending.{Ending}
+use Rattle.fast_check_requests.specs.declared.refusal.Refusal.{Refusal}
+use Rattle.fast_check_requests.specs.declared.refusal.Refusal.TheVariants as refusals
+use Rattle.fast_check_requests.specs.Call.{File, OfFile}
+use Rattle.fast_check_requests.specs.Input.{IsNotJson}
+use Rattle.fast_check_build_requests.specs.declared.request.BuildRequest.{BuildRequest}
+use Rattle.fast_check_build_requests.specs.Input.{HoldsBuild, IsNoBuild}
+use Rattle.fast_check_build_tables.specs.Root.{IsRootOfParts, StandUnderNames, IsBuildFault}
+use Rattle.fast_check_build_program.specs.Call.{is_call}
+use Rattle.fast_check_build_program.specs.Line.{IsLineOf}
+
+-- ---- modules and packages
+
+-- what is known of them, where the packages are listed with their URLs
+abbrev pub known_by : ModuleGraph → RootSymbol → List WorkspaceMember → ListedPackages → Known
+known_by graph root members listed =
+    known_of graph root members (λ nv. url_in listed.fallback (row_of listed.packages.items nv)) (λ text. nv_in (row_at listed.packages.items text))
+
+-- a package that follows from these has an export text that does not join to its URL
+pub record HasInvalidExport (k : Known) (roots : List Nv) : Type 0 where
+  pub nv : PackageNv
+  pub text : String Global
+  pub refused : IsRefusal k roots (faults.InvalidExport nv text)
+
+-- why packages have no answers; memory may run out at any
+abbrev pub IsExportRefusal : Known → List Nv → Refusal → Type 0
+IsExportRefusal k roots refusals.InvalidExport = HasInvalidExport k roots
+IsExportRefusal k roots refusals.OutOfMemory = Unit {0}
+IsExportRefusal k roots _ = ⊥
+
+-- ---- a request
+
+-- its modules by their names, each without fault and under its own
+pub record IsRootIn (asked : BuildRequest) (root : RootSymbol) : Type 0 where
+  pub of_parts : IsRootOfParts asked.modules.items asked.aliases.items root
+  pub own_names : StandUnderNames asked.modules.items
+
+-- what is known in it
+abbrev pub known_in : BuildRequest → RootSymbol → Known
+known_in asked root = known_by asked.graph root asked.workspace_members.items asked.provider
+
+-- the packages that are handed in
+abbrev pub roots_in : BuildRequest → List Nv
+roots_in asked = map nv_of asked.pending.items
+
+-- the line is that of its answers
+pub record AnswersBuild (asked : BuildRequest) (line : List ℕ) (status : ℕ) : Type 0 where
+  pub root : RootSymbol
+  pub answers : List Answer
+  pub is_root : IsRootIn asked root
+  pub built : IsBuilt (known_in asked root) (roots_in asked) asked.should_error_on_first_diagnostic answers
+  pub is_line : IsLineOf answers line status
+
+-- its modules are without fault, and an export text does not join
+pub record LacksExport (asked : BuildRequest) : Type 0 where
+  pub root : RootSymbol
+  pub is_root : IsRootIn asked root
+  pub invalid : HasInvalidExport (known_in asked root) (roots_in asked)
+
+-- why it is refused: faults of tables before all else; memory may run out at any request
+abbrev pub RefusesBuild : BuildRequest → Refusal → Type 0
+RefusesBuild asked (refusals.TableFault fault) = IsBuildFault asked.modules.items fault
+RefusesBuild asked refusals.InvalidExport = LacksExport asked
+RefusesBuild asked refusals.OutOfMemory = Unit {0}
+RefusesBuild asked _ = ⊥
+
+-- ---- the bytes of the file
+
+-- they are the JSON of a request, of which this holds
+abbrev pub OfBuild : (BuildRequest → Type 0) → List ℕ → Type 0
+OfBuild P bytes = (asked : BuildRequest) × HoldsBuild bytes asked × P asked
+
+-- the line is the answer to the request in them
+abbrev pub IsAnswerTo : List ℕ → List ℕ → ℕ → Type 0
+IsAnswerTo bytes line status = OfBuild (λ asked. AnswersBuild asked line status) bytes
+
+-- why they are refused: they are no JSON, or the JSON of no request, or their request is refused; memory may run out at any bytes
+abbrev pub RefusesBytes : Refusal → List ℕ → Type 0
+RefusesBytes refusals.NotJson bytes = IsNotJson bytes
+RefusesBytes refusals.BadForm bytes = IsNoBuild bytes
+RefusesBytes (refusals.TableFault fault) bytes = OfBuild (λ asked. RefusesBuild asked (refusals.TableFault fault)) bytes
+RefusesBytes refusals.InvalidExport bytes = OfBuild (λ asked. RefusesBuild asked refusals.InvalidExport) bytes
+RefusesBytes refusals.OutOfMemory bytes = Unit {0}
+RefusesBytes _ bytes = ⊥
+
+-- ---- the words and the file
+
+-- why the words or the file are refused: the words before all else
+abbrev pub RefusesCall : List (List ℕ) → File → Refusal → Type 0
+RefusesCall words file refusals.Usage = is_call words ≡ false
+RefusesCall words file refusals.Unreadable = is_call words ≡ true
+RefusesCall words file refusal = (is_call words ≡ true) × OfFile (RefusesBytes refusal) file
+
+-- the answer to them, a line with its status, which is 0 or 1
+abbrev pub AnswersCall : List (List ℕ) → File → List ℕ → ℕ → Type 0
+AnswersCall words file line status = (is_call words ≡ true) × (status < 2) × OfFile (λ bytes. IsAnswerTo bytes line status) file
+
+abbrev pub HasAnswer : List (List ℕ) → File → Type 0
+HasAnswer words file = (line : List ℕ) × (status : ℕ) × AnswersCall words file line status
+
+-- ---- the streams: what is known of the bytes that one held and holds then
+
+-- the line of an answer is what is written
+abbrev pub IsAnswered : List (List ℕ) → File → Option (List ℕ) → Option (List ℕ) → Ending → Type 0
+IsAnswered words file old new ending = IsTrue ending.is_told × ((line : List ℕ) × Appends old new line × AnswersCall words file line ending.status)

@@ -1,0 +1,51 @@
+//! The line that `build` answers, and its status.
+
+ghost use Rattle.std.specs.Prelude.{◌≡◌, IfOk};
+ghost use Rattle.std.specs.List.{list_any};
+ghost use Rattle.fast_check_build_program.specs.Line.{line_of, status_of, has_diagnostics, IsLineOf};
+
+use fast_check_answers::write_answers;
+use fast_check_package_answers::ModuleAnswer;
+use json::Writer;
+use std::alloc::{AllocError, Global};
+
+/// A line for standard output, and the status that goes with it: 0 where each answer is a skeleton, 1 where there are diagnostics.
+#[derive(Drop)]
+pub struct Answer {
+    pub line: Vec<u8>,
+    pub status: u8,
+}
+
+/// The answers in their order, as a line of compact JSON: `[["file:///a.ts", {"Ok": module}], ..]`.
+fn print_answers_line(alloc: Global, answers: &[ModuleAnswer]) -> Result<Vec<u8>, AllocError>
+    ensures { IfOk result (λ line. line.items ≡ line_of answers.now) }
+{
+    let mut out = Writer::new(Vec::new(alloc));
+    write_answers(alloc, &mut out, answers)?;
+    let mut line = out.into_inner();
+    line.push(b'\n')?;
+    Ok(line)
+}
+
+/// Whether it is diagnostics.
+fn has_diagnostics(answer: &ModuleAnswer) -> bool
+    ensures { result ≡ has_diagnostics answer.now }
+{
+    answer.1.is_err()
+}
+
+/// Whether one of them is diagnostics.
+fn any_has_diagnostics(answers: &[ModuleAnswer]) -> bool
+    ensures { result ≡ list_any has_diagnostics answers.now }
+{
+    answers.iter().any(|answer| has_diagnostics(answer))
+}
+
+/// The line of the answers, with its status.
+pub fn tell_answers(alloc: Global, answers: &[ModuleAnswer]) -> Result<Answer, AllocError>
+    ensures { IfOk result (λ answer. IsLineOf answers.now answer.line.items answer.status) }
+{
+    let line = print_answers_line(alloc, answers)?;
+    let status = if any_has_diagnostics(answers) { 1 } else { 0 };
+    Ok(Answer { line, status })
+}
