@@ -42,5 +42,5 @@ returns-in-Err-InvalidExport-clause-refused c =
       nv = e.field-0-0;
       text = e.field-0-1;
       refused = subst (λ items. IsRefusal k (map nv_of items) fault) c.from-pending_nvs.ensures.0
-      (subst (IsRefusal k (map nv_of c.from-pending_nvs.result.items)) e.field-0-is told);
+          (subst (IsRefusal k (map nv_of c.from-pending_nvs.result.items)) e.field-0-is told);
     }
