@@ -225,4 +225,5 @@ def main():
                 print(f"{shape:9} {len(text) / 1e6:7.2f} {program:9.3f} {peak_of(file.name):9.0f} {library:18.3f} {program / library:7.2f}", flush=True)
 
 
-main()
+if __name__ == "__main__":
+    main()

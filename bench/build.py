@@ -1,0 +1,145 @@
+#!/usr/bin/env python3
+"""Times `fast-check build` on workspaces of growing size.
+
+For each shape and size it prints the input's megabytes, the modules that are answered, the program's seconds and peak memory, the seconds that a JSON
+library of Python (orjson, or json where that isn't there) needs to load and dump the same file, and the ratio of both.
+The program has to be built: run `./fast-check build examples/build_hello.json` once.
+
+    packages   packages of ten modules, each of which asks for two other packages
+    modules    one package of all modules
+    faults     packages as above, each with a module that has faults
+    hidden     packages as above, of whose modules the entry points ask for one name alone
+
+Usage: bench/build.py [PACKAGES ..] [PROGRAM]        (10 100 1000 where no number is given)
+"""
+import json
+import os
+import subprocess
+import sys
+import tempfile
+
+sys.dont_write_bytecode = True
+
+from build_worlds import Module, World
+from function_cases import ONE, const, func, if_
+from module_trees import export, export_all, import_, interface, named_export, named_import, property_signature
+from package_worlds import HOST
+from transform import DUMP, LOAD, NAME, best
+from trees import (
+    array, array_of, binary, call, class_method, class_stmt, constructor, declarator, default, exported, fn_stmt, hash_prop, lit, name, named, param_prop, prop,
+    ref, returned, run, type_params, unexported, union, var_stmt,
+)
+
+TOP = os.path.dirname(os.path.dirname(os.path.abspath(__file__)))
+PROGRAM = os.path.join(TOP, "crates/fast_check_build_cli/out/fast_check_build_cli")
+MODULES = 10
+
+
+def library(*more):
+    """A module like those of a library: imports, interfaces, a class, functions and constants, of which an entry point asks for some, and helpers."""
+    text, point, group = name("text", "string"), named("Point"), named("Group")
+    body = [var_stmt("Const", declarator("made", call(ref("helper"), ref("text")))), if_(ref("made"), run(call(ref("log"), ref("made")))),
+            var_stmt("Let", declarator("sum", binary(ref("made"), "+", ONE)))]
+    members = [hash_prop("cache", value=array(ONE)), prop("size", value=ONE), prop("label", "string", lit('"a"'), readonly=True),
+               prop("state", value=ONE, access="private"),
+               constructor([text, param_prop(default(name("options", named("Options")), ref("defaults")), "private")], *body),
+               class_method("add", [name("point", point)], *body, returned(ref("sum")), ret="number"),
+               class_method("all", [], *body, returned(call(ref("helper"))), ret=array_of(point)),
+               class_method("reset", [name("hard")], *body, access="private"),
+               class_method("of", [text], *body, returned(ref("text")), ret=group, static=True)]
+    return Module(
+        "p/mod.ts", import_("./next", named_import("Shape", "Figure"), named_import("Style", "Look", is_type=True)), import_("./next", named_import("trace", "log")),
+        exported(interface("Point", property_signature("x", "number"), property_signature("y", "number"))),
+        exported(interface("Options", property_signature("look", named("Look")), property_signature("shapes", array_of(named("Figure"))))),
+        unexported(var_stmt("Const", declarator("defaults", call(ref("helper"))))),
+        exported(class_stmt("Group", *members)),
+        func("draw", [name("group", group), default(name("width"), ONE), default(name("name"), lit('"a"'))], *body, returned(ref("sum")), ret="string"),
+        func("each", [name("items", array_of(union(point, "string")))], *body, generics=type_params("T")),
+        const("version", lit('"1.0.0"')), const("limits", array(ONE, lit("2"), lit("3"))),
+        unexported(fn_stmt("helper", [name("text")], *body, returned(ref("sum")))),
+        exported(interface("Shape", property_signature("points", array_of(point)))), exported(interface("Style", property_signature("color", "string"))),
+        func("trace", [name("value", "string")], *body), *more)
+
+
+def entry(links):
+    """An entry point with these re-exports, and a function whose types are those of other packages."""
+    return Module("p/mod.ts", import_("@next", "Point", "draw"), import_("@other", named_import("Options", is_type=True)), *links,
+                  func("main", [name("at", named("Point")), name("options", named("Options"))], run(call(ref("draw"), ref("at"))), returned(ref("at")),
+                       ret=named("Point")))
+
+
+def by_name(place):
+    return export(named_export("Group", f"Group{place}"), named_export("draw", f"draw{place}"), src=f"./{place}")
+
+
+def links(shape, size):
+    """The re-exports of an entry point with so many modules."""
+    if shape == "hidden":
+        return [by_name(1)]
+    return [by_name(place) if shape == "modules" else export_all(f"./{place}") for place in range(1, size)]
+
+
+def standing_at(module, url):
+    """The parts of a module, as of one at this URL."""
+    parts = module.parts()["Esm"]
+    return [url, {"Esm": {**parts, "specifier": url, "resolved_exports": [[each, url] for each, _ in parts["resolved_exports"]]}}]
+
+
+def workspace(shape, packages):
+    """A request of so many packages, or of one package of as many modules."""
+    count, size = (1, packages * MODULES) if shape == "modules" else (packages, MODULES)
+    faults = [func("wrong", [name("a")], returned(ONE)), func("also", [], returned(ONE))] if shape == "faults" else []
+    main, first, other = entry(links(shape, size)), library(*faults), library()
+    made = World({}, pending=[]).request()
+    base = lambda p: f"{HOST}p{p % count}/"
+    for p in range(count):
+        url, nv = base(p), f"@p/p{p}@1.0.0"
+        made["graph"]["packages"].append([nv, [[".", "./mod.ts"]]])
+        made["provider"]["packages"].append([nv, url])
+        made["modules"].append(standing_at(main, url + "mod.ts"))
+        texts = [[f"./{place}", f"{url}{place}.ts"] for place in range(1, size)] + [["@next", base(p + 1) + "1.ts"], ["@other", base(7 * p + 3) + "2.ts"]]
+        made["graph"]["resolutions"] += [[url + "mod.ts", text, to] for text, to in texts]
+        for place in range(1, size):
+            made["modules"].append(standing_at(first if place == 1 else other, f"{url}{place}.ts"))
+            made["graph"]["resolutions"].append([f"{url}{place}.ts", "./next", f"{url}{place % (size - 1) + 1}.ts"])
+    made["graph"]["modules"] = [[url, {"Js": {"media_type": "TypeScript"}}] for url, _ in made["modules"]]
+    made["pending"] = [f"@p/p{p}@1.0.0" for p in range(count if shape == "hidden" else 1)]
+    return made
+
+
+def spent(program, path):
+    """What a run answers, its seconds and its peak memory in megabytes."""
+    with tempfile.TemporaryFile() as out:
+        pid = os.fork()
+        if pid == 0:
+            os.dup2(out.fileno(), 1)
+            os.execv(program, [program, "build", path])
+        _, status, usage = os.wait4(pid, 0)
+        if os.waitstatus_to_exitcode(status) not in (0, 1):
+            sys.exit(f"status {status} on {path}")
+        out.seek(0)
+        return LOAD(out.read()), usage.ru_maxrss / 1024
+
+
+def measure(program, shape, packages):
+    with tempfile.NamedTemporaryFile(suffix=".json") as file:
+        file.write(json.dumps(workspace(shape, packages), separators=(",", ":")).encode())
+        file.flush()
+        size, (answers, peak) = os.path.getsize(file.name), spent(program, file.name)
+        seconds = best(3, lambda: subprocess.run([program, "build", file.name], stdout=subprocess.DEVNULL))
+        library = best(3, lambda: DUMP(LOAD(open(file.name, "rb").read())))
+        shown = sum("Ok" in answer for _, answer in answers)
+        print(f"{shape:9} {packages:8} {packages * MODULES:8} {shown:9} {size / 1e6:8.2f} {seconds:9.3f} {peak:9.0f} {library:18.3f} "
+              f"{seconds / library:7.2f}", flush=True)
+
+
+def main(words):
+    program = os.path.abspath(words.pop()) if words and not words[-1].isdigit() else PROGRAM
+    print(f"shape     packages  modules  answered    MB in   seconds   MB peak   {NAME} load+dump   ratio")
+    for shape in ("packages", "modules", "faults", "hidden"):
+        for packages in [int(word) for word in words] or [10, 100, 1000]:
+            measure(program, shape, packages)
+
+
+if __name__ == "__main__":
+    main(sys.argv[1:])
