@@ -5,7 +5,7 @@ For each shape and size it prints the input's megabytes, the modules that are an
 library of Python (orjson, or json where that isn't there) needs to load and dump the same file, and the ratio of both.
 The program has to be built: run `./fast-check build examples/build_hello.json` once.
 
-    packages   packages of ten modules, each of which asks for two other packages
+    packages   packages of three modules, each of which asks for two other packages
     modules    one package of all modules
     faults     packages as above, each with a module that has faults
     hidden     packages as above, of whose modules the entry points ask for one name alone
@@ -32,7 +32,7 @@ from trees import (
 
 TOP = os.path.dirname(os.path.dirname(os.path.abspath(__file__)))
 PROGRAM = os.path.join(TOP, "crates/fast_check_build_cli/out/fast_check_build_cli")
-MODULES = 10
+MODULES = 3
 
 
 def library(*more):

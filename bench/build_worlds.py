@@ -247,7 +247,7 @@ class JsonModule:
         self.url = url_of(word)
         symbols = [{"id": 0, "exports": [["default", 1]]},
                    {"id": 1, "parent_id": 0, "decls": [{"range": [1, 3], "value": True, "kind": {"Definition": None}}]}]
-        self.tables, self.resolved = {"symbols": symbols, "resolved_exports": [["default", self.url]]}, {}
+        self.tables, self.resolved = {"symbols": symbols, "re_export_all_nodes": [], "resolved_exports": [["default", self.url]]}, {}
 
     def parts(self):
         return {"Json": {"specifier": self.url, **self.tables}}
@@ -290,15 +290,21 @@ class World:
     # ---- what has to be answered
 
     def answers(self, pages):
-        """Pairs of a URL, and the answer and what it was made of: the items of a skeleton, or faults with the modules that have them."""
-        closure = Closure(Rules(dict(self.parts, modules=[module.rules() for module in self.modules])))
+        """Pairs of a URL and an answer, by all demands that follow; None where an export text does not join. The pages of diagnostics stand at `pages`."""
+        closure = Closure(Rules(self.rules()))
         yields = without_nested(closure.yielded())
         if any(it[0] == "refused" for it in yields):
             return None
-        found = []
-        for nv in sorted(closure.entered() | {it[1] for it in yields}, key=order_of):
-            found += self.package([(it[0], *it[2:]) for it in yields if it[1] == nv], pages)
-        return found
+        return self.answers_to(yields, pages)
+
+    def rules(self):
+        """The world as the finder is asked."""
+        return dict(self.parts, modules=[module.rules() for module in self.modules])
+
+    def answers_to(self, yields, pages):
+        """The answers where this is found."""
+        return [pair for nv in sorted({it[1] for it in yields}, key=order_of)
+                for pair in self.package([(it[0], *it[2:]) for it in yields if it[1] == nv], pages)]
 
     def package(self, yields, pages):
         entry_points = sorted({it[1] for it in yields if it[0] == "entry"})

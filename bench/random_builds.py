@@ -2,10 +2,12 @@
 """Random workspaces through `fast-check build`, against the answers that `build_worlds` puts together by rules of its own.
 
 Each has packages of some modules, which import and export names of each other, of modules that are lacking, of JSON and of JavaScript, with public
-variables, functions, classes and interfaces, and with faults. What the program answers has to be what the rules give, byte for byte. A workspace that
-differs is written to a file. Who asks first decides nothing in these workspaces.
+variables, functions, classes and interfaces, and with faults. What the program answers has to be what the rules give, byte for byte: by all demands that
+follow, or where who asks first decides what is found, by what the driver of fast_check_finder_cases finds, if that is what some account of demands gives
+(`packages`). A workspace that differs from both is written to a file.
 
-Usage: bench/random_builds.py [COUNT [SEED [PROGRAM]]]     the program has to be built first: ./fast-check build examples/build_hello.json
+Usage: bench/random_builds.py [COUNT [SEED [PROGRAM [FINDER]]]]     both have to be built first: ./fast-check build examples/build_hello.json, and
+                                                                    `rt run` in crates/fast_check_finder_cases
        bench/random_builds.py write FOLDER COUNT SEED       workspaces NAME.json and what must come, NAME.json.stdout
 """
 import json
@@ -17,12 +19,14 @@ import tempfile
 
 sys.dont_write_bytecode = True
 
+import packages as finders
 from build_cases import part_of
 from build_worlds import JsonModule, Module, World
 from function_cases import ONE, THROW, func, unknown
 from module_trees import (
     default_import, default_value, export, export_all, import_, interface, named_export, named_import, property_signature, star_export, star_import,
 )
+from package_worlds import with_ranges
 from trees import (
     array, class_method, class_stmt, constructor, declarator, default, exported, fn_stmt, hash_prop, lit, name, named, object_, pair, param_prop, prop, ref,
     returned, unexported, var_stmt,
@@ -141,14 +145,21 @@ class Writer:
         return World(exports, *map(self.module, self.words), JsonModule("p/d.json"), pending=pending, first=self.chance(0.3), only=only)
 
 
-def case(seed):
-    """A request, and the line and the status that have to come."""
-    world = Writer(seed).world()
-    answers = world.answers(PAGES)
+def told(answers):
+    """The line and the status of answers."""
     if answers is None:
-        return world.request(), "", 2
+        return "", 2
     line = json.dumps(answers, sort_keys=True, separators=(",", ":"), ensure_ascii=False) + "\n"
-    return world.request(), line, int(any("Err" in answer for _, answer in answers))
+    return line, int(any("Err" in answer for _, answer in answers))
+
+
+def told_by(finder, world):
+    """The line and the status of what the finder finds, or None where no account gives that."""
+    asked = with_ranges(dict(world.rules(), name="world"))
+    lines = finders.run([asked], finder).splitlines()
+    if finders.judged(asked, lines)[0]:
+        return None
+    return told(world.answers_to(finders.read_shown(lines[1:])[0], PAGES))
 
 
 # the page of a diagnostic, as the program's definition of it says
@@ -159,11 +170,11 @@ with open(os.path.join(TOP, "crates/fast_check_tables/specs/Diagnostic.antt")) a
 def write(folder, count, seed):
     os.makedirs(folder, exist_ok=True)
     for number in range(seed, seed + count):
-        request, line, _ = case(number)
+        world = Writer(number).world()
         path = os.path.join(folder, f"{number}.json")
         with open(path, "w") as file, open(path + ".stdout", "w") as out:
-            json.dump(request, file, ensure_ascii=False)
-            out.write(line)
+            json.dump(world.request(), file, ensure_ascii=False)
+            out.write(told(world.answers(PAGES))[0])
 
 
 def main(words):
@@ -171,22 +182,29 @@ def main(words):
         write(words[1], int(words[2]), int(words[3]))
         return
     count, seed = int((words + ["1000"])[0]), int((words + ["1", "1"])[1])
-    program = words[2] if len(words) > 2 else os.path.join(TOP, "crates/fast_check_build_cli/out/fast_check_build_cli")
-    differ, statuses = 0, {0: 0, 1: 0, 2: 0}
+    out = lambda crate: os.path.join(TOP, "crates", crate, "out", crate)
+    program, finder = (words + ["", "", "", ""])[2:4]
+    program, finder = os.path.abspath(program or out("fast_check_build_cli")), os.path.abspath(finder or out("fast_check_finder_cases"))
+    differ, by_others, statuses = 0, 0, {0: 0, 1: 0, 2: 0}
     for number in range(seed, seed + count):
-        request, line, status = case(number)
-        statuses[status] += 1
+        world = Writer(number).world()
+        expected = told(world.answers(PAGES))
         with tempfile.NamedTemporaryFile("w", suffix=".json") as file:
-            json.dump(request, file, ensure_ascii=False)
+            json.dump(world.request(), file, ensure_ascii=False)
             file.flush()
             done = subprocess.run([program, "build", file.name], capture_output=True, text=True)
-        if (done.stdout, done.returncode) != (line, status):
+        given = done.stdout, done.returncode
+        statuses[expected[1]] += 1
+        if given == expected:
+            continue
+        by_others += 1
+        if given != told_by(finder, world):
             differ += 1
             path = os.path.join(tempfile.gettempdir(), f"build_{number}.json")
             with open(path, "w") as file:
-                json.dump({"request": request, "expected": line, "given": done.stdout or done.stderr}, file, ensure_ascii=False)
+                json.dump({"request": world.request(), "expected": expected[0], "given": done.stdout or done.stderr}, file, ensure_ascii=False)
             print(f"{number} differs: {path}")
-    print(f"{count} workspaces, {differ} differ; of status 0, 1 and 2: {list(statuses.values())}")
+    print(f"{count} workspaces, {by_others} not by all demands, {differ} differ; of status 0, 1 and 2: {list(statuses.values())}")
     sys.exit(differ > 0)
 
 
