@@ -47,7 +47,10 @@ def references(node, namespace="Value"):
         for each in node:
             yield from references(each, namespace)
     elif isinstance(node, dict):
+        has_type = "left" in node and (variant(node["left"])[1] or {}).get("type_ann")
         for kind, inside in node.items():
+            if kind == "right" and has_type:
+                continue
             if kind == "TsTypeRef":
                 yield from reference_of(inside["type_name"], "Type_")
                 yield from references(inside["type_params"])
