@@ -1,21 +1,15 @@
-//! Fast check: what is public in packages, and the skeletons of modules. A user names this crate alone: it offers the others again.
+//! Fast check: what is public in packages, and the skeletons of their modules. A user names this crate alone: it offers all others,
+//! sorted as the modules of deno_graph are. docs/LIBRARY.md says what to call, in which order.
 #![tactic(auto)]
 
-mod finder;
-mod type_graph;
+/// Syntax trees: the plain tree, its forms under swc's names, and the kinds of nodes.
+pub use fast_check_tree as tree;
 
-/// What is public in packages.
-pub mod range_finder {
-    pub use crate::finder::{PublicRangeFinder, find_public_ranges};
-    pub use fast_check_cache::PackagePublicRanges;
-    pub use fast_check_tables::ModulePublicRanges;
-}
+/// Comments by position.
+pub use fast_check_tree::comments;
 
-/// Sets of demanded names, and the modules that were followed or wait.
-pub mod lattice {
-    pub use fast_check_names::{Exports, FileDepName, ImportedExports, NamedSubset};
-    pub use fast_check_packages::{HandledExports, PendingTrace, PendingTraces};
-}
+/// New nodes, and the types that values show by themselves.
+pub use fast_check_tree::helpers;
 
 /// The graph of modules, the tables of a module, packages, and diagnostics.
 pub mod tables {
@@ -32,6 +26,12 @@ pub mod tables {
     };
 }
 
+/// Sets of demanded names, and the modules that were followed or wait.
+pub mod lattice {
+    pub use fast_check_names::{Exports, FileDepName, ImportedExports, NamedSubset};
+    pub use fast_check_packages::{HandledExports, PendingTrace, PendingTraces};
+}
+
 /// What a caller lends, and why a build stops.
 pub mod provider {
     pub use fast_check_provider::{BuildFault, JsrUrlProvider, ListedPackages};
@@ -45,36 +45,29 @@ pub mod cache {
     };
 }
 
+/// What is public in packages.
+pub mod range_finder {
+    pub use fast_check_build::{PublicRangeFinder, find_public_ranges};
+    pub use fast_check_cache::PackagePublicRanges;
+    pub use fast_check_tables::ModulePublicRanges;
+}
+
 /// The skeleton of a module.
 pub mod transform {
-    pub use fast_check_transform::{
-        FastCheckModule, ModuleInfo, StaticSource, TransformOptions, transform,
-    };
+    pub use fast_check_tables::{FastCheckModule, ModuleInfo, StaticSource};
+    pub use fast_check_transform::{FastCheckTransformer, TransformOptions, transform};
 }
 
 /// The skeletons of packages, or what is wrong with them.
 pub mod build {
-    pub use crate::type_graph::build_fast_check_type_graph;
-    pub use fast_check_package_answers::{ModuleAnswer, first_alone};
+    pub use fast_check_build::build_fast_check_type_graph;
+    pub use fast_check_package_answers::ModuleAnswer;
 }
 
-/// New nodes, and the types that values show by themselves.
-pub mod helpers {
-    pub use fast_check_helpers::{
-        DeclMutabilityKind, IdentTypeRef, ParamsOptionalStartIndex, ReturnStatementAnalysis,
-        TsKeywordTypeKind, analyze_return_stmts_in_function_body, any_type_ann, is_global,
-        is_simple_type, is_void_type, maybe_infer_type, maybe_lit_to_ts_type, never_value,
-        new_ident, object_freeze_call_arg, regex_type, shows_type, tpl_to_ts_type, ts_keyword_type,
-        ts_lit_type, ts_readonly, ts_tuple_element, type_ann, type_ref,
-    };
+/// What is promised beyond the contracts of the calls.
+pub mod laws {
+    pub use fast_check_package_answers::first_alone;
+    pub use fast_check_skeleton::{hash_mark, two_worlds};
 }
 
-/// Comments by position.
-pub mod comments {
-    pub use fast_check_comments::{
-        Comment, CommentKind, CommentList, CommentMap, Comments, CommentsMut,
-    };
-}
-
-pub use finder::{PublicRangeFinder, find_public_ranges};
-pub use type_graph::build_fast_check_type_graph;
+pub use fast_check_build::{PublicRangeFinder, build_fast_check_type_graph, find_public_ranges};

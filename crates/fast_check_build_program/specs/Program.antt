@@ -13,8 +13,8 @@ use Rattle.fast_check_graph.specs.declared.root_symbol.RootSymbol.{RootSymbol}
 use Rattle.fast_check_turns.specs.Sources.{Known}
 use Rattle.fast_check_finder.specs.Refusals.{IsRefusal}
 use Rattle.fast_check_package_answers.specs.PackageAnswer.{Answer}
-use Rattle.fast_check.specs.Found.{known_of}
-use Rattle.fast_check.specs.Build.{IsBuilt}
+use Rattle.fast_check_build.specs.Found.{known_of}
+use Rattle.fast_check_build.specs.Build.{IsBuilt}
 use Rattle.fast_check_requests.specs.declared.ending.Ending.{Ending}
 use Rattle.fast_check_requests.specs.declared.refusal.Refusal.{Refusal}
 use Rattle.fast_check_requests.specs.declared.refusal.Refusal.TheVariants as refusals

@@ -2,11 +2,11 @@
 
 ghost use Rattle.std.specs.Prelude.{map, IfOk, IfErr};
 ghost use Rattle.fast_check_packages.specs.Package.{nv_of};
-ghost use Rattle.fast_check.specs.Build.{IsBuilt};
+ghost use Rattle.fast_check_build.specs.Build.{IsBuilt};
 ghost use Rattle.fast_check_build_program.specs.Program.{known_by, IsExportRefusal, AnswersBuild, RefusesBuild};
 
 use crate::answer::{Answer, tell_answers};
-use fast_check::build_fast_check_type_graph;
+use fast_check_build::build_fast_check_type_graph;
 use fast_check_build_requests::BuildRequest;
 use fast_check_build_tables::root_symbol_of;
 use fast_check_graph::{ModuleGraph, RootSymbol};

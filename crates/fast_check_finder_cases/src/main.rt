@@ -9,7 +9,7 @@ mod tell;
 mod world;
 
 use crate::world::World;
-use fast_check::find_public_ranges;
+use fast_check_build::find_public_ranges;
 use fast_check_packages::PackageNv;
 use fast_check_provider::BuildFault;
 use fast_check_read::ReadError;

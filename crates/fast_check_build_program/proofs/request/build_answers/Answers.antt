@@ -6,8 +6,8 @@ use Rattle.fast_check_packages.specs.Package.{nv_of}
 use Rattle.fast_check_provider.specs.declared.provider.JsrUrlProvider.{Ghosts}
 use Rattle.fast_check_provider.specs.declared.fault.BuildFault.TheVariants as faults
 use Rattle.fast_check_finder.specs.Refusals.{IsRefusal}
-use Rattle.fast_check.specs.Found.{known_of}
-use Rattle.fast_check.specs.Build.{IsBuilt}
+use Rattle.fast_check_build.specs.Found.{known_of}
+use Rattle.fast_check_build.specs.Build.{IsBuilt}
 use Rattle.fast_check_build_program.specs.Program.{known_by}
 use Rattle.fast_check_build_program.proofs.request.build_answers.Goals as goal
 use Rattle.fast_check_build_program.proofs.request.build_answers.OwnLists.{own-2, part-2-1, same-2-1}

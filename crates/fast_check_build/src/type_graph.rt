@@ -1,9 +1,9 @@
 ghost use Rattle.std.specs.Prelude.{◌≡◌, false, map, is_some, IfOk, IfErr};
 ghost use Rattle.fast_check_packages.specs.Package.{nv_of};
 ghost use Rattle.fast_check_finder.specs.Refusals.{IsRefusal};
-ghost use Rattle.fast_check.specs.Found.{known_of};
-ghost use Rattle.fast_check.specs.Build.{IsAnswered, AreAnswered, IsBuilt};
-ghost use Rattle.fast_check.specs.Owned.{IsOwned, AreOwned};
+ghost use Rattle.fast_check_build.specs.Found.{known_of};
+ghost use Rattle.fast_check_build.specs.Build.{IsAnswered, AreAnswered, IsBuilt};
+ghost use Rattle.fast_check_build.specs.Owned.{IsOwned, AreOwned};
 
 use crate::finder::find_public_ranges;
 use fast_check_cache::{FastCheckCache, PackagePublicRanges};

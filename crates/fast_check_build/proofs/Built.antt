@@ -32,9 +32,9 @@ use Rattle.fast_check_package_answers.specs.PackageAnswer.{Answer, TreeModule, w
 use Rattle.fast_check_package_answers.proofs.Lists.{all_back}
 use Rattle.fast_check_turns.specs.Sources.{Known}
 use Rattle.fast_check_turns.specs.Own.{IsOwnRange}
-use Rattle.fast_check.specs.Found.{IsFound}
-use Rattle.fast_check.specs.Build.{by_text, by_nv, IsAnswered, AreAnswered}
-use Rattle.fast_check.specs.Owned.{IsOwned, AreOwned}
+use Rattle.fast_check_build.specs.Found.{IsFound}
+use Rattle.fast_check_build.specs.Build.{by_text, by_nv, IsAnswered, AreAnswered}
+use Rattle.fast_check_build.specs.Owned.{IsOwned, AreOwned}
 
 -- an entry of a map is found by its own key
 found_entry : {K X : Type 0} {cmp : K → K → Ordering} (o : IsTotalOrder cmp) (test : K → Bool) → IsKeyTest (eq_by_cmp cmp) test → (m : BTreeMap K X) →

@@ -1,6 +1,6 @@
 use Rattle.std.proofs.Common.{◌∙◌, sym, ap, ◌++◌}
-use Rattle.fast_check.proofs.Built.{owned_next, turned}
-use Rattle.fast_check.proofs.type_graph.answer_all.Goals as goal
+use Rattle.fast_check_build.proofs.Built.{owned_next, turned}
+use Rattle.fast_check_build.proofs.type_graph.answer_all.Goals as goal
 
 pub answer_one-requires : goal.answer_one-requires
 answer_one-requires c =

@@ -6,7 +6,7 @@ use Rattle.fast_check_packages.specs.declared.package.PackageNv.{PackageNv}
 use Rattle.fast_check_graph.specs.declared.root_symbol.RootSymbol.{RootSymbol}
 use Rattle.fast_check_cache.specs.declared.package_ranges.PackagePublicRanges.{PackagePublicRanges}
 use Rattle.fast_check_package_answers.specs.PackageAnswer.{OwnsAll}
-use Rattle.fast_check.specs.Build.{by_text}
+use Rattle.fast_check_build.specs.Build.{by_text}
 
 -- of a package, whose modules stand in order
 abbrev pub IsOwned : RootSymbol → PackagePublicRanges → Type 0

@@ -1,8 +1,8 @@
 use Rattle.std.proofs.Common.{map}
 use Rattle.fast_check_packages.specs.Package.{nv_of}
-use Rattle.fast_check.specs.Found.{known_of}
-use Rattle.fast_check.proofs.Built.{all_owned}
-use Rattle.fast_check.proofs.type_graph.build_fast_check_type_graph.Goals as goal
+use Rattle.fast_check_build.specs.Found.{known_of}
+use Rattle.fast_check_build.proofs.Built.{all_owned}
+use Rattle.fast_check_build.proofs.type_graph.build_fast_check_type_graph.Goals as goal
 
 pub answer_all-requires : goal.answer_all-requires
 answer_all-requires g c =

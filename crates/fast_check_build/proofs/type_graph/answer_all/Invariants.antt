@@ -1,6 +1,6 @@
 use Rattle.std.proofs.Common.{◌≡◌, ◌++◌}
-use Rattle.fast_check.specs.Build.{AreAnswered}
-use Rattle.fast_check.proofs.type_graph.answer_all.Given as goal
+use Rattle.fast_check_build.specs.Build.{AreAnswered}
+use Rattle.fast_check_build.proofs.type_graph.answer_all.Given as goal
 
 abbrev pub invariant-loop-package_ranges : goal.invariant-loop-package_ranges
 invariant-loop-package_ranges l = record {

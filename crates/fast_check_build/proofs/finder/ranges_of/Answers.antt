@@ -1,5 +1,5 @@
-use Rattle.fast_check.proofs.Said.{found_public}
-use Rattle.fast_check.proofs.finder.ranges_of.Goals as goal
+use Rattle.fast_check_build.proofs.Said.{found_public}
+use Rattle.fast_check_build.proofs.finder.ranges_of.Goals as goal
 
 pub returns-clause-found : goal.returns-clause-found
 returns-clause-found g c =

@@ -16,8 +16,8 @@ use Rattle.fast_check_turns.specs.Rules.{world}
 use Rattle.fast_check_turns.specs.Yields.{gives}
 use Rattle.fast_check_finder.specs.Refusals.{JoinAll}
 use Rattle.fast_check_graph.specs.Root.{AreFoundByOwnNames}
-use Rattle.fast_check.specs.Found.{IsOfYields, IsFound}
-use Rattle.fast_check.proofs.OwnRanges.{own_public, own_implementing}
+use Rattle.fast_check_build.specs.Found.{IsOfYields, IsFound}
+use Rattle.fast_check_build.proofs.OwnRanges.{own_public, own_implementing}
 
 of_yields : (found : List Finding) (answers : BTreeMap PackageNv PackagePublicRanges) → IsSaid found answers →
     (nv : Nv) (q : Question) → IsOfYields q → IsTextless q → answer answers nv q ≡ is_said (flat_map yields_of found) nv q

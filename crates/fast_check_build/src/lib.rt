@@ -1,0 +1,8 @@
+//! The calls over packages: what is public in them, and their skeletons or what is wrong with them.
+#![tactic(auto)]
+
+mod finder;
+mod type_graph;
+
+pub use finder::{PublicRangeFinder, find_public_ranges};
+pub use type_graph::build_fast_check_type_graph;
