@@ -26,12 +26,12 @@ use Rattle.fast_check_package_ranges.specs.Questions.{about, whether_public}
 use Rattle.fast_check_package_ranges.specs.Parts.{is_text, is_package, lookup_text, lookup_package}
 use Rattle.fast_check_package_ranges.specs.Answers.{module_answer, package_answer, answer}
 use Rattle.fast_check_package_ranges.proofs.Maps.{lookup_key, text_one, text_total, package_one, package_total}
-use Rattle.fast_check_told_faults.specs.Once.{where_found}
+use Rattle.fast_check_package_ranges.specs.told_faults.Once.{where_found}
 use Rattle.fast_check_package_answers.specs.Reasons.{PublicModule}
 use Rattle.fast_check_package_answers.specs.PackageAnswer.{Answer, TreeModule, with_tree, tree_modules, OwnsPublic, OwnsModule, OwnsAll}
 use Rattle.fast_check_package_answers.proofs.Lists.{all_back}
-use Rattle.fast_check_turns.specs.Sources.{Known}
-use Rattle.fast_check_turns.specs.Own.{IsOwnRange}
+use Rattle.fast_check_finder.specs.turns.Sources.{Known}
+use Rattle.fast_check_finder.specs.turns.Own.{IsOwnRange}
 use Rattle.fast_check_build.specs.Found.{IsFound}
 use Rattle.fast_check_build.specs.Build.{by_text, by_nv, IsAnswered, AreAnswered}
 use Rattle.fast_check_build.specs.Owned.{IsOwned, AreOwned}

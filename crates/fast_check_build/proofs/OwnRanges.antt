@@ -13,14 +13,14 @@ use Rattle.fast_check_graph.specs.declared.root_symbol.RootSymbol.{RootSymbol}
 use Rattle.fast_check_graph.specs.Root.{AreFoundByOwnNames}
 use Rattle.fast_check_worklists.specs.Demands.{Text, same_nv}
 use Rattle.fast_check_worklists.specs.Account.{Account, IsYield}
-use Rattle.fast_check_findings.specs.Yields.{ModuleFault, missing_entry, untyped_entry, untyped_module, of_demand}
-use Rattle.fast_check_findings.specs.Yields.{Yield, entry_point, refused_export, dependency, recorded, public, implementing, faulty}
+use Rattle.fast_check_package_ranges.specs.findings.Yields.{ModuleFault, missing_entry, untyped_entry, untyped_module, of_demand}
+use Rattle.fast_check_package_ranges.specs.findings.Yields.{Yield, entry_point, refused_export, dependency, recorded, public, implementing, faulty}
 use Rattle.fast_check_package_ranges.specs.Questions.{ModuleQuestion, whether_public, whether_implementing, about, fault_says, is_recorded}
 use Rattle.fast_check_package_ranges.specs.Questions.{range_says, implementation_says, package_of, yield_says, yields_say}
-use Rattle.fast_check_turns.specs.Sources.{Known, named_at}
-use Rattle.fast_check_turns.specs.Yields.{gives}
-use Rattle.fast_check_turns.specs.Own.{IsOwnRange, IsOwnYield}
-use Rattle.fast_check_turns.proofs.OwnYields.{own_yields}
+use Rattle.fast_check_finder.specs.turns.Sources.{Known, named_at}
+use Rattle.fast_check_finder.specs.turns.Yields.{gives}
+use Rattle.fast_check_finder.specs.turns.Own.{IsOwnRange, IsOwnYield}
+use Rattle.fast_check_finder.proofs.turns.OwnYields.{own_yields}
 
 -- ranges that are the same are one
 range_of : ℕ → ℕ → SourceRange

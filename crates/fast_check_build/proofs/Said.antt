@@ -6,14 +6,14 @@ use Rattle.fast_check_packages.specs.Package.{Nv}
 use Rattle.fast_check_packages.specs.declared.package.PackageNv.{PackageNv}
 use Rattle.fast_check_cache.specs.declared.package_ranges.PackagePublicRanges.{PackagePublicRanges}
 use Rattle.fast_check_worklists.specs.Account.{Account, IsAccount, IsYield}
-use Rattle.fast_check_findings.specs.Findings.{yields_of}
-use Rattle.fast_check_findings.specs.declared.finding.Finding.{Finding}
+use Rattle.fast_check_package_ranges.specs.findings.Findings.{yields_of}
+use Rattle.fast_check_package_ranges.specs.findings.declared.finding.Finding.{Finding}
 use Rattle.fast_check_package_ranges.specs.Questions.{Question, whether_known, whether_entry_point, whether_dependency, whether_refused, about, whether_public, whether_implementing}
 use Rattle.fast_check_package_ranges.specs.Questions.{is_said, IsTextless}
 use Rattle.fast_check_package_ranges.specs.Answers.{answer, IsSaid, IsExact, IsOnce}
-use Rattle.fast_check_turns.specs.Sources.{Known}
-use Rattle.fast_check_turns.specs.Rules.{world}
-use Rattle.fast_check_turns.specs.Yields.{gives}
+use Rattle.fast_check_finder.specs.turns.Sources.{Known}
+use Rattle.fast_check_finder.specs.turns.Rules.{world}
+use Rattle.fast_check_finder.specs.turns.Yields.{gives}
 use Rattle.fast_check_finder.specs.Refusals.{JoinAll}
 use Rattle.fast_check_graph.specs.Root.{AreFoundByOwnNames}
 use Rattle.fast_check_build.specs.Found.{IsOfYields, IsFound}

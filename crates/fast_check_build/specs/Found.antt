@@ -12,14 +12,14 @@ use Rattle.fast_check_cache.specs.declared.package_ranges.PackagePublicRanges.{P
 use Rattle.fast_check_faults.specs.Reports.{Report}
 use Rattle.fast_check_worklists.specs.Demands.{Text}
 use Rattle.fast_check_worklists.specs.Account.{Account, IsAccount, IsYield}
-use Rattle.fast_check_findings.specs.Yields.{Yield}
+use Rattle.fast_check_package_ranges.specs.findings.Yields.{Yield}
 use Rattle.fast_check_package_ranges.specs.Questions.{Question, whether_known, about, whether_public, whether_implementing}
 use Rattle.fast_check_package_ranges.specs.Questions.{whether_told, yields_say, is_said, IsTextless}
 use Rattle.fast_check_package_ranges.specs.Answers.{answer, IsOnce}
-use Rattle.fast_check_turns.specs.Sources.{Known, owner_by, named_at}
-use Rattle.fast_check_turns.specs.Rules.{world}
-use Rattle.fast_check_turns.specs.Yields.{gives}
-use Rattle.fast_check_turns.specs.Own.{IsOwnRange}
+use Rattle.fast_check_finder.specs.turns.Sources.{Known, owner_by, named_at}
+use Rattle.fast_check_finder.specs.turns.Rules.{world}
+use Rattle.fast_check_finder.specs.turns.Yields.{gives}
+use Rattle.fast_check_finder.specs.turns.Own.{IsOwnRange}
 use Rattle.fast_check_finder.specs.Refusals.{JoinAll}
 
 -- what is known of modules and packages, where a provider is lent

@@ -8,10 +8,10 @@ ghost use Rattle.fast_check_build.specs.Owned.{IsOwned, AreOwned};
 use crate::finder::find_public_ranges;
 use fast_check_cache::{FastCheckCache, PackagePublicRanges};
 use fast_check_graph::{ModuleGraph, RootSymbol};
+use fast_check_package_answers::transform::TransformOptions;
 use fast_check_package_answers::{ModuleAnswer, answer_package};
 use fast_check_packages::PackageNv;
 use fast_check_provider::{BuildFault, JsrUrlProvider};
-use fast_check_transform::TransformOptions;
 use std::alloc::{AllocError, Global};
 use std::collections::{BTreeMap, VecDeque};
 

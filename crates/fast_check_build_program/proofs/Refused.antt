@@ -4,10 +4,10 @@ use Rattle.std.specs.List.{list_any}
 use Rattle.fast_check_graph.specs.declared.root_symbol.RootSymbol.{RootSymbol}
 use Rattle.fast_check_requests.specs.declared.refusal.Refusal.{Refusal}
 use Rattle.fast_check_requests.specs.declared.refusal.Refusal.TheVariants as refusals
-use Rattle.fast_check_build_requests.specs.declared.request.BuildRequest.{BuildRequest}
+use Rattle.fast_check_build_tables.specs.build_requests.declared.request.BuildRequest.{BuildRequest}
 use Rattle.fast_check_requests.specs.Call.{File, OfFile}
 use Rattle.fast_check_build_program.specs.Call.{is_call}
-use Rattle.fast_check_build_requests.specs.Input.{HoldsBuild, LacksBuild}
+use Rattle.fast_check_build_tables.specs.build_requests.Input.{HoldsBuild, LacksBuild}
 use Rattle.fast_check_build_program.specs.Line.{has_diagnostics}
 use Rattle.fast_check_build_program.specs.Program.{known_in, roots_in, IsRootIn, IsExportRefusal, AnswersBuild, IsAnswerTo}
 use Rattle.fast_check_build_program.specs.Program.{RefusesBuild, RefusesBytes, AnswersCall, RefusesCall}

@@ -11,8 +11,8 @@ use Rattle.fast_check_provider.specs.Listed.{url_in, nv_in, row_of, row_at}
 use Rattle.fast_check_graph.specs.declared.graph.ModuleGraph.{ModuleGraph}
 use Rattle.fast_check_graph.specs.declared.root_symbol.RootSymbol.{RootSymbol}
 use Rattle.fast_check_turns.specs.Sources.{Known}
-use Rattle.fast_check_finder.specs.Refusals.{IsRefusal}
-use Rattle.fast_check_package_answers.specs.PackageAnswer.{Answer}
+use Rattle.fast_check_build.specs.finder.Refusals.{IsRefusal}
+use Rattle.fast_check_build.specs.package_answers.PackageAnswer.{Answer}
 use Rattle.fast_check_build.specs.Found.{known_of}
 use Rattle.fast_check_build.specs.Build.{IsBuilt}
 use Rattle.fast_check_requests.specs.declared.ending.Ending.{Ending}
@@ -20,8 +20,8 @@ use Rattle.fast_check_requests.specs.declared.refusal.Refusal.{Refusal}
 use Rattle.fast_check_requests.specs.declared.refusal.Refusal.TheVariants as refusals
 use Rattle.fast_check_requests.specs.Call.{File, OfFile}
 use Rattle.fast_check_requests.specs.Input.{IsNotJson}
-use Rattle.fast_check_build_requests.specs.declared.request.BuildRequest.{BuildRequest}
-use Rattle.fast_check_build_requests.specs.Input.{HoldsBuild, IsNoBuild}
+use Rattle.fast_check_build_tables.specs.build_requests.declared.request.BuildRequest.{BuildRequest}
+use Rattle.fast_check_build_tables.specs.build_requests.Input.{HoldsBuild, IsNoBuild}
 use Rattle.fast_check_build_tables.specs.Root.{IsRootOfParts, StandUnderNames, IsBuildFault}
 use Rattle.fast_check_build_program.specs.Call.{is_call}
 use Rattle.fast_check_build_program.specs.Line.{IsLineOf}

@@ -5,7 +5,7 @@ ghost use Rattle.std.specs.List.{list_any};
 ghost use Rattle.fast_check_build_program.specs.Line.{line_of, status_of, has_diagnostics, IsLineOf};
 
 use fast_check_answers::write_answers;
-use fast_check_package_answers::ModuleAnswer;
+use fast_check_build::package_answers::ModuleAnswer;
 use json::Writer;
 use std::alloc::{AllocError, Global};
 

@@ -9,7 +9,7 @@ ghost use Rattle.fast_check_build_program.specs.Program.{IsAnswerTo, RefusesByte
 use crate::answer::Answer;
 use crate::request::answer_request;
 use crate::words::is_call;
-use fast_check_build_requests::read_build;
+use fast_check_build_tables::build_requests::read_build;
 use fast_check_requests::{Ending, Refusal, read_bytes};
 use std::alloc::Global;
 use std::io::{Read, Write};

@@ -7,10 +7,10 @@ ghost use Rattle.fast_check_build_program.specs.Program.{known_by, IsExportRefus
 
 use crate::answer::{Answer, tell_answers};
 use fast_check_build::build_fast_check_type_graph;
-use fast_check_build_requests::BuildRequest;
+use fast_check_build::package_answers::ModuleAnswer;
+use fast_check_build_tables::build_requests::BuildRequest;
 use fast_check_build_tables::root_symbol_of;
 use fast_check_graph::{ModuleGraph, RootSymbol};
-use fast_check_package_answers::ModuleAnswer;
 use fast_check_packages::PackageNv;
 use fast_check_provider::{BuildFault, ListedPackages};
 use fast_check_requests::Refusal;

@@ -1,2 +1,3 @@
+pub use Rattle.fast_check_build_requests.specs as build_requests
 pub mod Modules
 pub mod Root

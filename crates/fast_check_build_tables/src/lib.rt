@@ -4,4 +4,5 @@
 mod modules;
 mod root;
 
+pub use fast_check_build_requests as build_requests;
 pub use root::root_symbol_of;

@@ -6,7 +6,7 @@ ghost use Rattle.fast_check_signatures.specs.Answers as answers;
 ghost use Rattle.fast_check_signatures.specs.Classes.{class_head, plain_class_seen, ambient_class};
 ghost use Rattle.fast_check_signatures.specs.Members.{ambient_members, is_private_computed};
 ghost use Rattle.fast_check_tables.specs.PublicRanges.{is_implementation};
-ghost use Rattle.fast_check_bindings.specs.Bindings.{bindings_of};
+ghost use Rattle.fast_check_values.specs.bindings.Bindings.{bindings_of};
 
 use crate::members::transform_members;
 use crate::superclasses::transform_superclass;

@@ -5,7 +5,7 @@ ghost use Rattle.fast_check_signatures.specs.Answers.{Adds, answer_to, answer_of
 ghost use Rattle.fast_check_signatures.specs.Classes.{is_param_property, takes_apart, constructor_params_seen, constructor_seen};
 ghost use Rattle.fast_check_tables.specs.PublicRanges.{is_implementation};
 ghost use Rattle.fast_check_classes.specs.Parts.{first_pattern, signed_constructor};
-ghost use Rattle.fast_check_bindings.specs.Bindings.{bindings_of};
+ghost use Rattle.fast_check_values.specs.bindings.Bindings.{bindings_of};
 
 use fast_check_class_forms::Constructor;
 use fast_check_class_nodes::{

@@ -8,3 +8,5 @@ mod properties;
 mod superclasses;
 
 pub use classes::{ambient_class, transform_class};
+pub use fast_check_class_nodes as class_nodes;
+pub use fast_check_values as values;

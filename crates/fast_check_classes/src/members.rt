@@ -8,11 +8,10 @@ ghost use Rattle.fast_check_signatures.specs.Classes.{declared_by_params, method
 ghost use Rattle.fast_check_signatures.specs.Members.{is_hash_named, hash_mark};
 ghost use Rattle.fast_check_tables.specs.PublicRanges.{is_implementation};
 ghost use Rattle.fast_check_classes.specs.Parts.{signed_method, declared_params, kept_answer};
-ghost use Rattle.fast_check_bindings.specs.Bindings.{bindings_of};
+ghost use Rattle.fast_check_values.specs.bindings.Bindings.{bindings_of};
 
 use crate::constructors::{is_param_property, pattern_among, transform_constructor};
 use crate::properties::{transform_accessor, transform_property};
-use fast_check_bindings::unresolved_context;
 use fast_check_class_forms::{ClassMethod, Constructor};
 use fast_check_class_nodes::{
     hash_private, is_hash_named, is_private, kept_members, param_property, private_method_head,
@@ -23,6 +22,7 @@ use fast_check_ranges::range_of_node;
 use fast_check_signatures::{Fault, FunctionKind};
 use fast_check_syntax::{Items, Kind, Part, SyntaxContext, Tree, Word};
 use fast_check_tables::ModulePublicRanges;
+use fast_check_values::bindings::unresolved_context;
 use fast_check_values::{transform_fn, transform_implementation};
 use std::alloc::{AllocError, Global};
 

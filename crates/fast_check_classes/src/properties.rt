@@ -2,9 +2,8 @@ ghost use Rattle.std.specs.Prelude.{◌≡◌, IfOk, Some};
 ghost use Rattle.fast_check_syntax.specs.Part.{seen};
 ghost use Rattle.fast_check_signatures.specs.Answers.{Adds, answer_to};
 ghost use Rattle.fast_check_classes.specs.Parts.{value_answer, untyped_answer, property_answer, accessor_type, accessor_answer};
-ghost use Rattle.fast_check_bindings.specs.Bindings.{bindings_of};
+ghost use Rattle.fast_check_values.specs.bindings.Bindings.{bindings_of};
 
-use fast_check_bindings::unresolved_context;
 use fast_check_class_forms::{AutoAccessor, ClassProp};
 use fast_check_class_nodes::{accessor_head, is_private, mutability_of_property, property_head};
 use fast_check_helpers::{DeclMutabilityKind, any_type_ann, maybe_infer_type, type_ann};
@@ -12,6 +11,7 @@ use fast_check_modules::EsModuleInfo;
 use fast_check_ranges::range_of_node;
 use fast_check_signatures::{Fault, FaultKind};
 use fast_check_syntax::{Part, Tree};
+use fast_check_values::bindings::unresolved_context;
 use fast_check_values::leave_value;
 use std::alloc::{AllocError, Global};
 

@@ -1,3 +1,4 @@
+pub use Rattle.fast_check_classes.proofs as classes
 pub mod AssignmentCases
 pub mod Listed
 pub mod Declared

@@ -14,15 +14,15 @@ use Rattle.fast_check_signatures.specs.Seen.{Seen, written, range, round, declar
 use Rattle.fast_check_signatures.specs.declared.fault.Fault.{Fault}
 use Rattle.fast_check_signatures.specs.declared.fault.FaultKind.TheVariants.{UnsupportedGlobalModule, UnsupportedAmbientModule}
 use Rattle.fast_check_signatures.specs.Answers.{Answer, fault_at, answer_to, answer_of}
-use Rattle.fast_check_skeleton.specs.declared.rules.DefaultRule.{DefaultRule}
-use Rattle.fast_check_skeleton.specs.declared.rules.DefaultRule.TheVariants as defaults
-use Rattle.fast_check_skeleton.specs.Defaults.{is_public_value, default_value_seen, default_class_seen, default_signature, default_function_seen, default_seen}
-use Rattle.fast_check_skeleton.specs.Namespaces.{is_ambient_module}
-use Rattle.fast_check_skeleton.specs.Surroundings.{Surroundings}
-use Rattle.fast_check_skeleton.specs.Visible.{declared_ident, declarator_head, value_seen, ident_declarator_seen, declarator_seen, public_declarator}
-use Rattle.fast_check_skeleton.specs.Visible.{public_declarators, statement_seen, signature_of, function_decl_seen, public_function, standing_seen}
-use Rattle.fast_check_skeleton.specs.Visible.{class_in, class_decl_seen, public_class}
-use Rattle.fast_check_skeleton.specs.Visible.{using_seen}
+use Rattle.fast_check_links.specs.skeleton.declared.rules.DefaultRule.{DefaultRule}
+use Rattle.fast_check_links.specs.skeleton.declared.rules.DefaultRule.TheVariants as defaults
+use Rattle.fast_check_links.specs.skeleton.Defaults.{is_public_value, default_value_seen, default_class_seen, default_signature, default_function_seen, default_seen}
+use Rattle.fast_check_links.specs.skeleton.Namespaces.{is_ambient_module}
+use Rattle.fast_check_links.specs.skeleton.Surroundings.{Surroundings}
+use Rattle.fast_check_links.specs.skeleton.Visible.{declared_ident, declarator_head, value_seen, ident_declarator_seen, declarator_seen, public_declarator}
+use Rattle.fast_check_links.specs.skeleton.Visible.{public_declarators, statement_seen, signature_of, function_decl_seen, public_function, standing_seen}
+use Rattle.fast_check_links.specs.skeleton.Visible.{class_in, class_decl_seen, public_class}
+use Rattle.fast_check_links.specs.skeleton.Visible.{using_seen}
 
 -- a declarator of another type and value
 abbrev pub retyped : Tree → Tree → Tree → Tree

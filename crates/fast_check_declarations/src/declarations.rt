@@ -4,23 +4,23 @@ ghost use Rattle.fast_check_syntax.specs.Part.{seen};
 ghost use Rattle.fast_check_syntax.specs.Shape.{parts};
 ghost use Rattle.fast_check_statement_forms.specs.Declarations.{VarDecl-decls};
 ghost use Rattle.fast_check_signatures.specs.Answers.{Adds, faultless};
-ghost use Rattle.fast_check_skeleton.specs.Mutability.{mutability_of};
-ghost use Rattle.fast_check_skeleton.specs.Visible.{is_ambient_statement, is_public_declarator, is_public_using, using_place};
+ghost use Rattle.fast_check_links.specs.skeleton.Mutability.{mutability_of};
+ghost use Rattle.fast_check_links.specs.skeleton.Visible.{is_ambient_statement, is_public_declarator, is_public_using, using_place};
 ghost use Rattle.fast_check_links.specs.Asked.{Asked-around};
 ghost use Rattle.fast_check_links.specs.Links.{as_list};
 ghost use Rattle.fast_check_declarations.specs.PartAnswers.{retyped, value_answer, valued_answer, ident_answer};
 ghost use Rattle.fast_check_declarations.specs.PartAnswers.{declarator_answer, public_answer, declarators_answer, statement_answer, standing_answer};
 ghost use Rattle.fast_check_declarations.specs.PartAnswers.{using_answer};
 
-use fast_check_bindings::unresolved_context;
+use fast_check_classes::values::leave_expr;
 use fast_check_helpers::{DeclMutabilityKind, maybe_infer_type, never_value, type_ann};
 use fast_check_links::Asked;
+use fast_check_links::bindings::unresolved_context;
 use fast_check_program_forms::{BindingIdent, Ident};
 use fast_check_ranges::range_of_node;
 use fast_check_signatures::{Fault, FaultKind};
 use fast_check_statement_forms::{UsingDecl, VarDecl, VarDeclarator};
 use fast_check_syntax::{Items, Kind, Part, SourceRange, Tree, Word};
-use fast_check_values::leave_expr;
 use std::alloc::{AllocError, Global};
 
 /// Whether what a statement of this kind declares keeps its value.

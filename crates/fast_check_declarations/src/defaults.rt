@@ -1,7 +1,7 @@
 ghost use Rattle.std.specs.Prelude.{◌≡◌, IfOk, Some};
 ghost use Rattle.fast_check_syntax.specs.Part.{seen};
 ghost use Rattle.fast_check_signatures.specs.Answers.{Adds};
-ghost use Rattle.fast_check_skeleton.specs.Defaults.{default_place, is_public_value};
+ghost use Rattle.fast_check_links.specs.skeleton.Defaults.{default_place, is_public_value};
 ghost use Rattle.fast_check_links.specs.Asked.{Asked-around};
 ghost use Rattle.fast_check_links.specs.Links.{as_list};
 ghost use Rattle.fast_check_declarations.specs.PartAnswers.{is_public_default, default_value_answer, default_class_answer};
@@ -9,14 +9,14 @@ ghost use Rattle.fast_check_declarations.specs.PartAnswers.{default_signature_an
 
 use fast_check_class_forms::Function;
 use fast_check_classes::transform_class;
+use fast_check_classes::values::{leave_expr, transform_fn, transform_implementation};
 use fast_check_expression_forms::{ClassExpr, FnExpr};
 use fast_check_links::Asked;
+use fast_check_links::skeleton::DefaultRule;
 use fast_check_program_forms::{ExportDefaultDecl, ExportDefaultExpr, Ident};
 use fast_check_ranges::range_of_node;
 use fast_check_signatures::{Fault, FaultKind, FunctionKind};
-use fast_check_skeleton::DefaultRule;
 use fast_check_syntax::{Part, SourceRange, Tree};
-use fast_check_values::{leave_expr, transform_fn, transform_implementation};
 use std::alloc::{AllocError, Global};
 
 /// Whether the default export of an expression is public: by its own range, or by that of the expression.

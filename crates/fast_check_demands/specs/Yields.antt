@@ -3,11 +3,11 @@ use Rattle.std.specs.Prelude.{Bool, false, cond, not, ◌&&◌, List, [], ◌∷
 use Rattle.std.specs.List.{flat_map, filter}
 use Rattle.fast_check_names.specs.Names.{Name, Path, path_of}
 use Rattle.fast_check_syntax.specs.declared.source.SourceRange.{SourceRange}
-use Rattle.fast_check_symbols.specs.declared.symbol_id.SymbolId.{SymbolId}
-use Rattle.fast_check_symbols.specs.declared.symbol.Symbol.{Symbol}
-use Rattle.fast_check_symbols.specs.declared.decl.SymbolDecl.{SymbolDecl}
-use Rattle.fast_check_symbols.specs.Symbols.{symbol_of}
-use Rattle.fast_check_symbols.specs.Exports.{export_named}
+use Rattle.fast_check_modules.specs.symbols.declared.symbol_id.SymbolId.{SymbolId}
+use Rattle.fast_check_modules.specs.symbols.declared.symbol.Symbol.{Symbol}
+use Rattle.fast_check_modules.specs.symbols.declared.decl.SymbolDecl.{SymbolDecl}
+use Rattle.fast_check_modules.specs.symbols.Symbols.{symbol_of}
+use Rattle.fast_check_modules.specs.symbols.Exports.{export_named}
 use Rattle.fast_check_modules.specs.Tables.{Tables}
 use Rattle.fast_check_demands.specs.declared.demand.Namespace.{Namespace}
 use Rattle.fast_check_demands.specs.declared.fault.FaultKind.{FaultKind}

@@ -10,7 +10,7 @@ use crate::demand::{Extent, SymbolDemand};
 use crate::list::Demands;
 use crate::names::{is_prototype, member_named};
 use fast_check_modules::CheckedTables;
-use fast_check_symbols::{Symbol, SymbolDecl, SymbolDeclKind, SymbolId};
+use fast_check_modules::symbols::{Symbol, SymbolDecl, SymbolDeclKind, SymbolId};
 use std::alloc::AllocError;
 use std::slice;
 

@@ -5,7 +5,7 @@ ghost use Rattle.fast_check_demands.specs.Rules.{bound, each_of, reference, chil
 use crate::demand::{Ask, Extent, Namespace, SymbolDemand};
 use crate::list::Demands;
 use fast_check_modules::CheckedTables;
-use fast_check_symbols::{ReferenceNamespace, SymbolId};
+use fast_check_modules::symbols::{ReferenceNamespace, SymbolId};
 use fast_check_syntax::Id;
 use std::alloc::AllocError;
 

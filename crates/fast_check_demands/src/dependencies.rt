@@ -6,7 +6,7 @@ use crate::bindings::{bound, push_named_at, push_reference, push_references, pus
 use crate::demand::{Namespace, SymbolDemand};
 use crate::list::Demands;
 use fast_check_modules::CheckedTables;
-use fast_check_symbols::{
+use fast_check_modules::symbols::{
     ReferenceNamespace, SymbolDeclKind, SymbolDep, SymbolId, SymbolNode, SymbolNodeDep,
 };
 use std::alloc::AllocError;

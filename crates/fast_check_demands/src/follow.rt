@@ -7,7 +7,7 @@ use crate::children::push_symbol;
 use crate::demand::{Ask, SymbolDemand};
 use crate::list::Demands;
 use fast_check_modules::CheckedTables;
-use fast_check_symbols::Symbol;
+use fast_check_modules::symbols::Symbol;
 use std::alloc::{AllocError, Global};
 
 fn push_asked<'a>(

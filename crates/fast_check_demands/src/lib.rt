@@ -16,7 +16,7 @@ mod public;
 pub use decls::{binds, is_implementation};
 pub use demand::{Ask, Extent, Namespace, SymbolDemand};
 pub use fast_check_modules::CheckedTables;
-pub use fast_check_symbols::SymbolId;
+pub use fast_check_modules::symbols::SymbolId;
 pub use fast_check_syntax::SourceRange;
 pub use fault::{FaultKind, SymbolFault, fault_of};
 pub use follow::demands_of;

@@ -1,6 +1,6 @@
 ghost use Rattle.std.specs.Prelude.{◌≡◌, ◌++◌, not, ◌&&◌, option_map, OnOk};
-ghost use Rattle.fast_check_symbols.specs.Exports.{seen_export};
-ghost use Rattle.fast_check_symbols.specs.Symbols.{symbol_of};
+ghost use Rattle.fast_check_modules.specs.symbols.Exports.{seen_export};
+ghost use Rattle.fast_check_modules.specs.symbols.Symbols.{symbol_of};
 ghost use Rattle.std.specs.List.{flat_map, filter};
 ghost use Rattle.std.specs.Option.{option_copied};
 ghost use Rattle.fast_check_demands.specs.Demands.{demand_of, asked_of};
@@ -11,7 +11,7 @@ ghost use Rattle.fast_check_demands.specs.Yields.{decl_ranges, is_within, outsid
 use crate::decls::{binds, is_function, is_implementation};
 use crate::demand::{Ask, Namespace, SymbolDemand};
 use fast_check_modules::CheckedTables;
-use fast_check_symbols::{Symbol, SymbolDecl, SymbolExports, SymbolId};
+use fast_check_modules::symbols::{Symbol, SymbolDecl, SymbolExports, SymbolId};
 use fast_check_syntax::SourceRange;
 use std::alloc::AllocError;
 

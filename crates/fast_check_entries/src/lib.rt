@@ -5,5 +5,6 @@ mod exports;
 mod faults;
 mod joined;
 
+pub use fast_check_findings as findings;
 pub use faults::entry_faults;
 pub use joined::entry_points;

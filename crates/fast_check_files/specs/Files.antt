@@ -14,7 +14,7 @@ use Rattle.fast_check_symbols.specs.declared.node.SymbolDep.{SymbolDep}
 use Rattle.fast_check_symbols.specs.declared.node.SymbolDep.TheVariants as deps
 use Rattle.fast_check_symbols.specs.declared.node.SymbolNodeDep.{SymbolNodeDep}
 use Rattle.fast_check_symbols.specs.Symbols.{symbol_of}
-use Rattle.fast_check_modules.specs.Tables.{Tables}
+use Rattle.fast_check_demands.specs.modules.Tables.{Tables}
 use Rattle.fast_check_demands.specs.declared.demand.Namespace.{Namespace}
 use Rattle.fast_check_demands.specs.declared.demand.Extent.{Extent}
 use Rattle.fast_check_demands.specs.declared.demand.Extent.TheVariants.{Touched, Whole}

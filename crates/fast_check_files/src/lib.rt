@@ -5,6 +5,7 @@ mod list;
 mod references;
 mod want;
 
+pub use fast_check_demands as demands;
 pub use list::FileWants;
 pub use references::push_files;
 pub use want::{FileWant, WantedNames, by_path};

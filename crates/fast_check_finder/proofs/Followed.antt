@@ -13,12 +13,12 @@ use Rattle.fast_check_demands.specs.Demands.{Demand as SymbolDemand}
 use Rattle.fast_check_demands.specs.Account.{Chained, root as symbol_root, step as symbol_step, IsCovered as IsSymbolCovered}
 use Rattle.fast_check_demands.specs.Rules.{each_of, names}
 use Rattle.fast_check_demands.specs.Yields.{ranges, implementations, faults}
-use Rattle.fast_check_faults.specs.Reports.{Report}
+use Rattle.fast_check_findings.specs.faults.Reports.{Report}
 use Rattle.fast_check_files.specs.Files.{files}
-use Rattle.fast_check_traces.specs.declared.modules.TracedModule.{TracedModule}
-use Rattle.fast_check_traces.specs.Modules.{own_tables}
-use Rattle.fast_check_traces.specs.Roots.{roots}
-use Rattle.fast_check_traces.specs.Wants.{re_export_ranges, module_wants}
+use Rattle.fast_check_turns.specs.traces.declared.modules.TracedModule.{TracedModule}
+use Rattle.fast_check_turns.specs.traces.Modules.{own_tables}
+use Rattle.fast_check_turns.specs.traces.Roots.{roots}
+use Rattle.fast_check_turns.specs.traces.Wants.{re_export_ranges, module_wants}
 use Rattle.fast_check_search.proofs.Each.{Contains_none, Contains_first, Contains_later, Contains_cases, contains_map, contains_flat_map, Each}
 use Rattle.fast_check_search.proofs.Each.{each_append, each_map, each_flat}
 use Rattle.fast_check_worklists.proofs.Waiting.{map_contains}

@@ -1,3 +1,4 @@
+pub use Rattle.fast_check_turns.proofs as turns
 mod Owned
 mod Paths
 mod Reach

@@ -7,17 +7,17 @@ use Rattle.fast_check_names.specs.Imports.{NameDemand, names_but_default, each_n
 use Rattle.fast_check_demands.specs.Demands.{Demand as SymbolDemand}
 use Rattle.fast_check_demands.specs.Rules.{names}
 use Rattle.fast_check_files.specs.Files.{FileDemand, files}
-use Rattle.fast_check_traces.specs.declared.modules.TracedModule.{TracedModule}
-use Rattle.fast_check_traces.specs.Modules.{own_tables}
-use Rattle.fast_check_traces.specs.Roots.{roots}
-use Rattle.fast_check_traces.specs.Wants.{Want as ModuleWant, re_exported, answered, module_wants}
+use Rattle.fast_check_turns.specs.traces.declared.modules.TracedModule.{TracedModule}
+use Rattle.fast_check_turns.specs.traces.Modules.{own_tables}
+use Rattle.fast_check_turns.specs.traces.Roots.{roots}
+use Rattle.fast_check_turns.specs.traces.Wants.{Want as ModuleWant, re_exported, answered, module_wants}
 use Rattle.fast_check_search.proofs.Each.{Each, each_nil, each_one, each_cons, each_append, each_map, each_flat, each_cond, each_each_of}
 use Rattle.fast_check_worklists.specs.Demands.{Text, Wanted, same_nv, asked_by, Want, to_package, to_module, to_symbol, of_package, of_module}
 use Rattle.fast_check_worklists.specs.Demands.{of_symbol}
 use Rattle.fast_check_worklists.specs.State.{IsOuter}
 use Rattle.fast_check_worklists.specs.Turn.{IsOrderly}
 use Rattle.fast_check_findings.specs.declared.finding.EntryFault.{EntryFault}
-use Rattle.fast_check_entries.specs.Entries.{Entrance, passed_over, refused, entered, all_faults}
+use Rattle.fast_check_turns.specs.entries.Entries.{Entrance, passed_over, refused, entered, all_faults}
 use Rattle.fast_check_turns.specs.Sources.{Known, module_at, entrance_at}
 use Rattle.fast_check_turns.specs.Rules.{file_at, behind, resolved, file_wants, left_wants, names_wants, symbol_wants, entry_want, unless_faulty, entry_wants, world}
 

@@ -38,10 +38,10 @@ use Rattle.fast_check_demands.specs.Account.{root, step}
 use Rattle.fast_check_demands.specs.Rules.{each_of, names, reference, references, qualified}
 use Rattle.fast_check_files.specs.Files.{FileDemand, wants, path_demand, import_demand, dep_files, kind_files}
 use Rattle.fast_check_files.specs.Files.{decl_files, symbol_files, alias_files, asked_files, files}
-use Rattle.fast_check_traces.specs.declared.modules.TracedModule.{TracedModule}
-use Rattle.fast_check_traces.specs.Modules.{tables_in, own_export, led_to, answer_of, first_with, answer_to}
-use Rattle.fast_check_traces.specs.Roots.{roots, is_exported_in, references_as, exported_as, export_whole, star_export, star_roots, path_roots}
-use Rattle.fast_check_traces.specs.Wants.{Want as ModuleWant, re_exported, answered, all_wants, answered_at, path_wants, module_wants}
+use Rattle.fast_check_turns.specs.traces.declared.modules.TracedModule.{TracedModule}
+use Rattle.fast_check_turns.specs.traces.Modules.{tables_in, own_export, led_to, answer_of, first_with, answer_to}
+use Rattle.fast_check_turns.specs.traces.Roots.{roots, is_exported_in, references_as, exported_as, export_whole, star_export, star_roots, path_roots}
+use Rattle.fast_check_turns.specs.traces.Wants.{Want as ModuleWant, re_exported, answered, all_wants, answered_at, path_wants, module_wants}
 use Rattle.fast_check_search.specs.Universe as inner
 use Rattle.fast_check_search.proofs.Inside.{inside as inside_module, last_inside}
 use Rattle.fast_check_search.proofs.Each.{Contains_first, Contains_later, Contains_only, contains_map, contains_flat_map, Each}
@@ -51,7 +51,7 @@ use Rattle.fast_check_worklists.specs.Demands.{Text, same_nv, asked_by, Want, to
 use Rattle.fast_check_worklists.specs.Demands.{of_symbol}
 use Rattle.fast_check_worklists.specs.Measure.{IsWithin, IsPathWithin, IsInside, IsWantInside, IsUniverse}
 use Rattle.fast_check_findings.specs.declared.finding.EntryFault.{EntryFault}
-use Rattle.fast_check_entries.specs.Entries.{Entrance, passed_over, refused, entered, all_faults}
+use Rattle.fast_check_turns.specs.entries.Entries.{Entrance, passed_over, refused, entered, all_faults}
 use Rattle.fast_check_turns.specs.Sources.{Known, is_text, node_at, named_at, typed_info, info_at, traced_as, module_at, entrance_at}
 use Rattle.fast_check_turns.specs.Rules.{file_at, behind, resolved, file_wants, left_wants, names_wants, symbol_wants, entry_want, unless_faulty, entry_wants, world}
 use Rattle.fast_check_finder.specs.Reach.{dep_names, kind_names, symbol_names, table_names, all_names, paths_up_to, targets, answers, entry_texts}

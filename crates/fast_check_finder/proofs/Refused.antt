@@ -8,13 +8,13 @@ use Rattle.fast_check_packages.specs.declared.package.PackageNv.{PackageNv}
 use Rattle.fast_check_packages.specs.Package.{Nv, nv_of}
 use Rattle.fast_check_provider.specs.declared.fault.BuildFault.{BuildFault}
 use Rattle.fast_check_provider.specs.declared.fault.BuildFault.TheVariants.{InvalidExport, OutOfMemory}
-use Rattle.fast_check_faults.specs.Reports.{Report, told}
+use Rattle.fast_check_findings.specs.faults.Reports.{Report, told}
 use Rattle.fast_check_findings.specs.declared.finding.Finding.{Finding}
 use Rattle.fast_check_findings.specs.declared.finding.Finding.TheVariants.{Entered, Followed, Untyped}
 use Rattle.fast_check_findings.specs.Yields.{ModuleFault, Yield, entry_point, refused_export, dependency, recorded, public, implementing, faulty, of_demand}
 use Rattle.fast_check_findings.specs.Yields.{untyped_module}
 use Rattle.fast_check_findings.specs.Findings.{faulty_module, entry_fault, told_at, diagnostic_yields, yields_of}
-use Rattle.fast_check_entries.specs.Entries.{Entrance, passed_over, refused, entered, TellsRefused}
+use Rattle.fast_check_turns.specs.entries.Entries.{Entrance, passed_over, refused, entered, TellsRefused}
 use Rattle.fast_check_search.proofs.Each.{Contains_first, Each, each_nil, each_one, each_cons, each_append, each_map, each_flat}
 use Rattle.fast_check_worklists.specs.Demands.{Text, of_package}
 use Rattle.fast_check_worklists.specs.Account.{Account, Chained, IsYield}

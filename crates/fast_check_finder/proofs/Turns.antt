@@ -9,7 +9,7 @@ use Rattle.url.specs.Parts.{serialize}
 use Rattle.fast_check_graph.specs.declared.module.Module.{Module}
 use Rattle.fast_check_graph.specs.Modules.{is_typed_module, is_external}
 use Rattle.fast_check_graph.specs.Root.{specifier_of}
-use Rattle.fast_check_faults.specs.Reports.{told}
+use Rattle.fast_check_findings.specs.faults.Reports.{told}
 use Rattle.fast_check_findings.specs.Yields.{Yield, recorded, public, implementing, untyped_module}
 use Rattle.fast_check_findings.specs.Findings.{faulty_module, told_at}
 use Rattle.fast_check_packages.specs.Package.{Nv}

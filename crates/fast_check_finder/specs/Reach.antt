@@ -13,10 +13,10 @@ use Rattle.fast_check_symbols.specs.declared.decl.SymbolDeclKind.TheVariants.{Ta
 use Rattle.fast_check_symbols.specs.declared.node.SymbolDep.{SymbolDep}
 use Rattle.fast_check_symbols.specs.declared.node.SymbolDep.TheVariants as deps
 use Rattle.fast_check_modules.specs.Tables.{Tables}
-use Rattle.fast_check_traces.specs.Modules.{tables_in}
+use Rattle.fast_check_turns.specs.traces.Modules.{tables_in}
 use Rattle.fast_check_worklists.specs.Demands.{Text}
 use Rattle.fast_check_worklists.specs.Measure.{Universe}
-use Rattle.fast_check_entries.specs.Entries.{Entrance, passed_over, refused, entered}
+use Rattle.fast_check_turns.specs.entries.Entries.{Entrance, passed_over, refused, entered}
 use Rattle.fast_check_turns.specs.Sources.{Known, entrance_at}
 
 -- the names that the tables of a module write

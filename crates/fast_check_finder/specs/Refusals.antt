@@ -6,7 +6,7 @@ use Rattle.fast_check_provider.specs.declared.fault.BuildFault.{BuildFault}
 use Rattle.fast_check_provider.specs.declared.fault.BuildFault.TheVariants.{InvalidExport, OutOfMemory}
 use Rattle.fast_check_worklists.specs.Demands.{of_package}
 use Rattle.fast_check_worklists.specs.Account.{Account, Chained}
-use Rattle.fast_check_entries.specs.Entries.{Entrance, passed_over, refused, entered}
+use Rattle.fast_check_turns.specs.entries.Entries.{Entrance, passed_over, refused, entered}
 use Rattle.fast_check_turns.specs.Sources.{Known, entrance_at}
 use Rattle.fast_check_turns.specs.Rules.{world}
 

@@ -1,2 +1,3 @@
+pub use Rattle.fast_check_faults.specs as faults
 pub mod Yields
 pub mod Findings

@@ -1,2 +1,3 @@
+pub use Rattle.fast_check_skeleton.proofs as skeleton
 pub mod LinkCases
 pub mod SourceCases

@@ -4,7 +4,7 @@ use Rattle.fast_check_tables.specs.PublicRanges.{PublicRanges, is_public, is_imp
 use Rattle.fast_check_graph.specs.declared.graph.ModuleGraph.{ModuleGraph}
 use Rattle.fast_check_modules.specs.EsModule.{EsModule}
 use Rattle.fast_check_bindings.specs.Bindings.{bindings_of}
-use Rattle.fast_check_expandos.specs.ModuleObjects.{objects_of}
+use Rattle.fast_check_skeleton.specs.expandos.ModuleObjects.{objects_of}
 use Rattle.fast_check_sources.specs.Sources.{relative_source}
 use Rattle.fast_check_skeleton.specs.Surroundings.{Surroundings}
 use Rattle.fast_check_links.specs.declared.asked.Asked.{Asked}

@@ -1,3 +1,5 @@
+pub use Rattle.fast_check_tables.specs as tables
+pub use Rattle.fast_check_symbols.specs as symbols
 pub mod Expandos
 pub mod Faults
 pub mod Tables

@@ -14,10 +14,12 @@ mod unbound;
 pub use checked::CheckedTables;
 pub use es_module::EsModuleInfo;
 pub use expandos::{Expando, expandos_of};
+pub use fast_check_symbols as symbols;
 pub use fast_check_symbols::{
     FileDepName, ReferenceNamespace, Symbol, SymbolDecl, SymbolDeclKind, SymbolDep, SymbolExports,
     SymbolId, SymbolNode, SymbolNodeDep,
 };
+pub use fast_check_tables as tables;
 pub use fault::TableFault;
 pub use json_module::JsonModuleInfo;
 pub use tables::{ModuleTables, ReExportAllNode};

@@ -9,7 +9,7 @@ use Rattle.fast_check_packages.specs.Package.{Nv, nv_of}
 use Rattle.fast_check_packages.specs.declared.package.PackageNv.{PackageNv}
 use Rattle.fast_check_tables.specs.PublicRanges.{PublicRanges}
 use Rattle.fast_check_cache.specs.declared.package_ranges.PackagePublicRanges.{PackagePublicRanges}
-use Rattle.fast_check_faults.specs.Reports.{Report, told}
+use Rattle.fast_check_findings.specs.faults.Reports.{Report, told}
 use Rattle.fast_check_worklists.specs.Demands.{same_nv}
 use Rattle.fast_check_findings.specs.declared.finding.EnteredPackage.{EnteredPackage}
 use Rattle.fast_check_findings.specs.declared.finding.FollowedModule.{FollowedModule}

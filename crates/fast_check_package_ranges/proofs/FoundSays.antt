@@ -9,7 +9,7 @@ use Rattle.fast_check_packages.specs.Package.{Nv, nv_of}
 use Rattle.fast_check_packages.specs.declared.package.PackageNv.{PackageNv}
 use Rattle.fast_check_tables.specs.PublicRanges.{same_range}
 use Rattle.fast_check_tables.specs.declared.diagnostics.FastCheckDiagnostic.{FastCheckDiagnostic}
-use Rattle.fast_check_faults.specs.Reports.{Report, told}
+use Rattle.fast_check_findings.specs.faults.Reports.{Report, told}
 use Rattle.fast_check_findings.specs.declared.finding.EntryFault.{EntryFault}
 use Rattle.fast_check_findings.specs.declared.finding.EnteredPackage.{EnteredPackage}
 use Rattle.fast_check_findings.specs.declared.finding.FollowedModule.{FollowedModule}

@@ -11,7 +11,7 @@ use Rattle.fast_check_tables.specs.declared.diagnostics.FastCheckDiagnostic.TheV
 use Rattle.fast_check_tables.specs.declared.diagnostics.FastCheckDiagnostic.TheVariants.{UnsupportedJavaScriptEntrypoint}
 use Rattle.fast_check_tables.specs.declared.diagnostics.FastCheckDiagnostic.TheVariants.{UnsupportedNestedJavaScript}
 use Rattle.fast_check_worklists.specs.Demands.{Text, same_nv}
-use Rattle.fast_check_faults.specs.Reports.{Report}
+use Rattle.fast_check_findings.specs.faults.Reports.{Report}
 use Rattle.fast_check_findings.specs.declared.finding.Finding.{Finding}
 use Rattle.fast_check_findings.specs.Findings.{yields_of}
 use Rattle.fast_check_package_ranges.specs.Questions.{ModuleQuestion, whether_recorded, whether_public, whether_implementing}

@@ -11,7 +11,7 @@ use Rattle.fast_check_tables.specs.declared.diagnostics.FastCheckDiagnostic.TheV
 use Rattle.fast_check_cache.specs.declared.package_ranges.PackagePublicRanges.{PackagePublicRanges}
 use Rattle.fast_check_told_faults.specs.Once.{same_told}
 use Rattle.fast_check_worklists.specs.Demands.{Text}
-use Rattle.fast_check_faults.specs.Reports.{Report}
+use Rattle.fast_check_findings.specs.faults.Reports.{Report}
 use Rattle.fast_check_package_ranges.specs.declared.parts.ModuleParts.{ModuleParts}
 use Rattle.fast_check_package_ranges.specs.declared.parts.PackageParts.{PackageParts}
 use Rattle.fast_check_package_ranges.specs.Questions.{ModuleQuestion, whether_untyped, whether_told, whether_otherwise_faulty, IsTextlessAbout}

@@ -5,7 +5,7 @@ use Rattle.std.specs.Str.{bytes_eq}
 use Rattle.fast_check_syntax.specs.declared.source.SourceRange.{SourceRange}
 use Rattle.fast_check_packages.specs.Package.{Nv}
 use Rattle.fast_check_tables.specs.PublicRanges.{same_range}
-use Rattle.fast_check_faults.specs.Reports.{Report}
+use Rattle.fast_check_findings.specs.faults.Reports.{Report}
 use Rattle.fast_check_told_faults.specs.Once.{same_report}
 use Rattle.fast_check_worklists.specs.Demands.{Text, same_nv}
 use Rattle.fast_check_findings.specs.Yields.{ModuleFault, missing_entry, untyped_entry, untyped_module, of_demand}

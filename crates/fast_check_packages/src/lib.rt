@@ -6,3 +6,4 @@ mod traced_modules;
 
 pub use crate::package::{PackageNv, WorkspaceMember};
 pub use crate::traced_modules::{HandledExports, PendingTrace, PendingTraces};
+pub use fast_check_names as names;

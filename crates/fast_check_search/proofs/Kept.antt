@@ -7,10 +7,10 @@ use Rattle.std.proofs.lemmas.Bool.{or_left, or_right}
 use Rattle.std.proofs.lemmas.List.{map-append}
 use Rattle.std.proofs.lemmas.List.Folds.{list_any-append}
 use Rattle.std.proofs.lemmas.Map.Keys.{IsDistinct-push}
-use Rattle.fast_check_demands.specs.contracts.demand.SymbolDemandOrd.TheImpl as order
-use Rattle.fast_check_demands.specs.declared.demand.SymbolDemand.{SymbolDemand}
-use Rattle.fast_check_demands.specs.Demands.{Demand, demand_of}
-use Rattle.fast_check_demands.specs.Account.{same, alike, essence, referred, IsCovered}
+use Rattle.fast_check_files.specs.demands.contracts.demand.SymbolDemandOrd.TheImpl as order
+use Rattle.fast_check_files.specs.demands.declared.demand.SymbolDemand.{SymbolDemand}
+use Rattle.fast_check_files.specs.demands.Demands.{Demand, demand_of}
+use Rattle.fast_check_files.specs.demands.Account.{same, alike, essence, referred, IsCovered}
 use Rattle.fast_check_search.specs.declared.worklist.Worklist.{Worklist}
 use Rattle.fast_check_search.specs.Worklist.{asked, IsKept}
 use Rattle.fast_check_search.proofs.Same.{same_symm, alike_itself, alike_laws}

@@ -3,10 +3,10 @@ use Rattle.std.specs.Prelude.{◌≡◌, ℕ, ◌≤◌, List, ◌++◌, length,
 use Rattle.std.specs.List.{Contains}
 use Rattle.fast_check_syntax.specs.declared.source.SourceRange.{SourceRange}
 use Rattle.fast_check_modules.specs.Tables.{Tables, table_ranges}
-use Rattle.fast_check_demands.specs.Demands.{Demand}
-use Rattle.fast_check_demands.specs.Rules.{names}
-use Rattle.fast_check_demands.specs.Account.{Chained, IsCovered, IsYield}
-use Rattle.fast_check_demands.specs.Yields.{ranges, implementations, faults, fault_seen}
+use Rattle.fast_check_files.specs.demands.Demands.{Demand}
+use Rattle.fast_check_files.specs.demands.Rules.{names}
+use Rattle.fast_check_files.specs.demands.Account.{Chained, IsCovered, IsYield}
+use Rattle.fast_check_files.specs.demands.Yields.{ranges, implementations, faults, fault_seen}
 use Rattle.fast_check_files.specs.Files.{files}
 use Rattle.fast_check_search.specs.declared.turns.Found.{Found}
 

@@ -1,13 +1,13 @@
 ghost use Rattle.std.specs.Prelude.{◌≡◌, List, [], map, IfOk, OnOk, ◌++◌, option_map, option_to_list};
-ghost use Rattle.fast_check_demands.specs.Demands.{Demand, demand_of};
-ghost use Rattle.fast_check_demands.specs.Account.{IsAccount, IsYield};
-ghost use Rattle.fast_check_demands.specs.Yields.{fault_seen};
-ghost use Rattle.fast_check_demands.specs.Rules.{names};
+ghost use Rattle.fast_check_files.specs.demands.Demands.{Demand, demand_of};
+ghost use Rattle.fast_check_files.specs.demands.Account.{IsAccount, IsYield};
+ghost use Rattle.fast_check_files.specs.demands.Yields.{fault_seen};
+ghost use Rattle.fast_check_files.specs.demands.Rules.{names};
 ghost use Rattle.fast_check_search.specs.Turn.{IsFound, Gains, AreTableRanges};
 ghost use Rattle.fast_check_search.specs.Worklist.{asked, IsKept, Grows, CoversEach};
 
 use crate::worklist::Worklist;
-use fast_check_demands::{
+use fast_check_files::demands::{
     CheckedTables, SourceRange, SymbolDemand, SymbolFault, demands_of, fault_of,
     push_implementations, push_ranges,
 };

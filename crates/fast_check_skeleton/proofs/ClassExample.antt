@@ -20,9 +20,9 @@ use Rattle.fast_check_class_forms.specs.Functions.{Function-params}
 use Rattle.fast_check_statement_forms.specs.Declarations.{ClassDecl-class, FnDecl-function}
 use Rattle.fast_check_helpers.specs.Builders.{new_ident, ts_keyword_type, type_ann}
 use Rattle.fast_check_ranges.specs.Ranges.{range_of_node}
-use Rattle.fast_check_signatures.specs.NewNodes.{no_scope, ident_name}
-use Rattle.fast_check_signatures.specs.Members.{is_hash_named}
-use Rattle.fast_check_signatures.specs.Classes.{private_method_head}
+use Rattle.fast_check_typed_grammar.specs.signatures.NewNodes.{no_scope, ident_name}
+use Rattle.fast_check_typed_grammar.specs.signatures.Members.{is_hash_named}
+use Rattle.fast_check_typed_grammar.specs.signatures.Classes.{private_method_head}
 use Rattle.fast_check_same_values.specs.SameValues.{SameFunctionHead, SameReturn, SameFunction}
 use Rattle.fast_check_same_values.specs.SameValues as v
 use Rattle.fast_check_same_values.specs.SameClasses.{IsNoPartner, SamePropertyHead, SameMembers, SameClassHead, SameClass}

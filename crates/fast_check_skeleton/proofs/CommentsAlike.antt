@@ -26,7 +26,7 @@ use Rattle.fast_check_statement_forms.specs.TsDeclarations.{TsModuleDecl-span}
 use Rattle.fast_check_ranges.specs.Ranges.{range_of_node}
 use Rattle.fast_check_skeleton.specs.Surroundings.{Surroundings, inside}
 use Rattle.fast_check_skeleton.specs.Namespaces.{is_namespace, innermost, block_items, items_inside}
-use Rattle.fast_check_signatures.specs.Seen.{Seen}
+use Rattle.fast_check_typed_grammar.specs.signatures.Seen.{Seen}
 use Rattle.fast_check_skeleton.specs.Visible.{is_ambient_class, item_seen}
 use Rattle.fast_check_skeleton.specs.KeptComments.{start_of_unseen, starts_of_removed, starts_in_decl, starts_in_default, starts_inside, removed_start}
 use Rattle.fast_check_skeleton.specs.KeptComments.{starts_in_namespace, starts_in_body, starts_below, start_look, removed_from, removed_starts, without_all_leading}

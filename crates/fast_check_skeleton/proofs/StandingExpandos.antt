@@ -25,12 +25,12 @@ use Rattle.fast_check_program_forms.specs.Names.{BindingIdent-type_ann, binding_
 use Rattle.fast_check_statement_forms.specs.Declarations.{VarDeclarator-name, VarDeclarator-init, var_declarator}
 use Rattle.fast_check_modules.specs.Tables.{same_id}
 use Rattle.fast_check_modules.specs.Expandos.{is_expando_assignment}
-use Rattle.fast_check_signatures.specs.Bindings.{Bindings}
-use Rattle.fast_check_signatures.specs.declared.fault.FaultKind.TheVariants.{MissingExplicitType}
-use Rattle.fast_check_signatures.specs.Seen.{Seen, tested}
-use Rattle.fast_check_signatures.specs.Answers.{Answer, answer_to, answer_of, tested_answer, unless_stays, fault_at}
-use Rattle.fast_check_signatures.proofs.Choices.{of_choice, no_left, no_right, not_empty}
-use Rattle.fast_check_signatures.proofs.Adding.{answer_append}
+use Rattle.fast_check_typed_grammar.specs.signatures.Bindings.{Bindings}
+use Rattle.fast_check_typed_grammar.specs.signatures.declared.fault.FaultKind.TheVariants.{MissingExplicitType}
+use Rattle.fast_check_typed_grammar.specs.signatures.Seen.{Seen, tested}
+use Rattle.fast_check_typed_grammar.specs.signatures.Answers.{Answer, answer_to, answer_of, tested_answer, unless_stays, fault_at}
+use Rattle.fast_check_typed_grammar.proofs.signatures.Choices.{of_choice, no_left, no_right, not_empty}
+use Rattle.fast_check_typed_grammar.proofs.signatures.Adding.{answer_append}
 use Rattle.fast_check_typed_grammar.specs.TypedGrammar.{IsLeavable}
 use Rattle.fast_check_typed_grammar.proofs.Present.{stays_there}
 use Rattle.fast_check_typed_grammar.proofs.Staying.{Holds, Stays}

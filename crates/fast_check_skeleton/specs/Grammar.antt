@@ -4,7 +4,7 @@ use Rattle.fast_check_syntax.specs.declared.kind.Kind.TheVariants.{ImportDecl, N
 use Rattle.fast_check_syntax.specs.declared.kind.Kind.TheVariants.{ExportDefaultExpr, ExportDefaultDecl, ClassExpr, FnExpr, TsInterfaceDecl}
 use Rattle.fast_check_syntax.specs.declared.kind.Kind.TheVariants.{Module, ExportDecl, VarDecl, VarDeclarator, FnDecl, ClassDecl, BindingIdent}
 use Rattle.fast_check_syntax.specs.declared.kind.Kind.TheVariants.{TsModuleDecl, TsModuleBlock, TsNamespaceDecl}
-use Rattle.fast_check_signatures.specs.Bindings.{Bindings}
+use Rattle.fast_check_typed_grammar.specs.signatures.Bindings.{Bindings}
 use Rattle.fast_check_syntax.specs.declared.tree.Tree.{Tree}
 use Rattle.fast_check_syntax.specs.Shape.{kind_of, parts, is_absent, OfAll}
 use Rattle.fast_check_helpers.specs.Builders.{never_value}

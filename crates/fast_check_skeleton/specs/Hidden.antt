@@ -30,7 +30,7 @@ use Rattle.fast_check_same_values.specs.SameClasses.{HasNoPartner, IsNoPartner, 
 use Rattle.fast_check_skeleton.specs.Kinds.{is_standing, is_statement}
 use Rattle.fast_check_skeleton.specs.Mutability.{mutability_of}
 use Rattle.fast_check_skeleton.specs.Namespaces.{is_ambient_module, is_namespace, block_items}
-use Rattle.fast_check_signatures.specs.declared.fault.FaultKind.{FaultKind}
+use Rattle.fast_check_typed_grammar.specs.signatures.declared.fault.FaultKind.{FaultKind}
 use Rattle.fast_check_skeleton.specs.declared.rules.ItemRule.TheVariants.{Refused}
 use Rattle.fast_check_skeleton.specs.Rules.{item_rule}
 use Rattle.fast_check_skeleton.specs.SameDefaults.{IsSilentDefault, SameDefault}

@@ -1,3 +1,4 @@
+pub use Rattle.fast_check_expandos.specs as expandos
 pub mod Surroundings
 pub mod Kinds
 pub mod Rules

@@ -9,7 +9,7 @@ pub use diagnostics::{
     Diagnostic, DiagnosticLevel, DiagnosticLocation, DiagnosticSnippet, FastCheckDiagnostic,
     FastCheckDiagnosticRange,
 };
-pub use fast_check_names::{Exports, FileDepName, ImportedExports, NamedSubset};
+pub use fast_check_packages::names::{Exports, FileDepName, ImportedExports, NamedSubset};
 pub use fast_check_packages::{
     HandledExports, PackageNv, PendingTrace, PendingTraces, WorkspaceMember,
 };

@@ -23,9 +23,9 @@ use Rattle.std.proofs.lemmas.List.{take_more, take_all, append_assoc}
 use Rattle.std.proofs.lemmas.List.Concat.{flat_map-append}
 use Rattle.fast_check_statement_forms.specs.Statements.{ExprStmt-expr}
 use Rattle.fast_check_signatures.proofs.Adding.{adds_joined, answer_append}
-use Rattle.fast_check_expandos.specs.declared.properties.ExpandoProperty.{ExpandoProperty}
-use Rattle.fast_check_expandos.specs.Assignments.{assignment_seen, declared_properties}
-use Rattle.fast_check_expandos.specs.Expandos.{namespaces_seen}
+use Rattle.fast_check_skeleton.specs.expandos.declared.properties.ExpandoProperty.{ExpandoProperty}
+use Rattle.fast_check_skeleton.specs.expandos.Assignments.{assignment_seen, declared_properties}
+use Rattle.fast_check_skeleton.specs.expandos.Expandos.{namespaces_seen}
 use Rattle.fast_check_declarations.specs.Assigned.{assignment_answer, assignment_properties}
 use Rattle.fast_check_skeleton.specs.Visible.{properties_by_rule, item_properties, item_look}
 use Rattle.fast_check_skeleton.specs.Rules.{is_assigned, item_rule}
@@ -33,7 +33,7 @@ use Rattle.fast_check_skeleton.specs.Surroundings.{Surroundings}
 use Rattle.fast_check_skeleton.specs.Visible.{decl_seen, exported_seen, seen_by_rule, item_seen}
 use Rattle.fast_check_skeleton.proofs.Namespaces.{item_seen_is}
 use Rattle.fast_check_skeleton.proofs.Standing.{OneTree, decl_one, export_is}
-use Rattle.fast_check_links.specs.Links.{as_list, link_answer}
+use Rattle.fast_check_declarations.specs.links.Links.{as_list, link_answer}
 use Rattle.fast_check_declarations.specs.PartAnswers.{statement_answer, public_function_answer, public_class_answer, standing_answer, using_answer}
 use Rattle.fast_check_declarations.specs.PartAnswers.{default_answer}
 use Rattle.fast_check_declarations.proofs.Listed.{alone, one_more, whole}

@@ -16,7 +16,7 @@ use Rattle.std.specs.Prelude.{Bool, true, false, if◌then◌else◌}
 use Rattle.fast_check_expression_forms.specs.Operators.{AssignExpr-span}
 use Rattle.fast_check_statement_forms.specs.Statements.{ExprStmt-expr}
 use Rattle.fast_check_signatures.specs.Seen.{tested}
-use Rattle.fast_check_expandos.specs.Assignments.{right_seen, missing_place}
+use Rattle.fast_check_skeleton.specs.expandos.Assignments.{right_seen, missing_place}
 use Rattle.fast_check_skeleton.specs.declared.rules.ItemRule.TheVariants.{Assigned}
 use Rattle.fast_check_skeleton.specs.Visible.{seen_by_rule}
 use Rattle.fast_check_skeleton.specs.Visible.{item_seen}

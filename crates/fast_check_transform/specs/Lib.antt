@@ -1,3 +1,4 @@
+pub use Rattle.fast_check_skeleton.specs as skeleton
 pub mod PartAnswers
 pub mod Transform
 pub mod Transformer

@@ -8,8 +8,8 @@ ghost use Rattle.fast_check_transform_faults.specs.Diagnostics.{AreDiagnosticsOf
 
 use crate::program::{KeptModule, keep_module};
 use fast_check_comments::Comments;
+use fast_check_declarations::links::static_sources;
 use fast_check_graph::ModuleGraph;
-use fast_check_links::static_sources;
 use fast_check_modules::EsModuleInfo;
 use fast_check_syntax::Tree;
 use fast_check_tables::{

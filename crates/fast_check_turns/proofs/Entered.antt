@@ -6,8 +6,8 @@ use Rattle.std.specs.List.{flat_map}
 use Rattle.url.specs.Parts.{Parts, serialize}
 use Rattle.fast_check_packages.specs.Package.{Nv}
 use Rattle.fast_check_graph.specs.declared.graph.ModuleGraph.{ModuleGraph}
-use Rattle.fast_check_findings.specs.declared.finding.EntryFault.{EntryFault}
-use Rattle.fast_check_findings.specs.Yields.{Yield, entry_point}
+use Rattle.fast_check_entries.specs.findings.declared.finding.EntryFault.{EntryFault}
+use Rattle.fast_check_entries.specs.findings.Yields.{Yield, entry_point}
 use Rattle.fast_check_entries.specs.Entries.{entered, all_faults, entrance_seen}
 use Rattle.fast_check_worklists.specs.declared.asked.Step.{Step}
 use Rattle.fast_check_worklists.specs.State.{want_of, State, AsksAll}

@@ -1,3 +1,4 @@
+pub use Rattle.fast_check_entries.proofs as entries
 mod Exports
 pub mod Lists
 mod Analyzed

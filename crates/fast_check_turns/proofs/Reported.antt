@@ -12,8 +12,8 @@ use Rattle.fast_check_faults.specs.Reports.{ReportedModule, Report, report, told
 use Rattle.fast_check_traces.specs.declared.modules.TracedModule.{TracedModule}
 use Rattle.fast_check_traces.specs.Modules.{own_tables}
 use Rattle.fast_check_worklists.specs.Demands.{Text}
-use Rattle.fast_check_findings.specs.Yields.{Yield}
-use Rattle.fast_check_findings.specs.Findings.{told_at}
+use Rattle.fast_check_entries.specs.findings.Yields.{Yield}
+use Rattle.fast_check_entries.specs.findings.Findings.{told_at}
 use Rattle.fast_check_turns.specs.Yields.{reported_with}
 use Rattle.fast_check_turns.proofs.Lists.{flat_mapped}
 

@@ -9,8 +9,8 @@ use Rattle.fast_check_demands.specs.Account.{IsAccount as IsSymbolAccount, IsYie
 use Rattle.fast_check_demands.specs.Yields.{ranges, implementations, Fault, faults}
 use Rattle.fast_check_faults.specs.Reports.{ReportedModule, Report, report, told_each}
 use Rattle.fast_check_faults.specs.Once.{IsOnce}
-use Rattle.fast_check_findings.specs.Yields.{Yield, recorded}
-use Rattle.fast_check_findings.specs.Findings.{told_at}
+use Rattle.fast_check_entries.specs.findings.Yields.{Yield, recorded}
+use Rattle.fast_check_entries.specs.findings.Findings.{told_at}
 use Rattle.fast_check_files.specs.Files.{FileDemand, files}
 use Rattle.fast_check_traces.specs.declared.modules.TracedModule.{TracedModule}
 use Rattle.fast_check_traces.specs.Modules.{own_tables}

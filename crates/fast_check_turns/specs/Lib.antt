@@ -1,3 +1,5 @@
+pub use Rattle.fast_check_traces.specs as traces
+pub use Rattle.fast_check_entries.specs as entries
 pub mod Sources
 pub mod Exports
 pub mod Rules

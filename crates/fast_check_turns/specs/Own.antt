@@ -6,7 +6,7 @@ use Rattle.fast_check_modules.specs.Tables.{table_ranges}
 use Rattle.fast_check_graph.specs.declared.root_symbol.ModuleInfo.{ModuleInfo}
 use Rattle.fast_check_graph.specs.declared.root_symbol.RootSymbol.{RootSymbol}
 use Rattle.fast_check_traces.specs.Modules.{tables_in}
-use Rattle.fast_check_findings.specs.Yields.{Yield, public, implementing}
+use Rattle.fast_check_entries.specs.findings.Yields.{Yield, public, implementing}
 use Rattle.fast_check_turns.specs.Sources.{named_at}
 
 -- a range of the tables of a module

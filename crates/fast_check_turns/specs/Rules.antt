@@ -14,7 +14,7 @@ use Rattle.fast_check_traces.specs.declared.modules.TracedModule.{TracedModule}
 use Rattle.fast_check_traces.specs.Modules.{own_tables}
 use Rattle.fast_check_traces.specs.Roots.{roots}
 use Rattle.fast_check_traces.specs.Wants.{Want as ModuleWant, re_exported, answered, module_wants}
-use Rattle.fast_check_findings.specs.declared.finding.EntryFault.{EntryFault}
+use Rattle.fast_check_entries.specs.findings.declared.finding.EntryFault.{EntryFault}
 use Rattle.fast_check_entries.specs.Entries.{Entrance, passed_over, refused, entered, all_faults}
 use Rattle.fast_check_worklists.specs.Demands.{Text, Wanted, same_nv, asked_by, Want, to_package, to_module, to_symbol, of_package, of_module}
 use Rattle.fast_check_worklists.specs.Demands.{of_symbol, World}

@@ -13,8 +13,8 @@ use Rattle.fast_check_worklists.specs.Account.{Trace}
 use Rattle.fast_check_worklists.specs.State.{want_of, State, AsksAll}
 use Rattle.fast_check_tables.specs.declared.diagnostics.FastCheckDiagnostic.{FastCheckDiagnostic}
 use Rattle.fast_check_faults.specs.Reports.{told}
-use Rattle.fast_check_findings.specs.Yields.{Yield, recorded, public, implementing}
-use Rattle.fast_check_findings.specs.Findings.{diagnostic_yields}
+use Rattle.fast_check_entries.specs.findings.Yields.{Yield, recorded, public, implementing}
+use Rattle.fast_check_entries.specs.findings.Findings.{diagnostic_yields}
 use Rattle.fast_check_entries.specs.Entries.{Entrance}
 use Rattle.fast_check_graph.specs.declared.graph.ModuleGraph.{ModuleGraph}
 use Rattle.fast_check_turns.specs.Sources.{Known, traced_as}

@@ -18,9 +18,9 @@ use Rattle.fast_check_traces.specs.declared.modules.TracedModule.{TracedModule}
 use Rattle.fast_check_traces.specs.Modules.{own_tables}
 use Rattle.fast_check_traces.specs.Wants.{re_export_ranges}
 use Rattle.fast_check_worklists.specs.Demands.{Text, Want, to_package, to_module, to_symbol, Demand, of_package, of_module, of_symbol}
-use Rattle.fast_check_findings.specs.declared.finding.EntryFault.{EntryFault}
-use Rattle.fast_check_findings.specs.Yields.{Yield, entry_point, refused_export, dependency, recorded, public, implementing, untyped_module}
-use Rattle.fast_check_findings.specs.Findings.{faulty_module, entry_fault, told_at}
+use Rattle.fast_check_entries.specs.findings.declared.finding.EntryFault.{EntryFault}
+use Rattle.fast_check_entries.specs.findings.Yields.{Yield, entry_point, refused_export, dependency, recorded, public, implementing, untyped_module}
+use Rattle.fast_check_entries.specs.findings.Findings.{faulty_module, entry_fault, told_at}
 use Rattle.fast_check_entries.specs.Entries.{Entrance, passed_over, refused, entered, all_faults}
 use Rattle.fast_check_turns.specs.Sources.{Known, module_at, untyped_at, entrance_at}
 use Rattle.fast_check_turns.specs.Rules.{names_wants, symbol_wants}

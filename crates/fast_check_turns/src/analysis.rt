@@ -6,7 +6,7 @@ ghost use Rattle.fast_check_demands.specs.Yields.{fault_seen};
 ghost use Rattle.fast_check_faults.specs.Reports.{told};
 ghost use Rattle.fast_check_worklists.specs.State.{want_of};
 ghost use Rattle.fast_check_name_demands.specs.NameDemands.{demand_of, AreDemands};
-ghost use Rattle.fast_check_findings.specs.Yields.{dependency};
+ghost use Rattle.fast_check_entries.specs.findings.Yields.{dependency};
 ghost use Rattle.fast_check_turns.specs.Sources.{known, traced_as};
 ghost use Rattle.fast_check_turns.specs.Analysis.{AreReports, IsAnalyzed};
 ghost use Rattle.fast_check_turns.specs.Yields.{text_of, reported_with, reported_as, dependency_of, dependencies};

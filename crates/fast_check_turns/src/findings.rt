@@ -1,8 +1,8 @@
 ghost use Rattle.std.specs.Prelude.{◌≡◌, ◌++◌, OnOk};
 ghost use Rattle.std.specs.List.{flat_map};
-ghost use Rattle.fast_check_findings.specs.Findings.{yields_of};
+ghost use Rattle.fast_check_entries.specs.findings.Findings.{yields_of};
 
-use fast_check_findings::Finding;
+use fast_check_entries::findings::Finding;
 use std::alloc::AllocError;
 
 /// Adds what was found in a turn.

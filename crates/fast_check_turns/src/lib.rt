@@ -8,7 +8,9 @@ mod packages;
 mod sources;
 mod steps;
 
-pub use fast_check_findings::{EnteredPackage, EntryFault, Finding, FollowedModule, UntypedModule};
+pub use fast_check_entries::findings::{
+    EnteredPackage, EntryFault, Finding, FollowedModule, UntypedModule,
+};
 pub use modules::follow;
 pub use packages::enter;
 pub use sources::Sources;

@@ -2,8 +2,8 @@ ghost use Rattle.std.specs.Prelude.{◌≡◌, ◌++◌, ◌∷◌, [], map, OnO
 ghost use Rattle.std.specs.List.{flat_map};
 ghost use Rattle.url.specs.Parts.{serialize};
 ghost use Rattle.fast_check_packages.specs.Package.{nv_of};
-ghost use Rattle.fast_check_findings.specs.Yields.{entry_point};
-ghost use Rattle.fast_check_findings.specs.Findings.{yields_of};
+ghost use Rattle.fast_check_entries.specs.findings.Yields.{entry_point};
+ghost use Rattle.fast_check_entries.specs.findings.Findings.{yields_of};
 ghost use Rattle.fast_check_entries.specs.Entries.{entered, entrance_seen, TellsRefused};
 ghost use Rattle.fast_check_worklists.specs.State.{want_of, state_of};
 ghost use Rattle.fast_check_turns.specs.Sources.{known, entrance_at};
@@ -13,8 +13,8 @@ ghost use Rattle.fast_check_turns.specs.Turns.{Enters};
 
 use crate::findings::push_finding;
 use crate::sources::Sources;
+use fast_check_entries::findings::{EnteredPackage, EntryFault, Finding};
 use fast_check_entries::{entry_faults, entry_points};
-use fast_check_findings::{EnteredPackage, EntryFault, Finding};
 use fast_check_graph::ModuleGraph;
 use fast_check_names::ImportedExports;
 use fast_check_packages::PackageNv;

@@ -1,3 +1,4 @@
+pub use Rattle.fast_check_signatures.proofs as signatures
 pub mod Descending
 pub mod Staying
 pub mod StayingLists

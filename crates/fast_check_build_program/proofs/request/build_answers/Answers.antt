@@ -5,7 +5,7 @@ use borrow.Pointer.Hide.{carry, carried_same}
 use Rattle.fast_check_packages.specs.Package.{nv_of}
 use Rattle.fast_check_provider.specs.declared.provider.JsrUrlProvider.{Ghosts}
 use Rattle.fast_check_provider.specs.declared.fault.BuildFault.TheVariants as faults
-use Rattle.fast_check_finder.specs.Refusals.{IsRefusal}
+use Rattle.fast_check_build.specs.finder.Refusals.{IsRefusal}
 use Rattle.fast_check_build.specs.Found.{known_of}
 use Rattle.fast_check_build.specs.Build.{IsBuilt}
 use Rattle.fast_check_build_program.specs.Program.{known_by}

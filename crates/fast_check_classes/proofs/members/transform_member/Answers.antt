@@ -1,6 +1,6 @@
 use Rattle.std.proofs.Common.{ap, ◌∙◌, sym}
 use Rattle.std.proofs.lemmas.Result.{IfOk-weaker}
-use Rattle.fast_check_bindings.specs.Bindings.{bindings_of}
+use Rattle.fast_check_values.specs.bindings.Bindings.{bindings_of}
 use Rattle.fast_check_syntax.specs.Part.{seen}
 use Rattle.fast_check_tables.specs.PublicRanges.{is_implementation}
 use Rattle.fast_check_syntax.specs.declared.kind.Kind.TheVariants as kinds

@@ -1,4 +1,4 @@
-use Rattle.fast_check_symbols.specs.Symbols.{symbol_of}
+use Rattle.fast_check_modules.specs.symbols.Symbols.{symbol_of}
 use Rattle.fast_check_demands.specs.Rules.{each_of}
 use Rattle.fast_check_demands.specs.Yields.{outside}
 use Rattle.fast_check_demands.proofs.EachAt.{each_more}

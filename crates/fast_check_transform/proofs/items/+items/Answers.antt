@@ -7,14 +7,14 @@ use Rattle.fast_check_ranges.specs.Ranges.{range_of_node}
 use Rattle.fast_check_skeleton.specs.KeptComments.{start_look, starts_in_body, starts_below, without_all_leading}
 use Rattle.std.specs.Prelude.{List}
 use Rattle.std.specs.List.{flat_map}
-use Rattle.fast_check_expandos.specs.declared.properties.ExpandoProperty.{ExpandoProperty}
+use Rattle.fast_check_skeleton.specs.expandos.declared.properties.ExpandoProperty.{ExpandoProperty}
 use Rattle.fast_check_skeleton.specs.Visible.{item_properties}
 use Rattle.fast_check_syntax.specs.Part.{seen}
 use Rattle.fast_check_syntax.specs.Shape.{parts}
 use Rattle.fast_check_syntax.specs.Height.{height_read, height_at_most}
-use Rattle.fast_check_classes.proofs.Making.{none_of}
-use Rattle.fast_check_links.specs.Asked.{Asked-around}
-use Rattle.fast_check_links.specs.Links.{as_list}
+use Rattle.fast_check_declarations.proofs.classes.Making.{none_of}
+use Rattle.fast_check_declarations.specs.links.Asked.{Asked-around}
+use Rattle.fast_check_declarations.specs.links.Links.{as_list}
 use Rattle.fast_check_transform.proofs.ByRule.{variables, functions, classes, standing, namespaces, using_stays, undeclared}
 use Rattle.fast_check_transform.proofs.ByRule.{declared, exported, no_export, made_export, linked, default_export, refused, silent}
 use Rattle.fast_check_transform.proofs.ByRule.{no_items, one_more_item, one_more_assigned, all_items, with_namespaces}

@@ -1,7 +1,7 @@
 use Rattle.std.proofs.Common.{◌≡◌, map, take}
 use Rattle.fast_check_packages.specs.Package.{nv_of}
 use Rattle.fast_check_worklists.specs.State.{want_of}
-use Rattle.fast_check_findings.specs.Yields.{dependency}
+use Rattle.fast_check_entries.specs.findings.Yields.{dependency}
 use Rattle.fast_check_turns.specs.Yields.{dependencies}
 use Rattle.fast_check_turns.proofs.analysis.dependencies_of.Given as goal
 

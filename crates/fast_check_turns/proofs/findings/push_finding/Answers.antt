@@ -1,6 +1,6 @@
 use Rattle.std.proofs.Common.{◌∙◌, ap}
 use Rattle.std.specs.List.{flat_map}
-use Rattle.fast_check_findings.specs.Findings.{yields_of}
+use Rattle.fast_check_entries.specs.findings.Findings.{yields_of}
 use Rattle.fast_check_turns.proofs.Lists.{flat_push}
 use Rattle.fast_check_turns.proofs.findings.push_finding.Goals as goal
 

@@ -2,7 +2,7 @@ use Rattle.std.proofs.Common.{sym, subst}
 use Rattle.std.specs.List.{flat_map}
 use Rattle.fast_check_packages.specs.Package.{nv_of}
 use Rattle.fast_check_entries.specs.Entries.{Entrance}
-use Rattle.fast_check_findings.specs.Findings.{yields_of}
+use Rattle.fast_check_entries.specs.findings.Findings.{yields_of}
 use Rattle.fast_check_worklists.specs.State.{state_of}
 use Rattle.fast_check_turns.specs.Turns.{Enters}
 use Rattle.fast_check_turns.proofs.packages.enter.Goals as goal

@@ -1,6 +1,6 @@
 use Rattle.std.specs.List.{flat_map}
 use Rattle.fast_check_packages.specs.Package.{nv_of}
-use Rattle.fast_check_findings.specs.Findings.{yields_of}
+use Rattle.fast_check_entries.specs.findings.Findings.{yields_of}
 use Rattle.fast_check_worklists.specs.State.{state_of}
 use Rattle.fast_check_turns.proofs.Entered.{entered_with}
 use Rattle.fast_check_turns.proofs.packages.enter_at.Goals as goal

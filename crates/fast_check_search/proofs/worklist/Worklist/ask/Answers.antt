@@ -1,7 +1,7 @@
 use Rattle.std.proofs.Common.{◌≡◌, ◌∙◌, sym, false}
 use Rattle.std.specs.List.{list_any}
-use Rattle.fast_check_demands.specs.Demands.{demand_of}
-use Rattle.fast_check_demands.specs.Account.{alike}
+use Rattle.fast_check_files.specs.demands.Demands.{demand_of}
+use Rattle.fast_check_files.specs.demands.Account.{alike}
 use Rattle.fast_check_search.specs.declared.worklist.Worklist.{Worklist}
 use Rattle.fast_check_search.specs.Worklist.{asked}
 use Rattle.fast_check_search.proofs.Kept.{kept_one, covered_one}

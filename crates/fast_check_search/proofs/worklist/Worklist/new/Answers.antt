@@ -1,9 +1,9 @@
 use Rattle.std.proofs.Common.{[], ap, refl}
 use Rattle.std.specs.List.{list_any, IsDistinct}
 use Rattle.std.specs.BTreeMap.{is_at}
-use Rattle.fast_check_demands.specs.contracts.demand.SymbolDemandOrd.TheImpl as order
+use Rattle.fast_check_files.specs.demands.contracts.demand.SymbolDemandOrd.TheImpl as order
 use Rattle.std.proofs.lemmas.Map.Made.{IsDistinct-from_count}
-use Rattle.fast_check_demands.specs.Account.{alike}
+use Rattle.fast_check_files.specs.demands.Account.{alike}
 use Rattle.fast_check_search.proofs.Same.{alike_laws}
 use Rattle.fast_check_search.proofs.Kept.{kept_none}
 use Rattle.fast_check_search.proofs.worklist.Worklist.new.Goals as goal
