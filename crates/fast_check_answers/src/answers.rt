@@ -9,20 +9,20 @@ use fast_check_tables::{FastCheckDiagnostic, FastCheckModule, ModuleSpecifier};
 use json::Writer;
 use std::alloc::{AllocError, Global};
 
-/// The answers in their order, as an array of pairs: a specifier, and what `write_answer` writes.
+/// The answers in their order, as an array of pairs: a specifier, and what `write_answer` writes. Each is dropped when it is written.
 pub fn write_answers(
     alloc: Global,
     out: &mut Writer,
-    answers: &[(
+    answers: Vec<(
         ModuleSpecifier,
         Result<FastCheckModule, Vec<FastCheckDiagnostic>>,
-    )],
+    )>,
 ) -> Result<(), AllocError>
-    ensures { OnOk result (WritesData (answers_data answers.now) out.old out.new) }
+    ensures { OnOk result (WritesData (answers_data answers.items) out.old out.new) }
 {
     out.begin_array()?;
     for (specifier, answer) in answers {
-        write_entry(alloc, out, specifier, answer)?;
+        write_entry(alloc, out, &specifier, &answer)?;
     }
     out.end_array()
 }

@@ -20,7 +20,7 @@ use Rattle.fast_check_package_ranges.specs.Questions.{range_says, implementation
 use Rattle.fast_check_finder.specs.turns.Sources.{Known, named_at}
 use Rattle.fast_check_finder.specs.turns.Yields.{gives}
 use Rattle.fast_check_finder.specs.turns.Own.{IsOwnRange, IsOwnYield}
-use Rattle.fast_check_finder.proofs.turns.OwnYields.{own_yields}
+use Rattle.fast_check_finder.proofs.turn_proofs.OwnYields.{own_yields}
 
 -- ranges that are the same are one
 range_of : ℕ → ℕ → SourceRange

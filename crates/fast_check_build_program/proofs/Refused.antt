@@ -49,10 +49,10 @@ export_refused refusals.InvalidExport asked root is refuses = record { root = ro
 export_refused refusals.Unwritable asked root is refuses = absurd refuses
 
 -- what holds of the bytes that were read holds of the file
-of_file : (P : List ℕ → Type 0) (file : File) (items bytes : List ℕ) → OfFile (λ known. items ≡ known) file → bytes ≡ items → P bytes → OfFile P file
-of_file P None items bytes h e p = absurd h
-of_file P (Some None) items bytes h e p = (h.0, subst P (e ∙ h.1) p)
-of_file P (Some (Some known)) items bytes h e p = subst P (e ∙ h) p
+of_file : (P : List ℕ → Type 0) (file : File) (items : List ℕ) → OfFile (λ known. items ≡ known) file → P items → OfFile P file
+of_file P None items h p = absurd h
+of_file P (Some None) items h p = (h.0, subst P h.1 p)
+of_file P (Some (Some known)) items h p = subst P h p
 
 one_or_none : (b : Bool) → (if b then 1 else 0) < 2
 one_or_none true = lit< tt
@@ -61,19 +61,19 @@ one_or_none false = lit< tt
 answer_status : (asked : BuildRequest) (line : List ℕ) (status : ℕ) → AnswersBuild asked line status → status < 2
 answer_status asked line status h = subst (λ n. n < 2) (sym h.is_line.status_told) (one_or_none (list_any has_diagnostics h.answers))
 
-pub call_answered : (words : List (List ℕ)) (file : File) (items bytes line : List ℕ) (status : ℕ) → is_call words ≡ true
-    → OfFile (λ known. items ≡ known) file → bytes ≡ items → IsAnswerTo bytes line status → AnswersCall words file line status
-call_answered words file items bytes line status is h e answer =
-    (is, answer_status answer.0 line status answer.2, of_file (λ b. IsAnswerTo b line status) file items bytes h e answer)
+pub call_answered : (words : List (List ℕ)) (file : File) (items line : List ℕ) (status : ℕ) → is_call words ≡ true
+    → OfFile (λ known. items ≡ known) file → IsAnswerTo items line status → AnswersCall words file line status
+call_answered words file items line status is h answer =
+    (is, answer_status answer.0 line status answer.2, of_file (λ b. IsAnswerTo b line status) file items h answer)
 
-pub call_refused : (words : List (List ℕ)) (file : File) (items bytes : List ℕ) (refusal : Refusal) → is_call words ≡ true
-    → OfFile (λ known. items ≡ known) file → bytes ≡ items → RefusesBytes refusal bytes → RefusesCall words file refusal
-call_refused words file items bytes refusals.Usage is h e r = absurd r
-call_refused words file items bytes refusals.Unreadable is h e r = is
-call_refused words file items bytes refusals.NotJson is h e r = (is, of_file (RefusesBytes refusals.NotJson) file items bytes h e r)
-call_refused words file items bytes refusals.BadForm is h e r = (is, of_file (RefusesBytes refusals.BadForm) file items bytes h e r)
-call_refused words file items bytes (refusals.TableFault fault) is h e r = (is, of_file (RefusesBytes (refusals.TableFault fault)) file items bytes h e r)
-call_refused words file items bytes refusals.RangesNotAdmitted is h e r = absurd r
-call_refused words file items bytes refusals.OutOfMemory is h e r = (is, of_file (RefusesBytes refusals.OutOfMemory) file items bytes h e r)
-call_refused words file items bytes refusals.InvalidExport is h e r = (is, of_file (RefusesBytes refusals.InvalidExport) file items bytes h e r)
-call_refused words file items bytes refusals.Unwritable is h e r = absurd r
+pub call_refused : (words : List (List ℕ)) (file : File) (items : List ℕ) (refusal : Refusal) → is_call words ≡ true
+    → OfFile (λ known. items ≡ known) file → RefusesBytes refusal items → RefusesCall words file refusal
+call_refused words file items refusals.Usage is h r = absurd r
+call_refused words file items refusals.Unreadable is h r = is
+call_refused words file items refusals.NotJson is h r = (is, of_file (RefusesBytes refusals.NotJson) file items h r)
+call_refused words file items refusals.BadForm is h r = (is, of_file (RefusesBytes refusals.BadForm) file items h r)
+call_refused words file items (refusals.TableFault fault) is h r = (is, of_file (RefusesBytes (refusals.TableFault fault)) file items h r)
+call_refused words file items refusals.RangesNotAdmitted is h r = absurd r
+call_refused words file items refusals.OutOfMemory is h r = (is, of_file (RefusesBytes refusals.OutOfMemory) file items h r)
+call_refused words file items refusals.InvalidExport is h r = (is, of_file (RefusesBytes refusals.InvalidExport) file items h r)
+call_refused words file items refusals.Unwritable is h r = absurd r

@@ -60,12 +60,16 @@ known_in asked root = known_by asked.graph root asked.workspace_members.items as
 abbrev pub roots_in : BuildRequest → List Nv
 roots_in asked = map nv_of asked.pending.items
 
--- the line is that of its answers
-pub record AnswersBuild (asked : BuildRequest) (line : List ℕ) (status : ℕ) : Type 0 where
+-- these are the answers of the packages that are handed in, and of all that follow from them
+pub record BuildsAnswers (asked : BuildRequest) (answers : List Answer) : Type 0 where
   pub root : RootSymbol
-  pub answers : List Answer
   pub is_root : IsRootIn asked root
   pub built : IsBuilt (known_in asked root) (roots_in asked) asked.should_error_on_first_diagnostic answers
+
+-- the line is that of its answers
+pub record AnswersBuild (asked : BuildRequest) (line : List ℕ) (status : ℕ) : Type 0 where
+  pub answers : List Answer
+  pub answered : BuildsAnswers asked answers
   pub is_line : IsLineOf answers line status
 
 -- its modules are without fault, and an export text does not join

@@ -16,9 +16,9 @@ pub struct Answer {
     pub status: u8,
 }
 
-/// The answers in their order, as a line of compact JSON: `[["file:///a.ts", {"Ok": module}], ..]`.
-fn print_answers_line(alloc: Global, answers: &[ModuleAnswer]) -> Result<Vec<u8>, AllocError>
-    ensures { IfOk result (λ line. line.items ≡ line_of answers.now) }
+/// The answers in their order, as a line of compact JSON: `[["file:///a.ts", {"Ok": module}], ..]`. Each is dropped when it is written.
+fn print_answers_line(alloc: Global, answers: Vec<ModuleAnswer>) -> Result<Vec<u8>, AllocError>
+    ensures { IfOk result (λ line. line.items ≡ line_of answers.items) }
 {
     let mut out = Writer::new(Vec::new(alloc));
     write_answers(alloc, &mut out, answers)?;
@@ -42,10 +42,10 @@ fn any_has_diagnostics(answers: &[ModuleAnswer]) -> bool
 }
 
 /// The line of the answers, with its status.
-pub fn tell_answers(alloc: Global, answers: &[ModuleAnswer]) -> Result<Answer, AllocError>
-    ensures { IfOk result (λ answer. IsLineOf answers.now answer.line.items answer.status) }
+pub fn tell_answers(alloc: Global, answers: Vec<ModuleAnswer>) -> Result<Answer, AllocError>
+    ensures { IfOk result (λ answer. IsLineOf answers.items answer.line.items answer.status) }
 {
+    let status = if any_has_diagnostics(answers.as_slice()) { 1 } else { 0 };
     let line = print_answers_line(alloc, answers)?;
-    let status = if any_has_diagnostics(answers) { 1 } else { 0 };
     Ok(Answer { line, status })
 }

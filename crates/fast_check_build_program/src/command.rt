@@ -3,13 +3,14 @@
 ghost use Rattle.std.specs.Prelude.{◌≡◌, ◌<◌, ◌≤◌, map, option_map, IfOk, IfErr, false, ◌⊎◌};
 ghost use Rattle.std.specs.String.{string_bytes};
 ghost use Rattle.fast_check_requests.specs.Refusal.{IsTold};
+ghost use Rattle.fast_check_build_tables.specs.build_requests.Input.{HoldsBuild, LacksBuild};
 ghost use Rattle.fast_check_build_program.specs.Call.{is_call};
 ghost use Rattle.fast_check_build_program.specs.Program.{IsAnswerTo, RefusesBytes, RefusesCall, AnswersCall, HasAnswer, IsAnswered};
 
 use crate::answer::Answer;
 use crate::request::answer_request;
 use crate::words::is_call;
-use fast_check_build_tables::build_requests::read_build;
+use fast_check_build_tables::build_requests::{BuildRequest, read_build};
 use fast_check_requests::{Ending, Refusal, read_bytes};
 use std::alloc::Global;
 use std::io::{Read, Write};
@@ -56,13 +57,21 @@ fn respond<R: Read + Drop>(
     if !is_call(words) {
         return Err(Refusal::Usage);
     }
-    answer_build(alloc, read_bytes(alloc, input)?.as_slice())
+    answer_build(alloc, read_bytes(alloc, input)?)
+}
+
+/// The request in the bytes of a file, which are dropped.
+fn read_request(alloc: Global, bytes: Vec<u8>) -> Result<BuildRequest, Refusal>
+    ensures request { IfOk result (HoldsBuild bytes.items) }
+    ensures refusal { IfErr result (LacksBuild bytes.items) }
+{
+    read_build(alloc, bytes.as_slice())
 }
 
 /// The answer to the bytes of a file, or why they are refused.
-fn answer_build(alloc: Global, bytes: &[u8]) -> Result<Answer, Refusal>
-    ensures answer { IfOk result (λ answer. IsAnswerTo bytes.now answer.line.items answer.status) }
-    ensures refusal { IfErr result (λ refusal. RefusesBytes refusal bytes.now) }
+fn answer_build(alloc: Global, bytes: Vec<u8>) -> Result<Answer, Refusal>
+    ensures answer { IfOk result (λ answer. IsAnswerTo bytes.items answer.line.items answer.status) }
+    ensures refusal { IfErr result (λ refusal. RefusesBytes refusal bytes.items) }
 {
-    answer_request(alloc, read_build(alloc, bytes)?)
+    answer_request(alloc, read_request(alloc, bytes)?)
 }

@@ -3,7 +3,7 @@
 ghost use Rattle.std.specs.Prelude.{map, IfOk, IfErr};
 ghost use Rattle.fast_check_packages.specs.Package.{nv_of};
 ghost use Rattle.fast_check_build.specs.Build.{IsBuilt};
-ghost use Rattle.fast_check_build_program.specs.Program.{known_by, IsExportRefusal, AnswersBuild, RefusesBuild};
+ghost use Rattle.fast_check_build_program.specs.Program.{known_by, IsExportRefusal, BuildsAnswers, AnswersBuild, RefusesBuild};
 
 use crate::answer::{Answer, tell_answers};
 use fast_check_build::build_fast_check_type_graph;
@@ -48,9 +48,10 @@ fn build_answers(
     }
 }
 
-/// The answer to a request, or why it is refused. The tables of its modules are looked at in their order, and the first fault is told.
-pub fn answer_request(alloc: Global, request: BuildRequest) -> Result<Answer, Refusal>
-    ensures answer { IfOk result (λ answer. AnswersBuild request answer.line.items answer.status) }
+/// The answers to a request, or why it is refused. The tables of its modules are looked at in their order, and the first fault is told.
+/// What was handed in is dropped.
+fn request_answers(alloc: Global, request: BuildRequest) -> Result<Vec<ModuleAnswer>, Refusal>
+    ensures built { IfOk result (λ answers. BuildsAnswers request answers.items) }
     ensures refusal { IfErr result (RefusesBuild request) }
 {
     let BuildRequest {
@@ -68,5 +69,14 @@ pub fn answer_request(alloc: Global, request: BuildRequest) -> Result<Answer, Re
         should_error_on_first_diagnostic,
     };
     let answers = build_answers(alloc, &provider, &graph, &root_symbol, pending, &options)?;
-    Ok(tell_answers(alloc, answers.as_slice())?)
+    Ok(answers)
+}
+
+/// The answer to a request, or why it is refused. No module that was handed in is held while the answers are written.
+pub fn answer_request(alloc: Global, request: BuildRequest) -> Result<Answer, Refusal>
+    ensures answer { IfOk result (λ answer. AnswersBuild request answer.line.items answer.status) }
+    ensures refusal { IfErr result (RefusesBuild request) }
+{
+    let answers = request_answers(alloc, request)?;
+    Ok(tell_answers(alloc, answers)?)
 }

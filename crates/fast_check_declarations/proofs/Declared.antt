@@ -30,7 +30,7 @@ use Rattle.fast_check_links.specs.skeleton.Surroundings.{Surroundings}
 use Rattle.fast_check_links.specs.skeleton.Visible.{declared_ident, declared_type, declarator_head, typed_declarator, value_seen, untyped_seen}
 use Rattle.fast_check_links.specs.skeleton.Visible.{ident_declarator_seen, declarator_seen, is_ambient_statement, is_public_declarator, public_declarator}
 use Rattle.fast_check_links.specs.skeleton.Visible.{public_declarators, statement_seen, signature_of, is_public_using, using_place, using_seen}
-use Rattle.fast_check_links.proofs.skeleton.Standing.{declarator_one, statement_is}
+use Rattle.fast_check_links.proofs.skeleton_proofs.Standing.{declarator_one, statement_is}
 use Rattle.fast_check_declarations.specs.PartAnswers.{retyped, value_answer, valued_answer, ident_answer, declarator_answer, public_answer}
 use Rattle.fast_check_declarations.specs.PartAnswers.{declarators_answer, statement_answer, signature_answer, function_answer, using_answer}
 use Rattle.fast_check_declarations.proofs.Listed.{alone, one_more, whole}

@@ -1,4 +1,4 @@
-pub use Rattle.fast_check_classes.proofs as classes
+pub use Rattle.fast_check_classes.proofs as class_proofs
 pub mod AssignmentCases
 pub mod Listed
 pub mod Declared

@@ -1,4 +1,4 @@
-pub use Rattle.fast_check_turns.proofs as turns
+pub use Rattle.fast_check_turns.proofs as turn_proofs
 mod Owned
 mod Paths
 mod Reach

@@ -1,6 +1,6 @@
 -- What is known of a module of the graph.
 use Rattle.std.specs.Prelude.{ℕ, Bool, true, false, ◌||◌, Option, None}
-use Rattle.fast_check_modules.specs.tables.MediaType.{is_typed}
+use Rattle.fast_check_modules.specs.MediaType.{is_typed}
 use Rattle.fast_check_graph.specs.declared.module.Module.{Module}
 use Rattle.fast_check_graph.specs.declared.module.Module.TheVariants.{Js, Json, Wasm, Npm, Node, External}
 

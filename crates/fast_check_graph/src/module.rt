@@ -1,7 +1,7 @@
 ghost use Rattle.std.specs.Prelude.{◌≡◌};
 ghost use Rattle.fast_check_graph.specs.Modules.{is_typed_module, is_external, hash_of};
 
-use fast_check_modules::tables::MediaType;
+use fast_check_modules::MediaType;
 
 /// A module of the graph, by what is known of it without its source.
 #[derive(Clone, Copy, Debug, PartialEq, Eq)]

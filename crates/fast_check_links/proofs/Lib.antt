@@ -1,3 +1,3 @@
-pub use Rattle.fast_check_skeleton.proofs as skeleton
+pub use Rattle.fast_check_skeleton.proofs as skeleton_proofs
 pub mod LinkCases
 pub mod SourceCases

@@ -1,4 +1,4 @@
-pub use Rattle.fast_check_tables.specs as tables
+pub use Rattle.fast_check_tables.specs.MediaType
 pub use Rattle.fast_check_symbols.specs as symbols
 pub mod Expandos
 pub mod Faults

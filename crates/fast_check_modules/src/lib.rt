@@ -19,7 +19,7 @@ pub use fast_check_symbols::{
     FileDepName, ReferenceNamespace, Symbol, SymbolDecl, SymbolDeclKind, SymbolDep, SymbolExports,
     SymbolId, SymbolNode, SymbolNodeDep,
 };
-pub use fast_check_tables as tables;
+pub use fast_check_tables::MediaType;
 pub use fault::TableFault;
 pub use json_module::JsonModuleInfo;
 pub use tables::{ModuleTables, ReExportAllNode};

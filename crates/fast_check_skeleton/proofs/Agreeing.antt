@@ -55,8 +55,8 @@ use Rattle.fast_check_same_values.proofs.AlikeTrees.{TreeAlike, scope_to, image_
 use Rattle.fast_check_same_values.proofs.AlikeTrees.{range_field_alike}
 use Rattle.fast_check_same_values.proofs.AlikeSeen.{Alike, AllAlike, written_alike, same_written, range_alike, scope_alike, flag_alike}
 use Rattle.fast_check_same_values.proofs.AlikeSeen.{alike_if, all_alike_if, faulty_alike, listed_alike, round_alike, append_alike}
-use Rattle.fast_check_typed_grammar.proofs.signatures.Choices.{both_true}
-use Rattle.fast_check_typed_grammar.proofs.signatures.MovedParts.{moved_declarator}
+use Rattle.fast_check_typed_grammar.proofs.signature_proofs.Choices.{both_true}
+use Rattle.fast_check_typed_grammar.proofs.signature_proofs.MovedParts.{moved_declarator}
 use Rattle.fast_check_same_values.proofs.AlikePresent.{expr_absent}
 use Rattle.fast_check_same_values.proofs.Alike.{expr_alike, function_alike}
 use Rattle.fast_check_same_values.proofs.AlikeClasses.{class_alike, ambient_class_alike}
@@ -89,7 +89,7 @@ use Rattle.fast_check_skeleton.specs.SameLinks as l
 use Rattle.fast_check_skeleton.specs.Hidden as h
 use Rattle.fast_check_skeleton.specs.Worlds.{SameFault, SameSkeleton}
 use Rattle.fast_check_helpers.proofs.InferredMoved.{inferred_type_moved}
-use Rattle.fast_check_typed_grammar.proofs.signatures.AnswersMoved.{moved_fault, moved_items, answer_of_moved}
+use Rattle.fast_check_typed_grammar.proofs.signature_proofs.AnswersMoved.{moved_fault, moved_items, answer_of_moved}
 
 -- ---- what is silent is not seen
 

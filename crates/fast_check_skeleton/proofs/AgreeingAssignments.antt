@@ -17,7 +17,7 @@ use Rattle.fast_check_ranges.specs.Ranges.{range_of_node}
 use Rattle.fast_check_modules.specs.Expandos.{is_expando_target, is_expando_assignment}
 use Rattle.fast_check_typed_grammar.specs.signatures.Answers.{answer_to}
 use Rattle.fast_check_typed_grammar.specs.signatures.Seen.{tested, refused}
-use Rattle.fast_check_typed_grammar.proofs.signatures.AnswersMoved.{answer_to_moved}
+use Rattle.fast_check_typed_grammar.proofs.signature_proofs.AnswersMoved.{answer_to_moved}
 use Rattle.fast_check_same_values.specs.SameValues.{SameBindings}
 use Rattle.fast_check_same_values.proofs.Alike.{expr_alike}
 use Rattle.fast_check_same_values.proofs.AlikeSeen.{Alike, AllAlike, alike_if, all_alike_if}

@@ -24,8 +24,8 @@ use Rattle.fast_check_typed_grammar.specs.signatures.Answers.{answer_to, answer_
 use Rattle.fast_check_typed_grammar.specs.signatures.Expressions.{expr_seen}
 use Rattle.fast_check_typed_grammar.specs.signatures.NewNodes.{never_in_parens}
 use Rattle.fast_check_typed_grammar.specs.signatures.Seen.{Seen, written, range, round, tested, refused, seens}
-use Rattle.fast_check_typed_grammar.proofs.signatures.Adding.{answer_append}
-use Rattle.fast_check_typed_grammar.proofs.signatures.Looks.{expr_seen_is}
+use Rattle.fast_check_typed_grammar.proofs.signature_proofs.Adding.{answer_append}
+use Rattle.fast_check_typed_grammar.proofs.signature_proofs.Looks.{expr_seen_is}
 use Rattle.fast_check_expandos.specs.declared.properties.ExpandoProperty.{ExpandoProperty}
 use Rattle.fast_check_expandos.specs.declared.references.Reference.{Reference}
 use Rattle.fast_check_expandos.specs.Assignments.{right_seen, missing_place, assignment_seen, kept_property, declared_properties}

@@ -30,8 +30,8 @@ use Rattle.fast_check_typed_grammar.specs.signatures.Classes.{param_properties, 
 use Rattle.fast_check_typed_grammar.specs.signatures.Classes.{unless_any, constructor_of, unless_taken_apart, class_head, untyped_property_seen, property_seen}
 use Rattle.fast_check_typed_grammar.specs.signatures.Classes.{untyped_accessor_seen, accessor_seen, method_seen, constructor_params_seen, constructor_seen, member_of_kind}
 use Rattle.fast_check_typed_grammar.specs.signatures.Classes.{member_seen, param_property_type, param_property, declared_by_params, members_seen}
-use Rattle.fast_check_typed_grammar.proofs.signatures.Adding.{answer_append}
-use Rattle.fast_check_typed_grammar.proofs.signatures.Choices.{of_choice}
+use Rattle.fast_check_typed_grammar.proofs.signature_proofs.Adding.{answer_append}
+use Rattle.fast_check_typed_grammar.proofs.signature_proofs.Choices.{of_choice}
 use Rattle.fast_check_skeleton.specs.HashMark.{IsMarked, HashMarked}
 
 -- ---- trees without a hash name

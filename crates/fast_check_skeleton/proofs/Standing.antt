@@ -32,7 +32,7 @@ use Rattle.fast_check_typed_grammar.specs.signatures.declared.function_kind.Func
 use Rattle.fast_check_typed_grammar.specs.signatures.Seen.{Seen, written, range, scope, flag, round, listed, faulty, seens}
 use Rattle.fast_check_typed_grammar.specs.signatures.Answers.{Answer, faultless, joined, visited, with_tree, round_answer, fault_at, answer_to, parts_answer, answer_of}
 use Rattle.fast_check_typed_grammar.specs.signatures.Expressions.{expr_seen}
-use Rattle.fast_check_typed_grammar.proofs.signatures.Choices.{of_choice, no_left, not_empty}
+use Rattle.fast_check_typed_grammar.proofs.signature_proofs.Choices.{of_choice, no_left, not_empty}
 use Rattle.fast_check_typed_grammar.specs.TypedGrammar.{IsLeavable, IsTypedFunction}
 use Rattle.fast_check_typed_grammar.specs.ClassGrammar.{IsAmbientClass, IsTypedClass}
 use Rattle.fast_check_typed_grammar.specs.signatures.Classes.{plain_class_seen, ambient_class}

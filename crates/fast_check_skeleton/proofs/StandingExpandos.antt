@@ -29,8 +29,8 @@ use Rattle.fast_check_typed_grammar.specs.signatures.Bindings.{Bindings}
 use Rattle.fast_check_typed_grammar.specs.signatures.declared.fault.FaultKind.TheVariants.{MissingExplicitType}
 use Rattle.fast_check_typed_grammar.specs.signatures.Seen.{Seen, tested}
 use Rattle.fast_check_typed_grammar.specs.signatures.Answers.{Answer, answer_to, answer_of, tested_answer, unless_stays, fault_at}
-use Rattle.fast_check_typed_grammar.proofs.signatures.Choices.{of_choice, no_left, no_right, not_empty}
-use Rattle.fast_check_typed_grammar.proofs.signatures.Adding.{answer_append}
+use Rattle.fast_check_typed_grammar.proofs.signature_proofs.Choices.{of_choice, no_left, no_right, not_empty}
+use Rattle.fast_check_typed_grammar.proofs.signature_proofs.Adding.{answer_append}
 use Rattle.fast_check_typed_grammar.specs.TypedGrammar.{IsLeavable}
 use Rattle.fast_check_typed_grammar.proofs.Present.{stays_there}
 use Rattle.fast_check_typed_grammar.proofs.Staying.{Holds, Stays}

@@ -1,4 +1,4 @@
-pub use Rattle.fast_check_signatures.proofs as signatures
+pub use Rattle.fast_check_signatures.proofs as signature_proofs
 pub mod Descending
 pub mod Staying
 pub mod StayingLists

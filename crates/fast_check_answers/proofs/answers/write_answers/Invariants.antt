@@ -1,4 +1,4 @@
-use Rattle.std.proofs.Common.{drop, map}
+use Rattle.std.proofs.Common.{map}
 use Rattle.fast_check_print.specs.Writing.{tokens_of}
 use Rattle.fast_check_print.proofs.Adding.{Remains}
 use Rattle.fast_check_print.proofs.Items.{rest_of_items}
@@ -8,4 +8,4 @@ use Rattle.fast_check_answers.proofs.answers.write_answers.Given as goal
 -- the other answers still have to come
 abbrev pub invariant-loop-specifier : goal.invariant-loop-specifier
 invariant-loop-specifier l =
-    Remains (tokens_of (answers_data l.fn.answers)) l.fn.out l.out (rest_of_items (map entry_data (drop l.specifier-index l.answers)))
+    Remains (tokens_of (answers_data l.fn.answers.items)) l.fn.out l.out (rest_of_items (map entry_data l.specifier-iterator.rest.items))

@@ -8,7 +8,7 @@ use Rattle.fast_check_build_program.proofs.answer.print_answers_line.Goals as go
 
 pub returns : goal.returns
 returns c =
-    let value = answers_data c.args.answers.now in
+    let value = answers_data c.args.answers.items in
     let written = c.in_ok-write_answers.ensures in
     let before = written.before ∙ (c.new-out.ensures.before ∙ c.new.ensures.items) in
     let tokens = written.tokens_now ∙ ap (λ ts. ts ++ tokens_of value) c.new-out.ensures.tokens in

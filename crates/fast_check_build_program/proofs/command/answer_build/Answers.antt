@@ -3,20 +3,20 @@ use Rattle.std.proofs.lemmas.Result.{err_from_is_err_and, IfOk-weaker, IfErr-wea
 use Rattle.fast_check_build_program.proofs.Refused.{refused, request_refused}
 use Rattle.fast_check_build_program.proofs.command.answer_build.Goals as goal
 
-pub returns-in_err-read_build-clause-answer : goal.returns-in_err-read_build-clause-answer
-returns-in_err-read_build-clause-answer c = search rules
+pub returns-in_err-read_request-clause-answer : goal.returns-in_err-read_request-clause-answer
+returns-in_err-read_request-clause-answer c = search rules
 
-pub returns-in_err-read_build-clause-refusal : goal.returns-in_err-read_build-clause-refusal
-returns-in_err-read_build-clause-refusal c =
+pub returns-in_err-read_request-clause-refusal : goal.returns-in_err-read_request-clause-refusal
+returns-in_err-read_request-clause-refusal c =
     let p = err_from_is_err_and c.from_residual.result c.from_residual.ensures.1 in
-    rw (p.1, p.2) (refused _ _ c.in_err-read_build.ensures.refusal)
+    rw (p.1, p.2) (refused _ _ c.in_err-read_request.ensures.refusal)
 
 pub returns-clause-answer : goal.returns-clause-answer
 returns-clause-answer c =
-    IfOk-weaker c.answer_request.result _ _ (λ answer h. (c.in_ok-read_build.field-0, c.in_ok-read_build.ensures.request, h)) c.answer_request.ensures.answer
+    IfOk-weaker c.answer_request.result _ _ (λ answer h. (c.in_ok-read_request.field-0, c.in_ok-read_request.ensures.request, h)) c.answer_request.ensures.answer
 
 pub returns-clause-refusal : goal.returns-clause-refusal
 returns-clause-refusal c =
     IfErr-weaker c.answer_request.result _ _
-    (λ refusal h. request_refused refusal c.args.bytes.now c.in_ok-read_build.field-0 c.in_ok-read_build.ensures.request h)
+    (λ refusal h. request_refused refusal c.args.bytes.items c.in_ok-read_request.field-0 c.in_ok-read_request.ensures.request h)
     c.answer_request.ensures.refusal

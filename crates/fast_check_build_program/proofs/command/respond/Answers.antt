@@ -18,8 +18,8 @@ returns-clause-answer g c =
     let words = map string_bytes c.args.words.now in
     let is : is_call words ≡ true = search rules in
     IfOk-weaker c.answer_build.result _ _
-    (λ answer h. call_answered words (option_map g.R.Read.remaining c.args.input) c.in_ok-read_bytes.field-0.items c.as_slice.result.now
-    answer.line.items answer.status is c.in_ok-read_bytes.ensures.bytes c.as_slice.ensures.value h)
+    (λ answer h. call_answered words (option_map g.R.Read.remaining c.args.input) c.in_ok-read_bytes.field-0.items
+    answer.line.items answer.status is c.in_ok-read_bytes.ensures.bytes h)
     c.answer_build.ensures.answer
 
 pub returns-clause-refusal : goal.returns-clause-refusal
@@ -27,6 +27,6 @@ returns-clause-refusal g c =
     let words = map string_bytes c.args.words.now in
     let is : is_call words ≡ true = search rules in
     IfErr-weaker c.answer_build.result _ _
-    (λ refusal h. call_refused words (option_map g.R.Read.remaining c.args.input) c.in_ok-read_bytes.field-0.items c.as_slice.result.now
-    refusal is c.in_ok-read_bytes.ensures.bytes c.as_slice.ensures.value h)
+    (λ refusal h. call_refused words (option_map g.R.Read.remaining c.args.input) c.in_ok-read_bytes.field-0.items
+    refusal is c.in_ok-read_bytes.ensures.bytes h)
     c.answer_build.ensures.refusal

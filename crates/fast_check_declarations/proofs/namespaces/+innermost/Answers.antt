@@ -5,7 +5,7 @@ use Rattle.fast_check_syntax.specs.Part.{seen}
 use Rattle.fast_check_syntax.specs.Shape.{◌is◌, kind_of}
 use Rattle.fast_check_syntax.specs.Height.{height}
 use Rattle.fast_check_links.specs.skeleton.Namespaces.{innermost}
-use Rattle.fast_check_links.proofs.skeleton.Namespaces.{innermost_block, innermost_inner}
+use Rattle.fast_check_links.proofs.skeleton_proofs.Namespaces.{innermost_block, innermost_inner}
 use Rattle.fast_check_declarations.proofs.Blocks.{follows_lower}
 use Rattle.fast_check_declarations.proofs.namespaces.+innermost.Goals as goal
 

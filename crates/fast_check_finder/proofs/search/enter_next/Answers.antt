@@ -7,7 +7,7 @@ use Rattle.fast_check_worklists.specs.State.{state_of}
 use Rattle.fast_check_worklists.specs.Turn.{waiting_trace}
 use Rattle.fast_check_turns.specs.Sources.{known}
 use Rattle.fast_check_findings.specs.Findings.{yields_of}
-use Rattle.fast_check_turns.proofs.entries.Passed.{passed_on}
+use Rattle.fast_check_turns.proofs.entry_proofs.Passed.{passed_on}
 use Rattle.fast_check_finder.specs.Refusals.{IsRefusedOf}
 use Rattle.fast_check_finder.proofs.Refused.{refused_of}
 use Rattle.fast_check_finder.proofs.Turns.{entered_at}

@@ -10,7 +10,7 @@ use Rattle.fast_check_findings.specs.Findings.{yields_of}
 use Rattle.fast_check_finder.specs.Reach.{reach}
 use Rattle.fast_check_finder.proofs.Owned.{orderly}
 use Rattle.fast_check_finder.proofs.Reach.{universe}
-use Rattle.fast_check_turns.proofs.entries.Passed.{passed_on}
+use Rattle.fast_check_turns.proofs.entry_proofs.Passed.{passed_on}
 use Rattle.fast_check_finder.specs.Refusals.{IsRefusal}
 use Rattle.fast_check_finder.proofs.Refused.{all_join, refusal}
 use Rattle.fast_check_finder.proofs.search.find_all.Goals as goal
