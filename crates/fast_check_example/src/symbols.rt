@@ -1,0 +1,94 @@
+//! The symbols of the module, as their analysis gives them: the module itself, and `hello`, which it declares and exports.
+
+use crate::source::MODULE;
+use fast_check::tables::{
+    ModuleTables, Symbol, SymbolDecl, SymbolDeclKind, SymbolExports, SymbolId, SymbolNode,
+};
+use fast_check::tree::{Atom, Id, SourceRange};
+use std::alloc::{AllocError, Global};
+use url::Url;
+
+const ROOT: SymbolId = SymbolId(0);
+
+const HELLO: SymbolId = SymbolId(1);
+
+/// A symbol without declarations.
+fn symbol(alloc: Global, id: SymbolId) -> Symbol {
+    Symbol {
+        id,
+        parent_id: None,
+        is_private_member: false,
+        maybe_name: None,
+        qualified_name: None,
+        exports: SymbolExports::new(alloc),
+        members: Vec::new(alloc),
+        decls: Vec::new(alloc),
+    }
+}
+
+/// The symbol of the module, which exports `hello`.
+fn module_symbol(alloc: Global) -> Result<Symbol, AllocError> {
+    let mut exports = SymbolExports::new(alloc);
+    exports.put(String::from_str(alloc, "hello")?, HELLO)?;
+    Ok(Symbol {
+        exports,
+        ..symbol(alloc, ROOT)
+    })
+}
+
+/// The declaration of `hello`, by the range of its declarator: a value that refers to no other name.
+fn declaration(alloc: Global, range: SourceRange) -> SymbolDecl {
+    let node = SymbolNode {
+        is_class: false,
+        is_member: false,
+        is_function: false,
+        is_ts_namespace: false,
+        is_default_class_expr: false,
+        is_plain_class_decl: false,
+        has_export_keyword: true,
+        deps: Vec::new(alloc),
+    };
+    SymbolDecl {
+        range,
+        value: true,
+        type_: false,
+        has_overloads: false,
+        has_body: false,
+        kind: SymbolDeclKind::Definition(Some(node)),
+    }
+}
+
+/// The symbol of `hello`.
+fn hello_symbol(alloc: Global, range: SourceRange) -> Result<Symbol, AllocError> {
+    let mut decls = Vec::new(alloc);
+    decls.push(declaration(alloc, range))?;
+    Ok(Symbol {
+        parent_id: Some(ROOT),
+        maybe_name: Some(String::from_str(alloc, "hello")?),
+        qualified_name: Some(String::from_str(alloc, "hello")?),
+        decls,
+        ..symbol(alloc, HELLO)
+    })
+}
+
+/// The tables of the module of this name, where the declarator of `hello` has this range.
+pub fn module_tables(
+    alloc: Global,
+    specifier: &Url,
+    range: SourceRange,
+) -> Result<ModuleTables, AllocError> {
+    let mut symbols = Vec::new(alloc);
+    symbols.push(module_symbol(alloc)?)?;
+    symbols.push(hello_symbol(alloc, range)?)?;
+    let mut swc_ids = Vec::new(alloc);
+    swc_ids.push((Id(Atom::from_str(alloc, "hello")?, MODULE), HELLO))?;
+    let mut resolved_exports = Vec::new(alloc);
+    resolved_exports.push((String::from_str(alloc, "hello")?, specifier.clone()?))?;
+    Ok(ModuleTables {
+        symbols,
+        module_symbol: ROOT,
+        swc_ids,
+        re_export_all_nodes: Vec::new(alloc),
+        resolved_exports,
+    })
+}
