@@ -11,7 +11,7 @@ pub use fast_check_tree::comments;
 /// New nodes, and the types that values show by themselves.
 pub use fast_check_tree::helpers;
 
-/// The graph of modules, the tables of a module, packages, and diagnostics.
+/// The graph of modules, the source and the tables of a module, and packages.
 pub mod tables {
     pub use fast_check_graph::{Module, ModuleGraph, ModuleInfo, RootSymbol};
     pub use fast_check_modules::{
@@ -20,9 +20,14 @@ pub mod tables {
         TableFault,
     };
     pub use fast_check_packages::{PackageNv, WorkspaceMember};
+    pub use fast_check_tables::{MediaType, ModuleSpecifier, ParsedSource};
+}
+
+/// What is told of what is wrong.
+pub mod diagnostics {
     pub use fast_check_tables::{
         Diagnostic, DiagnosticLevel, DiagnosticLocation, DiagnosticSnippet, FastCheckDiagnostic,
-        FastCheckDiagnosticRange, MediaType, ModuleSpecifier, ParsedSource,
+        FastCheckDiagnosticRange,
     };
 }
 

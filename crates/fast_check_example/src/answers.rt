@@ -2,7 +2,7 @@
 
 use anyhow::Result;
 use fast_check::build::ModuleAnswer;
-use fast_check::tables::{Diagnostic, FastCheckDiagnostic};
+use fast_check::diagnostics::{Diagnostic, FastCheckDiagnostic};
 use fast_check::tree::Tree;
 use fast_check::tree::forms::{
     BindingIdent, ExportDecl, Ident, Module, Str, TsLitType, TsTypeAnn, VarDecl, VarDeclarator,
