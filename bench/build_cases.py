@@ -28,6 +28,8 @@ class Build:
     expected: list
     # the request, where it is not the world's as it is
     request: dict = None
+    # where all demands give more than those that have to be followed: what of it is left out, as a function
+    without: object = None
 
 
 @dataclass
