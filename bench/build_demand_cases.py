@@ -68,7 +68,8 @@ def packages_that_follow():
     """A re-export of all asks another module for all names but `default`, and its package, each entry point of which is asked for all."""
     def world(to):
         mod = Module("p/mod.ts", export_all("@q/q"), resolved={"@q/q": to})
-        return World({"p": ["./mod.ts"], "q": ["./mod.ts"]}, mod, Module("q/mod.ts", default_value(ONE), X, HIDDEN), Module("q/b.ts", default_value(unknown()), Y))
+        others = [Module("q/mod.ts", default_value(ONE), X, HIDDEN), Module("q/b.ts", default_value(unknown()), Y)]
+        return World({"p": ["./mod.ts"], "q": ["./mod.ts"]}, mod, *others)
     p, q = ("p/mod.ts", 'export * from "@q/q";'), ("q/mod.ts", f"export default 1; {SHOWN_X}")
     yield Build("build_a_package_that_another_one_exports_all_of", world("q/mod.ts"), [p, q])
     # nobody asks for the default of that module, though who asks for all names of an entry point may ask for its default by name, too
@@ -148,8 +149,8 @@ def members():
     named, star = (file + "mod.ts", 'export { b } from "./b.ts";'), (file + "mod.ts", 'export * from "./b.ts";')
     yield Build("build_a_member_under_another_version", world(by_name, let("b")), [named], without=lambda it: without(it) or it[2] == file + "b.ts")
     yield Build("build_a_member_under_another_version_that_exports_all", world(by_star, b), [shown_b, star], without=without)
-    yield Build("build_a_fault_of_a_member_under_another_version", world(by_star, b, Z), [shown_b, (file + "mod.ts", [f"missing-explicit-type {file}mod.ts z"])],
-                without=without)
+    yield Build("build_a_fault_of_a_member_under_another_version", world(by_star, b, Z),
+                [shown_b, (file + "mod.ts", [f"missing-explicit-type {file}mod.ts z"])], without=without)
     # the entry point is answered for each of the two packages
     yield Build("build_a_fault_of_the_member_itself", world(by_star, Z), [(file + "mod.ts", [f"missing-explicit-type {file}b.ts z"]), star], without=without)
 
