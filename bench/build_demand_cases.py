@@ -59,6 +59,11 @@ def default_and_all_others():
     shown = [("p/b.ts", f"{default} {SHOWN_Y}"), ("p/c.ts", f"{shown_c} {SHOWN_X}")]
     yield Build("build_a_part_of_the_default_and_all_others", modules(by_path + by_star, b=b, c=c), [*shown, ("p/mod.ts", f"{shown_path} {shown_star}")])
     yield Build("build_all_others_and_a_part_of_the_default", modules(by_star + by_path, b=b, c=c), [*shown, ("p/mod.ts", f"{shown_star} {shown_path}")])
+    # one package asks for all others, and the module's own for a part of the default
+    two = World({"p": ["./mod.ts"], "q": ["./mod.ts"]}, Module("p/mod.ts", export_all("@q/b"), resolved={"@q/b": "q/b.ts"}),
+                *[Module(f"q/{each}.ts", *items, resolved=near("b", "c", word="q")) for each, items in [("mod", by_path), ("b", b), ("c", c)]])
+    yield Build("build_a_part_of_the_default_and_all_others_by_two_packages", two,
+                [("p/mod.ts", 'export * from "@q/b";'), ("q/b.ts", shown[0][1]), ("q/c.ts", shown[1][1]), ("q/mod.ts", shown_path)])
     faulty = [c[0], Z]
     told = ["missing-explicit-type p/c.ts z"]
     yield Build("build_a_fault_behind_the_default_and_all_others", modules(by_path + by_star, b=b, c=faulty), [("p/mod.ts", told)])
