@@ -8,9 +8,9 @@ The program has to be built: run `./fast-check build examples/build_hello.json` 
     packages   packages of three modules, each of which asks for two other packages
     modules    one package of all modules
     faults     packages as above, each with a module that has faults
-    hidden     packages as above, of whose modules the entry points ask for one name alone
+    hidden     packages as above, of whose modules the entry points ask for two names alone, so that two modules are answered beside each entry point
 
-Usage: bench/build.py [PACKAGES ..] [PROGRAM]        (10 100 1000 where no number is given)
+Usage: bench/build.py [SHAPE ..] [PACKAGES ..] [modules=N] [PROGRAM]        (all shapes, 10 100 1000 and three modules a package where nothing is given)
 """
 import json
 import os
@@ -32,7 +32,7 @@ from trees import (
 
 TOP = os.path.dirname(os.path.dirname(os.path.abspath(__file__)))
 PROGRAM = os.path.join(TOP, "crates/fast_check_build_cli/out/fast_check_build_cli")
-MODULES = 3
+SHAPES = ["packages", "modules", "faults", "hidden"]
 
 
 def library(*more):
@@ -85,9 +85,9 @@ def standing_at(module, url):
     return [url, {"Esm": {**parts, "specifier": url, "resolved_exports": [[each, url] for each, _ in parts["resolved_exports"]]}}]
 
 
-def workspace(shape, packages):
-    """A request of so many packages, or of one package of as many modules."""
-    count, size = (1, packages * MODULES) if shape == "modules" else (packages, MODULES)
+def workspace(shape, packages, size):
+    """A request of so many packages of so many modules each, or of one package of as many modules."""
+    count, size = (1, packages * size) if shape == "modules" else (packages, size)
     faults = [func("wrong", [name("a")], returned(ONE)), func("also", [], returned(ONE))] if shape == "faults" else []
     main, first, other = entry(links(shape, size)), library(*faults), library()
     made = World({}, pending=[]).request()
@@ -121,24 +121,27 @@ def spent(program, path):
         return LOAD(out.read()), usage.ru_maxrss / 1024
 
 
-def measure(program, shape, packages):
+def measure(program, shape, packages, modules):
     with tempfile.NamedTemporaryFile(suffix=".json") as file:
-        file.write(json.dumps(workspace(shape, packages), separators=(",", ":")).encode())
+        file.write(json.dumps(workspace(shape, packages, modules), separators=(",", ":")).encode())
         file.flush()
         size, (answers, peak) = os.path.getsize(file.name), spent(program, file.name)
         seconds = best(3, lambda: subprocess.run([program, "build", file.name], stdout=subprocess.DEVNULL))
         library = best(3, lambda: DUMP(LOAD(open(file.name, "rb").read())))
         shown = sum("Ok" in answer for _, answer in answers)
-        print(f"{shape:9} {packages:8} {packages * MODULES:8} {shown:9} {size / 1e6:8.2f} {seconds:9.3f} {peak:9.0f} {library:18.3f} "
+        print(f"{shape:9} {packages:8} {packages * modules:8} {shown:9} {size / 1e6:8.2f} {seconds:9.3f} {peak:9.0f} {library:18.3f} "
               f"{seconds / library:7.2f}", flush=True)
 
 
 def main(words):
-    program = os.path.abspath(words.pop()) if words and not words[-1].isdigit() else PROGRAM
+    shapes, sizes = [word for word in words if word in SHAPES], [int(word) for word in words if word.isdigit()]
+    modules = [int(word.removeprefix("modules=")) for word in words if word.startswith("modules=")]
+    others = [word for word in words if word not in SHAPES and not word.isdigit() and not word.startswith("modules=")]
+    program = os.path.abspath((others + [PROGRAM])[0])
     print(f"shape     packages  modules  answered    MB in   seconds   MB peak   {NAME} load+dump   ratio")
-    for shape in ("packages", "modules", "faults", "hidden"):
-        for packages in [int(word) for word in words] or [10, 100, 1000]:
-            measure(program, shape, packages)
+    for shape in shapes or SHAPES:
+        for packages in sizes or [10, 100, 1000]:
+            measure(program, shape, packages, (modules + [3])[0])
 
 
 if __name__ == "__main__":

@@ -28,6 +28,8 @@ class Build:
     expected: list
     # the request, where it is not the world's as it is
     request: dict = None
+    # where all demands give more than those that have to be followed: what of it is left out, as a function
+    without: object = None
 
 
 @dataclass
@@ -194,6 +196,24 @@ def graphs():
     yield Build("build_an_alias_of_a_module_with_a_fault", alias(let("x")), [("p/main.ts", ["missing-explicit-type p/mod.ts x"])])
 
 
+def without_modules():
+    """Packages of which no module is followed, or none has a tree."""
+    yield Build("build_a_package_of_json_alone", World({"p": ["./d.json", "./e.json"]}, JsonModule("p/d.json"), JsonModule("p/e.json")), [])
+    yield Build("build_a_package_of_wasm_alone", World({"p": ["./mod.wasm"]}, only={"p/mod.wasm": {"Wasm": {}}}), [])
+    none = lambda **more: World({"p": ["./mod.ts", "./a.ts"]}, **more)
+    told = ["export-not-found p/a.ts", "export-not-found p/mod.ts"]
+    yield Build("build_a_package_none_of_whose_files_are_in_the_graph", none(), [("p/a.ts", told), ("p/mod.ts", told)])
+    yield Build("build_the_first_of_files_that_are_not_in_the_graph", none(first=True), [("p/a.ts", told[:1]), ("p/mod.ts", told[:1])])
+    yield Build("build_a_module_that_the_graph_lacks", single(away=["p/mod.ts"]), [("p/mod.ts", ["export-not-found p/mod.ts"])])
+    bare = {"Js": {"media_type": "TypeScript"}}
+    yield Build("build_an_alias_of_no_module", World({"p": ["./main.ts"]}, only={"p/main.ts": bare}, aliases={"p/main.ts": "p/mod.ts"}), [])
+    yield Build("build_a_module_without_items", World({"p": ["./mod.ts"]}, Module("p/mod.ts")), [("p/mod.ts", "")])
+    asking = Module("q/mod.ts", import_("@p/p", "y"), export("y"), export_all("@p/p"), resolved={"@p/p": "p/mod.ts"})
+    yield Build("build_a_package_without_modules_that_another_one_asks_for",
+                World({"p": ["./mod.ts"], "q": ["./mod.ts"]}, asking, pending=["q"], only={"p/mod.ts": bare}),
+                [("q/mod.ts", 'import { y } from "@p/p"; export { y }; export * from "@p/p";')])
+
+
 # ---- what is wrong
 
 
@@ -218,6 +238,11 @@ def entry_points():
     yield Build("build_the_first_entry_point_that_is_lacking", lacking(first=True), [(f"p/{name}", told[:1]) for name in ("a.ts", "b.js", "mod.ts")])
     yield Build("build_an_external_entry_point", World({"p": ["./a.ts"]}, only={"p/a.ts": "External"}),
                 [("p/a.ts", ["unsupported-javascript-entrypoint p/a.ts"])])
+    script = Module("p/b.js", let("y", value=ONE), media_type="JavaScript")
+    beside = lambda **more: World({"p": ["./a.ts", "./b.js"]}, Module("p/a.ts", let("x", value=ONE)), script, **more)
+    told = ["unsupported-javascript-entrypoint p/b.js"]
+    for case, pending in [("build_an_entry_point_of_javascript_beside_another", ["p"]), ("build_an_entry_point_of_javascript_handed_in_twice", ["p", "p"])]:
+        yield Build(case, beside(pending=pending), [("p/a.ts", told), ("p/b.js", told)])
     nested = Module("p/mod.ts", export("a", src="./b.js"), let("z"), resolved={"./b.js": "p/b.js"})
     yield Build("build_a_nested_javascript_module", World({"p": ["./mod.ts"]}, nested, only={"p/b.js": "JavaScript"}),
                 [("p/mod.ts", ["unsupported-nested-javascript p/b.js", "missing-explicit-type p/mod.ts z"])])
@@ -279,6 +304,9 @@ def faults_of_tables():
     yield Refused("build_an_expando_without_symbol", expando, "table-fault 4")
     yield Refused("build_the_faults_of_the_first_module_that_has_one", with_tables({}, UNDECLARED, MISSING), "table-fault 2")
     yield Refused("build_the_first_fault_of_a_module", with_tables({**UNDECLARED, **MISSING}), "table-fault 1")
+    member = {"id": 2, "members": [7], "decls": [{"range": [1, 2], "kind": {"Definition": None}}]}
+    yield Refused("build_a_missing_member_behind_a_symbol_without_declaration", with_tables({**UNDECLARED, "symbols": [*UNDECLARED["symbols"], member]}),
+                  "table-fault 1")
     yield Refused("build_another_name_comes_last", under_another_name(with_tables({}, MISSING), 0), "table-fault 1")
     data = World({"p": ["./mod.ts"]}, Module("p/mod.ts", let("x", value=ONE)), JsonModule("p/d.json")).request()
     data["modules"][1][1]["Json"]["symbols"] = []
@@ -337,6 +365,9 @@ def forms():
 def exports_that_do_not_join():
     one = World({"p": ["./mod.ts", "http://["]}, Module("p/mod.ts", let("x", value=ONE)))
     yield Refused("build_an_export_that_does_not_join", one.request(), "invalid-export")
+    request = one.request()
+    request["graph"]["packages"][0][1] = [[".", "./mod.ts"], ["./x", "http://["]]
+    yield Refused("build_an_export_of_another_name_that_does_not_join", request, "invalid-export")
     mod = Module("p/mod.ts", import_("@q/q", "y"), export("y"), resolved={"@q/q": "q/mod.ts"})
     world = lambda mod: World({"p": ["./mod.ts"], "q": ["http://["]}, mod, Module("q/mod.ts", let("y")))
     yield Refused("build_an_export_of_a_package_that_follows", world(mod).request(), "invalid-export")
@@ -351,6 +382,7 @@ def exports_that_do_not_join():
 GROUPS = [
     ("builds: packages in order of their names and versions, and the modules of each in order of their specifiers", packages),
     ("what the graph, the workspace and the aliases say of packages and modules", graphs),
+    ("packages without modules", without_modules),
     ("where anything is wrong with a package, each entry point is answered by all of it; under the option by that of the first module", faults),
     ("what is wrong with entry points, and with modules whose types are not known", entry_points),
     ("a module with a diagnostic of the finder is not transformed", references),

@@ -4,9 +4,11 @@ The symbols of a module are made of its items: variables, functions, classes wit
 found by `package_rules` and `package_accounts`, and what a module shows by `skeletons`; the answer is put together here as docs/RULES.md says,
 chapters 16 to 18. No output of the program is taken for right.
 """
+import sys
+
 from module_skeletons import range_of_default, range_of_specifier, sources_of
 from nodes import variant
-from package_accounts import Closure, without_nested
+from package_accounts import Closure, mismatch, without_nested
 from package_rules import World as Rules, order_of
 from package_worlds import HOST, nv_of, url_of
 from skeletons import Skeleton, diagnostic
@@ -67,12 +69,17 @@ def references(node, namespace="Value"):
                 yield from references(inside, namespace)
 
 
-def reference_of(name, namespace):
+def parted(name):
+    """The first name of `A.b.c`, and the names below it."""
     path = []
     while "TsQualifiedName" in name:
         path.insert(0, name["TsQualifiedName"]["right"]["sym"])
         name = name["TsQualifiedName"]["left"]
-    first = [name["Ident"]["sym"], name["Ident"]["ctxt"]]
+    return [name["Ident"]["sym"], name["Ident"]["ctxt"]], path
+
+
+def reference_of(name, namespace):
+    first, path = parted(name)
     yield [{"QualifiedId": [first, path]}, "Type_"] if path else [{"Id": first}, namespace]
 
 
@@ -131,6 +138,8 @@ class Symbols:
                 self.exported_name(each, node)
         elif kind == "ExportAll":
             self.again.append([node["span"], node["src"]["value"]])
+        elif kind == "TsImportEquals":
+            self.entity(node)
         elif kind in ("ExportDefaultDecl", "ExportDefaultExpr"):
             symbol = self.symbol("default", is_bound=False)
             self.export("default", symbol)
@@ -139,6 +148,14 @@ class Symbols:
     def alias(self, symbol, specifier, node, name):
         kind = {"FileRef": {"specifier": node["src"]["value"], "name": name}}
         symbol["decls"].append({"range": range_of_specifier(specifier), "value": True, "type_": True, "kind": kind})
+
+    def entity(self, node):
+        """`import name = A`, or a part of another name, as `import name = A.b.c`."""
+        symbol, (first, path) = self.symbol(node["id"]["sym"]), parted(node["module_ref"]["TsEntityName"])
+        kind = {"QualifiedTarget": [first, path]} if path else {"Target": first}
+        symbol["decls"].append({"range": node["span"], "value": True, "type_": True, "kind": kind})
+        if node["is_export"]:
+            self.export(symbol["maybe_name"], symbol)
 
     def exported_name(self, specifier, node):
         how, inside = variant(specifier)
@@ -292,12 +309,21 @@ class World:
 
     # ---- what has to be answered
 
-    def answers(self, pages):
-        """Pairs of a URL and an answer, by all demands that follow; None where an export text does not join. The pages of diagnostics stand at `pages`."""
-        closure = Closure(Rules(self.rules()))
+    def answers(self, pages, without=None):
+        """Pairs of a URL and an answer, by all demands that follow; None where an export text does not join. The pages of diagnostics stand at `pages`.
+
+        `without` says of what all demands give whether it is left out, since other demands stand for those that give it: an account has to give exactly
+        the rest."""
+        rules = Rules(self.rules())
+        closure = Closure(rules)
         yields = without_nested(closure.yielded())
         if any(it[0] == "refused" for it in yields):
             return None
+        if without:
+            yields = {it for it in yields if not without(it)}
+            wrong = mismatch(rules, closure, yields, sorted({it[1] for it in yields}))
+            if wrong:
+                sys.exit(wrong)
         return self.answers_to(yields, pages)
 
     def rules(self):

@@ -3,7 +3,7 @@
 
 Each case stands here as TypeScript with what is public of it and what has to come out. The trees of the sources and of
 the skeletons are laid out by the rules of this script and its modules alone (`trees`, `skeletons`, `function_cases`, `new_cases`,
-`class_cases`, `module_cases`, `namespace_cases`, `build_cases`): the program's own output is nowhere taken for right.
+`class_cases`, `module_cases`, `namespace_cases`, `build_cases`, `build_demand_cases`): the program's own output is nowhere taken for right.
 
 Usage: bench/vectors.py
 """
@@ -15,6 +15,7 @@ import sys
 sys.dont_write_bytecode = True
 
 import build_cases
+import build_demand_cases
 import class_cases
 import function_cases
 import module_cases
@@ -783,14 +784,14 @@ def groups_of_cases(groups):
 
 def builds():
     """Each group of builds, with what it shows."""
-    for words, cases in build_cases.GROUPS:
+    for words, cases in build_cases.GROUPS + build_demand_cases.GROUPS:
         title(words)
         for each in cases():
             if isinstance(each, build_cases.Refused):
                 put(f"{each.name}.json", each.content)
                 case(f"build {each.name}.json", 2, f"error: input refused: {each.word}\n")
                 continue
-            answers = each.world.answers(DOCS)
+            answers = each.world.answers(DOCS, each.without)
             agree(each.name, "answer", each.expected, build_cases.given(each.world, answers, lambda items: lay_items(items)[1]))
             put(f"{each.name}.json", each.request or each.world.request())
             case(f"build {each.name}.json", int(any("Err" in answer for _, answer in answers)), line(answers))

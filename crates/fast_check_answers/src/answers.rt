@@ -13,10 +13,12 @@ use std::alloc::{AllocError, Global};
 pub fn write_answers(
     alloc: Global,
     out: &mut Writer,
-    answers: Vec<(
-        ModuleSpecifier,
-        Result<FastCheckModule, Vec<FastCheckDiagnostic>>,
-    )>,
+    answers: Vec<
+        (
+            ModuleSpecifier,
+            Result<FastCheckModule, Vec<FastCheckDiagnostic>>,
+        ),
+    >,
 ) -> Result<(), AllocError>
     ensures { OnOk result (WritesData (answers_data answers.items) out.old out.new) }
 {

@@ -45,7 +45,11 @@ fn any_has_diagnostics(answers: &[ModuleAnswer]) -> bool
 pub fn tell_answers(alloc: Global, answers: Vec<ModuleAnswer>) -> Result<Answer, AllocError>
     ensures { IfOk result (λ answer. IsLineOf answers.items answer.line.items answer.status) }
 {
-    let status = if any_has_diagnostics(answers.as_slice()) { 1 } else { 0 };
+    let status = if any_has_diagnostics(answers.as_slice()) {
+        1
+    } else {
+        0
+    };
     let line = print_answers_line(alloc, answers)?;
     Ok(Answer { line, status })
 }
