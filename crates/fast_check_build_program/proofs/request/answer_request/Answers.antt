@@ -3,7 +3,7 @@ use Rattle.fast_check_build_program.proofs.request.answer_request.Goals as goal
 
 pub returns-in_err-answers-clause-refusal : goal.returns-in_err-answers-clause-refusal
 returns-in_err-answers-clause-refusal c =
-    let p = err_from_is_err_and c.from_residual-in_err-answers.result c.from_residual-in_err-answers.ensures.1 in
+    let p = err_from_is_err_and c.from_residual.result c.from_residual.ensures.1 in
     rw (p.1, p.2) c.in_err-answers.ensures.refusal
 
 pub returns-clause-answer : goal.returns-clause-answer
