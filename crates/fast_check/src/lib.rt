@@ -34,7 +34,7 @@ pub mod diagnostics {
 /// Sets of demanded names, and the modules that were followed or wait.
 pub mod lattice {
     pub use fast_check_names::{Exports, FileDepName, ImportedExports, NamedSubset};
-    pub use fast_check_packages::{HandledExports, PendingTrace, PendingTraces};
+    pub use fast_check_traced_modules::{HandledExports, PendingTrace, PendingTraces};
 }
 
 /// What a caller lends, and why a build stops.

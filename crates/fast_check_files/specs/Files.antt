@@ -4,8 +4,8 @@ use Rattle.std.specs.List.{flat_map}
 use Rattle.std.specs.declared.alloc.Global.{Global}
 use Rattle.fast_check_names.specs.Names.{Path, path_of}
 use Rattle.fast_check_names.specs.Imports.{NameDemand, names_but_default, each_name, subset_at, whole_at}
-use Rattle.fast_check_names.specs.declared.lattice.file_dep_name.FileDepName.{FileDepName}
-use Rattle.fast_check_names.specs.declared.lattice.file_dep_name.FileDepName.TheVariants.{Star, Name as Named}
+use Rattle.fast_check_symbols.specs.declared.file_dep_name.FileDepName.{FileDepName}
+use Rattle.fast_check_symbols.specs.declared.file_dep_name.FileDepName.TheVariants.{Star, Name as Named}
 use Rattle.fast_check_symbols.specs.declared.symbol.Symbol.{Symbol}
 use Rattle.fast_check_symbols.specs.declared.decl.SymbolDecl.{SymbolDecl}
 use Rattle.fast_check_symbols.specs.declared.decl.SymbolDeclKind.{SymbolDeclKind}

@@ -3,7 +3,7 @@ ghost use Rattle.fast_check_names.specs.Names.{path_of};
 ghost use Rattle.fast_check_files.specs.Files.{names_of, path_demand, reference_demand, path_in_file, import_demand};
 
 use fast_check_demands::Extent;
-use fast_check_names::FileDepName;
+use fast_check_symbols::FileDepName;
 
 /// What is asked of a module.
 #[derive(Clone, Copy)]

@@ -25,8 +25,8 @@ use Rattle.fast_check_worklists.proofs.Asks.{map_last}
 use Rattle.url.specs.Parts.{Parts}
 use Rattle.fast_check_names.specs.declared.lattice.imported_exports.ImportedExports.{ImportedExports}
 use Rattle.fast_check_packages.specs.declared.package.PackageNv.{PackageNv}
-use Rattle.fast_check_packages.specs.declared.traced_modules.PendingTrace.{PendingTrace}
-use Rattle.fast_check_packages.specs.Traces.{entry_of}
+use Rattle.fast_check_traced_modules.specs.declared.traced_modules.PendingTrace.{PendingTrace}
+use Rattle.fast_check_traced_modules.specs.Traces.{entry_of}
 use Rattle.fast_check_worklists.specs.State.{trace_of, want_of, State, IsFollowed, IsEntered}
 use Rattle.fast_check_turns.specs.Sources.{Known, node_at, named_at, typed_info, info_at, traced_as, module_at, is_untyped, entrance_at}
 use Rattle.fast_check_turns.specs.Rules.{names_wants, world}

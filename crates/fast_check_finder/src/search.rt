@@ -1,7 +1,7 @@
 ghost use Rattle.std.specs.Prelude.{◌≡◌, [], Some, map, OnOk, IfOk, IfErr};
 ghost use Rattle.std.specs.List.{flat_map};
 ghost use Rattle.fast_check_packages.specs.Package.{nv_of};
-ghost use Rattle.fast_check_packages.specs.Traces.{pending};
+ghost use Rattle.fast_check_traced_modules.specs.Traces.{pending};
 ghost use Rattle.fast_check_worklists.specs.Account.{Account, IsAccount, IsYield};
 ghost use Rattle.fast_check_worklists.specs.State.{state_of, trace_of, IsFollowed};
 ghost use Rattle.fast_check_worklists.specs.Turn.{IsTurn};
@@ -11,10 +11,10 @@ ghost use Rattle.fast_check_turns.specs.Rules.{world};
 ghost use Rattle.fast_check_turns.specs.Yields.{gives};
 ghost use Rattle.fast_check_finder.specs.Refusals.{IsRefusal, IsRefusedOf, JoinAll};
 
-use fast_check_packages::{PackageNv, PendingTrace};
+use fast_check_packages::PackageNv;
 use fast_check_provider::{BuildFault, JsrUrlProvider};
 use fast_check_turns::{Finding, Sources, enter, follow};
-use fast_check_worklists::{Asked, begin, copy_of};
+use fast_check_worklists::{Asked, PendingTrace, begin, copy_of};
 use std::alloc::{AllocError, Global};
 
 /// Enters the next package, if there is one, and answers the number of those that were entered.

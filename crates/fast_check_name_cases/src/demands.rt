@@ -3,8 +3,8 @@
 use crate::packages::package_of;
 use crate::sets::{name_and_rest, set_of, tell_set};
 use fast_check_names::{FileDepName, ImportedExports};
-use fast_check_packages::{HandledExports, PendingTrace, PendingTraces};
 use fast_check_said::Said;
+use fast_check_traced_modules::{HandledExports, PendingTrace, PendingTraces};
 use std::alloc::Global;
 use url::Url;
 

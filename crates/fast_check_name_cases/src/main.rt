@@ -11,8 +11,8 @@ mod pairs;
 mod sets;
 
 use fast_check_names::{Exports, ImportedExports, NamedSubset};
-use fast_check_packages::{HandledExports, PendingTraces};
 use fast_check_said::Said;
+use fast_check_traced_modules::{HandledExports, PendingTraces};
 use std::alloc::Global;
 use std::{fs, io};
 

@@ -1,9 +1,8 @@
 //! Which names of a module are demanded: name sets, joined and compared.
 
-mod file_dep_name;
 mod imported_exports;
 mod named_subset;
 
-pub use crate::lattice::file_dep_name::FileDepName;
+pub use fast_check_symbols::FileDepName;
 pub use crate::lattice::imported_exports::ImportedExports;
 pub use crate::lattice::named_subset::{Exports, NamedSubset};

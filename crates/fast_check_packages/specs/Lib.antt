@@ -1,3 +1,2 @@
 pub mod Package
 pub mod PackageOrder
-pub mod Traces

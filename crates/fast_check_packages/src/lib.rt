@@ -1,9 +1,6 @@
-//! The packages that ask for names, and the modules that were followed or wait to be.
+//! Packages by name and version, and the members of a workspace.
 #![tactic(auto)]
 
 mod package;
-mod traced_modules;
 
 pub use crate::package::{PackageNv, WorkspaceMember};
-pub use crate::traced_modules::{HandledExports, PendingTrace, PendingTraces};
-pub use fast_check_names as names;

@@ -3,8 +3,8 @@ use Rattle.std.specs.Prelude.{ℕ, Bool, List, Option, map, option_map, string_b
 use Rattle.url.specs.Parts.{Parts}
 use Rattle.fast_check_syntax.specs.declared.atom.Id.{Id}
 use Rattle.fast_check_syntax.specs.declared.source.SourceRange.{SourceRange}
-use Rattle.fast_check_names.specs.declared.lattice.file_dep_name.FileDepName.{FileDepName}
-use Rattle.fast_check_names.specs.declared.lattice.file_dep_name.FileDepName.TheVariants as file_dep_names
+use Rattle.fast_check_symbols.specs.declared.file_dep_name.FileDepName.{FileDepName}
+use Rattle.fast_check_symbols.specs.declared.file_dep_name.FileDepName.TheVariants as file_dep_names
 use Rattle.fast_check_symbols.specs.declared.symbol_id.SymbolId.{SymbolId}
 use Rattle.fast_check_symbols.specs.declared.node.ReferenceNamespace.{ReferenceNamespace}
 use Rattle.fast_check_symbols.specs.declared.node.SymbolDep.{SymbolDep}

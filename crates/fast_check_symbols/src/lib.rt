@@ -4,6 +4,7 @@
 mod decl;
 mod entries;
 mod exports;
+mod file_dep_name;
 mod node;
 mod symbol;
 mod symbol_id;
@@ -12,7 +13,7 @@ mod table;
 pub use decl::{SymbolDecl, SymbolDeclKind};
 pub use entries::map_of;
 pub use exports::SymbolExports;
-pub use fast_check_names::FileDepName;
+pub use file_dep_name::FileDepName;
 pub use node::{ReferenceNamespace, SymbolDep, SymbolNode, SymbolNodeDep};
 pub use symbol::Symbol;
 pub use symbol_id::SymbolId;

@@ -9,10 +9,7 @@ pub use diagnostics::{
     Diagnostic, DiagnosticLevel, DiagnosticLocation, DiagnosticSnippet, FastCheckDiagnostic,
     FastCheckDiagnosticRange,
 };
-pub use fast_check_packages::names::{Exports, FileDepName, ImportedExports, NamedSubset};
-pub use fast_check_packages::{
-    HandledExports, PackageNv, PendingTrace, PendingTraces, WorkspaceMember,
-};
+pub use fast_check_packages::{PackageNv, WorkspaceMember};
 pub use public_ranges::ModulePublicRanges;
 pub use tables::{
     FastCheckModule, MediaType, ModuleInfo, ModuleSpecifier, ParsedSource, StaticSource,

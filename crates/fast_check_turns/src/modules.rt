@@ -13,11 +13,11 @@ use crate::findings::push_finding;
 use crate::sources::{Sources, info_of, is_untyped};
 use fast_check_entries::findings::{Finding, FollowedModule, UntypedModule};
 use fast_check_graph::{ModuleGraph, ModuleInfo};
-use fast_check_packages::{PackageNv, PendingTrace};
+use fast_check_packages::PackageNv;
 use fast_check_provider::JsrUrlProvider;
 use fast_check_syntax::SourceRange;
 use fast_check_tables::FastCheckDiagnostic;
-use fast_check_worklists::{Asked, Step};
+use fast_check_worklists::{Asked, PendingTrace, Step};
 use std::alloc::{AllocError, Global};
 use url::Url;
 

@@ -5,7 +5,8 @@ ghost use Rattle.fast_check_worklists.specs.State.{state_of, AsksModule, AsksPac
 ghost use Rattle.fast_check_worklists.specs.Turn.{IsBegun};
 
 use fast_check_names::ImportedExports;
-use fast_check_packages::{HandledExports, PackageNv, PendingTraces};
+use fast_check_packages::PackageNv;
+use fast_check_traced_modules::{HandledExports, PendingTraces};
 use indexmap::IndexSet;
 use std::alloc::{AllocError, Global};
 use std::cmp::Ordering;

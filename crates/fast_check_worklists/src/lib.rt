@@ -4,3 +4,4 @@
 mod asked;
 
 pub use asked::{Asked, Step, begin, copy_of, is_same};
+pub use fast_check_traced_modules::{HandledExports, PendingTrace, PendingTraces};

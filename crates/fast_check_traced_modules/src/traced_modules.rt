@@ -1,10 +1,10 @@
 //! The modules that were followed, and those that wait to be, as the finder of public ranges of deno_graph keeps them.
 
 ghost use Rattle.std.specs.Prelude.{◌≡◌, ◌++◌, [], ◌<◌, ◌↔◌, length, IfOk, OnOk, OnErr, IsSome, option_map, option_to_list};
-ghost use Rattle.fast_check_packages.specs.Traces.{handled, pending, entry_of, Handles, Waits};
+ghost use Rattle.fast_check_traced_modules.specs.Traces.{handled, pending, entry_of, Handles, Waits};
 
-use crate::package::PackageNv;
 use fast_check_names::ImportedExports;
+use fast_check_packages::PackageNv;
 use indexmap::IndexMap;
 use std::alloc::{AllocError, Global};
 use url::Url;

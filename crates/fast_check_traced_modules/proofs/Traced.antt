@@ -8,7 +8,7 @@ use Rattle.url.specs.Parts.{Parts}
 use Rattle.fast_check_packages.specs.declared.package.PackageNv.{PackageNv}
 use Rattle.fast_check_names.specs.declared.lattice.imported_exports.ImportedExports.{ImportedExports}
 use Rattle.fast_check_names.specs.Imports.{IsCopy, IsAdded}
-use Rattle.fast_check_packages.specs.Traces.{is_module, Handles, HandlesAt, Waits, WaitsAt}
+use Rattle.fast_check_traced_modules.specs.Traces.{is_module, Handles, HandlesAt, Waits, WaitsAt}
 
 -- an entry of a new module goes last
 pub inserted_last : {X S : Type 0} (m n m' : IndexMap Parts X S) (url copy : Parts) (x : X) → n ≡ m → copy ≡ url → None ≡ lookup (is_module url) m.entries →

@@ -1,7 +1,7 @@
 use Rattle.std.proofs.Common.{◌≡◌, ap, Some, ◌∙◌}
 use Rattle.fast_check_names.proofs.Writes.{on_err_from}
-use Rattle.fast_check_packages.proofs.Traced.{inserted_last, kept, handles_new}
-use Rattle.fast_check_packages.proofs.traced_modules.HandledExports.add.Goals as goal
+use Rattle.fast_check_traced_modules.proofs.Traced.{inserted_last, kept, handles_new}
+use Rattle.fast_check_traced_modules.proofs.traced_modules.HandledExports.add.Goals as goal
 
 pub returns-in-Some-clause-err : goal.returns-in-Some-clause-err
 returns-in-Some-clause-err c =

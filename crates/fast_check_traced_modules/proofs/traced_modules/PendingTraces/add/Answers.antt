@@ -1,7 +1,7 @@
 use Rattle.std.proofs.Common.{ap, refl, Some, ◌∙◌}
 use Rattle.fast_check_names.proofs.Writes.{on_err}
-use Rattle.fast_check_packages.proofs.Traced.{inserted_last, kept, waits_new, waits_held}
-use Rattle.fast_check_packages.proofs.traced_modules.PendingTraces.add.Goals as goal
+use Rattle.fast_check_traced_modules.proofs.Traced.{inserted_last, kept, waits_new, waits_held}
+use Rattle.fast_check_traced_modules.proofs.traced_modules.PendingTraces.add.Goals as goal
 
 pub returns-in_err-add-clause-err : goal.returns-in_err-add-clause-err
 returns-in_err-add-clause-err c =

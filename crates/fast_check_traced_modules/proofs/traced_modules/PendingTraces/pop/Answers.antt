@@ -1,5 +1,5 @@
 use Rattle.std.proofs.Common.{rules}
-use Rattle.fast_check_packages.proofs.traced_modules.PendingTraces.pop.Goals as goal
+use Rattle.fast_check_traced_modules.proofs.traced_modules.PendingTraces.pop.Goals as goal
 
 pub returns-in_err-specifier-clause-taken : goal.returns-in_err-specifier-clause-taken
 returns-in_err-specifier-clause-taken c = search rules
