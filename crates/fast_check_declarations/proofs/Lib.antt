@@ -1,8 +1,5 @@
+pub use Rattle.fast_check_statements.proofs as statement_proofs
 pub use Rattle.fast_check_classes.proofs as class_proofs
-pub mod AssignmentCases
-pub mod Listed
-pub mod Declared
 pub mod ClassCases
 pub mod DefaultCases
-pub mod PublicCases
-pub mod Blocks
+pub mod PublicClasses

@@ -1,3 +1,3 @@
-pub use Rattle.fast_check_links.specs as links
-pub mod PartAnswers
-pub mod Assigned
+pub use Rattle.fast_check_statements.specs as statements
+pub use Rattle.fast_check_statements.specs.links as links
+pub mod ClassAnswers

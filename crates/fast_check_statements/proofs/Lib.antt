@@ -1,0 +1,5 @@
+pub mod AssignmentCases
+pub mod Listed
+pub mod Declared
+pub mod PublicCases
+pub mod Blocks

@@ -1,0 +1,83 @@
+ghost use Rattle.std.specs.Prelude.{IfOk, Some};
+ghost use Rattle.fast_check_syntax.specs.Part.{seen};
+ghost use Rattle.fast_check_signatures.specs.Answers.{Adds};
+ghost use Rattle.fast_check_links.specs.Asked.{Asked-around};
+ghost use Rattle.fast_check_links.specs.Links.{as_list};
+ghost use Rattle.fast_check_statements.specs.PartAnswers.{signature_answer, function_answer, public_function_answer};
+
+use fast_check_values::{transform_fn, transform_implementation};
+use fast_check_links::Asked;
+use fast_check_program_forms::Ident;
+use fast_check_signatures::{Fault, FunctionKind};
+use fast_check_statement_forms::FnDecl;
+use fast_check_syntax::{Part, SourceRange, Tree};
+use std::alloc::{AllocError, Global};
+
+/// The signature of a public function: of an implementation behind overloads the count of its parameters.
+fn transform_signature(
+    alloc: Global,
+    asked: Asked<'_>,
+    place: SourceRange,
+    decl: Part<'_>,
+    faults: &mut Vec<Fault>,
+) -> Result<Tree, AllocError>
+    ensures { IfOk result (λ tree. Adds (signature_answer (Asked-around asked.entry) place (seen decl.entry)) (Some tree) faults.old.items faults.new.items) }
+{
+    let FnDecl {
+        ident,
+        function,
+        ..
+    } = FnDecl::of(decl);
+    if asked.public_ranges.is_impl_with_overloads(&place) {
+        return transform_implementation(alloc, function);
+    }
+    let name = Ident::of(ident).span;
+    transform_fn(
+        alloc,
+        asked.es_module_info,
+        FunctionKind::DeclarationLike,
+        name,
+        function,
+        faults,
+    )
+}
+
+/// A public function: where all is ambient as it is written; an implementation behind overloads, by the count of its
+/// parameters; another, by its signature.
+fn keep_function(
+    alloc: Global,
+    asked: Asked<'_>,
+    place: SourceRange,
+    decl: Part<'_>,
+    faults: &mut Vec<Fault>,
+) -> Result<Tree, AllocError>
+    ensures { IfOk result (λ tree. Adds (function_answer (Asked-around asked.entry) place (seen decl.entry)) (Some tree) faults.old.items faults.new.items) }
+{
+    if asked.is_ambient {
+        return decl.to_tree(alloc);
+    }
+    let FnDecl { ident, declare, .. } = FnDecl::of(decl);
+    let made = FnDecl {
+        ident: ident.to_tree(alloc)?,
+        declare,
+        function: transform_signature(alloc, asked, place, decl, faults)?,
+    };
+    made.into_tree(alloc)
+}
+
+/// A function, which is public by `place`; none where it is not.
+pub fn keep_public_function(
+    alloc: Global,
+    asked: Asked<'_>,
+    place: SourceRange,
+    decl: Part<'_>,
+    faults: &mut Vec<Fault>,
+) -> Result<Option<Tree>, AllocError>
+    ensures { IfOk result (λ tree.
+        Adds (public_function_answer (Asked-around asked.entry) place (seen decl.entry)) (as_list tree) faults.old.items faults.new.items) }
+{
+    if !asked.public_ranges.contains(&place) {
+        return Ok(None);
+    }
+    Ok(Some(keep_function(alloc, asked, place, decl, faults)?))
+}
