@@ -15,12 +15,12 @@ use fast_check_classes::class_nodes::Earlier;
 use fast_check_classes::{ambient_class, transform_class};
 use fast_check_comments::CommentsMut;
 use fast_check_expression_forms::{AssignExpr, ClassExpr};
-use fast_check_statements::links::Asked;
-use fast_check_statements::links::skeleton::{DeclRule, DefaultRule, ItemRule, item_rule};
 use fast_check_program_forms::{ExportDecl, ExportDefaultDecl};
 use fast_check_ranges::range_of_node;
 use fast_check_signatures::Fault;
 use fast_check_statement_forms::{ClassDecl, ExprStmt};
+use fast_check_statements::links::Asked;
+use fast_check_statements::links::skeleton::{DeclRule, DefaultRule, ItemRule, item_rule};
 use fast_check_syntax::{Part, SourceRange, Tree};
 use std::alloc::{AllocError, Global};
 

@@ -11,11 +11,11 @@ use fast_check_class_forms::Function;
 use fast_check_classes::transform_class;
 use fast_check_classes::values::{leave_expr, transform_fn, transform_implementation};
 use fast_check_expression_forms::{ClassExpr, FnExpr};
-use fast_check_statements::links::Asked;
-use fast_check_statements::links::skeleton::DefaultRule;
 use fast_check_program_forms::{ExportDefaultDecl, ExportDefaultExpr, Ident};
 use fast_check_ranges::range_of_node;
 use fast_check_signatures::{Fault, FaultKind, FunctionKind};
+use fast_check_statements::links::Asked;
+use fast_check_statements::links::skeleton::DefaultRule;
 use fast_check_syntax::{Part, SourceRange, Tree};
 use std::alloc::{AllocError, Global};
 

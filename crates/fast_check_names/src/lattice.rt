@@ -3,6 +3,6 @@
 mod imported_exports;
 mod named_subset;
 
-pub use fast_check_symbols::FileDepName;
 pub use crate::lattice::imported_exports::ImportedExports;
 pub use crate::lattice::named_subset::{Exports, NamedSubset};
+pub use fast_check_symbols::FileDepName;

@@ -12,7 +12,6 @@ ghost use Rattle.fast_check_statements.specs.PartAnswers.{retyped, value_answer,
 ghost use Rattle.fast_check_statements.specs.PartAnswers.{declarator_answer, public_answer, declarators_answer, statement_answer, standing_answer};
 ghost use Rattle.fast_check_statements.specs.PartAnswers.{using_answer};
 
-use fast_check_values::leave_expr;
 use fast_check_helpers::{DeclMutabilityKind, maybe_infer_type, never_value, type_ann};
 use fast_check_links::Asked;
 use fast_check_links::bindings::unresolved_context;
@@ -21,6 +20,7 @@ use fast_check_ranges::range_of_node;
 use fast_check_signatures::{Fault, FaultKind};
 use fast_check_statement_forms::{UsingDecl, VarDecl, VarDeclarator};
 use fast_check_syntax::{Items, Kind, Part, SourceRange, Tree, Word};
+use fast_check_values::leave_expr;
 use std::alloc::{AllocError, Global};
 
 /// Whether what a statement of this kind declares keeps its value.

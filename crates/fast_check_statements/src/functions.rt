@@ -5,12 +5,12 @@ ghost use Rattle.fast_check_links.specs.Asked.{Asked-around};
 ghost use Rattle.fast_check_links.specs.Links.{as_list};
 ghost use Rattle.fast_check_statements.specs.PartAnswers.{signature_answer, function_answer, public_function_answer};
 
-use fast_check_values::{transform_fn, transform_implementation};
 use fast_check_links::Asked;
 use fast_check_program_forms::Ident;
 use fast_check_signatures::{Fault, FunctionKind};
 use fast_check_statement_forms::FnDecl;
 use fast_check_syntax::{Part, SourceRange, Tree};
+use fast_check_values::{transform_fn, transform_implementation};
 use std::alloc::{AllocError, Global};
 
 /// The signature of a public function: of an implementation behind overloads the count of its parameters.

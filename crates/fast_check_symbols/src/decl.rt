@@ -1,7 +1,7 @@
 ghost use Rattle.std.specs.Prelude.{◌≡◌};
 
-use crate::node::SymbolNode;
 use crate::file_dep_name::FileDepName;
+use crate::node::SymbolNode;
 use fast_check_syntax::{Id, SourceRange};
 
 /// What a declaration binds its symbol to.
