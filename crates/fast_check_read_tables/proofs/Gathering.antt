@@ -1,9 +1,8 @@
 -- What is put together of what is read.
-use Rattle.std.proofs.Common.{◌≡◌, ◌∙◌, sym, ap, refl, subst, true, false, List, [], ◌∷◌, ◌++◌, Option, Some, None, option_map, Result, Ok, Err, ℕ}
+use Rattle.std.proofs.Common.{◌≡◌, ◌∙◌, sym, ap, refl, subst, List, [], ◌∷◌, ◌++◌, Option, Some, None, option_map, Result, Ok, Err, ℕ}
 use Rattle.std.proofs.lemmas.List.{append-nil, append_assoc}
-use Rattle.std.specs.Option.{ok_or}
 use Rattle.std.specs.Prelude.{option_and_then}
-use Rattle.std.specs.Result.{IsErr, IsErrAnd}
+use Rattle.std.specs.Result.{IsErrAnd}
 use Rattle.std.specs.Str.{bytes_eq}
 use Rattle.indexmap.specs.IndexMap.{insert_entry}
 use Rattle.serde_json.specs.Data.{Data}
@@ -20,7 +19,7 @@ use Rattle.fast_check_read_tables.specs.Reads.{given, Reads}
 use Rattle.fast_check_read_tables.specs.Gathered.{all_gathered, both_given, both_read}
 use Rattle.fast_check_read_tables.specs.Graph.{Exports, Resolutions, all_exported, all_resolved, resolved_also}
 use Rattle.fast_check_read_tables.specs.Symbols.{all_put}
-use Rattle.fast_check_read_tables.proofs.Given.{given_some, given_none, none_of_err, map_some}
+use Rattle.fast_check_read_tables.proofs.Given.{given_some, given_none, map_some}
 
 -- ---- items one after another
 
@@ -86,19 +85,7 @@ pub reads_passed : {A B : Type 0} (f : B → A) (a : Option A) (r : Result B Rea
 reads_passed f a (Ok x) error passed h = absurd passed
 reads_passed f a (Err e) error passed h = λ bad. h (sym passed ∙ bad)
 
--- as an answer that is missing
-pub reads_missing : {A B C : Type 0} (f : B → A) (a : Option A) (r : Result B ReadError) (b : Option C) (g : C → Option A) (thrown : ReadError)
-    → IsErr r → a ≡ given b g → Err thrown ≡ ok_or b BadForm → Reads f a r
-reads_missing f a (Ok x) b g thrown is e missing = absurd (let no : false ≡ true = is in cc)
-reads_missing f a (Err error) b g thrown is e missing = λ bad. e ∙ given_none g (none_of_err b thrown BadForm missing)
-
 -- ---- several readings
-
-pub given_two : {A B R : Type 0} (a : Option A) (b : Option B) (f : A → B → R)
-    → given a (λ x. option_map (f x) b) ≡ option_map (λ p. f p.0 p.1) (both_given a b)
-given_two None b f = refl
-given_two (Some x) None f = refl
-given_two (Some x) (Some y) f = refl
 
 pub given_four : {A B C D R : Type 0} (a : Option A) (b : Option B) (c : Option C) (d : Option D) (f : A → B → C → D → R)
     → given a (λ x. given b (λ y. given c (λ z. option_map (f x y z) d)))

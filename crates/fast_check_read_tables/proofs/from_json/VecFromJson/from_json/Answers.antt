@@ -8,5 +8,6 @@ use Rattle.fast_check_read_tables.proofs.from_json.VecFromJson.from_json.Goals a
 pub returns : goal.returns
 returns g c =
     let items = list_of g.T.FromJson.read_of (view c.args.value.now) in
-    reads_as _ _ _ _ (sym (ap (λ empty. option_map (all_gathered (λ xs x. xs ++ x ∷ []) (map g.T.FromJson.seen empty)) items) c.new.ensures.items ∙ all_items items))
+    reads_as _ _ _ _ (sym
+    (ap (λ empty. option_map (all_gathered (λ xs x. xs ++ x ∷ []) (map g.T.FromJson.seen empty)) items) c.new.ensures.items ∙ all_items items))
     c.gather_all.ensures

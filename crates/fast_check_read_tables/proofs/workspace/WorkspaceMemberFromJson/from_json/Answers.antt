@@ -25,7 +25,8 @@ returns-in_err-base c =
     let exports = reads_as _ _ _ _ (ap (or_default [] package_exports_of) (sym c.get.ensures)) c.read_package_exports.ensures in
     let rest = both_reads _ _ _ _ _ _ _ c.both-rest.ensures c.read_option.ensures exports in
     let none = both_reads _ _ _ _ _ _ _ c.in_err-base.ensures names rest in
-    reads_passed _ _ _ c.in_err-base.field-0.0 c.from_residual.ensures.1 (λ bad. given_four (needed url_of (codes "base") value) (needed as_str (codes "name") value) (optional version_text_of (codes "version") value)
+    reads_passed _ _ _ c.in_err-base.field-0.0 c.from_residual.ensures.1 (λ bad.
+    given_four (needed url_of (codes "base") value) (needed as_str (codes "name") value) (optional version_text_of (codes "version") value)
     (or_default [] package_exports_of (get (codes "exports") value)) made
     ∙ ap (option_map _) (none bad))
 
