@@ -1,14 +1,14 @@
 -- What is read with what is there.
-use Rattle.std.proofs.Common.{◌≡◌, ◌∙◌, true, false, List, [], ◌∷◌, Option, Some, None, option_map, Result, Ok, Err, ap, refl, map}
+use Rattle.std.proofs.Common.{◌≡◌, ◌∙◌, true, false, List, [], ◌∷◌, Option, Some, None, option_map, Result, Ok, Err, ap, refl, map, length, ◌<◌, ◌≤◌, arith}
 use Rattle.std.proofs.Common.{String, BTreeMap, Global}
 use Rattle.std.specs.Option.{ok_or}
 use Rattle.std.specs.Result.{IsErr}
 use Rattle.serde_json.specs.Find.{as_object}
-use Rattle.serde_json.specs.View.{view, members_view}
+use Rattle.serde_json.specs.View.{view, items_view, members_view}
 use Rattle.serde_json.specs.declared.value.Value.{Value, Object}
 use Rattle.serde_json.proofs.Views.{view-Object}
 use Rattle.fast_check_read.specs.declared.error.ReadError.{ReadError}
-use Rattle.fast_check_read_tables.specs.Reads.{given, Reads}
+use Rattle.fast_check_read_tables.specs.Reads.{given, only_three, Reads}
 
 pub given_some : {A B : Type 0} {a : Option A} {x : A} (f : A → Option B) → a ≡ Some x → given a f ≡ f x
 given_some f e = ap (λ o. given o f) e
@@ -46,3 +46,17 @@ reads_none seen expected (Err error) none err = λ _. none
 -- an object has members
 pub members_there : (v : Value) (m : BTreeMap (String Global) Value) → v ≡ Object m → as_object (view v) ≡ Some (members_view m.entries)
 members_there v m e = ap (λ w. as_object (view w)) e ∙ ap as_object (view-Object m)
+
+-- few values are not three, and neither are many
+pub few : (values : List Value) → length values < 3 → only_three (items_view values) ≡ None
+few [] less = refl
+few (a ∷ []) less = refl
+few (a ∷ b ∷ []) less = refl
+few (a ∷ b ∷ c ∷ more) less = absurd (omega arith)
+
+pub many : (values : List Value) → 4 ≤ length values → only_three (items_view values) ≡ None
+many [] less = absurd (omega arith)
+many (a ∷ []) less = absurd (omega arith)
+many (a ∷ b ∷ []) less = absurd (omega arith)
+many (a ∷ b ∷ c ∷ []) less = absurd (omega arith)
+many (a ∷ b ∷ c ∷ d ∷ more) less = refl

@@ -119,6 +119,10 @@ module _ (referrer url : Parts) (text : String Global) (m out n : BTreeMap Parts
   put_resolved = λ i bs u.
       (ap (λ (o : Option Texts_of). option_and_then (text_resolved bs) o) (found u) ∙ resolved bs u (is_specifier u referrer) refl) i
 
+-- no texts
+pub no_texts : (m : BTreeMap Parts Texts_of) → m.entries ≡ [] → seen_resolutions m ≡ seen.no_resolutions
+no_texts m e = λ i text referrer. option_and_then (text_resolved text) (lookup (is_specifier referrer) (e i))
+
 -- ---- graphs
 
 -- what holds of an `Ok` that is there

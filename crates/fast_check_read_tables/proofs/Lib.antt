@@ -1,3 +1,4 @@
+mod Gathering
 pub mod Given
 mod Graphs
 mod Parted

@@ -1,3 +1,4 @@
+pub mod Gathered
 pub mod Graph
 pub mod Modules
 pub mod Reads

@@ -5,6 +5,7 @@ ghost use Rattle.serde_json.specs.Find.{as_array, as_str};
 ghost use Rattle.serde_json.specs.View.{view};
 ghost use Rattle.fast_check_read_tables.specs.Reads.{Reads, given, list_of, both_of, only_three, three_of, or_null};
 
+use crate::gather::{both, gather_all};
 use fast_check_read::{ReadError, read_array, read_pair, read_text};
 use serde_json::Value;
 use std::alloc::Global;
@@ -33,11 +34,7 @@ impl<T: FromJson> FromJson for Vec<T> {
     ghost read_of = { list_of T.read_of };
 
     fn from_json(alloc: Global, value: &Value) -> Result<Vec<T>, ReadError> {
-        let mut items = Vec::new(alloc);
-        for item in read_array(value)? {
-            items.push(T::from_json(alloc, item)?)?;
-        }
-        Ok(items)
+        gather_all(alloc, value, Vec::new(alloc))
     }
 }
 
@@ -51,8 +48,7 @@ impl<A: FromJson, B: FromJson> FromJson for (A, B) {
 
     fn from_json(alloc: Global, value: &Value) -> Result<(A, B), ReadError> {
         let (first, second) = read_pair(value)?;
-        let first = A::from_json(alloc, first)?;
-        Ok((first, B::from_json(alloc, second)?))
+        both(A::from_json(alloc, first), B::from_json(alloc, second))
     }
 }
 
@@ -66,9 +62,9 @@ impl<A: FromJson, B: FromJson, C: FromJson> FromJson for (A, B, C) {
 
     fn from_json(alloc: Global, value: &Value) -> Result<(A, B, C), ReadError> {
         let (first, second, third) = read_three(value)?;
-        let first = A::from_json(alloc, first)?;
-        let second = B::from_json(alloc, second)?;
-        Ok((first, second, C::from_json(alloc, third)?))
+        let first_two = both(A::from_json(alloc, first), B::from_json(alloc, second));
+        let ((first, second), third) = both(first_two, C::from_json(alloc, third))?;
+        Ok((first, second, third))
     }
 }
 
@@ -77,9 +73,8 @@ fn read_three(value: &Value) -> Result<(&Value, &Value, &Value), ReadError>
     ensures items { option_map (λ t. (view t.0.now, view t.1.now, view t.2.now)) (result_ok result) ≡ given (as_array (view value.now)) only_three }
     ensures err { IfErr result (λ error. error ≡ ReadError.BadForm) }
 {
-    let mut items = read_array(value)?.iter();
-    match (items.next(), items.next(), items.next(), items.next()) {
-        (Some(first), Some(second), Some(third), None) => Ok((first, second, third)),
+    match read_array(value)?.as_slice() {
+        [first, second, third] => Ok((first, second, third)),
         _ => Err(ReadError::BadForm),
     }
 }

@@ -1,6 +1,6 @@
 //! The graph of modules.
 
-ghost use Rattle.std.specs.Prelude.{◌≡◌, [], OnOk, IfOk, string_bytes, option_map};
+ghost use Rattle.std.specs.Prelude.{◌≡◌, [], IfOk, option_map};
 ghost use Rattle.std.specs.Str.{bytes_eq};
 ghost use Rattle.indexmap.specs.IndexMap.{insert_entry};
 ghost use Rattle.semver.specs.Identifiers.{parts_of};
@@ -11,10 +11,11 @@ ghost use Rattle.fast_check_read_tables.specs.Reads.{Reads, or_default};
 ghost use Rattle.fast_check_read_tables.specs.Graph as graph;
 
 use crate::from_json::FromJson;
+use crate::gather::{Gather, gather_all};
 use crate::members::{read_list, read_option};
 use fast_check_graph::ModuleGraph;
 use fast_check_packages::PackageNv;
-use fast_check_read::{ReadError, read_array, read_members, read_text};
+use fast_check_read::{ReadError, read_members, read_text};
 use fast_check_symbols::map_of;
 use indexmap::IndexMap;
 use semver::{Error, Version};
@@ -67,17 +68,27 @@ impl FromJson for PackageNv {
     }
 }
 
-/// Puts the text of a name: a new name goes last, and one that is there keeps its place.
-fn put_export(
-    exports: &mut IndexMap<String, String>,
-    name: String,
-    text: String,
-) -> Result<(), AllocError>
-    ensures { OnOk result (graph.seen_exports exports.new.entries
-        ≡ insert_entry bytes_eq (graph.seen_exports exports.old.entries) (string_bytes name) (string_bytes text)) }
-{
-    exports.insert(name, text)?;
-    Ok(())
+/// Export texts by their names: a new name goes last, and one that is there keeps its place.
+impl Gather for IndexMap<String, String> {
+    ghost use Rattle.std.specs.Prelude.{List, ℕ};
+    ghost use Rattle.serde_json.specs.Find.{as_str};
+    ghost use Rattle.fast_check_read_tables.specs.Reads.{both_of};
+
+    ghost Gathered = { graph.Exports };
+
+    ghost Item = { List ℕ × List ℕ };
+
+    ghost gathered = { λ exports. graph.seen_exports exports.entries };
+
+    ghost with = { λ exports item. insert_entry bytes_eq exports item.0 item.1 };
+
+    ghost item_of = { both_of as_str as_str };
+
+    fn gather(&mut self, alloc: Global, value: &Value) -> Result<(), ReadError> {
+        let (name, text) = FromJson::from_json(alloc, value)?;
+        self.insert(name, text)?;
+        Ok(())
+    }
 }
 
 /// An array of export names with their export texts. Of entries with one name the last counts.
@@ -89,12 +100,7 @@ impl FromJson for IndexMap<String, String> {
     ghost read_of = { graph.package_exports_of };
 
     fn from_json(alloc: Global, value: &Value) -> Result<IndexMap<String, String>, ReadError> {
-        let mut exports = IndexMap::new(alloc);
-        for item in read_array(value)? {
-            let (name, text): (String, String) = FromJson::from_json(alloc, item)?;
-            put_export(&mut exports, name, text)?;
-        }
-        Ok(exports)
+        gather_all(alloc, value, IndexMap::new(alloc))
     }
 }
 
@@ -115,22 +121,31 @@ pub fn read_package_exports(
 /// What the texts in each module resolve to.
 type Resolutions = BTreeMap<Url, BTreeMap<String, Url>>;
 
-/// Puts what a text in a module resolves to.
-fn put_resolution(
-    alloc: Global,
-    resolutions: &mut Resolutions,
-    referrer: Url,
-    text: String,
-    url: Url,
-) -> Result<(), AllocError>
-    ensures { OnOk result (graph.seen_resolutions resolutions.new
-        ≡ graph.resolved_also (referrer, string_bytes text, url) (graph.seen_resolutions resolutions.old)) }
-{
-    let texts = resolutions.remove(&referrer);
-    let mut texts = texts.unwrap_or(BTreeMap::new(alloc));
-    texts.insert(text, url)?;
-    resolutions.insert(referrer, texts)?;
-    Ok(())
+/// What a text in a module resolves to, by module and text.
+impl Gather for BTreeMap<Url, BTreeMap<String, Url>> {
+    ghost use Rattle.std.specs.Prelude.{List, ℕ};
+    ghost use Rattle.serde_json.specs.Find.{as_str};
+    ghost use Rattle.url.specs.Parts.{Parts};
+    ghost use Rattle.fast_check_read_tables.specs.Reads.{three_of, url_of};
+
+    ghost Gathered = { graph.Resolutions };
+
+    ghost Item = { Parts × List ℕ × Parts };
+
+    ghost gathered = { graph.seen_resolutions };
+
+    ghost with = { λ resolutions item. graph.resolved_also item resolutions };
+
+    ghost item_of = { three_of url_of as_str url_of };
+
+    fn gather(&mut self, alloc: Global, value: &Value) -> Result<(), ReadError> {
+        let (referrer, text, url) = FromJson::from_json(alloc, value)?;
+        let texts = self.remove(&referrer);
+        let mut texts = texts.unwrap_or(BTreeMap::new(alloc));
+        texts.insert(text, url)?;
+        self.insert(referrer, texts)?;
+        Ok(())
+    }
 }
 
 /// An array of arrays of three: the module in which a text stands, the text, and what it resolves to. Of entries with one module and one text the
@@ -143,12 +158,7 @@ impl FromJson for BTreeMap<Url, BTreeMap<String, Url>> {
     ghost read_of = { graph.resolutions_of };
 
     fn from_json(alloc: Global, value: &Value) -> Result<Resolutions, ReadError> {
-        let mut resolutions = BTreeMap::new(alloc);
-        for item in read_array(value)? {
-            let (referrer, text, url): (Url, String, Url) = FromJson::from_json(alloc, item)?;
-            put_resolution(alloc, &mut resolutions, referrer, text, url)?;
-        }
-        Ok(resolutions)
+        gather_all(alloc, value, BTreeMap::new(alloc))
     }
 }
 

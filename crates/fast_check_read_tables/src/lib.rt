@@ -2,6 +2,7 @@
 #![tactic(auto)]
 
 mod from_json;
+mod gather;
 mod graph;
 mod members;
 mod modules;

@@ -7,8 +7,9 @@ ghost use Rattle.fast_check_read_tables.specs.Seen as seen;
 ghost use Rattle.fast_check_read_tables.specs.Symbols as symbols;
 
 use crate::from_json::FromJson;
+use crate::gather::{Gather, both, gather_all};
 use crate::members::{read_flag, read_list, read_member, read_option, read_span, read_variant};
-use fast_check_read::{ReadError, read_array, read_members, read_text};
+use fast_check_read::{ReadError, read_members, read_text};
 use fast_check_symbols::{
     FileDepName, ReferenceNamespace, Symbol, SymbolDecl, SymbolDeclKind, SymbolDep, SymbolExports,
     SymbolId, SymbolNode, SymbolNodeDep,
@@ -176,6 +177,28 @@ impl FromJson for SymbolDecl {
     }
 }
 
+impl Gather for SymbolExports {
+    ghost use Rattle.std.specs.Prelude.{List, ℕ};
+    ghost use Rattle.fast_check_symbols.specs.declared.symbol_id.SymbolId.{SymbolId};
+    ghost use Rattle.fast_check_symbols.specs.Exports.{put_export};
+
+    ghost Gathered = { List (List ℕ × SymbolId) };
+
+    ghost Item = { List ℕ × SymbolId };
+
+    ghost gathered = { λ exports. exports };
+
+    ghost with = { λ exports item. put_export item.0 item.1 exports };
+
+    ghost item_of = { symbols.export_of };
+
+    fn gather(&mut self, alloc: Global, value: &Value) -> Result<(), ReadError> {
+        let (name, id) = FromJson::from_json(alloc, value)?;
+        self.put(name, id)?;
+        Ok(())
+    }
+}
+
 /// An array of names with the symbols that they stand for. Of entries with one name the last counts.
 impl FromJson for SymbolExports {
     ghost use Rattle.std.specs.Prelude.{List, ℕ};
@@ -188,12 +211,7 @@ impl FromJson for SymbolExports {
     ghost read_of = { symbols.exports_of };
 
     fn from_json(alloc: Global, value: &Value) -> Result<SymbolExports, ReadError> {
-        let mut exports = SymbolExports::new(alloc);
-        for item in read_array(value)? {
-            let (name, id): (String, SymbolId) = FromJson::from_json(alloc, item)?;
-            exports.put(name, id)?;
-        }
-        Ok(exports)
+        gather_all(alloc, value, SymbolExports::new(alloc))
     }
 }
 
@@ -216,15 +234,29 @@ impl FromJson for Symbol {
     ghost read_of = { symbols.symbol_of };
 
     fn from_json(alloc: Global, value: &Value) -> Result<Symbol, ReadError> {
+        let id = read_member(alloc, value, "id")?;
+        let parent_id = read_option(alloc, value, "parent_id")?;
+        let is_private_member = read_flag(value, "is_private_member")?;
+        let names = both(
+            read_option(alloc, value, "maybe_name"),
+            read_option(alloc, value, "qualified_name"),
+        );
+        let exports = read_exports(alloc, value.get("exports"));
+        let lists = both(
+            read_list(alloc, value, "members"),
+            read_list(alloc, value, "decls"),
+        );
+        let (names, (exports, (members, decls))) = both(names, both(exports, lists))?;
+        let (maybe_name, qualified_name) = names;
         Ok(Symbol {
-            id: read_member(alloc, value, "id")?,
-            parent_id: read_option(alloc, value, "parent_id")?,
-            is_private_member: read_flag(value, "is_private_member")?,
-            maybe_name: read_option(alloc, value, "maybe_name")?,
-            qualified_name: read_option(alloc, value, "qualified_name")?,
-            exports: read_exports(alloc, value.get("exports"))?,
-            members: read_list(alloc, value, "members")?,
-            decls: read_list(alloc, value, "decls")?,
+            id,
+            parent_id,
+            is_private_member,
+            maybe_name,
+            qualified_name,
+            exports,
+            members,
+            decls,
         })
     }
 }

@@ -9,6 +9,7 @@ ghost use Rattle.fast_check_read_tables.specs.Symbols.{symbol_of};
 ghost use Rattle.fast_check_read_tables.specs.Tables as tables;
 
 use crate::from_json::FromJson;
+use crate::gather::both;
 use crate::members::read_list;
 use fast_check_modules::{ModuleTables, ReExportAllNode};
 use fast_check_read::{ReadError, read_members};
@@ -78,11 +79,20 @@ pub fn read_module_tables(alloc: Global, value: &Value) -> Result<ModuleTables, 
 {
     read_members(value)?;
     let module_symbol = read_module_symbol(alloc, value)?;
+    let names = both(
+        read_symbols(alloc, value, module_symbol),
+        read_list(alloc, value, "swc_ids"),
+    );
+    let exports = both(
+        read_list(alloc, value, "re_export_all_nodes"),
+        read_list(alloc, value, "resolved_exports"),
+    );
+    let ((symbols, swc_ids), (re_export_all_nodes, resolved_exports)) = both(names, exports)?;
     Ok(ModuleTables {
-        symbols: read_symbols(alloc, value, module_symbol)?,
+        symbols,
         module_symbol,
-        swc_ids: read_list(alloc, value, "swc_ids")?,
-        re_export_all_nodes: read_list(alloc, value, "re_export_all_nodes")?,
-        resolved_exports: read_list(alloc, value, "resolved_exports")?,
+        swc_ids,
+        re_export_all_nodes,
+        resolved_exports,
     })
 }

@@ -3,6 +3,7 @@
 ghost use Rattle.fast_check_read_tables.specs.Workspace as workspace;
 
 use crate::from_json::FromJson;
+use crate::gather::both;
 use crate::graph::read_package_exports;
 use crate::members::{read_member, read_option};
 use fast_check_packages::WorkspaceMember;
@@ -19,11 +20,20 @@ impl FromJson for WorkspaceMember {
     ghost read_of = { workspace.workspace_member_of };
 
     fn from_json(alloc: Global, value: &Value) -> Result<WorkspaceMember, ReadError> {
+        let names = both(
+            read_member(alloc, value, "base"),
+            read_member(alloc, value, "name"),
+        );
+        let rest = both(
+            read_option(alloc, value, "version"),
+            read_package_exports(alloc, value.get("exports")),
+        );
+        let ((base, name), (version, exports)) = both(names, rest)?;
         Ok(WorkspaceMember {
-            base: read_member(alloc, value, "base")?,
-            name: read_member(alloc, value, "name")?,
-            version: read_option(alloc, value, "version")?,
-            exports: read_package_exports(alloc, value.get("exports"))?,
+            base,
+            name,
+            version,
+            exports,
         })
     }
 }

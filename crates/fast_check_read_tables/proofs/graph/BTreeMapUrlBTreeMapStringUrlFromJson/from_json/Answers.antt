@@ -1,21 +1,12 @@
-use Rattle.std.proofs.Common.{◌∙◌, ap, sym, option_map, List, arith}
-use Rattle.std.proofs.lemmas.List.{at_drop_all}
 use Rattle.serde_json.specs.Find.{as_str}
-use Rattle.serde_json.specs.View.{view, items_view}
-use Rattle.serde_json.specs.declared.value.Value.{Value}
-use Rattle.serde_json.proofs.Views.{view-Array}
-use Rattle.fast_check_read.specs.Each.{each}
-use Rattle.fast_check_read.specs.Pieces.{items_list}
-use Rattle.fast_check_read_tables.specs.Reads.{three_of, url_of}
-use Rattle.fast_check_read_tables.specs.Graph.{resolutions_of, all_resolved, no_resolutions, seen_resolutions}
+use Rattle.serde_json.specs.View.{view}
+use Rattle.fast_check_read_tables.specs.Graph.{all_resolved, no_resolutions, resolved_also, seen_resolutions}
+use Rattle.fast_check_read_tables.specs.Reads.{list_of, three_of, url_of}
+use Rattle.fast_check_read_tables.proofs.Gathering.{gathered_as, resolutions_gathered, reads_as}
+use Rattle.fast_check_read_tables.proofs.Graphs.{no_texts}
 use Rattle.fast_check_read_tables.proofs.graph.BTreeMapUrlBTreeMapStringUrlFromJson.from_json.Goals as goal
 
 pub returns : goal.returns
 returns c =
-    let items = c.in_ok-read_array.field-0.now in
-    let all = λ (xs : List Value). option_map (all_resolved no_resolutions) (each (three_of url_of as_str url_of) (items_list (items_view xs))) in
-    let rest = λ (xs : List Value).
-    option_map (all_resolved (seen_resolutions c.loop-item.resolutions)) (each (three_of url_of as_str url_of) (items_list (items_view xs))) in
-    ap resolutions_of (ap view c.in_ok-read_array.ensures.ok ∙ view-Array items)
-    ∙ (ap all (sym c.deref-item-items.ensures.value)
-    ∙ (c.loop-item.invariant ∙ at_drop_all rest c.deref-item-items.result.now c.loop-item.item-index (omega arith)))
+    reads_as _ _ _ _ (gathered_as (λ resolutions e. resolved_also e resolutions) all_resolved no_resolutions (seen_resolutions c.new.result)
+    (list_of (three_of url_of as_str url_of) (view c.args.value.now)) resolutions_gathered (no_texts c.new.result c.new.ensures.empty)) c.gather_all.ensures
