@@ -11,6 +11,7 @@ use crate::calls::{Given, write_answer};
 use crate::forms::given_form;
 use crate::modules::read_module;
 use fast_check_helpers::DeclMutabilityKind;
+use fast_check_modules::EsModuleInfo;
 use fast_check_read::{ReadError, read_optional_flag, read_range, read_text, read_tree};
 use fast_check_syntax::SourceRange;
 use json::Writer;
@@ -59,10 +60,22 @@ fn write_case(alloc: Global, case: &Value, out: &mut Writer) -> Result<(), ReadE
     let name = read_text(member(case, "case")?)?;
     let call = read_text(member(case, "call")?)?;
     let module = read_module(alloc, case)?;
+    write_case_in(alloc, case, &module, name, call, out)
+}
+
+/// The same, in a module.
+fn write_case_in(
+    alloc: Global,
+    case: &Value,
+    info: &EsModuleInfo,
+    name: &str,
+    call: &str,
+    out: &mut Writer,
+) -> Result<(), ReadError> {
     let given = Given {
         mutability: mutability(read_optional_flag(case.get("const"))?),
         place: place(case)?,
-        info: &module,
+        info,
     };
     begin_case(name, out)?;
     let tree = read_tree(alloc, member(case, "tree")?, given_form(call))?;

@@ -1,8 +1,9 @@
 //! Calls of a transformer, and what is told of them.
-use fast_check_modules::EsModuleInfo;
+use fast_check_graph::ModuleGraph;
+use fast_check_modules::{EsModuleInfo, TableFault};
 use fast_check_requests::{EsModuleParts, Refusal, TransformRequest};
 use fast_check_said::Said;
-use fast_check_tables::{Diagnostic, FastCheckDiagnostic};
+use fast_check_tables::{Diagnostic, FastCheckDiagnostic, ModulePublicRanges};
 use fast_check_transform::FastCheckTransformer;
 use std::alloc::{AllocError, Global};
 
@@ -35,6 +36,44 @@ fn tell_call(
     Ok(())
 }
 
+/// Makes two calls.
+fn tell_two(
+    alloc: Global,
+    mut transformer: FastCheckTransformer<'_>,
+    said: &mut Said,
+) -> Result<(), AllocError> {
+    tell_call(alloc, &mut transformer, said)?;
+    tell_call(alloc, &mut transformer, said)
+}
+
+/// Makes the calls for a module.
+fn tell_info(
+    alloc: Global,
+    graph: &ModuleGraph,
+    info: &EsModuleInfo,
+    public_ranges: &ModulePublicRanges,
+    said: &mut Said,
+) -> Result<(), Refusal> {
+    if !info.admits(public_ranges) {
+        return Err(Refusal::RangesNotAdmitted);
+    }
+    said.tell("  all\n");
+    let all = FastCheckTransformer::new(alloc, graph, info, public_ranges, false);
+    tell_two(alloc, all, said)?;
+    said.tell("  the first alone\n");
+    let first_alone = FastCheckTransformer::new(alloc, graph, info, public_ranges, true);
+    Ok(tell_two(alloc, first_alone, said)?)
+}
+
+fn info_of(alloc: Global, parts: EsModuleParts) -> Result<EsModuleInfo, TableFault> {
+    let EsModuleParts {
+        specifier,
+        source,
+        tables,
+    } = parts;
+    EsModuleInfo::new(alloc, specifier, source, tables)
+}
+
 /// Makes two calls without the option, and two with it.
 pub fn tell_calls(
     alloc: Global,
@@ -47,30 +86,8 @@ pub fn tell_calls(
         public_ranges,
         ..
     } = request;
-    let EsModuleParts {
-        specifier,
-        source,
-        tables,
-    } = es_module;
-    let info = EsModuleInfo::new(alloc, specifier, source, tables)?;
-    if !info.admits(&public_ranges) {
-        return Err(Refusal::RangesNotAdmitted);
+    match info_of(alloc, es_module) {
+        Ok(info) => tell_info(alloc, &graph, &info, &public_ranges, said),
+        Err(fault) => Err(fault.into()),
     }
-    for first_alone in [false, true] {
-        said.tell(if first_alone {
-            "  the first alone\n"
-        } else {
-            "  all\n"
-        });
-        let mut transformer = FastCheckTransformer::new(
-            alloc,
-            &graph,
-            &info,
-            &public_ranges,
-            first_alone,
-        );
-        tell_call(alloc, &mut transformer, said)?;
-        tell_call(alloc, &mut transformer, said)?;
-    }
-    Ok(())
 }
