@@ -1,6 +1,6 @@
 -- What a loop adds: what all give is what the rest gives, behind what was given so far.
 use Rattle.std.specs.Prelude.{◌≡◌, Option, Some, None, List, [], ◌∷◌, ◌++◌, refl, option_map}
-use Rattle.std.proofs.Common.{ap, ◌∙◌, sym, append-nil, append_assoc}
+use Rattle.std.proofs.Common.{ap, ◌∙◌, sym, subst, append-nil, append_assoc}
 use Rattle.fast_check_syntax.specs.declared.tree.Tree.{Tree}
 use Rattle.fast_check_signatures.specs.declared.fault.Fault.{Fault}
 use Rattle.fast_check_signatures.specs.Answers.{Answer, Adds, faultless, joined, visited, with_tree}
@@ -89,6 +89,10 @@ pub items_step : (items : List Tree) (t : Tree) {all : Answer (List Tree)} (a : 
     Behind (λ ts. items ++ ts) all (joined with_tree a rest) old mid → Adds a (Some t) mid new → Behind (λ ts. (items ++ t ∷ []) ++ ts) all rest old new
 items_step items t a rest h g = steps (joined with_tree a rest) g.added h (ap (λ x. x.faults ++ rest.faults) g.is)
     (ap (λ x. items ++ with_tree x.stays rest.stays) g.is ∙ sym (append_assoc items (t ∷ []) rest.stays)) g.faults
+
+pub trees_are : {items more : List Tree} {all rest : Answer (List Tree)} {old new : List Fault} → items ≡ more →
+    Behind (λ ts. items ++ ts) all rest old new → Behind (λ ts. more ++ ts) all rest old new
+trees_are {all = all} {rest = rest} {old = old} {new = new} e h = subst (λ items. Behind (λ ts. items ++ ts) all rest old new) e h
 
 pub items_end : (items : List Tree) {all : Answer (List Tree)} {old new : List Fault} → Behind (λ ts. items ++ ts) all (faultless []) old new →
     Adds all items old new

@@ -23,15 +23,15 @@ use Rattle.fast_check_signatures.specs.declared.fault.FaultKind.TheVariants.{Uns
 use Rattle.fast_check_signatures.specs.Answers.{fault_at, answer_to, answer_of, parts_answer, demanded, faultless, signed_function}
 use Rattle.fast_check_signatures.specs.Expressions.{is_plain, is_compound, expr_seen, slot_seen}
 use Rattle.fast_check_signatures.specs.Functions.{or_own, return_type_missing, function_head, function_seen}
-use Rattle.fast_check_signatures.specs.Parameters.{typed, emptied_array, emptied_object, without_default, default_seen, pats_seen}
+use Rattle.fast_check_signatures.specs.Parameters.{typed, emptied_array, emptied_object, without_default, default_seen, pat_seen, pats_seen}
 use Rattle.fast_check_signatures.proofs.Adding.{adds_same, adds_nothing, adds_made, adds_joined, adds_settled}
 use Rattle.fast_check_new_nodes.specs.Shown.{default_type}
 use Rattle.fast_check_values.specs.Looked.{known_type, known_answer, params_looked}
-use Rattle.fast_check_values.proofs.Behind.{behind_along, items_are, adds_given, parts_step, parts_refused}
+use Rattle.fast_check_values.proofs.Behind.{behind_along, items_are, trees_are, adds_given, parts_step, parts_refused, items_step}
 use Rattle.fast_check_values.proofs.Heights.{height_less}
 use Rattle.fast_check_values.proofs.Looked.{seen_left_out, seen_untyped_array, seen_typed_array, seen_untyped_object, seen_typed_object, none_of}
 use Rattle.fast_check_values.proofs.Looked.{not_leaf, not_arrow, seen_parted, seen_whole, seen_arrow, seen_slotted, seen_refused, seen_known}
-use Rattle.fast_check_values.proofs.Looked.{next_part, next_slot, seen_by_kind, other_pat, other_left, slot_is}
+use Rattle.fast_check_values.proofs.Looked.{next_part, next_slot, next_pat, seen_by_kind, other_pat, other_left, slot_is}
 use Rattle.fast_check_values.proofs.Arrows.{arrow_known, arrow_valued}
 use Rattle.fast_check_values.proofs.+leave.Goals as goal
 
@@ -224,7 +224,17 @@ parameters::transform_assign_pat-returns-in_default t c =
     c.unsupported.ensures
 
 pub parameters::transform_pats-loop-index-preserved : goal.parameters::transform_pats-loop-index-preserved
-parameters::transform_pats-loop-index-preserved t c = grind (arith, common_steps)
+parameters::transform_pats-loop-index-preserved t c =
+    let u = bindings_of c.args.info.now in
+    let pats = c.parts-pats.result.now in
+    let i = c.loop-index.index in
+    let d = c.index-pats-index.result in
+    let within : i < length pats = c.loop-index-test.true in
+    let optional = c.is_optional_at_index-is_optional.ensures ∙ c.start_of_patterns-start.ensures i within in
+    let pat = c.read.ensures ∙ c.index-pats-index.is in
+    trees_are (sym c.in_ok-push.ensures.ok) (items_step c.loop-index.items c.in_ok-transform_param_pat.field-0 _ _
+    (behind_along (next_pat u pats i d within) c.loop-index.invariant)
+    (adds_same (λ j. answer_to (pat_seen u (expr_seen u) (sym optional j) (sym pat j))) c.in_ok-transform_param_pat.ensures))
 
 pub parameters::transform_params-loop-index-preserved : goal.parameters::transform_params-loop-index-preserved
 parameters::transform_params-loop-index-preserved t c = grind (arith, common_steps)
