@@ -3,7 +3,14 @@ use Rattle.std.specs.Prelude.{◌≡◌, Option, Some, None, List, [], ◌∷◌
 use Rattle.std.proofs.Common.{ap, ◌∙◌, sym, subst, append-nil, append_assoc}
 use Rattle.fast_check_syntax.specs.declared.tree.Tree.{Tree}
 use Rattle.fast_check_signatures.specs.declared.fault.Fault.{Fault}
-use Rattle.fast_check_signatures.specs.Answers.{Answer, Adds, faultless, joined, visited, with_tree}
+use Rattle.fast_check_syntax.specs.declared.kind.Kind.TheVariants as kinds
+use Rattle.fast_check_syntax.specs.declared.tree.Tree as tree
+use Rattle.fast_check_syntax.specs.Shape.{node, list}
+use Rattle.fast_check_class_forms.specs.Functions.{Param-span, param}
+use Rattle.fast_check_signatures.specs.Seen.{Seen}
+use Rattle.fast_check_signatures.specs.Functions.{param_seen}
+use Rattle.fast_check_signatures.specs.Answers.{Answer, Adds, answer_to, faultless, joined, visited, with_tree}
+use Rattle.fast_check_signatures.proofs.Adding.{adds_made, adds_nothing, adds_visited}
 
 pub record Behind {A : Type 0} (put : A → A) (all rest : Answer A) (old new : List Fault) : Type 0 where
   pub added : List Fault
@@ -101,3 +108,14 @@ items_end items h = record {
   is = h.is ∙ (λ i. record { stays = append-nil items i; faults = append-nil h.added i });
   faults = h.faults;
 }
+
+-- ---- a parameter, by its pattern
+
+abbrev pub with_pat : Tree → Tree → Tree
+with_pat p pat = param (Param-span p) (list []) pat
+
+pub param_added : (p : Tree) (s : Seen) {t : Tree} {old new : List Fault} → Adds (answer_to s) (Some t) old new →
+    Adds (answer_to (param_seen p s)) (Some (with_pat p t)) old new
+param_added p s {old = old} {new = new} h =
+    adds_made (option_map (node kinds.Param)) (adds_visited (adds_nothing (Some (tree.Range (Param-span p))) old)
+    (adds_visited (adds_nothing (Some (list [])) old) (adds_visited h (adds_nothing (Some []) new))))

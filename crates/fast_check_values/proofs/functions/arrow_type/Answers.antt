@@ -43,7 +43,8 @@ returns-in_ok-type_ann-in-Some c =
 pub returns-in-None : goal.returns-in-None
 returns-in-None c =
     let of = c.of-arrow.ensures in
-    let shown = (λ i. inferred_type Mutable (sym c.unresolved_context-unresolved.ensures i) (sym of.body i)) ∙ (sym c.in_ok-ty.ensures.inferred ∙ c.in-None.is) in
+    let scope = c.unresolved_context-unresolved.ensures in
+    let shown = (λ i. inferred_type Mutable (sym scope i) (sym of.body i)) ∙ (sym c.in_ok-ty.ensures.inferred ∙ c.in-None.is) in
     type_unknown (bindings_of c.args.info.now).unresolved c.args.place (seen c.args.arrow)
     (ap is_absent (sym of.return_type) ∙ (sym c.is_absent.ensures ∙ c.if-not-is_absent.false))
     (ap (λ k. k is kinds.BlockStmt) (sym (c.kind.ensures ∙ ap kind_of of.body)) ∙ (sym c.eq.ensures ∙ c.if-eq.false)) shown
