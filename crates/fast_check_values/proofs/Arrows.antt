@@ -3,6 +3,7 @@ use Rattle.std.specs.Prelude.{◌≡◌, Bool, true, false, Option, Some, None, 
 use Rattle.std.proofs.Common.{ap, ◌∙◌, sym, subst, append-nil}
 use Rattle.fast_check_syntax.specs.declared.kind.Kind.TheVariants as kinds
 use Rattle.fast_check_syntax.specs.declared.source.SourceRange.{SourceRange}
+use Rattle.fast_check_syntax.specs.declared.source.SyntaxContext.{SyntaxContext}
 use Rattle.fast_check_syntax.specs.declared.tree.Tree.{Tree, Absent}
 use Rattle.fast_check_syntax.specs.Shape.{◌is◌, kind_of, parts, is_absent}
 use Rattle.fast_check_expression_forms.specs.Expressions.{ArrowExpr-span, ArrowExpr-params, ArrowExpr-body, ArrowExpr-is_async, ArrowExpr-return_type}
@@ -19,8 +20,8 @@ use Rattle.fast_check_signatures.specs.Parameters.{pats_seen}
 use Rattle.fast_check_signatures.specs.Functions.{return_type_missing, class_seen, or_own, arrow_head, typed_arrow_seen, valued_arrow_seen, by_value}
 use Rattle.fast_check_signatures.specs.Functions.{arrow_seen}
 use Rattle.fast_check_signatures.specs.Expressions.{expr_seen}
-use Rattle.fast_check_signatures.specs.Answers.{Adds, fault_at, answer_to, answer_of, demanded, settled, signed_arrow, kept_arrow}
-use Rattle.fast_check_signatures.proofs.Adding.{adds_same, adds_joined}
+use Rattle.fast_check_signatures.specs.Answers.{Adds, fault_at, answer_to, answer_of, demanded, faultless, settled, signed_arrow, kept_arrow}
+use Rattle.fast_check_signatures.proofs.Adding.{adds_same, adds_joined, adds_made, adds_nothing, adds_settled}
 use Rattle.fast_check_values.specs.Looked.{known_type, known_answer}
 
 module _ (bindings : Bindings) (own : Option SourceRange) (t : Tree) where
@@ -82,3 +83,47 @@ module _ (bindings : Bindings) (own : Option SourceRange) (t : Tree) where
         go None g = subst (λ fs. Adds (answer_to (by_known None)) (Some (kept_arrow (arrow_head t) (ArrowExpr-is_async t) value items)) fs new)
             (g.faults ∙ (ap (λ a. old ++ a.faults) (sym g.is) ∙ append-nil old))
             (adds_joined (λ v ps. Some (kept_arrow (arrow_head t) (ArrowExpr-is_async t) v ps)) v h)
+
+-- ---- the return type of an arrow, by what the code asks of it
+
+module _ (unresolved : SyntaxContext) (place : SourceRange) (t : Tree) where
+  abbrev known : Option Seen
+  known = known_type unresolved place t
+
+  abbrev shown : Option Tree → Option Seen
+  shown type = option_map (λ ty. written (type_ann (promised unresolved (ArrowExpr-is_async t) ty))) type
+
+  abbrev of_class : Seen
+  of_class = class_seen ExpressionLike (ArrowExpr-is_async t) place (return_class (ArrowExpr-body t))
+
+  abbrev unwritten : Bool → Option Tree → Option Seen
+  unwritten block type = if block then Some of_class else shown type
+
+  abbrev inferred : Option Tree
+  inferred = inferred_type Mutable unresolved (ArrowExpr-body t)
+
+  by_absence : {absent : Bool} → is_absent (ArrowExpr-return_type t) ≡ absent →
+      known ≡ (if absent then unwritten (kind_of (ArrowExpr-body t) is kinds.BlockStmt) inferred else Some (written (ArrowExpr-return_type t)))
+  by_absence e = ap (λ b. if b then unwritten (kind_of (ArrowExpr-body t) is kinds.BlockStmt) inferred else Some (written (ArrowExpr-return_type t))) e
+
+  by_body : {block : Bool} → is_absent (ArrowExpr-return_type t) ≡ true → kind_of (ArrowExpr-body t) is kinds.BlockStmt ≡ block →
+      known ≡ unwritten block inferred
+  by_body e b = by_absence e ∙ ap (λ block. unwritten block inferred) b
+
+  module _ {old : List Fault} where
+    pub type_written : {type : Tree} → is_absent (ArrowExpr-return_type t) ≡ false → type ≡ ArrowExpr-return_type t →
+        Adds (known_answer known) (Some type) old old
+    type_written {type = type} e w = adds_same (ap known_answer (by_absence e) ∙ ap (λ ty. faultless (Some ty)) (sym w)) (adds_nothing (Some type) old)
+
+    pub type_of_class : {type : Tree} {new : List Fault} → is_absent (ArrowExpr-return_type t) ≡ true →
+        kind_of (ArrowExpr-body t) is kinds.BlockStmt ≡ true → Adds (answer_to of_class) (Some type) old new → Adds (known_answer known) (Some type) old new
+    type_of_class e b h = adds_same (ap known_answer (by_body e b)) (adds_made Some (adds_settled h))
+
+    pub type_shown : {type : Tree} (ty : Tree) → is_absent (ArrowExpr-return_type t) ≡ true → kind_of (ArrowExpr-body t) is kinds.BlockStmt ≡ false →
+        inferred ≡ Some ty → type ≡ type_ann (promised unresolved (ArrowExpr-is_async t) ty) → Adds (known_answer known) (Some type) old old
+    type_shown {type = type} ty e b i w =
+        adds_same (ap known_answer (by_body e b ∙ ap shown i) ∙ ap (λ ty. faultless (Some ty)) (sym w)) (adds_nothing (Some type) old)
+
+    pub type_unknown : is_absent (ArrowExpr-return_type t) ≡ true → kind_of (ArrowExpr-body t) is kinds.BlockStmt ≡ false → inferred ≡ None →
+        Adds (known_answer known) None old old
+    type_unknown e b i = adds_same (ap known_answer (by_body e b ∙ ap shown i)) (adds_nothing None old)

@@ -1,9 +1,16 @@
 -- What a loop adds: what all give is what the rest gives, behind what was given so far.
 use Rattle.std.specs.Prelude.{◌≡◌, Option, Some, None, List, [], ◌∷◌, ◌++◌, refl, option_map}
-use Rattle.std.proofs.Common.{ap, ◌∙◌, sym, append-nil, append_assoc}
+use Rattle.std.proofs.Common.{ap, ◌∙◌, sym, subst, append-nil, append_assoc}
 use Rattle.fast_check_syntax.specs.declared.tree.Tree.{Tree}
 use Rattle.fast_check_signatures.specs.declared.fault.Fault.{Fault}
-use Rattle.fast_check_signatures.specs.Answers.{Answer, Adds, faultless, joined, visited, with_tree}
+use Rattle.fast_check_syntax.specs.declared.kind.Kind.TheVariants as kinds
+use Rattle.fast_check_syntax.specs.declared.tree.Tree as tree
+use Rattle.fast_check_syntax.specs.Shape.{node, list}
+use Rattle.fast_check_class_forms.specs.Functions.{Param-span, param}
+use Rattle.fast_check_signatures.specs.Seen.{Seen}
+use Rattle.fast_check_signatures.specs.Functions.{param_seen}
+use Rattle.fast_check_signatures.specs.Answers.{Answer, Adds, answer_to, faultless, joined, visited, with_tree}
+use Rattle.fast_check_signatures.proofs.Adding.{adds_made, adds_nothing, adds_visited}
 
 pub record Behind {A : Type 0} (put : A → A) (all rest : Answer A) (old new : List Fault) : Type 0 where
   pub added : List Fault
@@ -90,6 +97,10 @@ pub items_step : (items : List Tree) (t : Tree) {all : Answer (List Tree)} (a : 
 items_step items t a rest h g = steps (joined with_tree a rest) g.added h (ap (λ x. x.faults ++ rest.faults) g.is)
     (ap (λ x. items ++ with_tree x.stays rest.stays) g.is ∙ sym (append_assoc items (t ∷ []) rest.stays)) g.faults
 
+pub trees_are : {items more : List Tree} {all rest : Answer (List Tree)} {old new : List Fault} → items ≡ more →
+    Behind (λ ts. items ++ ts) all rest old new → Behind (λ ts. more ++ ts) all rest old new
+trees_are {all = all} {rest = rest} {old = old} {new = new} e h = subst (λ items. Behind (λ ts. items ++ ts) all rest old new) e h
+
 pub items_end : (items : List Tree) {all : Answer (List Tree)} {old new : List Fault} → Behind (λ ts. items ++ ts) all (faultless []) old new →
     Adds all items old new
 items_end items h = record {
@@ -97,3 +108,14 @@ items_end items h = record {
   is = h.is ∙ (λ i. record { stays = append-nil items i; faults = append-nil h.added i });
   faults = h.faults;
 }
+
+-- ---- a parameter, by its pattern
+
+abbrev pub with_pat : Tree → Tree → Tree
+with_pat p pat = param (Param-span p) (list []) pat
+
+pub param_added : (p : Tree) (s : Seen) {t : Tree} {old new : List Fault} → Adds (answer_to s) (Some t) old new →
+    Adds (answer_to (param_seen p s)) (Some (with_pat p t)) old new
+param_added p s {old = old} {new = new} h =
+    adds_made (option_map (node kinds.Param)) (adds_visited (adds_nothing (Some (tree.Range (Param-span p))) old)
+    (adds_visited (adds_nothing (Some (list [])) old) (adds_visited h (adds_nothing (Some []) new))))

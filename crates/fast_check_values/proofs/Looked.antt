@@ -2,6 +2,7 @@
 use Rattle.std.specs.Prelude.{◌≡◌, ℕ, ◌+◌, ◌<◌, Bool, true, false, Option, Some, None, List, map, drop, length, option_map, refl, if◌then◌else◌}
 use Rattle.std.proofs.Common.{ap, ◌∙◌, sym, get_or, add-one}
 use Rattle.std.proofs.Math.Seq.{drop-cons}
+use Rattle.std.specs.List.{list_all}
 use Rattle.fast_check_syntax.specs.declared.kind.Kind.{Kind}
 use Rattle.fast_check_syntax.specs.declared.kind.Kind.TheVariants as kinds
 use Rattle.fast_check_syntax.specs.declared.source.SourceRange.{SourceRange}
@@ -13,20 +14,24 @@ use Rattle.fast_check_program_forms.specs.Names.{BindingIdent-id, BindingIdent-t
 use Rattle.fast_check_helpers.specs.declared.literal_type.DeclMutabilityKind.TheVariants.{Mutable}
 use Rattle.fast_check_helpers.specs.Builders.{type_ann, never_value}
 use Rattle.fast_check_helpers.specs.InferredType.{inferred_type}
+use Rattle.fast_check_helpers.specs.OptionalParams.{is_optional_param}
 use Rattle.fast_check_signatures.specs.declared.rules.Slot.{Slot}
 use Rattle.fast_check_signatures.specs.Bindings.{Bindings}
 use Rattle.fast_check_signatures.specs.Seen.{Seen, written, faulty, round, refused, seens}
 use Rattle.fast_check_signatures.specs.NewNodes.{never_array}
-use Rattle.fast_check_signatures.specs.Functions.{arrow_seen}
+use Rattle.fast_check_signatures.specs.Functions.{arrow_seen, param_seen}
 use Rattle.fast_check_signatures.specs.Expressions.{is_compound, is_plain, is_known, Rule, whole, parted, slotted, arrow, not_at_all, other_rule, rule}
 use Rattle.fast_check_signatures.specs.Expressions.{by_rule, slot_seen, slots_seen, expr_seen}
-use Rattle.fast_check_signatures.specs.Answers.{answer_to, parts_answer, visited}
-use Rattle.fast_check_signatures.specs.Parameters.{emptied_array, emptied_object, default_seen, without_default, by_shown, assign_by_left, assign_seen, pat_by_kind, pat_seen}
+use Rattle.fast_check_signatures.specs.Answers.{answer_to, answer_of, joined, parts_answer, visited, with_tree}
+use Rattle.fast_check_signatures.specs.Parameters.{emptied_array, emptied_object, default_seen, without_default, by_shown, assign_by_left}
+use Rattle.fast_check_signatures.specs.Parameters.{assign_seen, pat_by_kind, pat_seen, pats_seen}
 use Rattle.fast_check_signatures.specs.declared.fault.FaultKind.TheVariants.{UnsupportedDestructuring}
 use Rattle.fast_check_ranges.specs.Ranges.{range_of_node}
 use Rattle.fast_check_signatures.proofs.Looks.{expr_seen_is}
 use Rattle.fast_check_bindings.specs.Rows.{row_in, row_of}
 use Rattle.fast_check_new_nodes.specs.Shown.{default_type}
+use Rattle.fast_check_class_forms.specs.Functions.{Param-pat}
+use Rattle.fast_check_values.specs.Looked.{patterns, params_looked}
 
 pub not_leaf : (k : Kind) → is_plain k ≡ false → k ≡ kinds.Leaf → ⊥
 not_leaf k plain e = let h : true ≡ false = sym (ap is_plain e) ∙ plain in cc
@@ -45,6 +50,19 @@ pub next_slot : (bindings : Bindings) (t : Tree) (place : Option SourceRange) (r
     visited (answer_to (slot_seen bindings (get_or row i d) (part i t) (expr_seen bindings) place))
     (parts_answer (seens (slots_seen bindings (drop (i + 1) row) (i + 1) t (expr_seen bindings) place)))
 next_slot bindings t place row i d h = rw (add-one, drop-cons row i d) refl
+
+pub next_pat : (bindings : Bindings) (pats : List Tree) (i : ℕ) (d : Tree) → i < length pats →
+    answer_of (pats_seen bindings (expr_seen bindings) (drop i pats)) ≡
+    joined with_tree (answer_to (pat_seen bindings (expr_seen bindings) (list_all is_optional_param (drop i pats)) (get_or pats i d)))
+    (answer_of (pats_seen bindings (expr_seen bindings) (drop (i + 1) pats)))
+next_pat bindings pats i d h = rw (add-one, drop-cons pats i d) refl
+
+pub next_param : (bindings : Bindings) (params : List Tree) (i : ℕ) (d : Tree) → i < length params →
+    answer_of (params_looked bindings (drop i params)) ≡
+    joined with_tree (answer_to (param_seen (get_or params i d) (pat_seen bindings (expr_seen bindings) (list_all is_optional_param (patterns (drop i params)))
+    (Param-pat (get_or params i d)))))
+    (answer_of (params_looked bindings (drop (i + 1) params)))
+next_param bindings params i d h = rw (add-one, drop-cons params i d) refl
 
 pub slot_is : (bindings : Bindings) (a b : Slot) (p : Tree) (place : Option SourceRange) → a ≡ b →
     answer_to (slot_seen bindings a p (expr_seen bindings) place) ≡ answer_to (slot_seen bindings b p (expr_seen bindings) place)

@@ -1,13 +1,12 @@
-use Rattle.std.proofs.Common.{arith, ◌≡◌, ◌<◌, length, get_or, true, false, Some, None, List, sym, ap, ◌∙◌, map}
+use Rattle.std.proofs.Common.{arith, drop, ◌≡◌, ◌<◌, length, get_or, true, false, Some, None, List, sym, ap, ◌∙◌, map}
 use Rattle.std.proofs.Common.{option_map, option_copied}
-use Rattle.std.proofs.lemmas.Grind.{common_steps}
 use Rattle.std.proofs.lemmas.Result.{IfOk-weaker}
 use Rattle.fast_check_syntax.specs.declared.kind.Kind.TheVariants as kinds
 use Rattle.fast_check_syntax.specs.declared.source.SourceRange.{SourceRange}
 use Rattle.fast_check_syntax.specs.declared.source.SyntaxContext.{SyntaxContext}
 use Rattle.fast_check_syntax.specs.declared.tree.Tree as tree
 use Rattle.fast_check_syntax.specs.declared.tree.Tree.{Tree}
-use Rattle.fast_check_class_forms.specs.Functions.{Function-span}
+use Rattle.fast_check_class_forms.specs.Functions.{Function-span, Param-pat}
 use Rattle.fast_check_signatures.specs.declared.function_kind.FunctionKind.TheVariants.{ExpressionLike}
 use Rattle.fast_check_syntax.specs.Part.{seen}
 use Rattle.fast_check_syntax.specs.Shape.{is_kind, kind_of, parts, node, is_absent}
@@ -23,15 +22,17 @@ use Rattle.fast_check_signatures.specs.declared.fault.FaultKind.TheVariants.{Uns
 use Rattle.fast_check_signatures.specs.Answers.{fault_at, answer_to, answer_of, parts_answer, demanded, faultless, signed_function}
 use Rattle.fast_check_signatures.specs.Expressions.{is_plain, is_compound, expr_seen, slot_seen}
 use Rattle.fast_check_signatures.specs.Functions.{or_own, return_type_missing, function_head, function_seen}
-use Rattle.fast_check_signatures.specs.Parameters.{typed, emptied_array, emptied_object, without_default, default_seen, pats_seen}
+use Rattle.fast_check_signatures.specs.Parameters.{typed, emptied_array, emptied_object, without_default, default_seen, pat_seen, pats_seen}
 use Rattle.fast_check_signatures.proofs.Adding.{adds_same, adds_nothing, adds_made, adds_joined, adds_settled}
 use Rattle.fast_check_new_nodes.specs.Shown.{default_type}
-use Rattle.fast_check_values.specs.Looked.{known_type, known_answer, params_looked}
-use Rattle.fast_check_values.proofs.Behind.{behind_along, items_are, adds_given, parts_step, parts_refused}
+use Rattle.fast_check_values.specs.Looked.{known_type, known_answer, patterns, params_looked}
+use Rattle.fast_check_helpers.specs.OptionalParams.{is_optional_param}
+use Rattle.std.specs.List.{list_all}
+use Rattle.fast_check_values.proofs.Behind.{behind_along, items_are, trees_are, adds_given, parts_step, parts_refused, items_step, with_pat, param_added}
 use Rattle.fast_check_values.proofs.Heights.{height_less}
 use Rattle.fast_check_values.proofs.Looked.{seen_left_out, seen_untyped_array, seen_typed_array, seen_untyped_object, seen_typed_object, none_of}
 use Rattle.fast_check_values.proofs.Looked.{not_leaf, not_arrow, seen_parted, seen_whole, seen_arrow, seen_slotted, seen_refused, seen_known}
-use Rattle.fast_check_values.proofs.Looked.{next_part, next_slot, seen_by_kind, other_pat, other_left, slot_is}
+use Rattle.fast_check_values.proofs.Looked.{next_part, next_slot, next_pat, next_param, seen_by_kind, other_pat, other_left, slot_is}
 use Rattle.fast_check_values.proofs.Arrows.{arrow_known, arrow_valued}
 use Rattle.fast_check_values.proofs.+leave.Goals as goal
 
@@ -224,10 +225,34 @@ parameters::transform_assign_pat-returns-in_default t c =
     c.unsupported.ensures
 
 pub parameters::transform_pats-loop-index-preserved : goal.parameters::transform_pats-loop-index-preserved
-parameters::transform_pats-loop-index-preserved t c = grind (arith, common_steps)
+parameters::transform_pats-loop-index-preserved t c =
+    let u = bindings_of c.args.info.now in
+    let pats = c.parts-pats.result.now in
+    let i = c.loop-index.index in
+    let d = c.index-pats-index.result in
+    let within : i < length pats = c.loop-index-test.true in
+    let optional = c.is_optional_at_index-is_optional.ensures ∙ c.start_of_patterns-start.ensures i within in
+    let pat = c.read.ensures ∙ c.index-pats-index.is in
+    trees_are (sym c.in_ok-push.ensures.ok) (items_step c.loop-index.items c.in_ok-transform_param_pat.field-0 _ _
+    (behind_along (next_pat u pats i d within) c.loop-index.invariant)
+    (adds_same (λ j. answer_to (pat_seen u (expr_seen u) (sym optional j) (sym pat j))) c.in_ok-transform_param_pat.ensures))
 
 pub parameters::transform_params-loop-index-preserved : goal.parameters::transform_params-loop-index-preserved
-parameters::transform_params-loop-index-preserved t c = grind (arith, common_steps)
+parameters::transform_params-loop-index-preserved t c =
+    let u = bindings_of c.args.info.now in
+    let params = c.parts-params.result.now in
+    let i = c.loop-index.index in
+    let d = c.index-params-index.result in
+    let within : i < length params = c.loop-index-test.true in
+    let optional = c.is_optional_at_index-is_optional.ensures ∙ c.start_of_params-start.ensures i within in
+    let param = c.read-param.ensures ∙ c.index-params-index.is in
+    let pat = c.of.ensures.pat ∙ ap Param-pat param in
+    let p = get_or params i d in
+    let given = param_added p (pat_seen u (expr_seen u) (list_all is_optional_param (patterns (drop i params))) (Param-pat p))
+    (adds_same (λ j. answer_to (pat_seen u (expr_seen u) (sym optional j) (sym pat j))) c.in_ok-pat.ensures) in
+    let made = c.in_ok-with_pattern.ensures ∙ ap (λ (p : Tree). with_pat p c.in_ok-pat.pat) param in
+    trees_are (sym c.in_ok-push.ensures.ok) (items_step c.loop-index.items c.in_ok-with_pattern.field-0 _ _
+    (behind_along (next_param u params i d within) c.loop-index.invariant) (adds_given (ap Some (sym made)) given))
 
 pub expressions::leave_slots-returns-in-None : goal.expressions::leave_slots-returns-in-None
 expressions::leave_slots-returns-in-None t c =
