@@ -3,6 +3,7 @@ ghost use Rattle.std.specs.List.{list_any};
 ghost use Rattle.fast_check_syntax.specs.Part.{seen};
 ghost use Rattle.fast_check_syntax.specs.Shape.{parts};
 ghost use Rattle.fast_check_statement_forms.specs.Declarations.{VarDecl-decls};
+ghost use Rattle.fast_check_helpers.specs.Builders.{never_value};
 ghost use Rattle.fast_check_signatures.specs.Answers.{Adds, faultless};
 ghost use Rattle.fast_check_links.specs.skeleton.Mutability.{mutability_of};
 ghost use Rattle.fast_check_links.specs.skeleton.Visible.{is_ambient_statement, is_public_declarator, is_public_using, using_place};
@@ -57,6 +58,14 @@ fn retyped(alloc: Global, declarator: Part<'_>, ty: Tree, value: Tree) -> Result
         definite: declarator.definite,
     }
     .into_tree(alloc)
+}
+
+/// A declarator with this type, and the value of what has one.
+fn declared(alloc: Global, declarator: Part<'_>, ty: Tree) -> Result<Tree, AllocError>
+    ensures { IfOk result (λ tree. tree ≡ retyped (seen declarator.entry) ty never_value) }
+{
+    let value = never_value(alloc)?;
+    retyped(alloc, declarator, ty, value)
 }
 
 /// The value of a declarator as it stays, where it shows no type; none where it may not stay, or is not there. It is
@@ -115,7 +124,7 @@ fn ident_declarator(
     let VarDeclarator { name, init, .. } = VarDeclarator::of(declarator);
     let ty = BindingIdent::of(name).type_ann;
     if !ty.is_absent() {
-        return retyped(alloc, declarator, ty.to_tree(alloc)?, never_value(alloc)?);
+        return declared(alloc, declarator, ty.to_tree(alloc)?);
     }
     match maybe_infer_type(
         alloc,
@@ -123,7 +132,7 @@ fn ident_declarator(
         mutability,
         unresolved_context(asked.es_module_info),
     )? {
-        Some(ty) => retyped(alloc, declarator, type_ann(alloc, ty)?, never_value(alloc)?),
+        Some(ty) => declared(alloc, declarator, type_ann(alloc, ty)?),
         None => valued_declarator(alloc, asked, declarator, faults),
     }
 }

@@ -6,6 +6,8 @@ use Rattle.std.proofs.lemmas.List.{take_more}
 use Rattle.std.proofs.lemmas.List.Concat.{flat_map-append}
 use Rattle.fast_check_syntax.specs.declared.source.SourcePos.{SourcePos}
 use Rattle.fast_check_syntax.specs.declared.tree.Tree.{Tree}
+use Rattle.fast_check_syntax.specs.Shape.{parts}
+use Rattle.fast_check_syntax.specs.Height.{height, height_read}
 use Rattle.fast_check_comments.specs.declared.comments.Comments.{Comments}
 use Rattle.fast_check_comments.specs.Kept.{without_leading}
 use Rattle.fast_check_skeleton.specs.Surroundings.{Surroundings}
@@ -74,6 +76,12 @@ module _ (around : Surroundings) (item : Tree) where
           else []) ++ (if p then (range_of_node item).start ∷ [] else []) ≡ (range_of_node item).start ∷ []
       go true = refl
       go false = refl
+
+-- an item is lower than its body
+pub item_lower : (body item : Tree) (items : List Tree) (i : ℕ) → i < length items → items ≡ parts body → item ≡ get_or items i item →
+    height item < height body
+item_lower body item items i h e p =
+    subst (λ t. height t < height body) (sym (p ∙ ap (λ ts. get_or ts i item) e)) (height_read body i item (subst (λ ts. i < length ts) e h))
 
 -- the comments without those before one more item
 pub one_more : (around : Surroundings) (items : List Tree) (i : ℕ) (item : Tree) (starts : List SourcePos) (c : Comments) → i < length items →

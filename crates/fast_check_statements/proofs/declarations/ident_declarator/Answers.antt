@@ -1,6 +1,7 @@
 use Rattle.std.proofs.Common.{ap, sym, ◌∙◌}
 use Rattle.std.proofs.lemmas.Result.{IfOk-weaker}
 use Rattle.fast_check_program_forms.specs.Names.{BindingIdent-type_ann}
+use Rattle.fast_check_helpers.specs.Builders.{never_value}
 use Rattle.fast_check_helpers.specs.InferredType.{inferred_type}
 use Rattle.fast_check_syntax.specs.Part.{seen}
 use Rattle.fast_check_syntax.specs.Shape.{is_absent}
@@ -14,18 +15,18 @@ pub returns-then-not-is_absent : goal.returns-then-not-is_absent
 returns-then-not-is_absent c =
     let declared = c.of-2.ensures.type_ann ∙ ap BindingIdent-type_ann c.of.ensures.name in
     let absent = ap is_absent (sym declared) ∙ (sym c.is_absent.ensures ∙ c.if-not-is_absent.true) in
-    some_of c.retyped.result c.retyped.ensures
+    some_of c.declared.result c.declared.ensures
     (written_ident (Asked-around c.args.asked) c.args.mutability (seen c.args.declarator) absent c.args.faults.now.items)
-    (λ i. retyped (seen c.args.declarator) ((c.in_ok-to_tree.ensures ∙ declared) i) (c.in_ok-never_value.ensures i))
+    (ap (λ type. retyped (seen c.args.declarator) type never_value) (c.in_ok-to_tree.ensures ∙ declared))
 
-pub returns-in_ok-never_value-in-Some : goal.returns-in_ok-never_value-in-Some
-returns-in_ok-never_value-in-Some c =
+pub returns-in_ok-type_ann-in-Some : goal.returns-in_ok-type_ann-in-Some
+returns-in_ok-type_ann-in-Some c =
     let declared = c.of-2.ensures.type_ann ∙ ap BindingIdent-type_ann c.of.ensures.name in
     let absent = ap is_absent (sym declared) ∙ (sym c.is_absent.ensures ∙ c.if-not-is_absent.false) in
     let shown = (λ i. inferred_type c.args.mutability (sym c.unresolved_context.ensures i) (sym c.of.ensures.init i)) ∙ (sym c.in_ok-ty.ensures.inferred ∙ c.in-Some.is) in
-    some_of c.retyped-in-Some.result c.retyped-in-Some.ensures
+    some_of c.declared-in-Some.result c.declared-in-Some.ensures
     (shown_ident (Asked-around c.args.asked) c.args.mutability (seen c.args.declarator) c.in-Some.ty absent shown c.args.faults.now.items)
-    (λ i. retyped (seen c.args.declarator) (c.in_ok-type_ann-in-Some.ensures i) (c.in_ok-never_value-in-Some.ensures i))
+    (ap (λ type. retyped (seen c.args.declarator) type never_value) c.in_ok-type_ann-in-Some.ensures)
 
 pub returns-in-None : goal.returns-in-None
 returns-in-None c =

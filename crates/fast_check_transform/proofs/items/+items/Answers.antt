@@ -1,17 +1,18 @@
-use Rattle.std.proofs.Common.{rules, refl, arith, ap, sym, ◌∙◌, ◌++◌, ◌∷◌, [], append-nil, true≢false}
-use Rattle.std.proofs.lemmas.Grind.{common_steps}
+use lib.ListN.{get_or}
+use Rattle.std.proofs.Common.{◌≡◌, rules, refl, arith, ap, sym, ◌∙◌, ◌++◌, ◌∷◌, [], append-nil, true≢false}
+use Rattle.std.proofs.lemmas.List.{take_all}
 use Rattle.std.proofs.lemmas.Result.{IfOk-weaker}
 use Rattle.fast_check_comments.specs.Kept.{without_leading}
 use Rattle.fast_check_program_forms.specs.ModuleDecls.{export_decl}
 use Rattle.fast_check_ranges.specs.Ranges.{range_of_node}
-use Rattle.fast_check_skeleton.specs.KeptComments.{start_look, starts_in_body, starts_below, without_all_leading}
+use Rattle.fast_check_skeleton.specs.KeptComments.{removed_from, start_look, starts_in_body, starts_below, without_all_leading}
 use Rattle.std.specs.Prelude.{List}
 use Rattle.std.specs.List.{flat_map}
 use Rattle.fast_check_skeleton.specs.expandos.declared.properties.ExpandoProperty.{ExpandoProperty}
 use Rattle.fast_check_skeleton.specs.Visible.{item_properties}
 use Rattle.fast_check_syntax.specs.Part.{seen}
 use Rattle.fast_check_syntax.specs.Shape.{parts}
-use Rattle.fast_check_syntax.specs.Height.{height_read, height_at_most}
+use Rattle.fast_check_syntax.specs.Height.{height, height_at_most}
 use Rattle.fast_check_declarations.proofs.class_proofs.Making.{none_of}
 use Rattle.fast_check_declarations.specs.links.Asked.{Asked-around}
 use Rattle.fast_check_declarations.specs.links.Links.{as_list}
@@ -22,13 +23,13 @@ use Rattle.fast_check_transform.proofs.ByRule.{assigned_is, same_properties, mor
 use Rattle.fast_check_skeleton.specs.Rules.{is_assigned, item_rule}
 use Rattle.fast_check_transform.proofs.Namespaces.{inside_at_most, refused_module, private_namespace, public_namespace}
 use Rattle.fast_check_transform.proofs.Namespaces.{nothing_refused, nothing_private, all_inside}
-use Rattle.fast_check_transform.proofs.Removed.{inside, below, without_append, removed_if_none, removed_if_some, removed_if_assigned, one_more}
+use Rattle.fast_check_transform.proofs.Removed.{item_lower, inside, below, without_append, removed_if_none, removed_if_some, removed_if_assigned, one_more}
 use Rattle.fast_check_transform.proofs.items.+items.Goals as goal
 
 -- ---- the items of a body
 
 pub keep_items-keep_each-requires : goal.keep_items-keep_each-requires
-keep_items-keep_each-requires t c = grind (arith, common_steps)
+keep_items-keep_each-requires t c = (omega (arith, c.decreases), tt)
 
 pub keep_items-returns-clause-answer : goal.keep_items-returns-clause-answer
 keep_items-returns-clause-answer t c =
@@ -43,7 +44,13 @@ pub keep_items-returns-clause-comments : goal.keep_items-returns-clause-comments
 keep_items-returns-clause-comments t c = c.in_ok-items.ensures.comments
 
 pub keep_each-keep_item-requires : goal.keep_each-keep_item-requires
-keep_each-keep_item-requires t c = (grind (arith, height_read), search rules)
+keep_each-keep_item-requires t c =
+    let item = seen c.read-item.result in
+    let all = c.parts-item-items.result.now in
+    let i = c.loop-item.item-index in
+    let here : item ≡ get_or all i item = search rules in
+    let lower = item_lower (seen c.args.body) item all i c.loop-item-test.true c.parts-item-items.ensures here in
+    (omega (arith, c.decreases, lower), sym c.is_assigned.ensures ∙ c.if-is_assigned.false)
 
 pub keep_each-loop-item-init : goal.keep_each-loop-item-init
 keep_each-loop-item-init t c = record {
@@ -58,14 +65,15 @@ keep_each-loop-item-preserved-then-is_assigned t c =
     let item = seen c.read-item.result in
     let all = c.parts-item-items.result.now in
     let i = c.loop-item.item-index in
+    let here : item ≡ get_or all i item = search rules in
     let rule = assigned_is (item_rule item) (sym c.is_assigned.ensures ∙ c.if-is_assigned.true) in
     let start = ap (λ r. r.start) c.range_of_node.ensures in
     let kept = c.in_ok-keep_assignment.ensures in
     record {
-      answer = one_more_assigned around all i item c.loop-item-test.true (search rules) rule c.of.ensures.expr c.loop-item.invariant.answer kept.answer;
-      properties = more_properties around all i item c.loop-item-test.true (search rules) rule c.of.ensures.expr _ c.loop-item.invariant.properties kept.properties;
+      answer = one_more_assigned around all i item c.loop-item-test.true here rule c.of.ensures.expr c.loop-item.invariant.answer kept.answer;
+      properties = more_properties around all i item c.loop-item-test.true here rule c.of.ensures.expr _ c.loop-item.invariant.properties kept.properties;
       comments = c.remove_leading.ensures ∙ ((λ i. without_leading (start i) (c.loop-item.invariant.comments i))
-          ∙ sym (one_more around all i item ((range_of_node item).start ∷ []) c.args.comments.now c.loop-item-test.true (search rules)
+          ∙ sym (one_more around all i item ((range_of_node item).start ∷ []) c.args.comments.now c.loop-item-test.true here
           (removed_if_assigned around item rule)));
     }
 
@@ -75,19 +83,22 @@ keep_each-loop-item-preserved-in-None t c =
     let item = seen c.read-item.result in
     let start = ap (λ r. r.start) c.range_of_node-in-None.ensures in
     let kept = c.in_ok-keep_item.ensures in
+    let all = c.parts-item-items.result.now in
+    let i = c.loop-item.item-index in
+    let here : item ≡ get_or all i item = search rules in
     let starts = (range_of_node item).start ∷ inside around item in
     record {
-      answer = one_more_item around c.parts-item-items.result.now c.loop-item.item-index item c.loop-item-test.true
-          (search rules) c.loop-item.invariant.answer
+      answer = one_more_item around all i item c.loop-item-test.true
+          here c.loop-item.invariant.answer
           kept.answer (sym (append-nil c.loop-item.items) ∙ ap (λ o. c.loop-item.items ++ as_list o) (sym c.in-None.is));
-      properties = same_properties around c.parts-item-items.result.now c.loop-item.item-index item c.loop-item-test.true (search rules)
+      properties = same_properties around all i item c.loop-item-test.true here
           (sym c.is_assigned.ensures ∙ c.if-is_assigned.false) _ c.loop-item.invariant.properties;
       comments = c.in_ok-remove_inside-in-None.ensures
           ∙ (ap (without_all_leading (inside around item))
           (c.remove_leading-in-None.ensures ∙ (λ i. without_leading (start i)
           ((kept.comments ∙ ap (without_all_leading (below around item)) c.loop-item.invariant.comments) i)))
-          ∙ sym (one_more around c.parts-item-items.result.now c.loop-item.item-index item (below around item ++ starts) c.args.comments.now
-          c.loop-item-test.true (search rules) (removed_if_none around item (sym c.is_assigned.ensures ∙ c.if-is_assigned.false) kept.answer (ap as_list c.in-None.is))
+          ∙ sym (one_more around all i item (below around item ++ starts) c.args.comments.now
+          c.loop-item-test.true here (removed_if_none around item (sym c.is_assigned.ensures ∙ c.if-is_assigned.false) kept.answer (ap as_list c.in-None.is))
           ∙ without_append (below around item) starts _));
     }
 
@@ -96,16 +107,19 @@ keep_each-loop-item-preserved t c =
     let around = Asked-around c.args.asked in
     let item = seen c.read-item.result in
     let kept = c.in_ok-keep_item.ensures in
+    let all = c.parts-item-items.result.now in
+    let i = c.loop-item.item-index in
+    let here : item ≡ get_or all i item = search rules in
     record {
-      answer = one_more_item around c.parts-item-items.result.now c.loop-item.item-index item c.loop-item-test.true
-          (search rules) c.loop-item.invariant.answer
+      answer = one_more_item around all i item c.loop-item-test.true
+          here c.loop-item.invariant.answer
           kept.answer (c.in_ok-push-in-Some.ensures.ok ∙ ap (λ o. c.loop-item.items ++ as_list o) (sym c.in-Some.is));
-      properties = same_properties around c.parts-item-items.result.now c.loop-item.item-index item c.loop-item-test.true (search rules)
+      properties = same_properties around all i item c.loop-item-test.true here
           (sym c.is_assigned.ensures ∙ c.if-is_assigned.false) _ c.loop-item.invariant.properties;
       comments = c.in_ok-remove_inside-in-Some.ensures
           ∙ (ap (without_all_leading (inside around item)) (kept.comments ∙ ap (without_all_leading (below around item)) c.loop-item.invariant.comments)
-          ∙ sym (one_more around c.parts-item-items.result.now c.loop-item.item-index item (below around item ++ inside around item)
-          c.args.comments.now c.loop-item-test.true (search rules) (removed_if_some around item kept.answer (ap as_list c.in-Some.is))
+          ∙ sym (one_more around all i item (below around item ++ inside around item)
+          c.args.comments.now c.loop-item-test.true here (removed_if_some around item kept.answer (ap as_list c.in-Some.is))
           ∙ without_append (below around item) (inside around item) _));
     }
 
@@ -118,7 +132,9 @@ keep_each-returns-clause-properties t c =
     all_properties (Asked-around c.args.asked) c.loop-item.item-index c.loop-item-test.false c.parts-item-items.ensures _ c.loop-item.invariant.properties
 
 pub keep_each-returns-clause-comments : goal.keep_each-returns-clause-comments
-keep_each-returns-clause-comments t c = grind (arith, common_steps)
+keep_each-returns-clause-comments t c =
+    let all = take_all c.loop-item.item-index c.parts-item-items.result.now c.loop-item-test.false ∙ c.parts-item-items.ensures in
+    c.loop-item.invariant.comments ∙ ap (λ ts. without_all_leading (removed_from (Asked-around c.args.asked) ts) c.args.comments.now) all
 
 -- ---- namespaces
 
@@ -236,7 +252,8 @@ keep_decl-returns-in-NoDeclaration-clause-comments t c =
 -- ---- exports
 
 pub keep_export-keep_decl-requires : goal.keep_export-keep_decl-requires
-keep_export-keep_decl-requires t c = grind (arith, height_at_most)
+keep_export-keep_decl-requires t c =
+    (omega (arith, c.decreases, height_at_most (seen c.args.item) 1, ap height c.of.ensures.decl), tt)
 
 pub keep_export-returns-in_ok-into_tree-in-Some-clause-answer : goal.keep_export-returns-in_ok-into_tree-in-Some-clause-answer
 keep_export-returns-in_ok-into_tree-in-Some-clause-answer t c =
