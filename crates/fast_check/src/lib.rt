@@ -60,7 +60,8 @@ pub mod range_finder {
 /// The skeleton of a module.
 pub mod transform {
     pub use fast_check_tables::{FastCheckModule, ModuleInfo, StaticSource};
-    pub use fast_check_transform::{FastCheckTransformer, TransformOptions, transform};
+    pub use fast_check_transform::{TransformOptions, transform};
+    pub use fast_check_transformer::FastCheckTransformer;
 }
 
 /// The skeletons of packages, or what is wrong with them.

@@ -3,7 +3,8 @@
 
 mod items;
 mod program;
-mod transformer;
+mod transform;
 
 pub use fast_check_tables::{FastCheckModule, ModuleInfo, StaticSource};
-pub use transformer::{FastCheckTransformer, TransformOptions, transform};
+pub use program::{KeptModule, keep_module};
+pub use transform::{TransformOptions, transform};

@@ -25,7 +25,8 @@ pub struct KeptModule {
     pub faults: Vec<Fault>,
 }
 
-/// What is public of the module with these tables.
+/// What is public of the module with these tables, the comments that stay with it, and what is wrong with it: of a module with faults
+/// the tree is not to be used. `transform` and `FastCheckTransformer` answer what this finds. An `Err` is want of memory.
 pub fn keep_module(
     alloc: Global,
     graph: &ModuleGraph,

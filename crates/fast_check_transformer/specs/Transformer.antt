@@ -4,7 +4,7 @@ use Rattle.fast_check_syntax.specs.declared.tree.Tree.{Tree}
 use Rattle.fast_check_comments.specs.declared.comments.Comments.{Comments}
 use Rattle.fast_check_signatures.specs.declared.fault.Fault.{Fault}
 use Rattle.fast_check_transform.specs.Transform.{skeleton, comments, faults}
-use Rattle.fast_check_transform.specs.declared.transformer.FastCheckTransformer.{FastCheckTransformer}
+use Rattle.fast_check_transformer.specs.declared.transformer.FastCheckTransformer.{FastCheckTransformer}
 
 -- the skeleton of its module, and the comments that stay with it
 abbrev pub own_skeleton : FastCheckTransformer → Tree

@@ -1,5 +1,5 @@
 use Rattle.fast_check_transform.proofs.Transformed.{in_grammar}
-use Rattle.fast_check_transform.proofs.transformer.FastCheckTransformer.transform.Goals as goal
+use Rattle.fast_check_transformer.proofs.transformer.FastCheckTransformer.transform.Goals as goal
 
 pub returns-clause-grammar : goal.returns-clause-grammar
 returns-clause-grammar c =
