@@ -1,10 +1,10 @@
 //! The transform of a module to its skeleton.
 #![tactic(auto)]
 
+mod answer;
 mod items;
 mod program;
-mod transform;
 
+pub use answer::{TransformOptions, transform};
 pub use fast_check_tables::{FastCheckModule, ModuleInfo, StaticSource};
 pub use program::{KeptModule, keep_module};
-pub use transform::{TransformOptions, transform};

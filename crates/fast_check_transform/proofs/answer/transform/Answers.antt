@@ -1,7 +1,7 @@
 use Rattle.std.proofs.Common.{arith, sym, ◌∙◌}
 use Rattle.std.proofs.lemmas.Grind.{common_steps}
 use Rattle.fast_check_transform.proofs.Transformed.{in_grammar}
-use Rattle.fast_check_transform.proofs.transform.transform.Goals as goal
+use Rattle.fast_check_transform.proofs.answer.transform.Goals as goal
 
 pub returns-clause-grammar : goal.returns-clause-grammar
 returns-clause-grammar c =
