@@ -5,7 +5,7 @@ use Rattle.std.specs.declared.alloc.Global.{Global}
 use Rattle.url.specs.Parts.{Parts}
 use Rattle.fast_check_tables.specs.MediaType.{is_declaration}
 use Rattle.fast_check_tables.specs.PublicRanges.{PublicRanges}
-use Rattle.fast_check_tables.specs.contracts.diagnostics.FastCheckDiagnosticClone.TheImpl as copies
+use Rattle.fast_check_tables.specs.DiagnosticCopy.{IsDiagnosticCopy}
 use Rattle.fast_check_tables.specs.declared.diagnostics.FastCheckDiagnostic.{FastCheckDiagnostic}
 use Rattle.fast_check_tables.specs.declared.tables.fast_check_module.FastCheckModule.{FastCheckModule}
 use Rattle.fast_check_modules.specs.EsModule.{EsModule, AreOwnRanges}
@@ -61,7 +61,7 @@ ShowsMore graph more old new = (modules : List TreeModule) → AllZip (IsShown g
 
 -- the diagnostics one by one, as `clone` copies them
 abbrev pub AreCopies : List FastCheckDiagnostic → List FastCheckDiagnostic → Type 0
-AreCopies = AllZip copies.is_clone-value.it
+AreCopies = AllZip IsDiagnosticCopy
 
 -- an entry point is answered by a copy of a list
 abbrev pub IsRefused : List FastCheckDiagnostic → Parts → Answer → Type 0

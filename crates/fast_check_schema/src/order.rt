@@ -8,171 +8,177 @@ use fast_check_syntax::Kind;
 pub fn written_order(kind: Kind) -> &'static [usize]
     ensures { result.now ≡ written_places kind }
 {
-    match kind {
-        Kind::Ident => &[1, 3, 0, 2],
-        Kind::IdentName => &[0, 1],
-        Kind::BindingIdent => &[0, 1],
-        Kind::PrivateName => &[1, 0],
-        Kind::Str => &[2, 0, 1],
-        Kind::Bool => &[0, 1],
-        Kind::Null => &[0],
-        Kind::Number => &[1, 0],
-        Kind::BigInt => &[1, 0],
-        Kind::Regex => &[1, 2, 0],
-        Kind::JSXText => &[1, 0],
-        Kind::Module => &[1, 2, 0],
-        Kind::Script => &[1, 2, 0],
-        Kind::ImportDecl => &[5, 0, 1, 2, 3, 4],
-        Kind::ExportDecl => &[1, 0],
-        Kind::NamedExport => &[0, 1, 2, 3, 4],
-        Kind::ExportDefaultDecl => &[1, 0],
-        Kind::ExportDefaultExpr => &[1, 0],
-        Kind::ExportAll => &[0, 1, 2, 3],
-        Kind::TsImportEqualsDecl => &[3, 1, 2, 4, 0],
-        Kind::TsExportAssignment => &[1, 0],
-        Kind::TsNamespaceExportDecl => &[1, 0],
-        Kind::ImportNamedSpecifier => &[2, 3, 1, 0],
-        Kind::ImportDefaultSpecifier => &[1, 0],
-        Kind::ImportStarAsSpecifier => &[1, 0],
-        Kind::ExportNamespaceSpecifier => &[1, 0],
-        Kind::ExportDefaultSpecifier => &[0],
-        Kind::ExportNamedSpecifier => &[2, 3, 1, 0],
-        Kind::TsExternalModuleRef => &[1, 0],
-        Kind::BlockStmt => &[1, 0, 2],
-        Kind::EmptyStmt => &[0],
-        Kind::DebuggerStmt => &[0],
-        Kind::WithStmt => &[2, 1, 0],
-        Kind::ReturnStmt => &[1, 0],
-        Kind::LabeledStmt => &[2, 1, 0],
-        Kind::BreakStmt => &[1, 0],
-        Kind::ContinueStmt => &[1, 0],
-        Kind::IfStmt => &[3, 2, 0, 1],
-        Kind::SwitchStmt => &[2, 1, 0],
-        Kind::SwitchCase => &[2, 0, 1],
-        Kind::ThrowStmt => &[1, 0],
-        Kind::TryStmt => &[1, 3, 2, 0],
-        Kind::CatchClause => &[2, 1, 0],
-        Kind::WhileStmt => &[2, 0, 1],
-        Kind::DoWhileStmt => &[2, 0, 1],
-        Kind::ForStmt => &[4, 1, 0, 2, 3],
-        Kind::ForInStmt => &[3, 1, 2, 0],
-        Kind::ForOfStmt => &[4, 1, 2, 3, 0],
-        Kind::ExprStmt => &[1, 0],
-        Kind::ClassDecl => &[2, 1, 0],
-        Kind::FnDecl => &[1, 2, 0],
-        Kind::VarDecl => &[1, 3, 4, 2, 0],
-        Kind::VarDeclarator => &[3, 2, 1, 0],
-        Kind::UsingDecl => &[2, 1, 0],
-        Kind::TsInterfaceDecl => &[5, 2, 4, 1, 0, 3],
-        Kind::TsExprWithTypeArgs => &[1, 0, 2],
-        Kind::TsInterfaceBody => &[1, 0],
-        Kind::TsTypeAliasDecl => &[1, 2, 0, 4, 3],
-        Kind::TsEnumDecl => &[1, 3, 2, 4, 0],
-        Kind::TsEnumMember => &[1, 2, 0],
-        Kind::TsModuleDecl => &[5, 1, 2, 4, 3, 0],
-        Kind::TsModuleBlock => &[1, 0],
-        Kind::TsNamespaceDecl => &[4, 1, 2, 3, 0],
-        Kind::ThisExpr => &[0],
-        Kind::ArrayLit => &[1, 0],
-        Kind::ObjectLit => &[1, 0],
-        Kind::FnExpr => &[1, 0],
-        Kind::UnaryExpr => &[2, 1, 0],
-        Kind::UpdateExpr => &[3, 1, 2, 0],
-        Kind::BinExpr => &[2, 1, 3, 0],
-        Kind::AssignExpr => &[2, 1, 3, 0],
-        Kind::MemberExpr => &[1, 2, 0],
-        Kind::SuperPropExpr => &[1, 0],
-        Kind::CondExpr => &[3, 2, 0, 1],
-        Kind::CallExpr => &[3, 2, 1, 0, 4],
-        Kind::NewExpr => &[3, 2, 1, 0, 4],
-        Kind::SeqExpr => &[1, 0],
-        Kind::Tpl => &[1, 2, 0],
-        Kind::TplElement => &[2, 3, 0, 1],
-        Kind::TaggedTpl => &[1, 0, 2, 4, 3],
-        Kind::ArrowExpr => &[3, 1, 4, 5, 2, 7, 0, 6],
-        Kind::ClassExpr => &[1, 0],
-        Kind::YieldExpr => &[1, 2, 0],
-        Kind::MetaPropExpr => &[1, 0],
-        Kind::AwaitExpr => &[1, 0],
-        Kind::ParenExpr => &[1, 0],
-        Kind::JSXMember => &[1, 0],
-        Kind::JSXNamespacedName => &[1, 0],
-        Kind::JSXEmpty => &[1, 0],
-        Kind::JSXElement => &[1, 0],
-        Kind::JSXFragment => &[1, 0],
-        Kind::TsTypeAssertion => &[1, 0, 2],
-        Kind::TsAsExpr => &[1, 0, 2],
-        Kind::TsSatisfiesExpr => &[1, 0, 2],
-        Kind::TsConstAssertion => &[1, 0],
-        Kind::TsNonNullExpr => &[1, 0],
-        Kind::TsInstantiation => &[1, 0, 2],
-        Kind::OptChainExpr => &[2, 1, 0],
-        Kind::Invalid => &[0],
-        Kind::OptCall => &[3, 2, 1, 0, 4],
-        Kind::ExprOrSpread => &[1, 0],
-        Kind::SpreadElement => &[0, 1],
-        Kind::KeyValueProp => &[0, 1],
-        Kind::AssignProp => &[1, 0, 2],
-        Kind::GetterProp => &[3, 1, 0, 2],
-        Kind::SetterProp => &[3, 1, 2, 0],
-        Kind::MethodProp => &[1, 0],
-        Kind::ComputedPropName => &[1, 0],
-        Kind::Super => &[0],
-        Kind::Import => &[1, 0],
-        Kind::ArrayPat => &[1, 2, 0, 3],
-        Kind::RestPat => &[2, 1, 0, 3],
-        Kind::ObjectPat => &[2, 1, 0, 3],
-        Kind::AssignPat => &[1, 2, 0],
-        Kind::KeyValuePatProp => &[0, 1],
-        Kind::AssignPatProp => &[1, 0, 2],
-        Kind::Function => &[4, 3, 2, 6, 5, 1, 8, 0, 7],
-        Kind::Param => &[1, 2, 0],
-        Kind::Class => &[3, 1, 2, 8, 5, 0, 4, 7, 6],
-        Kind::Decorator => &[1, 0],
-        Kind::Constructor => &[5, 4, 1, 6, 2, 3, 0],
-        Kind::ClassMethod => &[5, 2, 6, 7, 8, 4, 1, 3, 0],
-        Kind::PrivateMethod => &[5, 2, 6, 7, 8, 4, 1, 3, 0],
-        Kind::ClassProp => &[6, 11, 5, 12, 7, 8, 9, 4, 1, 10, 0, 3, 2],
-        Kind::PrivateProp => &[7, 1, 6, 11, 8, 9, 5, 2, 10, 0, 4, 3],
-        Kind::TsIndexSignature => &[4, 1, 3, 0, 2],
-        Kind::StaticBlock => &[1, 0],
-        Kind::AutoAccessor => &[6, 5, 9, 7, 8, 4, 1, 0, 3, 2],
-        Kind::TsParamProp => &[2, 1, 3, 5, 4, 0],
-        Kind::TsKeywordType => &[1, 0],
-        Kind::TsThisType => &[0],
-        Kind::TsFnType => &[4, 1, 0, 3, 2],
-        Kind::TsConstructorType => &[4, 1, 0, 3, 2],
-        Kind::TsTypeRef => &[0, 1, 2],
-        Kind::TsTypeQuery => &[1, 0, 2],
-        Kind::TsTypeLit => &[1, 0],
-        Kind::TsArrayType => &[1, 0],
-        Kind::TsTupleType => &[1, 0],
-        Kind::TsTupleElement => &[1, 0, 2],
-        Kind::TsOptionalType => &[0, 1],
-        Kind::TsRestType => &[0, 1],
-        Kind::TsParenthesizedType => &[0, 1],
-        Kind::TsUnionType => &[0, 1],
-        Kind::TsIntersectionType => &[0, 1],
-        Kind::TsConditionalType => &[1, 2, 4, 0, 3],
-        Kind::TsInferType => &[0, 1],
-        Kind::TsTypeOperator => &[1, 0, 2],
-        Kind::TsIndexedAccessType => &[3, 2, 1, 0],
-        Kind::TsMappedType => &[3, 4, 1, 0, 5, 2],
-        Kind::TsLitType => &[1, 0],
-        Kind::TsTplLitType => &[2, 0, 1],
-        Kind::TsTypePredicate => &[1, 2, 0, 3],
-        Kind::TsImportType => &[1, 2, 0, 3],
-        Kind::TsQualifiedName => &[1, 2, 0],
-        Kind::TsCallSignatureDecl => &[1, 0, 2, 3],
-        Kind::TsConstructSignatureDecl => &[1, 0, 2, 3],
-        Kind::TsPropertySignature => &[2, 1, 4, 3, 0, 5],
-        Kind::TsGetterSignature => &[2, 1, 0, 3],
-        Kind::TsSetterSignature => &[2, 1, 3, 0],
-        Kind::TsMethodSignature => &[2, 1, 3, 4, 0, 5, 6],
-        Kind::TsTypeParam => &[5, 6, 4, 2, 3, 1, 0],
-        Kind::TsTypeParamDecl => &[1, 0],
-        Kind::TsTypeParamInstantiation => &[1, 0],
-        Kind::TsTypeAnn => &[0, 1],
-        _ => &[],
-    }
+    WRITTEN_ORDERS[kind as usize]
 }
+
+/// The order of each kind, in the order of the kinds.
+static WRITTEN_ORDERS: [&[usize]; 168] = [
+    &[], // Leaf
+    &[], // List
+    &[1, 3, 0, 2], // Ident
+    &[0, 1], // IdentName
+    &[0, 1], // BindingIdent
+    &[1, 0], // PrivateName
+    &[2, 0, 1], // Str
+    &[0, 1], // Bool
+    &[0], // Null
+    &[1, 0], // Number
+    &[1, 0], // BigInt
+    &[1, 2, 0], // Regex
+    &[1, 0], // JSXText
+    &[1, 2, 0], // Module
+    &[1, 2, 0], // Script
+    &[5, 0, 1, 2, 3, 4], // ImportDecl
+    &[1, 0], // ExportDecl
+    &[0, 1, 2, 3, 4], // NamedExport
+    &[1, 0], // ExportDefaultDecl
+    &[1, 0], // ExportDefaultExpr
+    &[0, 1, 2, 3], // ExportAll
+    &[3, 1, 2, 4, 0], // TsImportEqualsDecl
+    &[1, 0], // TsExportAssignment
+    &[1, 0], // TsNamespaceExportDecl
+    &[2, 3, 1, 0], // ImportNamedSpecifier
+    &[1, 0], // ImportDefaultSpecifier
+    &[1, 0], // ImportStarAsSpecifier
+    &[1, 0], // ExportNamespaceSpecifier
+    &[0], // ExportDefaultSpecifier
+    &[2, 3, 1, 0], // ExportNamedSpecifier
+    &[1, 0], // TsExternalModuleRef
+    &[1, 0, 2], // BlockStmt
+    &[0], // EmptyStmt
+    &[0], // DebuggerStmt
+    &[2, 1, 0], // WithStmt
+    &[1, 0], // ReturnStmt
+    &[2, 1, 0], // LabeledStmt
+    &[1, 0], // BreakStmt
+    &[1, 0], // ContinueStmt
+    &[3, 2, 0, 1], // IfStmt
+    &[2, 1, 0], // SwitchStmt
+    &[2, 0, 1], // SwitchCase
+    &[1, 0], // ThrowStmt
+    &[1, 3, 2, 0], // TryStmt
+    &[2, 1, 0], // CatchClause
+    &[2, 0, 1], // WhileStmt
+    &[2, 0, 1], // DoWhileStmt
+    &[4, 1, 0, 2, 3], // ForStmt
+    &[3, 1, 2, 0], // ForInStmt
+    &[4, 1, 2, 3, 0], // ForOfStmt
+    &[1, 0], // ExprStmt
+    &[2, 1, 0], // ClassDecl
+    &[1, 2, 0], // FnDecl
+    &[1, 3, 4, 2, 0], // VarDecl
+    &[3, 2, 1, 0], // VarDeclarator
+    &[2, 1, 0], // UsingDecl
+    &[5, 2, 4, 1, 0, 3], // TsInterfaceDecl
+    &[1, 0, 2], // TsExprWithTypeArgs
+    &[1, 0], // TsInterfaceBody
+    &[1, 2, 0, 4, 3], // TsTypeAliasDecl
+    &[1, 3, 2, 4, 0], // TsEnumDecl
+    &[1, 2, 0], // TsEnumMember
+    &[5, 1, 2, 4, 3, 0], // TsModuleDecl
+    &[1, 0], // TsModuleBlock
+    &[4, 1, 2, 3, 0], // TsNamespaceDecl
+    &[0], // ThisExpr
+    &[1, 0], // ArrayLit
+    &[1, 0], // ObjectLit
+    &[1, 0], // FnExpr
+    &[2, 1, 0], // UnaryExpr
+    &[3, 1, 2, 0], // UpdateExpr
+    &[2, 1, 3, 0], // BinExpr
+    &[2, 1, 3, 0], // AssignExpr
+    &[1, 2, 0], // MemberExpr
+    &[1, 0], // SuperPropExpr
+    &[3, 2, 0, 1], // CondExpr
+    &[3, 2, 1, 0, 4], // CallExpr
+    &[3, 2, 1, 0, 4], // NewExpr
+    &[1, 0], // SeqExpr
+    &[1, 2, 0], // Tpl
+    &[2, 3, 0, 1], // TplElement
+    &[1, 0, 2, 4, 3], // TaggedTpl
+    &[3, 1, 4, 5, 2, 7, 0, 6], // ArrowExpr
+    &[1, 0], // ClassExpr
+    &[1, 2, 0], // YieldExpr
+    &[1, 0], // MetaPropExpr
+    &[1, 0], // AwaitExpr
+    &[1, 0], // ParenExpr
+    &[1, 0], // JSXMember
+    &[1, 0], // JSXNamespacedName
+    &[1, 0], // JSXEmpty
+    &[1, 0], // JSXElement
+    &[1, 0], // JSXFragment
+    &[1, 0, 2], // TsTypeAssertion
+    &[1, 0, 2], // TsAsExpr
+    &[1, 0, 2], // TsSatisfiesExpr
+    &[1, 0], // TsConstAssertion
+    &[1, 0], // TsNonNullExpr
+    &[1, 0, 2], // TsInstantiation
+    &[2, 1, 0], // OptChainExpr
+    &[0], // Invalid
+    &[3, 2, 1, 0, 4], // OptCall
+    &[1, 0], // ExprOrSpread
+    &[0, 1], // SpreadElement
+    &[0, 1], // KeyValueProp
+    &[1, 0, 2], // AssignProp
+    &[3, 1, 0, 2], // GetterProp
+    &[3, 1, 2, 0], // SetterProp
+    &[1, 0], // MethodProp
+    &[1, 0], // ComputedPropName
+    &[0], // Super
+    &[1, 0], // Import
+    &[1, 2, 0, 3], // ArrayPat
+    &[2, 1, 0, 3], // RestPat
+    &[2, 1, 0, 3], // ObjectPat
+    &[1, 2, 0], // AssignPat
+    &[0, 1], // KeyValuePatProp
+    &[1, 0, 2], // AssignPatProp
+    &[4, 3, 2, 6, 5, 1, 8, 0, 7], // Function
+    &[1, 2, 0], // Param
+    &[3, 1, 2, 8, 5, 0, 4, 7, 6], // Class
+    &[1, 0], // Decorator
+    &[5, 4, 1, 6, 2, 3, 0], // Constructor
+    &[5, 2, 6, 7, 8, 4, 1, 3, 0], // ClassMethod
+    &[5, 2, 6, 7, 8, 4, 1, 3, 0], // PrivateMethod
+    &[6, 11, 5, 12, 7, 8, 9, 4, 1, 10, 0, 3, 2], // ClassProp
+    &[7, 1, 6, 11, 8, 9, 5, 2, 10, 0, 4, 3], // PrivateProp
+    &[4, 1, 3, 0, 2], // TsIndexSignature
+    &[1, 0], // StaticBlock
+    &[6, 5, 9, 7, 8, 4, 1, 0, 3, 2], // AutoAccessor
+    &[2, 1, 3, 5, 4, 0], // TsParamProp
+    &[1, 0], // TsKeywordType
+    &[0], // TsThisType
+    &[4, 1, 0, 3, 2], // TsFnType
+    &[4, 1, 0, 3, 2], // TsConstructorType
+    &[0, 1, 2], // TsTypeRef
+    &[1, 0, 2], // TsTypeQuery
+    &[1, 0], // TsTypeLit
+    &[1, 0], // TsArrayType
+    &[1, 0], // TsTupleType
+    &[1, 0, 2], // TsTupleElement
+    &[0, 1], // TsOptionalType
+    &[0, 1], // TsRestType
+    &[0, 1], // TsParenthesizedType
+    &[0, 1], // TsUnionType
+    &[0, 1], // TsIntersectionType
+    &[1, 2, 4, 0, 3], // TsConditionalType
+    &[0, 1], // TsInferType
+    &[1, 0, 2], // TsTypeOperator
+    &[3, 2, 1, 0], // TsIndexedAccessType
+    &[3, 4, 1, 0, 5, 2], // TsMappedType
+    &[1, 0], // TsLitType
+    &[2, 0, 1], // TsTplLitType
+    &[1, 2, 0, 3], // TsTypePredicate
+    &[1, 2, 0, 3], // TsImportType
+    &[1, 2, 0], // TsQualifiedName
+    &[1, 0, 2, 3], // TsCallSignatureDecl
+    &[1, 0, 2, 3], // TsConstructSignatureDecl
+    &[2, 1, 4, 3, 0, 5], // TsPropertySignature
+    &[2, 1, 0, 3], // TsGetterSignature
+    &[2, 1, 3, 0], // TsSetterSignature
+    &[2, 1, 3, 4, 0, 5, 6], // TsMethodSignature
+    &[5, 6, 4, 2, 3, 1, 0], // TsTypeParam
+    &[1, 0], // TsTypeParamDecl
+    &[1, 0], // TsTypeParamInstantiation
+    &[0, 1], // TsTypeAnn
+    &[], // TargetPat
+    &[], // PatExpr
+];

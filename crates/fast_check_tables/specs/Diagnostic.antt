@@ -78,71 +78,82 @@ declare_or_rewrite = codes "add a type declaration (d.ts) for the JavaScript mod
 abbrev pub is_reference : List ℕ
 is_reference = codes "this is the reference"
 
--- what is told of all diagnostics of its kind: code, range description, hint and lines (None and empty where they go
+-- what is told of all diagnostics of its kind: code, message, range description, hint and lines (None and empty where they go
 -- by what the diagnostic holds)
 unfoldable pub texts_of : FastCheckDiagnostic → KindTexts
 texts_of (NotFoundReference _ _ _) = record {
   code = codes "not-found-reference";
+  message = [];
   range_description = Some is_reference;
   hint = Some (codes "fix the reference to point to a symbol that exists");
   info = may_be_a_bug ∷ [];
 }
 texts_of (MissingExplicitType _) = record {
   code = codes "missing-explicit-type";
+  message = codes "missing explicit type in the public API";
   range_description = Some (codes "this symbol is missing an explicit type");
   hint = Some (codes "add an explicit type annotation to the symbol");
   info = codes "all symbols in the public API must have an explicit type" ∷ [];
 }
 texts_of (MissingExplicitReturnType _ _ _) = record {
   code = codes "missing-explicit-return-type";
+  message = codes "missing explicit return type in the public API";
   range_description = Some (codes "this function is missing an explicit return type");
   hint = None;
   info = [];
 }
 texts_of (UnsupportedAmbientModule _) = record {
   code = codes "unsupported-ambient-module";
+  message = codes "found an ambient module, which is a global augmentation, which are not unsupported";
   range_description = None;
   hint = Some (codes "remove the ambient module declaration");
   info = codes "ambient modules are not supported because they can modify the types of a module from outside of that module" ∷ [];
 }
 texts_of (UnsupportedComplexReference _ _ _) = record {
   code = codes "unsupported-complex-reference";
+  message = [];
   range_description = Some is_reference;
   hint = Some (codes "extract the shared type to a type alias and reference the type alias instead");
   info = codes "the reference was too complex to be resolved by fast check" ∷ [];
 }
 texts_of (UnsupportedDefaultExportExpr _) = record {
   code = codes "unsupported-default-export-expr";
+  message = codes "default export expression was too complex";
   range_description = None;
   hint = Some (codes "add an 'as' clause with an explicit type after the expression, or extract to a variable");
   info = codes "fast check was unable to infer the type of the default export expression" ∷ [];
 }
 texts_of (UnsupportedDestructuring _) = record {
   code = codes "unsupported-destructuring";
+  message = codes "found destructuring, which is not supported in the public API";
   range_description = None;
   hint = Some (codes "separate each destructured symbol into its own export statement");
   info = codes "destructuring can not be inferred by fast check" ∷ [];
 }
 texts_of (UnsupportedExpandoProperty _ _ _) = record {
   code = codes "unsupported-expando-property";
+  message = [];
   range_description = None;
   hint = None;
   info = codes "expando properties get converted to a namespace and the reference conflicts with a namespace export" ∷ [];
 }
 texts_of (UnsupportedGlobalModule _) = record {
   code = codes "unsupported-global-module";
+  message = codes "found global augmentations, which are not supported";
   range_description = None;
   hint = Some (codes "remove the 'global' augmentation");
   info = codes "global augmentations are not supported because they can modify global types, which can affect other modules type checking" ∷ [];
 }
 texts_of (UnsupportedRequire _) = record {
   code = codes "unsupported-require";
+  message = codes "require statements are a CommonJS feature, which are not supported in ES modules";
   range_description = None;
   hint = Some (codes "use an import statement instead");
   info = codes "CommonJS features such as require are not supported in ES modules" ∷ [];
 }
 texts_of (UnsupportedPrivateMemberReference _ _ _) = record {
   code = codes "unsupported-private-member-reference";
+  message = [];
   range_description = Some is_reference;
   hint = Some (codes "extract the type of the private member to a type alias and reference the type alias instead");
   info = codes "private members can not be referenced from public API members" ∷
@@ -150,30 +161,35 @@ texts_of (UnsupportedPrivateMemberReference _ _ _) = record {
 }
 texts_of (UnsupportedSuperClassExpr _) = record {
   code = codes "unsupported-super-class-expr";
+  message = codes "super class expression was too complex";
   range_description = Some (codes "this is the superclass expression");
   hint = Some (codes "extract the superclass expression into a variable");
   info = codes "fast check was unable to infer the type of the superclass expression" ∷ [];
 }
 texts_of (UnsupportedTsExportAssignment _) = record {
   code = codes "unsupported-ts-export-assignment";
+  message = codes "export assignments are a Common JS feature, which are not supported in ES modules";
   range_description = None;
   hint = Some (codes "use an export statement instead");
   info = codes "CommonJS features such as export assignments are not supported in ES modules" ∷ [];
 }
 texts_of (UnsupportedTsNamespaceExport _) = record {
   code = codes "unsupported-ts-namespace-export";
+  message = codes "found namespace export, which is a global augmentation, which are not unsupported";
   range_description = None;
   hint = Some (codes "remove the namespace export");
   info = codes "namespace exports are not supported because they can modify the types of a module from outside of that module" ∷ [];
 }
 texts_of (UnsupportedUsing _) = record {
   code = codes "unsupported-using";
+  message = codes "using declarations are not supproted in the public API";
   range_description = None;
   hint = Some (codes "use 'const' instead of 'using'");
   info = codes "using declarations have unclear semantics in the public API" ∷ codes "they are thus not supported in the public API" ∷ [];
 }
 texts_of (UnsupportedNestedJavaScript _) = record {
   code = codes "unsupported-nested-javascript";
+  message = codes "referenced a JavaScript module without type declarations from a TypeScript module";
   range_description = None;
   hint = Some declare_or_rewrite;
   info = needs_inference ∷
@@ -181,6 +197,7 @@ texts_of (UnsupportedNestedJavaScript _) = record {
 }
 texts_of (UnsupportedJavaScriptEntrypoint _) = record {
   code = codes "unsupported-javascript-entrypoint";
+  message = codes "used a JavaScript module without type declarations as an entrypoint";
   range_description = None;
   hint = Some declare_or_rewrite;
   info = needs_inference ∷
@@ -188,18 +205,21 @@ texts_of (UnsupportedJavaScriptEntrypoint _) = record {
 }
 texts_of (Emit _ _) = record {
   code = codes "emit";
+  message = [];
   range_description = None;
   hint = Some may_be_a_bug;
   info = may_be_a_bug ∷ [];
 }
 texts_of (ExportNotFound _) = record {
   code = codes "export-not-found";
+  message = [];
   range_description = None;
   hint = Some is_a_bug;
   info = is_a_bug ∷ [];
 }
 texts_of (Cached _) = record {
   code = codes "cached";
+  message = codes "diagnostic was cached";
   range_description = None;
   hint = Some is_a_bug;
   info = is_a_bug ∷ [];
@@ -222,30 +242,17 @@ level_of _ = Error
 unfoldable pub message_of : FastCheckDiagnostic → List ℕ
 message_of (NotFoundReference _ name referrer) =
     codes "could not resolve '" ++ (string_bytes name ++ (codes "' referenced from '" ++ (string_bytes referrer ++ codes "'")))
-message_of (MissingExplicitType _) = codes "missing explicit type in the public API"
-message_of (MissingExplicitReturnType _ _ _) = codes "missing explicit return type in the public API"
-message_of (UnsupportedAmbientModule _) = codes "found an ambient module, which is a global augmentation, which are not unsupported"
 message_of (UnsupportedComplexReference _ name referrer) =
     codes "the reference '" ++ (string_bytes name ++ (codes "' from '" ++ (string_bytes referrer ++ codes "' was too complex")))
-message_of (UnsupportedDefaultExportExpr _) = codes "default export expression was too complex"
-message_of (UnsupportedDestructuring _) = codes "found destructuring, which is not supported in the public API"
 message_of (UnsupportedExpandoProperty _ object_name reference_name) =
     codes "expando property referencing '" ++ (string_bytes reference_name ++ (codes "' conflicts with '" ++ (string_bytes object_name ++
     (codes "." ++ (string_bytes reference_name ++ codes "'")))))
-message_of (UnsupportedGlobalModule _) = codes "found global augmentations, which are not supported"
-message_of (UnsupportedRequire _) = codes "require statements are a CommonJS feature, which are not supported in ES modules"
 message_of (UnsupportedPrivateMemberReference _ name referrer) =
     codes "public API member (" ++ (string_bytes referrer ++
     (codes ") is referencing or transitively referencing a class private member (" ++ (string_bytes name ++ codes ")")))
-message_of (UnsupportedSuperClassExpr _) = codes "super class expression was too complex"
-message_of (UnsupportedTsExportAssignment _) = codes "export assignments are a Common JS feature, which are not supported in ES modules"
-message_of (UnsupportedTsNamespaceExport _) = codes "found namespace export, which is a global augmentation, which are not unsupported"
-message_of (UnsupportedUsing _) = codes "using declarations are not supproted in the public API"
-message_of (UnsupportedNestedJavaScript _) = codes "referenced a JavaScript module without type declarations from a TypeScript module"
-message_of (UnsupportedJavaScriptEntrypoint _) = codes "used a JavaScript module without type declarations as an entrypoint"
 message_of (Emit _ inner) = codes "failed to emit fast check module: " ++ string_bytes inner
 message_of (ExportNotFound specifier) = codes "export not found: " ++ serialize specifier
-message_of (Cached _) = codes "diagnostic was cached"
+message_of d = (texts_of d).message
 
 -- what can be done about a function without return type: is it definitely void or never, and is it asynchronous?
 abbrev pub hint_of_return_type : Bool → Bool → List ℕ

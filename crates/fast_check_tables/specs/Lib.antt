@@ -1,5 +1,6 @@
 pub mod PublicRanges
 pub mod DiagnosticRange
+pub mod DiagnosticCopy
 pub mod Report
 pub mod Subject
 pub mod KindTexts

@@ -2,6 +2,7 @@
 ghost use Rattle.std.specs.Prelude.{◌≡◌, Some};
 ghost use Rattle.std.specs.Option.{option_copied};
 
+mod copies;
 mod range;
 mod report;
 mod texts;
@@ -16,7 +17,7 @@ use std::fmt;
 use url::Url;
 
 /// Why a module has no skeleton. It prints as its message.
-#[derive(Debug, Clone, Drop)]
+#[derive(Debug, Drop)]
 pub enum FastCheckDiagnostic {
     /// A public declaration refers to a member of a class or a namespace that is not there.
     NotFoundReference {
@@ -189,32 +190,32 @@ impl FastCheckDiagnostic {
         }
     }
 
-    fn texts(&self) -> Texts
-        ensures { shown_texts result ≡ texts_of self.now }
+    fn texts(&self) -> &'static Texts
+        ensures { shown_texts result.now ≡ texts_of self.now }
     {
         match self {
-            Self::NotFoundReference { .. } => texts::NOT_FOUND_REFERENCE,
-            Self::MissingExplicitType { .. } => texts::MISSING_EXPLICIT_TYPE,
-            Self::MissingExplicitReturnType { .. } => texts::MISSING_EXPLICIT_RETURN_TYPE,
-            Self::UnsupportedAmbientModule { .. } => texts::UNSUPPORTED_AMBIENT_MODULE,
-            Self::UnsupportedComplexReference { .. } => texts::UNSUPPORTED_COMPLEX_REFERENCE,
-            Self::UnsupportedDefaultExportExpr { .. } => texts::UNSUPPORTED_DEFAULT_EXPORT_EXPR,
-            Self::UnsupportedDestructuring { .. } => texts::UNSUPPORTED_DESTRUCTURING,
-            Self::UnsupportedExpandoProperty { .. } => texts::UNSUPPORTED_EXPANDO_PROPERTY,
-            Self::UnsupportedGlobalModule { .. } => texts::UNSUPPORTED_GLOBAL_MODULE,
-            Self::UnsupportedRequire { .. } => texts::UNSUPPORTED_REQUIRE,
+            Self::NotFoundReference { .. } => &texts::NOT_FOUND_REFERENCE,
+            Self::MissingExplicitType { .. } => &texts::MISSING_EXPLICIT_TYPE,
+            Self::MissingExplicitReturnType { .. } => &texts::MISSING_EXPLICIT_RETURN_TYPE,
+            Self::UnsupportedAmbientModule { .. } => &texts::UNSUPPORTED_AMBIENT_MODULE,
+            Self::UnsupportedComplexReference { .. } => &texts::UNSUPPORTED_COMPLEX_REFERENCE,
+            Self::UnsupportedDefaultExportExpr { .. } => &texts::UNSUPPORTED_DEFAULT_EXPORT_EXPR,
+            Self::UnsupportedDestructuring { .. } => &texts::UNSUPPORTED_DESTRUCTURING,
+            Self::UnsupportedExpandoProperty { .. } => &texts::UNSUPPORTED_EXPANDO_PROPERTY,
+            Self::UnsupportedGlobalModule { .. } => &texts::UNSUPPORTED_GLOBAL_MODULE,
+            Self::UnsupportedRequire { .. } => &texts::UNSUPPORTED_REQUIRE,
             Self::UnsupportedPrivateMemberReference { .. } =>
-                texts::UNSUPPORTED_PRIVATE_MEMBER_REFERENCE,
-            Self::UnsupportedSuperClassExpr { .. } => texts::UNSUPPORTED_SUPER_CLASS_EXPR,
-            Self::UnsupportedTsExportAssignment { .. } => texts::UNSUPPORTED_TS_EXPORT_ASSIGNMENT,
-            Self::UnsupportedTsNamespaceExport { .. } => texts::UNSUPPORTED_TS_NAMESPACE_EXPORT,
-            Self::UnsupportedUsing { .. } => texts::UNSUPPORTED_USING,
-            Self::UnsupportedNestedJavaScript { .. } => texts::UNSUPPORTED_NESTED_JAVASCRIPT,
+                &texts::UNSUPPORTED_PRIVATE_MEMBER_REFERENCE,
+            Self::UnsupportedSuperClassExpr { .. } => &texts::UNSUPPORTED_SUPER_CLASS_EXPR,
+            Self::UnsupportedTsExportAssignment { .. } => &texts::UNSUPPORTED_TS_EXPORT_ASSIGNMENT,
+            Self::UnsupportedTsNamespaceExport { .. } => &texts::UNSUPPORTED_TS_NAMESPACE_EXPORT,
+            Self::UnsupportedUsing { .. } => &texts::UNSUPPORTED_USING,
+            Self::UnsupportedNestedJavaScript { .. } => &texts::UNSUPPORTED_NESTED_JAVASCRIPT,
             Self::UnsupportedJavaScriptEntrypoint { .. } =>
-                texts::UNSUPPORTED_JAVASCRIPT_ENTRYPOINT,
-            Self::Emit { .. } => texts::EMIT,
-            Self::ExportNotFound { .. } => texts::EXPORT_NOT_FOUND,
-            Self::Cached { .. } => texts::CACHED,
+                &texts::UNSUPPORTED_JAVASCRIPT_ENTRYPOINT,
+            Self::Emit { .. } => &texts::EMIT,
+            Self::ExportNotFound { .. } => &texts::EXPORT_NOT_FOUND,
+            Self::Cached { .. } => &texts::CACHED,
         }
     }
 }
@@ -230,24 +231,9 @@ impl fmt::Display for FastCheckDiagnostic {
                 f,
                 "could not resolve '{name}' referenced from '{referrer}'"
             ),
-            Self::MissingExplicitType { .. } => f.write_str(
-                "missing explicit type in the public API",
-            ),
-            Self::MissingExplicitReturnType { .. } => f.write_str(
-                "missing explicit return type in the public API",
-            ),
-            Self::UnsupportedAmbientModule { .. } => f.write_str(
-                "found an ambient module, which is a global augmentation, which are not unsupported",
-            ),
             Self::UnsupportedComplexReference { name, referrer, .. } => write!(
                 f,
                 "the reference '{name}' from '{referrer}' was too complex"
-            ),
-            Self::UnsupportedDefaultExportExpr { .. } => f.write_str(
-                "default export expression was too complex",
-            ),
-            Self::UnsupportedDestructuring { .. } => f.write_str(
-                "found destructuring, which is not supported in the public API",
             ),
             Self::UnsupportedExpandoProperty {
                 object_name,
@@ -257,37 +243,13 @@ impl fmt::Display for FastCheckDiagnostic {
                 f,
                 "expando property referencing '{reference_name}' conflicts with '{object_name}.{reference_name}'"
             ),
-            Self::UnsupportedGlobalModule { .. } => f.write_str(
-                "found global augmentations, which are not supported",
-            ),
-            Self::UnsupportedRequire { .. } => f.write_str(
-                "require statements are a CommonJS feature, which are not supported in ES modules",
-            ),
             Self::UnsupportedPrivateMemberReference { name, referrer, .. } => write!(
                 f,
                 "public API member ({referrer}) is referencing or transitively referencing a class private member ({name})"
             ),
-            Self::UnsupportedSuperClassExpr { .. } => f.write_str(
-                "super class expression was too complex",
-            ),
-            Self::UnsupportedTsExportAssignment { .. } => f.write_str(
-                "export assignments are a Common JS feature, which are not supported in ES modules",
-            ),
-            Self::UnsupportedTsNamespaceExport { .. } => f.write_str(
-                "found namespace export, which is a global augmentation, which are not unsupported",
-            ),
-            Self::UnsupportedUsing { .. } => f.write_str(
-                "using declarations are not supproted in the public API",
-            ),
-            Self::UnsupportedNestedJavaScript { .. } => f.write_str(
-                "referenced a JavaScript module without type declarations from a TypeScript module",
-            ),
-            Self::UnsupportedJavaScriptEntrypoint { .. } => f.write_str(
-                "used a JavaScript module without type declarations as an entrypoint",
-            ),
             Self::Emit { inner, .. } => write!(f, "failed to emit fast check module: {inner}"),
             Self::ExportNotFound { specifier } => write!(f, "export not found: {specifier}"),
-            Self::Cached { .. } => f.write_str("diagnostic was cached"),
+            _ => f.write_str(self.texts().message),
         }
     }
 }

@@ -1,10 +1,11 @@
 //! What a reader is told of every diagnostic of a kind.
 
 /// The texts of a kind that are the same for each of its diagnostics.
-#[derive(Clone, Copy)]
 pub(crate) struct Texts {
     /// The name of the kind, in lower case with hyphens.
     pub code: &'static str,
+    /// What is wrong. Empty where it goes by what the diagnostic holds.
+    pub message: &'static str,
     /// What the range is to the reader. None where nothing is to be said, or where there is no range.
     pub range_description: Option<&'static str>,
     /// What can be done about it. None where it goes by what the diagnostic holds.
@@ -27,29 +28,33 @@ const DECLARE_OR_REWRITE: &str =
 
 const IS_REFERENCE: &str = "this is the reference";
 
-pub(crate) const NOT_FOUND_REFERENCE: Texts = Texts {
+pub(crate) static NOT_FOUND_REFERENCE: Texts = Texts {
     code: "not-found-reference",
+    message: "",
     range_description: Some(IS_REFERENCE),
     hint: Some("fix the reference to point to a symbol that exists"),
     info: &[MAY_BE_A_BUG],
 };
 
-pub(crate) const MISSING_EXPLICIT_TYPE: Texts = Texts {
+pub(crate) static MISSING_EXPLICIT_TYPE: Texts = Texts {
     code: "missing-explicit-type",
+    message: "missing explicit type in the public API",
     range_description: Some("this symbol is missing an explicit type"),
     hint: Some("add an explicit type annotation to the symbol"),
     info: &["all symbols in the public API must have an explicit type"],
 };
 
-pub(crate) const MISSING_EXPLICIT_RETURN_TYPE: Texts = Texts {
+pub(crate) static MISSING_EXPLICIT_RETURN_TYPE: Texts = Texts {
     code: "missing-explicit-return-type",
+    message: "missing explicit return type in the public API",
     range_description: Some("this function is missing an explicit return type"),
     hint: None,
     info: &[],
 };
 
-pub(crate) const UNSUPPORTED_AMBIENT_MODULE: Texts = Texts {
+pub(crate) static UNSUPPORTED_AMBIENT_MODULE: Texts = Texts {
     code: "unsupported-ambient-module",
+    message: "found an ambient module, which is a global augmentation, which are not unsupported",
     range_description: None,
     hint: Some("remove the ambient module declaration"),
     info: &[
@@ -57,15 +62,17 @@ pub(crate) const UNSUPPORTED_AMBIENT_MODULE: Texts = Texts {
     ],
 };
 
-pub(crate) const UNSUPPORTED_COMPLEX_REFERENCE: Texts = Texts {
+pub(crate) static UNSUPPORTED_COMPLEX_REFERENCE: Texts = Texts {
     code: "unsupported-complex-reference",
+    message: "",
     range_description: Some(IS_REFERENCE),
     hint: Some("extract the shared type to a type alias and reference the type alias instead"),
     info: &["the reference was too complex to be resolved by fast check"],
 };
 
-pub(crate) const UNSUPPORTED_DEFAULT_EXPORT_EXPR: Texts = Texts {
+pub(crate) static UNSUPPORTED_DEFAULT_EXPORT_EXPR: Texts = Texts {
     code: "unsupported-default-export-expr",
+    message: "default export expression was too complex",
     range_description: None,
     hint: Some(
         "add an 'as' clause with an explicit type after the expression, or extract to a variable",
@@ -73,15 +80,17 @@ pub(crate) const UNSUPPORTED_DEFAULT_EXPORT_EXPR: Texts = Texts {
     info: &["fast check was unable to infer the type of the default export expression"],
 };
 
-pub(crate) const UNSUPPORTED_DESTRUCTURING: Texts = Texts {
+pub(crate) static UNSUPPORTED_DESTRUCTURING: Texts = Texts {
     code: "unsupported-destructuring",
+    message: "found destructuring, which is not supported in the public API",
     range_description: None,
     hint: Some("separate each destructured symbol into its own export statement"),
     info: &["destructuring can not be inferred by fast check"],
 };
 
-pub(crate) const UNSUPPORTED_EXPANDO_PROPERTY: Texts = Texts {
+pub(crate) static UNSUPPORTED_EXPANDO_PROPERTY: Texts = Texts {
     code: "unsupported-expando-property",
+    message: "",
     range_description: None,
     hint: None,
     info: &[
@@ -89,8 +98,9 @@ pub(crate) const UNSUPPORTED_EXPANDO_PROPERTY: Texts = Texts {
     ],
 };
 
-pub(crate) const UNSUPPORTED_GLOBAL_MODULE: Texts = Texts {
+pub(crate) static UNSUPPORTED_GLOBAL_MODULE: Texts = Texts {
     code: "unsupported-global-module",
+    message: "found global augmentations, which are not supported",
     range_description: None,
     hint: Some("remove the 'global' augmentation"),
     info: &[
@@ -98,15 +108,17 @@ pub(crate) const UNSUPPORTED_GLOBAL_MODULE: Texts = Texts {
     ],
 };
 
-pub(crate) const UNSUPPORTED_REQUIRE: Texts = Texts {
+pub(crate) static UNSUPPORTED_REQUIRE: Texts = Texts {
     code: "unsupported-require",
+    message: "require statements are a CommonJS feature, which are not supported in ES modules",
     range_description: None,
     hint: Some("use an import statement instead"),
     info: &["CommonJS features such as require are not supported in ES modules"],
 };
 
-pub(crate) const UNSUPPORTED_PRIVATE_MEMBER_REFERENCE: Texts = Texts {
+pub(crate) static UNSUPPORTED_PRIVATE_MEMBER_REFERENCE: Texts = Texts {
     code: "unsupported-private-member-reference",
+    message: "",
     range_description: Some(IS_REFERENCE),
     hint: Some(
         "extract the type of the private member to a type alias and reference the type alias instead",
@@ -117,22 +129,25 @@ pub(crate) const UNSUPPORTED_PRIVATE_MEMBER_REFERENCE: Texts = Texts {
     ],
 };
 
-pub(crate) const UNSUPPORTED_SUPER_CLASS_EXPR: Texts = Texts {
+pub(crate) static UNSUPPORTED_SUPER_CLASS_EXPR: Texts = Texts {
     code: "unsupported-super-class-expr",
+    message: "super class expression was too complex",
     range_description: Some("this is the superclass expression"),
     hint: Some("extract the superclass expression into a variable"),
     info: &["fast check was unable to infer the type of the superclass expression"],
 };
 
-pub(crate) const UNSUPPORTED_TS_EXPORT_ASSIGNMENT: Texts = Texts {
+pub(crate) static UNSUPPORTED_TS_EXPORT_ASSIGNMENT: Texts = Texts {
     code: "unsupported-ts-export-assignment",
+    message: "export assignments are a Common JS feature, which are not supported in ES modules",
     range_description: None,
     hint: Some("use an export statement instead"),
     info: &["CommonJS features such as export assignments are not supported in ES modules"],
 };
 
-pub(crate) const UNSUPPORTED_TS_NAMESPACE_EXPORT: Texts = Texts {
+pub(crate) static UNSUPPORTED_TS_NAMESPACE_EXPORT: Texts = Texts {
     code: "unsupported-ts-namespace-export",
+    message: "found namespace export, which is a global augmentation, which are not unsupported",
     range_description: None,
     hint: Some("remove the namespace export"),
     info: &[
@@ -140,8 +155,9 @@ pub(crate) const UNSUPPORTED_TS_NAMESPACE_EXPORT: Texts = Texts {
     ],
 };
 
-pub(crate) const UNSUPPORTED_USING: Texts = Texts {
+pub(crate) static UNSUPPORTED_USING: Texts = Texts {
     code: "unsupported-using",
+    message: "using declarations are not supproted in the public API",
     range_description: None,
     hint: Some("use 'const' instead of 'using'"),
     info: &[
@@ -150,8 +166,9 @@ pub(crate) const UNSUPPORTED_USING: Texts = Texts {
     ],
 };
 
-pub(crate) const UNSUPPORTED_NESTED_JAVASCRIPT: Texts = Texts {
+pub(crate) static UNSUPPORTED_NESTED_JAVASCRIPT: Texts = Texts {
     code: "unsupported-nested-javascript",
+    message: "referenced a JavaScript module without type declarations from a TypeScript module",
     range_description: None,
     hint: Some(DECLARE_OR_REWRITE),
     info: &[
@@ -160,8 +177,9 @@ pub(crate) const UNSUPPORTED_NESTED_JAVASCRIPT: Texts = Texts {
     ],
 };
 
-pub(crate) const UNSUPPORTED_JAVASCRIPT_ENTRYPOINT: Texts = Texts {
+pub(crate) static UNSUPPORTED_JAVASCRIPT_ENTRYPOINT: Texts = Texts {
     code: "unsupported-javascript-entrypoint",
+    message: "used a JavaScript module without type declarations as an entrypoint",
     range_description: None,
     hint: Some(DECLARE_OR_REWRITE),
     info: &[
@@ -170,22 +188,25 @@ pub(crate) const UNSUPPORTED_JAVASCRIPT_ENTRYPOINT: Texts = Texts {
     ],
 };
 
-pub(crate) const EMIT: Texts = Texts {
+pub(crate) static EMIT: Texts = Texts {
     code: "emit",
+    message: "",
     range_description: None,
     hint: Some(MAY_BE_A_BUG),
     info: &[MAY_BE_A_BUG],
 };
 
-pub(crate) const EXPORT_NOT_FOUND: Texts = Texts {
+pub(crate) static EXPORT_NOT_FOUND: Texts = Texts {
     code: "export-not-found",
+    message: "",
     range_description: None,
     hint: Some(IS_A_BUG),
     info: &[IS_A_BUG],
 };
 
-pub(crate) const CACHED: Texts = Texts {
+pub(crate) static CACHED: Texts = Texts {
     code: "cached",
+    message: "diagnostic was cached",
     range_description: None,
     hint: Some(IS_A_BUG),
     info: &[IS_A_BUG],
