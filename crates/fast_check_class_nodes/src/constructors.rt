@@ -1,13 +1,15 @@
-ghost use Rattle.std.specs.Prelude.{◌≡◌, IfOk, map};
+ghost use Rattle.std.specs.Prelude.{◌≡◌, IfOk, map, if◌then◌else◌};
 ghost use Rattle.std.specs.List.{filter};
 ghost use Rattle.fast_check_syntax.specs.Part.{seen};
-ghost use Rattle.fast_check_syntax.specs.Shape.{parts, list, none_range};
+ghost use Rattle.fast_check_syntax.specs.Shape.{parts, list, is_absent, none_range};
+ghost use Rattle.fast_check_expression_forms.specs.Calls.{call_expr, CallExpr-span, CallExpr-ctxt, CallExpr-callee, CallExpr-args, CallExpr-type_args};
 ghost use Rattle.fast_check_signatures.specs.Classes as classes;
 ghost use Rattle.fast_check_syntax.specs.declared.kind.Word.TheVariants.{TsNeverKeyword};
-ghost use Rattle.fast_check_helpers.specs.Builders.{ts_keyword_type};
+ghost use Rattle.fast_check_helpers.specs.Builders.{ts_keyword_type, never_value};
 ghost use Rattle.fast_check_signatures.specs.NewNodes as new;
 ghost use Rattle.fast_check_signatures.specs.NewNodes.{ts_array_type};
 
+use crate::copies::two_trees;
 use fast_check_class_forms::{Param, TsParamProp};
 use fast_check_expression_forms::{ArrayLit, CallExpr, ExprOrSpread, ParenExpr, TsAsExpr};
 use fast_check_helpers::{TsKeywordTypeKind, never_value, ts_keyword_type};
@@ -19,16 +21,18 @@ use std::alloc::{AllocError, Global};
 fn plain_param(alloc: Global, param: Part<'_>) -> Result<Tree, AllocError>
     ensures { IfOk result (λ tree. tree ≡ classes.plain_param (seen param.entry)) }
 {
-    if param.kind() != Kind::TsParamProp {
-        return param.to_tree(alloc);
+    if param.kind() == Kind::TsParamProp {
+        let TsParamProp { span, param, .. } = TsParamProp::of(param);
+        let pat = param.to_tree(alloc)?;
+        let decorators = Tree::list(Items::new(alloc));
+        let plain = Param {
+            span,
+            decorators,
+            pat,
+        };
+        return plain.into_tree(alloc);
     }
-    let prop = TsParamProp::of(param);
-    Param {
-        span: prop.span,
-        decorators: Tree::list(Items::new(alloc)),
-        pat: prop.param.to_tree(alloc)?,
-    }
-    .into_tree(alloc)
+    param.to_tree(alloc)
 }
 
 /// The parameters of a constructor, as a list of `Param`.
@@ -54,20 +58,31 @@ fn never_array_type(alloc: Global) -> Result<Tree, AllocError>
 fn never_array_in_parens(alloc: Global) -> Result<Tree, AllocError>
     ensures { IfOk result (λ tree. tree ≡ new.never_array_in_parens) }
 {
+    let type_ann = never_array_type(alloc)?;
     let array = ArrayLit {
         span: DUMMY_SP,
         elems: Tree::list(Items::new(alloc)),
     };
+    let expr = array.into_tree(alloc)?;
+    let span = DUMMY_SP;
     let asserted = TsAsExpr {
-        span: DUMMY_SP,
-        expr: array.into_tree(alloc)?,
-        type_ann: never_array_type(alloc)?,
+        span,
+        expr,
+        type_ann,
     };
-    ParenExpr {
-        span: DUMMY_SP,
-        expr: asserted.into_tree(alloc)?,
+    let expr = asserted.into_tree(alloc)?;
+    ParenExpr { span, expr }.into_tree(alloc)
+}
+
+/// What stands for the value of an argument: `{} as never`, or `([] as never[])` where it is spread.
+fn never_argument_value(alloc: Global, spread: Part<'_>) -> Result<Tree, AllocError>
+    ensures { IfOk result (λ tree. tree ≡ (if is_absent (seen spread.entry) then never_value else new.never_array_in_parens)) }
+{
+    if spread.is_absent() {
+        never_value(alloc)
+    } else {
+        never_array_in_parens(alloc)
     }
-    .into_tree(alloc)
 }
 
 /// An argument of a call of the superclass: `{} as never`, or `...([] as never[])`.
@@ -75,11 +90,7 @@ fn never_argument(alloc: Global, arg: Part<'_>) -> Result<Tree, AllocError>
     ensures { IfOk result (λ tree. tree ≡ classes.never_argument (seen arg.entry)) }
 {
     let spread = ExprOrSpread::of(arg).spread;
-    let expr = if spread.is_absent() {
-        never_value(alloc)?
-    } else {
-        never_array_in_parens(alloc)?
-    };
+    let expr = never_argument_value(alloc, spread)?;
     ExprOrSpread {
         spread: spread.to_tree(alloc)?,
         expr,
@@ -102,11 +113,30 @@ fn never_arguments(alloc: Global, args: Part<'_>) -> Result<Tree, AllocError>
 fn is_super_call(stmt: Part<'_>) -> bool
     ensures { result ≡ classes.is_super_call (seen stmt.entry) }
 {
-    if stmt.kind() != Kind::ExprStmt {
-        return false;
+    if stmt.kind() == Kind::ExprStmt {
+        let expr = ExprStmt::of(stmt).expr;
+        return expr.kind() == Kind::CallExpr && CallExpr::of(expr).callee.kind() == Kind::Super;
     }
-    let expr = ExprStmt::of(stmt).expr;
-    expr.kind() == Kind::CallExpr && CallExpr::of(expr).callee.kind() == Kind::Super
+    false
+}
+
+/// A call with arguments that are never looked at.
+fn never_call(alloc: Global, call: Part<'_>) -> Result<Tree, AllocError>
+    ensures { IfOk result (λ tree. tree ≡
+        call_expr (CallExpr-span (seen call.entry)) (CallExpr-ctxt (seen call.entry)) (CallExpr-callee (seen call.entry))
+        (list (map (λ a. classes.never_argument a) (parts (CallExpr-args (seen call.entry))))) (CallExpr-type_args (seen call.entry))) }
+{
+    let call = CallExpr::of(call);
+    let args = never_arguments(alloc, call.args)?;
+    let (callee, type_args) = two_trees(alloc, call.callee, call.type_args)?;
+    CallExpr {
+        span: call.span,
+        ctxt: call.ctxt,
+        callee,
+        args,
+        type_args,
+    }
+    .into_tree(alloc)
 }
 
 /// `super(..);` with arguments that are never looked at.
@@ -114,15 +144,7 @@ fn super_call(alloc: Global, stmt: Part<'_>) -> Result<Tree, AllocError>
     ensures { IfOk result (λ tree. tree ≡ classes.super_call (seen stmt.entry)) }
 {
     let ExprStmt { span, expr } = ExprStmt::of(stmt);
-    let call = CallExpr::of(expr);
-    let call = CallExpr {
-        span: call.span,
-        ctxt: call.ctxt,
-        callee: call.callee.to_tree(alloc)?,
-        args: never_arguments(alloc, call.args)?,
-        type_args: call.type_args.to_tree(alloc)?,
-    };
-    let call = call.into_tree(alloc)?;
+    let call = never_call(alloc, expr)?;
     Tree::node(alloc, Kind::ExprStmt, [Tree::Range(span), call])
 }
 

@@ -3,6 +3,7 @@
 #![tactic(auto)]
 
 mod constructors;
+mod copies;
 mod earlier;
 mod keys;
 mod properties;

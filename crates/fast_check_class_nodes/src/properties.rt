@@ -1,11 +1,16 @@
-ghost use Rattle.std.specs.Prelude.{◌≡◌, IfOk};
+ghost use Rattle.std.specs.Prelude.{◌≡◌, IfOk, codes};
 ghost use Rattle.fast_check_syntax.specs.Part.{seen};
+ghost use Rattle.fast_check_syntax.specs.Shape.{none_range};
 ghost use Rattle.fast_check_program_forms.specs.Names.{Ident-span, Ident-sym};
+ghost use Rattle.fast_check_program_forms.specs.Names as names;
+ghost use Rattle.fast_check_helpers.specs.Builders as builders;
+ghost use Rattle.fast_check_syntax.specs.declared.kind.Word.TheVariants.{TsUnknownKeyword};
 ghost use Rattle.fast_check_signatures.specs.Answers.{declared_property, valued_property};
 ghost use Rattle.fast_check_signatures.specs.Classes as classes;
 ghost use Rattle.fast_check_signatures.specs.NewNodes as new;
 ghost use Rattle.fast_check_class_nodes.specs.Heads.{head_of};
 
+use crate::copies::two_trees;
 use crate::keys::is_private;
 use fast_check_class_forms::{AutoAccessor, ClassMethod, ClassProp, PrivateProp, TsParamProp};
 use fast_check_expression_forms::AssignPat;
@@ -86,11 +91,12 @@ pub fn property_head(alloc: Global, member: Part<'_>) -> Result<PropertyHead, Al
     ensures { IfOk result (λ head. head_of head ≡ classes.property_head (seen member.entry)) }
 {
     let prop = ClassProp::of(member);
+    let (key, accessibility) = two_trees(alloc, prop.key, prop.accessibility)?;
     Ok(PropertyHead {
         span: prop.span,
-        key: prop.key.to_tree(alloc)?,
+        key,
         is_static: prop.is_static,
-        accessibility: prop.accessibility.to_tree(alloc)?,
+        accessibility,
         is_abstract: prop.is_abstract,
         is_optional: prop.is_optional,
         is_override: prop.is_override,
@@ -103,11 +109,12 @@ pub fn accessor_head(alloc: Global, member: Part<'_>) -> Result<PropertyHead, Al
     ensures { IfOk result (λ head. head_of head ≡ classes.accessor_head (seen member.entry)) }
 {
     let accessor = AutoAccessor::of(member);
+    let (key, accessibility) = two_trees(alloc, accessor.key, accessor.accessibility)?;
     Ok(PropertyHead {
         span: accessor.span,
-        key: accessor.key.to_tree(alloc)?,
+        key,
         is_static: accessor.is_static,
-        accessibility: accessor.accessibility.to_tree(alloc)?,
+        accessibility,
         is_abstract: false,
         is_optional: false,
         is_override: false,
@@ -120,11 +127,12 @@ pub fn private_method_head(alloc: Global, member: Part<'_>) -> Result<PropertyHe
     ensures { IfOk result (λ head. head_of head ≡ classes.private_method_head (seen member.entry)) }
 {
     let method = ClassMethod::of(member);
+    let (key, accessibility) = two_trees(alloc, method.key, method.accessibility)?;
     Ok(PropertyHead {
         span: method.span,
-        key: method.key.to_tree(alloc)?,
+        key,
         is_static: method.is_static,
-        accessibility: method.accessibility.to_tree(alloc)?,
+        accessibility,
         is_abstract: method.is_abstract,
         is_optional: method.is_optional,
         is_override: false,
@@ -132,21 +140,38 @@ pub fn private_method_head(alloc: Global, member: Part<'_>) -> Result<PropertyHe
     })
 }
 
+/// `#private`.
+fn private_name(alloc: Global) -> Result<Tree, AllocError>
+    ensures { IfOk result (λ tree. tree ≡ names.private_name none_range (codes "private")) }
+{
+    let name = Atom::from_str(alloc, "private")?;
+    PrivateName {
+        span: DUMMY_SP,
+        name,
+    }
+    .into_tree(alloc)
+}
+
+/// `: unknown`.
+fn unknown_type_ann(alloc: Global) -> Result<Tree, AllocError>
+    ensures { IfOk result (λ tree. tree ≡ builders.type_ann (builders.ts_keyword_type TsUnknownKeyword)) }
+{
+    let unknown = ts_keyword_type(TsKeywordTypeKind::TsUnknownKeyword).into_tree(alloc)?;
+    type_ann(alloc, unknown)
+}
+
 /// `#private!: unknown`, which says that a class has hash names of its own.
 pub fn hash_private(alloc: Global) -> Result<Tree, AllocError>
     ensures { IfOk result (λ tree. tree ≡ new.hash_private) }
 {
-    let key = PrivateName {
-        span: DUMMY_SP,
-        name: Atom::from_str(alloc, "private")?,
-    };
-    let unknown = ts_keyword_type(TsKeywordTypeKind::TsUnknownKeyword).into_tree(alloc)?;
+    let key = private_name(alloc)?;
+    let type_ann = unknown_type_ann(alloc)?;
     PrivateProp {
         span: DUMMY_SP,
         ctxt: SyntaxContext(0),
-        key: key.into_tree(alloc)?,
+        key,
         value: Tree::Absent,
-        type_ann: type_ann(alloc, unknown)?,
+        type_ann,
         is_static: false,
         decorators: Tree::list(Items::new(alloc)),
         accessibility: Tree::Absent,
@@ -209,14 +234,15 @@ fn param_property_head(alloc: Global, param: Part<'_>) -> Result<PropertyHead, A
         ..
     } = TsParamProp::of(param);
     let id = BindingIdent::of(param_target(param)).id;
-    let is_optional = pat.kind() == Kind::BindingIdent && Ident::of(id).optional;
+    let key = name_key(alloc, id)?;
+    let accessibility = shown_accessibility(alloc, accessibility)?;
     Ok(PropertyHead {
         span,
-        key: name_key(alloc, id)?,
+        key,
         is_static: false,
-        accessibility: shown_accessibility(alloc, accessibility)?,
+        accessibility,
         is_abstract: false,
-        is_optional,
+        is_optional: pat.kind() == Kind::BindingIdent && Ident::of(id).optional,
         is_override: false,
         readonly,
     })

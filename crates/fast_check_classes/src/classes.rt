@@ -2,12 +2,15 @@ ghost use Rattle.std.specs.Prelude.{◌≡◌, IfOk, Some};
 ghost use Rattle.fast_check_syntax.specs.Part.{seen};
 ghost use Rattle.fast_check_syntax.specs.Shape.{parts, list};
 ghost use Rattle.fast_check_signatures.specs.Answers.{Adds, answer_to};
+ghost use Rattle.fast_check_class_forms.specs.Classes as forms;
+ghost use Rattle.fast_check_class_forms.specs.Classes.{Class-span, Class-ctxt, Class-is_abstract, Class-type_params, Class-super_type_params, Class-implements};
 ghost use Rattle.fast_check_signatures.specs.Answers as answers;
 ghost use Rattle.fast_check_signatures.specs.Classes.{class_head, plain_class_seen, ambient_class};
 ghost use Rattle.fast_check_signatures.specs.Members.{ambient_members, is_private_computed};
 ghost use Rattle.fast_check_tables.specs.PublicRanges.{is_implementation};
 ghost use Rattle.fast_check_values.specs.bindings.Bindings.{bindings_of};
 
+use crate::copies::{three_trees, two_trees};
 use crate::members::transform_members;
 use crate::superclasses::transform_superclass;
 use fast_check_class_forms::{AutoAccessor, Class, ClassMethod, ClassProp};
@@ -27,17 +30,39 @@ fn class_of(
 ) -> Result<Tree, AllocError>
     ensures { IfOk result (λ tree. tree ≡ answers.class_of (class_head (seen class.entry)) super_class members) }
 {
+    let decorators = Tree::list(Items::new(alloc));
+    class_with(alloc, class, decorators, super_class, members)
+}
+
+/// A class of these decorators, this superclass and these members.
+fn class_with(
+    alloc: Global,
+    class: Part<'_>,
+    decorators: Tree,
+    super_class: Tree,
+    members: Items<Tree>,
+) -> Result<Tree, AllocError>
+    ensures { IfOk result (λ tree. tree ≡
+        forms.class (Class-span (seen class.entry)) (Class-ctxt (seen class.entry)) decorators (list members) super_class (Class-is_abstract (seen class.entry))
+        (Class-type_params (seen class.entry)) (Class-super_type_params (seen class.entry)) (Class-implements (seen class.entry))) }
+{
     let class = Class::of(class);
+    let (type_params, super_type_params, implements) = three_trees(
+        alloc,
+        class.type_params,
+        class.super_type_params,
+        class.implements,
+    )?;
     Class {
         span: class.span,
         ctxt: class.ctxt,
-        decorators: Tree::list(Items::new(alloc)),
+        decorators,
         body: Tree::list(members),
         super_class,
         is_abstract: class.is_abstract,
-        type_params: class.type_params.to_tree(alloc)?,
-        super_type_params: class.super_type_params.to_tree(alloc)?,
-        implements: class.implements.to_tree(alloc)?,
+        type_params,
+        super_type_params,
+        implements,
     }
     .into_tree(alloc)
 }
@@ -116,17 +141,13 @@ fn ambient_members(alloc: Global, body: Part<'_>) -> Result<Items<Tree>, AllocEr
 pub fn ambient_class(alloc: Global, class: Part<'_>) -> Result<Tree, AllocError>
     ensures { IfOk result (λ tree. tree ≡ ambient_class (seen class.entry)) }
 {
-    let class = Class::of(class);
-    Class {
-        span: class.span,
-        ctxt: class.ctxt,
-        decorators: class.decorators.to_tree(alloc)?,
-        body: Tree::list(ambient_members(alloc, class.body)?),
-        super_class: class.super_class.to_tree(alloc)?,
-        is_abstract: class.is_abstract,
-        type_params: class.type_params.to_tree(alloc)?,
-        super_type_params: class.super_type_params.to_tree(alloc)?,
-        implements: class.implements.to_tree(alloc)?,
-    }
-    .into_tree(alloc)
+    let Class {
+        body,
+        decorators,
+        super_class,
+        ..
+    } = Class::of(class);
+    let members = ambient_members(alloc, body)?;
+    let (decorators, super_class) = two_trees(alloc, decorators, super_class)?;
+    class_with(alloc, class, decorators, super_class, members)
 }

@@ -7,6 +7,7 @@ ghost use Rattle.fast_check_tables.specs.PublicRanges.{is_implementation};
 ghost use Rattle.fast_check_classes.specs.Parts.{first_pattern, signed_constructor};
 ghost use Rattle.fast_check_values.specs.bindings.Bindings.{bindings_of};
 
+use crate::copies::two_trees;
 use fast_check_class_forms::Constructor;
 use fast_check_class_nodes::{
     constructor_body, is_private, param_target, plain_params, takes_apart,
@@ -82,13 +83,15 @@ fn signed_constructor(
     ensures { IfOk result (λ tree. tree ≡ signed_constructor (seen member.entry) params) }
 {
     let constructor = Constructor::of(member);
+    let (key, accessibility) = two_trees(alloc, constructor.key, constructor.accessibility)?;
+    let body = constructor_body(alloc, constructor.body)?;
     Constructor {
         span: constructor.span,
         ctxt: constructor.ctxt,
-        key: constructor.key.to_tree(alloc)?,
+        key,
         params: Tree::list(params),
-        body: constructor_body(alloc, constructor.body)?,
-        accessibility: constructor.accessibility.to_tree(alloc)?,
+        body,
+        accessibility,
         is_optional: constructor.is_optional,
     }
     .into_tree(alloc)

@@ -3,6 +3,7 @@
 
 mod classes;
 mod constructors;
+mod copies;
 mod members;
 mod properties;
 mod superclasses;

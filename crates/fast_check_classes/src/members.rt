@@ -11,6 +11,7 @@ ghost use Rattle.fast_check_classes.specs.Parts.{signed_method, declared_params,
 ghost use Rattle.fast_check_values.specs.bindings.Bindings.{bindings_of};
 
 use crate::constructors::{is_param_property, pattern_among, transform_constructor};
+use crate::copies::three_trees;
 use crate::properties::{transform_accessor, transform_property};
 use fast_check_class_forms::{ClassMethod, Constructor};
 use fast_check_class_nodes::{
@@ -71,13 +72,19 @@ fn signed_method(alloc: Global, member: Part<'_>, function: Tree) -> Result<Tree
     ensures { IfOk result (λ tree. tree ≡ signed_method (seen member.entry) function) }
 {
     let method = ClassMethod::of(member);
+    let (key, kind, accessibility) = three_trees(
+        alloc,
+        method.key,
+        method.kind,
+        method.accessibility,
+    )?;
     ClassMethod {
         span: method.span,
-        key: method.key.to_tree(alloc)?,
+        key,
         function,
-        kind: method.kind.to_tree(alloc)?,
+        kind,
         is_static: method.is_static,
-        accessibility: method.accessibility.to_tree(alloc)?,
+        accessibility,
         is_abstract: method.is_abstract,
         is_optional: method.is_optional,
         is_override: method.is_override,
@@ -135,11 +142,11 @@ fn has_hash_name(members: &[Tree]) -> bool
 fn hash_mark(alloc: Global, members: &[Tree]) -> Result<Items<Tree>, AllocError>
     ensures { IfOk result (λ items. items ≡ hash_mark members.now) }
 {
-    let mut items = Items::new(alloc);
     if has_hash_name(members) {
-        items.push(hash_private(alloc)?)?;
+        let mark = hash_private(alloc)?;
+        return Ok(Items::from_vec(Vec::from_array(alloc, [mark])?));
     }
-    Ok(items)
+    Ok(Items::new(alloc))
 }
 
 /// Adds the properties that parameters declare.

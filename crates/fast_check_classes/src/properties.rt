@@ -1,6 +1,7 @@
 ghost use Rattle.std.specs.Prelude.{◌≡◌, IfOk, Some};
 ghost use Rattle.fast_check_syntax.specs.Part.{seen};
-ghost use Rattle.fast_check_signatures.specs.Answers.{Adds, answer_to};
+ghost use Rattle.fast_check_signatures.specs.Answers.{Adds, answer_to, declared_property};
+ghost use Rattle.fast_check_signatures.specs.Classes as classes;
 ghost use Rattle.fast_check_classes.specs.Parts.{value_answer, untyped_answer, property_answer, accessor_type, accessor_answer};
 ghost use Rattle.fast_check_values.specs.bindings.Bindings.{bindings_of};
 
@@ -38,6 +39,13 @@ fn keep_value(
     leave_value(alloc, info, value, Some(place), fault, faults)
 }
 
+/// A property of this type, a `TsTypeAnn`.
+fn typed_property(alloc: Global, member: Part<'_>, type_ann: Tree) -> Result<Tree, AllocError>
+    ensures { IfOk result (λ tree. tree ≡ declared_property (classes.property_head (seen member.entry)) type_ann) }
+{
+    property_head(alloc, member)?.declared(alloc, type_ann)
+}
+
 /// A property without a written type, by the type that its value shows, or else with the value as it stays.
 fn untyped_property(
     alloc: Global,
@@ -56,7 +64,7 @@ fn untyped_property(
     match maybe_infer_type(alloc, value, mutability, unresolved_context(info))? {
         Some(ty) => {
             let ty = type_ann(alloc, ty)?;
-            property_head(alloc, member)?.declared(alloc, ty)
+            typed_property(alloc, member, ty)
         }
         None => {
             let value = keep_value(alloc, info, member, faults)?;
@@ -80,12 +88,14 @@ pub fn transform_property(
         ..
     } = ClassProp::of(member);
     if is_private(accessibility) {
-        return property_head(alloc, member)?.declared(alloc, any_type_ann(alloc)?);
+        let any = any_type_ann(alloc)?;
+        return typed_property(alloc, member, any);
     }
     if type_ann.is_absent() {
         return untyped_property(alloc, info, member, faults);
     }
-    property_head(alloc, member)?.declared(alloc, type_ann.to_tree(alloc)?)
+    let written = type_ann.to_tree(alloc)?;
+    typed_property(alloc, member, written)
 }
 
 /// The type of an accessor, as `: type`, written or that its value shows; a private one is of any type.

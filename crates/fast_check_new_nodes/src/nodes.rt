@@ -1,10 +1,13 @@
-ghost use Rattle.std.specs.Prelude.{◌≡◌, IfOk, ◌∷◌, [], codes};
+ghost use Rattle.std.specs.Prelude.{◌≡◌, IfOk, ◌∷◌, [], codes, true, false, if◌then◌else◌};
 ghost use Rattle.fast_check_syntax.specs.Part.{seen};
 ghost use Rattle.fast_check_syntax.specs.Shape.{list, none_range};
 ghost use Rattle.fast_check_syntax.specs.declared.tree.Tree.{Absent};
 ghost use Rattle.fast_check_expression_forms.specs.Patterns.{rest_pat};
 ghost use Rattle.fast_check_program_forms.specs.Names.{binding_ident};
-ghost use Rattle.fast_check_helpers.specs.Builders.{any_type_ann, new_ident};
+ghost use Rattle.fast_check_syntax.specs.declared.kind.Word.TheVariants.{TsUndefinedKeyword};
+ghost use Rattle.fast_check_statement_forms.specs.Statements.{return_stmt};
+ghost use Rattle.fast_check_type_forms.specs.TypeParams.{ts_type_param_instantiation};
+ghost use Rattle.fast_check_helpers.specs.Builders.{any_type_ann, never_value, new_ident, ts_keyword_type};
 ghost use Rattle.fast_check_signatures.specs.NewNodes as new;
 
 use fast_check_class_forms::Param;
@@ -23,6 +26,7 @@ use std::alloc::{AllocError, Global};
 pub fn never_array(alloc: Global) -> Result<Tree, AllocError>
     ensures { IfOk result (λ tree. tree ≡ new.never_array) }
 {
+    let type_ann = ts_keyword_type(TsKeywordTypeKind::TsNeverKeyword).into_tree(alloc)?;
     let array = ArrayLit {
         span: DUMMY_SP,
         elems: Tree::list(Items::new(alloc)),
@@ -30,7 +34,7 @@ pub fn never_array(alloc: Global) -> Result<Tree, AllocError>
     TsAsExpr {
         span: DUMMY_SP,
         expr: array.into_tree(alloc)?,
-        type_ann: ts_keyword_type(TsKeywordTypeKind::TsNeverKeyword).into_tree(alloc)?,
+        type_ann,
     }
     .into_tree(alloc)
 }
@@ -79,19 +83,27 @@ fn returns_value(return_type: Part<'_>) -> bool
     !return_type.is_absent() && !is_void_type(TsTypeAnn::of(return_type).type_ann)
 }
 
+/// `return {} as never;`.
+fn return_never(alloc: Global) -> Result<Tree, AllocError>
+    ensures { IfOk result (λ tree. tree ≡ return_stmt none_range never_value) }
+{
+    ReturnStmt {
+        span: DUMMY_SP,
+        arg: never_value(alloc)?,
+    }
+    .into_tree(alloc)
+}
+
 /// The body of a function of this return type, a `TsTypeAnn` or absent: `{ return {} as never; }`, or `{}` where nothing
 /// is returned.
 pub fn function_body(alloc: Global, return_type: Part<'_>) -> Result<Tree, AllocError>
     ensures { IfOk result (λ tree. tree ≡ new.function_body (seen return_type.entry)) }
 {
-    let mut stmts = Items::new(alloc);
-    if returns_value(return_type) {
-        let statement = ReturnStmt {
-            span: DUMMY_SP,
-            arg: never_value(alloc)?,
-        };
-        stmts.push(statement.into_tree(alloc)?)?;
+    if !returns_value(return_type) {
+        return new_block(alloc, Items::new(alloc));
     }
+    let statement = return_never(alloc)?;
+    let stmts = one(alloc, statement)?;
     new_block(alloc, stmts)
 }
 
@@ -107,12 +119,12 @@ pub fn arrow_body(alloc: Global, return_type: Part<'_>) -> Result<Tree, AllocErr
 }
 
 /// The list of one tree.
-fn one(alloc: Global, tree: Tree) -> Result<Tree, AllocError>
-    ensures { IfOk result (λ items. items ≡ list (tree ∷ [])) }
+fn one(alloc: Global, tree: Tree) -> Result<Items<Tree>, AllocError>
+    ensures { IfOk result (λ items. items ≡ tree ∷ []) }
 {
     let mut items = Items::new(alloc);
     items.push(tree)?;
-    Ok(Tree::list(items))
+    Ok(items)
 }
 
 /// The identifier `Promise`.
@@ -122,18 +134,28 @@ fn promise_name(alloc: Global) -> Result<Tree, AllocError>
     new_ident(Atom::from_str(alloc, "Promise")?).into_tree(alloc)
 }
 
+/// `<ty>`, the arguments of a type.
+fn type_argument(alloc: Global, ty: Tree) -> Result<Tree, AllocError>
+    ensures { IfOk result (λ tree. tree ≡ ts_type_param_instantiation none_range (list (ty ∷ []))) }
+{
+    let params = one(alloc, ty)?;
+    TsTypeParamInstantiation {
+        span: DUMMY_SP,
+        params: Tree::list(params),
+    }
+    .into_tree(alloc)
+}
+
 /// `Promise<ty>`.
 pub fn promise_of(alloc: Global, ty: Tree) -> Result<Tree, AllocError>
     ensures { IfOk result (λ tree. tree ≡ new.promise_of ty) }
 {
-    let arguments = TsTypeParamInstantiation {
-        span: DUMMY_SP,
-        params: one(alloc, ty)?,
-    };
+    let type_params = type_argument(alloc, ty)?;
+    let type_name = promise_name(alloc)?;
     TsTypeRef {
         span: DUMMY_SP,
-        type_name: promise_name(alloc)?,
-        type_params: arguments.into_tree(alloc)?,
+        type_name,
+        type_params,
     }
     .into_tree(alloc)
 }
@@ -142,12 +164,12 @@ pub fn promise_of(alloc: Global, ty: Tree) -> Result<Tree, AllocError>
 fn is_promise(unresolved: SyntaxContext, ty: Part<'_>) -> bool
     ensures { result ≡ new.is_promise unresolved (seen ty.entry) }
 {
-    if ty.kind() != Kind::TsTypeRef {
-        return false;
+    if ty.kind() == Kind::TsTypeRef {
+        let reference = TsTypeRef::of(ty);
+        let arguments = TsTypeParamInstantiation::of(reference.type_params).params;
+        return is_global("Promise", unresolved, reference.type_name) && is_one(arguments.parts());
     }
-    let reference = TsTypeRef::of(ty);
-    let arguments = TsTypeParamInstantiation::of(reference.type_params).params;
-    is_global("Promise", unresolved, reference.type_name) && is_one(arguments.parts())
+    false
 }
 
 fn is_one(trees: &[Tree]) -> bool
@@ -188,23 +210,27 @@ pub fn void_or_promise_void(alloc: Global, is_async: bool) -> Result<Tree, Alloc
     }
 }
 
+/// A type and `undefined`.
+fn with_undefined(alloc: Global, ty: Part<'_>) -> Result<Items<Tree>, AllocError>
+    ensures { IfOk result (λ types. types ≡ seen ty.entry ∷ ts_keyword_type TsUndefinedKeyword ∷ []) }
+{
+    let undefined = ts_keyword_type(TsKeywordTypeKind::TsUndefinedKeyword).into_tree(alloc)?;
+    let ty = ty.to_tree(alloc)?;
+    Ok(Items::from_vec(Vec::from_array(alloc, [ty, undefined])?))
+}
+
 /// `: ty | undefined`, from `: ty`, a `TsTypeAnn`.
 pub fn or_undefined(alloc: Global, type_ann: Part<'_>) -> Result<Tree, AllocError>
     ensures { IfOk result (λ tree. tree ≡ new.or_undefined (seen type_ann.entry)) }
 {
     let TsTypeAnn { span, type_ann } = TsTypeAnn::of(type_ann);
-    let mut types = Items::new(alloc);
-    types.push(type_ann.to_tree(alloc)?)?;
-    types.push(ts_keyword_type(TsKeywordTypeKind::TsUndefinedKeyword).into_tree(alloc)?)?;
+    let types = with_undefined(alloc, type_ann)?;
     let union = TsUnionType {
         span: DUMMY_SP,
         types: Tree::list(types),
     };
-    TsTypeAnn {
-        span,
-        type_ann: union.into_tree(alloc)?,
-    }
-    .into_tree(alloc)
+    let type_ann = union.into_tree(alloc)?;
+    TsTypeAnn { span, type_ann }.into_tree(alloc)
 }
 
 /// `paramN`, or `paramN?`, for the parameter at place N.
@@ -221,17 +247,25 @@ fn param_ident(alloc: Global, place: usize, optional: bool) -> Result<Tree, Allo
     .into_tree(alloc)
 }
 
+/// `paramN?: any`, or `...paramN: any` for a rest, as a pattern.
+fn any_pat(alloc: Global, place: usize, is_rest: bool) -> Result<Tree, AllocError>
+    ensures { IfOk result (λ pat. pat ≡
+        (if is_rest then rest_pat none_range none_range (binding_ident (new.param_ident place false) Absent) any_type_ann
+        else binding_ident (new.param_ident place true) any_type_ann)) }
+{
+    let id = param_ident(alloc, place, !is_rest)?;
+    if is_rest {
+        return any_rest(alloc, id);
+    }
+    let type_ann = any_type_ann(alloc)?;
+    BindingIdent { id, type_ann }.into_tree(alloc)
+}
+
 /// `paramN?: any`, or `...paramN: any` for a rest: the parameter at place N of an implementation behind overloads.
 pub fn any_param(alloc: Global, place: usize, is_rest: bool) -> Result<Tree, AllocError>
     ensures { IfOk result (λ tree. tree ≡ new.any_param place is_rest) }
 {
-    let id = param_ident(alloc, place, !is_rest)?;
-    let pat = if is_rest {
-        any_rest(alloc, id)?
-    } else {
-        let type_ann = any_type_ann(alloc)?;
-        BindingIdent { id, type_ann }.into_tree(alloc)?
-    };
+    let pat = any_pat(alloc, place, is_rest)?;
     Param {
         span: DUMMY_SP,
         decorators: Tree::list(Items::new(alloc)),
@@ -248,11 +282,13 @@ fn any_rest(alloc: Global, id: Tree) -> Result<Tree, AllocError>
         id,
         type_ann: Tree::Absent,
     };
+    let arg = name.into_tree(alloc)?;
+    let type_ann = any_type_ann(alloc)?;
     RestPat {
         span: DUMMY_SP,
         dot3_token: DUMMY_SP,
-        arg: name.into_tree(alloc)?,
-        type_ann: any_type_ann(alloc)?,
+        arg,
+        type_ann,
     }
     .into_tree(alloc)
 }

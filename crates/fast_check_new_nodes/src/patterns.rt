@@ -3,7 +3,7 @@ ghost use Rattle.fast_check_syntax.specs.Part.{seen};
 ghost use Rattle.fast_check_syntax.specs.Shape.{list};
 ghost use Rattle.fast_check_class_forms.specs.Functions.{param, Param-span};
 ghost use Rattle.fast_check_expression_forms.specs.Patterns.{AssignPat-span, assign_pat};
-ghost use Rattle.fast_check_program_forms.specs.Names.{BindingIdent-id};
+ghost use Rattle.fast_check_program_forms.specs.Names.{BindingIdent-id, Ident-span, Ident-ctxt, Ident-sym, ident};
 ghost use Rattle.fast_check_signatures.specs.Parameters.{emptied_array, emptied_object, rest_arg, without_default};
 ghost use Rattle.fast_check_new_nodes.specs.Shown.{default_type};
 
@@ -20,11 +20,12 @@ pub fn emptied_array(alloc: Global, pat: Part<'_>) -> Result<Tree, AllocError>
     ensures { IfOk result (λ tree. tree ≡ emptied_array (seen pat.entry)) }
 {
     let pat = ArrayPat::of(pat);
+    let type_ann = pat.type_ann.to_tree(alloc)?;
     ArrayPat {
         span: pat.span,
         elems: Tree::list(Items::new(alloc)),
         optional: pat.optional,
-        type_ann: pat.type_ann.to_tree(alloc)?,
+        type_ann,
     }
     .into_tree(alloc)
 }
@@ -34,11 +35,12 @@ pub fn emptied_object(alloc: Global, pat: Part<'_>) -> Result<Tree, AllocError>
     ensures { IfOk result (λ tree. tree ≡ emptied_object (seen pat.entry)) }
 {
     let pat = ObjectPat::of(pat);
+    let type_ann = pat.type_ann.to_tree(alloc)?;
     ObjectPat {
         span: pat.span,
         props: Tree::list(Items::new(alloc)),
         optional: pat.optional,
-        type_ann: pat.type_ann.to_tree(alloc)?,
+        type_ann,
     }
     .into_tree(alloc)
 }
@@ -55,6 +57,26 @@ pub fn rest_arg(alloc: Global, arg: Part<'_>) -> Result<Tree, AllocError>
     }
 }
 
+/// An identifier that is marked by `?`, or is not.
+fn marked_ident(alloc: Global, is_optional: bool, id: Part<'_>) -> Result<Tree, AllocError>
+    ensures { IfOk result (λ tree. tree ≡ ident (Ident-span (seen id.entry)) (Ident-ctxt (seen id.entry)) (Ident-sym (seen id.entry)) is_optional) }
+{
+    let Ident {
+        span,
+        ctxt,
+        sym,
+        ..
+    } = Ident::of(id);
+    let sym = Atom::from_str(alloc, sym)?;
+    Ident {
+        span,
+        ctxt,
+        sym,
+        optional: is_optional,
+    }
+    .into_tree(alloc)
+}
+
 /// An identifier of a type that had a default: it may be left out where all parameters from it on may, and else takes
 /// `undefined` as well.
 pub fn without_default(
@@ -65,28 +87,13 @@ pub fn without_default(
 ) -> Result<Tree, AllocError>
     ensures { IfOk result (λ tree. tree ≡ without_default is_optional (BindingIdent-id (seen name.entry)) ty) }
 {
-    let Ident {
-        span,
-        ctxt,
-        sym,
-        ..
-    } = Ident::of(BindingIdent::of(name).id);
-    let id = Ident {
-        span,
-        ctxt,
-        sym: Atom::from_str(alloc, sym)?,
-        optional: is_optional,
-    };
     let type_ann = if is_optional {
         ty
     } else {
         or_undefined(alloc, ty.read())?
     };
-    BindingIdent {
-        id: id.into_tree(alloc)?,
-        type_ann,
-    }
-    .into_tree(alloc)
+    let id = marked_ident(alloc, is_optional, BindingIdent::of(name).id)?;
+    BindingIdent { id, type_ann }.into_tree(alloc)
 }
 
 /// The type of an identifier with a default, as `: type`, where it is written, or shown by the default.

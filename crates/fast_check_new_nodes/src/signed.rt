@@ -1,10 +1,12 @@
-ghost use Rattle.std.specs.Prelude.{◌≡◌, IfOk};
+ghost use Rattle.std.specs.Prelude.{◌≡◌, IfOk, if◌then◌else◌};
 ghost use Rattle.fast_check_syntax.specs.Part.{seen};
-ghost use Rattle.fast_check_syntax.specs.Shape.{list};
+ghost use Rattle.fast_check_syntax.specs.Shape.{is_absent, list};
+ghost use Rattle.fast_check_syntax.specs.declared.tree.Tree.{Absent};
 ghost use Rattle.fast_check_expression_forms.specs.Expressions.{ArrowExpr-span, ArrowExpr-ctxt, ArrowExpr-is_async, ArrowExpr-is_generator};
 ghost use Rattle.fast_check_expression_forms.specs.Expressions.{ArrowExpr-type_params, arrow_expr};
 ghost use Rattle.fast_check_signatures.specs.Answers as answers;
 ghost use Rattle.fast_check_signatures.specs.Functions.{or_own, function_head, arrow_head};
+ghost use Rattle.fast_check_signatures.specs.NewNodes as new;
 
 use crate::nodes::{arrow_body, function_body};
 use fast_check_class_forms::Function;
@@ -22,6 +24,31 @@ pub fn or_own(place: Option<SourceRange>, own: SourceRange) -> SourceRange
     }
 }
 
+/// The body that stands for a function's own, if there is one.
+fn new_body(alloc: Global, body: Part<'_>, return_type: Part<'_>) -> Result<Tree, AllocError>
+    ensures { IfOk result (λ tree. tree ≡ (if is_absent (seen body.entry) then Absent else new.function_body (seen return_type.entry))) }
+{
+    if body.is_absent() {
+        return Ok(Tree::Absent);
+    }
+    function_body(alloc, return_type)
+}
+
+/// The body that stands for a function's own, if there is one, and its type parameters.
+fn lower_parts(
+    alloc: Global,
+    body: Part<'_>,
+    type_params: Part<'_>,
+    return_type: Part<'_>,
+) -> Result<(Tree, Tree), AllocError>
+    ensures { IfOk result (λ trees. trees ≡
+        ((if is_absent (seen body.entry) then Absent else new.function_body (seen return_type.entry)), seen type_params.entry)) }
+{
+    let body = new_body(alloc, body, return_type)?;
+    let type_params = type_params.to_tree(alloc)?;
+    Ok((body, type_params))
+}
+
 /// A function of this return type and these parameters, with a body that stands for its own.
 pub fn signed_function(
     alloc: Global,
@@ -32,11 +59,12 @@ pub fn signed_function(
     ensures { IfOk result (λ tree. tree ≡ answers.signed_function (function_head (seen function.entry)) return_type params) }
 {
     let function = Function::of(function);
-    let body = if function.body.is_absent() {
-        Tree::Absent
-    } else {
-        function_body(alloc, return_type.read())?
-    };
+    let (body, type_params) = lower_parts(
+        alloc,
+        function.body,
+        function.type_params,
+        return_type.read(),
+    )?;
     Function {
         span: function.span,
         params: Tree::list(params),
@@ -45,7 +73,7 @@ pub fn signed_function(
         body,
         is_generator: false,
         is_async: false,
-        type_params: function.type_params.to_tree(alloc)?,
+        type_params,
         return_type,
     }
     .into_tree(alloc)
@@ -65,6 +93,7 @@ fn retyped_arrow(
         (ArrowExpr-is_generator (seen arrow.entry)) (ArrowExpr-type_params (seen arrow.entry)) return_type) }
 {
     let arrow = ArrowExpr::of(arrow);
+    let type_params = arrow.type_params.to_tree(alloc)?;
     ArrowExpr {
         span: arrow.span,
         ctxt: arrow.ctxt,
@@ -72,7 +101,7 @@ fn retyped_arrow(
         body,
         is_async,
         is_generator: arrow.is_generator,
-        type_params: arrow.type_params.to_tree(alloc)?,
+        type_params,
         return_type,
     }
     .into_tree(alloc)

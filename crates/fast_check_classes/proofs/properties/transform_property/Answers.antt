@@ -4,6 +4,7 @@ use Rattle.fast_check_values.specs.bindings.Bindings.{bindings_of}
 use Rattle.fast_check_syntax.specs.Part.{seen}
 use Rattle.fast_check_syntax.specs.Shape.{is_absent}
 use Rattle.fast_check_signatures.specs.Answers.{declared_property}
+use Rattle.fast_check_signatures.specs.Classes.{property_head}
 use Rattle.fast_check_signatures.specs.Members.{is_private}
 use Rattle.fast_check_classes.proofs.Making.{some_of}
 use Rattle.fast_check_classes.proofs.PropertyCases.{private_property, written_property, untyped_stays}
@@ -11,9 +12,9 @@ use Rattle.fast_check_classes.proofs.properties.transform_property.Goals as goal
 
 pub returns-then-is_private : goal.returns-then-is_private
 returns-then-is_private c =
-    some_of c.declared.result c.declared.ensures
+    some_of c.typed_property.result c.typed_property.ensures
     (private_property (bindings_of c.args.info.now) (seen c.args.member) (ap is_private (sym c.of.ensures.accessibility) ∙ (sym c.is_private.ensures ∙ c.if-is_private.true))
-    c.args.faults.now.items) (λ i. declared_property (c.in_ok-property_head.ensures i) (c.in_ok-any_type_ann.ensures i))
+    c.args.faults.now.items) (ap (λ t. declared_property (property_head (seen c.args.member)) t) c.in_ok-any.ensures)
 
 pub returns-then-is_absent : goal.returns-then-is_absent
 returns-then-is_absent c =
@@ -24,8 +25,8 @@ returns-then-is_absent c =
 
 pub returns : goal.returns
 returns c =
-    some_of c.declared-2.result c.declared-2.ensures
+    some_of c.typed_property-2.result c.typed_property-2.ensures
     (written_property (bindings_of c.args.info.now) (seen c.args.member)
     (ap is_private (sym c.of.ensures.accessibility) ∙ (sym c.is_private.ensures ∙ c.if-is_private.false))
     (ap is_absent (sym c.of.ensures.type_ann) ∙ (sym c.is_absent.ensures ∙ c.if-is_absent.false)) c.args.faults.now.items)
-    (λ i. declared_property (c.in_ok-property_head-2.ensures i) ((c.in_ok-to_tree.ensures ∙ c.of.ensures.type_ann) i))
+    (ap (λ t. declared_property (property_head (seen c.args.member)) t) (c.in_ok-written.ensures ∙ c.of.ensures.type_ann))
