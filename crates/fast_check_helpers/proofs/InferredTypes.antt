@@ -1,5 +1,7 @@
 -- The equations of `inferred_type`, form by form.
-use Rattle.std.proofs.Common.{◌≡◌, ℕ, Bool, true, false, Option, Some, None, List, map, refl, ap, is_some, if◌then◌else◌, ◌∙◌, sym}
+use Rattle.std.proofs.Common.{◌≡◌, ℕ, Bool, true, false, Option, Some, None, List, map, refl, ap, is_some, if◌then◌else◌, ◌∙◌, sym, IsTrue, inl, inr}
+use Rattle.std.specs.Prelude.{Result, IfOk}
+use Rattle.std.proofs.lemmas.Result.{IfOk-weaker}
 use Rattle.fast_check_syntax.specs.declared.kind.Kind.{Kind}
 use Rattle.fast_check_syntax.specs.declared.kind.Kind.TheVariants.{Leaf, TsAsExpr, TsTypeAssertion, CallExpr, Tpl, ParenExpr, TsSatisfiesExpr}
 use Rattle.fast_check_syntax.specs.declared.source.SyntaxContext.{SyntaxContext}
@@ -17,7 +19,7 @@ use Rattle.fast_check_helpers.specs.SimpleType.{is_simple_type}
 use Rattle.fast_check_helpers.specs.LiteralType.{type_of_literal}
 use Rattle.fast_check_helpers.specs.TemplateType.{type_of_template}
 use Rattle.fast_check_helpers.proofs.Leaves.{leaf_of_absent}
-use Rattle.fast_check_helpers.specs.InferredType.{inferred_type, shows_type, inferred_form, asserted_type, symbol_type}
+use Rattle.fast_check_helpers.specs.InferredType.{inferred_type, shows_type, inferred_form, asserted_type, symbol_type, Asserts}
 
 pub inferred_absent : (m : DeclMutabilityKind) (u : SyntaxContext) → inferred_type m u Absent ≡ None
 unfolding inferred_type
@@ -78,6 +80,16 @@ other_form m u t inside each o =
 
 pub inferred_other : (m : DeclMutabilityKind) (u : SyntaxContext) (t : Tree) → IsOtherValue (kind_of t) → inferred_type m u t ≡ type_of_literal m t
 inferred_other m u t o = inferred_out m u t ∙ other_form m u t (λ i. inferred_type m u (part i t)) (map (inferred_type m u) (parts t)) o
+
+-- an assertion to a simple type shows it
+pub inferred_asserted : (m : DeclMutabilityKind) (u : SyntaxContext) (t type : Tree) → Asserts type t → IsTrue (is_simple_type type) →
+    inferred_type m u t ≡ Some type
+inferred_asserted m u t type (inl (k, e)) s = inferred_TsAsExpr m u t k ∙ (ap asserted_type e ∙ ap (λ b. if b then Some type else None) s)
+inferred_asserted m u t type (inr (k, e)) s = inferred_TsTypeAssertion m u t k ∙ (ap asserted_type e ∙ ap (λ b. if b then Some type else None) s)
+
+pub asserted_result : (m : DeclMutabilityKind) (u : SyntaxContext) (t : Tree) {E : Type 0} (r : Result (Option Tree) E) →
+    IfOk r (λ found. found ≡ inferred_type m u t) → (type : Tree) → Asserts type t → IsTrue (is_simple_type type) → IfOk r (λ found. found ≡ Some type)
+asserted_result m u t r h type a s = IfOk-weaker r _ _ (λ found e. e ∙ inferred_asserted m u t type a s) h
 
 -- ---- whether a type is shown
 

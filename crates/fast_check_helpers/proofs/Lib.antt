@@ -1,4 +1,5 @@
 mod Lower
+mod Tests
 pub mod Leaves
 pub mod SimpleTypes
 pub mod InferredTypes

@@ -16,3 +16,7 @@ lower t i e p n = rw p (height_part t i (λ leaf. not_leaf _ n (e ∙ leaf)))
 pub lower_odd : (t : Tree) (i : ℕ) {u : Tree} {k : Kind} {n : ℕ} →
     2 * height t + 1 ≡ n → k ≡ kind_of t → u ≡ part i t → k is Leaf ≡ false → 2 * height u + 1 < n
 lower_odd t i m e p l = omega (arith, m, lower t i e p l)
+
+pub lower_than : (t : Tree) (i : ℕ) {u : Tree} {k : Kind} {n : ℕ} →
+    height t ≡ n → k ≡ kind_of t → u ≡ part i t → k is Leaf ≡ false → height u < n
+lower_than t i m e p l = omega (arith, m, lower t i e p l)

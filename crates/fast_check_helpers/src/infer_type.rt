@@ -45,7 +45,6 @@ fn symbol_type(
 
 /// The type that a value shows by itself, with no checking of types; `None` where it shows none. `unresolved` is the
 /// scope number of the names that nothing in the module binds. An assertion to a simple type shows that type itself.
-#[tactic(auto, using(crate::proofs::InferredTypes::inferred_TsAsExpr, crate::proofs::InferredTypes::inferred_TsTypeAssertion, crate::proofs::InferredTypes::inferred_CallExpr, crate::proofs::InferredTypes::inferred_Tpl, crate::proofs::InferredTypes::inferred_ParenExpr, crate::proofs::InferredTypes::inferred_TsSatisfiesExpr, fast_check_syntax::specs::Height::height_part))]
 pub fn maybe_infer_type(
     alloc: Global,
     value: Part<'_>,
@@ -91,7 +90,6 @@ fn is_typed_literal(lit: Part<'_>) -> bool
 }
 
 /// Whether `maybe_infer_type` infers a type from a value, whatever it is declared as. It takes no memory.
-#[tactic(auto, using(crate::proofs::InferredTypes::shows_TsAsExpr, crate::proofs::InferredTypes::shows_TsTypeAssertion, crate::proofs::InferredTypes::shows_CallExpr, crate::proofs::InferredTypes::shows_Tpl, crate::proofs::InferredTypes::shows_ParenExpr, crate::proofs::InferredTypes::shows_TsSatisfiesExpr, fast_check_syntax::specs::Height::height_part))]
 pub fn shows_type(value: Part<'_>, unresolved: SyntaxContext) -> bool
     ensures { result ≡ shows_type unresolved (seen value.entry) }
 {

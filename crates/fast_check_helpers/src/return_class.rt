@@ -43,7 +43,6 @@ fn after_return(analysis: ReturnStatementAnalysis, has_argument: bool) -> Return
 
 /// The class after the return statements reached from a statement.
 #[cycle(returns)]
-#[tactic(auto, using(crate::proofs::Returns::then_ReturnStmt, crate::proofs::Returns::then_IfStmt, crate::proofs::Returns::then_TryStmt, fast_check_syntax::specs::Height::height_part))]
 fn analyze_return_stmts(
     stmt: Part<'_>,
     analysis: ReturnStatementAnalysis,

@@ -14,7 +14,6 @@ use fast_check_type_forms::{
 /// template, and references to types, tuples, arrays, optional, rest, union, intersection and parenthesised types and
 /// operators on types, where the types in them are simple. It takes no memory.
 #[cycle(simple)]
-#[tactic(auto, using(crate::proofs::SimpleTypes::simple_TsLitType, crate::proofs::SimpleTypes::simple_TsTypeRef))]
 pub fn is_simple_type(ty: Part<'_>) -> bool
     ensures { result ≡ is_simple_type (seen ty.entry) }
 {

@@ -20,7 +20,11 @@ use Rattle.fast_check_modules.specs.Expandos.{expandos}
 use Rattle.fast_check_modules.specs.Faults.{is_missing, lacks_declaration}
 use Rattle.fast_check_modules.specs.Tables.{Tables, same_id, symbol_of_swc, table_ranges}
 use Rattle.fast_check_modules.specs.WellFormed.{mentioned, MissesSymbol, LacksDeclaration, HasUnboundExpando, bound_symbol, AreMadeOf}
-use Rattle.fast_check_modules.specs.EsModule.{EsModule, Admits, BindsOwnRanges, AreOwnRanges, is_ranged_unbound, is_public_unbound}
+use Rattle.fast_check_modules.specs.WellFormed.{AreWellFormed, IsModuleFault}
+use Rattle.fast_check_modules.specs.declared.fault.TableFault.{TableFault}
+use Rattle.fast_check_modules.specs.declared.fault.TableFault.TheVariants.{MissingSymbol, SymbolWithoutDecl, ModuleNotUnderOwnName}
+use Rattle.fast_check_modules.specs.declared.fault.TableFault.TheVariants.{ExpandoWithoutSymbol, OutOfMemory}
+use Rattle.fast_check_modules.specs.EsModule.{EsModule, Admits, BindsOwnRanges, AreOwnRanges, IsUnboundFault, is_ranged_unbound, is_public_unbound}
 use Rattle.fast_check_modules.proofs.Witness.{witness, none_of, is_none_of, none_is, nil_of, nil_is, and_left, and_right, and_both}
 
 pub misses : (t : ModuleTables) → list_any (is_missing t.symbols.items) (mentioned t) ≡ true → MissesSymbol t
@@ -77,14 +81,25 @@ unbound t made program h e = let w = witness (is_ranged_unbound made) (expandos 
       unbound = sym (same_bound t made h w.0.object) ∙ is_none_of (symbol_of_swc made w.0.object) (and_right _ _ w.2);
     }
 
-pub unbound_none : (t : ModuleTables) (made : Tables) (program : Tree) → AreMadeOf t made
-    → list_any (is_ranged_unbound made) (expandos program) ≡ false → HasUnboundExpando t program → ⊥
-unbound_none t made program h e u =
-    none_of (is_ranged_unbound made) (expandos program) u.expando e u.among
-    (and_both _ _
-    (list_any-from_Contains range_equiv u.expando.range (table_ranges made.symbols made.re_exports)
-    (subst (λ (rs : List SourceRange). Contains rs u.expando.range) (sym (same_ranges t made h)) u.ranged))
-    (none_is (symbol_of_swc made u.expando.object) (same_bound t made h u.expando.object ∙ u.unbound)))
+-- nothing is and is not
+apart : (b : Bool) → b ≡ true → not b ≡ true → ⊥
+apart true s n = let f : false ≡ true = n in cc
+apart false s n = cc
+
+pub expandos_bound : (t : ModuleTables) (made : Tables) (program : Tree) → AreMadeOf t made → BindsOwnRanges made program → HasUnboundExpando t program → ⊥
+expandos_bound t made program h bound u =
+    let object = symbol_of_swc made u.expando.object in
+    let ranged = subst (λ (rs : List SourceRange). Contains rs u.expando.range) (sym (same_ranges t made h)) u.ranged in
+    apart (is_some object) (bound u.expando u.among ranged) (none_is object (same_bound t made h u.expando.object ∙ u.unbound))
+
+-- the fault of expando statements is one of the module
+pub unbound_fault : (t : ModuleTables) (made : Tables) (program : Tree) → AreMadeOf t made → AreWellFormed t → (fault : TableFault)
+    → IsUnboundFault made program fault → IsModuleFault t program fault
+unbound_fault t made program h w MissingSymbol f = absurd f
+unbound_fault t made program h w SymbolWithoutDecl f = absurd f
+unbound_fault t made program h w ModuleNotUnderOwnName f = f
+unbound_fault t made program h w ExpandoWithoutSymbol f = (w.mentioned_have_symbols, w.symbols_have_declarations, unbound t made program h f)
+unbound_fault t made program h w OutOfMemory f = f
 
 -- each expando statement with a public range has an object with a symbol
 pub admitted : (m : EsModule) (p : PublicRanges) → list_any (is_public_unbound m.tables p) (expandos m.source.program) ≡ false → Admits m p
@@ -100,10 +115,6 @@ admits_none m p h e =
     let some : is_some (symbol_of_swc m.tables w.0.object) ≡ true = h w.0 w.1 (and_left _ _ w.2) in
     let none : not (is_some (symbol_of_swc m.tables w.0.object)) ≡ true = and_right _ _ w.2 in
     apart _ some none
-  where
-    apart : (b : Bool) → b ≡ true → not b ≡ true → ⊥
-    apart true s n = let f : false ≡ true = n in cc
-    apart false s n = cc
 
 pub admits_when : (m : EsModule) (p : PublicRanges) (b : Bool) → b ≡ list_any (is_public_unbound m.tables p) (expandos m.source.program)
     → IsTrue (not b) ↔ Admits m p

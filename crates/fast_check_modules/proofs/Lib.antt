@@ -4,3 +4,4 @@ pub mod Witness
 pub mod Alike
 pub mod FaultsFound
 pub mod EntriesMissed
+pub mod Pushed

@@ -7,6 +7,9 @@ use Rattle.fast_check_syntax.specs.declared.tree.Tree.{Tree}
 use Rattle.fast_check_tables.specs.declared.tables.parsed_source.ParsedSource.{ParsedSource}
 use Rattle.fast_check_tables.specs.PublicRanges.{PublicRanges, is_public, same_range}
 use Rattle.fast_check_modules.specs.declared.expandos.Expando.{Expando}
+use Rattle.fast_check_modules.specs.declared.fault.TableFault.{TableFault}
+use Rattle.fast_check_modules.specs.declared.fault.TableFault.TheVariants.{MissingSymbol, SymbolWithoutDecl, ModuleNotUnderOwnName}
+use Rattle.fast_check_modules.specs.declared.fault.TableFault.TheVariants.{ExpandoWithoutSymbol, OutOfMemory}
 use Rattle.fast_check_modules.specs.Expandos.{expandos}
 use Rattle.fast_check_modules.specs.Tables.{Tables, symbol_of_swc, table_ranges}
 
@@ -48,6 +51,14 @@ is_unbound t e = not (is_some (symbol_of_swc t e.object))
 abbrev pub is_ranged_unbound : Tables → Expando → Bool
 is_ranged_unbound t e = list_any (same_range e.range) (table_ranges t.symbols t.re_exports) && is_unbound t e
 
--- and its range is public
+-- the fault of expando statements of which one is so
+abbrev pub IsUnboundFault : Tables → Tree → TableFault → Type 0
+IsUnboundFault t program MissingSymbol = ⊥
+IsUnboundFault t program SymbolWithoutDecl = ⊥
+IsUnboundFault t program ModuleNotUnderOwnName = ⊥
+IsUnboundFault t program ExpandoWithoutSymbol = IsTrue (list_any (is_ranged_unbound t) (expandos program))
+IsUnboundFault t program OutOfMemory = Unit {0}
+
+-- the object of an expando statement has no symbol, and its range is public
 abbrev pub is_public_unbound : Tables → PublicRanges → Expando → Bool
 is_public_unbound t public e = is_public public e.range && is_unbound t e

@@ -2,10 +2,10 @@ ghost use Rattle.std.specs.Prelude.{◌≡◌, IfOk, IfErr, OnOk, IsTrue, ◌↔
 ghost use Rattle.std.specs.Option.{option_copied};
 
 use crate::checked::CheckedTables;
-use crate::expandos::{Expando, expandos_of};
+use crate::expandos::Expando;
 use crate::fault::TableFault;
 use crate::tables::{ModuleTables, ReExportAllNode};
-use crate::unbound::{any_public_unbound, any_unbound};
+use crate::unbound::{any_public_unbound, bound_expandos};
 use fast_check_symbols::{Symbol, SymbolId};
 use fast_check_syntax::Id;
 use fast_check_tables::{ModulePublicRanges, ParsedSource};
@@ -57,10 +57,7 @@ impl EsModuleInfo {
         ensures fault { IfErr result (IsModuleFault tables source.program) }
     {
         let tables = CheckedTables::new(alloc, tables)?;
-        let expando_statements = expandos_of(alloc, &source.program)?;
-        if any_unbound(alloc, &tables, &expando_statements)? {
-            return Err(TableFault::ExpandoWithoutSymbol);
-        }
+        let expando_statements = bound_expandos(alloc, &tables, &source.program)?;
         Ok(EsModuleInfo {
             specifier,
             source,

@@ -1,19 +1,36 @@
 //! Whether expando statements have objects without symbol.
 
-ghost use Rattle.std.specs.Prelude.{◌≡◌, ◌&&◌, IfOk};
+ghost use Rattle.std.specs.Prelude.{◌≡◌, ◌&&◌, IfOk, IfErr};
 ghost use Rattle.std.specs.List.{list_any};
 ghost use Rattle.fast_check_tables.specs.PublicRanges.{same_range};
-ghost use Rattle.fast_check_modules.specs.EsModule.{is_unbound, is_ranged_unbound, is_public_unbound};
+ghost use Rattle.fast_check_modules.specs.EsModule.{AreRead, IsUnboundFault, is_unbound, is_ranged_unbound, is_public_unbound};
 
 use crate::checked::CheckedTables;
-use crate::expandos::Expando;
-use fast_check_syntax::SourceRange;
+use crate::expandos::{Expando, expandos_of};
+use crate::fault::TableFault;
+use fast_check_syntax::{SourceRange, Tree};
 use fast_check_tables::ModulePublicRanges;
 use std::alloc::{AllocError, Global};
 use std::collections::BTreeSet;
 
+/// The expando statements of a program, each of which has an object with a symbol if its range is one of the tables'.
+pub fn bound_expandos(
+    alloc: Global,
+    tables: &CheckedTables,
+    program: &Tree,
+) -> Result<Vec<Expando>, TableFault>
+    ensures bound { IfOk result (λ found. AreRead tables.now program.now found.items) }
+    ensures fault { IfErr result (IsUnboundFault tables.now program.now) }
+{
+    let expandos = expandos_of(alloc, program)?;
+    if any_unbound(alloc, tables, &expandos)? {
+        return Err(TableFault::ExpandoWithoutSymbol);
+    }
+    Ok(expandos)
+}
+
 /// Whether one of these has a range of the tables, and an object without symbol.
-pub fn any_unbound(
+fn any_unbound(
     alloc: Global,
     tables: &CheckedTables,
     expandos: &[Expando],

@@ -1,12 +1,15 @@
-use Rattle.std.proofs.Common.{refl, sym, subst, ap, ◌∙◌}
+use Rattle.std.proofs.Common.{refl, sym, subst, ap, not, ◌∙◌}
 use Rattle.std.specs.List.{fold}
 use Rattle.fast_check_syntax.specs.Part.{seen}
+use Rattle.fast_check_syntax.specs.Shape.{is_absent}
 use Rattle.fast_check_helpers.specs.Places.{at-BlockStmt-stmts, at-WithStmt-body, at-LabeledStmt-body, at-SwitchStmt-cases, at-SwitchCase-cons}
+use Rattle.fast_check_helpers.specs.Places.{at-IfStmt-cons, at-IfStmt-alt, at-TryStmt-block, at-TryStmt-handler, at-TryStmt-finalizer}
 use Rattle.fast_check_helpers.specs.Places.{at-CatchClause-body, at-WhileStmt-body, at-DoWhileStmt-body, at-ForStmt-body, at-ForInStmt-body, at-ForOfStmt-body}
 use Rattle.fast_check_helpers.specs.ReturnClass.{returns}
 use Rattle.fast_check_helpers.specs.ReturnStep.{after_return}
 use Rattle.fast_check_helpers.proofs.Lower.{lower_odd}
 use Rattle.fast_check_helpers.proofs.Returns.{IsOtherStmt, then_BlockStmt, then_WithStmt, then_LabeledStmt, then_SwitchStmt, then_SwitchCase, then_CatchClause}
+use Rattle.fast_check_helpers.proofs.Returns.{then_ReturnStmt, then_IfStmt, then_TryStmt}
 use Rattle.fast_check_helpers.proofs.Returns.{then_WhileStmt, then_DoWhileStmt, then_ForStmt, then_ForInStmt, then_ForOfStmt, then_List, then_other}
 use Rattle.fast_check_helpers.proofs.return_class.+returns.Goals as goal
 
@@ -143,3 +146,46 @@ analyze_return_stmts-returns-in_default t c =
       not-ForOfStmt = d.not-ForOfStmt;
       not-List = d.not-List;
     })))
+
+pub analyze_return_stmts-returns-in-ReturnStmt : goal.analyze_return_stmts-returns-in-ReturnStmt
+analyze_return_stmts-returns-in-ReturnStmt t c =
+    let a = c.args.analysis in
+    c.after_return.ensures
+    ∙ (ap (λ b. after_return a (not b)) (c.is_absent.ensures ∙ ap is_absent c.of.ensures.arg) ∙ sym (then_ReturnStmt a (seen c.args.stmt) (sym c.in-ReturnStmt.ensures)))
+
+pub analyze_return_stmts-analyze_return_stmts-analysis-requires : goal.analyze_return_stmts-analyze_return_stmts-analysis-requires
+analyze_return_stmts-analyze_return_stmts-analysis-requires t c =
+    (lower_odd (seen c.args.stmt) at-IfStmt-cons.place c.decreases c.in-IfStmt.ensures c.of-branches.ensures.cons refl, tt)
+
+pub analyze_return_stmts-analyze_return_stmts-requires-in-IfStmt : goal.analyze_return_stmts-analyze_return_stmts-requires-in-IfStmt
+analyze_return_stmts-analyze_return_stmts-requires-in-IfStmt t c =
+    (lower_odd (seen c.args.stmt) at-IfStmt-alt.place c.decreases c.in-IfStmt.ensures c.of-branches.ensures.alt refl, tt)
+
+pub analyze_return_stmts-returns-in-IfStmt : goal.analyze_return_stmts-returns-in-IfStmt
+analyze_return_stmts-returns-in-IfStmt t c =
+    let a = c.args.analysis in
+    let of = c.of-branches.ensures in
+    let first = c.analyze_return_stmts-analysis.ensures ∙ ap (λ u. fold after_return a (returns u)) of.cons in
+    c.analyze_return_stmts-in-IfStmt.ensures
+    ∙ ((λ i. fold after_return (first i) (returns (of.alt i))) ∙ sym (then_IfStmt a (seen c.args.stmt) (sym c.in-IfStmt.ensures)))
+
+pub analyze_return_stmts-analyze_return_stmts-analysis-requires-in-TryStmt : goal.analyze_return_stmts-analyze_return_stmts-analysis-requires-in-TryStmt
+analyze_return_stmts-analyze_return_stmts-analysis-requires-in-TryStmt t c =
+    (lower_odd (seen c.args.stmt) at-TryStmt-block.place c.decreases c.in-TryStmt.ensures c.of-parts.ensures.block refl, tt)
+
+pub analyze_return_stmts-analyze_return_stmts-analysis-requires-in-TryStmt-2 : goal.analyze_return_stmts-analyze_return_stmts-analysis-requires-in-TryStmt-2
+analyze_return_stmts-analyze_return_stmts-analysis-requires-in-TryStmt-2 t c =
+    (lower_odd (seen c.args.stmt) at-TryStmt-handler.place c.decreases c.in-TryStmt.ensures c.of-parts.ensures.handler refl, tt)
+
+pub analyze_return_stmts-analyze_return_stmts-requires-in-TryStmt : goal.analyze_return_stmts-analyze_return_stmts-requires-in-TryStmt
+analyze_return_stmts-analyze_return_stmts-requires-in-TryStmt t c =
+    (lower_odd (seen c.args.stmt) at-TryStmt-finalizer.place c.decreases c.in-TryStmt.ensures c.of-parts.ensures.finalizer refl, tt)
+
+pub analyze_return_stmts-returns-in-TryStmt : goal.analyze_return_stmts-returns-in-TryStmt
+analyze_return_stmts-returns-in-TryStmt t c =
+    let a = c.args.analysis in
+    let of = c.of-parts.ensures in
+    let first = c.analyze_return_stmts-analysis-in-TryStmt.ensures ∙ ap (λ u. fold after_return a (returns u)) of.block in
+    let second = c.analyze_return_stmts-analysis-in-TryStmt-2.ensures ∙ (λ i. fold after_return (first i) (returns (of.handler i))) in
+    c.analyze_return_stmts-in-TryStmt.ensures
+    ∙ ((λ i. fold after_return (second i) (returns (of.finalizer i))) ∙ sym (then_TryStmt a (seen c.args.stmt) (sym c.in-TryStmt.ensures)))

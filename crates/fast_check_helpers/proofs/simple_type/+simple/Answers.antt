@@ -1,5 +1,8 @@
-use Rattle.std.proofs.Common.{refl, sym, subst, ap, ◌∙◌}
+use Rattle.std.proofs.Common.{refl, sym, subst, ap, not, ◌∙◌}
+use Rattle.fast_check_syntax.specs.declared.kind.Kind.{Kind}
+use Rattle.fast_check_syntax.specs.declared.kind.Kind.TheVariants.{TsTplLitType}
 use Rattle.fast_check_syntax.specs.Part.{seen}
+use Rattle.fast_check_syntax.specs.Shape.{◌is◌, kind_of, is_absent}
 use Rattle.fast_check_helpers.specs.Places.{at-TsTypeRef-type_params, at-TsTypeParamInstantiation-params, at-TsTupleType-elem_types, at-TsTupleElement-ty}
 use Rattle.fast_check_helpers.specs.Places.{at-TsArrayType-elem_type, at-TsOptionalType-type_ann, at-TsRestType-type_ann, at-TsUnionType-types}
 use Rattle.fast_check_helpers.specs.Places.{at-TsIntersectionType-types, at-TsParenthesizedType-type_ann, at-TsTypeOperator-type_ann}
@@ -8,7 +11,8 @@ use Rattle.fast_check_helpers.proofs.Lower.{lower_odd}
 use Rattle.fast_check_helpers.proofs.SimpleTypes.{IsOtherKind, simple_TsKeywordType, simple_TsThisType, simple_TsTypeLit, simple_TsTypeParamInstantiation}
 use Rattle.fast_check_helpers.proofs.SimpleTypes.{simple_TsTupleType, simple_TsTupleElement, simple_TsArrayType, simple_TsOptionalType, simple_TsRestType}
 use Rattle.fast_check_helpers.proofs.SimpleTypes.{simple_TsUnionType, simple_TsIntersectionType, simple_TsParenthesizedType, simple_TsTypeOperator, simple_List}
-use Rattle.fast_check_helpers.proofs.SimpleTypes.{simple_other}
+use Rattle.fast_check_helpers.proofs.SimpleTypes.{simple_TsLitType, simple_TsTypeRef, simple_other}
+use Rattle.fast_check_helpers.proofs.Tests.{or_first, or_second}
 use Rattle.fast_check_helpers.proofs.simple_type.+simple.Goals as goal
 
 pub is_simple_type-returns-in-TsKeywordType : goal.is_simple_type-returns-in-TsKeywordType
@@ -144,3 +148,19 @@ is_simple_type-returns-in_default t c =
       not-TsTypeOperator = d.not-TsTypeOperator;
       not-List = d.not-List;
     })))
+
+pub is_simple_type-returns-in-TsLitType : goal.is_simple_type-returns-in-TsLitType
+is_simple_type-returns-in-TsLitType t c =
+    c.ne.ensures ∙ (ap (λ (k : Kind). not (k is TsTplLitType)) (c.kind-in-TsLitType.ensures ∙ ap kind_of c.of.ensures.lit)
+    ∙ sym (simple_TsLitType (seen c.args.ty) (sym c.in-TsLitType.ensures)))
+
+pub is_simple_type-returns-then-is_absent : goal.is_simple_type-returns-then-is_absent
+is_simple_type-returns-then-is_absent t c =
+    let absent = c.is_absent.ensures ∙ ap is_absent c.of-in-TsTypeRef.ensures.type_params in
+    or_first _ _ (sym absent ∙ c.if-is_absent.true) absent ∙ sym (simple_TsTypeRef (seen c.args.ty) (sym c.in-TsTypeRef.ensures))
+
+pub is_simple_type-returns-else-is_absent : goal.is_simple_type-returns-else-is_absent
+is_simple_type-returns-else-is_absent t c =
+    let of = c.of-in-TsTypeRef.ensures in
+    or_second _ _ (sym (c.is_absent.ensures ∙ ap is_absent of.type_params) ∙ c.if-is_absent.false) (c.is_simple_type.ensures ∙ ap is_simple_type of.type_params)
+    ∙ sym (simple_TsTypeRef (seen c.args.ty) (sym c.in-TsTypeRef.ensures))
