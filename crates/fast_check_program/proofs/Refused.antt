@@ -5,7 +5,8 @@ use Rattle.fast_check_requests.specs.declared.refusal.Refusal.TheVariants as ref
 use Rattle.fast_check_requests.specs.declared.request.TransformRequest.{TransformRequest}
 use Rattle.fast_check_requests.specs.Call.{is_call, File, OfFile}
 use Rattle.fast_check_requests.specs.Input.{HoldsRequest, LacksRequest}
-use Rattle.fast_check_program.specs.Program.{AnswersRequest, IsAnswerTo, RefusesRequest, RefusesBytes, AnswersCall, RefusesCall}
+use Rattle.fast_check_modules.specs.EsModule.{EsModule}
+use Rattle.fast_check_program.specs.Program.{IsModuleOf, RefusesModule, AnswersRequest, IsAnswerTo, RefusesRequest, RefusesBytes, AnswersCall, RefusesCall}
 
 pub refused : (refusal : Refusal) (bytes : List ℕ) → LacksRequest bytes refusal → RefusesBytes refusal bytes
 refused refusals.NotJson bytes lacks = lacks
@@ -37,7 +38,7 @@ of_file P (Some None) items bytes h e p = (h.0, subst P (e ∙ h.1) p)
 of_file P (Some (Some known)) items bytes h e p = subst P (e ∙ h) p
 
 answer_status : (asked : TransformRequest) (line : List ℕ) (status : ℕ) → AnswersRequest asked line status → status < 2
-answer_status asked line status h = elim h.answer [ inl a ↦ subst (λ n. n < 2) (sym a.0) (lit< tt) | inr a ↦ subst (λ n. n < 2) (sym a.0) (lit< tt) ]
+answer_status asked line status h = elim h.answer.1 [ inl a ↦ subst (λ n. n < 2) (sym a.0) (lit< tt) | inr a ↦ subst (λ n. n < 2) (sym a.0) (lit< tt) ]
 
 pub call_answered : (words : List (List ℕ)) (file : File) (items bytes line : List ℕ) (status : ℕ) → is_call words ≡ true
     → OfFile (λ known. items ≡ known) file → bytes ≡ items → IsAnswerTo bytes line status → AnswersCall words file line status
@@ -55,3 +56,15 @@ call_refused words file items bytes refusals.RangesNotAdmitted is h e r = (is, o
 call_refused words file items bytes refusals.OutOfMemory is h e r = (is, of_file (RefusesBytes refusals.OutOfMemory) file items bytes h e r)
 call_refused words file items bytes refusals.InvalidExport is h e r = absurd r
 call_refused words file items bytes refusals.Unwritable is h e r = absurd r
+
+pub module_refused : (refusal : Refusal) (asked : TransformRequest) (info : EsModule) → IsModuleOf asked.es_module info
+    → RefusesModule info asked.public_ranges refusal → RefusesRequest asked refusal
+module_refused refusals.RangesNotAdmitted asked info is refuses = record { info = info; is_module = is; not_admitted = refuses; }
+module_refused refusals.OutOfMemory asked info is refuses = tt
+module_refused refusals.NotJson asked info is refuses = absurd refuses
+module_refused refusals.BadForm asked info is refuses = absurd refuses
+module_refused refusals.Usage asked info is refuses = absurd refuses
+module_refused refusals.Unreadable asked info is refuses = absurd refuses
+module_refused (refusals.TableFault fault) asked info is refuses = absurd refuses
+module_refused refusals.InvalidExport asked info is refuses = absurd refuses
+module_refused refusals.Unwritable asked info is refuses = absurd refuses

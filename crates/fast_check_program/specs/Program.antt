@@ -1,6 +1,7 @@
 -- What the program does with its words and its file.
-use Rattle.std.specs.Prelude.{◌≡◌, ℕ, ◌<◌, IsTrue, List, true, false, Option}
+use Rattle.std.specs.Prelude.{◌≡◌, ℕ, ◌<◌, IsTrue, List, Bool, true, false, Option}
 use Rattle.std.specs.Io.KnownBytes.{Appends}
+use Rattle.fast_check_graph.specs.declared.graph.ModuleGraph.{ModuleGraph}
 use Rattle.fast_check_modules.specs.EsModule.{EsModule, Admits}
 use Rattle.fast_check_modules.specs.WellFormed.{AreMadeOf, FitProgram, IsModuleFault}
 use Rattle.fast_check_requests.specs.declared.ending.Ending.{Ending}
@@ -10,6 +11,7 @@ use Rattle.fast_check_requests.specs.declared.request.EsModuleParts.{EsModulePar
 use Rattle.fast_check_requests.specs.declared.request.TransformRequest.{TransformRequest}
 use Rattle.fast_check_requests.specs.Call.{is_call, File, OfFile}
 use Rattle.fast_check_requests.specs.Input.{HoldsRequest, IsNotJson, IsNoRequest}
+use Rattle.fast_check_tables.specs.PublicRanges.{PublicRanges}
 use Rattle.fast_check_program.specs.Line.{IsAnswer}
 
 -- ---- a request
@@ -21,12 +23,21 @@ pub record IsModuleOf (parts : EsModuleParts) (info : EsModule) : Type 0 where
   pub tables : AreMadeOf parts.tables info.tables
   pub without_fault : FitProgram parts.tables parts.source.program
 
+-- the line is the answer to a module whose ranges are admitted
+abbrev pub AnswersModule : ModuleGraph → EsModule → PublicRanges → Bool → List ℕ → ℕ → Type 0
+AnswersModule graph info public first line status = Admits info public × IsAnswer graph info public first line status
+
+-- why a module is refused: its ranges are not admitted; memory may run out at any
+abbrev pub RefusesModule : EsModule → PublicRanges → Refusal → Type 0
+RefusesModule info public refusals.RangesNotAdmitted = ¬ Admits info public
+RefusesModule info public refusals.OutOfMemory = Unit {0}
+RefusesModule info public _ = ⊥
+
 -- the line is its answer
 pub record AnswersRequest (asked : TransformRequest) (line : List ℕ) (status : ℕ) : Type 0 where
   pub info : EsModule
   pub is_module : IsModuleOf asked.es_module info
-  pub admitted : Admits info asked.public_ranges
-  pub answer : IsAnswer asked.graph info asked.public_ranges asked.should_error_on_first_diagnostic line status
+  pub answer : AnswersModule asked.graph info asked.public_ranges asked.should_error_on_first_diagnostic line status
 
 -- its ranges are not admitted
 pub record IsNotAdmitted (asked : TransformRequest) : Type 0 where

@@ -4,7 +4,7 @@ ghost use Rattle.fast_check_modules.specs.EsModule.{Admits};
 ghost use Rattle.fast_check_requests.specs.Call.{is_call};
 ghost use Rattle.fast_check_requests.specs.Refusal.{IsTold};
 ghost use Rattle.fast_check_program.specs.Line.{IsAnswer};
-ghost use Rattle.fast_check_program.specs.Program.{AnswersRequest, RefusesRequest, IsAnswerTo, RefusesBytes, RefusesCall, AnswersCall, HasAnswer, IsAnswered};
+ghost use Rattle.fast_check_program.specs.Program.{AnswersModule, RefusesModule, AnswersRequest, RefusesRequest, IsAnswerTo, RefusesBytes, RefusesCall, AnswersCall, HasAnswer, IsAnswered};
 
 use crate::answer::print_line;
 use fast_check_graph::ModuleGraph;
@@ -94,18 +94,38 @@ fn answer_request(alloc: Global, request: TransformRequest) -> Result<Answer, Re
         source,
         tables,
     } = es_module;
-    let es_module_info = EsModuleInfo::new(alloc, specifier, source, tables)?;
-    if !es_module_info.admits(&public_ranges) {
+    match EsModuleInfo::new(alloc, specifier, source, tables) {
+        Ok(info) => {
+            let is_first = should_error_on_first_diagnostic;
+            answer_if_admitted(alloc, &graph, &info, &public_ranges, is_first)
+        }
+        Err(fault) => Err(Refusal::TableFault(fault)),
+    }
+}
+
+/// The answer to a module, or why it is refused: these ranges have to be admitted.
+fn answer_if_admitted(
+    alloc: Global,
+    graph: &ModuleGraph,
+    es_module_info: &EsModuleInfo,
+    public_ranges: &ModulePublicRanges,
+    should_error_on_first_diagnostic: bool,
+) -> Result<Answer, Refusal>
+    ensures answer { IfOk result (λ answer. AnswersModule graph.now es_module_info.now public_ranges.now should_error_on_first_diagnostic
+        answer.line.items answer.status) }
+    ensures refusal { IfErr result (RefusesModule es_module_info.now public_ranges.now) }
+{
+    if !es_module_info.admits(public_ranges) {
         return Err(Refusal::RangesNotAdmitted);
     }
     let options = TransformOptions {
         workspace_members: Vec::new(alloc),
         should_error_on_first_diagnostic,
     };
-    Ok(answer_module(alloc, &graph, &es_module_info, &public_ranges, &options)?)
+    Ok(answer_module(alloc, graph, es_module_info, public_ranges, &options)?)
 }
 
-/// The answer to a module.
+/// The answer to a module whose ranges are admitted.
 fn answer_module(
     alloc: Global,
     graph: &ModuleGraph,

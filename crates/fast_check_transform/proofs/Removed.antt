@@ -1,5 +1,6 @@
 -- The starts of the items that go, item by item.
-use Rattle.std.specs.Prelude.{◌≡◌, ℕ, ◌+◌, ◌<◌, List, [], ◌∷◌, ◌++◌, flat_map, length, take, refl}
+use Rattle.std.proofs.lemmas.Result.{IfOk-weaker}
+use Rattle.std.specs.Prelude.{Result, IfOk, ◌≡◌, ℕ, ◌+◌, ◌<◌, List, [], ◌∷◌, ◌++◌, flat_map, length, take, refl}
 use lib.ListN.{get_or}
 use Rattle.std.proofs.Common.{ap, ◌∙◌, sym, subst, append-nil}
 use Rattle.std.proofs.lemmas.List.{take_more}
@@ -19,16 +20,19 @@ use Rattle.fast_check_expression_forms.specs.Operators.{AssignExpr-span}
 use Rattle.fast_check_statement_forms.specs.Statements.{ExprStmt-expr}
 use Rattle.fast_check_signatures.specs.Seen.{tested}
 use Rattle.fast_check_skeleton.specs.expandos.Assignments.{right_seen, missing_place}
-use Rattle.fast_check_skeleton.specs.declared.rules.ItemRule.TheVariants.{Assigned}
+use Rattle.fast_check_syntax.specs.declared.source.SourceRange.{SourceRange}
+use Rattle.fast_check_skeleton.specs.declared.rules.DeclRule.{DeclRule}
+use Rattle.fast_check_skeleton.specs.declared.rules.ItemRule.{ItemRule}
+use Rattle.fast_check_skeleton.specs.declared.rules.ItemRule.TheVariants.{Assigned, Declared, Exported}
 use Rattle.fast_check_skeleton.specs.Visible.{seen_by_rule}
 use Rattle.fast_check_skeleton.specs.Visible.{item_seen}
 use Rattle.fast_check_signatures.specs.declared.fault.Fault.{Fault}
 use Rattle.fast_check_signatures.specs.Answers.{Adds, with_tree, answer_of}
-use Rattle.fast_check_skeleton.specs.KeptComments.{start_of_unseen, starts_inside, starts_below, start_look, removed_start, removed_from}
+use Rattle.fast_check_skeleton.specs.KeptComments.{start_of_unseen, starts_inside, starts_in_body, starts_below, start_look, removed_start, removed_from}
 use Rattle.fast_check_skeleton.specs.KeptComments.{without_all_leading}
 use Rattle.fast_check_skeleton.proofs.Namespaces.{item_seen_is, removed_start_is}
 use Rattle.fast_check_skeleton.proofs.Standing.{OneTree, item_one}
-use Rattle.fast_check_transform.specs.PartAnswers.{item_answer}
+use Rattle.fast_check_transform.specs.PartAnswers.{item_answer, starts_in_export}
 
 pub without_append : (xs ys : List SourcePos) (c : Comments) → without_all_leading (xs ++ ys) c ≡ without_all_leading ys (without_all_leading xs c)
 without_append [] ys c = refl
@@ -76,6 +80,27 @@ module _ (around : Surroundings) (item : Tree) where
           else []) ++ (if p then (range_of_node item).start ∷ [] else []) ≡ (range_of_node item).start ∷ []
       go true = refl
       go false = refl
+
+  -- what goes below it, by its rule
+  pub below_nothing : {rule : ItemRule} (c : Comments) → item_rule item ≡ rule → starts_below start_look around item rule ≡ [] →
+      c ≡ without_all_leading below c
+  below_nothing c e n = ap (λ ss. without_all_leading ss c) (sym n ∙ ap (starts_below start_look around item) (sym e))
+
+  pub below_declared : {T E : Type 0} (made : Result T E) {rule : DeclRule} {place : SourceRange} (new c : Comments) →
+      item_rule item ≡ Declared rule → place ≡ range_of_node item →
+      IfOk made (λ _. new ≡ without_all_leading (starts_in_body start_look around place item rule) c) → IfOk made (λ _. new ≡ without_all_leading below c)
+  below_declared made {rule} {place} new c e at = IfOk-weaker made _ _ (λ _. go)
+    where
+      go : new ≡ without_all_leading (starts_in_body start_look around place item rule) c → new ≡ without_all_leading below c
+      go h = h ∙ ap (λ ss. without_all_leading ss c)
+          (ap (λ p. starts_in_body start_look around p item rule) at ∙ ap (starts_below start_look around item) (sym e))
+
+  pub below_exported : {T E : Type 0} (made : Result T E) {rule : DeclRule} (new c : Comments) → item_rule item ≡ Exported rule →
+      IfOk made (λ _. new ≡ without_all_leading (starts_in_export around item rule) c) → IfOk made (λ _. new ≡ without_all_leading below c)
+  below_exported made {rule} new c e = IfOk-weaker made _ _ (λ _. go)
+    where
+      go : new ≡ without_all_leading (starts_in_export around item rule) c → new ≡ without_all_leading below c
+      go h = h ∙ ap (λ ss. without_all_leading ss c) (ap (starts_below start_look around item) (sym e))
 
 -- an item is lower than its body
 pub item_lower : (body item : Tree) (items : List Tree) (i : ℕ) → i < length items → items ≡ parts body → item ≡ get_or items i item →

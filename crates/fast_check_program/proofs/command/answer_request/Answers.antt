@@ -1,22 +1,20 @@
-use Rattle.std.proofs.Common.{rules}
-use Rattle.std.proofs.lemmas.Result.{err_from_is_err_and}
+use Rattle.std.proofs.lemmas.Result.{IfOk-weaker, IfErr-weaker}
+use Rattle.fast_check_program.proofs.Refused.{module_refused}
 use Rattle.fast_check_program.proofs.command.answer_request.Goals as goal
 
-pub returns-then-not-admits-clause-refusal : goal.returns-then-not-admits-clause-refusal
-returns-then-not-admits-clause-refusal c =
-    let made = c.in_ok-es_module_info.ensures in
-    record {
-      info = c.in_ok-es_module_info.es_module_info;
+pub returns-in-Ok-clause-answer : goal.returns-in-Ok-clause-answer
+returns-in-Ok-clause-answer c =
+    let made = c.in-Ok.ensures in
+    IfOk-weaker c.answer_if_admitted.result _ _ (λ answer h. record {
+      info = c.in-Ok.info;
       is_module = record { specifier = made.specifier; source = made.source; tables = made.tables; without_fault = made.well_formed };
-      not_admitted = λ admitted. search rules;
-    }
+      answer = h;
+    }) c.answer_if_admitted.ensures.answer
 
-pub returns-clause-answer : goal.returns-clause-answer
-returns-clause-answer c =
-    let made = c.in_ok-es_module_info.ensures in
-    record {
-      info = c.in_ok-es_module_info.es_module_info;
-      is_module = record { specifier = made.specifier; source = made.source; tables = made.tables; without_fault = made.well_formed };
-      admitted = search rules;
-      answer = c.in_ok-answer_module.ensures;
-    }
+pub returns-in-Ok-clause-refusal : goal.returns-in-Ok-clause-refusal
+returns-in-Ok-clause-refusal c =
+    let made = c.in-Ok.ensures in
+    IfErr-weaker c.answer_if_admitted.result _ _
+    (λ refusal h. module_refused refusal c.args.request c.in-Ok.info
+    (record { specifier = made.specifier; source = made.source; tables = made.tables; without_fault = made.well_formed }) h)
+    c.answer_if_admitted.ensures.refusal

@@ -23,7 +23,7 @@ use Rattle.fast_check_transform.proofs.ByRule.{assigned_is, same_properties, mor
 use Rattle.fast_check_skeleton.specs.Rules.{is_assigned, item_rule}
 use Rattle.fast_check_transform.proofs.Namespaces.{inside_at_most, refused_module, private_namespace, public_namespace}
 use Rattle.fast_check_transform.proofs.Namespaces.{nothing_refused, nothing_private, all_inside}
-use Rattle.fast_check_transform.proofs.Removed.{item_lower, inside, below, without_append, removed_if_none, removed_if_some, removed_if_assigned, one_more}
+use Rattle.fast_check_transform.proofs.Removed.{item_lower, inside, below, below_nothing, below_declared, below_exported, without_append, removed_if_none, removed_if_some, removed_if_assigned, one_more}
 use Rattle.fast_check_transform.proofs.items.+items.Goals as goal
 
 -- ---- the items of a body
@@ -48,7 +48,7 @@ keep_each-keep_item-requires t c =
     let item = seen c.read-item.result in
     let all = c.parts-item-items.result.now in
     let i = c.loop-item.item-index in
-    let here : item ≡ get_or all i item = search rules in
+    let here : item ≡ get_or all i item = c.read-item.ensures ∙ (c.item-item.is ∙ ap (get_or all i) (sym c.read-item.ensures)) in
     let lower = item_lower (seen c.args.body) item all i c.loop-item-test.true c.parts-item-items.ensures here in
     (omega (arith, c.decreases, lower), sym c.is_assigned.ensures ∙ c.if-is_assigned.false)
 
@@ -65,7 +65,7 @@ keep_each-loop-item-preserved-then-is_assigned t c =
     let item = seen c.read-item.result in
     let all = c.parts-item-items.result.now in
     let i = c.loop-item.item-index in
-    let here : item ≡ get_or all i item = search rules in
+    let here : item ≡ get_or all i item = c.read-item.ensures ∙ (c.item-item.is ∙ ap (get_or all i) (sym c.read-item.ensures)) in
     let rule = assigned_is (item_rule item) (sym c.is_assigned.ensures ∙ c.if-is_assigned.true) in
     let start = ap (λ r. r.start) c.range_of_node.ensures in
     let kept = c.in_ok-keep_assignment.ensures in
@@ -85,7 +85,7 @@ keep_each-loop-item-preserved-in-None t c =
     let kept = c.in_ok-keep_item.ensures in
     let all = c.parts-item-items.result.now in
     let i = c.loop-item.item-index in
-    let here : item ≡ get_or all i item = search rules in
+    let here : item ≡ get_or all i item = c.read-item.ensures ∙ (c.item-item.is ∙ ap (get_or all i) (sym c.read-item.ensures)) in
     let starts = (range_of_node item).start ∷ inside around item in
     record {
       answer = one_more_item around all i item c.loop-item-test.true
@@ -109,7 +109,7 @@ keep_each-loop-item-preserved t c =
     let kept = c.in_ok-keep_item.ensures in
     let all = c.parts-item-items.result.now in
     let i = c.loop-item.item-index in
-    let here : item ≡ get_or all i item = search rules in
+    let here : item ≡ get_or all i item = c.read-item.ensures ∙ (c.item-item.is ∙ ap (get_or all i) (sym c.read-item.ensures)) in
     record {
       answer = one_more_item around all i item c.loop-item-test.true
           here c.loop-item.invariant.answer
@@ -309,40 +309,31 @@ keep_item-returns-in-Silent-clause-answer t c =
 
 pub keep_item-returns-in-Declared-clause-comments : goal.keep_item-returns-in-Declared-clause-comments
 keep_item-returns-in-Declared-clause-comments t c =
-    IfOk-weaker c.keep_decl.result _ _
-    (λ tree h. h ∙ (ap (λ place. without_all_leading (starts_in_body start_look (Asked-around c.args.asked) place (seen c.args.item) c.in-Declared.rule)
-    c.args.comments.now) c.range_of_node.ensures ∙ ap (λ r. without_all_leading (starts_below start_look (Asked-around c.args.asked)
-    (seen c.args.item) r) c.args.comments.now)
-    (sym (sym c.item_rule.ensures ∙ c.in-Declared.is)))) c.keep_decl.ensures.comments
+    below_declared (Asked-around c.args.asked) (seen c.args.item) c.keep_decl.result _ c.args.comments.now (sym c.item_rule.ensures ∙ c.in-Declared.is) c.range_of_node.ensures
+    c.keep_decl.ensures.comments
 
 pub keep_item-returns-in-Exported-clause-comments : goal.keep_item-returns-in-Exported-clause-comments
 keep_item-returns-in-Exported-clause-comments t c =
-    IfOk-weaker c.keep_export.result _ _ (λ tree h. h ∙ ap (λ r. without_all_leading (starts_below start_look (Asked-around c.args.asked)
-    (seen c.args.item) r) c.args.comments.now)
-    (sym (sym c.item_rule.ensures ∙ c.in-Exported.is))) c.keep_export.ensures.comments
+    below_exported (Asked-around c.args.asked) (seen c.args.item) c.keep_export.result _ c.args.comments.now (sym c.item_rule.ensures ∙ c.in-Exported.is) c.keep_export.ensures.comments
 
 pub keep_item-returns-in-Linked-clause-comments : goal.keep_item-returns-in-Linked-clause-comments
 keep_item-returns-in-Linked-clause-comments t c =
-    IfOk-weaker c.keep_link.result _ _ (λ tree h. ap (λ r. without_all_leading (starts_below start_look (Asked-around c.args.asked)
-    (seen c.args.item) r) c.args.comments.now)
-    (sym (sym c.item_rule.ensures ∙ c.in-Linked.is))) c.keep_link.ensures
+    IfOk-weaker c.keep_link.result _ _
+    (λ tree h. below_nothing (Asked-around c.args.asked) (seen c.args.item) c.args.comments.now (sym c.item_rule.ensures ∙ c.in-Linked.is) refl) c.keep_link.ensures
 
 pub keep_item-returns-in-Default-clause-comments : goal.keep_item-returns-in-Default-clause-comments
 keep_item-returns-in-Default-clause-comments t c =
-    IfOk-weaker c.keep_default.result _ _ (λ tree h. ap (λ r. without_all_leading (starts_below start_look (Asked-around c.args.asked)
-    (seen c.args.item) r) c.args.comments.now)
-    (sym (sym c.item_rule.ensures ∙ c.in-Default.is))) c.keep_default.ensures
+    IfOk-weaker c.keep_default.result _ _
+    (λ tree h. below_nothing (Asked-around c.args.asked) (seen c.args.item) c.args.comments.now (sym c.item_rule.ensures ∙ c.in-Default.is) refl) c.keep_default.ensures
 
 pub keep_item-returns-in-Refused-clause-comments : goal.keep_item-returns-in-Refused-clause-comments
 keep_item-returns-in-Refused-clause-comments t c =
-    IfOk-weaker c.refuse.result _ _ (λ tree h. ap (λ r. without_all_leading (starts_below start_look (Asked-around c.args.asked)
-    (seen c.args.item) r) c.args.comments.now)
-    (sym (sym c.item_rule.ensures ∙ c.in-Refused.is))) c.refuse.ensures
+    IfOk-weaker c.refuse.result _ _
+    (λ tree h. below_nothing (Asked-around c.args.asked) (seen c.args.item) c.args.comments.now (sym c.item_rule.ensures ∙ c.in-Refused.is) refl) c.refuse.ensures
 
 pub keep_item-returns-in-Silent-clause-comments : goal.keep_item-returns-in-Silent-clause-comments
 keep_item-returns-in-Silent-clause-comments t c =
-    ap (λ r. without_all_leading (starts_below start_look (Asked-around c.args.asked) (seen c.args.item) r) c.args.comments.now)
-    (sym (sym c.item_rule.ensures ∙ c.in-Silent.is))
+    below_nothing (Asked-around c.args.asked) (seen c.args.item) c.args.comments.now (sym c.item_rule.ensures ∙ c.in-Silent.is) refl
 
 pub keep_item-returns-in-Assigned-clause-answer : goal.keep_item-returns-in-Assigned-clause-answer
 keep_item-returns-in-Assigned-clause-answer t c =
@@ -350,5 +341,4 @@ keep_item-returns-in-Assigned-clause-answer t c =
 
 pub keep_item-returns-in-Assigned-clause-comments : goal.keep_item-returns-in-Assigned-clause-comments
 keep_item-returns-in-Assigned-clause-comments t c =
-    ap (λ r. without_all_leading (starts_below start_look (Asked-around c.args.asked) (seen c.args.item) r) c.args.comments.now)
-    (sym (sym c.item_rule.ensures ∙ c.in-Assigned.is))
+    below_nothing (Asked-around c.args.asked) (seen c.args.item) c.args.comments.now (sym c.item_rule.ensures ∙ c.in-Assigned.is) refl
