@@ -59,7 +59,7 @@ call_refused words file items bytes refusals.Unwritable is h e r = absurd r
 
 pub module_refused : (refusal : Refusal) (asked : TransformRequest) (info : EsModule) → IsModuleOf asked.es_module info
     → RefusesModule info asked.public_ranges refusal → RefusesRequest asked refusal
-module_refused refusals.RangesNotAdmitted asked info is refuses = record { info = info; is_module = is; not_admitted = refuses; }
+module_refused refusals.RangesNotAdmitted asked info is refuses = record { info = info; is_module = is; not_admitted = refuses }
 module_refused refusals.OutOfMemory asked info is refuses = tt
 module_refused refusals.NotJson asked info is refuses = absurd refuses
 module_refused refusals.BadForm asked info is refuses = absurd refuses
