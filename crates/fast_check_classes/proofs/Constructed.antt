@@ -1,9 +1,10 @@
 -- What is answered to constructors: the first parameter property that is a pattern, parameters, and the node.
 use Rattle.std.specs.Prelude.{◌≡◌, ℕ, suc, ◌+◌, ◌<◌, ◌≤◌, Bool, true, false, ◌&&◌, Option, Some, None, option_map, List, [], ◌∷◌, ◌++◌, map, length, drop, refl}
-use Rattle.std.specs.Prelude.{if◌then◌else◌}
+use Rattle.std.specs.Prelude.{if◌then◌else◌, Result, IfOk}
 use Rattle.std.specs.List.{filter}
 use lib.ListN.{get_or}
 use Rattle.std.proofs.Common.{ap, ◌∙◌, sym, subst, add-one}
+use Rattle.std.proofs.lemmas.Result.{IfOk-weaker}
 use Rattle.std.proofs.Math.Seq.{drop-cons}
 use Rattle.std.proofs.lemmas.List.{drop_all}
 use Rattle.fast_check_syntax.specs.declared.kind.Kind.TheVariants as kinds
@@ -30,6 +31,7 @@ use Rattle.fast_check_signatures.specs.Classes.{unless_taken_apart, patterns_amo
 use Rattle.fast_check_signatures.specs.Classes.{plain_params_seen}
 use Rattle.fast_check_signatures.specs.Members.{is_private}
 use Rattle.fast_check_signatures.proofs.Adding.{adds_nothing, adds_same, adds_made, adds_fault, adds_visited}
+use Rattle.fast_check_values.specs.Looked.{params_looked}
 use Rattle.fast_check_classes.specs.Parts.{first_of, first_pattern, signed_constructor}
 
 -- ---- the first pattern
@@ -123,15 +125,23 @@ module _ (u : Bindings) (is_implementation : SourceRange → Bool) (m : Tree) wh
   plain_parts : {t : Tree} → t ≡ list plain → parts t ≡ plain
   plain_parts e = ap parts e ∙ parts_node List' plain
 
-  pub implementation_params : is_private (Constructor-accessibility m) ≡ false → is_implementation (Constructor-span m) ≡ true → {t : Tree} →
-      t ≡ list plain → {items : List Tree} → answer_of (any_params_from 0 (parts t)) ≡ faultless items → (old : List Fault) →
-      Adds (answer_of (constructor_params_seen u is_implementation m)) items old old
-  implementation_params p i e h old =
-      adds_same ((λ j. answer_of (params_if (p j) (i j))) ∙ (ap (λ ps. answer_of (any_params_from 0 ps)) (sym (plain_parts e)) ∙ h)) (adds_nothing _ old)
+  pub implementation_params : {E : Type 0} (made : Result (List Tree) E) → is_private (Constructor-accessibility m) ≡ false →
+      is_implementation (Constructor-span m) ≡ true → {t : Tree} → t ≡ list plain → (old : List Fault) →
+      IfOk made (λ items. answer_of (any_params_from 0 (parts t)) ≡ faultless items) →
+      IfOk made (λ items. Adds (answer_of (constructor_params_seen u is_implementation m)) items old old)
+  implementation_params made p i {t} e old = IfOk-weaker made _ _ go
+    where
+      go : (items : List Tree) → answer_of (any_params_from 0 (parts t)) ≡ faultless items →
+          Adds (answer_of (constructor_params_seen u is_implementation m)) items old old
+      go items h =
+          adds_same ((λ j. answer_of (params_if (p j) (i j))) ∙ (ap (λ ps. answer_of (any_params_from 0 ps)) (sym (plain_parts e)) ∙ h)) (adds_nothing _ old)
 
-  pub own_params : is_private (Constructor-accessibility m) ≡ false → is_implementation (Constructor-span m) ≡ false → {t : Tree} → t ≡ list plain →
-      {items : List Tree} {old new : List Fault} →
-      Adds (answer_of (params_seen (parts t) (pats_seen u (expr_seen u) (map (λ p. Param-pat p) (parts t))))) items old new →
-      Adds (answer_of (constructor_params_seen u is_implementation m)) items old new
-  own_params p i e h =
-      adds_same ((λ j. answer_of (params_if (p j) (i j))) ∙ ap (λ ps. answer_of (plain_params_seen u is_implementation ps)) (sym (plain_parts e))) h
+  pub own_params : {E : Type 0} (made : Result (List Tree) E) → is_private (Constructor-accessibility m) ≡ false →
+      is_implementation (Constructor-span m) ≡ false → {t : Tree} → t ≡ list plain → (old new : List Fault) →
+      IfOk made (λ items. Adds (answer_of (params_looked u (parts t))) items old new) →
+      IfOk made (λ items. Adds (answer_of (constructor_params_seen u is_implementation m)) items old new)
+  own_params made p i {t} e old new = IfOk-weaker made _ _ go
+    where
+      go : (items : List Tree) → Adds (answer_of (params_looked u (parts t))) items old new →
+          Adds (answer_of (constructor_params_seen u is_implementation m)) items old new
+      go items h = adds_same ((λ j. answer_of (params_if (p j) (i j))) ∙ ap (λ ps. answer_of (plain_params_seen u is_implementation ps)) (sym (plain_parts e))) h

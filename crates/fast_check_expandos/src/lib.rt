@@ -6,7 +6,5 @@ mod properties;
 mod references;
 
 pub use namespaces::keep_namespaces;
-pub use properties::{
-    ExpandoProperty, expando_property, exports_property, is_expando_assignment, object_of,
-};
+pub use properties::{ExpandoProperty, expando_property, exports_property, object_of};
 pub use references::{Reference, exports_name};

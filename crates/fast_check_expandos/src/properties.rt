@@ -4,7 +4,6 @@ ghost use Rattle.fast_check_syntax.specs.Part.{seen};
 ghost use Rattle.fast_check_expression_forms.specs.Operators.{AssignExpr-span, AssignExpr-left};
 ghost use Rattle.fast_check_expandos.specs.Objects.{exports_name, stands_exported};
 ghost use Rattle.fast_check_expandos.specs.Expandos.{object_of, property_name, property_declarator, property_of};
-ghost use Rattle.fast_check_modules.specs.Expandos.{is_expando_assignment, is_expando_target};
 
 use crate::references::{Reference, conflicts, exports_name};
 use fast_check_expression_forms::{AssignExpr, MemberExpr};
@@ -12,7 +11,7 @@ use fast_check_helpers::new_ident;
 use fast_check_program_forms::{BindingIdent, Ident, IdentName};
 use fast_check_statement_forms::VarDeclarator;
 use fast_check_symbols::Symbol;
-use fast_check_syntax::{Atom, Id, Items, Kind, Part, SourceRange, Tree};
+use fast_check_syntax::{Atom, Id, Items, Part, SourceRange, Tree};
 use std::alloc::{AllocError, Global};
 
 /// A property that `object.name = value;` declares for a function.
@@ -88,27 +87,6 @@ fn stands_exported(symbol: Option<&Symbol>) -> bool
         Some(symbol) => symbol.has_export_keyword(),
         None => false,
     }
-}
-
-/// Whether an expression is an assignment `object.name = value` of a plain identifier property of an identifier.
-pub fn is_expando_assignment(expression: Part<'_>) -> bool
-    ensures { result ≡ is_expando_assignment (seen expression.entry) }
-{
-    if expression.kind() != Kind::AssignExpr {
-        return false;
-    }
-    let assignment = AssignExpr::of(expression);
-    assignment.op == "=" && is_expando_target(assignment.left)
-}
-
-fn is_expando_target(target: Part<'_>) -> bool
-    ensures { result ≡ is_expando_target (seen target.entry) }
-{
-    if target.kind() != Kind::MemberExpr {
-        return false;
-    }
-    let target = MemberExpr::of(target);
-    target.obj.kind() == Kind::Ident && target.prop.kind() == Kind::IdentName
 }
 
 /// Whether a symbol, if there is one, exports the name of a target `object.name`.

@@ -78,7 +78,8 @@ fn is_expando(part: Part<'_>) -> bool
     part.kind() == Kind::ExprStmt && is_expando_assignment(ExprStmt::of(part).expr)
 }
 
-fn is_expando_assignment(part: Part<'_>) -> bool
+/// Whether an expression is an assignment `object.name = value` of a plain identifier property of an identifier.
+pub fn is_expando_assignment(part: Part<'_>) -> bool
     ensures { result ≡ is_expando_assignment (seen part.entry) }
 {
     if part.kind() != Kind::AssignExpr {

@@ -13,7 +13,7 @@ mod unbound;
 
 pub use checked::CheckedTables;
 pub use es_module::EsModuleInfo;
-pub use expandos::{Expando, expandos_of};
+pub use expandos::{Expando, expandos_of, is_expando_assignment};
 pub use fast_check_symbols as symbols;
 pub use fast_check_symbols::{
     FileDepName, ReferenceNamespace, Symbol, SymbolDecl, SymbolDeclKind, SymbolDep, SymbolExports,

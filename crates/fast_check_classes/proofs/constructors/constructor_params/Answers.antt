@@ -1,5 +1,4 @@
 use Rattle.std.proofs.Common.{ap, ◌∙◌, sym, map}
-use Rattle.std.proofs.lemmas.Result.{IfOk-weaker}
 use Rattle.fast_check_values.specs.bindings.Bindings.{bindings_of}
 use Rattle.fast_check_syntax.specs.Part.{seen}
 use Rattle.fast_check_syntax.specs.Shape.{parts, list}
@@ -19,15 +18,13 @@ returns-then-is_impl_with_overloads c =
     let private = ap is_private (sym c.of.ensures.accessibility) ∙ (sym c.is_private.ensures ∙ c.if-is_private.false) in
     let plain = c.in_ok-params.ensures ∙ ap (λ ps. list (map (λ p. plain_param p) (parts ps))) c.of.ensures.params in
     let asked = ap (is_implementation c.args.public_ranges.now) (sym c.of.ensures.span) ∙ (sym c.is_impl_with_overloads.ensures ∙ c.if-is_impl_with_overloads.true) in
-    IfOk-weaker c.any_params.result _ _
-    (λ items h. implementation_params (bindings_of c.args.info.now) (is_implementation c.args.public_ranges.now) (seen c.args.member) private asked
-    (c.read.ensures ∙ plain) h c.args.faults.now.items) c.any_params.ensures
+    implementation_params (bindings_of c.args.info.now) (is_implementation c.args.public_ranges.now) (seen c.args.member) c.any_params.result private asked
+    (c.read.ensures ∙ plain) c.args.faults.now.items c.any_params.ensures
 
 pub returns : goal.returns
 returns c =
     let private = ap is_private (sym c.of.ensures.accessibility) ∙ (sym c.is_private.ensures ∙ c.if-is_private.false) in
     let plain = c.in_ok-params.ensures ∙ ap (λ ps. list (map (λ p. plain_param p) (parts ps))) c.of.ensures.params in
     let asked = ap (is_implementation c.args.public_ranges.now) (sym c.of.ensures.span) ∙ (sym c.is_impl_with_overloads.ensures ∙ c.if-is_impl_with_overloads.false) in
-    IfOk-weaker c.transform_params.result _ _
-    (λ items h. own_params (bindings_of c.args.info.now) (is_implementation c.args.public_ranges.now) (seen c.args.member) private asked
-    (c.read-2.ensures ∙ plain) h) c.transform_params.ensures
+    own_params (bindings_of c.args.info.now) (is_implementation c.args.public_ranges.now) (seen c.args.member) c.transform_params.result private asked
+    (c.read-2.ensures ∙ plain) _ _ c.transform_params.ensures
