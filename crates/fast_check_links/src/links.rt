@@ -36,6 +36,20 @@ fn answered_source(alloc: Global, asked: Asked<'_>, src: Part<'_>) -> Result<Tre
     }
 }
 
+/// The source as it is answered, and the attributes as they are.
+fn source_and_attributes(
+    alloc: Global,
+    asked: Asked<'_>,
+    src: Part<'_>,
+    with: Part<'_>,
+) -> Result<(Tree, Tree), AllocError>
+    ensures { IfOk result (λ made. (made.0 ≡ answered_source (Asked-around asked.entry) (seen src.entry)) × (made.1 ≡ seen with.entry)) }
+{
+    let src = answered_source(alloc, asked, src)?;
+    let with = with.to_tree(alloc)?;
+    Ok((src, with))
+}
+
 /// The specifiers of an import or an export that are public, each by its own range.
 fn public_specifiers(
     alloc: Global,
@@ -71,13 +85,15 @@ fn keep_import(alloc: Global, asked: Asked<'_>, item: Part<'_>) -> Result<Option
     if specifiers.is_empty() {
         return Ok(None);
     }
+    let phase = Atom::from_str(alloc, phase)?;
+    let (src, with) = source_and_attributes(alloc, asked, src, with)?;
     let import = ImportDecl {
         span,
         specifiers: Tree::list(specifiers),
-        src: answered_source(alloc, asked, src)?,
+        src,
         type_only,
-        with: with.to_tree(alloc)?,
-        phase: Atom::from_str(alloc, phase)?,
+        with,
+        phase,
     };
     Ok(Some(import.into_tree(alloc)?))
 }
@@ -97,12 +113,13 @@ fn keep_export(alloc: Global, asked: Asked<'_>, item: Part<'_>) -> Result<Option
     if specifiers.is_empty() {
         return Ok(None);
     }
+    let (src, with) = source_and_attributes(alloc, asked, src, with)?;
     let export = NamedExport {
         span,
         specifiers: Tree::list(specifiers),
-        src: answered_source(alloc, asked, src)?,
+        src,
         type_only,
-        with: with.to_tree(alloc)?,
+        with,
     };
     Ok(Some(export.into_tree(alloc)?))
 }
@@ -120,11 +137,12 @@ fn keep_all(alloc: Global, asked: Asked<'_>, item: Part<'_>) -> Result<Option<Tr
     if !asked.public_ranges.contains(&span) {
         return Ok(None);
     }
+    let (src, with) = source_and_attributes(alloc, asked, src, with)?;
     let export = ExportAll {
         span,
-        src: answered_source(alloc, asked, src)?,
+        src,
         type_only,
-        with: with.to_tree(alloc)?,
+        with,
     };
     Ok(Some(export.into_tree(alloc)?))
 }

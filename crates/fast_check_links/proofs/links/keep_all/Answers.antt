@@ -17,5 +17,5 @@ returns c =
     made_all (Asked-around c.args.asked) (seen c.args.item)
     (ap (is_public c.args.asked.public_ranges.now) (sym c.of-type_only.ensures.span) ∙ (sym c.contains.ensures ∙ c.if-not-contains.false))
     (c.in_ok-into_tree.ensures ∙ (λ i. export_all (c.of-type_only.ensures.span i)
-    ((c.in_ok-answered_source.ensures ∙ ap (answered_source (Asked-around c.args.asked)) c.of-type_only.ensures.src) i)
-    (c.of-type_only.ensures.type_only i) ((c.in_ok-to_tree.ensures ∙ c.of-type_only.ensures.with) i)))
+    ((c.in_ok-src.ensures.0 ∙ ap (answered_source (Asked-around c.args.asked)) c.of-type_only.ensures.src) i)
+    (c.of-type_only.ensures.type_only i) ((c.in_ok-src.ensures.1 ∙ c.of-type_only.ensures.with) i)))

@@ -16,6 +16,6 @@ returns c =
     made_import (Asked-around c.args.asked) (seen c.args.item) c.in_ok-specifiers.ensures c.of-type_only.ensures.specifiers
     (λ e. false≢true (c.if-is_empty.ensures.1 e))
     (c.in_ok-into_tree.ensures ∙ (λ i. import_decl (c.of-type_only.ensures.span i) (c.list.ensures i)
-    ((c.in_ok-answered_source.ensures ∙ ap (answered_source (Asked-around c.args.asked)) c.of-type_only.ensures.src) i)
-    (c.of-type_only.ensures.type_only i) ((c.in_ok-to_tree.ensures ∙ c.of-type_only.ensures.with) i)
-    ((c.in_ok-from_str.ensures ∙ c.of-type_only.ensures.phase) i)))
+    ((c.in_ok-src.ensures.0 ∙ ap (answered_source (Asked-around c.args.asked)) c.of-type_only.ensures.src) i)
+    (c.of-type_only.ensures.type_only i) ((c.in_ok-src.ensures.1 ∙ c.of-type_only.ensures.with) i)
+    ((c.in_ok-phase.ensures ∙ c.of-type_only.ensures.phase) i)))
