@@ -160,19 +160,22 @@ fn namespace_item(
 fn namespace_decl(alloc: Global, name: Atom, declarators: Items<Tree>) -> Result<Tree, AllocError>
     ensures { IfOk result (λ tree. tree ≡ expandos.namespace_decl name declarators) }
 {
+    let variables = exported_variables(alloc, declarators)?;
     let mut items = Items::new(alloc);
-    items.push(exported_variables(alloc, declarators)?)?;
+    items.push(variables)?;
     let block = TsModuleBlock {
         span: DUMMY_SP,
         body: Tree::list(items),
     };
+    let body = block.into_tree(alloc)?;
+    let id = new_ident(name).into_tree(alloc)?;
     TsModuleDecl {
         span: DUMMY_SP,
         declare: false,
         global: false,
         namespace: true,
-        id: new_ident(name).into_tree(alloc)?,
-        body: block.into_tree(alloc)?,
+        id,
+        body,
     }
     .into_tree(alloc)
 }

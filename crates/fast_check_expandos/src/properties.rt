@@ -40,10 +40,12 @@ pub fn expando_property(
     let AssignExpr { span, left, .. } = AssignExpr::of(assignment);
     let object = object_of(alloc, left)?;
     let conflicts = conflicts(alloc, object.1, symbol, value.read())?;
+    let is_exported = stands_exported(symbol);
+    let declarator = property_declarator(alloc, span, left, value)?;
     Ok(ExpandoProperty {
         object,
-        is_exported: stands_exported(symbol),
-        declarator: property_declarator(alloc, span, left, value)?,
+        is_exported,
+        declarator,
         conflicts,
     })
 }
@@ -66,13 +68,15 @@ fn property_declarator(
     ensures { IfOk result (λ tree. tree ≡ property_declarator place (seen target.entry) value) }
 {
     let property = IdentName::of(MemberExpr::of(target).prop);
+    let id = new_ident(Atom::from_str(alloc, property.sym)?).into_tree(alloc)?;
     let name = BindingIdent {
-        id: new_ident(Atom::from_str(alloc, property.sym)?).into_tree(alloc)?,
+        id,
         type_ann: Tree::Absent,
     };
+    let name = name.into_tree(alloc)?;
     VarDeclarator {
         span: place,
-        name: name.into_tree(alloc)?,
+        name,
         init: value,
         definite: false,
     }

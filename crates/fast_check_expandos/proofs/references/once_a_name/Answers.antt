@@ -1,0 +1,19 @@
+use Rattle.std.proofs.Common.{◌∙◌, ap, sym, ◌++◌, ◌∷◌, [], List, ℕ, map, append_assoc}
+use Rattle.fast_check_syntax.specs.declared.source.SourceRange.{SourceRange}
+use Rattle.fast_check_expandos.specs.declared.references.Reference.{Reference}
+use Rattle.fast_check_expandos.proofs.references.once_a_name.Goals as goal
+
+abbrev of_entry : List ℕ × SourceRange → Reference
+of_entry e = record { name = e.0; range = e.1 }
+
+pub loop-name-init : goal.loop-name-init
+loop-name-init c =
+    λ i. c.new-once.ensures i ++ map of_entry ((c.into_iter-name-iterator.ensures.into_iter_gives.0 ∙ c.in_ok-items.ensures) i)
+
+pub loop-name-preserved : goal.loop-name-preserved
+loop-name-preserved c =
+    let done = c.loop-name.once in
+    let rest = map of_entry c.next.new.self in
+    ap (λ (rs : List Reference). rs ++ rest) c.in_ok-push.ensures.ok
+    ∙ (append_assoc done (of_entry (c.in-Some.name, c.in-Some.range) ∷ []) rest
+    ∙ (ap (λ es. done ++ map of_entry es) (sym c.in-Some.ensures.steps) ∙ c.loop-name.invariant))
