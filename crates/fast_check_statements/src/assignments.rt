@@ -4,10 +4,11 @@ ghost use Rattle.fast_check_syntax.specs.Part.{seen};
 ghost use Rattle.fast_check_expression_forms.specs.Calls.{MemberExpr-span};
 ghost use Rattle.fast_check_expression_forms.specs.Operators.{AssignExpr-span, AssignExpr-left};
 ghost use Rattle.fast_check_modules.specs.Expandos.{is_expando_assignment};
+ghost use Rattle.fast_check_modules.specs.Tables.{symbol_of_swc};
 ghost use Rattle.fast_check_signatures.specs.declared.fault.FaultKind.TheVariants as kinds;
 ghost use Rattle.fast_check_signatures.specs.Answers.{Adds, fault_at};
 ghost use Rattle.fast_check_expandos.specs.Assignments.{missing_place, kept_property};
-ghost use Rattle.fast_check_expandos.specs.Expandos.{property_name};
+ghost use Rattle.fast_check_expandos.specs.Expandos.{object_of, property_name};
 ghost use Rattle.fast_check_expandos.specs.ModuleObjects.{objects_of};
 ghost use Rattle.fast_check_expandos.specs.Objects.{exports_name};
 ghost use Rattle.fast_check_links.specs.Asked.{Asked-around};
@@ -64,15 +65,27 @@ fn keep_property(
         missing_at (missing_place (objects_of asked.entry.es_module_info.now) (seen assignment.entry)) value) }
 {
     let target = AssignExpr::of(assignment).left;
-    let object = object_of(alloc, target)?;
-    let symbol = asked.es_module_info.symbol_from_swc(&object);
+    let symbol = symbol_of_object(alloc, asked, target)?;
     match value {
         Some(value) => {
-            properties.push(expando_property(alloc, symbol, assignment, value)?)?;
+            let property = expando_property(alloc, symbol, assignment, value)?;
+            properties.push(property)?;
             Ok(())
         }
         None => push_missing(symbol, target, faults),
     }
+}
+
+/// The symbol of the object of a target `object.name`, if there is one.
+fn symbol_of_object<'a>(
+    alloc: Global,
+    asked: Asked<'a>,
+    target: Part<'_>,
+) -> Result<Option<&'a Symbol>, AllocError>
+    ensures { IfOk result (λ symbol. option_copied symbol ≡ symbol_of_swc asked.entry.es_module_info.now.tables (object_of (seen target.entry))) }
+{
+    let object = object_of(alloc, target)?;
+    Ok(asked.es_module_info.symbol_from_swc(&object))
 }
 
 /// The type of a property is missing at its target, unless the symbol of the object exports it.

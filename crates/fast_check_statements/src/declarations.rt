@@ -47,13 +47,12 @@ fn retyped(alloc: Global, declarator: Part<'_>, ty: Tree, value: Tree) -> Result
     ensures { IfOk result (λ tree. tree ≡ retyped (seen declarator.entry) ty value) }
 {
     let declarator = VarDeclarator::of(declarator);
-    let name = BindingIdent {
-        id: BindingIdent::of(declarator.name).id.to_tree(alloc)?,
-        type_ann: ty,
-    };
+    let id = BindingIdent::of(declarator.name).id.to_tree(alloc)?;
+    let name = BindingIdent { id, type_ann: ty };
+    let name = name.into_tree(alloc)?;
     VarDeclarator {
         span: declarator.span,
-        name: name.into_tree(alloc)?,
+        name,
         init: value,
         definite: declarator.definite,
     }
@@ -223,10 +222,11 @@ pub fn keep_statement(
         declare,
         ..
     } = VarDecl::of(statement);
+    let kind = kind.to_tree(alloc)?;
     let statement = VarDecl {
         span,
         ctxt,
-        kind: kind.to_tree(alloc)?,
+        kind,
         declare,
         decls: Tree::list(decls),
     };

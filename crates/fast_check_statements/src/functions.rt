@@ -57,10 +57,12 @@ fn keep_function(
         return decl.to_tree(alloc);
     }
     let FnDecl { ident, declare, .. } = FnDecl::of(decl);
+    let ident = ident.to_tree(alloc)?;
+    let function = transform_signature(alloc, asked, place, decl, faults)?;
     let made = FnDecl {
-        ident: ident.to_tree(alloc)?,
+        ident,
         declare,
-        function: transform_signature(alloc, asked, place, decl, faults)?,
+        function,
     };
     made.into_tree(alloc)
 }

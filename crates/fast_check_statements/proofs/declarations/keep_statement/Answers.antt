@@ -13,4 +13,4 @@ pub returns : goal.returns
 returns c =
     made_statement (Asked-around c.args.asked) (seen c.args.statement) c.in_ok-decls.ensures (λ e. false≢true (c.if-is_empty.ensures.1 e))
     (c.in_ok-into_tree.ensures ∙ (λ i. var_decl (c.of-declare.ensures.span i) (c.of-declare.ensures.ctxt i)
-    ((c.in_ok-to_tree.ensures ∙ c.of-declare.ensures.kind) i) (c.of-declare.ensures.declare i) (c.list.ensures i)))
+    ((c.in_ok-kind.ensures ∙ c.of-declare.ensures.kind) i) (c.of-declare.ensures.declare i) (c.list.ensures i)))

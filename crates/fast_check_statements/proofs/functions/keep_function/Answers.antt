@@ -13,5 +13,5 @@ returns-then-asked c =
 pub returns : goal.returns
 returns c =
     some_of c.into_tree.result c.into_tree.ensures
-    (made_function (Asked-around c.args.asked) c.args.place (seen c.args.decl) c.if-asked.false c.in_ok-transform_signature.ensures)
-    (λ i. fn_decl ((c.in_ok-to_tree.ensures ∙ c.of-declare.ensures.ident) i) (c.of-declare.ensures.declare i) c.in_ok-transform_signature.field-0)
+    (made_function (Asked-around c.args.asked) c.args.place (seen c.args.decl) c.if-asked.false c.in_ok-function.ensures)
+    (λ i. fn_decl ((c.in_ok-ident.ensures ∙ c.of-declare.ensures.ident) i) (c.of-declare.ensures.declare i) c.in_ok-function.function)
