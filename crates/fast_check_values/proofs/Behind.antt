@@ -1,15 +1,18 @@
 -- What a loop adds: what all give is what the rest gives, behind what was given so far.
-use Rattle.std.specs.Prelude.{◌≡◌, Option, Some, None, List, [], ◌∷◌, ◌++◌, refl, option_map}
+use Rattle.std.specs.Prelude.{◌≡◌, Option, Some, None, List, [], ◌∷◌, ◌++◌, refl, option_map, Result, IfOk}
 use Rattle.std.proofs.Common.{ap, ◌∙◌, sym, subst, append-nil, append_assoc}
+use Rattle.std.proofs.lemmas.Result.{IfOk-weaker}
 use Rattle.fast_check_syntax.specs.declared.tree.Tree.{Tree}
 use Rattle.fast_check_signatures.specs.declared.fault.Fault.{Fault}
 use Rattle.fast_check_syntax.specs.declared.kind.Kind.TheVariants as kinds
 use Rattle.fast_check_syntax.specs.declared.tree.Tree as tree
 use Rattle.fast_check_syntax.specs.Shape.{node, list}
 use Rattle.fast_check_class_forms.specs.Functions.{Param-span, param}
-use Rattle.fast_check_signatures.specs.Seen.{Seen}
+use Rattle.fast_check_expression_forms.specs.Patterns.{assign_pat}
+use Rattle.fast_check_signatures.specs.declared.fault.FaultKind.TheVariants.{MissingExplicitType}
+use Rattle.fast_check_signatures.specs.Seen.{Seen, DefaultHead}
 use Rattle.fast_check_signatures.specs.Functions.{param_seen}
-use Rattle.fast_check_signatures.specs.Answers.{Answer, Adds, answer_to, faultless, joined, visited, with_tree}
+use Rattle.fast_check_signatures.specs.Answers.{Answer, Adds, answer_to, faultless, joined, visited, with_tree, demanded, default_answer, fault_at}
 use Rattle.fast_check_signatures.proofs.Adding.{adds_made, adds_nothing, adds_visited}
 
 pub record Behind {A : Type 0} (put : A → A) (all rest : Answer A) (old new : List Fault) : Type 0 where
@@ -119,3 +122,13 @@ pub param_added : (p : Tree) (s : Seen) {t : Tree} {old new : List Fault} → Ad
 param_added p s {old = old} {new = new} h =
     adds_made (option_map (node kinds.Param)) (adds_visited (adds_nothing (Some (tree.Range (Param-span p))) old)
     (adds_visited (adds_nothing (Some (list [])) old) (adds_visited h (adds_nothing (Some []) new))))
+
+-- ---- a pattern with a default that has to stay
+
+pub default_made : {E : Type 0} (made : Result Tree E) (d : DefaultHead) (value : Answer (Option Tree)) {right : Tree} (old new : List Fault) →
+    Adds (demanded (fault_at MissingExplicitType d.place) value) right old new → IfOk made (λ t. t ≡ assign_pat d.span d.left right) →
+    IfOk made (λ t. Adds (default_answer d value) (Some t) old new)
+default_made made d value {right} old new h = IfOk-weaker made _ _ go
+  where
+    go : (t : Tree) → t ≡ assign_pat d.span d.left right → Adds (default_answer d value) (Some t) old new
+    go t e = adds_given (ap Some (sym e)) (adds_made (λ v. Some (assign_pat d.span d.left v)) h)

@@ -1,5 +1,6 @@
 use Rattle.std.proofs.Common.{arith, drop, ◌≡◌, ◌<◌, length, get_or, true, false, Some, None, List, sym, ap, ◌∙◌, map}
 use Rattle.std.proofs.Common.{option_map, option_copied}
+use Rattle.std.proofs.lemmas.List.{drop_all}
 use Rattle.std.proofs.lemmas.Result.{IfOk-weaker}
 use Rattle.fast_check_syntax.specs.declared.kind.Kind.TheVariants as kinds
 use Rattle.fast_check_syntax.specs.declared.source.SourceRange.{SourceRange}
@@ -18,17 +19,17 @@ use Rattle.fast_check_expression_forms.specs.Patterns.{ArrayPat-span, ArrayPat-t
 use Rattle.fast_check_signatures.specs.declared.rules.Slot.TheVariants as slots
 use Rattle.fast_check_bindings.specs.Bindings.{bindings_of}
 use Rattle.fast_check_signatures.specs.Seen.{faulty, seens}
-use Rattle.fast_check_signatures.specs.declared.fault.FaultKind.TheVariants.{UnsupportedDestructuring}
+use Rattle.fast_check_signatures.specs.declared.fault.FaultKind.TheVariants.{UnsupportedDestructuring, MissingExplicitType}
 use Rattle.fast_check_signatures.specs.Answers.{fault_at, answer_to, answer_of, parts_answer, demanded, faultless, signed_function}
 use Rattle.fast_check_signatures.specs.Expressions.{is_plain, is_compound, expr_seen, slot_seen}
 use Rattle.fast_check_signatures.specs.Functions.{or_own, return_type_missing, function_head, function_seen}
 use Rattle.fast_check_signatures.specs.Parameters.{typed, emptied_array, emptied_object, without_default, default_seen, pat_seen, pats_seen}
-use Rattle.fast_check_signatures.proofs.Adding.{adds_same, adds_nothing, adds_made, adds_joined, adds_settled}
+use Rattle.fast_check_signatures.proofs.Adding.{adds_same, adds_nothing, adds_made, adds_joined, adds_settled, adds_demanded}
 use Rattle.fast_check_new_nodes.specs.Shown.{default_type}
 use Rattle.fast_check_values.specs.Looked.{known_type, known_answer, patterns, params_looked}
 use Rattle.fast_check_helpers.specs.OptionalParams.{is_optional_param}
 use Rattle.std.specs.List.{list_all}
-use Rattle.fast_check_values.proofs.Behind.{behind_along, items_are, trees_are, adds_given, parts_step, parts_refused, items_step, with_pat, param_added}
+use Rattle.fast_check_values.proofs.Behind.{behind_along, items_are, trees_are, adds_given, parts_step, parts_refused, items_step, items_end, with_pat, param_added, default_made}
 use Rattle.fast_check_values.proofs.Heights.{height_less}
 use Rattle.fast_check_values.proofs.Looked.{seen_left_out, seen_untyped_array, seen_typed_array, seen_untyped_object, seen_typed_object, none_of}
 use Rattle.fast_check_values.proofs.Looked.{not_leaf, not_arrow, seen_parted, seen_whole, seen_arrow, seen_slotted, seen_refused, seen_known}
@@ -406,3 +407,25 @@ parameters::transform_assign_pat-returns-in_ok-never_value-in-ObjectPat t c =
     (λ tree e. adds_same (ap answer_to (seen_typed_object u c.args.is_optional pat kind absent) ∙ ap (λ (x : Tree). faultless (Some x))
     (sym (e ∙ (λ i. assign_pat (AssignPat-span pat) ((c.in_ok-left-in-ObjectPat.ensures ∙ ap emptied_object left) i) (c.in_ok-never_value-in-ObjectPat.ensures i)))))
     (adds_nothing (Some tree) c.args.faults.now.items)) c.with_default-in-ObjectPat.ensures
+
+pub parameters::leave_default-returns : goal.parameters::leave_default-returns
+parameters::leave_default-returns t c =
+    let u = bindings_of c.args.info.now in
+    let pat = seen c.args.pat in
+    let value = ap (λ (v : Tree). answer_to (expr_seen u v c.args.parent)) c.of.ensures.right in
+    let fault = fault_at MissingExplicitType c.args.place in
+    default_made c.with_default.result (record { span = AssignPat-span pat; left = c.args.left; place = c.args.place })
+    (answer_to (expr_seen u (AssignPat-right pat) c.args.parent)) _ _
+    (adds_same (ap (demanded fault) (sym value)) c.in_ok-right.ensures) c.with_default.ensures
+
+pub expressions::leave_value-returns-in-Some : goal.expressions::leave_value-returns-in-Some
+expressions::leave_value-returns-in-Some t c = adds_demanded c.args.fault (adds_given c.in-Some.is c.in_ok-tree.ensures)
+
+pub parameters::transform_params-returns : goal.parameters::transform_params-returns
+parameters::transform_params-returns t c =
+    let u = bindings_of c.args.info.now in
+    let all = c.parts-params.ensures in
+    adds_same (ap (λ (ps : List Tree). answer_of (params_looked u ps)) (sym all))
+    (items_end c.loop-index.items
+    (behind_along (ap (λ (ps : List Tree). answer_of (params_looked u ps)) (drop_all c.loop-index.index c.parts-params.result.now c.loop-index-test.false))
+    c.loop-index.invariant))
