@@ -57,10 +57,9 @@ pub fn transform(
         let first_alone = options.should_error_on_first_diagnostic;
         return Ok(Err(tell(alloc, es_module_info, faults, first_alone)?));
     }
+    let sources = static_sources(alloc, program.read())?;
     Ok(Ok(FastCheckModule {
-        module_info: ModuleInfo {
-            sources: static_sources(alloc, program.read())?,
-        },
+        module_info: ModuleInfo { sources },
         program,
         comments,
     }))
