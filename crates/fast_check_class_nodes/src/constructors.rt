@@ -152,10 +152,9 @@ fn super_calls(alloc: Global, stmts: Part<'_>) -> Result<Tree, AllocError>
     let mut items = Items::new(alloc);
     for stmt in stmts.parts() {
         let stmt = stmt.read();
-        if !is_super_call(stmt) {
-            continue;
+        if is_super_call(stmt) {
+            items.push(super_call(alloc, stmt)?)?;
         }
-        items.push(super_call(alloc, stmt)?)?;
     }
     Ok(Tree::list(items))
 }
