@@ -1,5 +1,5 @@
 -- What is no literal shows no type.
-use Rattle.std.proofs.Common.{◌≡◌, Option, None}
+use Rattle.std.proofs.Common.{◌≡◌, None}
 use Rattle.fast_check_syntax.specs.declared.kind.Kind.{Kind}
 use Rattle.fast_check_syntax.specs.declared.kind.Kind.TheVariants.{Str, Bool, Number, BigInt, Null, Regex}
 use Rattle.fast_check_syntax.specs.declared.tree.Tree.{Tree}

@@ -19,4 +19,5 @@ pub returns : goal.returns
 returns c =
     let listed = items_written source_data _ _ c.loop-source-test.false c.loop-source.invariant c.end_array.ensures in
     let whole = adds-last _ _ _ _ _ _ (adds-ok _ _ _ _ _ c.in_ok-end_array.was listed) (adds-token _ _ _ _ c.end_object.ensures) in
-    subst (λ sources. OnOk c.end_object.result (WritesData (sources_data sources) c.args.out.now c.end_object.new.self)) c.as_slice-source-items.ensures.value whole
+    subst (λ sources. OnOk c.end_object.result (WritesData (sources_data sources) c.args.out.now c.end_object.new.self))
+    c.as_slice-source-items.ensures.value whole

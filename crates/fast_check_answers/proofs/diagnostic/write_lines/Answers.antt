@@ -19,5 +19,6 @@ loop-line-preserved c =
 pub returns : goal.returns
 returns c =
     let listed = items_written (λ line. string (string_bytes line)) _ _ c.loop-line-test.false c.loop-line.invariant c.end_array.ensures in
-    let each = sym (map-map string string_bytes c.as_slice-line-items.result.now) ∙ ap (λ lines. map string (map string_bytes lines)) c.as_slice-line-items.ensures.value in
+    let each = sym (map-map string string_bytes c.as_slice-line-items.result.now)
+    ∙ ap (λ lines. map string (map string_bytes lines)) c.as_slice-line-items.ensures.value in
     subst (λ texts. OnOk c.end_array.result (WritesData (array (items_of texts)) c.args.out.now c.end_array.new.self)) each listed

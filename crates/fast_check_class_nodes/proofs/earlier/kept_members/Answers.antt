@@ -20,24 +20,24 @@ loop-member-preserved c =
     let items = λ (v : Vec Part Global). v.items in
     elim c.if-branch.branch [
       | then-branch+in_ok-push w ↦ (
-          m ∷ before,
-          (
-            next.tells,
-            kept_more c.args.members.now c.loop-member.member-index m c.loop-member-test.true (search rules) before
-                w.if-branch.true next.stays_is c.loop-member.kept.items c.read-member.result c.loop-member.invariant.1.1 refl
-                (ap items w.kept-is ∙ w.in_ok-push.ensures.items),
-          ),
-        )
+        m ∷ before,
+        (
+          next.tells,
+          kept_more c.args.members.now c.loop-member.member-index m c.loop-member-test.true (search rules) before
+              w.if-branch.true next.stays_is c.loop-member.kept.items c.read-member.result c.loop-member.invariant.1.1 refl
+              (ap items w.kept-is ∙ w.in_ok-push.ensures.items),
+        ),
+      )
       | else-branch w ↦ (
-          m ∷ before,
-          (
-            next.tells,
-            kept_same c.args.members.now c.loop-member.member-index m c.loop-member-test.true (search rules) before
-                w.if-branch.false next.stays_is (map seen c.if-branch.kept.items)
-                (c.loop-member.invariant.1.1 ∙ ap (λ xs. map seen xs ++ each_behind if_kept before (drop c.loop-member.member-index c.args.members.now))
-                (ap items (sym w.kept-is))),
-          ),
-        )
+        m ∷ before,
+        (
+          next.tells,
+          kept_same c.args.members.now c.loop-member.member-index m c.loop-member-test.true (search rules) before
+              w.if-branch.false next.stays_is (map seen c.if-branch.kept.items)
+              (c.loop-member.invariant.1.1 ∙ ap (λ xs. map seen xs ++ each_behind if_kept before (drop c.loop-member.member-index c.args.members.now))
+              (ap items (sym w.kept-is))),
+        ),
+      )
     ]
 
 pub returns : goal.returns
