@@ -1,1 +1,2 @@
+mod Arrays
 mod Reports

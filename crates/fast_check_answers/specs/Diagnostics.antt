@@ -1,9 +1,11 @@
 -- Diagnostics, as JSON.
-use Rattle.std.specs.Prelude.{ℕ, List, map, codes, Option, Some, None}
+use Rattle.std.specs.Prelude.{ℕ, List, ◌∷◌, ◌++◌, map, codes, Option, Some, None}
+use Rattle.json.specs.Token.{Token, key}
 use Rattle.serde_json.specs.Data.{Data, null, string, array, object, no_members, member}
 use Rattle.serde_json.specs.View.{items_of}
 use Rattle.url.specs.Parts.{Parts, serialize}
 use Rattle.fast_check_print.specs.Pieces.{range_data}
+use Rattle.fast_check_print.specs.Writing.{tokens_of}
 use Rattle.fast_check_tables.specs.declared.diagnostics.FastCheckDiagnostic.{FastCheckDiagnostic}
 use Rattle.fast_check_tables.specs.declared.diagnostics.range.FastCheckDiagnosticRange.{FastCheckDiagnosticRange}
 use Rattle.fast_check_tables.specs.declared.diagnostics.report.DiagnosticLevel.{DiagnosticLevel}
@@ -34,6 +36,17 @@ report_data report place specifier =
     (member (codes "message") (string report.message)
     (member (codes "range") (place_or_null place)
     (member (codes "specifier") (string (serialize specifier)) no_members))))))))
+
+-- the tokens of a member: its name and its value
+abbrev pub named : List ℕ → Data → List Token
+named name value = key name ∷ tokens_of value
+
+-- the tokens of the members that say more than the message
+abbrev pub advice : Report → List Token
+advice report =
+    named (codes "docs_url") (text_or_null report.docs_url)
+    ++ (named (codes "hint") (text_or_null report.hint)
+    ++ named (codes "info") (array (items_of (map string report.info))))
 
 unfoldable pub diagnostic_data : FastCheckDiagnostic → Data
 diagnostic_data d = report_data (report_of d) (range_of d) (specifier_of d)

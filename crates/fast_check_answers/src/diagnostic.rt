@@ -5,8 +5,9 @@ ghost use Rattle.std.specs.Option.{option_copied};
 ghost use Rattle.std.specs.String.{string_bytes};
 ghost use Rattle.serde_json.specs.Data.{string, array};
 ghost use Rattle.serde_json.specs.View.{items_of};
-ghost use Rattle.fast_check_print.specs.Writing.{WritesData};
-ghost use Rattle.fast_check_answers.specs.Diagnostics.{diagnostic_data, diagnostics_array, text_or_null, place_or_null, level_text};
+ghost use Rattle.fast_check_print.specs.Writing.{Adds, WritesData};
+ghost use Rattle.fast_check_tables.specs.Diagnostic.{report_of};
+ghost use Rattle.fast_check_answers.specs.Diagnostics.{diagnostic_data, diagnostics_array, text_or_null, place_or_null, level_text, named, advice};
 
 use fast_check_print::write_range;
 use fast_check_tables::{
@@ -38,23 +39,38 @@ fn write_diagnostic(
     ensures { OnOk result (WritesData (diagnostic_data diagnostic.now) out.old out.new) }
 {
     out.begin_object()?;
-    out.key("code")?;
-    out.string(diagnostic.code())?;
+    write_text(out, "code", diagnostic.code())?;
+    write_advice(alloc, out, diagnostic)?;
+    write_text(out, "level", level_text(diagnostic.level()))?;
+    write_text(out, "message", diagnostic.message(alloc)?.as_str())?;
+    out.key("range")?;
+    write_place(out, diagnostic.range())?;
+    write_text(out, "specifier", diagnostic.specifier().as_str())?;
+    out.end_object()
+}
+
+/// A member that is a text.
+fn write_text(out: &mut Writer, name: &str, text: &str) -> Result<(), AllocError>
+    ensures { OnOk result (Adds (named name.now (string text.now)) out.old out.new) }
+{
+    out.key(name)?;
+    out.string(text)
+}
+
+/// The members that say more than the message: the page, the hint and the lines.
+fn write_advice(
+    alloc: Global,
+    out: &mut Writer,
+    diagnostic: &FastCheckDiagnostic,
+) -> Result<(), AllocError>
+    ensures { OnOk result (Adds (advice (report_of diagnostic.now)) out.old out.new) }
+{
     out.key("docs_url")?;
     write_optional(out, diagnostic.docs_url(alloc)?)?;
     out.key("hint")?;
     write_optional(out, diagnostic.hint(alloc)?)?;
     out.key("info")?;
-    write_lines(out, diagnostic.info(alloc)?)?;
-    out.key("level")?;
-    out.string(level_text(diagnostic.level()))?;
-    out.key("message")?;
-    out.string(diagnostic.message(alloc)?.as_str())?;
-    out.key("range")?;
-    write_place(out, diagnostic.range())?;
-    out.key("specifier")?;
-    out.string(diagnostic.specifier().as_str())?;
-    out.end_object()
+    write_lines(out, diagnostic.info(alloc)?)
 }
 
 fn level_text(level: DiagnosticLevel) -> &'static str

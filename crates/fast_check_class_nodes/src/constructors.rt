@@ -91,11 +91,8 @@ fn never_argument(alloc: Global, arg: Part<'_>) -> Result<Tree, AllocError>
 {
     let spread = ExprOrSpread::of(arg).spread;
     let expr = never_argument_value(alloc, spread)?;
-    ExprOrSpread {
-        spread: spread.to_tree(alloc)?,
-        expr,
-    }
-    .into_tree(alloc)
+    let spread = spread.to_tree(alloc)?;
+    ExprOrSpread { spread, expr }.into_tree(alloc)
 }
 
 /// The arguments of a call of the superclass.
@@ -155,10 +152,9 @@ fn super_calls(alloc: Global, stmts: Part<'_>) -> Result<Tree, AllocError>
     let mut items = Items::new(alloc);
     for stmt in stmts.parts() {
         let stmt = stmt.read();
-        if !is_super_call(stmt) {
-            continue;
+        if is_super_call(stmt) {
+            items.push(super_call(alloc, stmt)?)?;
         }
-        items.push(super_call(alloc, stmt)?)?;
     }
     Ok(Tree::list(items))
 }
@@ -170,10 +166,11 @@ pub fn constructor_body(alloc: Global, body: Part<'_>) -> Result<Tree, AllocErro
     if body.is_absent() {
         return Ok(Tree::Absent);
     }
+    let stmts = super_calls(alloc, BlockStmt::of(body).stmts)?;
     BlockStmt {
         span: DUMMY_SP,
         ctxt: SyntaxContext(0),
-        stmts: super_calls(alloc, BlockStmt::of(body).stmts)?,
+        stmts,
     }
     .into_tree(alloc)
 }

@@ -113,10 +113,9 @@ pub fn kept_members<'a>(alloc: Global, members: &'a [Tree]) -> Result<Vec<Part<'
     let mut kept = Vec::new(alloc);
     for member in members {
         let member = member.read();
-        if !earlier.stays(member)? {
-            continue;
+        if earlier.stays(member)? {
+            kept.push(member)?;
         }
-        kept.push(member)?;
     }
     Ok(kept)
 }

@@ -234,6 +234,7 @@ fn param_property_head(alloc: Global, param: Part<'_>) -> Result<PropertyHead, A
         ..
     } = TsParamProp::of(param);
     let id = BindingIdent::of(param_target(param)).id;
+    let is_optional = pat.kind() == Kind::BindingIdent && Ident::of(id).optional;
     let key = name_key(alloc, id)?;
     let accessibility = shown_accessibility(alloc, accessibility)?;
     Ok(PropertyHead {
@@ -242,7 +243,7 @@ fn param_property_head(alloc: Global, param: Part<'_>) -> Result<PropertyHead, A
         is_static: false,
         accessibility,
         is_abstract: false,
-        is_optional: pat.kind() == Kind::BindingIdent && Ident::of(id).optional,
+        is_optional,
         is_override: false,
         readonly,
     })
@@ -307,5 +308,6 @@ pub fn param_property(
     ensures { IfOk result (λ tree. tree ≡ classes.param_property unresolved (seen param.entry)) }
 {
     let type_ann = param_property_type(alloc, unresolved, param)?;
-    param_property_head(alloc, param)?.declared(alloc, type_ann)
+    let head = param_property_head(alloc, param)?;
+    head.declared(alloc, type_ann)
 }

@@ -1,3 +1,4 @@
+mod Literals
 mod Lower
 mod Tests
 pub mod Leaves

@@ -1,5 +1,6 @@
 -- The equations of `returns`, form by form, and what return statements make of a class.
-use Rattle.std.proofs.Common.{◌≡◌, ℕ, Bool, true, false, not, List, [], ◌∷◌, ◌++◌, map, refl, ap, ◌∙◌, sym}
+use Rattle.std.proofs.Common.{◌≡◌, ℕ, ◌+◌, ◌<◌, ◌≤◌, Bool, true, false, not, List, [], ◌∷◌, ◌++◌, map, length, get_or, take, refl, ap, ◌∙◌, sym}
+use Rattle.std.proofs.lemmas.List.{take_more, take_all, flat_map_more}
 use Rattle.std.specs.List.{fold, flat_map}
 use Rattle.std.proofs.lemmas.List.Sums.{fold-append}
 use Rattle.fast_check_syntax.specs.declared.kind.Kind.{Kind}
@@ -183,6 +184,23 @@ other_form t inside each o =
 
 pub then_other : (a : ReturnStatementAnalysis) (t : Tree) → IsOtherStmt (kind_of t) → fold after_return a (returns t) ≡ a
 then_other a t o = ap (fold after_return a) (returns_out t ∙ other_form t (λ i. returns (part i t)) (map returns (parts t)) o)
+
+-- the class after the first items of a list: one more of them, and all of them
+pub each_more : (a : ReturnStatementAnalysis) (items : List Tree) (i : ℕ) (item : Tree) {b c : ReturnStatementAnalysis} {u : Tree} → i < length items →
+    item ≡ get_or items i item → u ≡ item → b ≡ fold after_return a (flat_map returns (take i items)) → c ≡ fold after_return b (returns u) →
+    c ≡ fold after_return a (flat_map returns (take (i + 1) items))
+each_more a items i item {b} below at same before next =
+    let earlier = take i items in
+    let last = get_or items i item in
+    next ∙ (ap (λ x. fold after_return b (returns x)) (same ∙ at)
+    ∙ (ap (λ x. fold after_return x (returns last)) before
+    ∙ (sym (fold-append after_return a (flat_map returns earlier) (returns last))
+    ∙ (ap (fold after_return a) (flat_map_more returns [] earlier last)
+    ∙ ap (λ ts. fold after_return a (flat_map returns ts)) (sym (take_more items i item below))))))
+
+pub each_all : (a : ReturnStatementAnalysis) (items all : List Tree) (i : ℕ) {b : ReturnStatementAnalysis} → length items ≤ i → items ≡ all →
+    b ≡ fold after_return a (flat_map returns (take i items)) → b ≡ fold after_return a (flat_map returns all)
+each_all a items all i past are before = before ∙ ap (λ ts. fold after_return a (flat_map returns ts)) (take_all i items past ∙ are)
 
 -- the class from all return statements
 from_multiple : (rs : List Bool) → fold after_return class.Multiple rs ≡ class.Multiple

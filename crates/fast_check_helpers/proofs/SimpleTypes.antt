@@ -1,5 +1,6 @@
 -- The equations of `is_simple_type`, form by form.
-use Rattle.std.proofs.Common.{◌≡◌, ℕ, Bool, true, false, ◌||◌, not, List, map, refl, ◌∙◌, sym}
+use Rattle.std.proofs.Common.{◌≡◌, ℕ, ◌+◌, ◌<◌, ◌≤◌, Bool, true, false, ◌||◌, ◌&&◌, not, List, map, length, get_or, take, refl, ap, subst, ◌∙◌, sym}
+use Rattle.std.proofs.lemmas.List.{take_all}
 use Rattle.std.specs.List.{list_all}
 use Rattle.fast_check_syntax.specs.declared.kind.Kind.{Kind}
 use Rattle.fast_check_syntax.specs.declared.kind.Kind.TheVariants.{Leaf, TsKeywordType, TsThisType, TsTypeLit, TsLitType, TsTplLitType, TsTypeRef}
@@ -14,7 +15,7 @@ use Rattle.fast_check_type_forms.specs.TypeParams.{TsTypeParamInstantiation-para
 use Rattle.fast_check_type_forms.specs.Types.{TsLitType-lit, TsTypeRef-type_params, TsTupleType-elem_types, TsTupleElement-ty, TsArrayType-elem_type}
 use Rattle.fast_check_type_forms.specs.Types.{TsOptionalType-type_ann, TsRestType-type_ann, TsUnionType-types, TsIntersectionType-types}
 use Rattle.fast_check_type_forms.specs.Types.{TsParenthesizedType-type_ann}
-use Rattle.std.proofs.lemmas.List.Folds.{list_all-map}
+use Rattle.std.proofs.lemmas.List.Folds.{list_all-map, list_all_more, list_all_at}
 use Rattle.fast_check_helpers.proofs.Leaves.{leaf_of_absent}
 use Rattle.fast_check_helpers.specs.SimpleType.{is_simple_type, simple_form}
 
@@ -119,3 +120,20 @@ other_form t inside each o =
 
 pub simple_other : (t : Tree) → IsOtherKind (kind_of t) → is_simple_type t ≡ false
 simple_other t o = simple_out t ∙ other_form t (λ i. is_simple_type (part i t)) (map is_simple_type (parts t)) o
+
+-- the first items of a list are simple: one that is not, one more that is, and all of them
+pub one_fails : (items all : List Tree) (i : ℕ) (item : Tree) {u : Tree} {b : Bool} → items ≡ all → i < length items → item ≡ get_or items i item → u ≡ item →
+    b ≡ is_simple_type u → b ≡ false → false ≡ list_all is_simple_type all
+one_fails items all i item are below at same test fails =
+    sym (subst (λ ts. list_all is_simple_type ts ≡ false) are
+    (list_all_at is_simple_type items i item below (ap is_simple_type (sym (same ∙ at)) ∙ (sym test ∙ fails))))
+
+pub one_passes : (items : List Tree) (i : ℕ) (item : Tree) {u : Tree} {b : Bool} → i < length items → item ≡ get_or items i item → u ≡ item →
+    list_all is_simple_type (take i items) ≡ true → b ≡ is_simple_type u → b ≡ true → list_all is_simple_type (take (i + 1) items) ≡ true
+one_passes items i item below at same before test passes =
+    list_all_more is_simple_type items i item below
+    ∙ (ap (λ b. b && is_simple_type (get_or items i item)) before ∙ (ap is_simple_type (sym (same ∙ at)) ∙ (sym test ∙ passes)))
+
+pub all_pass : (items all : List Tree) (i : ℕ) → items ≡ all → length items ≤ i → list_all is_simple_type (take i items) ≡ true →
+    true ≡ list_all is_simple_type all
+all_pass items all i are past before = sym before ∙ ap (list_all is_simple_type) (take_all i items past ∙ are)

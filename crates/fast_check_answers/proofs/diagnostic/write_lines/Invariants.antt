@@ -9,5 +9,5 @@ use Rattle.fast_check_answers.proofs.diagnostic.write_lines.Given as goal
 -- the other lines still have to come
 abbrev pub invariant-loop-line : goal.invariant-loop-line
 invariant-loop-line l =
-    Remains (tokens_of (array (items_of (map string (map string_bytes l.line-items))))) l.fn.out l.out
-    (rest_of_items (map string (map string_bytes (drop l.line-index l.line-items))))
+    Remains (tokens_of (array (items_of (map (λ line. string (string_bytes line)) l.line-items)))) l.fn.out l.out
+    (rest_of_items (map (λ line. string (string_bytes line)) (drop l.line-index l.line-items)))

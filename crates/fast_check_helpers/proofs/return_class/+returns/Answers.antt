@@ -7,10 +7,10 @@ use Rattle.fast_check_helpers.specs.Places.{at-IfStmt-cons, at-IfStmt-alt, at-Tr
 use Rattle.fast_check_helpers.specs.Places.{at-CatchClause-body, at-WhileStmt-body, at-DoWhileStmt-body, at-ForStmt-body, at-ForInStmt-body, at-ForOfStmt-body}
 use Rattle.fast_check_helpers.specs.ReturnClass.{returns}
 use Rattle.fast_check_helpers.specs.ReturnStep.{after_return}
-use Rattle.fast_check_helpers.proofs.Lower.{lower_odd}
+use Rattle.fast_check_helpers.proofs.Lower.{lower_odd, lower_list, lower_item}
 use Rattle.fast_check_helpers.proofs.Returns.{IsOtherStmt, then_BlockStmt, then_WithStmt, then_LabeledStmt, then_SwitchStmt, then_SwitchCase, then_CatchClause}
 use Rattle.fast_check_helpers.proofs.Returns.{then_ReturnStmt, then_IfStmt, then_TryStmt}
-use Rattle.fast_check_helpers.proofs.Returns.{then_WhileStmt, then_DoWhileStmt, then_ForStmt, then_ForInStmt, then_ForOfStmt, then_List, then_other}
+use Rattle.fast_check_helpers.proofs.Returns.{then_WhileStmt, then_DoWhileStmt, then_ForStmt, then_ForInStmt, then_ForOfStmt, then_List, then_other, each_more, each_all}
 use Rattle.fast_check_helpers.proofs.return_class.+returns.Goals as goal
 
 pub analyze_return_stmts-analyze_return_stmts-requires : goal.analyze_return_stmts-analyze_return_stmts-requires
@@ -189,3 +189,20 @@ analyze_return_stmts-returns-in-TryStmt t c =
     let second = c.analyze_return_stmts-analysis-in-TryStmt-2.ensures ∙ (λ i. fold after_return (first i) (returns (of.handler i))) in
     c.analyze_return_stmts-in-TryStmt.ensures
     ∙ ((λ i. fold after_return (second i) (returns (of.finalizer i))) ∙ sym (then_TryStmt a (seen c.args.stmt) (sym c.in-TryStmt.ensures)))
+
+pub analyze_return_stmts-analyze_each-requires : goal.analyze_return_stmts-analyze_each-requires
+analyze_return_stmts-analyze_each-requires t c = (lower_list (seen c.args.stmt) c.decreases, tt)
+
+pub analyze_each-loop-stmt-init : goal.analyze_each-loop-stmt-init
+analyze_each-loop-stmt-init t c = refl
+
+pub analyze_each-analyze_return_stmts-analysis-requires : goal.analyze_each-analyze_return_stmts-analysis-requires
+analyze_each-analyze_return_stmts-analysis-requires t c =
+    (lower_item (seen c.args.stmts) _ _ _ c.decreases c.parts-stmt-items.ensures c.loop-stmt-test.true c.stmt-item.is c.read.ensures, tt)
+
+pub analyze_each-loop-stmt-preserved : goal.analyze_each-loop-stmt-preserved
+analyze_each-loop-stmt-preserved t c =
+    each_more c.args.analysis _ _ _ c.loop-stmt-test.true c.stmt-item.is c.read.ensures c.loop-stmt.invariant c.analyze_return_stmts-analysis.ensures
+
+pub analyze_each-returns : goal.analyze_each-returns
+analyze_each-returns t c = each_all c.args.analysis _ _ _ c.loop-stmt-test.false c.parts-stmt-items.ensures c.loop-stmt.invariant

@@ -7,11 +7,11 @@ use Rattle.fast_check_helpers.specs.Places.{at-TsTypeRef-type_params, at-TsTypeP
 use Rattle.fast_check_helpers.specs.Places.{at-TsArrayType-elem_type, at-TsOptionalType-type_ann, at-TsRestType-type_ann, at-TsUnionType-types}
 use Rattle.fast_check_helpers.specs.Places.{at-TsIntersectionType-types, at-TsParenthesizedType-type_ann, at-TsTypeOperator-type_ann}
 use Rattle.fast_check_helpers.specs.SimpleType.{is_simple_type}
-use Rattle.fast_check_helpers.proofs.Lower.{lower_odd}
+use Rattle.fast_check_helpers.proofs.Lower.{lower_odd, lower_list, lower_item}
 use Rattle.fast_check_helpers.proofs.SimpleTypes.{IsOtherKind, simple_TsKeywordType, simple_TsThisType, simple_TsTypeLit, simple_TsTypeParamInstantiation}
 use Rattle.fast_check_helpers.proofs.SimpleTypes.{simple_TsTupleType, simple_TsTupleElement, simple_TsArrayType, simple_TsOptionalType, simple_TsRestType}
 use Rattle.fast_check_helpers.proofs.SimpleTypes.{simple_TsUnionType, simple_TsIntersectionType, simple_TsParenthesizedType, simple_TsTypeOperator, simple_List}
-use Rattle.fast_check_helpers.proofs.SimpleTypes.{simple_TsLitType, simple_TsTypeRef, simple_other}
+use Rattle.fast_check_helpers.proofs.SimpleTypes.{simple_TsLitType, simple_TsTypeRef, simple_other, one_fails, one_passes, all_pass}
 use Rattle.fast_check_helpers.proofs.Tests.{or_first, or_second}
 use Rattle.fast_check_helpers.proofs.simple_type.+simple.Goals as goal
 
@@ -164,3 +164,24 @@ is_simple_type-returns-else-is_absent t c =
     let of = c.of-in-TsTypeRef.ensures in
     or_second _ _ (sym (c.is_absent.ensures ∙ ap is_absent of.type_params) ∙ c.if-is_absent.false) (c.is_simple_type.ensures ∙ ap is_simple_type of.type_params)
     ∙ sym (simple_TsTypeRef (seen c.args.ty) (sym c.in-TsTypeRef.ensures))
+
+pub is_simple_type-are_simple_types-requires : goal.is_simple_type-are_simple_types-requires
+is_simple_type-are_simple_types-requires t c = (lower_list (seen c.args.ty) c.decreases, tt)
+
+pub are_simple_types-loop-ty-init : goal.are_simple_types-loop-ty-init
+are_simple_types-loop-ty-init t c = refl
+
+pub are_simple_types-is_simple_type-requires : goal.are_simple_types-is_simple_type-requires
+are_simple_types-is_simple_type-requires t c =
+    (lower_item (seen c.args.types) _ _ _ c.decreases c.parts-ty-items.ensures c.loop-ty-test.true c.ty-item.is c.read.ensures, tt)
+
+pub are_simple_types-returns-then-not-is_simple_type : goal.are_simple_types-returns-then-not-is_simple_type
+are_simple_types-returns-then-not-is_simple_type t c =
+    one_fails _ _ _ _ c.parts-ty-items.ensures c.loop-ty-test.true c.ty-item.is c.read.ensures c.is_simple_type.ensures c.if-not-is_simple_type.true
+
+pub are_simple_types-loop-ty-preserved : goal.are_simple_types-loop-ty-preserved
+are_simple_types-loop-ty-preserved t c =
+    one_passes _ _ _ c.loop-ty-test.true c.ty-item.is c.read.ensures c.loop-ty.invariant c.is_simple_type.ensures c.if-not-is_simple_type.false
+
+pub are_simple_types-returns : goal.are_simple_types-returns
+are_simple_types-returns t c = all_pass _ _ _ c.parts-ty-items.ensures c.loop-ty-test.false c.loop-ty.invariant
