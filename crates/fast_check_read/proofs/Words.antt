@@ -1,5 +1,5 @@
 -- What stands at the place of each form, and what is null.
-use Rattle.std.proofs.Common.{◌≡◌, ◌∙◌, Option, Some, None, Ok, Vec, BTreeMap, String, Global, option_map, option_and_then, refl, ap}
+use Rattle.std.proofs.Common.{◌≡◌, ◌∙◌, ℕ, List, [], ◌∷◌, Option, Some, None, Ok, Vec, BTreeMap, String, Global, string_bytes, option_map, option_and_then, refl, sym, ap}
 use Rattle.std.specs.Option.{is_some, ok_or}
 use Rattle.serde_json.specs.Data.{Data, null, boolean, number, string, array, object}
 use Rattle.serde_json.specs.Find.{as_array, as_bool, as_null, as_object, as_str}
@@ -9,6 +9,8 @@ use Rattle.serde_json.proofs.Views.{view-Array, view-Object}
 use Rattle.fast_check_syntax.specs.declared.kind.Kind.{Kind}
 use Rattle.fast_check_syntax.specs.declared.kind.Word.{Word as Word'}
 use Rattle.fast_check_syntax.specs.declared.tree.Tree.{Tree, Flag, Context, Text, Range, Word}
+use Rattle.fast_check_schema.specs.Lookup.{variant_by_name}
+use Rattle.fast_check_schema.specs.Schema.{variants_of}
 use Rattle.fast_check_schema.specs.declared.form.Choice.{Choice}
 use Rattle.fast_check_schema.specs.declared.form.Count.{Count}
 use Rattle.fast_check_schema.specs.declared.form.Form.{Form}
@@ -99,6 +101,14 @@ pub array_there : (value : Value) (items : Vec Value Global) (form : Form) (coun
 array_there value items form count count' is same =
     ap (λ v. counted (reading (view v)) form count) is
     ∙ (ap (λ d. counted (reading d) form count) (view-Array items) ∙ ap (counted (reading (array (items_view items.items))) form) same)
+
+pub one_member : (entries : List (String Global × Value)) (name : String Global) (content : Value) (choice : Choice) → entries ≡ (name, content) ∷ []
+    → (text : List ℕ) → text ≡ string_bytes name
+    → choice_tree (member_readings (members_view entries)) choice
+    ≡ option_and_then (λ v. tree_of (view content) v.form) (variant_by_name text (variants_of choice))
+one_member entries name content choice is text same =
+    ap (λ es. choice_tree (member_readings (members_view es)) choice) is
+    ∙ ap (λ key. option_and_then (λ v. tree_of (view content) v.form) (variant_by_name key (variants_of choice))) (sym same)
 
 pub no_list : (value : Data) (form : Form) → as_array value ≡ None → (reading value).list_of form ≡ None
 no_list null form none = refl

@@ -1,17 +1,19 @@
-use Rattle.std.proofs.Common.{List, Option, Some, None, sym, ap, ◌∙◌, subst, option_map, map, refl}
+use borrow.Author.Count.{falls}
+use Rattle.std.proofs.Common.{ℕ, List, [], ◌∷◌, Bor, String, Global, Option, Some, None, sym, ap, ◌∙◌, subst, option_map, option_and_then, map, refl}
 use Rattle.serde_json.specs.View.{view, items_view, members_view}
 use Rattle.serde_json.specs.declared.value.Value.{Value}
 use Rattle.fast_check_syntax.specs.Shape.{list, node}
 use Rattle.fast_check_syntax.specs.declared.tree.Tree.{Tree, Flag, Context, Text, Range, Word}
-use Rattle.fast_check_schema.specs.Rows.{field_row}
+use Rattle.fast_check_schema.specs.Rows.{VariantRow, field_row}
 use Rattle.fast_check_schema.specs.Schema.{fields_of}
+use Rattle.fast_check_schema.specs.declared.form.Count.{Count}
 use Rattle.fast_check_schema.specs.declared.form.Form.{Form}
 use Rattle.fast_check_read.specs.Each.{each, Answers}
-use Rattle.fast_check_read.specs.Reading.{reading, tree_of, field_or_default, item_readings, member_readings, list_items, option_items, counted, field_tree, option_tree}
+use Rattle.fast_check_read.specs.Reading.{reading, tree_of, field_or_default, item_readings, member_readings, list_items, option_items, counted, field_tree, option_tree, or_absent, Reading}
 use Rattle.fast_check_read.proofs.Each.{answers_none, answers_out, answers_passed, some_of_ok, none_of_err, then_none, then_some, one_more, none_here, all_done, nothing_done, pushed}
 use Rattle.fast_check_read.proofs.Members.{field_tree_found}
 use Rattle.fast_check_read.proofs.Words.{tree_of_flag, tree_of_context, tree_of_text, tree_of_range, tree_of_word, tree_of_struct, tree_of_choice, tree_of_marked}
-use Rattle.fast_check_read.proofs.Words.{word_found, members_there, array_there, no_list, no_options}
+use Rattle.fast_check_read.proofs.Words.{word_found, members_there, array_there, one_member, no_list, no_options, reading_is_null}
 use Rattle.fast_check_read.proofs.tree.+read.Goals as goal
 
 -- ---- fields
@@ -242,3 +244,106 @@ read_tree-returns-in_ok-read_members-in-Marked t c =
     let value = view c.args.value.now in
     subst (λ expected. Answers expected c.read_marked.result) (sym (ap (tree_of value) c.in-Marked.is ∙ (tree_of_marked value _
     ∙ then_some _ (members_there _ _ c.in_ok-read_members-in-Marked.ensures.ok)))) c.read_marked.ensures
+
+-- ---- nodes
+
+abbrev parts : List (List ℕ × Reading) → List (Bor (List ℕ) × Form × Count) → Option (List Tree)
+parts members fields = each (field_tree members) (map field_row fields)
+
+pub read_node-returns-in_err-with_capacity : goal.read_node-returns-in_err-with_capacity
+read_node-returns-in_err-with_capacity t c = answers_out _ _ c.from_residual.ensures.1
+
+pub read_node-loop-field-init : goal.read_node-loop-field-init
+read_node-loop-field-init t c = nothing_done _ _ (c.from_vec-parts.ensures ∙ c.in_ok-with_capacity.ensures.items)
+
+pub read_node-bounds-fields-field-index : goal.read_node-bounds-fields-field-index
+read_node-bounds-fields-field-index t c = c.loop-field-test.true
+
+pub read_node-returns-in_err-read_field : goal.read_node-returns-in_err-read_field
+read_node-returns-in_err-read_field t c =
+    let members = member_readings (members_view c.args.members.now.entries) in
+    answers_passed _ _ _ c.from_residual-in_err-read_field.ensures.1 (λ bad.
+    ap (λ rows. option_map (node c.args.kind) (each (field_tree members) rows)) (sym c.fields-fields.ensures)
+    ∙ ap (option_map (node c.args.kind)) (none_here (parts members) (λ field. field_tree members (field_row field)) (λ v vs. refl) _ _ _ _ _ _
+    c.loop-field-test.true refl c.loop-field.invariant (c.in_err-read_field.ensures bad)))
+
+pub read_node-returns-in_err-push : goal.read_node-returns-in_err-push
+read_node-returns-in_err-push t c = answers_out _ _ c.from_residual-in_err-push.ensures.1
+
+pub read_node-loop-field-preserved : goal.read_node-loop-field-preserved
+read_node-loop-field-preserved t c =
+    let members = member_readings (members_view c.args.members.now.entries) in
+    one_more (parts members) (λ field. field_tree members (field_row field)) (λ v vs. refl) _ _ _ _ _ _ _ _ c.loop-field-test.true refl
+    c.loop-field.invariant c.in_ok-read_field.ensures (pushed _ _ _ c.in_ok-push.ensures.ok)
+
+pub read_node-returns : goal.read_node-returns
+read_node-returns t c =
+    let members = member_readings (members_view c.args.members.now.entries) in
+    ap (λ rows. option_map (node c.args.kind) (each (field_tree members) rows)) (sym c.fields-fields.ensures)
+    ∙ ap (option_map (node c.args.kind)) (all_done (parts members) refl _ _ _ _ c.loop-field-test.false c.loop-field.invariant)
+
+-- ---- choices under their mark
+
+pub read_marked-returns-in_err-read_choice-in-Some : goal.read_marked-returns-in_err-read_choice-in-Some
+read_marked-returns-in_err-read_choice-in-Some t c =
+    answers_passed _ _ _ c.from_residual.ensures.1 (λ bad.
+    then_some _ (sym c.in-Some.ensures) ∙ ap (option_map (λ tree. node c.args.mark (tree ∷ []))) (c.in_err-read_choice-in-Some.ensures bad))
+
+pub read_marked-returns-in_err-node-in-Some : goal.read_marked-returns-in_err-node-in-Some
+read_marked-returns-in_err-node-in-Some t c = answers_out _ _ c.from_residual-in_err-node-in-Some.ensures.1
+
+pub read_marked-returns-in_ok-node-in-Some : goal.read_marked-returns-in_ok-node-in-Some
+read_marked-returns-in_ok-node-in-Some t c =
+    then_some _ (sym c.in-Some.ensures)
+    ∙ (ap (option_map (λ tree. node c.args.mark (tree ∷ []))) c.in_ok-read_choice-in-Some.ensures ∙ ap Some (sym c.in_ok-node-in-Some.ensures))
+
+pub read_marked-returns-in-None : goal.read_marked-returns-in-None
+read_marked-returns-in-None t c = λ bad. then_none _ (sym c.in-None.ensures)
+
+-- ---- options
+
+pub read_option-returns-then-is_null : goal.read_option-returns-then-is_null
+read_option-returns-then-is_null t c =
+    ap (λ is_null. or_absent is_null (tree_of (view c.args.value.now) c.args.form))
+    (reading_is_null (view c.args.value.now) ∙ (sym c.is_null.ensures ∙ c.if-is_null.true))
+
+pub read_option-returns-else-is_null : goal.read_option-returns-else-is_null
+read_option-returns-else-is_null t c =
+    subst (λ expected. Answers expected c.read_tree.result) (sym (ap (λ is_null. or_absent is_null (tree_of (view c.args.value.now) c.args.form))
+    (reading_is_null (view c.args.value.now) ∙ (sym c.is_null.ensures ∙ c.if-is_null.false)))) c.read_tree.ensures
+
+pub read_list-loop-value-smaller : goal.read_list-loop-value-smaller
+read_list-loop-value-smaller t c = falls _ _ c.loop-value-test.true
+
+pub read_options-loop-value-smaller : goal.read_options-loop-value-smaller
+read_options-loop-value-smaller t c = falls _ _ c.loop-value-test.true
+
+pub read_node-loop-field-smaller : goal.read_node-loop-field-smaller
+read_node-loop-field-smaller t c = falls _ _ c.loop-field-test.true
+
+-- ---- choices
+
+abbrev of_variants : Value → Option VariantRow → Option Tree
+of_variants content variant = option_and_then (λ v. tree_of (view content) v.form) variant
+
+pub read_choice-next-requires : goal.read_choice-next-requires
+read_choice-next-requires t c = tt
+
+pub read_choice-next-requires-2 : goal.read_choice-next-requires-2
+read_choice-next-requires-2 t c = tt
+
+pub read_choice-variant_named-requires-text-name : goal.read_choice-variant_named-requires-text-name
+read_choice-variant_named-requires-text-name t c = λ κs. c.as_str.utf8
+
+pub read_choice-returns-in-Some : goal.read_choice-returns-in-Some
+read_choice-returns-in-Some t c =
+    let member : String Global × Value = (c.in-Some-None.name.now, c.in-Some-None.content.now) in
+    let entries = sym c.iter-entries.ensures.rest ∙ (c.in-Some-None.ensures.steps ∙ ap (λ (more : List (String Global × Value)). member ∷ more) c.in-Some-None.ensures'.steps.0) in
+    subst (λ expected. Answers expected c.read_tree.result) (sym (one_member _ member.0 member.1 c.args.choice entries _ c.as_str.ensures.value
+    ∙ ap (of_variants c.in-Some-None.content.now) (sym c.in-Some.ensures))) c.read_tree.ensures
+
+pub read_choice-returns-in-None : goal.read_choice-returns-in-None
+read_choice-returns-in-None t c = λ bad.
+    let member : String Global × Value = (c.in-Some-None.name.now, c.in-Some-None.content.now) in
+    let entries = sym c.iter-entries.ensures.rest ∙ (c.in-Some-None.ensures.steps ∙ ap (λ (more : List (String Global × Value)). member ∷ more) c.in-Some-None.ensures'.steps.0) in
+    one_member _ member.0 member.1 c.args.choice entries _ c.as_str.ensures.value ∙ ap (of_variants c.in-Some-None.content.now) (sym c.in-None.ensures)
