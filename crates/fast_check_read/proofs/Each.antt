@@ -1,11 +1,12 @@
 -- Answers where a call fails, and the loops that read each item of an array.
-use Rattle.std.proofs.Common.{◌≡◌, ◌∙◌, ℕ, ◌+◌, ◌<◌, ◌≤◌, false, true, List, [], ◌∷◌, ◌++◌, length, get_or, drop, Option, Some, None, option_map, option_and_then, Result, Ok, Err}
-use Rattle.std.proofs.Common.{Vec, Global, refl, sym, ap, append_assoc, append-nil}
+use Rattle.std.proofs.Common.{◌≡◌, ◌∙◌, ℕ, ◌+◌, ◌<◌, ◌≤◌, false, true, List, [], ◌∷◌, ◌++◌, length, get_or, drop, Option, Some, None, option_map}
+use Rattle.std.proofs.Common.{option_and_then, Result, Ok, Err}
+use Rattle.std.proofs.Common.{Bor, Vec, Global, refl, sym, ap, append_assoc, append-nil}
 use Rattle.std.proofs.Math.ListN.{drop_of_length-le}
 use Rattle.std.proofs.lemmas.List.{at_drop_more}
 use Rattle.std.specs.Option.{ok_or}
 use Rattle.std.specs.Result.{IsErr, IsErrAnd}
-use Rattle.serde_json.specs.Data.{Items}
+use Rattle.serde_json.specs.Data.{Data}
 use Rattle.serde_json.specs.Find.{as_array}
 use Rattle.serde_json.specs.View.{view, items_view}
 use Rattle.serde_json.specs.declared.value.Value.{Value, Array}
@@ -39,11 +40,30 @@ pub none_of_err : {A E : Type 0} (a : Option A) (thrown error : E) → Err throw
 none_of_err None thrown error e = refl
 none_of_err (Some y) thrown error e = cc
 
+pub bad_of_err : {A : Type 0} (a : Option A) (thrown error : ReadError) → Err thrown ≡ ok_or a error → thrown ≡ error
+bad_of_err None thrown error e = cc
+bad_of_err (Some y) thrown error e = cc
+
+-- an error that is passed on, where the result is told by what is expected
+pub refused : {A : Type 0} (expected : Option A) (result : Result A ReadError) (error : ReadError) → IsErrAnd result (λ e. e ≡ error) → error ≡ BadForm
+    → expected ≡ None → result ≡ ok_or expected BadForm
+refused expected (Ok a) error passed bad none = absurd passed
+refused expected (Err e) error passed bad none = ap Err (passed ∙ bad) ∙ ap (λ o. ok_or o BadForm) (sym none)
+
 pub then_none : {A B : Type 0} {a : Option A} (f : A → Option B) → a ≡ None → option_and_then f a ≡ None
 then_none f e = ap (option_and_then f) e
 
 pub then_some : {A B : Type 0} {a : Option A} {x : A} (f : A → Option B) → a ≡ Some x → option_and_then f a ≡ f x
 then_some f e = ap (option_and_then f) e
+
+-- a member of an object that is there, and one that is not
+pub found : {A : Type 0} (f : Data → Option A) (asked : Option (Bor Value)) (member : Option Data) (value : Bor Value)
+    → option_map (λ v. view v.now) asked ≡ member → asked ≡ Some value → option_and_then f member ≡ f (view value.now)
+found f asked member value e is = then_some f (sym e ∙ ap (option_map (λ v. view v.now)) is)
+
+pub missing : {A : Type 0} (f : Data → Option A) (asked : Option (Bor Value)) (member : Option Data)
+    → option_map (λ v. view v.now) asked ≡ member → asked ≡ None → option_and_then f member ≡ None
+missing f asked member e none = then_none f (sym e ∙ ap (option_map (λ v. view v.now)) none)
 
 -- ---- loops
 

@@ -1,5 +1,6 @@
 -- What stands at the place of each form, and what is null.
-use Rattle.std.proofs.Common.{◌≡◌, ◌∙◌, ℕ, List, [], ◌∷◌, Option, Some, None, Ok, Vec, BTreeMap, String, Global, string_bytes, option_map, option_and_then, refl, sym, ap}
+use Rattle.std.proofs.Common.{◌≡◌, ◌∙◌, ℕ, List, [], ◌∷◌, Option, Some, None, Ok, Vec, BTreeMap, String, Global, string_bytes, option_map, option_and_then}
+use Rattle.std.proofs.Common.{refl, sym, ap}
 use Rattle.std.specs.Option.{is_some, ok_or}
 use Rattle.serde_json.specs.Data.{Data, null, boolean, number, string, array, object}
 use Rattle.serde_json.specs.Find.{as_array, as_bool, as_null, as_object, as_str}
@@ -62,7 +63,8 @@ tree_of_word (string text) words = refl
 tree_of_word (array ds) words = refl
 tree_of_word (object ms) words = refl
 
-pub tree_of_struct : (value : Data) (kind : Kind) → tree_of value (forms.Struct kind) ≡ option_and_then (λ ms. node_tree (member_readings ms) kind) (as_object value)
+pub tree_of_struct : (value : Data) (kind : Kind)
+    → tree_of value (forms.Struct kind) ≡ option_and_then (λ ms. node_tree (member_readings ms) kind) (as_object value)
 tree_of_struct null kind = refl
 tree_of_struct (boolean flag) kind = refl
 tree_of_struct (number n) kind = refl
@@ -79,7 +81,8 @@ tree_of_choice (string text) choice = refl
 tree_of_choice (array ds) choice = refl
 tree_of_choice (object ms) choice = refl
 
-pub tree_of_marked : (value : Data) (mark : Kind) → tree_of value (forms.Marked mark) ≡ option_and_then (λ ms. marked_tree (member_readings ms) mark) (as_object value)
+pub tree_of_marked : (value : Data) (mark : Kind)
+    → tree_of value (forms.Marked mark) ≡ option_and_then (λ ms. marked_tree (member_readings ms) mark) (as_object value)
 tree_of_marked null mark = refl
 tree_of_marked (boolean flag) mark = refl
 tree_of_marked (number n) mark = refl

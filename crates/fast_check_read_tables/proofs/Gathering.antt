@@ -1,5 +1,6 @@
 -- What is put together of what is read.
-use Rattle.std.proofs.Common.{◌≡◌, ◌∙◌, sym, ap, refl, subst, List, [], ◌∷◌, ◌++◌, Option, Some, None, option_map, Result, Ok, Err, ℕ, ◌+◌, ◌<◌, length, get_or, drop, Vec, Global}
+use Rattle.std.proofs.Common.{◌≡◌, ◌∙◌, sym, ap, refl, subst, List, [], ◌∷◌, ◌++◌, Option, Some, None, option_map, Result, Ok, Err, ℕ, ◌+◌, ◌<◌, length}
+use Rattle.std.proofs.Common.{get_or, drop, Vec, Global}
 use Rattle.std.proofs.lemmas.List.{append-nil, append_assoc, at_drop_more}
 use Rattle.std.specs.Prelude.{option_and_then}
 use Rattle.std.specs.Result.{IsErrAnd}

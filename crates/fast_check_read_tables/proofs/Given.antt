@@ -1,5 +1,6 @@
 -- What is read with what is there.
-use Rattle.std.proofs.Common.{◌≡◌, ◌∙◌, ℕ, true, false, List, [], ◌∷◌, Option, Some, None, option_map, Result, Ok, Err, ap, refl, map, length, get_or, sym, ◌<◌, ◌≤◌, arith}
+use Rattle.std.proofs.Common.{◌≡◌, ◌∙◌, ℕ, true, false, List, [], ◌∷◌, Option, Some, None, option_map, Result, Ok, Err, ap, refl, map, length, get_or, sym}
+use Rattle.std.proofs.Common.{◌<◌, ◌≤◌, arith}
 use Rattle.std.proofs.Common.{String, BTreeMap, Global}
 use Rattle.std.specs.Option.{ok_or}
 use Rattle.std.specs.Result.{IsErr, IsErrAnd, IfErr, result_ok}
@@ -63,7 +64,8 @@ many (a ∷ b ∷ []) less = absurd (omega arith)
 many (a ∷ b ∷ c ∷ []) less = absurd (omega arith)
 many (a ∷ b ∷ c ∷ d ∷ more) less = refl
 
-pub three : (values : List Value) (u v w : Value) → 3 ≤ length values → length values < 4 → u ≡ get_or values 0 u → v ≡ get_or values 1 v → w ≡ get_or values 2 w
+pub three : (values : List Value) (u v w : Value) → 3 ≤ length values → length values < 4
+    → u ≡ get_or values 0 u → v ≡ get_or values 1 v → w ≡ get_or values 2 w
     → Some (view u, view v, view w) ≡ only_three (items_view values)
 three [] u v w more less first second third = absurd (omega arith)
 three (a ∷ []) u v w more less first second third = absurd (omega arith)

@@ -5,7 +5,8 @@ use Rattle.fast_check_comments.specs.declared.comment.Comment.{Comment}
 use Rattle.fast_check_read.specs.Each.{each}
 use Rattle.fast_check_read.specs.Comments.{comment_of}
 use Rattle.fast_check_read.specs.Pieces.{items_list}
-use Rattle.fast_check_read.proofs.Each.{answers_none, answers_out, answers_passed, then_none, then_some, items_there, one_more, none_here, all_done, nothing_done, pushed}
+use Rattle.fast_check_read.proofs.Each.{answers_none, answers_out, answers_passed, then_none, then_some, items_there}
+use Rattle.fast_check_read.proofs.Each.{one_more, none_here, all_done, nothing_done, pushed}
 use Rattle.fast_check_read.proofs.comments.read_comment_list.Goals as goal
 
 abbrev comments : List Value → Option (List Comment)

@@ -4,7 +4,8 @@ use Rattle.serde_json.specs.declared.value.Value.{Value}
 use Rattle.fast_check_syntax.specs.declared.source.SourceRange.{SourceRange}
 use Rattle.fast_check_read.specs.Each.{each}
 use Rattle.fast_check_read.specs.Pieces.{range_of_data, items_list}
-use Rattle.fast_check_read.proofs.Each.{answers_none, answers_out, some_of_ok, none_of_err, then_none, then_some, items_there, one_more, none_here, all_done, nothing_done, pushed}
+use Rattle.fast_check_read.proofs.Each.{answers_none, answers_out, some_of_ok, none_of_err, then_none, then_some, items_there}
+use Rattle.fast_check_read.proofs.Each.{one_more, none_here, all_done, nothing_done, pushed}
 use Rattle.fast_check_read.proofs.pieces.read_ranges.Goals as goal
 
 abbrev ranges : List Value → Option (List SourceRange)

@@ -9,10 +9,13 @@ use Rattle.fast_check_schema.specs.Schema.{fields_of}
 use Rattle.fast_check_schema.specs.declared.form.Count.{Count}
 use Rattle.fast_check_schema.specs.declared.form.Form.{Form}
 use Rattle.fast_check_read.specs.Each.{each, Answers}
-use Rattle.fast_check_read.specs.Reading.{reading, tree_of, field_or_default, item_readings, member_readings, list_items, option_items, counted, field_tree, option_tree, or_absent, Reading}
-use Rattle.fast_check_read.proofs.Each.{answers_none, answers_out, answers_passed, some_of_ok, none_of_err, then_none, then_some, one_more, none_here, all_done, nothing_done, pushed}
+use Rattle.fast_check_read.specs.Reading.{reading, tree_of, field_or_default, item_readings, member_readings, list_items, option_items, counted, field_tree}
+use Rattle.fast_check_read.specs.Reading.{option_tree, or_absent, Reading}
+use Rattle.fast_check_read.proofs.Each.{answers_none, answers_out, answers_passed, some_of_ok, none_of_err, then_none, then_some, one_more, none_here}
+use Rattle.fast_check_read.proofs.Each.{all_done, nothing_done, pushed}
 use Rattle.fast_check_read.proofs.Members.{field_tree_found}
-use Rattle.fast_check_read.proofs.Words.{tree_of_flag, tree_of_context, tree_of_text, tree_of_range, tree_of_word, tree_of_struct, tree_of_choice, tree_of_marked}
+use Rattle.fast_check_read.proofs.Words.{tree_of_flag, tree_of_context, tree_of_text, tree_of_range, tree_of_word, tree_of_struct, tree_of_choice}
+use Rattle.fast_check_read.proofs.Words.{tree_of_marked}
 use Rattle.fast_check_read.proofs.Words.{word_found, members_there, array_there, one_member, no_list, no_options, reading_is_null}
 use Rattle.fast_check_read.proofs.tree.+read.Goals as goal
 
@@ -338,12 +341,14 @@ read_choice-variant_named-requires-text-name t c = λ κs. c.as_str.utf8
 pub read_choice-returns-in-Some : goal.read_choice-returns-in-Some
 read_choice-returns-in-Some t c =
     let member : String Global × Value = (c.in-Some-None.name.now, c.in-Some-None.content.now) in
-    let entries = sym c.iter-entries.ensures.rest ∙ (c.in-Some-None.ensures.steps ∙ ap (λ (more : List (String Global × Value)). member ∷ more) c.in-Some-None.ensures'.steps.0) in
+    let with_more : List (String Global × Value) → List (String Global × Value) = λ more. member ∷ more in
+    let entries = sym c.iter-entries.ensures.rest ∙ (c.in-Some-None.ensures.steps ∙ ap with_more c.in-Some-None.ensures'.steps.0) in
     subst (λ expected. Answers expected c.read_tree.result) (sym (one_member _ member.0 member.1 c.args.choice entries _ c.as_str.ensures.value
     ∙ ap (of_variants c.in-Some-None.content.now) (sym c.in-Some.ensures))) c.read_tree.ensures
 
 pub read_choice-returns-in-None : goal.read_choice-returns-in-None
 read_choice-returns-in-None t c = λ bad.
     let member : String Global × Value = (c.in-Some-None.name.now, c.in-Some-None.content.now) in
-    let entries = sym c.iter-entries.ensures.rest ∙ (c.in-Some-None.ensures.steps ∙ ap (λ (more : List (String Global × Value)). member ∷ more) c.in-Some-None.ensures'.steps.0) in
+    let with_more : List (String Global × Value) → List (String Global × Value) = λ more. member ∷ more in
+    let entries = sym c.iter-entries.ensures.rest ∙ (c.in-Some-None.ensures.steps ∙ ap with_more c.in-Some-None.ensures'.steps.0) in
     one_member _ member.0 member.1 c.args.choice entries _ c.as_str.ensures.value ∙ ap (of_variants c.in-Some-None.content.now) (sym c.in-None.ensures)

@@ -20,11 +20,13 @@ returns-in_ok-from_json-in-Target c =
 pub returns-in_err-id-in-QualifiedTarget : goal.returns-in_err-id-in-QualifiedTarget
 returns-in_err-id-in-QualifiedTarget c =
     reads_passed _ _ _ c.in_err-id-in-QualifiedTarget.field-0.0 c.from_residual-in_err-id-in-QualifiedTarget.ensures.1 (λ bad.
-    chosen decl_kind_named _ _ _ _ c.in_ok-name.ensures.variant c.in-QualifiedTarget.is ∙ ap (option_map (λ p. seen.QualifiedTarget p.0 p.1)) (c.in_err-id-in-QualifiedTarget.ensures bad))
+    chosen decl_kind_named _ _ _ _ c.in_ok-name.ensures.variant c.in-QualifiedTarget.is
+    ∙ ap (option_map (λ p. seen.QualifiedTarget p.0 p.1)) (c.in_err-id-in-QualifiedTarget.ensures bad))
 
 pub returns-in_ok-id-in-QualifiedTarget : goal.returns-in_ok-id-in-QualifiedTarget
 returns-in_ok-id-in-QualifiedTarget c =
-    chosen decl_kind_named _ _ _ _ c.in_ok-name.ensures.variant c.in-QualifiedTarget.is ∙ map_some (λ p. seen.QualifiedTarget p.0 p.1) c.in_ok-id-in-QualifiedTarget.ensures
+    chosen decl_kind_named _ _ _ _ c.in_ok-name.ensures.variant c.in-QualifiedTarget.is
+    ∙ map_some (λ p. seen.QualifiedTarget p.0 p.1) c.in_ok-id-in-QualifiedTarget.ensures
 
 pub returns-in-FileRef : goal.returns-in-FileRef
 returns-in-FileRef c = reads_as _ _ _ _ (chosen decl_kind_named _ _ _ _ c.in_ok-name.ensures.variant c.in-FileRef.is) c.read_file_ref.ensures
@@ -32,7 +34,8 @@ returns-in-FileRef c = reads_as _ _ _ _ (chosen decl_kind_named _ _ _ _ c.in_ok-
 pub returns-in_err-from_json-in-Definition : goal.returns-in_err-from_json-in-Definition
 returns-in_err-from_json-in-Definition c =
     reads_passed _ _ _ c.in_err-from_json-in-Definition.field-0.0 c.from_residual-in_err-from_json-in-Definition.ensures.1 (λ bad.
-    chosen decl_kind_named _ _ _ _ c.in_ok-name.ensures.variant c.in-Definition.is ∙ ap (option_map seen.Definition) (c.in_err-from_json-in-Definition.ensures bad))
+    chosen decl_kind_named _ _ _ _ c.in_ok-name.ensures.variant c.in-Definition.is
+    ∙ ap (option_map seen.Definition) (c.in_err-from_json-in-Definition.ensures bad))
 
 pub returns-in_ok-from_json-in-Definition : goal.returns-in_ok-from_json-in-Definition
 returns-in_ok-from_json-in-Definition c =

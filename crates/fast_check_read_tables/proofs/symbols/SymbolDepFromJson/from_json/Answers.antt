@@ -20,7 +20,8 @@ returns-in_ok-from_json-in-Id c =
 pub returns-in_err-id-in-QualifiedId : goal.returns-in_err-id-in-QualifiedId
 returns-in_err-id-in-QualifiedId c =
     reads_passed _ _ _ c.in_err-id-in-QualifiedId.field-0.0 c.from_residual-in_err-id-in-QualifiedId.ensures.1 (λ bad.
-    chosen dep_named _ _ _ _ c.in_ok-name.ensures.variant c.in-QualifiedId.is ∙ ap (option_map (λ p. seen.QualifiedId p.0 p.1)) (c.in_err-id-in-QualifiedId.ensures bad))
+    chosen dep_named _ _ _ _ c.in_ok-name.ensures.variant c.in-QualifiedId.is
+    ∙ ap (option_map (λ p. seen.QualifiedId p.0 p.1)) (c.in_err-id-in-QualifiedId.ensures bad))
 
 pub returns-in_ok-id-in-QualifiedId : goal.returns-in_ok-id-in-QualifiedId
 returns-in_ok-id-in-QualifiedId c =
@@ -29,8 +30,10 @@ returns-in_ok-id-in-QualifiedId c =
 pub returns-in_err-specifier-in-ImportType : goal.returns-in_err-specifier-in-ImportType
 returns-in_err-specifier-in-ImportType c =
     reads_passed _ _ _ c.in_err-specifier-in-ImportType.field-0.0 c.from_residual-in_err-specifier-in-ImportType.ensures.1 (λ bad.
-    chosen dep_named _ _ _ _ c.in_ok-name.ensures.variant c.in-ImportType.is ∙ ap (option_map (λ p. seen.ImportType p.0 p.1)) (c.in_err-specifier-in-ImportType.ensures bad))
+    chosen dep_named _ _ _ _ c.in_ok-name.ensures.variant c.in-ImportType.is
+    ∙ ap (option_map (λ p. seen.ImportType p.0 p.1)) (c.in_err-specifier-in-ImportType.ensures bad))
 
 pub returns-in_ok-specifier-in-ImportType : goal.returns-in_ok-specifier-in-ImportType
 returns-in_ok-specifier-in-ImportType c =
-    chosen dep_named _ _ _ _ c.in_ok-name.ensures.variant c.in-ImportType.is ∙ map_some (λ p. seen.ImportType p.0 p.1) c.in_ok-specifier-in-ImportType.ensures
+    chosen dep_named _ _ _ _ c.in_ok-name.ensures.variant c.in-ImportType.is
+    ∙ map_some (λ p. seen.ImportType p.0 p.1) c.in_ok-specifier-in-ImportType.ensures
