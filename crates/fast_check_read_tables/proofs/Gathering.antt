@@ -16,7 +16,7 @@ use Rattle.fast_check_symbols.specs.Exports.{put_export}
 use Rattle.fast_check_read.specs.Each.{each}
 use Rattle.fast_check_read.specs.Pieces.{items_list}
 use Rattle.fast_check_read.specs.declared.error.ReadError.{ReadError}
-use Rattle.fast_check_read.specs.declared.error.ReadError.TheVariants.{BadForm}
+use Rattle.fast_check_read.specs.declared.error.ReadError.TheVariants.{BadForm, OutOfMemory}
 use Rattle.fast_check_read_tables.specs.Reads.{given, list_of, Reads}
 use Rattle.fast_check_read_tables.specs.Gathered.{all_gathered, both_given, both_read}
 use Rattle.fast_check_read_tables.specs.Graph.{Exports, Resolutions, all_exported, all_resolved, resolved_also}
@@ -97,7 +97,18 @@ pub reads_passed : {A B : Type 0} (f : B → A) (a : Option A) (r : Result B Rea
 reads_passed f a (Ok x) error passed h = absurd passed
 reads_passed f a (Err e) error passed h = λ bad. h (sym passed ∙ bad)
 
+-- memory ran out
+pub reads_out : {A B : Type 0} (f : B → A) (a : Option A) (r : Result B ReadError) → IsErrAnd r (λ e. e ≡ OutOfMemory) → Reads f a r
+reads_out f a r out = reads_passed f a r OutOfMemory out (λ bad. cc)
+
 -- ---- several readings
+
+pub given_three : {A B C R : Type 0} (a : Option A) (b : Option B) (c : Option C) (f : A → B → C → R)
+    → given a (λ x. given b (λ y. option_map (f x y) c)) ≡ option_map (λ p. f p.0.0 p.0.1 p.1) (both_given (both_given a b) c)
+given_three None b c f = refl
+given_three (Some x) None c f = refl
+given_three (Some x) (Some y) None f = refl
+given_three (Some x) (Some y) (Some z) f = refl
 
 pub given_four : {A B C D R : Type 0} (a : Option A) (b : Option B) (c : Option C) (d : Option D) (f : A → B → C → D → R)
     → given a (λ x. given b (λ y. given c (λ z. option_map (f x y z) d)))
