@@ -1,2 +1,4 @@
+mod Each
 mod Members
+mod Pairs
 mod Words

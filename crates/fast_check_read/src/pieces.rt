@@ -60,9 +60,8 @@ pub fn read_pair(value: &Value) -> Result<(&Value, &Value), ReadError>
     ensures pair { option_map (λ p. (view p.0.now, view p.1.now)) (result_ok result) ≡ pair_of (view value.now) }
     ensures err { IfErr result (λ error. error ≡ ReadError.BadForm) }
 {
-    let mut items = read_array(value)?.iter();
-    match (items.next(), items.next(), items.next()) {
-        (Some(first), Some(second), None) => Ok((first, second)),
+    match read_array(value)?.as_slice() {
+        [first, second] => Ok((first, second)),
         _ => Err(ReadError::BadForm),
     }
 }

@@ -1,21 +1,23 @@
 -- What is put together of what is read.
-use Rattle.std.proofs.Common.{◌≡◌, ◌∙◌, sym, ap, refl, subst, List, [], ◌∷◌, ◌++◌, Option, Some, None, option_map, Result, Ok, Err, ℕ}
-use Rattle.std.proofs.lemmas.List.{append-nil, append_assoc}
+use Rattle.std.proofs.Common.{◌≡◌, ◌∙◌, sym, ap, refl, subst, List, [], ◌∷◌, ◌++◌, Option, Some, None, option_map, Result, Ok, Err, ℕ, ◌+◌, ◌<◌, length}
+use Rattle.std.proofs.Common.{get_or, drop, Vec, Global}
+use Rattle.std.proofs.lemmas.List.{append-nil, append_assoc, at_drop_more}
 use Rattle.std.specs.Prelude.{option_and_then}
 use Rattle.std.specs.Result.{IsErrAnd}
 use Rattle.std.specs.Str.{bytes_eq}
 use Rattle.indexmap.specs.IndexMap.{insert_entry}
 use Rattle.serde_json.specs.Data.{Data}
 use Rattle.serde_json.specs.View.{view, items_view}
-use Rattle.serde_json.specs.declared.value.Value.{Value}
+use Rattle.serde_json.specs.declared.value.Value.{Value, Array}
+use Rattle.serde_json.proofs.Views.{view-Array}
 use Rattle.url.specs.Parts.{Parts}
 use Rattle.fast_check_symbols.specs.declared.symbol_id.SymbolId.{SymbolId}
 use Rattle.fast_check_symbols.specs.Exports.{put_export}
 use Rattle.fast_check_read.specs.Each.{each}
 use Rattle.fast_check_read.specs.Pieces.{items_list}
 use Rattle.fast_check_read.specs.declared.error.ReadError.{ReadError}
-use Rattle.fast_check_read.specs.declared.error.ReadError.TheVariants.{BadForm}
-use Rattle.fast_check_read_tables.specs.Reads.{given, Reads}
+use Rattle.fast_check_read.specs.declared.error.ReadError.TheVariants.{BadForm, OutOfMemory}
+use Rattle.fast_check_read_tables.specs.Reads.{given, list_of, Reads}
 use Rattle.fast_check_read_tables.specs.Gathered.{all_gathered, both_given, both_read}
 use Rattle.fast_check_read_tables.specs.Graph.{Exports, Resolutions, all_exported, all_resolved, resolved_also}
 use Rattle.fast_check_read_tables.specs.Symbols.{all_put}
@@ -47,6 +49,16 @@ gathered_more with read s t v vs e = step with s t (read (view v)) (each read (i
 pub gathered_none : {S X : Type 0} (with : S → X → S) (read : Data → Option X) (s : S) (v : Value) (vs : List Value)
     → option_map (with s) (read (view v)) ≡ None → gathered_of with read s (v ∷ vs) ≡ None
 gathered_none with read s v vs e = stop with s (read (view v)) (each read (items_list (items_view vs))) e
+
+-- the next of the items that are left
+pub next_here : {V Y : Type 0} (f : List V → Y) (vs : List V) (i : ℕ) (v : V) → i < length vs → v ≡ get_or vs i v → f (drop i vs) ≡ f (v ∷ drop (i + 1) vs)
+next_here f vs i v less is = at_drop_more f vs i v less ∙ ap (λ w. f (w ∷ drop (i + 1) vs)) (sym is)
+
+-- an array has items
+pub list_there : {X : Type 0} (read : Data → Option X) (value : Value) (items : Vec Value Global) (now : List Value) → value ≡ Array items → now ≡ items.items
+    → list_of read (view value) ≡ each read (items_list (items_view now))
+list_there read value items now is same =
+    ap (λ v. list_of read (view v)) is ∙ (ap (list_of read) (view-Array items) ∙ ap (λ vs. each read (items_list (items_view vs))) (sym same))
 
 -- items that are put behind a list
 behind : {X : Type 0} (before xs : List X) → all_gathered (λ items x. items ++ x ∷ []) before xs ≡ before ++ xs
@@ -85,7 +97,18 @@ pub reads_passed : {A B : Type 0} (f : B → A) (a : Option A) (r : Result B Rea
 reads_passed f a (Ok x) error passed h = absurd passed
 reads_passed f a (Err e) error passed h = λ bad. h (sym passed ∙ bad)
 
+-- memory ran out
+pub reads_out : {A B : Type 0} (f : B → A) (a : Option A) (r : Result B ReadError) → IsErrAnd r (λ e. e ≡ OutOfMemory) → Reads f a r
+reads_out f a r out = reads_passed f a r OutOfMemory out (λ bad. cc)
+
 -- ---- several readings
+
+pub given_three : {A B C R : Type 0} (a : Option A) (b : Option B) (c : Option C) (f : A → B → C → R)
+    → given a (λ x. given b (λ y. option_map (f x y) c)) ≡ option_map (λ p. f p.0.0 p.0.1 p.1) (both_given (both_given a b) c)
+given_three None b c f = refl
+given_three (Some x) None c f = refl
+given_three (Some x) (Some y) None f = refl
+given_three (Some x) (Some y) (Some z) f = refl
 
 pub given_four : {A B C D R : Type 0} (a : Option A) (b : Option B) (c : Option C) (d : Option D) (f : A → B → C → D → R)
     → given a (λ x. given b (λ y. given c (λ z. option_map (f x y z) d)))
