@@ -132,8 +132,10 @@ pub specifier_kept : (d : FastCheckDiagnostic) (specifier : Parts)
     → subject_of d ≡ Whole specifier → with_specifier d specifier ≡ d
 unfolding subject_of with_specifier
 specifier_kept (kinds.Emit a b) _ none _ = absurd (none a b refl)
-specifier_kept (kinds.UnsupportedNestedJavaScript _) specifier _ e = sym (ap (λ whole. kinds.UnsupportedNestedJavaScript (specifier_or specifier whole)) e)
-specifier_kept (kinds.UnsupportedJavaScriptEntrypoint _) specifier _ e = sym (ap (λ whole. kinds.UnsupportedJavaScriptEntrypoint (specifier_or specifier whole)) e)
+specifier_kept (kinds.UnsupportedNestedJavaScript _) specifier _ e =
+    sym (ap (λ whole. kinds.UnsupportedNestedJavaScript (specifier_or specifier whole)) e)
+specifier_kept (kinds.UnsupportedJavaScriptEntrypoint _) specifier _ e =
+    sym (ap (λ whole. kinds.UnsupportedJavaScriptEntrypoint (specifier_or specifier whole)) e)
 specifier_kept (kinds.ExportNotFound _) specifier _ e = sym (ap (λ whole. kinds.ExportNotFound (specifier_or specifier whole)) e)
 specifier_kept (kinds.Cached _) specifier _ e = sym (ap (λ whole. kinds.Cached (specifier_or specifier whole)) e)
 specifier_kept _ _ _ e = absurd (subst is_whole (sym e) tt)

@@ -3,7 +3,8 @@ use Rattle.fast_check_tables.specs.declared.diagnostics.FastCheckDiagnostic.{Fas
 use Rattle.fast_check_tables.specs.DiagnosticCopy.{IsDiagnosticCopy, with_names}
 use Rattle.fast_check_tables.proofs.Copies.{copies_found, other_names}
 use Rattle.fast_check_tables.proofs.diagnostics.FastCheckDiagnostic.copy_with_names.Goals as goal
-use Rattle.fast_check_tables.proofs.diagnostics.FastCheckDiagnostic.copy_with_names.Goals.{in-NotFoundReference, in-UnsupportedComplexReference, in-UnsupportedPrivateMemberReference, in_default}
+use Rattle.fast_check_tables.proofs.diagnostics.FastCheckDiagnostic.copy_with_names.Goals.{in-NotFoundReference, in-UnsupportedComplexReference}
+use Rattle.fast_check_tables.proofs.diagnostics.FastCheckDiagnostic.copy_with_names.Goals.{in-UnsupportedPrivateMemberReference, in_default}
 
 -- the diagnostic of a kind that holds the place and the names
 abbrev wanted : goal.Joined-self → FastCheckDiagnostic → FastCheckDiagnostic
@@ -16,5 +17,9 @@ returns c =
       | in-NotFoundReference w ↦ copies_found (ap (wanted c) w.in-NotFoundReference.is) w.result-is copied
       | in-UnsupportedComplexReference w ↦ copies_found (ap (wanted c) w.in-UnsupportedComplexReference.is) w.result-is copied
       | in-UnsupportedPrivateMemberReference w ↦ copies_found (ap (wanted c) w.in-UnsupportedPrivateMemberReference.is) w.result-is copied
-      | in_default w ↦ copies_found (other_names c.args.self.now c.args.range.now c.args.first.now c.args.second.now w.in_default.not-NotFoundReference w.in_default.not-UnsupportedComplexReference w.in_default.not-UnsupportedPrivateMemberReference) w.result-is copied
+      | in_default w ↦
+          let n = w.in_default in
+          let last = other_names c.args.self.now c.args.range.now c.args.first.now c.args.second.now n.not-NotFoundReference
+          n.not-UnsupportedComplexReference n.not-UnsupportedPrivateMemberReference in
+          copies_found last w.result-is copied
     ]

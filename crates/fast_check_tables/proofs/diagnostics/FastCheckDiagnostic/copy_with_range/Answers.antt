@@ -3,7 +3,13 @@ use Rattle.fast_check_tables.specs.declared.diagnostics.FastCheckDiagnostic.{Fas
 use Rattle.fast_check_tables.specs.DiagnosticCopy.{IsDiagnosticCopy, with_range}
 use Rattle.fast_check_tables.proofs.Copies.{copies_found, other_ranges}
 use Rattle.fast_check_tables.proofs.diagnostics.FastCheckDiagnostic.copy_with_range.Goals as goal
-use Rattle.fast_check_tables.proofs.diagnostics.FastCheckDiagnostic.copy_with_range.Goals.{in-MissingExplicitType, in-MissingExplicitReturnType, in-UnsupportedAmbientModule, in-UnsupportedDefaultExportExpr, in-UnsupportedDestructuring, in-UnsupportedGlobalModule, in-UnsupportedRequire, in-UnsupportedSuperClassExpr, in-UnsupportedTsExportAssignment, in-UnsupportedTsNamespaceExport, in_default}
+use Rattle.fast_check_tables.proofs.diagnostics.FastCheckDiagnostic.copy_with_range.Goals.{in-MissingExplicitType, in-MissingExplicitReturnType}
+use Rattle.fast_check_tables.proofs.diagnostics.FastCheckDiagnostic.copy_with_range.Goals.{in-UnsupportedAmbientModule}
+use Rattle.fast_check_tables.proofs.diagnostics.FastCheckDiagnostic.copy_with_range.Goals.{in-UnsupportedDefaultExportExpr}
+use Rattle.fast_check_tables.proofs.diagnostics.FastCheckDiagnostic.copy_with_range.Goals.{in-UnsupportedDestructuring, in-UnsupportedGlobalModule}
+use Rattle.fast_check_tables.proofs.diagnostics.FastCheckDiagnostic.copy_with_range.Goals.{in-UnsupportedRequire, in-UnsupportedSuperClassExpr}
+use Rattle.fast_check_tables.proofs.diagnostics.FastCheckDiagnostic.copy_with_range.Goals.{in-UnsupportedTsExportAssignment}
+use Rattle.fast_check_tables.proofs.diagnostics.FastCheckDiagnostic.copy_with_range.Goals.{in-UnsupportedTsNamespaceExport, in_default}
 
 -- the diagnostic at the place
 abbrev wanted : goal.Joined-self → FastCheckDiagnostic → FastCheckDiagnostic
@@ -23,5 +29,10 @@ returns c =
       | in-UnsupportedSuperClassExpr w ↦ copies_found (ap (wanted c) w.in-UnsupportedSuperClassExpr.is) w.result-is copied
       | in-UnsupportedTsExportAssignment w ↦ copies_found (ap (wanted c) w.in-UnsupportedTsExportAssignment.is) w.result-is copied
       | in-UnsupportedTsNamespaceExport w ↦ copies_found (ap (wanted c) w.in-UnsupportedTsNamespaceExport.is) w.result-is copied
-      | in_default w ↦ copies_found (other_ranges c.args.self.now c.args.range.now w.in_default.not-MissingExplicitType w.in_default.not-MissingExplicitReturnType w.in_default.not-UnsupportedAmbientModule w.in_default.not-UnsupportedDefaultExportExpr w.in_default.not-UnsupportedDestructuring w.in_default.not-UnsupportedGlobalModule w.in_default.not-UnsupportedRequire w.in_default.not-UnsupportedSuperClassExpr w.in_default.not-UnsupportedTsExportAssignment w.in_default.not-UnsupportedTsNamespaceExport) w.result-is copied
+      | in_default w ↦
+          let n = w.in_default in
+          let last = other_ranges c.args.self.now c.args.range.now n.not-MissingExplicitType n.not-MissingExplicitReturnType
+          n.not-UnsupportedAmbientModule n.not-UnsupportedDefaultExportExpr n.not-UnsupportedDestructuring n.not-UnsupportedGlobalModule
+          n.not-UnsupportedRequire n.not-UnsupportedSuperClassExpr n.not-UnsupportedTsExportAssignment n.not-UnsupportedTsNamespaceExport in
+          copies_found last w.result-is copied
     ]

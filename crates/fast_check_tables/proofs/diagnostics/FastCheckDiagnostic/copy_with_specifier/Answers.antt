@@ -3,7 +3,9 @@ use Rattle.fast_check_tables.specs.declared.diagnostics.FastCheckDiagnostic.{Fas
 use Rattle.fast_check_tables.specs.DiagnosticCopy.{IsDiagnosticCopy, with_specifier}
 use Rattle.fast_check_tables.proofs.Copies.{copies_found, other_specifiers}
 use Rattle.fast_check_tables.proofs.diagnostics.FastCheckDiagnostic.copy_with_specifier.Goals as goal
-use Rattle.fast_check_tables.proofs.diagnostics.FastCheckDiagnostic.copy_with_specifier.Goals.{in-UnsupportedNestedJavaScript, in-UnsupportedJavaScriptEntrypoint, in-ExportNotFound, in_default}
+use Rattle.fast_check_tables.proofs.diagnostics.FastCheckDiagnostic.copy_with_specifier.Goals.{in-UnsupportedNestedJavaScript}
+use Rattle.fast_check_tables.proofs.diagnostics.FastCheckDiagnostic.copy_with_specifier.Goals.{in-UnsupportedJavaScriptEntrypoint, in-ExportNotFound}
+use Rattle.fast_check_tables.proofs.diagnostics.FastCheckDiagnostic.copy_with_specifier.Goals.{in_default}
 
 -- the diagnostic of the module
 abbrev wanted : goal.Joined-self → FastCheckDiagnostic → FastCheckDiagnostic
@@ -16,5 +18,9 @@ returns c =
       | in-UnsupportedNestedJavaScript w ↦ copies_found (ap (wanted c) w.in-UnsupportedNestedJavaScript.is) w.result-is copied
       | in-UnsupportedJavaScriptEntrypoint w ↦ copies_found (ap (wanted c) w.in-UnsupportedJavaScriptEntrypoint.is) w.result-is copied
       | in-ExportNotFound w ↦ copies_found (ap (wanted c) w.in-ExportNotFound.is) w.result-is copied
-      | in_default w ↦ copies_found (other_specifiers c.args.self.now c.args.specifier.now w.in_default.not-UnsupportedNestedJavaScript w.in_default.not-UnsupportedJavaScriptEntrypoint w.in_default.not-ExportNotFound) w.result-is copied
+      | in_default w ↦
+          let n = w.in_default in
+          let last = other_specifiers c.args.self.now c.args.specifier.now n.not-UnsupportedNestedJavaScript n.not-UnsupportedJavaScriptEntrypoint
+          n.not-ExportNotFound in
+          copies_found last w.result-is copied
     ]
