@@ -1,5 +1,7 @@
 ghost use Rattle.std.specs.Prelude.{◌≡◌, IfOk, IfErr, OnOk, IsTrue, ◌↔◌};
 ghost use Rattle.std.specs.Option.{option_copied};
+ghost use Rattle.fast_check_modules.specs.EsModule.{AreRead};
+ghost use Rattle.fast_check_modules.specs.WellFormed.{AreMadeOf, FitProgram, IsModuleFault};
 
 use crate::checked::CheckedTables;
 use crate::expandos::Expando;
@@ -7,7 +9,7 @@ use crate::fault::TableFault;
 use crate::tables::{ModuleTables, ReExportAllNode};
 use crate::unbound::{any_public_unbound, bound_expandos};
 use fast_check_symbols::{Symbol, SymbolId};
-use fast_check_syntax::Id;
+use fast_check_syntax::{Id, Tree};
 use fast_check_tables::{ModulePublicRanges, ParsedSource};
 use std::alloc::Global;
 use std::marker::Model;
@@ -56,8 +58,7 @@ impl EsModuleInfo {
         ensures well_formed { OnOk result (FitProgram tables source.program) }
         ensures fault { IfErr result (IsModuleFault tables source.program) }
     {
-        let tables = CheckedTables::new(alloc, tables)?;
-        let expando_statements = bound_expandos(alloc, &tables, &source.program)?;
+        let (tables, expando_statements) = checked_beside(alloc, tables, &source.program)?;
         Ok(EsModuleInfo {
             specifier,
             source,
@@ -144,5 +145,23 @@ impl EsModuleInfo {
         ensures own { AreOwnRanges self.now.tables public_ranges.now → IsTrue result }
     {
         !any_public_unbound(&self.tables, public_ranges, &self.expando_statements)
+    }
+}
+
+/// Tables that have been checked beside a program, and the program's expando statements.
+fn checked_beside(
+    alloc: Global,
+    tables: ModuleTables,
+    program: &Tree,
+) -> Result<(CheckedTables, Vec<Expando>), TableFault>
+    ensures tables { IfOk result (λ made. AreMadeOf tables made.0) }
+    ensures read { IfOk result (λ made. AreRead made.0 program.now made.1.items) }
+    ensures well_formed { OnOk result (FitProgram tables program.now) }
+    ensures fault { IfErr result (IsModuleFault tables program.now) }
+{
+    let tables = CheckedTables::new(alloc, tables)?;
+    match bound_expandos(alloc, &tables, program) {
+        Ok(expando_statements) => Ok((tables, expando_statements)),
+        Err(fault) => Err(fault),
     }
 }

@@ -1,6 +1,8 @@
 -- What a copy of a diagnostic is.
-use Rattle.std.specs.Prelude.{◌≡◌}
-use Rattle.std.specs.String.{string_bytes}
+use Rattle.std.specs.Prelude.{◌≡◌, String, string_bytes}
+use Rattle.std.specs.Global.{Global}
+use Rattle.url.specs.Parts.{Parts}
+use Rattle.fast_check_tables.specs.declared.diagnostics.range.FastCheckDiagnosticRange.{FastCheckDiagnosticRange}
 use Rattle.fast_check_tables.specs.declared.diagnostics.FastCheckDiagnostic.{FastCheckDiagnostic}
 use Rattle.fast_check_tables.specs.declared.diagnostics.FastCheckDiagnostic.TheVariants as kinds
 use Rattle.fast_check_tables.specs.DiagnosticRange.{IsCopy}
@@ -33,3 +35,31 @@ IsDiagnosticCopy (kinds.Emit specifier inner) (kinds.Emit copy inner_copy) = (co
 IsDiagnosticCopy (kinds.ExportNotFound specifier) (kinds.ExportNotFound copy) = copy ≡ specifier
 IsDiagnosticCopy (kinds.Cached specifier) (kinds.Cached copy) = copy ≡ specifier
 IsDiagnosticCopy _ _ = ⊥
+
+-- the diagnostic of the same kind that holds this place and these names, for the kinds that hold a place and two names
+unfoldable pub with_names : FastCheckDiagnostic → FastCheckDiagnosticRange → String Global → String Global → FastCheckDiagnostic
+with_names (kinds.NotFoundReference _ _ _) range first second = kinds.NotFoundReference range first second
+with_names (kinds.UnsupportedComplexReference _ _ _) range first second = kinds.UnsupportedComplexReference range first second
+with_names (kinds.UnsupportedPrivateMemberReference _ _ _) range first second = kinds.UnsupportedPrivateMemberReference range first second
+with_names _ range first second = kinds.UnsupportedExpandoProperty range first second
+
+-- the same diagnostic at this place, for the kinds that hold a place and no text
+unfoldable pub with_range : FastCheckDiagnostic → FastCheckDiagnosticRange → FastCheckDiagnostic
+with_range (kinds.MissingExplicitType _) range = kinds.MissingExplicitType range
+with_range (kinds.MissingExplicitReturnType _ definite is_async) range = kinds.MissingExplicitReturnType range definite is_async
+with_range (kinds.UnsupportedAmbientModule _) range = kinds.UnsupportedAmbientModule range
+with_range (kinds.UnsupportedDefaultExportExpr _) range = kinds.UnsupportedDefaultExportExpr range
+with_range (kinds.UnsupportedDestructuring _) range = kinds.UnsupportedDestructuring range
+with_range (kinds.UnsupportedGlobalModule _) range = kinds.UnsupportedGlobalModule range
+with_range (kinds.UnsupportedRequire _) range = kinds.UnsupportedRequire range
+with_range (kinds.UnsupportedSuperClassExpr _) range = kinds.UnsupportedSuperClassExpr range
+with_range (kinds.UnsupportedTsExportAssignment _) range = kinds.UnsupportedTsExportAssignment range
+with_range (kinds.UnsupportedTsNamespaceExport _) range = kinds.UnsupportedTsNamespaceExport range
+with_range _ range = kinds.UnsupportedUsing range
+
+-- the same diagnostic of this module, for the kinds that hold a module and no text
+unfoldable pub with_specifier : FastCheckDiagnostic → Parts → FastCheckDiagnostic
+with_specifier (kinds.UnsupportedNestedJavaScript _) specifier = kinds.UnsupportedNestedJavaScript specifier
+with_specifier (kinds.UnsupportedJavaScriptEntrypoint _) specifier = kinds.UnsupportedJavaScriptEntrypoint specifier
+with_specifier (kinds.ExportNotFound _) specifier = kinds.ExportNotFound specifier
+with_specifier _ specifier = kinds.Cached specifier

@@ -3,8 +3,9 @@ ghost use Rattle.std.specs.Prelude.{◌≡◌, IfOk};
 ghost use Rattle.std.specs.String.{string_bytes};
 ghost use Rattle.fast_check_tables.specs.DiagnosticRange.{IsCopy};
 
-use crate::diagnostics::{FastCheckDiagnostic, FastCheckDiagnosticRange};
+use crate::diagnostics::{FastCheckDiagnostic, FastCheckDiagnosticRange, Subject};
 use std::alloc::AllocError;
+use url::Url;
 
 impl Clone for FastCheckDiagnostic {
     ghost use Rattle.fast_check_tables.specs.DiagnosticCopy.{IsDiagnosticCopy};
@@ -15,111 +16,24 @@ impl Clone for FastCheckDiagnostic {
         match self {
             Self::NotFoundReference {
                 range,
-                name,
-                referrer,
-            } => {
-                let (range, name, referrer) = named_place(range, name, referrer)?;
-                Ok(Self::NotFoundReference {
-                    range,
-                    name,
-                    referrer,
-                })
+                name: first,
+                referrer: second,
             }
-            Self::MissingExplicitType { range } => Ok(Self::MissingExplicitType {
-                range: range.clone()?,
-            }),
-            Self::MissingExplicitReturnType {
+            | Self::UnsupportedComplexReference {
                 range,
-                is_definitely_void_or_never,
-                is_async,
-            } => Ok(Self::MissingExplicitReturnType {
-                range: range.clone()?,
-                is_definitely_void_or_never: *is_definitely_void_or_never,
-                is_async: *is_async,
-            }),
-            Self::UnsupportedAmbientModule { range } => Ok(Self::UnsupportedAmbientModule {
-                range: range.clone()?,
-            }),
-            Self::UnsupportedComplexReference {
-                range,
-                name,
-                referrer,
-            } => {
-                let (range, name, referrer) = named_place(range, name, referrer)?;
-                Ok(Self::UnsupportedComplexReference {
-                    range,
-                    name,
-                    referrer,
-                })
+                name: first,
+                referrer: second,
             }
-            Self::UnsupportedDefaultExportExpr { range } => Ok(
-                Self::UnsupportedDefaultExportExpr {
-                    range: range.clone()?,
-                },
-            ),
-            Self::UnsupportedDestructuring { range } => Ok(Self::UnsupportedDestructuring {
-                range: range.clone()?,
-            }),
-            Self::UnsupportedExpandoProperty {
+            | Self::UnsupportedExpandoProperty {
                 range,
-                object_name,
-                reference_name,
-            } => {
-                let (range, object_name, reference_name) = named_place(
-                    range,
-                    object_name,
-                    reference_name,
-                )?;
-                Ok(Self::UnsupportedExpandoProperty {
-                    range,
-                    object_name,
-                    reference_name,
-                })
+                object_name: first,
+                reference_name: second,
             }
-            Self::UnsupportedGlobalModule { range } => Ok(Self::UnsupportedGlobalModule {
-                range: range.clone()?,
-            }),
-            Self::UnsupportedRequire { range } => Ok(Self::UnsupportedRequire {
-                range: range.clone()?,
-            }),
-            Self::UnsupportedPrivateMemberReference {
+            | Self::UnsupportedPrivateMemberReference {
                 range,
-                name,
-                referrer,
-            } => {
-                let (range, name, referrer) = named_place(range, name, referrer)?;
-                Ok(Self::UnsupportedPrivateMemberReference {
-                    range,
-                    name,
-                    referrer,
-                })
-            }
-            Self::UnsupportedSuperClassExpr { range } => Ok(Self::UnsupportedSuperClassExpr {
-                range: range.clone()?,
-            }),
-            Self::UnsupportedTsExportAssignment { range } => Ok(
-                Self::UnsupportedTsExportAssignment {
-                    range: range.clone()?,
-                },
-            ),
-            Self::UnsupportedTsNamespaceExport { range } => Ok(
-                Self::UnsupportedTsNamespaceExport {
-                    range: range.clone()?,
-                },
-            ),
-            Self::UnsupportedUsing { range } => Ok(Self::UnsupportedUsing {
-                range: range.clone()?,
-            }),
-            Self::UnsupportedNestedJavaScript { specifier } => Ok(
-                Self::UnsupportedNestedJavaScript {
-                    specifier: specifier.clone()?,
-                },
-            ),
-            Self::UnsupportedJavaScriptEntrypoint { specifier } => Ok(
-                Self::UnsupportedJavaScriptEntrypoint {
-                    specifier: specifier.clone()?,
-                },
-            ),
+                name: first,
+                referrer: second,
+            } => self.copy_with_names(range, first, second),
             Self::Emit { specifier, inner } => {
                 let inner = inner.clone()?;
                 Ok(Self::Emit {
@@ -127,13 +41,104 @@ impl Clone for FastCheckDiagnostic {
                     inner,
                 })
             }
-            Self::ExportNotFound { specifier } => Ok(Self::ExportNotFound {
-                specifier: specifier.clone()?,
-            }),
-            Self::Cached { specifier } => Ok(Self::Cached {
-                specifier: specifier.clone()?,
-            }),
+            _ => match self.subject() {
+                Subject::Range(range) => self.copy_with_range(range),
+                Subject::Module(specifier) => self.copy_with_specifier(specifier),
+            },
         }
+    }
+}
+
+impl FastCheckDiagnostic {
+    ghost use Rattle.fast_check_tables.specs.DiagnosticCopy.{IsDiagnosticCopy, with_names, with_range, with_specifier};
+
+    /// A copy of the diagnostic of the same kind that holds this place and these names, for the kinds that hold a place and two names.
+    fn copy_with_names(
+        &self,
+        range: &FastCheckDiagnosticRange,
+        first: &String,
+        second: &String,
+    ) -> Result<FastCheckDiagnostic, AllocError>
+        ensures { IfOk result (IsDiagnosticCopy (with_names self.now range.now first.now second.now)) }
+    {
+        let (range, first, second) = named_place(range, first, second)?;
+        Ok(match self {
+            Self::NotFoundReference { .. } => Self::NotFoundReference {
+                range,
+                name: first,
+                referrer: second,
+            },
+            Self::UnsupportedComplexReference { .. } => Self::UnsupportedComplexReference {
+                range,
+                name: first,
+                referrer: second,
+            },
+            Self::UnsupportedPrivateMemberReference { .. } =>
+                Self::UnsupportedPrivateMemberReference {
+                    range,
+                    name: first,
+                    referrer: second,
+                },
+            _ => Self::UnsupportedExpandoProperty {
+                range,
+                object_name: first,
+                reference_name: second,
+            },
+        })
+    }
+
+    /// A copy of the same diagnostic at this place, for the kinds that hold a place and no text.
+    fn copy_with_range(
+        &self,
+        range: &FastCheckDiagnosticRange,
+    ) -> Result<FastCheckDiagnostic, AllocError>
+        ensures { IfOk result (IsDiagnosticCopy (with_range self.now range.now)) }
+    {
+        let range = range.clone()?;
+        Ok(match self {
+            Self::MissingExplicitType { .. } => Self::MissingExplicitType { range },
+            Self::MissingExplicitReturnType {
+                is_definitely_void_or_never,
+                is_async,
+                ..
+            } => Self::MissingExplicitReturnType {
+                range,
+                is_definitely_void_or_never: *is_definitely_void_or_never,
+                is_async: *is_async,
+            },
+            Self::UnsupportedAmbientModule { .. } => Self::UnsupportedAmbientModule { range },
+            Self::UnsupportedDefaultExportExpr { .. } => Self::UnsupportedDefaultExportExpr {
+                range,
+            },
+            Self::UnsupportedDestructuring { .. } => Self::UnsupportedDestructuring { range },
+            Self::UnsupportedGlobalModule { .. } => Self::UnsupportedGlobalModule { range },
+            Self::UnsupportedRequire { .. } => Self::UnsupportedRequire { range },
+            Self::UnsupportedSuperClassExpr { .. } => Self::UnsupportedSuperClassExpr { range },
+            Self::UnsupportedTsExportAssignment { .. } => Self::UnsupportedTsExportAssignment {
+                range,
+            },
+            Self::UnsupportedTsNamespaceExport { .. } => Self::UnsupportedTsNamespaceExport {
+                range,
+            },
+            _ => Self::UnsupportedUsing { range },
+        })
+    }
+
+    /// A copy of the same diagnostic of this module, for the kinds that hold a module and no text.
+    fn copy_with_specifier(&self, specifier: &Url) -> Result<FastCheckDiagnostic, AllocError>
+        ensures { IfOk result (IsDiagnosticCopy (with_specifier self.now specifier.now)) }
+    {
+        let specifier = specifier.clone()?;
+        Ok(match self {
+            Self::UnsupportedNestedJavaScript { .. } => Self::UnsupportedNestedJavaScript {
+                specifier,
+            },
+            Self::UnsupportedJavaScriptEntrypoint { .. } => Self::UnsupportedJavaScriptEntrypoint {
+                specifier,
+            },
+            Self::ExportNotFound { .. } => Self::ExportNotFound { specifier },
+            _ => Self::Cached { specifier },
+        })
     }
 }
 
