@@ -44,7 +44,8 @@ found_entry {K} {X} {cmp} o test one m ordered e h t = lookup_key o test one e.0
 
 found_package : (m : BTreeMap PackageNv PackagePublicRanges) → IsOrdered by_nv m → (e : PackageNv × PackagePublicRanges) → Contains m.entries e →
     lookup_package (nv_of e.0) m.entries ≡ Some e.1
-found_package m ordered e h = found_entry package_total (is_package (nv_of e.0)) (package_one (nv_of e.0)) m ordered e h ((eq_by_cmp_equiv nv_total).refl (nv_of e.0))
+found_package m ordered e h = found_entry package_total (is_package (nv_of e.0)) (package_one (nv_of e.0)) m ordered e h
+    ((eq_by_cmp_equiv nv_total).refl (nv_of e.0))
 
 found_ranges : (m : BTreeMap Parts PublicRanges) → IsOrdered by_text m → (e : PublicModule) → Contains m.entries e →
     lookup_text (serialize e.0) m.entries ≡ Some e.1
@@ -61,7 +62,8 @@ all_trees root (m ∷ ms) h = both (with_tree m (found_module root m.0)) (tree_m
     both [] ys h k = k
     both (x ∷ xs) ys h k = (h.0, both xs ys h.1 k)
 
-module _ (k : Known) (roots : List Nv) (ranges : BTreeMap PackageNv PackagePublicRanges) (found : IsFound k roots ranges) (ordered : IsOrdered by_nv ranges) where
+module _ (k : Known) (roots : List Nv) (ranges : BTreeMap PackageNv PackagePublicRanges) (found : IsFound k roots ranges)
+    (ordered : IsOrdered by_nv ranges) where
   -- what is public in a module of a package is what is answered about it
   is_answered : (p : PackageNv × PackagePublicRanges) → Contains ranges.entries p → IsOrdered by_text p.1.module_ranges → (m : PublicModule) →
       Contains p.1.module_ranges.entries m → (r : SourceRange) → answer ranges (nv_of p.0) (about (serialize m.0) (whether_public r)) ≡ is_public m.1 r

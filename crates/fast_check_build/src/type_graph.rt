@@ -76,7 +76,8 @@ pub fn build_fast_check_type_graph(
     requires { is_some cache ≡ false }
     ensures built { let k = known_of graph.now root_symbol.now options.now.workspace_members.items (url_of jsr_url_provider.now) (nv_at jsr_url_provider.now) in
         IfOk result (λ answers. IsBuilt k (map nv_of pending_nvs.items) options.now.should_error_on_first_diagnostic answers.items) }
-    ensures refused { let k = known_of graph.now root_symbol.now options.now.workspace_members.items (url_of jsr_url_provider.now) (nv_at jsr_url_provider.now) in
+    ensures refused { let k = known_of graph.now root_symbol.now options.now.workspace_members.items (url_of jsr_url_provider.now)
+        (nv_at jsr_url_provider.now) in
         IfErr result (IsRefusal k (map nv_of pending_nvs.items)) }
 {
     let _ = cache;

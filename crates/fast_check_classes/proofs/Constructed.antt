@@ -51,7 +51,8 @@ first_by x false ys = refl
 next_pattern : (ps : List Tree) (i : ℕ) (d : Tree) → i < length ps →
     first_pattern (drop i ps) ≡ (if is_param_property (get_or ps i d) && takes_apart (get_or ps i d) then Some (place_of (get_or ps i d))
     else first_pattern (drop (i + 1) ps))
-next_pattern ps i d h = rw (add-one, drop-cons ps i d) (first_by (get_or ps i d) (is_param_property (get_or ps i d)) (filter (λ p. is_param_property p) (drop (suc i) ps)))
+next_pattern ps i d h = rw (add-one, drop-cons ps i d) (first_by (get_or ps i d) (is_param_property (get_or ps i d))
+    (filter (λ p. is_param_property p) (drop (suc i) ps)))
 
 module _ (ps : List Tree) (i : ℕ) (p : Tree) (h : i < length ps) (e : p ≡ get_or ps i p) where
   abbrev step : Bool → Option SourceRange
@@ -144,4 +145,5 @@ module _ (u : Bindings) (is_implementation : SourceRange → Bool) (m : Tree) wh
     where
       go : (items : List Tree) → Adds (answer_of (params_looked u (parts t))) items old new →
           Adds (answer_of (constructor_params_seen u is_implementation m)) items old new
-      go items h = adds_same ((λ j. answer_of (params_if (p j) (i j))) ∙ ap (λ ps. answer_of (plain_params_seen u is_implementation ps)) (sym (plain_parts e))) h
+      go items h = adds_same ((λ j. answer_of (params_if (p j) (i j))) ∙
+          ap (λ ps. answer_of (plain_params_seen u is_implementation ps)) (sym (plain_parts e))) h

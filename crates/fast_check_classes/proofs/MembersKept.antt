@@ -95,7 +95,8 @@ module _ (f : Tree → Tree) (p : Tree → Bool) (ts : List Tree) (i : ℕ) (t :
   more = ap (λ us. map f (filter p us)) (take_more ts i t h ∙ ap (λ u. take i ts ++ u ∷ []) (sym e))
       ∙ (ap (map f) (filter_append p (take i ts) (t ∷ [])) ∙ map-append f (filter p (take i ts)) (filter p (t ∷ [])))
 
-  pub taken_more : p t ≡ true → (old : List Tree) {xs ys : List Tree} {made : Tree} → xs ≡ old ++ map f (filter p (take i ts)) → made ≡ f t → ys ≡ xs ++ made ∷ [] →
+  pub taken_more : p t ≡ true → (old : List Tree) {xs ys : List Tree} {made : Tree} → xs ≡ old ++ map f (filter p (take i ts)) → made ≡ f t →
+      ys ≡ xs ++ made ∷ [] →
       ys ≡ old ++ map f (filter p (take (i + 1) ts))
   taken_more b old x m q =
       q ∙ ((λ i. x i ++ m i ∷ []) ∙ (append_assoc old (map f (filter p (take i ts))) (f t ∷ [])

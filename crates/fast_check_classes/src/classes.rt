@@ -77,7 +77,8 @@ pub fn transform_class(
     faults: &mut Vec<Fault>,
 ) -> Result<Tree, AllocError>
     ensures { IfOk result (λ tree.
-        Adds (answer_to (plain_class_seen (bindings_of info.now) (is_implementation public_ranges.now) (seen class.entry))) (Some tree) faults.old.items faults.new.items) }
+        Adds (answer_to (plain_class_seen (bindings_of info.now) (is_implementation public_ranges.now) (seen class.entry)))
+        (Some tree) faults.old.items faults.new.items) }
 {
     let Class {
         body,

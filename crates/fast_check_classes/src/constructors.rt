@@ -56,7 +56,8 @@ fn constructor_params(
     faults: &mut Vec<Fault>,
 ) -> Result<Items<Tree>, AllocError>
     ensures { IfOk result (λ items.
-        Adds (answer_of (constructor_params_seen (bindings_of info.now) (is_implementation public_ranges.now) (seen member.entry))) items faults.old.items faults.new.items) }
+        Adds (answer_of (constructor_params_seen (bindings_of info.now) (is_implementation public_ranges.now) (seen member.entry))) items
+        faults.old.items faults.new.items) }
 {
     let Constructor {
         span,

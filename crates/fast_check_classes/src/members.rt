@@ -101,7 +101,8 @@ fn transform_method(
     faults: &mut Vec<Fault>,
 ) -> Result<Tree, AllocError>
     ensures { IfOk result (λ tree.
-        Adds (answer_to (method_seen (bindings_of info.now) (is_implementation public_ranges.now) (seen member.entry))) (Some tree) faults.old.items faults.new.items) }
+        Adds (answer_to (method_seen (bindings_of info.now) (is_implementation public_ranges.now) (seen member.entry)))
+        (Some tree) faults.old.items faults.new.items) }
 {
     if is_private(ClassMethod::of(member).accessibility) {
         let any = any_type_ann(alloc)?;
@@ -120,7 +121,8 @@ fn transform_member(
     faults: &mut Vec<Fault>,
 ) -> Result<Tree, AllocError>
     ensures { IfOk result (λ tree.
-        Adds (answer_to (member_seen (bindings_of info.now) (is_implementation public_ranges.now) (seen member.entry))) (Some tree) faults.old.items faults.new.items) }
+        Adds (answer_to (member_seen (bindings_of info.now) (is_implementation public_ranges.now) (seen member.entry)))
+        (Some tree) faults.old.items faults.new.items) }
 {
     match member.kind() {
         Kind::Constructor => { transform_constructor(alloc, public_ranges, info, member, faults) }
@@ -220,7 +222,8 @@ fn transform_kept(
     faults: &mut Vec<Fault>,
 ) -> Result<Items<Tree>, AllocError>
     ensures { IfOk result (λ all.
-        Adds (made (λ ts. items ++ ts) (kept_answer (bindings_of info.now) (is_implementation public_ranges.now) (map seen kept.now))) all faults.old.items faults.new.items) }
+        Adds (made (λ ts. items ++ ts) (kept_answer (bindings_of info.now) (is_implementation public_ranges.now) (map seen kept.now))) all
+        faults.old.items faults.new.items) }
 {
     for member in kept {
         items.push(transform_member(alloc, public_ranges, info, *member, faults)?)?;
@@ -237,7 +240,8 @@ pub fn transform_members(
     faults: &mut Vec<Fault>,
 ) -> Result<Items<Tree>, AllocError>
     ensures { IfOk result (λ items.
-        Adds (answer_of (members_seen (bindings_of info.now) (is_implementation public_ranges.now) (parts (seen body.entry)))) items faults.old.items faults.new.items) }
+        Adds (answer_of (members_seen (bindings_of info.now) (is_implementation public_ranges.now) (parts (seen body.entry)))) items faults.old.items
+        faults.new.items) }
 {
     let members = body.parts();
     let kept = kept_members(alloc, members)?;

@@ -57,7 +57,8 @@ fn push_path_and_parts<'a>(
     parts: &'a [String],
     out: &mut Demands<'a>,
 ) -> Result<(), AllocError>
-    ensures { OnOk result (out.new ≡ out.old ++ each_of (λ x. qualified x (path_of names.now) extent demand.entry.referrer ∷ parts_names (demand_of demand.entry) x parts.now) symbol) }
+    ensures { OnOk result (out.new ≡ out.old ++ each_of (λ x. qualified x (path_of names.now) extent demand.entry.referrer ∷
+        parts_names (demand_of demand.entry) x parts.now) symbol) }
 {
     match symbol {
         None => Ok(()),

@@ -117,7 +117,8 @@ fn push_node<'a>(
     node: &'a SymbolNode,
     out: &mut Demands<'a>,
 ) -> Result<(), AllocError>
-    ensures { OnOk result (out.new ≡ out.old ++ (parent_names (demand_of demand.entry) node.now.is_member parent ++ deps_names tables.now demand.entry.symbol node.now.deps.items)) }
+    ensures { OnOk result (out.new ≡ out.old ++ (parent_names (demand_of demand.entry) node.now.is_member parent ++
+        deps_names tables.now demand.entry.symbol node.now.deps.items)) }
 {
     push_parent(demand, node.is_member, parent, out)?;
     push_deps(tables, demand.symbol, node.deps.as_slice(), out)

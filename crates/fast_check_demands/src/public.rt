@@ -64,7 +64,8 @@ fn push_expando(
     export: Option<(&str, SymbolId)>,
     out: &mut Vec<SourceRange>,
 ) -> Result<(), AllocError>
-    ensures { OnOk result (out.new.items ≡ out.old.items ++ each_of (λ e. each_of (outside range) (symbol_of e.1 tables.now.symbols)) (option_map seen_export export.entry)) }
+    ensures { OnOk result (out.new.items ≡ out.old.items ++ each_of (λ e. each_of (outside range) (symbol_of e.1 tables.now.symbols))
+        (option_map seen_export export.entry)) }
 {
     match export {
         None => Ok(()),

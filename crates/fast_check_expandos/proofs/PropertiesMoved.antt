@@ -41,7 +41,8 @@ map_append f (x ∷ xs) ys = ap (λ zs. f x ∷ zs) (map_append f xs ys)
 module _ (m : Moves) (ok : Keeps m) where
   property_declarator_moved : (place : SourceRange) (target value : Tree) → property_name (moved m target) ≡ property_name target →
       moved m (property_declarator place target value) ≡ property_declarator (moved_range m place) (moved m target) (moved m value)
-  property_declarator_moved place target value e = rw e (simp (node_moved, range_moved, none_moved m ok, absent_moved, flag_moved, text_moved, context_moved, ok.scope_zero))
+  property_declarator_moved place target value e = rw e (simp
+      (node_moved, range_moved, none_moved m ok, absent_moved, flag_moved, text_moved, context_moved, ok.scope_zero))
 
   text_kept : (n k : ℕ) (t : Tree) → text_of (part n (part k (moved m t))) ≡ text_of (part n (part k t))
   text_kept n k t = ap text_of (ap (part n) (part_moved m k t) ∙ part_moved m n (part k t)) ∙ text_of_moved m (part n (part k t))

@@ -46,7 +46,8 @@ module _ (m : Moves) (ok : Keeps m) where
 
     is_reference_moved : (t : Tree) → is_reference (moved_scope m scope) exported (moved m t) ≡ is_reference scope exported t
     is_reference_moved t =
-        (λ i. (kind_of_moved m t i is kinds.Ident) && (((scope_field_moved m ok Ident-ctxt _ (λ u. refl) t i).0 == m.scopes scope.0) && exported (sym_moved t i)))
+        (λ i. (kind_of_moved m t i is kinds.Ident) && (((scope_field_moved m ok Ident-ctxt _ (λ u. refl) t i).0 == m.scopes scope.0) && exported
+        (sym_moved t i)))
         ∙ ap (λ b. (kind_of t is kinds.Ident) && (b && exported (Ident-sym t))) (same_scope (Ident-ctxt t).0 scope.0)
 
     own_moved : (t : Tree) → own_reference (moved_scope m scope) exported (moved m t) ≡ map (moved_reference m) (own_reference scope exported t)

@@ -1,4 +1,5 @@
--- Assignments that are statements. None stays: its right side is tested where it is public, and one of expando form, `object.name = value`, declares a property.
+-- Assignments that are statements. None stays: its right side is tested where it is public, and one of expando form, `object.name = value`, declares
+-- a property.
 use Rattle.std.specs.Prelude.{Bool, not, ◌&&◌, Option, Some, None, List, [], ◌∷◌, if◌then◌else◌}
 use Rattle.fast_check_syntax.specs.declared.source.SourceRange.{SourceRange}
 use Rattle.fast_check_syntax.specs.declared.tree.Tree.{Tree}

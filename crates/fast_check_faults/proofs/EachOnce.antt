@@ -25,7 +25,8 @@ kept_push : (old new : Once) (f : SymbolFault) → new.faults.items ≡ old.faul
 kept_push old new f e = ap (map fault_seen) e ∙ map-append fault_seen old.faults.items (f ∷ [])
 
 -- no fault is kept
-pub kept_none : (o : Once) → o.faults.items ≡ [] → ((k : SymbolFault) → sorted.contains order.cmp-value.it o.seen k ≡ false) → IsDistinct same_fault [] → IsKept o
+pub kept_none : (o : Once) → o.faults.items ≡ [] → ((k : SymbolFault) → sorted.contains order.cmp-value.it o.seen k ≡ false) →
+    IsDistinct same_fault [] → IsKept o
 kept_none o e f d = record {
   has = λ k. f k ∙ ap (λ xs. list_any (same_fault (fault_seen k)) (map fault_seen xs)) (sym e);
   distinct = rw e d;
@@ -48,7 +49,8 @@ kept_one old new f kept_old items u fresh = record {
 pub once_there : (faults : List Fault) (f : Fault) → list_any (same_fault f) faults ≡ true → IsOnce (faults ++ f ∷ []) faults
 once_there faults f h x = (
   Contains-append_left faults (f ∷ []) x,
-  λ t. ⊎_elim (λ there. there) (λ here. subst (λ (y : Fault). Contains faults y) here (Contains-from_any fault_is f faults h)) (Contains-push_cases faults f x t),
+  λ t. ⊎_elim (λ there. there) (λ here. subst (λ (y : Fault). Contains faults y) here (Contains-from_any fault_is f faults h))
+      (Contains-push_cases faults f x t),
 )
 
 pub once_one : (old new : Once) (f : SymbolFault) → new.faults.items ≡ old.faults.items ++ f ∷ [] → IsOnce (kept old ++ fault_seen f ∷ []) (kept new)
@@ -58,7 +60,8 @@ once_one old new f items x = (
 )
 
 -- one turn of a loop over faults
-pub once_more : (faults a b : List Fault) (i : ℕ) (f : Fault) → i < length faults → get_or faults i f ≡ f → IsOnce (take i faults) a → IsOnce (a ++ f ∷ []) b → IsOnce (take (i + 1) faults) b
+pub once_more : (faults a b : List Fault) (i : ℕ) (f : Fault) → i < length faults → get_or faults i f ≡ f → IsOnce (take i faults) a →
+    IsOnce (a ++ f ∷ []) b → IsOnce (take (i + 1) faults) b
 once_more faults a b i f lt e h g x =
     let front : take (i + 1) faults ≡ take i faults ++ f ∷ [] = take_more faults i f lt ∙ ap (λ y. take i faults ++ y ∷ []) e in (
       λ t. subst (λ (xs : List Fault). Contains xs x) (sym front) (⊎_elim

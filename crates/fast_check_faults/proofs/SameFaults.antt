@@ -35,7 +35,8 @@ compares a b =
     let last = nat_cmp a.referrer.0 b.referrer.0 in
     let names = slice_cmp string_cmp a.names.now b.names.now in
     then_equal (kind_order.cmp-value.it a.kind b.kind) (ordering_then (nat_cmp a.symbol.0 b.symbol.0) (ordering_then names last)) ∙
-    and_same _ (same_kind a.kind b.kind) _ (same_symbol a.symbol b.symbol && (same_path (path_of a.names.now) (path_of b.names.now) && same_symbol a.referrer b.referrer))
+    and_same _ (same_kind a.kind b.kind) _ (same_symbol a.symbol b.symbol &&
+    (same_path (path_of a.names.now) (path_of b.names.now) && same_symbol a.referrer b.referrer))
     (kinds_compare a.kind b.kind)
     (then_equal (nat_cmp a.symbol.0 b.symbol.0) (ordering_then names last) ∙
     and_same _ (same_symbol a.symbol b.symbol) _ (same_path (path_of a.names.now) (path_of b.names.now) && same_symbol a.referrer b.referrer)

@@ -31,7 +31,8 @@ module _ (m : BTreeMap Parts ModuleInfo) (placed : list_any is_misplaced m.entri
 
   own_module_found : IsOrdered (λ (a b : Parts). slice_cmp nat_cmp (serialize a) (serialize b)) m → (e : Parts × ModuleInfo) → Contains m.entries e →
       module_named m.entries (specifier_of e.1) ≡ Some e.1
-  own_module_found ordered e h = let total : IsTotalOrder (λ (a b : Parts). slice_cmp nat_cmp (serialize a) (serialize b)) = on_total serialize nat_list_cmp_total in
+  own_module_found ordered e h = let total : IsTotalOrder (λ (a b : Parts). slice_cmp nat_cmp (serialize a) (serialize b)) =
+      on_total serialize nat_list_cmp_total in
       lookup_alike (is_specifier (specifier_of e.1)) (eq_by_cmp (λ (a b : Parts). slice_cmp nat_cmp (serialize a) (serialize b)) e.0) m.entries
       (λ k. sym (nat_list_eq_equiv.congr (serialize e.0) (serialize (specifier_of e.1)) (serialize k) (own_key e h)) ∙ texts_ties (serialize e.0) (serialize k))
       ∙ lookup-from_Contains (eq_by_cmp_equiv total) e.0 e.1 m.entries

@@ -79,7 +79,8 @@ module _ (r : Renaming) (ok : IsRenaming r) (c d : Bindings) (pair : SameBinding
   same_pat_alike : (b : Bool) (t u : Tree) → SameTree r t u → Alike r ok (pat_seen c (expr_seen c) b t) (pat_seen d (expr_seen d) b u)
   same_pat_alike b t u e =
       sym (pat_seen_moved (partners r) (partners_keep r ok) c common (left_moves r c d pair) b t) ∙
-      ((λ i. pat_seen (bindings_to r c d ok pair i) (expr_seen (bindings_to r c d ok pair i)) b (tree_to r ok e i)) ∙ pat_seen_moved twice twice_keeps d common (right_moves r c d) b u)
+      ((λ i. pat_seen (bindings_to r c d ok pair i) (expr_seen (bindings_to r c d ok pair i)) b (tree_to r ok e i)) ∙
+      pat_seen_moved twice twice_keeps d common (right_moves r c d) b u)
 
   by_form : (t u : Tree) (p q : Option SourceRange) → Alike r ok (expr_form c t (expr_seen c) p) (expr_form d u (expr_seen d) q) →
       Alike r ok (expr_seen c t p) (expr_seen d u q)

@@ -69,7 +69,8 @@ module _ (r : Renaming) (c d : Bindings) where
   by_pairs [] text n same = ap₂ (either text) (odd_next n) (halved_odd n)
   by_pairs (p ∷ ps) text n same = go (eqb p.0 n) refl (by_pairs ps text n (λ k q. same k (inr q)))
     where
-      go : (b : Bool) → eqb p.0 n ≡ b → is_plain_name (name text (partner ps n)) ≡ c.is_plain_class (name text n) → is_plain_name (name text (if b then 2 * p.1 else partner ps n)) ≡ c.is_plain_class (name text n)
+      go : (b : Bool) → eqb p.0 n ≡ b → is_plain_name (name text (partner ps n)) ≡ c.is_plain_class (name text n) →
+          is_plain_name (name text (if b then 2 * p.1 else partner ps n)) ≡ c.is_plain_class (name text n)
       go true e rest = ap₂ (either text) (even_twice p.1) (halved_twice p.1) ∙ sym (same p.1 (inl (eqb-true p.0 n e, refl)))
       go false e rest = rest
 

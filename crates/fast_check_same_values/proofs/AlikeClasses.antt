@@ -180,7 +180,8 @@ module _ (r : Renaming) (ok : IsRenaming r) where
     body_alike : (t u : Tree) → is_absent t ≡ is_absent u → SameSuperCalls r c d f g (parts (BlockStmt-stmts t)) (parts (BlockStmt-stmts u)) →
         TreeAlike r ok (constructor_body t) (constructor_body u)
     body_alike t u e x =
-        tree_if (is_absent t) (is_absent u) Absent (new_block (calls_of (parts (BlockStmt-stmts t)))) Absent (new_block (calls_of (parts (BlockStmt-stmts u)))) e
+        tree_if (is_absent t) (is_absent u) Absent (new_block (calls_of (parts (BlockStmt-stmts t)))) Absent
+        (new_block (calls_of (parts (BlockStmt-stmts u)))) e
         (nothing_alike r ok) (plain_block _ _ (super_calls_alike _ _ x))
 
     -- ---- parameter properties
@@ -289,7 +290,8 @@ module _ (r : Renaming) (ok : IsRenaming r) where
 
     param_property_alike : (t u : Tree) → SameParamProperty r c d f g t u → TreeAlike r ok (param_property c.unresolved t) (param_property d.unresolved u)
     param_property_alike t u h =
-        declared_alike r ok (param_property_head t) (param_property_head u) (param_property_type c.unresolved t) (param_property_type d.unresolved u) (param_head_alike t u h)
+        declared_alike r ok (param_property_head t) (param_property_head u) (param_property_type c.unresolved t) (param_property_type d.unresolved u)
+        (param_head_alike t u h)
         (param_type_alike t u h.accessibility h.readonly h.type)
 
     properties_alike : (ts us : List Tree) → Each (SameParamProperty r c d f g) ts us →

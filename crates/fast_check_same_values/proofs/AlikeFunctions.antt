@@ -116,7 +116,8 @@ module _ (r : Renaming) (ok : IsRenaming r) where
     -- a function, by its parameters, where its body has the class of the other's if no type is written
     pub signature_of_alike : (kind : FunctionKind) (p q : SourceRange) (t u : Tree) (params params' : List Seen) → RangeAlike r ok p q →
         SameFunctionHead r c d t u → SameReturn r c d t u →
-        (is_absent (Function-return_type t) ≡ true → is_setter kind ≡ false → return_class (Function-body t) ≡ return_class (Function-body u)) → AllAlike r ok params params' →
+        (is_absent (Function-return_type t) ≡ true → is_setter kind ≡ false → return_class (Function-body t) ≡ return_class (Function-body u)) →
+        AllAlike r ok params params' →
         Alike r ok (signature_seen t (return_type_seen kind p t) params) (signature_seen u (return_type_seen kind q u) params')
     signature_of_alike kind p q t u params params' e h s classes ps =
         signature_alike t u (return_type_seen kind p t) (return_type_seen kind q u) params params' h (return_type_alike kind p q t u e h s classes) ps
@@ -221,11 +222,13 @@ module _ (r : Renaming) (ok : IsRenaming r) where
           let type' = type_ann (promised d.unresolved (ArrowExpr-is_async u) s.right) in
           valued_alike n (subst₂ (λ x y. Alike r ok (by_value c look t p pats x) (by_value d look' u q pats' y)) (sym s.left_is) (sym s.right_is)
           (typed_arrow_alike t u pats pats' (written type) (written type') h ps
-          (written_alike r ok type type' (image_alike r ok type_ann (λ m keeps t. sym (type_ann_moved m keeps t)) (promised c.unresolved (ArrowExpr-is_async t) s.left)
+          (written_alike r ok type type' (image_alike r ok type_ann (λ m keeps t. sym (type_ann_moved m keeps t))
+          (promised c.unresolved (ArrowExpr-is_async t) s.left)
           (promised d.unresolved (ArrowExpr-is_async u) s.right)
           (promised_alike pair (ArrowExpr-is_async t) (ArrowExpr-is_async u) s.left s.right h.is_async (tree_to r ok s.types))))))
         where
-          promised_alike : IsPair r.scopes c.unresolved.0 d.unresolved.0 → (a b : Bool) (x y : Tree) → a ≡ b → TreeAlike r ok x y → TreeAlike r ok (promised c.unresolved a x) (promised d.unresolved b y)
+          promised_alike : IsPair r.scopes c.unresolved.0 d.unresolved.0 → (a b : Bool) (x y : Tree) → a ≡ b → TreeAlike r ok x y →
+              TreeAlike r ok (promised c.unresolved a x) (promised d.unresolved b y)
           promised_alike pair a b x y f g =
               sym (promised_moved (partners r) (partners_keep r ok) c.unresolved a x)
               ∙ ((λ i. promised (scope_to r ok c.unresolved d.unresolved pair i) (f i) (g i)) ∙ promised_moved twice twice_keeps d.unresolved b y)

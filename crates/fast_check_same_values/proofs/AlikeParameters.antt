@@ -174,7 +174,8 @@ module _ (r : Renaming) (ok : IsRenaming r) where
       ident_default_alike : (t u : Tree) → Both kinds.AssignPat t u → Both kinds.BindingIdent (AssignPat-left t) (AssignPat-left u) →
           SameTree r (AssignPat-left t) (AssignPat-left u) →
           (is_absent (BindingIdent-type_ann (AssignPat-left t)) ≡ true →
-          Alike r ok (shown c look t (inferred_type Mutable c.unresolved (AssignPat-right t))) (shown d look' u (inferred_type Mutable d.unresolved (AssignPat-right u)))) →
+          Alike r ok (shown c look t (inferred_type Mutable c.unresolved (AssignPat-right t)))
+          (shown d look' u (inferred_type Mutable d.unresolved (AssignPat-right u)))) →
           PatAlike t u
       ident_default_alike t u k j e s =
           let id = BindingIdent-id (AssignPat-left t) in

@@ -110,7 +110,8 @@ module _ (r : Renaming) (ok : IsRenaming r) where
           option_map (moved (partners r)) (inferred_type mutability c.unresolved t) ≡ option_map (moved twice) (inferred_type mutability d.unresolved u)
       shown_same mutability t u e =
           sym (inferred_type_moved (partners r) (partners_keep r ok) mutability c.unresolved t)
-          ∙ (ap₂ (inferred_type mutability) (scope_to r ok c.unresolved d.unresolved pair.unresolved) (tree_to r ok e) ∙ inferred_type_moved twice twice_keeps mutability d.unresolved u)
+          ∙ (ap₂ (inferred_type mutability) (scope_to r ok c.unresolved d.unresolved pair.unresolved) (tree_to r ok e) ∙
+          inferred_type_moved twice twice_keeps mutability d.unresolved u)
 
       value_alike : (p q : SourceRange) (t u : Tree) → RangeAlike r ok p q → SameExpr r c d t u →
           Alike r ok (member_value_seen c f p t) (member_value_seen d g q u)
@@ -205,7 +206,8 @@ module _ (r : Renaming) (ok : IsRenaming r) where
         accessor_alike (s.SameAccessor.typed e w) = by_privacy (accessor_head t) (accessor_head u) _ _ h
             (λ n. by_type (accessor_head t) (accessor_head u) (AutoAccessor-type_ann t) (AutoAccessor-type_ann u) _ _ h e (λ a. cc))
         accessor_alike (s.SameAccessor.inferred e x) =
-            accessor_valued e (subst₂ AccessorAlike (sym x.left_is) (sym x.right_is) (accessor_shown (Some x.left) (Some x.right) (ap Some (tree_to r ok x.types))))
+            accessor_valued e (subst₂ AccessorAlike (sym x.left_is) (sym x.right_is)
+            (accessor_shown (Some x.left) (Some x.right) (ap Some (tree_to r ok x.types))))
         accessor_alike (s.SameAccessor.same e x) =
             accessor_valued e (accessor_shown _ _ (shown_same Mutable (AutoAccessor-value t) (AutoAccessor-value u) x))
         accessor_alike (s.SameAccessor.untyped e n) =

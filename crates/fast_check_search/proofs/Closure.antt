@@ -48,7 +48,8 @@ pub grows_covers : (asks a b : List Demand) (d : Demand) → Grows asks a b → 
 grows_covers asks a b d g h = subst (λ (x : List Demand). IsCovered x d) (sym g.is) (covered_more a g.more d h)
 
 -- one turn of a loop that asks for each of the demands
-pub asked_more : (asks a b c : List Demand) (i : ℕ) (d : Demand) → i < length asks → get_or asks i d ≡ d → Grows asks a b → CoversEach (take i asks) b → Grows (d ∷ []) b c → IsCovered c d →
+pub asked_more : (asks a b c : List Demand) (i : ℕ) (d : Demand) → i < length asks → get_or asks i d ≡ d → Grows asks a b →
+    CoversEach (take i asks) b → Grows (d ∷ []) b c → IsCovered c d →
     Grows asks a c × CoversEach (take (i + 1) asks) c
 asked_more asks a b c i d lt e g h more now = (
   grows_more asks a b c g (grows_within (d ∷ []) asks b c (λ x t. subst (Contains asks) (e ∙ Contains_only d x t) (Contains-get_or asks i d lt)) more),
@@ -64,7 +65,8 @@ asked_all asks i account le h = subst (λ (x : List Demand). CoversEach x accoun
 
 -- what is found
 
-yielded_more : {X : Type 0} (gives : Demand → List X) (account : List Demand) (d : Demand) (old new : List X) → IsYield gives account old → new ≡ old ++ gives d → IsYield gives (account ++ d ∷ []) new
+yielded_more : {X : Type 0} (gives : Demand → List X) (account : List Demand) (d : Demand) (old new : List X) → IsYield gives account old →
+    new ≡ old ++ gives d → IsYield gives (account ++ d ∷ []) new
 yielded_more {X} gives account d old new y e = record {
   sound = λ r t. ⊎_elim
       (λ before. let h = y.sound r before in (h.0, Contains-append_left account (d ∷ []) h.0 h.1, h.2))
@@ -80,7 +82,8 @@ nothing_yet : {X : Type 0} (gives : Demand → List X) → IsYield gives [] []
 nothing_yet gives = record { sound = λ r t. absurd (Contains_none r t); complete = λ d r t u. absurd (Contains_none d t) }
 
 -- before the first demand
-pub nothing_found : (t : Tables) (found : Found) → found.ranges.items ≡ [] → found.implementations.items ≡ [] → map fault_seen found.faults.items ≡ [] → found.files ≡ [] → IsFound t [] found
+pub nothing_found : (t : Tables) (found : Found) → found.ranges.items ≡ [] → found.implementations.items ≡ [] →
+    map fault_seen found.faults.items ≡ [] → found.files ≡ [] → IsFound t [] found
 nothing_found t found e f g h = record {
   public = rw e (nothing_yet (ranges t));
   implementing = rw f (nothing_yet (implementations t));
@@ -107,7 +110,8 @@ module _ (t : Tables) (roots : List Demand) where
     found = f;
   }
 
-  module _ (asked after : List Demand) (next : ℕ) (d : Demand) (old new : Found) (w : IsOnTheWay t roots asked next old) (lt : next < length asked) (here : get_or asked next d ≡ d) where
+  module _ (asked after : List Demand) (next : ℕ) (d : Demand) (old new : Found) (w : IsOnTheWay t roots asked next old) (lt : next < length asked)
+      (here : get_or asked next d ≡ d) where
     -- after the demand d, at next, was followed
     pub turned : Grows (names t d) asked after → CoversEach (names t d) after → Gains t d old new → IsOnTheWay t roots after (next + 1) new
     turned g h j =
@@ -128,7 +132,8 @@ module _ (t : Tables) (roots : List Demand) where
         }
 
   -- at the end
-  pub ended : (asked : List Demand) (next : ℕ) (found : Found) → length asked ≤ next → IsOnTheWay t roots asked next found → IsAccount t roots asked × IsFound t asked found
+  pub ended : (asked : List Demand) (next : ℕ) (found : Found) → length asked ≤ next → IsOnTheWay t roots asked next found → IsAccount t roots asked ×
+      IsFound t asked found
   ended asked next found le w =
       let all : take next asked ≡ asked = take_all next asked le in (
         record { chained = w.chained; has_roots = w.has_roots; closed = λ d e u v. w.closed d e (subst (λ (x : List Demand). Contains x d) (sym all) u) v },

@@ -69,6 +69,8 @@ asks_compare (Path p x) (Path q y) = then_equal (slice_cmp string_cmp p.now q.no
 
 pub compares : (a b : SymbolDemand) → is_eq (order.cmp-value.it a b) ≡ same (demand_of a) (demand_of b)
 compares a b = then_equal (nat_cmp a.symbol.0 b.symbol.0) (ordering_then (ask_order.cmp-value.it a.ask b.ask) (nat_cmp a.referrer.0 b.referrer.0)) ∙
-    and_same _ (a.symbol.0 == b.symbol.0) _ (same_asked (asked_of a.ask) (asked_of b.ask) && (a.referrer.0 == b.referrer.0)) (numbers_compare a.symbol.0 b.symbol.0)
+    and_same _ (a.symbol.0 == b.symbol.0) _ (same_asked (asked_of a.ask) (asked_of b.ask) && (a.referrer.0 == b.referrer.0))
+    (numbers_compare a.symbol.0 b.symbol.0)
     (then_equal (ask_order.cmp-value.it a.ask b.ask) (nat_cmp a.referrer.0 b.referrer.0) ∙
-    and_same _ (same_asked (asked_of a.ask) (asked_of b.ask)) _ (a.referrer.0 == b.referrer.0) (asks_compare a.ask b.ask) (numbers_compare a.referrer.0 b.referrer.0))
+    and_same _ (same_asked (asked_of a.ask) (asked_of b.ask)) _ (a.referrer.0 == b.referrer.0) (asks_compare a.ask b.ask)
+    (numbers_compare a.referrer.0 b.referrer.0))

@@ -152,7 +152,8 @@ module _ (t : Tables) (roots : List Demand) where
       go o h = subst (λ (z : SymbolId). Contains I z) h.2 (table_id h.0 h.0.id (at o h.0 h.1) (Contains_first h.0.id (mentioned_by h.0)))
 
   -- a path that the tables write down, and each of its names
-  table_path : (s : Symbol) (x : SymbolDecl) (p : Path) → Contains t.symbols s → Contains s.decls.items x → Contains (kind_paths x.kind) p → Contains (written_paths t roots) p
+  table_path : (s : Symbol) (x : SymbolDecl) (p : Path) → Contains t.symbols s → Contains s.decls.items x → Contains (kind_paths x.kind) p →
+      Contains (written_paths t roots) p
   table_path s x p h g k = Contains-append_right (flat_map (λ d. asked_paths d.asked) roots) (flat_map symbol_paths t.symbols) p
       (contains_flat_map symbol_paths t.symbols s p h (contains_flat_map (λ y. kind_paths y.kind) s.decls.items x p g k))
 
@@ -198,13 +199,16 @@ module _ (t : Tables) (roots : List Demand) where
 
     in_dep : (n : ReferenceNamespace) (dep : SymbolDep) → ((p : Path) → Contains (dep_paths dep) p → Contains P p) → Each Q (dep_names t d.symbol n dep)
     in_dep n (deps.Id id) h = each_each_of Q (λ x. references_in n x d.symbol) (bound t id) (λ x e. in_references_in n x d.symbol (bound_id id x e) i.symbol)
-    in_dep n (deps.QualifiedId id parts) h = in_named_at id (path_of parts.items) d.symbol i.symbol (h (path_of parts.items) (Contains_first (path_of parts.items) []))
+    in_dep n (deps.QualifiedId id parts) h = in_named_at id (path_of parts.items) d.symbol i.symbol
+        (h (path_of parts.items) (Contains_first (path_of parts.items) []))
     in_dep n (deps.ImportType specifier parts) h = each_nil Q
 
-    in_kind : (n : Namespace) (parent : Option SymbolId) (k : SymbolDeclKind) → ((x : SymbolId) → parent ≡ Some x → Contains I x) → ((p : Path) → Contains (kind_paths k) p → Contains P p) → Each Q (kind_names t d n parent k)
+    in_kind : (n : Namespace) (parent : Option SymbolId) (k : SymbolDeclKind) → ((x : SymbolId) → parent ≡ Some x → Contains I x) →
+        ((p : Path) → Contains (kind_paths k) p → Contains P p) → Each Q (kind_names t d n parent k)
     in_kind n parent (Target id) f h = each_each_of Q (λ x. reference x n d.symbol ∷ []) (bound t id)
         (λ x e. each_one Q (reference x n d.symbol) (in_reference x n d.symbol (bound_id id x e) i.symbol))
-    in_kind n parent (QualifiedTarget id parts) f h = in_named_at id (path_of parts.items) d.symbol i.symbol (h (path_of parts.items) (Contains_first (path_of parts.items) []))
+    in_kind n parent (QualifiedTarget id parts) f h = in_named_at id (path_of parts.items) d.symbol i.symbol
+        (h (path_of parts.items) (Contains_first (path_of parts.items) []))
     in_kind n parent (FileRef specifier name) f h = each_nil Q
     in_kind n parent (Definition None) f h = each_nil Q
     in_kind n parent (Definition (Some node)) f h = each_append Q (parent_names d node.is_member parent) (deps_names t d.symbol node.deps.items)
@@ -212,7 +216,8 @@ module _ (t : Tables) (roots : List Demand) where
         (each_flat Q (λ x. dep_names t d.symbol x.namespace x.dep) node.deps.items
         (λ x g. in_dep x.namespace x.dep (λ p k. h p (contains_flat_map (λ y. dep_paths y.dep) node.deps.items x p g k))))
 
-    in_alias : (p : Path) (e : Extent) (k : SymbolDeclKind) → Contains P p → ((q : Path) → Contains (kind_paths k) q → Contains (written_paths t roots) q) → Each Q (alias_names t d p e k)
+    in_alias : (p : Path) (e : Extent) (k : SymbolDeclKind) → Contains P p →
+        ((q : Path) → Contains (kind_paths k) q → Contains (written_paths t roots) q) → Each Q (alias_names t d p e k)
     in_alias p e (Target id) a h = each_each_of Q (λ x. qualified x p e d.referrer ∷ []) (bound t id)
         (λ x u. each_one Q (qualified x p e d.referrer) (in_qualified x p e d.referrer (bound_id id x u) i.referrer a))
     in_alias p e (QualifiedTarget id parts) a h = each_each_of Q (λ x. qualified x p e d.referrer ∷ parts_names d x parts.items) (bound t id)
@@ -256,7 +261,8 @@ module _ (t : Tables) (roots : List Demand) where
           (in_exports es (λ x h. f x (Contains_later e.1 (values_of es) x h)))
 
       in_symbol : (n : Namespace) → Each Q (symbol_names t d n s)
-      in_symbol n = each_cond Q s.is_private_member [] (flat_map (decl_names t d n s.parent_id) s.decls.items ++ exports_names d s.exports ++ members_names d s.members.items)
+      in_symbol n = each_cond Q s.is_private_member [] (flat_map (decl_names t d n s.parent_id) s.decls.items ++ exports_names d s.exports ++
+          members_names d s.members.items)
           (each_nil Q)
           (each_append Q (flat_map (decl_names t d n s.parent_id) s.decls.items ++ exports_names d s.exports) (members_names d s.members.items)
           (each_append Q (flat_map (decl_names t d n s.parent_id) s.decls.items) (exports_names d s.exports)
@@ -278,15 +284,19 @@ module _ (t : Tables) (roots : List Demand) where
       in_prototype (n ∷ below) e = in_member below e (member_named t n s.members.items)
           (λ x h. member_id x (found_inside (λ m. symbol_is_named n (symbol_of m t.symbols)) s.members.items x h))
 
-      in_export : (below : Path) (e : Extent) (closed : Bool) (o : Option SymbolId) → Contains P below → ((x : SymbolId) → o ≡ Some x → Contains I x) → Each Q (export_names d below e closed o)
-      in_export below e closed None a h = each_cond Q closed [] (references d.symbol d.referrer) (each_nil Q) (in_references d.symbol d.referrer i.symbol i.referrer)
+      in_export : (below : Path) (e : Extent) (closed : Bool) (o : Option SymbolId) → Contains P below →
+          ((x : SymbolId) → o ≡ Some x → Contains I x) → Each Q (export_names d below e closed o)
+      in_export below e closed None a h = each_cond Q closed [] (references d.symbol d.referrer) (each_nil Q)
+          (in_references d.symbol d.referrer i.symbol i.referrer)
       in_export [] Whole closed (Some x) a h = in_references x d.referrer (h x refl) i.referrer
       in_export [] Touched closed (Some x) a h = each_one Q (qualified x [] Touched d.referrer) (in_qualified x [] Touched d.referrer (h x refl) i.referrer a)
-      in_export (n ∷ below) e closed (Some x) a h = each_one Q (qualified x (n ∷ below) e d.referrer) (in_qualified x (n ∷ below) e d.referrer (h x refl) i.referrer a)
+      in_export (n ∷ below) e closed (Some x) a h = each_one Q (qualified x (n ∷ below) e d.referrer)
+          (in_qualified x (n ∷ below) e d.referrer (h x refl) i.referrer a)
 
       in_first : (p : Path) (e : Extent) → Contains P p → Each Q (first_names t d p e s)
       in_first [] e a = each_nil Q
-      in_first (n ∷ below) e a = each_cond Q (is_prototype n s.decls.items) (prototype_names t d below e s) (export_names d below e (is_closed s.decls.items) (export_named n s.exports))
+      in_first (n ∷ below) e a = each_cond Q (is_prototype n s.decls.items) (prototype_names t d below e s)
+          (export_names d below e (is_closed s.decls.items) (export_named n s.exports))
           (in_prototype below e)
           (in_export below e (is_closed s.decls.items) (export_named n s.exports) (pieces_rest (written_paths t roots) n below a)
           (λ x h. export_id x (looked_inside (bytes_eq n) s.exports x h)))
@@ -329,10 +339,13 @@ module _ (t : Tables) (roots : List Demand) where
   in_asks (by_reference Type_) h = (1, omega arith, refl)
   in_asks (as_child Value) h = (2, omega arith, refl)
   in_asks (as_child Type_) h = (3, omega arith, refl)
-  in_asks (by_path p Touched) h = Contains-append_right (by_reference Value ∷ by_reference Type_ ∷ as_child Value ∷ as_child Type_ ∷ []) (flat_map both_extents P) (by_path p Touched)
+  in_asks (by_path p Touched) h = Contains-append_right (by_reference Value ∷ by_reference Type_ ∷ as_child Value ∷ as_child Type_ ∷ [])
+      (flat_map both_extents P) (by_path p Touched)
       (contains_flat_map both_extents P p (by_path p Touched) h (Contains_first (by_path p Touched) (by_path p Whole ∷ [])))
-  in_asks (by_path p Whole) h = Contains-append_right (by_reference Value ∷ by_reference Type_ ∷ as_child Value ∷ as_child Type_ ∷ []) (flat_map both_extents P) (by_path p Whole)
-      (contains_flat_map both_extents P p (by_path p Whole) h (Contains_later (by_path p Touched) (by_path p Whole ∷ []) (by_path p Whole) (Contains_first (by_path p Whole) [])))
+  in_asks (by_path p Whole) h = Contains-append_right (by_reference Value ∷ by_reference Type_ ∷ as_child Value ∷ as_child Type_ ∷ [])
+      (flat_map both_extents P) (by_path p Whole)
+      (contains_flat_map both_extents P p (by_path p Whole) h (Contains_later (by_path p Touched) (by_path p Whole ∷ []) (by_path p Whole)
+      (Contains_first (by_path p Whole) [])))
 
   in_universe : (d : Demand) → Q d → Contains (universe t roots) d
   unfolding universe

@@ -27,7 +27,8 @@ or_last false true = refl
 or_last false false = refl
 
 -- no demand is kept
-pub kept_none : (w : Worklist) → w.demands.items ≡ [] → ((k : SymbolDemand) → sorted.contains order.cmp-value.it w.done k ≡ false) → IsDistinct alike [] → IsKept w
+pub kept_none : (w : Worklist) → w.demands.items ≡ [] → ((k : SymbolDemand) → sorted.contains order.cmp-value.it w.done k ≡ false) →
+    IsDistinct alike [] → IsKept w
 kept_none w e f d = record {
   has = λ k. f k ∙ ap (λ xs. list_any (λ x. same (demand_of k) (essence x)) (map demand_of xs)) (sym e);
   distinct = rw e d;
@@ -38,7 +39,8 @@ pub kept_one : (old new : Worklist) (d e : SymbolDemand) → IsKept old → new.
     sorted.Updates order.cmp-value.it old.done new.done e true → list_any (alike (demand_of d)) (asked old) ≡ false → IsKept new
 kept_one old new d e kept items is u fresh = record {
   has = λ k.
-      let says : sorted.contains order.cmp-value.it new.done k ≡ cond (is_eq (order.cmp-value.it e k)) true (sorted.contains order.cmp-value.it old.done k) = u.0 k in
+      let says : sorted.contains order.cmp-value.it new.done k ≡ cond (is_eq (order.cmp-value.it e k)) true
+      (sorted.contains order.cmp-value.it old.done k) = u.0 k in
       let here : is_eq (order.cmp-value.it e k) ≡ same (demand_of k) (essence (demand_of d)) =
       compares e k ∙ (ap (λ x. same x (demand_of k)) is ∙ same_symm (essence (demand_of d)) (demand_of k)) in
       let test : Demand → Bool = λ x. same (demand_of k) (essence x) in
@@ -53,6 +55,7 @@ pub covered_one : (old new : Worklist) (d : SymbolDemand) → new.demands.items 
 covered_one old new d items =
     let there : list_any (alike (demand_of d)) (asked old ++ demand_of d ∷ []) ≡ true =
     list_any-append (alike (demand_of d)) (asked old) (demand_of d ∷ []) ∙
-    or_right (list_any (alike (demand_of d)) (asked old)) (list_any (alike (demand_of d)) (demand_of d ∷ [])) (or_left (alike (demand_of d) (demand_of d)) false (alike_itself (demand_of d))) in
+    or_right (list_any (alike (demand_of d)) (asked old)) (list_any (alike (demand_of d)) (demand_of d ∷ []))
+    (or_left (alike (demand_of d) (demand_of d)) false (alike_itself (demand_of d))) in
     subst (λ (xs : List Demand). IsCovered xs (demand_of d)) (sym (asked_one old new d items))
     (or_left (list_any (alike (demand_of d)) (asked old ++ demand_of d ∷ [])) (list_any (alike (referred (demand_of d))) (asked old ++ demand_of d ∷ [])) there)

@@ -58,7 +58,8 @@ module _ (t : Tables) where
   own_asked (by_path p e) s h = own_all s.decls.items (own_decl s h)
 
   pub own_ranges : (d : Demand) → Each Q (ranges t d)
-  own_ranges d = each_each_of Q (asked_ranges t d.asked) (symbol_of d.symbol t.symbols) (λ s e. own_asked d.asked s (last_inside (has_id d.symbol) t.symbols s e))
+  own_ranges d = each_each_of Q (asked_ranges t d.asked) (symbol_of d.symbol t.symbols)
+      (λ s e. own_asked d.asked s (last_inside (has_id d.symbol) t.symbols s e))
 
   own_implementing : (n : Namespace) (s : Symbol) → Contains t.symbols s → Each Q (symbol_implementations n s)
   own_implementing n s h = each_cond Q s.is_private_member [] (decl_ranges (filter (λ x. binds x n && is_implementation x) s.decls.items)) (each_nil Q)

@@ -88,7 +88,8 @@ pub fn search<'a>(
     tables: &'a CheckedTables,
     roots: &[SymbolDemand<'a>],
 ) -> Result<Found<'a>, AllocError>
-    ensures account { IfOk result (λ found. (account : List Demand) × IsAccount tables.now (map demand_of roots.now) account × IsFound tables.now account found) }
+    ensures account { IfOk result (λ found. (account : List Demand) × IsAccount tables.now (map demand_of roots.now) account ×
+        IsFound tables.now account found) }
 
     // What is found is of the tables' own ranges, so a module of these tables admits it.
     ensures own_ranges { IfOk result (λ found. AreTableRanges tables.now found.ranges.items) }

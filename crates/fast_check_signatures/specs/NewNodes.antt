@@ -43,7 +43,8 @@ never_in_parens = paren_expr none_range never_value
 
 -- `([] as never[])`
 abbrev pub never_array_in_parens : Tree
-never_array_in_parens = paren_expr none_range (ts_as_expr none_range (array_lit none_range (list [])) (ts_array_type none_range (ts_keyword_type TsNeverKeyword)))
+never_array_in_parens = paren_expr none_range (ts_as_expr none_range (array_lit none_range (list []))
+    (ts_array_type none_range (ts_keyword_type TsNeverKeyword)))
 
 -- `{}`, where a pattern stands
 abbrev pub empty_object_pat : Tree

@@ -255,7 +255,8 @@ module _ (r : Renaming) (ok : IsRenaming r) where
     same_alike c t u d s None (Some y) e = cc
 
     same_shown : (mutability : DeclMutabilityKind) (v w : Tree) → SameBindings r a.bindings b.bindings → SameTree r v w →
-        option_map (moved (partners r)) (inferred_type mutability a.bindings.unresolved v) ≡ option_map (moved twice) (inferred_type mutability b.bindings.unresolved w)
+        option_map (moved (partners r)) (inferred_type mutability a.bindings.unresolved v) ≡ option_map (moved twice)
+        (inferred_type mutability b.bindings.unresolved w)
     same_shown mutability v w c s =
         sym (inferred_type_moved (partners r) (partners_keep r ok) mutability a.bindings.unresolved v)
         ∙ (ap₂ (inferred_type mutability) (scope_to r ok a.bindings.unresolved b.bindings.unresolved c.unresolved) (tree_to r ok s) ∙
@@ -546,7 +547,8 @@ module _ (r : Renaming) (ok : IsRenaming r) where
   all_declared_alike c m (h.SameItems.right {a = a} {b = b} {u = u} {ts = ts} {us = us} q n rest) =
       subst (λ xs. PropertiesAlike r ok (each_declared a ts) (xs ++ each_declared b us)) (sym (silent_properties b u q)) (all_declared_alike c m rest)
   all_declared_alike c m (h.SameItems.next {a = a} {b = b} {t = t} {u = u} {ts = ts} {us = us} s rest) =
-      more_properties r ok (item_properties a t) (each_declared a ts) (item_properties b u) (each_declared b us) (declared_alike c m s) (all_declared_alike c m rest)
+      more_properties r ok (item_properties a t) (each_declared a ts) (item_properties b u) (each_declared b us) (declared_alike c m s)
+      (all_declared_alike c m rest)
 
   with_namespaces : (a b : Surroundings) (ts us : List Tree) → AllAlike r ok (each_seen a ts) (each_seen b us) →
       PropertiesAlike r ok (each_declared a ts) (each_declared b us) → AllAlike r ok (body_seen item_look a ts) (body_seen item_look b us)

@@ -127,7 +127,8 @@ module _ (r : Renaming) (ok : IsRenaming r) where
           (a.objects.has_export_keyword (object_of left)) (AssignExpr-span t) left x)
           ∙ ((λ i. property_of (fun_ext d.object.exports i) (d.object.has_export_keyword i) (range_to r ok (AssignExpr-span t) (AssignExpr-span u) d.span i)
           (tree_to r ok d.left i) (some_is e i))
-          ∙ property_moved twice twice_keeps (b.objects.exports (object_of left')) (b.objects.has_export_keyword (object_of left')) (AssignExpr-span u) left' y))
+          ∙ property_moved twice twice_keeps (b.objects.exports (object_of left')) (b.objects.has_export_keyword (object_of left'))
+          (AssignExpr-span u) left' y))
       kept_alike (Some x) None e = cc
       kept_alike None (Some y) e = cc
 

@@ -137,7 +137,8 @@ function_items ss ts = h.SameItem.decl (h.SameDecl.function (function_decls _ _ 
 abbrev f : SourceRange → Bool
 f place = false
 
-method_heads : (ps qs : List Tree) → SamePropertyHead no_places no_classes no_classes f f (private_method_head (method_m ps)) (private_method_head (method_m qs))
+method_heads : (ps qs : List Tree) → SamePropertyHead no_places no_classes no_classes f f (private_method_head (method_m ps))
+    (private_method_head (method_m qs))
 method_heads ps qs = record {
   span = at_places _ _ (simp (part_node, range_of_range)) (simp (part_node, range_of_range));
   key = are_same _ _ (ident_name none_range (109 ∷ [])) (part_node _ _ _) (part_node _ _ _) (same_name (109 ∷ []));

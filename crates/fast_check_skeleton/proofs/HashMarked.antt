@@ -84,7 +84,8 @@ module _ (bindings : Bindings) (is_implementation : SourceRange → Bool) where
       of_choice PlainSeen (is_private (property_head m).accessibility) _ _ (λ e. property_plain (property_head m) any_type_ann)
       (λ e. of_choice PlainSeen (is_absent (ClassProp-type_ann m)) _ _
       (λ n. untyped_plain (property_head m) (ClassProp-value m)
-      (inferred_type (mutability_of_property (property_head m).readonly) bindings.unresolved (ClassProp-value m))) (λ w. property_plain (property_head m) (ClassProp-type_ann m)))
+      (inferred_type (mutability_of_property (property_head m).readonly) bindings.unresolved (ClassProp-value m)))
+      (λ w. property_plain (property_head m) (ClassProp-type_ann m)))
 
   shown_plain : (p : PropertyHead) (o : Option Tree) → PlainSeen (untyped_accessor_seen bindings is_implementation p o)
   shown_plain p (Some type) = property_plain p (type_ann type)
@@ -95,7 +96,8 @@ module _ (bindings : Bindings) (is_implementation : SourceRange → Bool) where
       of_choice PlainSeen (is_private (accessor_head m).accessibility) _ _ (λ e. property_plain (accessor_head m) any_type_ann)
       (λ e. of_choice PlainSeen (is_absent (AutoAccessor-type_ann m))
       (untyped_accessor_seen bindings is_implementation (accessor_head m) (inferred_type Mutable bindings.unresolved (AutoAccessor-value m)))
-      (typed_property (accessor_head m) (AutoAccessor-type_ann m)) (λ n. shown_plain (accessor_head m) (inferred_type Mutable bindings.unresolved (AutoAccessor-value m)))
+      (typed_property (accessor_head m) (AutoAccessor-type_ann m))
+      (λ n. shown_plain (accessor_head m) (inferred_type Mutable bindings.unresolved (AutoAccessor-value m)))
       (λ w. property_plain (accessor_head m) (AutoAccessor-type_ann m)))
 
   -- what is seen of a method that is not private, and of a constructor, part by part
@@ -146,7 +148,8 @@ module _ (bindings : Bindings) (is_implementation : SourceRange → Bool) where
       go : (b : Bool) → stays_behind earlier m ≡ b →
           OfAll Plain (answer_of (map (member_seen bindings is_implementation) (each_behind if_kept (m ∷ earlier) ms))).stays →
           OfAll Plain (answer_of (map (member_seen bindings is_implementation) ((if b then m ∷ [] else []) ++ each_behind if_kept (m ∷ earlier) ms))).stays
-      go true e rest = with_plain (member_seen bindings is_implementation m) (map (member_seen bindings is_implementation) (each_behind if_kept (m ∷ earlier) ms))
+      go true e rest = with_plain (member_seen bindings is_implementation m)
+          (map (member_seen bindings is_implementation) (each_behind if_kept (m ∷ earlier) ms))
           (by_kind (kind_of m) earlier m refl e) rest
       go false e rest = rest
 

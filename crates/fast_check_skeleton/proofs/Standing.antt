@@ -128,7 +128,8 @@ module _ (around : Surroundings) (mutability : DeclMutabilityKind) (d : Tree) wh
   pub declarator_one : IsOne (declarator_seen around mutability d)
   declarator_one =
       of_choice IsOne (kind_of (VarDeclarator-name d) is BindingIdent) _ _
-      (λ e. of_choice IsOne (is_absent (declared_type d)) _ _ (λ absent. untyped_one (inferred_type mutability around.bindings.unresolved value)) (λ present. (_, refl)))
+      (λ e. of_choice IsOne (is_absent (declared_type d)) _ _ (λ absent. untyped_one (inferred_type mutability around.bindings.unresolved value))
+      (λ present. (_, refl)))
       (λ e. (Absent, refl))
 
 -- ---- statements and items
@@ -303,7 +304,8 @@ module _ (around : Surroundings) where
   decl_stays look place decl NoDeclaration q n = tt
 
   -- namespaces, where what is seen of the lower items stays
-  namespace_stays : (limit : ℕ) → ((u : Tree) (here : Surroundings) → height u < limit → AllStay (IsTypedItem here.bindings here.is_ambient) (item_look u here)) →
+  namespace_stays : (limit : ℕ) → ((u : Tree) (here : Surroundings) → height u < limit →
+      AllStay (IsTypedItem here.bindings here.is_ambient) (item_look u here)) →
       (place : SourceRange) (decl : Tree) → height decl ≤ limit → AllStay IsNamespace (namespace_seen item_look around place decl)
   namespace_stays limit h place decl low = go (TsModuleDecl-global decl) (is_ambient_module decl) refl refl
     where
@@ -583,7 +585,8 @@ module _ (limit : ℕ) (stay : (u : Tree) (here : Surroundings) → height u < l
   expression : (k : Kind) → Form (expr_stmt_rule k)
   expression kinds.AssignExpr =
       let assignment = ExprStmt-expr item in
-      all_if (IsItem around) (around.is_public (AssignExpr-span assignment)) (tested (missing_place around.objects assignment) (right_seen around.bindings assignment))
+      all_if (IsItem around) (around.is_public (AssignExpr-span assignment))
+      (tested (missing_place around.objects assignment) (right_seen around.bindings assignment))
       (nothing_stays (missing_place around.objects assignment) (answer_to (right_seen around.bindings assignment)))
   expression _ = tt
 

@@ -114,7 +114,8 @@ module _ (bindings : Bindings) where
           kind_of_node _ _,
           inl (record {
             kind = ap kind_of same ∙ kind_of_node _ _;
-            declarators = inr (subst (OfAll (IsTypedDeclarator bindings)) (sym (ap (λ t. parts (VarDecl-decls t)) same ∙ (ap parts decls ∙ parts_node List' ds))) h);
+            declarators = inr (subst (OfAll (IsTypedDeclarator bindings)) (sym (ap (λ t. parts (VarDecl-decls t)) same ∙
+                (ap parts decls ∙ parts_node List' ds))) h);
           }),
         )))
 

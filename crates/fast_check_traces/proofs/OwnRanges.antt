@@ -47,7 +47,8 @@ module _ (m : TracedModule) where
   own_first (Some x) h = each_one Own x.range (own_node x (h x refl))
 
   own_path : (name : Name) → Each Own (path_ranges m name)
-  own_path name = each_cond Own (is_some (own_export (own_tables m) name)) [] (first_range (own_tables m).re_exports (first_with m name (own_tables m).re_exports))
+  own_path name = each_cond Own (is_some (own_export (own_tables m) name)) []
+      (first_range (own_tables m).re_exports (first_with m name (own_tables m).re_exports))
       (each_nil Own)
       (own_first (first_with m name (own_tables m).re_exports) (λ x e. found_inside (λ y. is_some (answer_of m name y)) (own_tables m).re_exports x e))
 

@@ -235,15 +235,18 @@ module _ (around : Surroundings) (items : List Tree) (i : ℕ) (item : Tree) (h 
       p ∙ ap (λ ps. old ++ ps) (sym (taken ∙ (ap (λ ps. flat_map (item_properties around) (take i items) ++ ps) (none_by_rule around item (item_rule item) n)
       ∙ append-nil (flat_map (item_properties around) (take i items)))))
 
-  pub more_properties : item_rule item ≡ Assigned → {assignment : Tree} → assignment ≡ ExprStmt-expr item → (old : List ExpandoProperty) {mid new : List ExpandoProperty} →
+  pub more_properties : item_rule item ≡ Assigned → {assignment : Tree} → assignment ≡ ExprStmt-expr item →
+      (old : List ExpandoProperty) {mid new : List ExpandoProperty} →
       mid ≡ old ++ flat_map (item_properties around) (take i items) → new ≡ mid ++ assignment_properties around assignment →
       new ≡ old ++ flat_map (item_properties around) (take (i + 1) items)
   unfolding assignment_properties
   more_properties r a old p q =
       q ∙ (λ j. p j ++ declared_properties around.is_public around.bindings around.objects (a j))
-      ∙ (append_assoc old (flat_map (item_properties around) (take i items)) (declared_properties around.is_public around.bindings around.objects (ExprStmt-expr item))
+      ∙ (append_assoc old (flat_map (item_properties around) (take i items))
+      (declared_properties around.is_public around.bindings around.objects (ExprStmt-expr item))
       ∙ ap (λ ps. old ++ ps) (sym (taken ∙ ap (λ x. flat_map (item_properties around) (take i items) ++ properties_by_rule around item x) r)))
 
-pub all_properties : (around : Surroundings) {items all : List Tree} (i : ℕ) → length items ≤ i → items ≡ all → (old : List ExpandoProperty) {new : List ExpandoProperty} →
+pub all_properties : (around : Surroundings) {items all : List Tree} (i : ℕ) → length items ≤ i → items ≡ all →
+    (old : List ExpandoProperty) {new : List ExpandoProperty} →
     new ≡ old ++ flat_map (item_properties around) (take i items) → new ≡ old ++ flat_map (item_properties around) all
 all_properties around {items} i h e old p = p ∙ ap (λ ts. old ++ flat_map (item_properties around) ts) (take_all i items h ∙ e)

@@ -76,7 +76,8 @@ module _ (around : Surroundings) (item : Tree) where
       ++ starts_inside around item (e i)))
       ∙ go (around.is_public (AssignExpr-span (ExprStmt-expr item)))
     where
-      go : (p : Bool) → start_of_unseen item (if p then tested (missing_place around.objects (ExprStmt-expr item)) (right_seen around.bindings (ExprStmt-expr item)) ∷ []
+      go : (p : Bool) → start_of_unseen item (if p then tested (missing_place around.objects (ExprStmt-expr item))
+          (right_seen around.bindings (ExprStmt-expr item)) ∷ []
           else []) ++ (if p then (range_of_node item).start ∷ [] else []) ≡ (range_of_node item).start ∷ []
       go true = refl
       go false = refl

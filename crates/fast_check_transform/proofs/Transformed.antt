@@ -30,7 +30,8 @@ made_program around program r {items = items} {old = old} {new = new} e h p q =
     (adds_made (λ ts. module' (Module-span program) (list ts) (Module-shebang program)) all)) e
 
 module _ (graph : ModuleGraph) (info : EsModule) (public : PublicRanges) {around : Surroundings} {program t : Tree} {old fs : List Fault}
-    (h : Adds (program_answer around program) t old fs) (e : around ≡ surroundings_of graph info public) (p : program ≡ info.source.program) (o : old ≡ []) where
+    (h : Adds (program_answer around program) t old fs) (e : around ≡ surroundings_of graph info public) (p : program ≡ info.source.program)
+    (o : old ≡ []) where
   pub skeleton_is : t ≡ skeleton graph info public
   unfolding program_answer
   skeleton_is = sym (ap (λ a. a.stays) h.is) ∙ (λ i. (program_answer (e i) (p i)).stays)

@@ -46,7 +46,8 @@ lookup_inside {K} {X} test (e ∷ es) v h = go (test e.0) (lookup_inside test es
     same : (a b : X) → Some a ≡ Some b → a ≡ b
     same a b h = cc
 
-    go : (b : Bool) → (lookup test es ≡ Some v → (k : K) × Contains es (k, v)) → cond b (Some e.1) (lookup test es) ≡ Some v → (k : K) × Contains (e ∷ es) (k, v)
+    go : (b : Bool) → (lookup test es ≡ Some v → (k : K) × Contains es (k, v)) → cond b (Some e.1) (lookup test es) ≡ Some v →
+        (k : K) × Contains (e ∷ es) (k, v)
     go true below h = (e.0, subst (λ (x : X). Contains (e ∷ es) (e.0, x)) (same e.1 v h) (Contains_first e es))
     go false below h = let w = below h in (w.0, Contains_later e es (w.0, v) w.1)
 

@@ -64,7 +64,8 @@ never_args (arg ∷ args) = (one arg, never_args args)
 
 abbrev made_call : Tree → Tree
 made_call call =
-    call_expr (CallExpr-span call) (CallExpr-ctxt call) (CallExpr-callee call) (list (map never_argument (parts (CallExpr-args call)))) (CallExpr-type_args call)
+    call_expr (CallExpr-span call) (CallExpr-ctxt call) (CallExpr-callee call) (list (map never_argument (parts (CallExpr-args call))))
+    (CallExpr-type_args call)
 
 never_super : (stmt : Tree) → is_super_call stmt ≡ true → IsNeverSuper (super_call stmt)
 never_super stmt e =

@@ -180,7 +180,8 @@ module _ (bindings : Bindings) (look : Look) (stays : LookStays bindings look) w
 
   ident_default_stays : (b : Bool) (pat : Tree) → kind_of (AssignPat-left pat) ≡ kinds.BindingIdent → Typed (ident_default_seen bindings look b pat)
   ident_default_stays b pat kind = let id = AssignPat-left pat in
-      of_choice Typed (is_absent (BindingIdent-type_ann id)) _ _ (λ e. by_shown_stays b pat kind (inferred_type Mutable bindings.unresolved (AssignPat-right pat)))
+      of_choice Typed (is_absent (BindingIdent-type_ann id)) _ _
+      (λ e. by_shown_stays b pat kind (inferred_type Mutable bindings.unresolved (AssignPat-right pat)))
       (λ e f. typed_without_default bindings b (BindingIdent-id id) (BindingIdent-type_ann id) e)
 
   pattern_default_stays : (type : Tree) (place : SourceRange) (emptied never pat : Tree) → GivesType bindings emptied →

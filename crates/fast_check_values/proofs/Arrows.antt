@@ -42,12 +42,14 @@ module _ (bindings : Bindings) (own : Option SourceRange) (t : Tree) where
   seen_arrow = arrow_seen bindings (expr_seen bindings) own t
 
   arrow_is : seen_arrow ≡ by_known (known_type bindings.unresolved at t)
-  arrow_is = go (is_absent (ArrowExpr-return_type t)) (kind_of (ArrowExpr-body t) is kinds.BlockStmt) (inferred_type Mutable bindings.unresolved (ArrowExpr-body t))
+  arrow_is = go (is_absent (ArrowExpr-return_type t)) (kind_of (ArrowExpr-body t) is kinds.BlockStmt)
+      (inferred_type Mutable bindings.unresolved (ArrowExpr-body t))
     where
       go : (absent block : Bool) (shown : Option Tree) →
           (if absent then (if block then typed_arrow_seen t pats by_class else by_value bindings (expr_seen bindings) t at pats shown)
           else typed_arrow_seen t pats (written (ArrowExpr-return_type t))) ≡
-          by_known (if absent then (if block then Some by_class else option_map (λ ty. written (type_ann (promised bindings.unresolved (ArrowExpr-is_async t) ty)))
+          by_known (if absent then (if block then Some by_class else option_map
+          (λ ty. written (type_ann (promised bindings.unresolved (ArrowExpr-is_async t) ty)))
           shown)
           else Some (written (ArrowExpr-return_type t)))
       go true true shown = refl

@@ -77,7 +77,8 @@ fn leave_slots(
     faults: &mut Vec<Fault>,
 ) -> Result<Option<Tree>, AllocError>
     ensures { IfOk result (λ tree.
-        Adds (answer_to (round (kind_of (seen expr.entry)) (seens (slots_seen (bindings_of info.now) row.now 0 (seen expr.entry) (expr_seen (bindings_of info.now)) place))))
+        Adds (answer_to (round (kind_of (seen expr.entry)) (seens
+        (slots_seen (bindings_of info.now) row.now 0 (seen expr.entry) (expr_seen (bindings_of info.now)) place))))
         tree faults.old.items faults.new.items) }
 {
     let mut stay = Items::new(alloc);
@@ -127,7 +128,8 @@ pub fn leave_value(
     fault: Fault,
     faults: &mut Vec<Fault>,
 ) -> Result<Tree, AllocError>
-    ensures { IfOk result (λ tree. Adds (demanded fault (answer_to (expr_seen (bindings_of info.now) (seen value.entry) place))) tree faults.old.items faults.new.items) }
+    ensures { IfOk result (λ tree. Adds (demanded fault (answer_to (expr_seen (bindings_of info.now) (seen value.entry) place))) tree faults.old.items
+        faults.new.items) }
 {
     match leave_expr(alloc, info, value, place, faults)? {
         Some(tree) => Ok(tree),

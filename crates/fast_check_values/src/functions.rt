@@ -104,7 +104,8 @@ fn arrow_type(
     arrow: Part<'_>,
     faults: &mut Vec<Fault>,
 ) -> Result<Option<Tree>, AllocError>
-    ensures { IfOk result (λ ty. Adds (known_answer (known_type (bindings_of info.now).unresolved place (seen arrow.entry))) ty faults.old.items faults.new.items) }
+    ensures { IfOk result (λ ty. Adds (known_answer (known_type (bindings_of info.now).unresolved place (seen arrow.entry))) ty faults.old.items
+        faults.new.items) }
 {
     let arrow = ArrowExpr::of(arrow);
     if !arrow.return_type.is_absent() {
@@ -158,7 +159,8 @@ pub fn transform_fn(
     function: Part<'_>,
     faults: &mut Vec<Fault>,
 ) -> Result<Tree, AllocError>
-    ensures { IfOk result (λ tree. Adds (answer_to (function_seen (bindings_of info.now) (expr_seen (bindings_of info.now)) kind place (seen function.entry))) (Some tree)
+    ensures { IfOk result (λ tree. Adds (answer_to (function_seen (bindings_of info.now) (expr_seen (bindings_of info.now)) kind place
+        (seen function.entry))) (Some tree)
         faults.old.items faults.new.items) }
 {
     let return_type = return_type(alloc, kind, place, function, faults)?;

@@ -114,7 +114,8 @@ pub fn transform_params(
     params: Part<'_>,
     faults: &mut Vec<Fault>,
 ) -> Result<Items<Tree>, AllocError>
-    ensures { IfOk result (λ items. Adds (answer_of (params_looked (bindings_of info.now) (parts (seen params.entry)))) items faults.old.items faults.new.items) }
+    ensures { IfOk result (λ items. Adds (answer_of (params_looked (bindings_of info.now) (parts (seen params.entry)))) items faults.old.items
+        faults.new.items) }
 {
     let params = params.parts();
     let start = start_of_params(params);
@@ -139,7 +140,8 @@ pub fn transform_param_pat(
     pat: Part<'_>,
     faults: &mut Vec<Fault>,
 ) -> Result<Tree, AllocError>
-    ensures { IfOk result (λ tree. Adds (answer_to (pat_seen (bindings_of info.now) (expr_seen (bindings_of info.now)) is_optional (seen pat.entry))) (Some tree)
+    ensures { IfOk result (λ tree. Adds (answer_to (pat_seen (bindings_of info.now) (expr_seen (bindings_of info.now)) is_optional (seen pat.entry)))
+        (Some tree)
         faults.old.items faults.new.items) }
 {
     match pat.kind() {
@@ -170,7 +172,8 @@ fn transform_assign_pat(
     pat: Part<'_>,
     faults: &mut Vec<Fault>,
 ) -> Result<Tree, AllocError>
-    ensures { IfOk result (λ tree. Adds (answer_to (assign_seen (bindings_of info.now) (expr_seen (bindings_of info.now)) is_optional (seen pat.entry))) (Some tree)
+    ensures { IfOk result (λ tree. Adds (answer_to (assign_seen (bindings_of info.now) (expr_seen (bindings_of info.now)) is_optional
+        (seen pat.entry))) (Some tree)
         faults.old.items faults.new.items) }
 {
     let AssignPat { span, left, .. } = AssignPat::of(pat);
@@ -215,7 +218,8 @@ fn leave_default(
     faults: &mut Vec<Fault>,
 ) -> Result<Tree, AllocError>
     ensures { IfOk result (λ tree.
-        Adds (answer_to (default_seen (AssignPat-span (seen pat.entry)) place left (expr_seen (bindings_of info.now) (AssignPat-right (seen pat.entry)) parent)))
+        Adds (answer_to (default_seen (AssignPat-span (seen pat.entry)) place left
+        (expr_seen (bindings_of info.now) (AssignPat-right (seen pat.entry)) parent)))
         (Some tree) faults.old.items faults.new.items) }
 {
     let fault = Fault {

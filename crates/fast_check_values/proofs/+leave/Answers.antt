@@ -43,7 +43,8 @@ pub expressions::leave_expr-returns-then-contains : goal.expressions::leave_expr
 expressions::leave_expr-returns-then-contains t c =
     let compound : is_compound (kind_of (seen c.args.expr)) ≡ true = sym (c.contains.ensures.value ∙ ap is_compound c.kind-kind.ensures) ∙
     c.if-contains.true in
-    IfOk-weaker c.leave_parts.result _ _ (λ tree h. adds_same (ap answer_to (seen_parted (bindings_of c.args.info.now) (seen c.args.expr) c.args.place compound)) h)
+    IfOk-weaker c.leave_parts.result _ _ (λ tree h. adds_same
+    (ap answer_to (seen_parted (bindings_of c.args.info.now) (seen c.args.expr) c.args.place compound)) h)
     c.leave_parts.ensures
 
 pub expressions::leave_expr-returns-then-contains-2 : goal.expressions::leave_expr-returns-then-contains-2
@@ -138,7 +139,8 @@ functions::transform_arrow-returns-in_ok-params-in-Some t c =
     let u = bindings_of c.args.info.now in
     let a = seen c.args.arrow in
     let at : c.or_own-place.result ≡ or_own c.args.place (ArrowExpr-span a) = c.or_own-place.ensures ∙ ap (or_own c.args.place) c.of-form.ensures.span in
-    let type = adds_same (ap (λ (p : SourceRange). known_answer (known_type u.unresolved p a)) (sym at)) (adds_given c.in-Some.is c.in_ok-return_type.ensures) in
+    let type = adds_same (ap (λ (p : SourceRange). known_answer (known_type u.unresolved p a)) (sym at))
+    (adds_given c.in-Some.is c.in_ok-return_type.ensures) in
     let pats = adds_same (ap (λ (p : Tree). answer_of (pats_seen u (expr_seen u) (parts p))) (sym c.of-form.ensures.params)) c.in_ok-params-in-Some.ensures in
     IfOk-weaker c.signed_arrow.result _ _ (λ tree e. adds_given (ap Some (sym e)) (arrow_known u c.args.place a type pats)) c.signed_arrow.ensures
 
@@ -148,7 +150,8 @@ functions::transform_arrow-returns-in_ok-params-in-None t c =
     let a = seen c.args.arrow in
     let f = c.of-form.ensures in
     let at : c.or_own-place.result ≡ or_own c.args.place (ArrowExpr-span a) = c.or_own-place.ensures ∙ ap (or_own c.args.place) f.span in
-    let type = adds_same (ap (λ (p : SourceRange). known_answer (known_type u.unresolved p a)) (sym at)) (adds_given c.in-None.is c.in_ok-return_type.ensures) in
+    let type = adds_same (ap (λ (p : SourceRange). known_answer (known_type u.unresolved p a)) (sym at))
+    (adds_given c.in-None.is c.in_ok-return_type.ensures) in
     let value = adds_same (λ i. demanded (fault_at (return_type_missing false (sym f.is_async i)) (sym at i))
     (answer_to (expr_seen u (sym f.body i) None))) c.in_ok-value-in-None.ensures in
     let pats = adds_same (ap (λ (p : Tree). answer_of (pats_seen u (expr_seen u) (parts p))) (sym f.params)) c.in_ok-params-in-None.ensures in
@@ -203,7 +206,8 @@ pub parameters::transform_param_pat-returns-in-RestPat : goal.parameters::transf
 parameters::transform_param_pat-returns-in-RestPat t c =
     let kind = sym c.kind.ensures ∙ c.in-RestPat.is in
     IfOk-weaker c.transform_rest.result _ _
-    (λ tree h. adds_same (ap answer_to (seen_by_kind (bindings_of c.args.info.now) c.args.is_optional (seen c.args.pat) kinds.RestPat kind)) h) c.transform_rest.ensures
+    (λ tree h. adds_same (ap answer_to (seen_by_kind (bindings_of c.args.info.now) c.args.is_optional (seen c.args.pat) kinds.RestPat kind)) h)
+    c.transform_rest.ensures
 
 pub parameters::transform_param_pat-returns-in_default : goal.parameters::transform_param_pat-returns-in_default
 parameters::transform_param_pat-returns-in_default t c =
@@ -379,7 +383,8 @@ parameters::transform_assign_pat-returns-in_ok-never_array-in-ArrayPat t c =
     let absent = ap is_absent (sym (of.type_ann ∙ ap ArrayPat-type_ann left)) ∙ (sym c.is_absent.ensures ∙ c.if-is_absent.false) in
     IfOk-weaker c.with_default.result _ _
     (λ tree e. adds_same (ap answer_to (seen_typed_array u c.args.is_optional pat kind absent) ∙ ap (λ (x : Tree). faultless (Some x))
-    (sym (e ∙ (λ i. assign_pat (AssignPat-span pat) ((c.in_ok-left-in-ArrayPat.ensures ∙ ap emptied_array left) i) (c.in_ok-never_array-in-ArrayPat.ensures i)))))
+    (sym (e ∙ (λ i. assign_pat (AssignPat-span pat) ((c.in_ok-left-in-ArrayPat.ensures ∙ ap emptied_array left) i)
+    (c.in_ok-never_array-in-ArrayPat.ensures i)))))
     (adds_nothing (Some tree) c.args.faults.now.items)) c.with_default.ensures
 
 pub parameters::transform_assign_pat-returns-then-is_absent-2 : goal.parameters::transform_assign_pat-returns-then-is_absent-2
@@ -405,7 +410,8 @@ parameters::transform_assign_pat-returns-in_ok-never_value-in-ObjectPat t c =
     let absent = ap is_absent (sym (of.type_ann ∙ ap ObjectPat-type_ann left)) ∙ (sym c.is_absent-in-ObjectPat.ensures ∙ c.if-is_absent-2.false) in
     IfOk-weaker c.with_default-in-ObjectPat.result _ _
     (λ tree e. adds_same (ap answer_to (seen_typed_object u c.args.is_optional pat kind absent) ∙ ap (λ (x : Tree). faultless (Some x))
-    (sym (e ∙ (λ i. assign_pat (AssignPat-span pat) ((c.in_ok-left-in-ObjectPat.ensures ∙ ap emptied_object left) i) (c.in_ok-never_value-in-ObjectPat.ensures i)))))
+    (sym (e ∙ (λ i. assign_pat (AssignPat-span pat) ((c.in_ok-left-in-ObjectPat.ensures ∙ ap emptied_object left) i)
+    (c.in_ok-never_value-in-ObjectPat.ensures i)))))
     (adds_nothing (Some tree) c.args.faults.now.items)) c.with_default-in-ObjectPat.ensures
 
 pub parameters::leave_default-returns : goal.parameters::leave_default-returns

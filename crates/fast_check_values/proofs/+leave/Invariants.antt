@@ -55,7 +55,8 @@ invariant-expressions::leave_parts-loop-part l =
 abbrev pub invariant-expressions::leave_slots-loop-index : goal.invariant-expressions::leave_slots-loop-index
 invariant-expressions::leave_slots-loop-index l =
     Behind (behind l.stay) (parts_answer (seens (slots_seen (bindings_of l.info) l.row 0 (seen l.expr) (expr_seen (bindings_of l.info)) l.place)))
-    (parts_answer (seens (slots_seen (bindings_of l.info) (drop l.index l.row) l.index (seen l.expr) (expr_seen (bindings_of l.info)) l.place))) l.initial.faults.items
+    (parts_answer (seens (slots_seen (bindings_of l.info) (drop l.index l.row) l.index (seen l.expr) (expr_seen (bindings_of l.info)) l.place)))
+    l.initial.faults.items
     l.faults.items
 
 abbrev pub invariant-parameters::transform_pats-loop-index : goal.invariant-parameters::transform_pats-loop-index

@@ -12,4 +12,5 @@ loop-param-preserved c =
 
 pub returns : goal.returns
 returns c =
-    c.list.ensures ∙ ap list (mapped_all (λ t. plain_param t) c.loop-param.param-index c.loop-param-test.false c.parts-param-items.ensures c.loop-param.invariant)
+    c.list.ensures ∙ ap list (mapped_all (λ t. plain_param t) c.loop-param.param-index c.loop-param-test.false c.parts-param-items.ensures
+    c.loop-param.invariant)

@@ -8,4 +8,5 @@ use Rattle.fast_check_class_nodes.proofs.earlier.kept_members.Given as goal
 -- some earlier members, of which is told, and behind what stays of them what stays of the others
 abbrev pub invariant-loop-member : goal.invariant-loop-member
 invariant-loop-member l =
-    (before : List Tree) × (Tells l.earlier before × (kept_members l.members ≡ map seen l.kept.items ++ each_behind if_kept before (drop l.member-index l.members)))
+    (before : List Tree) × (Tells l.earlier before × (kept_members l.members ≡ map seen l.kept.items ++
+    each_behind if_kept before (drop l.member-index l.members)))

@@ -17,7 +17,8 @@ pub returns-then-is_impl_with_overloads : goal.returns-then-is_impl_with_overloa
 returns-then-is_impl_with_overloads c =
     let private = ap is_private (sym c.of.ensures.accessibility) ∙ (sym c.is_private.ensures ∙ c.if-is_private.false) in
     let plain = c.in_ok-params.ensures ∙ ap (λ ps. list (map (λ p. plain_param p) (parts ps))) c.of.ensures.params in
-    let asked = ap (is_implementation c.args.public_ranges.now) (sym c.of.ensures.span) ∙ (sym c.is_impl_with_overloads.ensures ∙ c.if-is_impl_with_overloads.true) in
+    let asked = ap (is_implementation c.args.public_ranges.now) (sym c.of.ensures.span) ∙
+    (sym c.is_impl_with_overloads.ensures ∙ c.if-is_impl_with_overloads.true) in
     implementation_params (bindings_of c.args.info.now) (is_implementation c.args.public_ranges.now) (seen c.args.member) c.any_params.result private asked
     (c.read.ensures ∙ plain) c.args.faults.now.items c.any_params.ensures
 
@@ -25,6 +26,7 @@ pub returns : goal.returns
 returns c =
     let private = ap is_private (sym c.of.ensures.accessibility) ∙ (sym c.is_private.ensures ∙ c.if-is_private.false) in
     let plain = c.in_ok-params.ensures ∙ ap (λ ps. list (map (λ p. plain_param p) (parts ps))) c.of.ensures.params in
-    let asked = ap (is_implementation c.args.public_ranges.now) (sym c.of.ensures.span) ∙ (sym c.is_impl_with_overloads.ensures ∙ c.if-is_impl_with_overloads.false) in
+    let asked = ap (is_implementation c.args.public_ranges.now) (sym c.of.ensures.span) ∙
+    (sym c.is_impl_with_overloads.ensures ∙ c.if-is_impl_with_overloads.false) in
     own_params (bindings_of c.args.info.now) (is_implementation c.args.public_ranges.now) (seen c.args.member) c.transform_params.result private asked
     (c.read-2.ensures ∙ plain) _ _ c.transform_params.ensures

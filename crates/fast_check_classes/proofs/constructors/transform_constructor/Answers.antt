@@ -16,4 +16,5 @@ pub returns : goal.returns
 returns c =
     some_of c.signed_constructor.result c.signed_constructor.ensures
     (constructor_stays (bindings_of c.args.info.now) (is_implementation c.args.public_ranges.now) (seen c.args.member)
-    (sym c.pattern_among.ensures ∙ none_of c.pattern_among.result (λ range e. c.in_default.not-Some range e)) (c.parts.ensures ∙ ap parts c.of.ensures.params) c.in_ok-params.ensures) refl
+    (sym c.pattern_among.ensures ∙ none_of c.pattern_among.result (λ range e. c.in_default.not-Some range e)) (c.parts.ensures ∙
+    ap parts c.of.ensures.params) c.in_ok-params.ensures) refl

@@ -20,5 +20,6 @@ returns c =
     IfOk-weaker c.transform_fn.result _ _
     (λ tree h. signature (bindings_of c.args.info.now) (is_implementation c.args.public_ranges.now) (seen c.args.member)
     (ap (is_implementation c.args.public_ranges.now) (sym c.of.ensures.span) ∙ (sym c.is_impl_with_overloads.ensures ∙ c.if-is_impl_with_overloads.false))
-    {kind = c.method_kind-kind.result} {place = c.range_of_node.result} {f = seen c.of.result.function} h (c.method_kind-kind.ensures ∙ ap method_kind c.of.ensures.kind) (c.range_of_node.ensures ∙ ap range_of_node c.of.ensures.key) c.of.ensures.function)
+    {kind = c.method_kind-kind.result} {place = c.range_of_node.result} {f = seen c.of.result.function} h (c.method_kind-kind.ensures ∙
+    ap method_kind c.of.ensures.kind) (c.range_of_node.ensures ∙ ap range_of_node c.of.ensures.key) c.of.ensures.function)
     c.transform_fn.ensures

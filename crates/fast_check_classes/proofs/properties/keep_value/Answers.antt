@@ -19,5 +19,6 @@ pub returns : goal.returns
 returns c =
     let place = c.range_of_node-place.ensures ∙ ap range_of_node c.of.ensures.key in
     IfOk-weaker c.leave_value.result _ _
-    (λ tree h. present_value (bindings_of c.args.info.now) (seen c.args.member) (ap is_absent (sym c.of.ensures.value) ∙ (sym c.is_absent.ensures ∙ c.if-is_absent.false))
+    (λ tree h. present_value (bindings_of c.args.info.now) (seen c.args.member) (ap is_absent (sym c.of.ensures.value) ∙
+    (sym c.is_absent.ensures ∙ c.if-is_absent.false))
     h place c.of.ensures.value) c.leave_value.ensures

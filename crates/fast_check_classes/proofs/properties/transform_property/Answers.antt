@@ -13,7 +13,8 @@ use Rattle.fast_check_classes.proofs.properties.transform_property.Goals as goal
 pub returns-then-is_private : goal.returns-then-is_private
 returns-then-is_private c =
     some_of c.typed_property.result c.typed_property.ensures
-    (private_property (bindings_of c.args.info.now) (seen c.args.member) (ap is_private (sym c.of.ensures.accessibility) ∙ (sym c.is_private.ensures ∙ c.if-is_private.true))
+    (private_property (bindings_of c.args.info.now) (seen c.args.member) (ap is_private (sym c.of.ensures.accessibility) ∙
+    (sym c.is_private.ensures ∙ c.if-is_private.true))
     c.args.faults.now.items) (ap (λ t. declared_property (property_head (seen c.args.member)) t) c.in_ok-any.ensures)
 
 pub returns-then-is_absent : goal.returns-then-is_absent

@@ -31,7 +31,8 @@ loop-member-preserved c =
       (
         next.tells,
         goes_more c.parts-member-items.result.now c.loop-member.member-index m c.loop-member-test.true (search rules) before
-            c.if-branch.false next.stays_is c.loop-member.comments c.loop-member.invariant.1.1 (ap (λ r. r.start) c.range_of_node.ensures) c.remove_leading.ensures,
+            c.if-branch.false next.stays_is c.loop-member.comments c.loop-member.invariant.1.1 (ap (λ r. r.start) c.range_of_node.ensures)
+            c.remove_leading.ensures,
       ),
     )
 

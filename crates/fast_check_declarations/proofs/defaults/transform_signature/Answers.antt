@@ -16,6 +16,7 @@ pub returns : goal.returns
 returns c =
     IfOk-weaker c.transform_fn.result _ _
     (λ tree h. signature (Asked-around c.args.asked) c.args.place (seen c.args.decl)
-    (sym c.is_impl_with_overloads.ensures ∙ c.if-is_impl_with_overloads.false) {name = c.default_place.result} {function = seen c.of.result.function} {t = tree} h
+    (sym c.is_impl_with_overloads.ensures ∙ c.if-is_impl_with_overloads.false) {name = c.default_place.result}
+    {function = seen c.of.result.function} {t = tree} h
     c.default_place.ensures c.of.ensures.function)
     c.transform_fn.ensures

@@ -6,4 +6,5 @@ use Rattle.fast_check_demands.specs.Rules.{alias_names}
 use Rattle.fast_check_demands.proofs.aliases.push_aliases.Given as goal
 
 abbrev pub invariant-loop-decl : goal.invariant-loop-decl
-invariant-loop-decl l = l.out ≡ l.initial.out ++ flat_map (λ x. alias_names l.tables (demand_of l.demand) (path_of l.names) l.extent x.kind) (take l.decl-index l.decls)
+invariant-loop-decl l = l.out ≡ l.initial.out ++ flat_map (λ x. alias_names l.tables (demand_of l.demand) (path_of l.names) l.extent x.kind)
+    (take l.decl-index l.decls)

@@ -8,5 +8,6 @@ pub loop-place-preserved : goal.loop-place-preserved
 loop-place-preserved c = record {
   end = c.len-place-end.ensures;
   items = rw (c.in_ok-push_expando.ensures, c.at.ensures)
-      (each_more (λ e. each_of (outside c.args.range) (symbol_of e.1 c.args.tables.now.symbols)) c.args.exports.now c.loop-place.place c.args.out.now.items c.loop-place.out.items c.loop-place.invariant.items);
+      (each_more (λ e. each_of (outside c.args.range) (symbol_of e.1 c.args.tables.now.symbols)) c.args.exports.now c.loop-place.place
+      c.args.out.now.items c.loop-place.out.items c.loop-place.invariant.items);
 }

@@ -21,7 +21,8 @@ returns-clause-turned g c =
       empty = ap (map waiting_trace) c.requires;
       left = omega (arith, length-map c.args.asked.now.packages.keys nv_of, c.if-next-len.false, c.len.ensures);
       here = get_or-map nv_of c.args.asked.now.packages.keys c.args.next c.index.result.now (nv_of c.in_ok-nv.nv)
-          (omega (arith, c.if-next-len.false, c.len.ensures)) ∙ (ap nv_of (get_or_from_slice_get c.args.asked.now.packages.keys c.args.next c.index.result.now c.index.result.now c.index.ensures)
+          (omega (arith, c.if-next-len.false, c.len.ensures)) ∙
+          (ap nv_of (get_or_from_slice_get c.args.asked.now.packages.keys c.args.next c.index.result.now c.index.result.now c.index.ensures)
           ∙ sym c.in_ok-nv.ensures);
       entered = entered_at (known c.args.sources (m.url_of c.args.provider.now.1) (m.nv_at c.args.provider.now.1)) (nv_of c.in_ok-nv.nv)
           (state_of c.args.asked.now) (state_of c.enter.new.asked)
@@ -37,4 +38,5 @@ returns-in_err-enter-clause-refused g c =
     passed_on c.from_residual-in_err-enter.result f (IsRefusedOf k (map nv_of c.args.asked.now.packages.keys)) c.from_residual-in_err-enter.ensures.1
     (refused_of k c.args.asked.now.packages.keys c.args.next c.index.result.now (nv_of c.in_ok-nv.nv)
     (omega (arith, c.if-next-len.false, c.len.ensures))
-    (sym (get_or_from_slice_get c.args.asked.now.packages.keys c.args.next c.index.result.now c.index.result.now c.index.ensures)) c.in_ok-nv.ensures f c.in_err-enter.ensures.refused)
+    (sym (get_or_from_slice_get c.args.asked.now.packages.keys c.args.next c.index.result.now c.index.result.now c.index.ensures)) c.in_ok-nv.ensures
+    f c.in_err-enter.ensures.refused)

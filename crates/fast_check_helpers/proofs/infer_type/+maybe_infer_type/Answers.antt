@@ -22,11 +22,13 @@ pub returns-in-TsTypeAssertion-clause-inferred : goal.returns-in-TsTypeAssertion
 returns-in-TsTypeAssertion-clause-inferred t c =
     IfOk-weaker c.asserted_type-in-TsTypeAssertion.result _ _
     (λ found e. e ∙ (ap asserted_type c.of-in-TsTypeAssertion.ensures.type_ann
-    ∙ sym (inferred_TsTypeAssertion c.args.mutability c.args.unresolved (seen c.args.value) (sym c.in-TsTypeAssertion.ensures)))) c.asserted_type-in-TsTypeAssertion.ensures
+    ∙ sym (inferred_TsTypeAssertion c.args.mutability c.args.unresolved (seen c.args.value) (sym c.in-TsTypeAssertion.ensures))))
+    c.asserted_type-in-TsTypeAssertion.ensures
 
 pub returns-in-TsTypeAssertion-clause-asserted : goal.returns-in-TsTypeAssertion-clause-asserted
 returns-in-TsTypeAssertion-clause-asserted t c =
-    asserted_result c.args.mutability c.args.unresolved (seen c.args.value) c.asserted_type-in-TsTypeAssertion.result (returns-in-TsTypeAssertion-clause-inferred t c)
+    asserted_result c.args.mutability c.args.unresolved (seen c.args.value) c.asserted_type-in-TsTypeAssertion.result
+    (returns-in-TsTypeAssertion-clause-inferred t c)
 
 pub returns-in-CallExpr-clause-inferred : goal.returns-in-CallExpr-clause-inferred
 returns-in-CallExpr-clause-inferred t c =
@@ -61,11 +63,13 @@ pub returns-in-TsSatisfiesExpr-clause-inferred : goal.returns-in-TsSatisfiesExpr
 returns-in-TsSatisfiesExpr-clause-inferred t c =
     IfOk-weaker c.maybe_infer_type-in-TsSatisfiesExpr.result _ _
     (λ found e. e ∙ (ap (inferred_type c.args.mutability c.args.unresolved) c.of-in-TsSatisfiesExpr.ensures.expr
-    ∙ sym (inferred_TsSatisfiesExpr c.args.mutability c.args.unresolved (seen c.args.value) (sym c.in-TsSatisfiesExpr.ensures)))) c.maybe_infer_type-in-TsSatisfiesExpr.ensures.inferred
+    ∙ sym (inferred_TsSatisfiesExpr c.args.mutability c.args.unresolved (seen c.args.value) (sym c.in-TsSatisfiesExpr.ensures))))
+    c.maybe_infer_type-in-TsSatisfiesExpr.ensures.inferred
 
 pub returns-in-TsSatisfiesExpr-clause-asserted : goal.returns-in-TsSatisfiesExpr-clause-asserted
 returns-in-TsSatisfiesExpr-clause-asserted t c =
-    asserted_result c.args.mutability c.args.unresolved (seen c.args.value) c.maybe_infer_type-in-TsSatisfiesExpr.result (returns-in-TsSatisfiesExpr-clause-inferred t c)
+    asserted_result c.args.mutability c.args.unresolved (seen c.args.value) c.maybe_infer_type-in-TsSatisfiesExpr.result
+    (returns-in-TsSatisfiesExpr-clause-inferred t c)
 
 pub returns-in_default-clause-inferred : goal.returns-in_default-clause-inferred
 returns-in_default-clause-inferred t c =

@@ -151,7 +151,8 @@ pub analyze_return_stmts-returns-in-ReturnStmt : goal.analyze_return_stmts-retur
 analyze_return_stmts-returns-in-ReturnStmt t c =
     let a = c.args.analysis in
     c.after_return.ensures
-    ∙ (ap (λ b. after_return a (not b)) (c.is_absent.ensures ∙ ap is_absent c.of.ensures.arg) ∙ sym (then_ReturnStmt a (seen c.args.stmt) (sym c.in-ReturnStmt.ensures)))
+    ∙ (ap (λ b. after_return a (not b)) (c.is_absent.ensures ∙ ap is_absent c.of.ensures.arg) ∙
+    sym (then_ReturnStmt a (seen c.args.stmt) (sym c.in-ReturnStmt.ensures)))
 
 pub analyze_return_stmts-analyze_return_stmts-analysis-requires : goal.analyze_return_stmts-analyze_return_stmts-analysis-requires
 analyze_return_stmts-analyze_return_stmts-analysis-requires t c =

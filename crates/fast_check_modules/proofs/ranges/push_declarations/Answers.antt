@@ -11,4 +11,5 @@ loop-symbol-preserved c =
 
 pub returns : goal.returns
 returns c =
-    each_all (λ (s : Symbol). map (λ d. d.range) s.decls.items) c.args.symbols.now c.loop-symbol.symbol-index c.args.out.now.items c.loop-symbol-test.false c.loop-symbol.invariant
+    each_all (λ (s : Symbol). map (λ d. d.range) s.decls.items) c.args.symbols.now c.loop-symbol.symbol-index c.args.out.now.items
+    c.loop-symbol-test.false c.loop-symbol.invariant

@@ -4,7 +4,8 @@ use Rattle.fast_check_modules.proofs.ranges.push_re_exports.Goals as goal
 
 pub loop-node-preserved : goal.loop-node-preserved
 loop-node-preserved c =
-    one_more (λ (n : ReExportAllNode). n.range) c.args.nodes.now c.loop-node.node-index c.node-item.result c.args.out.now.items c.loop-node-test.true c.node-item.is
+    one_more (λ (n : ReExportAllNode). n.range) c.args.nodes.now c.loop-node.node-index c.node-item.result c.args.out.now.items c.loop-node-test.true
+    c.node-item.is
     c.loop-node.invariant c.in_ok-push.ensures.items
 
 pub returns : goal.returns

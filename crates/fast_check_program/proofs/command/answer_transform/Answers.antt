@@ -13,7 +13,8 @@ returns-in_err-read_request-clause-refusal c =
 
 pub returns-clause-answer : goal.returns-clause-answer
 returns-clause-answer c =
-    IfOk-weaker c.answer_request.result _ _ (λ answer h. (c.in_ok-read_request.field-0, c.in_ok-read_request.ensures.request, h)) c.answer_request.ensures.answer
+    IfOk-weaker c.answer_request.result _ _ (λ answer h. (c.in_ok-read_request.field-0, c.in_ok-read_request.ensures.request, h))
+    c.answer_request.ensures.answer
 
 pub returns-clause-refusal : goal.returns-clause-refusal
 returns-clause-refusal c =

@@ -24,7 +24,8 @@ returns-in_ok-push-in-Some-clause-properties c =
     let old = c.args.properties.now.items in
     c.in_ok-push-in-Some.ensures.items
     ∙ (ap (λ p. old ++ p ∷ []) (c.in_ok-property-in-Some.ensures
-    ∙ (λ i. property_of (exports_are info (AssignExpr-left a) s refl i) (keyword_is info (AssignExpr-left a) s refl i) (AssignExpr-span a) (AssignExpr-left a) c.in-Some.value))
+    ∙ (λ i. property_of (exports_are info (AssignExpr-left a) s refl i) (keyword_is info (AssignExpr-left a) s refl i) (AssignExpr-span a)
+    (AssignExpr-left a) c.in-Some.value))
     ∙ ap (λ v. old ++ kept_property (objects_of info) (AssignExpr-span a) (AssignExpr-left a) v) (sym c.in-Some.is))
 
 pub returns-in_ok-push-in-Some-clause-faults : goal.returns-in_ok-push-in-Some-clause-faults
@@ -48,7 +49,9 @@ returns-in-None-clause-faults c =
     let s = c.in_ok-symbol.ensures ∙ ap (λ t. symbol_of_swc info.tables (object_of t)) c.of.ensures.left in
     let old = c.args.faults.now.items in
     on_ok_weaker c.push_missing.result
-    (λ f. f ∙ (ap (λ t. old ++ (if exports_name (option_copied c.in_ok-symbol.symbol) (property_name t) then [] else fault_at MissingExplicitType (MemberExpr-span t) ∷ [])) c.of.ensures.left
-    ∙ (ap (λ fs. old ++ fs) (missing_is (objects_of info) a c.requires (ap (λ g. g (property_name (AssignExpr-left a))) (exports_are info (AssignExpr-left a) s refl)))
+    (λ f. f ∙ (ap (λ t. old ++ (if exports_name (option_copied c.in_ok-symbol.symbol) (property_name t) then [] else fault_at MissingExplicitType
+    (MemberExpr-span t) ∷ [])) c.of.ensures.left
+    ∙ (ap (λ fs. old ++ fs) (missing_is (objects_of info) a c.requires
+    (ap (λ g. g (property_name (AssignExpr-left a))) (exports_are info (AssignExpr-left a) s refl)))
     ∙ ap (λ v. old ++ missing_at (missing_place (objects_of info) a) v) (sym c.in-None.is))))
     c.push_missing.ensures

@@ -23,7 +23,8 @@ pub returns-in_ok-type_ann-in-Some : goal.returns-in_ok-type_ann-in-Some
 returns-in_ok-type_ann-in-Some c =
     let declared = c.of-2.ensures.type_ann ∙ ap BindingIdent-type_ann c.of.ensures.name in
     let absent = ap is_absent (sym declared) ∙ (sym c.is_absent.ensures ∙ c.if-not-is_absent.false) in
-    let shown = (λ i. inferred_type c.args.mutability (sym c.unresolved_context.ensures i) (sym c.of.ensures.init i)) ∙ (sym c.in_ok-ty.ensures.inferred ∙ c.in-Some.is) in
+    let shown = (λ i. inferred_type c.args.mutability (sym c.unresolved_context.ensures i) (sym c.of.ensures.init i)) ∙
+    (sym c.in_ok-ty.ensures.inferred ∙ c.in-Some.is) in
     some_of c.declared-in-Some.result c.declared-in-Some.ensures
     (shown_ident (Asked-around c.args.asked) c.args.mutability (seen c.args.declarator) c.in-Some.ty absent shown c.args.faults.now.items)
     (ap (λ type. retyped (seen c.args.declarator) type never_value) c.in_ok-type_ann-in-Some.ensures)
@@ -32,6 +33,7 @@ pub returns-in-None : goal.returns-in-None
 returns-in-None c =
     let declared = c.of-2.ensures.type_ann ∙ ap BindingIdent-type_ann c.of.ensures.name in
     let absent = ap is_absent (sym declared) ∙ (sym c.is_absent.ensures ∙ c.if-not-is_absent.false) in
-    let shown = (λ i. inferred_type c.args.mutability (sym c.unresolved_context.ensures i) (sym c.of.ensures.init i)) ∙ (sym c.in_ok-ty.ensures.inferred ∙ c.in-None.is) in
+    let shown = (λ i. inferred_type c.args.mutability (sym c.unresolved_context.ensures i) (sym c.of.ensures.init i)) ∙
+    (sym c.in_ok-ty.ensures.inferred ∙ c.in-None.is) in
     IfOk-weaker c.valued_declarator.result _ _
     (λ tree h. valued_ident (Asked-around c.args.asked) c.args.mutability (seen c.args.declarator) absent shown h) c.valued_declarator.ensures

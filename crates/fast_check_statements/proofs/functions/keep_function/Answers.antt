@@ -8,7 +8,8 @@ use Rattle.fast_check_statements.proofs.functions.keep_function.Goals as goal
 
 pub returns-then-asked : goal.returns-then-asked
 returns-then-asked c =
-    some_of c.to_tree.result c.to_tree.ensures (ambient_function (Asked-around c.args.asked) c.args.place (seen c.args.decl) c.if-asked.true c.args.faults.now.items) refl
+    some_of c.to_tree.result c.to_tree.ensures (ambient_function (Asked-around c.args.asked) c.args.place
+    (seen c.args.decl) c.if-asked.true c.args.faults.now.items) refl
 
 pub returns : goal.returns
 returns c =

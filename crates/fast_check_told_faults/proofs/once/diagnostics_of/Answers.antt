@@ -21,7 +21,8 @@ loop-fault-preserved c = record {
       (ap (λ b. b || tells test c.diagnostic_of.result) (c.loop-fault.invariant.told test) ∙
       (ap (λ o. list_any (entry_tells test) c.loop-fault.yielded || where_found test o) c.diagnostic_of.ensures.told ∙
       sym (any_push (entry_tells test) c.loop-fault.yielded (c.in-Some.fault, c.in-Some.text_info)))));
-  of = subst (λ (xs : List FastCheckDiagnostic). AreOf xs (c.loop-fault.yielded ++ (c.in-Some.fault, c.in-Some.text_info) ∷ [])) (sym c.in_ok-push.ensures.items)
+  of = subst (λ (xs : List FastCheckDiagnostic). AreOf xs (c.loop-fault.yielded ++ (c.in-Some.fault, c.in-Some.text_info) ∷ []))
+      (sym c.in_ok-push.ensures.items)
       (of_push c.loop-fault.told.items c.loop-fault.yielded c.diagnostic_of.result (c.in-Some.fault, c.in-Some.text_info) c.loop-fault.invariant.of
       c.diagnostic_of.ensures.told);
   whole = ap (list_any is_whole) c.in_ok-push.ensures.items ∙ (any_push is_whole c.loop-fault.told.items c.diagnostic_of.result ∙

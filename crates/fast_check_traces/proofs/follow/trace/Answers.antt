@@ -12,4 +12,5 @@ pub returns-clause-own_implementations : goal.returns-clause-own_implementations
 returns-clause-own_implementations c = rw c.own_tables-tables.ensures at c.in_ok-found.ensures.own_implementations
 
 pub returns-clause-own_re_exports : goal.returns-clause-own_re_exports
-returns-clause-own_re_exports c = subst (λ (xs : List SourceRange). AreTableRanges (tables_at c.args.traced) xs) (sym c.in_ok-re_export_ranges.ensures) (own_re_exports c.args.traced c.args.names.now)
+returns-clause-own_re_exports c = subst (λ (xs : List SourceRange). AreTableRanges (tables_at c.args.traced) xs)
+    (sym c.in_ok-re_export_ranges.ensures) (own_re_exports c.args.traced c.args.names.now)

@@ -257,12 +257,14 @@ keep_export-keep_decl-requires t c =
 
 pub keep_export-returns-in_ok-into_tree-in-Some-clause-answer : goal.keep_export-returns-in_ok-into_tree-in-Some-clause-answer
 keep_export-returns-in_ok-into_tree-in-Some-clause-answer t c =
-    made_export (Asked-around c.args.asked) (seen c.args.item) c.args.rule c.in_ok-decl.ensures.answer c.of.ensures.span c.of.ensures.decl (ap as_list c.in-Some.is)
+    made_export (Asked-around c.args.asked) (seen c.args.item) c.args.rule c.in_ok-decl.ensures.answer c.of.ensures.span c.of.ensures.decl
+    (ap as_list c.in-Some.is)
     (c.in_ok-into_tree-in-Some.ensures ∙ ap (λ s. export_decl s c.in-Some.decl) c.of.ensures.span)
 
 pub keep_export-returns-in-None-clause-answer : goal.keep_export-returns-in-None-clause-answer
 keep_export-returns-in-None-clause-answer t c =
-    no_export (Asked-around c.args.asked) (seen c.args.item) c.args.rule c.in_ok-decl.ensures.answer c.of.ensures.span c.of.ensures.decl (ap as_list c.in-None.is)
+    no_export (Asked-around c.args.asked) (seen c.args.item) c.args.rule c.in_ok-decl.ensures.answer c.of.ensures.span c.of.ensures.decl
+    (ap as_list c.in-None.is)
 
 pub keep_export-returns-in_ok-into_tree-in-Some-clause-comments : goal.keep_export-returns-in_ok-into_tree-in-Some-clause-comments
 keep_export-returns-in_ok-into_tree-in-Some-clause-comments t c =
@@ -309,27 +311,32 @@ keep_item-returns-in-Silent-clause-answer t c =
 
 pub keep_item-returns-in-Declared-clause-comments : goal.keep_item-returns-in-Declared-clause-comments
 keep_item-returns-in-Declared-clause-comments t c =
-    below_declared (Asked-around c.args.asked) (seen c.args.item) c.keep_decl.result _ c.args.comments.now (sym c.item_rule.ensures ∙ c.in-Declared.is) c.range_of_node.ensures
+    below_declared (Asked-around c.args.asked) (seen c.args.item) c.keep_decl.result _ c.args.comments.now (sym c.item_rule.ensures ∙
+    c.in-Declared.is) c.range_of_node.ensures
     c.keep_decl.ensures.comments
 
 pub keep_item-returns-in-Exported-clause-comments : goal.keep_item-returns-in-Exported-clause-comments
 keep_item-returns-in-Exported-clause-comments t c =
-    below_exported (Asked-around c.args.asked) (seen c.args.item) c.keep_export.result _ c.args.comments.now (sym c.item_rule.ensures ∙ c.in-Exported.is) c.keep_export.ensures.comments
+    below_exported (Asked-around c.args.asked) (seen c.args.item) c.keep_export.result _ c.args.comments.now (sym c.item_rule.ensures ∙
+    c.in-Exported.is) c.keep_export.ensures.comments
 
 pub keep_item-returns-in-Linked-clause-comments : goal.keep_item-returns-in-Linked-clause-comments
 keep_item-returns-in-Linked-clause-comments t c =
     IfOk-weaker c.keep_link.result _ _
-    (λ tree h. below_nothing (Asked-around c.args.asked) (seen c.args.item) c.args.comments.now (sym c.item_rule.ensures ∙ c.in-Linked.is) refl) c.keep_link.ensures
+    (λ tree h. below_nothing (Asked-around c.args.asked) (seen c.args.item) c.args.comments.now (sym c.item_rule.ensures ∙ c.in-Linked.is) refl)
+    c.keep_link.ensures
 
 pub keep_item-returns-in-Default-clause-comments : goal.keep_item-returns-in-Default-clause-comments
 keep_item-returns-in-Default-clause-comments t c =
     IfOk-weaker c.keep_default.result _ _
-    (λ tree h. below_nothing (Asked-around c.args.asked) (seen c.args.item) c.args.comments.now (sym c.item_rule.ensures ∙ c.in-Default.is) refl) c.keep_default.ensures
+    (λ tree h. below_nothing (Asked-around c.args.asked) (seen c.args.item) c.args.comments.now (sym c.item_rule.ensures ∙ c.in-Default.is) refl)
+    c.keep_default.ensures
 
 pub keep_item-returns-in-Refused-clause-comments : goal.keep_item-returns-in-Refused-clause-comments
 keep_item-returns-in-Refused-clause-comments t c =
     IfOk-weaker c.refuse.result _ _
-    (λ tree h. below_nothing (Asked-around c.args.asked) (seen c.args.item) c.args.comments.now (sym c.item_rule.ensures ∙ c.in-Refused.is) refl) c.refuse.ensures
+    (λ tree h. below_nothing (Asked-around c.args.asked) (seen c.args.item) c.args.comments.now (sym c.item_rule.ensures ∙ c.in-Refused.is) refl)
+    c.refuse.ensures
 
 pub keep_item-returns-in-Silent-clause-comments : goal.keep_item-returns-in-Silent-clause-comments
 keep_item-returns-in-Silent-clause-comments t c =

@@ -15,5 +15,6 @@ returns g c =
     analyzed k (nv_of c.args.nv.now) (traced_as k c.args.info.now) c.as_slice.result.now (map demand_of c.args.demands.now)
     (ap (map names_of) c.as_slice.ensures.value ∙ c.in_ok-names.ensures)
     (map want_of c.in_ok-steps.steps.items) c.in_ok-found.field-0.found c.in_ok-found.field-0.re_export_ranges.items c.in_ok-found.field-0.wants
-    (map told c.in_ok-diagnostics.diagnostics.items) c.in_ok-found.ensures.account c.in_ok-found.ensures.re_exports c.in_ok-found.ensures.wants c.in_ok-steps.ensures
+    (map told c.in_ok-diagnostics.diagnostics.items) c.in_ok-found.ensures.account c.in_ok-found.ensures.re_exports c.in_ok-found.ensures.wants
+    c.in_ok-steps.ensures
     (rw c.as_slice-2.ensures.value at c.in_ok-diagnostics.ensures)

@@ -9,7 +9,8 @@ abbrev after : goal.In_ok-insert → Once
 after c = record { faults = c.push.new.self; seen = c.insert.new.self }
 
 pub returns-clause-kept : goal.returns-clause-kept
-returns-clause-kept c = kept_one c.args.self.now (after c) c.args.fault c.requires c.in_ok-push.ensures.items c.in_ok-insert.ensures.updates (sym c.has.ensures ∙ c.if-has.false)
+returns-clause-kept c = kept_one c.args.self.now (after c) c.args.fault c.requires c.in_ok-push.ensures.items c.in_ok-insert.ensures.updates
+    (sym c.has.ensures ∙ c.if-has.false)
 
 pub returns-clause-added : goal.returns-clause-added
 returns-clause-added c = once_one c.args.self.now (after c) c.args.fault c.in_ok-push.ensures.items

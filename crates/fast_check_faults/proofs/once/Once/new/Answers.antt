@@ -12,4 +12,5 @@ none_twice : IsDistinct same_fault []
 none_twice = IsDistinct-from_count fault_laws [] refl
 
 pub returns-clause-kept : goal.returns-clause-kept
-returns-clause-kept c = kept_none (record { faults = c.new.result; seen = c.new-2.result }) c.new.ensures.items (λ k. ap (list_any (is_at (order.cmp-value.it k))) c.new-2.ensures.empty) none_twice
+returns-clause-kept c = kept_none (record { faults = c.new.result; seen = c.new-2.result }) c.new.ensures.items
+    (λ k. ap (list_any (is_at (order.cmp-value.it k))) c.new-2.ensures.empty) none_twice

@@ -14,7 +14,8 @@ fresh : (c : goal.In_ok-insert) → list_any (alike (demand_of c.args.demand)) (
 fresh c = sym c.has.ensures ∙ c.if-has.false
 
 pub returns-clause-kept : goal.returns-clause-kept
-returns-clause-kept c = kept_one c.args.self.now (after c) c.args.demand c.essence.result c.requires c.in_ok-push.ensures.items c.essence.ensures c.in_ok-insert.ensures.updates (fresh c)
+returns-clause-kept c = kept_one c.args.self.now (after c) c.args.demand c.essence.result c.requires c.in_ok-push.ensures.items c.essence.ensures
+    c.in_ok-insert.ensures.updates (fresh c)
 
 pub returns-clause-covered : goal.returns-clause-covered
 returns-clause-covered c = covered_one c.args.self.now (after c) c.args.demand c.in_ok-push.ensures.items

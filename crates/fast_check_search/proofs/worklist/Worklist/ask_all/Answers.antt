@@ -9,8 +9,12 @@ pub loop-demand-preserved : goal.loop-demand-preserved
 loop-demand-preserved c =
     let i = c.loop-demand.invariant in
     let e = c.in_ok-ask.ensures in
-    let h = asked_more (map demand_of c.args.demands.now) (asked c.args.self.now) (asked c.loop-demand.self) (asked c.ask.new.self) c.loop-demand.demand-index (demand_of c.demand-item.result) (rw length-map c.loop-demand-test.true) (get_or-map demand_of c.args.demands.now c.loop-demand.demand-index c.demand-item.result (demand_of c.demand-item.result) c.loop-demand-test.true ∙ ap demand_of (sym c.demand-item.is)) i.grown i.covered e.grown e.covered in
+    let h = asked_more (map demand_of c.args.demands.now) (asked c.args.self.now) (asked c.loop-demand.self)
+    (asked c.ask.new.self) c.loop-demand.demand-index (demand_of c.demand-item.result) (rw length-map c.loop-demand-test.true)
+    (get_or-map demand_of c.args.demands.now c.loop-demand.demand-index c.demand-item.result
+    (demand_of c.demand-item.result) c.loop-demand-test.true ∙ ap demand_of (sym c.demand-item.is)) i.grown i.covered e.grown e.covered in
     record { kept = e.kept; grown = h.0; covered = h.1 }
 
 pub returns-clause-covered : goal.returns-clause-covered
-returns-clause-covered c = asked_all (map demand_of c.args.demands.now) c.loop-demand.demand-index (asked c.loop-demand.self) (rw length-map c.loop-demand-test.false) c.loop-demand.invariant.covered
+returns-clause-covered c = asked_all (map demand_of c.args.demands.now) c.loop-demand.demand-index (asked c.loop-demand.self)
+    (rw length-map c.loop-demand-test.false) c.loop-demand.invariant.covered

@@ -12,4 +12,5 @@ none_twice : IsDistinct alike []
 none_twice = IsDistinct-from_count alike_laws [] refl
 
 pub returns-clause-kept : goal.returns-clause-kept
-returns-clause-kept c = kept_none (record { demands = c.new.result; done = c.new-2.result }) c.new.ensures.items (λ k. ap (list_any (is_at (order.cmp-value.it k))) c.new-2.ensures.empty) none_twice
+returns-clause-kept c = kept_none (record { demands = c.new.result; done = c.new-2.result }) c.new.ensures.items
+    (λ k. ap (list_any (is_at (order.cmp-value.it k))) c.new-2.ensures.empty) none_twice
