@@ -18,7 +18,7 @@ use Rattle.fast_check_helpers.specs.GlobalCalls.{is_symbol_call}
 use Rattle.fast_check_helpers.specs.SimpleType.{is_simple_type}
 use Rattle.fast_check_helpers.specs.LiteralType.{type_of_literal}
 use Rattle.fast_check_helpers.specs.TemplateType.{type_of_template}
-use Rattle.fast_check_helpers.proofs.Leaves.{leaf_of_absent}
+use Rattle.fast_check_syntax.proofs.Leaves.{leaf_of_absent}
 use Rattle.fast_check_helpers.specs.InferredType.{inferred_type, shows_type, inferred_form, asserted_type, symbol_type, Asserts}
 
 pub inferred_absent : (m : DeclMutabilityKind) (u : SyntaxContext) → inferred_type m u Absent ≡ None

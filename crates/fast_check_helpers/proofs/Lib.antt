@@ -1,7 +1,6 @@
 mod Literals
 mod Lower
 mod Tests
-pub mod Leaves
 pub mod SimpleTypes
 pub mod InferredTypes
 pub mod Returns

@@ -14,7 +14,7 @@ use Rattle.fast_check_statement_forms.specs.Loops.{WhileStmt-body, DoWhileStmt-b
 use Rattle.fast_check_statement_forms.specs.Statements.{ReturnStmt-arg, BlockStmt-stmts, WithStmt-body, LabeledStmt-body, IfStmt-cons, IfStmt-alt}
 use Rattle.fast_check_statement_forms.specs.Statements.{SwitchStmt-cases, SwitchCase-cons, TryStmt-block, TryStmt-handler, TryStmt-finalizer}
 use Rattle.fast_check_statement_forms.specs.Statements.{CatchClause-body}
-use Rattle.fast_check_helpers.proofs.Leaves.{leaf_of_absent}
+use Rattle.fast_check_syntax.proofs.Leaves.{leaf_of_absent}
 use Rattle.fast_check_helpers.specs.declared.return_class.ReturnStatementAnalysis.{ReturnStatementAnalysis}
 use Rattle.fast_check_helpers.specs.declared.return_class.ReturnStatementAnalysis.TheVariants as class
 use Rattle.fast_check_helpers.specs.ReturnClass.{returns, returns_form, class_of_returns}

@@ -16,7 +16,7 @@ use Rattle.fast_check_type_forms.specs.Types.{TsLitType-lit, TsTypeRef-type_para
 use Rattle.fast_check_type_forms.specs.Types.{TsOptionalType-type_ann, TsRestType-type_ann, TsUnionType-types, TsIntersectionType-types}
 use Rattle.fast_check_type_forms.specs.Types.{TsParenthesizedType-type_ann}
 use Rattle.std.proofs.lemmas.List.Folds.{list_all-map, list_all_more, list_all_at}
-use Rattle.fast_check_helpers.proofs.Leaves.{leaf_of_absent}
+use Rattle.fast_check_syntax.proofs.Leaves.{leaf_of_absent}
 use Rattle.fast_check_helpers.specs.SimpleType.{is_simple_type, simple_form}
 
 leaf_form : (t : Tree) (inside : ℕ → Bool) (each : List Bool) → kind_of t ≡ Leaf → simple_form t inside each ≡ false

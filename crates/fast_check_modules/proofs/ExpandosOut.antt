@@ -2,41 +2,17 @@
 use Rattle.std.proofs.Common.{◌≡◌, ◌∙◌, sym, ap, refl, subst, arith, ℕ, ◌+◌, ◌*◌, ◌<◌, Bool, true, false, List, [], ◌∷◌, ◌++◌, map, length, get_or}
 use Rattle.std.specs.List.{flat_map}
 use Rattle.fast_check_syntax.specs.declared.kind.Kind.TheVariants.{Leaf}
-use Rattle.fast_check_syntax.specs.declared.tree.Tree.{Tree, out-Tree}
-use Rattle.fast_check_syntax.specs.declared.tree.Tree.TheOpen.{Tree-F}
+use Rattle.fast_check_syntax.specs.declared.tree.Tree.{Tree}
 use Rattle.fast_check_syntax.specs.Height.{height, height_read}
-use Rattle.fast_check_syntax.specs.Shape.{kind_of, kind_at, parts, parts_at, is_absent, is_absent_at}
+use Rattle.fast_check_syntax.specs.Shape.{kind_of, parts, is_absent}
 use Rattle.fast_check_syntax.specs.Recursion.{by_form_is, by_form_is_absent}
+use Rattle.fast_check_syntax.proofs.Leaves.{leaf_of_absent, no_parts}
 use Rattle.fast_check_modules.specs.declared.expandos.Expando.{Expando}
 use Rattle.fast_check_modules.specs.Expandos.{expandos, expandos_form, own_expando}
 
 each_found : (ts : List Tree) → flat_map (λ (found : List Expando). found) (map expandos ts) ≡ flat_map expandos ts
 each_found [] = refl
 each_found (t ∷ ts) = ap (λ rest. expandos t ++ rest) (each_found ts)
-
-no_parts_at : (l : Tree-F Tree) → is_absent_at l ≡ true → parts_at l ≡ []
-no_parts_at Tree-F.Absent e = refl
-no_parts_at (Tree-F.Node k ts) e = cc
-no_parts_at (Tree-F.Flag x) e = cc
-no_parts_at (Tree-F.Context x) e = cc
-no_parts_at (Tree-F.Text x) e = cc
-no_parts_at (Tree-F.Range x) e = cc
-no_parts_at (Tree-F.Word x) e = cc
-
-no_parts : (t : Tree) → is_absent t ≡ true → parts t ≡ []
-no_parts t e = no_parts_at (out-Tree t) e
-
-leaf_at : (l : Tree-F Tree) → is_absent_at l ≡ true → kind_at l ≡ Leaf
-leaf_at Tree-F.Absent e = refl
-leaf_at (Tree-F.Node k ts) e = cc
-leaf_at (Tree-F.Flag x) e = cc
-leaf_at (Tree-F.Context x) e = cc
-leaf_at (Tree-F.Text x) e = cc
-leaf_at (Tree-F.Range x) e = cc
-leaf_at (Tree-F.Word x) e = cc
-
-leaf_of_absent : (t : Tree) → is_absent t ≡ true → kind_of t ≡ Leaf
-leaf_of_absent t e = leaf_at (out-Tree t) e
 
 nothing : (t : Tree) → kind_of t ≡ Leaf → parts t ≡ [] → own_expando t ++ flat_map expandos (parts t) ≡ []
 nothing t e f = rw (e, f) refl

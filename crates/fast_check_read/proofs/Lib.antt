@@ -1,4 +1,4 @@
-mod Each
+pub mod Each
 mod Members
 mod Pairs
 mod Words

@@ -2,7 +2,6 @@
 use Rattle.std.proofs.Common.{◌≡◌, ◌∙◌, ℕ, true, false, List, [], ◌∷◌, Option, Some, None, option_map, Result, Ok, Err, ap, refl, map, length, get_or, sym}
 use Rattle.std.proofs.Common.{◌<◌, ◌≤◌, arith}
 use Rattle.std.proofs.Common.{String, BTreeMap, Global}
-use Rattle.std.specs.Option.{ok_or}
 use Rattle.std.specs.Result.{IsErr, IsErrAnd, IfErr, result_ok}
 use Rattle.serde_json.specs.Data.{Data}
 use Rattle.serde_json.specs.Find.{as_object, as_str}
@@ -18,16 +17,6 @@ given_some f e = ap (λ o. given o f) e
 
 pub given_none : {A B : Type 0} {a : Option A} (f : A → Option B) → a ≡ None → given a f ≡ None
 given_none f e = ap (λ o. given o f) e
-
--- an answer was there
-pub some_of_ok : {A E : Type 0} (a : Option A) (x : A) (error : E) → Ok x ≡ ok_or a error → a ≡ Some x
-some_of_ok None x error e = cc
-some_of_ok (Some y) x error e = cc
-
--- and none was
-pub none_of_err : {A E : Type 0} (a : Option A) (thrown error : E) → Err thrown ≡ ok_or a error → a ≡ None
-none_of_err None thrown error e = refl
-none_of_err (Some y) thrown error e = cc
 
 -- items that are seen as themselves
 pub map_same : {A : Type 0} (f : A → A) (xs : List A) → ((x : A) → f x ≡ x) → map f xs ≡ xs

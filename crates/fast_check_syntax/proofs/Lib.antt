@@ -4,3 +4,4 @@ pub mod Induction
 pub mod Same
 pub mod Made
 pub mod DescentMoved
+pub mod Leaves

@@ -1,7 +1,8 @@
 use Rattle.std.proofs.Common.{◌∙◌, ap, Some, option_map}
 use Rattle.fast_check_graph.specs.declared.module.Module.TheVariants.{Js}
 use Rattle.fast_check_read_tables.proofs.Gathering.{reads_passed}
-use Rattle.fast_check_read_tables.proofs.Given.{given_none, given_some, map_some, none_of_err, option_same, reads_none, some_of_ok}
+use Rattle.fast_check_read.proofs.Each.{none_of_err, some_of_ok}
+use Rattle.fast_check_read_tables.proofs.Given.{given_none, given_some, map_some, option_same, reads_none}
 use Rattle.fast_check_read_tables.proofs.modules.read_js.Goals as goal
 
 pub returns-in_err-read_member : goal.returns-in_err-read_member

@@ -3,7 +3,8 @@ use Rattle.std.proofs.Common.{rules, ℕ, List, ◌≡◌, ◌∙◌, sym, ap, S
 use Rattle.semver.specs.Identifiers.{parts_of}
 use Rattle.serde_json.specs.View.{view}
 use Rattle.fast_check_read_tables.specs.Graph as graph
-use Rattle.fast_check_read_tables.proofs.Given.{given_some, given_none, map_some, some_of_ok, none_of_err, reads_none}
+use Rattle.fast_check_read.proofs.Each.{some_of_ok, none_of_err}
+use Rattle.fast_check_read_tables.proofs.Given.{given_some, given_none, map_some, reads_none}
 use Rattle.fast_check_read_tables.proofs.Parted.{parted_once}
 use Rattle.fast_check_read_tables.proofs.graph.PackageNvFromJson.from_json.Goals as goal
 

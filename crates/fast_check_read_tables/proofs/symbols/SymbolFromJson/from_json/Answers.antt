@@ -6,7 +6,8 @@ use Rattle.fast_check_read_tables.specs.Reads.{or_default, optional, listed, sym
 use Rattle.fast_check_read_tables.specs.Seen.{Decl, SeenSymbol}
 use Rattle.fast_check_read_tables.specs.Symbols.{exports_of, decl_of}
 use Rattle.fast_check_read_tables.proofs.Gathering.{both_reads, given_five, reads_as, reads_passed, reads_seen}
-use Rattle.fast_check_read_tables.proofs.Given.{given_some, some_of_ok, map_some, map_same, option_same}
+use Rattle.fast_check_read.proofs.Each.{some_of_ok}
+use Rattle.fast_check_read_tables.proofs.Given.{given_some, map_some, map_same, option_same}
 use Rattle.fast_check_read_tables.proofs.symbols.SymbolFromJson.from_json.Goals as goal
 
 abbrev made : SymbolId → Option SymbolId → Bool → Option (List ℕ) → Option (List ℕ) → List (List ℕ × SymbolId) → List SymbolId → List Decl → SeenSymbol
