@@ -1,7 +1,6 @@
 -- What answers say is public in a module is declared in it.
-use Rattle.std.proofs.Common.{◌≡◌, ◌∙◌, sym, ap, refl, subst, ℕ, Bool, true, false, ◌&&◌, ◌==◌, List}
+use Rattle.std.proofs.Common.{◌≡◌, ◌∙◌, sym, ap, refl, subst, ℕ, Bool, true, false, ◌&&◌, List}
 use Rattle.std.specs.List.{Contains}
-use Rattle.std.specs.Cmp.{unsigned_Decides}
 use Rattle.std.specs.Str.{bytes_eq}
 use Rattle.std.proofs.lemmas.Slice.Eq.{bytes_eq-Decides}
 use Rattle.std.proofs.lemmas.Bool.{false≢true}
@@ -9,6 +8,7 @@ use Rattle.fast_check_syntax.specs.declared.source.SourceRange.{SourceRange}
 use Rattle.fast_check_packages.specs.Package.{Nv}
 use Rattle.fast_check_tables.specs.PublicRanges.{same_range}
 use Rattle.fast_check_modules.proofs.Witness.{witness, and_left, and_right}
+use Rattle.fast_check_modules.proofs.FaultsFound.{exact_range}
 use Rattle.fast_check_graph.specs.declared.root_symbol.RootSymbol.{RootSymbol}
 use Rattle.fast_check_graph.specs.Root.{AreFoundByOwnNames}
 use Rattle.fast_check_worklists.specs.Demands.{Text, same_nv}
@@ -21,19 +21,6 @@ use Rattle.fast_check_finder.specs.turns.Sources.{Known, named_at}
 use Rattle.fast_check_finder.specs.turns.Yields.{gives}
 use Rattle.fast_check_finder.specs.turns.Own.{IsOwnRange, IsOwnYield}
 use Rattle.fast_check_finder.proofs.turn_proofs.OwnYields.{own_yields}
-
--- ranges that are the same are one
-range_of : ℕ → ℕ → SourceRange
-range_of a b = record { start = record { 0 = a }; end = record { 0 = b } }
-
-same_number : (a b : ℕ) → (a == b) ≡ true → a ≡ b
-same_number a b e = (unsigned_Decides a b).0 e
-
-exact_range : (a b : SourceRange) → same_range a b ≡ true → a ≡ b
-unfolding range_of
-exact_range a b e =
-    ap (λ n. range_of n a.end.0) (same_number a.start.0 b.start.0 (and_left _ _ e))
-    ∙ ap (λ n. range_of b.start.0 n) (same_number a.end.0 b.end.0 (and_right _ _ e))
 
 -- a question about a range, of public ones or of those of implementations
 module _ (root : RootSymbol) (t : Text) (r : SourceRange) (q : ModuleQuestion) (of_public : (x : SourceRange) → range_says x q ≡ true → same_range r x ≡ true)

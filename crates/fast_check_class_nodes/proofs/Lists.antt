@@ -4,16 +4,8 @@ use Rattle.std.specs.List.{filter}
 use lib.ListN.{get_or}
 use Rattle.std.proofs.Common.{ap, ◌∙◌, sym, append-nil}
 use Rattle.std.proofs.lemmas.List.{take_more, take_all, map-append}
+use Rattle.std.proofs.lemmas.List.Elements.{filter-append}
 use Rattle.fast_check_syntax.specs.declared.tree.Tree.{Tree}
-
-filter_one : (p : Tree → Bool) (x : Tree) (b : Bool) (ys xs zs : List Tree) → zs ≡ xs ++ ys →
-    (if b then x ∷ zs else zs) ≡ (if b then x ∷ xs else xs) ++ ys
-filter_one p x true ys xs zs e = ap (λ us. x ∷ us) e
-filter_one p x false ys xs zs e = e
-
-filter_append : (p : Tree → Bool) (xs ys : List Tree) → filter p (xs ++ ys) ≡ filter p xs ++ filter p ys
-filter_append p [] ys = refl
-filter_append p (x ∷ xs) ys = filter_one p x (p x) (filter p ys) (filter p xs) (filter p (xs ++ ys)) (filter_append p xs ys)
 
 -- what is made of each
 pub mapped_more : (f : Tree → Tree) (ts : List Tree) (i : ℕ) (t : Tree) → i < length ts → t ≡ get_or ts i t → {xs ys : List Tree} {made : Tree} →
@@ -35,7 +27,7 @@ module _ (f : Tree → Tree) (p : Tree → Bool) (ts : List Tree) (i : ℕ) (t :
 
   more : map f (filter p (take (i + 1) ts)) ≡ map f (filter p (take i ts)) ++ one (p t)
   more = ap (λ us. map f (filter p us)) (take_more ts i t h ∙ ap (λ u. take i ts ++ u ∷ []) (sym e))
-      ∙ (ap (map f) (filter_append p (take i ts) (t ∷ [])) ∙ map-append f (filter p (take i ts)) (filter p (t ∷ [])))
+      ∙ (ap (map f) (filter-append p (take i ts) (t ∷ [])) ∙ map-append f (filter p (take i ts)) (filter p (t ∷ [])))
 
   pub taken_more : p t ≡ true → {xs ys : List Tree} {made : Tree} → xs ≡ map f (filter p (take i ts)) → made ≡ f t → ys ≡ xs ++ made ∷ [] →
       ys ≡ map f (filter p (take (i + 1) ts))

@@ -1,4 +1,4 @@
-pub mod Making
+pub mod Nothing
 pub mod References
 pub mod PropertyCases
 pub mod Constructed

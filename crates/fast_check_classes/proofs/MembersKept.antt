@@ -6,6 +6,7 @@ use lib.ListN.{get_or}
 use Rattle.std.proofs.Common.{ap, ◌∙◌, sym, subst, append-nil, append_assoc, add-one}
 use Rattle.std.proofs.Math.Seq.{drop-cons}
 use Rattle.std.proofs.lemmas.List.{drop_all, take_more, take_all, map-append}
+use Rattle.std.proofs.lemmas.List.Elements.{filter-append}
 use Rattle.std.proofs.lemmas.List.Concat.{flat_map-append}
 use Rattle.fast_check_syntax.specs.declared.kind.Kind.{Kind}
 use Rattle.fast_check_syntax.specs.declared.kind.Kind.TheVariants as kinds
@@ -78,14 +79,6 @@ module _ (u : Bindings) (is_implementation : SourceRange → Bool) (m : Tree) wh
 
 -- ---- members that parameters declare
 
-filter_one : (p : Tree → Bool) (x : Tree) (b : Bool) (ys xs zs : List Tree) → zs ≡ xs ++ ys → (if b then x ∷ zs else zs) ≡ (if b then x ∷ xs else xs) ++ ys
-filter_one p x true ys xs zs e = ap (λ us. x ∷ us) e
-filter_one p x false ys xs zs e = e
-
-filter_append : (p : Tree → Bool) (xs ys : List Tree) → filter p (xs ++ ys) ≡ filter p xs ++ filter p ys
-filter_append p [] ys = refl
-filter_append p (x ∷ xs) ys = filter_one p x (p x) (filter p ys) (filter p xs) (filter p (xs ++ ys)) (filter_append p xs ys)
-
 -- what is made, behind others, of those of a list that pass a test
 module _ (f : Tree → Tree) (p : Tree → Bool) (ts : List Tree) (i : ℕ) (t : Tree) (h : i < length ts) (e : t ≡ get_or ts i t) where
   abbrev one : Bool → List Tree
@@ -93,7 +86,7 @@ module _ (f : Tree → Tree) (p : Tree → Bool) (ts : List Tree) (i : ℕ) (t :
 
   more : map f (filter p (take (i + 1) ts)) ≡ map f (filter p (take i ts)) ++ one (p t)
   more = ap (λ us. map f (filter p us)) (take_more ts i t h ∙ ap (λ u. take i ts ++ u ∷ []) (sym e))
-      ∙ (ap (map f) (filter_append p (take i ts) (t ∷ [])) ∙ map-append f (filter p (take i ts)) (filter p (t ∷ [])))
+      ∙ (ap (map f) (filter-append p (take i ts) (t ∷ [])) ∙ map-append f (filter p (take i ts)) (filter p (t ∷ [])))
 
   pub taken_more : p t ≡ true → (old : List Tree) {xs ys : List Tree} {made : Tree} → xs ≡ old ++ map f (filter p (take i ts)) → made ≡ f t →
       ys ≡ xs ++ made ∷ [] →
@@ -114,7 +107,7 @@ taken_all f p ts i h old x = x ∙ ap (λ us. old ++ map f (filter p us)) (take_
 filter_more : (p : Tree → Bool) (ts : List Tree) (i : ℕ) (t : Tree) → i < length ts → t ≡ get_or ts i t →
     filter p (take (i + 1) ts) ≡ filter p (take i ts) ++ (if p t then t ∷ [] else [])
 filter_more p ts i t h e =
-    ap (filter p) (take_more ts i t h ∙ ap (λ u. take i ts ++ u ∷ []) (sym e)) ∙ filter_append p (take i ts) (t ∷ [])
+    ap (filter p) (take_more ts i t h ∙ ap (λ u. take i ts ++ u ∷ []) (sym e)) ∙ filter-append p (take i ts) (t ∷ [])
 
 pub one_stays : (p : Tree → Bool) (ts : List Tree) (i : ℕ) (t : Tree) → i < length ts → t ≡ get_or ts i t → p t ≡ true → {xs ys : List Tree} {copy : Tree} →
     xs ≡ filter p (take i ts) → copy ≡ t → ys ≡ xs ++ copy ∷ [] → ys ≡ filter p (take (i + 1) ts)

@@ -3,7 +3,7 @@ use Rattle.std.specs.Prelude.{◌≡◌, ◌==◌, Bool, true, false, ◌&&◌, 
 use Rattle.std.proofs.Common.{Decides, ap}
 use Rattle.std.specs.Cmp.{IsEquivalence, decided, unsigned_Decides}
 use Rattle.std.specs.Cmp.Lexicographic.{pointwise, pointwise_decides, bytes_decides}
-use Rattle.std.proofs.lemmas.Bool.{false≢true}
+use Rattle.std.proofs.lemmas.Bool.{and_parts, and_from}
 use denote.Enum.Bare.{sameb, same_true, true_same}
 use Rattle.fast_check_syntax.specs.declared.source.SourcePos.{SourcePos}
 use Rattle.fast_check_comments.specs.declared.comment.Comment.{Comment}
@@ -32,22 +32,14 @@ same_places = pointwise same_entry
 abbrev pub same_comments : Comments → Comments → Bool
 same_comments a b = same_places a.leading b.leading && same_places a.trailing b.trailing
 
-both : (a b : Bool) → (a && b) ≡ true → (a ≡ true) × (b ≡ true)
-both true b e = (refl, e)
-both false b e = absurd (false≢true e)
-
-joined : (a b : Bool) → a ≡ true → b ≡ true → (a && b) ≡ true
-joined true b e f = f
-joined false b e f = e
-
 pub comment-decides : (a b : Comment) → Decides (same_comment a b) (a ≡ b)
 comment-decides a b = (to, from)
   where
     to : same_comment a b ≡ true → a ≡ b
     to e =
-        let k = both _ _ e in
-        let s = both _ _ k.1 in
-        let t = both _ _ s.1 in
+        let k = and_parts _ _ e in
+        let s = and_parts _ _ k.1 in
+        let t = and_parts _ _ s.1 in
         let kinds = same_true the_type tt a.kind b.kind k.0 in
         let starts = (unsigned_Decides a.span.start.0 b.span.start.0).0 s.0 in
         let ends = (unsigned_Decides a.span.end.0 b.span.end.0).0 t.0 in
@@ -56,9 +48,9 @@ comment-decides a b = (to, from)
 
     from : a ≡ b → same_comment a b ≡ true
     from e =
-        joined _ _ (true_same the_type a.kind b.kind (ap (λ x. x.kind) e))
-        (joined _ _ ((unsigned_Decides a.span.start.0 b.span.start.0).1 (ap (λ x. x.span.start.0) e))
-        (joined _ _ ((unsigned_Decides a.span.end.0 b.span.end.0).1 (ap (λ x. x.span.end.0) e)) ((bytes_decides a.text b.text).1 (ap (λ x. x.text) e))))
+        and_from _ _ (true_same the_type a.kind b.kind (ap (λ x. x.kind) e))
+        (and_from _ _ ((unsigned_Decides a.span.start.0 b.span.start.0).1 (ap (λ x. x.span.start.0) e))
+        (and_from _ _ ((unsigned_Decides a.span.end.0 b.span.end.0).1 (ap (λ x. x.span.end.0) e)) ((bytes_decides a.text b.text).1 (ap (λ x. x.text) e))))
 
 pub list-decides : (a b : List Comment) → Decides (same_list a b) (a ≡ b)
 list-decides a b = pointwise_decides comment-decides a b
@@ -69,11 +61,11 @@ position-decides a b = (λ e. let n = (unsigned_Decides a.0 b.0).0 e in λ i. re
 entry-decides : (p q : SourcePos × List Comment) → Decides (same_entry p q) (p ≡ q)
 entry-decides p q = (
   λ e.
-      let s = both (same_position p.0 q.0) (same_list p.1 q.1) e in
+      let s = and_parts (same_position p.0 q.0) (same_list p.1 q.1) e in
       let positions = (position-decides p.0 q.0).0 s.0 in
       let lists = (list-decides p.1 q.1).0 s.1 in
       λ i. (positions i, lists i),
-  λ e. joined (same_position p.0 q.0) (same_list p.1 q.1) ((position-decides p.0 q.0).1 (ap (λ x. x.0) e)) ((list-decides p.1 q.1).1 (ap (λ x. x.1) e)),
+  λ e. and_from (same_position p.0 q.0) (same_list p.1 q.1) ((position-decides p.0 q.0).1 (ap (λ x. x.0) e)) ((list-decides p.1 q.1).1 (ap (λ x. x.1) e)),
 )
 
 pub places-decides : (a b : Places) → Decides (same_places a b) (a ≡ b)
@@ -82,11 +74,11 @@ places-decides a b = pointwise_decides entry-decides a b
 pub comments-decides : (a b : Comments) → Decides (same_comments a b) (a ≡ b)
 comments-decides a b = (
   λ e.
-      let s = both (same_places a.leading b.leading) (same_places a.trailing b.trailing) e in
+      let s = and_parts (same_places a.leading b.leading) (same_places a.trailing b.trailing) e in
       let before = (places-decides a.leading b.leading).0 s.0 in
       let after = (places-decides a.trailing b.trailing).0 s.1 in
       λ i. record { leading = before i; trailing = after i },
-  λ e. joined (same_places a.leading b.leading) (same_places a.trailing b.trailing) ((places-decides a.leading b.leading).1 (ap (λ x. x.leading) e))
+  λ e. and_from (same_places a.leading b.leading) (same_places a.trailing b.trailing) ((places-decides a.leading b.leading).1 (ap (λ x. x.leading) e))
       ((places-decides a.trailing b.trailing).1 (ap (λ x. x.trailing) e)),
 )
 

@@ -2,7 +2,7 @@
 use Rattle.std.proofs.Common.{◌≡◌, ◌∙◌, sym, ap, refl, ℕ, ◌+◌, ◌<◌, List, [], ◌∷◌, ◌++◌, map, take, length}
 use Rattle.std.specs.List.{flat_map}
 use lib.ListN.{get_or}
-use Rattle.std.proofs.lemmas.List.{append-nil, append_assoc, take_more}
+use Rattle.std.proofs.lemmas.List.{append-nil, append_assoc, take_more, map-append}
 use Rattle.fast_check_syntax.specs.declared.atom.Id.{Id}
 use Rattle.fast_check_syntax.specs.declared.tree.Tree.{Tree, Absent}
 use Rattle.fast_check_signatures.specs.declared.fault.Fault.{Fault}
@@ -50,14 +50,10 @@ rest_extends xs ys {old} {new} {goal} {fs} {gs} {end} h p q = (
       ∙ (ap (λ a. fs ++ a.faults) (sym (answer_append xs ys)) ∙ q)),
 )
 
-map_append : {A B : Type 0} (f : A → B) (xs : List A) (x : A) → map f (xs ++ x ∷ []) ≡ map f xs ++ f x ∷ []
-map_append f [] x = refl
-map_append f (y ∷ ys) x = ap (λ zs. f y ∷ zs) (map_append f ys x)
-
 -- one more of a list
 pub one_taken : {A B : Type 0} (f : A → B) (xs : List A) (i : ℕ) (x : A) → i < length xs → x ≡ get_or xs i x →
     map f (take (i + 1) xs) ≡ map f (take i xs) ++ f x ∷ []
-one_taken f xs i x h e = ap (map f) (take_more xs i x h ∙ ap (λ u. take i xs ++ u ∷ []) (sym e)) ∙ map_append f (take i xs) x
+one_taken f xs i x h e = ap (map f) (take_more xs i x h ∙ ap (λ u. take i xs ++ u ∷ []) (sym e)) ∙ map-append f (take i xs) (x ∷ [])
 
 -- what is seen of namespaces that are merged is what is seen of their properties
 each_merged : (gs : List (Id × List ExpandoProperty)) →

@@ -1,6 +1,6 @@
 -- The namespaces of properties, when one property more comes.
 use Rattle.std.proofs.Common.{◌≡◌, ◌∙◌, sym, ap, refl, Bool, true, false, ◌||◌, List, [], ◌∷◌, ◌++◌, map, if◌then◌else◌}
-use Rattle.std.proofs.lemmas.List.{append-nil}
+use Rattle.std.proofs.lemmas.List.{append-nil, map-append}
 use Rattle.std.proofs.lemmas.List.Concat.{flat_map-append}
 use Rattle.std.specs.List.{flat_map, list_any}
 use Rattle.fast_check_syntax.specs.declared.atom.Id.{Id}
@@ -25,15 +25,11 @@ any_append : (ps : List ExpandoProperty) (p : ExpandoProperty) →
 any_append [] p = or_false p.is_exported
 any_append (q ∷ qs) p = or_more q.is_exported _ _ _ (any_append qs p)
 
-map_append : {A B : Type 0} (f : A → B) (xs : List A) (x : A) → map f (xs ++ x ∷ []) ≡ map f xs ++ f x ∷ []
-map_append f [] x = refl
-map_append f (y ∷ ys) x = ap (λ zs. f y ∷ zs) (map_append f ys x)
-
 merged_more : (ps : List ExpandoProperty) (p : ExpandoProperty) → merged (ps ++ p ∷ []) ≡ with_property (merged ps) p
 merged_more ps p = λ i. record {
   is_exported = any_append ps p i;
   conflicts = (flat_map-append (λ q. q.conflicts) ps (p ∷ []) ∙ ap (λ rs. flat_map (λ q. q.conflicts) ps ++ rs) (append-nil p.conflicts)) i;
-  declarators = map_append (λ q. q.declarator) ps p i;
+  declarators = map-append (λ q. q.declarator) ps (p ∷ []) i;
 }
 
 same_placed : (p : ExpandoProperty) (es : List (Id × Namespace)) → placed same_id (λ q. q.object) merged with_property p es ≡ placed_property p es

@@ -2,6 +2,7 @@
 use Rattle.std.proofs.Common.{◌≡◌, ◌∙◌, sym, ap, ap₂, refl, ℕ, Bool, true, false, ◌&&◌, ◌||◌, List, [], ◌∷◌, ◌++◌, map}
 use Rattle.std.specs.List.{flat_map, list_any}
 use Rattle.std.specs.Str.{bytes_eq}
+use Rattle.std.proofs.lemmas.List.{map-append}
 use Rattle.fast_check_syntax.specs.declared.atom.Id.{Id}
 use Rattle.fast_check_syntax.specs.declared.source.SourceRange.{SourceRange}
 use Rattle.fast_check_syntax.specs.declared.tree.Tree.{Tree}
@@ -33,10 +34,6 @@ moved_expando m p = record {
   declarator = moved m p.declarator;
   conflicts = map (moved_reference m) p.conflicts;
 }
-
-map_append : {A B : Type 0} (f : A → B) (xs ys : List A) → map f (xs ++ ys) ≡ map f xs ++ map f ys
-map_append f [] ys = refl
-map_append f (x ∷ xs) ys = ap (λ zs. f x ∷ zs) (map_append f xs ys)
 
 module _ (m : Moves) (ok : Keeps m) where
   property_declarator_moved : (place : SourceRange) (target value : Tree) → property_name (moved m target) ≡ property_name target →
@@ -74,7 +71,7 @@ module _ (m : Moves) (ok : Keeps m) where
   all_conflicts_moved [] = refl
   all_conflicts_moved (p ∷ ps) =
       ap (λ rs. map (moved_reference m) p.conflicts ++ rs) (all_conflicts_moved ps)
-      ∙ sym (map_append (moved_reference m) p.conflicts (flat_map (λ p. p.conflicts) ps))
+      ∙ sym (map-append (moved_reference m) p.conflicts (flat_map (λ p. p.conflicts) ps))
 
   conflicts_seen_moved : (object : Id) (rs : List Reference) →
       map (conflict_seen (moved_id m object)) (map (moved_reference m) rs) ≡ map (moved_seen m) (map (conflict_seen object) rs)
@@ -88,13 +85,13 @@ module _ (m : Moves) (ok : Keeps m) where
       ++ written (namespace_item (any_kept ps i) object.0 (declarators_moved ps i)) ∷ [])
       ∙ ((λ i. conflicts_seen_moved object (flat_map (λ p. p.conflicts) ps) i
       ++ written (sym (namespace_item_moved (list_any (λ p. p.is_exported) ps) object.0 (map (λ p. p.declarator) ps)) i) ∷ [])
-      ∙ sym (map_append (moved_seen m) (map (conflict_seen object) (flat_map (λ p. p.conflicts) ps))
+      ∙ sym (map-append (moved_seen m) (map (conflict_seen object) (flat_map (λ p. p.conflicts) ps))
       (written (namespace_item (list_any (λ p. p.is_exported) ps) object.0 (map (λ p. p.declarator) ps)) ∷ [])))
 
   each_moved : (gs : List (Id × List ExpandoProperty)) →
       flat_map namespace_seen (map (λ g. (moved_id m g.0, map (moved_expando m) g.1)) gs) ≡ map (moved_seen m) (flat_map namespace_seen gs)
   each_moved [] = refl
-  each_moved (g ∷ gs) = ap₂ ◌++◌ (namespace_seen_moved g) (each_moved gs) ∙ sym (map_append (moved_seen m) (namespace_seen g) (flat_map namespace_seen gs))
+  each_moved (g ∷ gs) = ap₂ ◌++◌ (namespace_seen_moved g) (each_moved gs) ∙ sym (map-append (moved_seen m) (namespace_seen g) (flat_map namespace_seen gs))
 
   same_moved : (a b : Id) → same_id (moved_id m a) (moved_id m b) ≡ same_id a b
   same_moved a b = ap (λ c. bytes_eq a.0 b.0 && c) (same_scope m ok a.1.0 b.1.0)

@@ -3,6 +3,7 @@ use Rattle.std.proofs.Common.{◌≡◌, ◌∙◌, sym, ap, refl, ℕ, Bool, tr
 use Rattle.std.specs.List.{flat_map}
 use Rattle.std.specs.Cmp.{unsigned_Decides}
 use Rattle.std.specs.Str.{bytes_eq}
+use Rattle.std.proofs.lemmas.List.{map-append}
 use Rattle.fast_check_syntax.specs.declared.kind.Kind.TheVariants as kinds
 use Rattle.fast_check_syntax.specs.declared.source.SyntaxContext.{SyntaxContext}
 use Rattle.fast_check_syntax.specs.declared.source.SourceRange.{SourceRange}
@@ -23,10 +24,6 @@ use Rattle.fast_check_expandos.proofs.ReferencesOut.{references_out}
 
 abbrev pub moved_reference : Moves → Reference → Reference
 moved_reference m r = record { name = r.name; range = moved_range m r.range }
-
-map_append : {A B : Type 0} (f : A → B) (xs ys : List A) → map f (xs ++ ys) ≡ map f xs ++ map f ys
-map_append f [] ys = refl
-map_append f (x ∷ xs) ys = ap (λ zs. f x ∷ zs) (map_append f xs ys)
 
 module _ (m : Moves) (ok : Keeps m) where
   -- scope numbers stay apart
@@ -67,7 +64,7 @@ module _ (m : Moves) (ok : Keeps m) where
         flat_map (references (moved_scope m scope) exported) (map (moved m) ts) ≡ map (moved_reference m) (flat_map (references scope exported) ts)
     all_moved [] h = refl
     all_moved (t ∷ ts) h =
-        (λ i. h.0 i ++ all_moved ts h.1 i) ∙ sym (map_append (moved_reference m) (references scope exported t) (flat_map (references scope exported) ts))
+        (λ i. h.0 i ++ all_moved ts h.1 i) ∙ sym (map-append (moved_reference m) (references scope exported t) (flat_map (references scope exported) ts))
 
     none_at_absent : IsMovedAt Absent
     unfolding references
@@ -81,7 +78,7 @@ module _ (m : Moves) (ok : Keeps m) where
         references_out (moved_scope m scope) exported (moved m t)
         ∙ ((λ i. own_moved t i ++ flat_map (references (moved_scope m scope) exported) (parts_moved m t i))
         ∙ ((λ i. map (moved_reference m) (own_reference scope exported t) ++ all_moved (parts t) h i)
-        ∙ (sym (map_append (moved_reference m) (own_reference scope exported t) (flat_map (references scope exported) (parts t)))
+        ∙ (sym (map-append (moved_reference m) (own_reference scope exported t) (flat_map (references scope exported) (parts t)))
         ∙ ap (map (moved_reference m)) (sym (references_out scope exported t))))))
 
   last_moved : (rs : List Reference) → last_range (map (moved_reference m) rs) ≡ moved_range m (last_range rs)

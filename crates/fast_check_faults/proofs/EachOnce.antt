@@ -11,15 +11,10 @@ use Rattle.std.proofs.lemmas.Map.Views.{Contains-from_any}
 use Rattle.fast_check_demands.specs.contracts.fault.SymbolFaultOrd.TheImpl as order
 use Rattle.fast_check_demands.specs.declared.fault.SymbolFault.{SymbolFault}
 use Rattle.fast_check_demands.specs.Yields.{Fault, fault_seen}
+use Rattle.fast_check_search.proofs.Kept.{or_last}
 use Rattle.fast_check_faults.specs.declared.once.Once.{Once}
 use Rattle.fast_check_faults.specs.Once.{same_fault, kept, IsKept, IsOnce}
 use Rattle.fast_check_faults.proofs.SameFaults.{compares, fault_is, fault_symm, fault_laws}
-
-or_last : (b c : Bool) → cond b true c ≡ (c || (b || false))
-or_last true true = refl
-or_last true false = refl
-or_last false true = refl
-or_last false false = refl
 
 kept_push : (old new : Once) (f : SymbolFault) → new.faults.items ≡ old.faults.items ++ f ∷ [] → kept new ≡ kept old ++ fault_seen f ∷ []
 kept_push old new f e = ap (map fault_seen) e ∙ map-append fault_seen old.faults.items (f ∷ [])

@@ -36,13 +36,8 @@ use Rattle.fast_check_turns.specs.Yields.{own_text, dependency_of, dependencies,
 use Rattle.fast_check_turns.specs.Yields.{names_yields, symbol_yields, untyped_yields, gives}
 use Rattle.fast_check_turns.proofs.Reported.{told_flat}
 use Rattle.fast_check_turns.specs.Analysis.{IsAnalyzed, given_by}
+use Rattle.fast_check_finder.proofs.Paths.{flat_contains}
 use Rattle.fast_check_finder.proofs.Owned.{IsOwned, owned_files, owned_left}
-
-pub flat_contains : {X Y : Type 0} (f : X → List Y) (xs : List X) (y : Y) → Contains (flat_map f xs) y → (x : X) × Contains xs x × Contains (f x) y
-flat_contains f [] y c = absurd (Contains_none y c)
-flat_contains f (z ∷ zs) y c =
-    ⊎_elim (λ l. (z, Contains_first z zs, l)) (λ r. let m = flat_contains f zs y r in (m.0, Contains_later z zs m.0 m.1, m.2))
-    (Contains-append_cases (f z) (flat_map f zs) y c)
 
 -- what is listed is asked
 empty_asked : (x : ImportedExports) → IsEmpty x → asked x (subset_at []) ≡ true

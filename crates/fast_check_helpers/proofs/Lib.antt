@@ -1,6 +1,5 @@
 mod Literals
 mod Lower
-mod Tests
 pub mod SimpleTypes
 pub mod InferredTypes
 pub mod Returns

@@ -49,7 +49,7 @@ range_of a b = record { start = record { 0 = a }; end = record { 0 = b } }
 same_number : (a b : ℕ) → (a == b) ≡ true → a ≡ b
 same_number a b e = (unsigned_Decides a b).0 e
 
-exact_range : (a b : SourceRange) → same_range a b ≡ true → a ≡ b
+pub exact_range : (a b : SourceRange) → same_range a b ≡ true → a ≡ b
 unfolding range_of
 exact_range a b e =
     ap (λ n. range_of n a.end.0) (same_number a.start.0 b.start.0 (and_left _ _ e))

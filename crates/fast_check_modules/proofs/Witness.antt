@@ -71,21 +71,6 @@ pub and_both : (a b : Bool) → a ≡ true → b ≡ true → (a && b) ≡ true
 and_both true b h g = g
 and_both false b h g = h
 
-pub not_true : (b : Bool) → not b ≡ true → b ≡ false
-not_true true e = sym e
-not_true false e = refl
-
-pub not_false : (b : Bool) → not b ≡ false → b ≡ true
-not_false true e = refl
-not_false false e = sym e
-
--- a test of two that is made one after the other
-pub and_fails : (a b : Bool) → a ≡ false → false ≡ (a && b)
-and_fails a b e = sym (ap (λ a. a && b) e)
-
-pub and_holds : (a b : Bool) {c : Bool} → a ≡ true → c ≡ b → c ≡ (a && b)
-and_holds a b e f = f ∙ sym (ap (λ a. a && b) e)
-
 pub any_alike : {X : Type 0} (f g : X → Bool) (xs : List X) → ((x : X) → f x ≡ g x) → list_any f xs ≡ list_any g xs
 any_alike f g [] h = refl
 any_alike f g (x ∷ xs) h = ap (λ b. b || list_any f xs) (h x) ∙ ap (λ b. g x || b) (any_alike f g xs h)

@@ -3,13 +3,9 @@ use Rattle.std.proofs.Common.{◌≡◌, ◌∙◌, sym, ap, refl, subst, ⊎_el
 use Rattle.std.proofs.Common.{String, string_bytes, option_map, arith}
 use Rattle.std.specs.Option.{is_some}
 use Rattle.std.specs.Map.{lookup}
-use Rattle.std.specs.BTreeMap.{get_by_text, is_at}
-use Rattle.std.specs.Cmp.Lexicographic.{slice_cmp}
-use Rattle.std.specs.Ordering.{nat_cmp}
+use Rattle.std.specs.BTreeMap.{get_by_text}
 use Rattle.std.specs.declared.alloc.Global.{Global}
 use Rattle.std.proofs.lemmas.Bool.{false≢true, cases_Bool}
-use Rattle.std.proofs.lemmas.Slice.Eq.{bytes_eq-Decides}
-use Rattle.std.proofs.lemmas.Map.Text.{is_eq-slice_cmp}
 use Rattle.fast_check_names.specs.declared.lattice.named_subset.Exports.{Exports, out-Exports, map-Exports, fold-roll-Exports, fold_out-Exports}
 use Rattle.fast_check_names.specs.declared.lattice.named_subset.Exports.TheViews.{roll-Exports}
 use Rattle.fast_check_names.specs.declared.lattice.named_subset.Exports.TheVariants.{Subset, rolls-Subset}
@@ -21,6 +17,7 @@ use Rattle.fast_check_names.specs.declared.lattice.named_subset.Exports.TheFolds
 use Rattle.fast_check_names.specs.Names.{Name, Touched, Covered, NameSet, paths, paths_below, paths_at, exports_step, subset_of, IsSame}
 use Rattle.fast_check_names.specs.Paths.{paths_opened, paths_opened_nil, paths_made, touched_below, below_roll}
 use Rattle.fast_check_names.specs.Shapes.{opened}
+use Rattle.fast_check_names.specs.EqualityProof.{is_name, is_key, mapped_found, found_such, held_such}
 
 -- the greatest of what f gives of a list
 abbrev pub greatest : {X : Type 0} → (X → ℕ) → List X → ℕ
@@ -47,22 +44,6 @@ depth_below = fold-Exports ℕ ℕ exports_depth names_depth
 
 abbrev Shape : Type 0
 Shape = Exports-F Exports NamedSubset
-
-abbrev is_name : Name → String Global → Bool
-is_name n k = is_at (slice_cmp nat_cmp n) (string_bytes k)
-
-is_key : (n : Name) (k : String Global) → is_name n k ≡ true → n ≡ string_bytes k
-is_key n k t = (bytes_eq-Decides n (string_bytes k)).0 (sym (is_eq-slice_cmp n (string_bytes k)) ∙ t)
-
-own_key : (k : String Global) → is_name (string_bytes k) k ≡ true
-own_key k = is_eq-slice_cmp (string_bytes k) (string_bytes k) ∙ (bytes_eq-Decides (string_bytes k) (string_bytes k)).1 refl
-
-mapped_found : {X Y : Type 0} (f : X → Y) (test : String Global → Bool) (es : List (String Global × X)) →
-    lookup test (map (λ e. (e.0, f e.1)) es) ≡ option_map f (lookup test es)
-mapped_found f test [] = refl
-mapped_found f test (e ∷ es) =
-    elim (test e.0) as (λ b. cond b (Some (f e.1)) (lookup test (map (λ x. (x.0, f x.1)) es)) ≡ option_map f (cond b (Some e.1) (lookup test es)))
-    [ true ↦ refl | false ↦ mapped_found f test es ]
 
 -- what stands under a name is counted
 greatest_at : {X : Type 0} (f : Name → ℕ) (n : Name) (es : List (String Global × X)) → is_some (lookup (is_name n) es) ≡ true →
@@ -159,31 +140,6 @@ below_deep (open'.Subset s) each z h =
     let deep : suc (depth s) ≤ shape_depth (out-Exports z) =
     shape_deep s (each s refl) (out-Exports z) (λ part p. sym (below_roll (open'.Subset s) part p) ∙ (h part p ∙ opened z part p)) in
     omega (arith, is, other, deep)
-
--- the facts that an induction has of what a value holds
-
-found_such : {S : Type 0} (val : S → Exports) (P : Exports → Type 0) → ((s : S) → P (val s)) →
-    (test : String Global → Bool) (es : List (String Global × S)) (v : Exports) → lookup test (map (λ e. (e.0, val e.1)) es) ≡ Some v → P v
-found_such val P has test [] v h = cc
-found_such {S} val P has test (e ∷ es) v h =
-    ⊎_elim
-    (λ t. let is : val e.1 ≡ v = inside (sym (ap (λ b. cond b (Some (val e.1)) (lookup test (map (λ x. (x.0, val x.1)) es))) t) ∙ h) in subst P is (has e.1))
-    (λ f. found_such val P has test es v (sym (ap (λ b. cond b (Some (val e.1)) (lookup test (map (λ x. (x.0, val x.1)) es))) f) ∙ h))
-    (cases_Bool (test e.0))
-  where
-    inside : {x y : Exports} → Some x ≡ Some y → x ≡ y
-    inside {x} {y} e = cc
-
-abbrev subset_shape : NamedSubset → Shape
-subset_shape s = open'.Subset s
-
-held_such : {S T : Type 0} (f : S → Exports) (g : T → NamedSubset) (P : NamedSubset → Type 0) → ((t : T) → P (g t)) → (y : Exports-F S T) (s : NamedSubset) →
-    map-Exports S T Exports NamedSubset f g y ≡ open'.Subset s → P s
-held_such f g P has open'.All s h = cc
-held_such f g P has (open'.Subset t) s h = subst P (inside h) (has t)
-  where
-    inside : {a b : NamedSubset} → subset_shape a ≡ subset_shape b → a ≡ b
-    inside {a} {b} e = cc
 
 same_depth : (s t : NamedSubset) → IsAsDeep s t
 same_depth s = ind-NamedSubset (λ x. (y : Exports) → IsAsDeepBelow x y) (λ s. (t : NamedSubset) → IsAsDeep s t)

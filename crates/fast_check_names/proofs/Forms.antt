@@ -16,6 +16,7 @@ use Rattle.fast_check_names.specs.Names.{Name, Path, Part, Touched, Covered, Nam
 use Rattle.fast_check_names.specs.Imports.{default_name, all_but_default, all_names, imported}
 use Rattle.fast_check_names.specs.Paths.{paths_opened, paths_opened_nil}
 use Rattle.fast_check_names.proofs.Build.{Entry}
+use Rattle.fast_check_names.proofs.Join.{or_false}
 use Rattle.fast_check_names.specs.Shapes.{nothing_below, all_below}
 
 -- No set of names has all names but `default`: a name longer than each of its names is missing.
@@ -113,10 +114,6 @@ new_above StarWithDefault = λ part p t. t
 new_above (Subset s) = set_below_all s
 
 -- joins
-
-or_false : (b : Bool) → b ≡ (b || false)
-or_false true = refl
-or_false false = refl
 
 or_below : (a b : Bool) → (a ≡ true → b ≡ true) → b ≡ (a || b)
 or_below true b h = h refl

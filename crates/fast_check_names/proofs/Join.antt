@@ -12,7 +12,7 @@ use Rattle.fast_check_names.specs.Names.{Name, Names, Path, Part, NameSet, Puts,
 use Rattle.fast_check_names.specs.Names.{IsJoinBelow, IsJoinWhereHeld, IsSame}
 use Rattle.fast_check_names.specs.Paths.{made, paths_made, paths_made_nil, paths_opened, paths_opened_nil, below_all, below_subset, below_subset_nil}
 
-or_false : (b : Bool) → b ≡ (b || false)
+pub or_false : (b : Bool) → b ≡ (b || false)
 or_false true = refl
 or_false false = refl
 

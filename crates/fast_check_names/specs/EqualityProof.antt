@@ -90,10 +90,10 @@ same_at (Some v) (Some w) each h = (λ t. (each v refl w).1 h, λ t. refl)
 
 -- tests of all names in a list of entries
 
-abbrev is_name : Name → String Global → Bool
+abbrev pub is_name : Name → String Global → Bool
 is_name n k = is_at (slice_cmp nat_cmp n) (string_bytes k)
 
-is_key : (n : Name) (k : String Global) → is_name n k ≡ true → n ≡ string_bytes k
+pub is_key : (n : Name) (k : String Global) → is_name n k ≡ true → n ≡ string_bytes k
 is_key n k t = (bytes_eq-Decides n (string_bytes k)).0 (sym (is_eq-slice_cmp n (string_bytes k)) ∙ t)
 
 own_key : (k : String Global) → is_name (string_bytes k) k ≡ true
@@ -134,7 +134,7 @@ all_made f (e ∷ es) h =
     (h (string_bytes e.0) (ap (λ b. is_some (cond b (Some e.1) (lookup (is_name (string_bytes e.0)) es))) (own_key e.0)))
     (all_made f es (λ n t. h n (in_more n e es t)))
 
-mapped_found : {X Y : Type 0} (f : X → Y) (test : String Global → Bool) (es : List (String Global × X)) →
+pub mapped_found : {X Y : Type 0} (f : X → Y) (test : String Global → Bool) (es : List (String Global × X)) →
     lookup test (map (λ e. (e.0, f e.1)) es) ≡ option_map f (lookup test es)
 mapped_found f test [] = refl
 mapped_found f test (e ∷ es) =
@@ -194,7 +194,7 @@ module _ (x : NamedSubset-F Exports NamedSubset) (each : (n : Name) (v : Exports
 
 -- the facts that an induction has of what a value holds
 
-found_such : {S : Type 0} (val : S → Exports) (P : Exports → Type 0) → ((s : S) → P (val s)) →
+pub found_such : {S : Type 0} (val : S → Exports) (P : Exports → Type 0) → ((s : S) → P (val s)) →
     (test : String Global → Bool) (es : List (String Global × S)) (v : Exports) → lookup test (map (λ e. (e.0, val e.1)) es) ≡ Some v → P v
 found_such val P has test [] v h = cc
 found_such {S} val P has test (e ∷ es) v h =
@@ -209,7 +209,7 @@ found_such {S} val P has test (e ∷ es) v h =
 abbrev subset_shape : NamedSubset → Shape
 subset_shape s = open'.Subset s
 
-held_such : {S T : Type 0} (f : S → Exports) (g : T → NamedSubset) (P : NamedSubset → Type 0) → ((t : T) → P (g t)) → (y : Exports-F S T) (s : NamedSubset) →
+pub held_such : {S T : Type 0} (f : S → Exports) (g : T → NamedSubset) (P : NamedSubset → Type 0) → ((t : T) → P (g t)) → (y : Exports-F S T) (s : NamedSubset) →
     map-Exports S T Exports NamedSubset f g y ≡ open'.Subset s → P s
 held_such f g P has open'.All s h = cc
 held_such f g P has (open'.Subset t) s h = subst P (inside h) (has t)

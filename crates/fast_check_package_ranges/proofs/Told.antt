@@ -5,7 +5,7 @@ use Rattle.fast_check_told_faults.proofs.Distinct.{before}
 use Rattle.std.specs.Prelude.{not}
 use Rattle.std.specs.Str.{bytes_eq}
 use Rattle.std.specs.Cmp.Lexicographic.{nat_list_eq_equiv}
-use Rattle.std.proofs.lemmas.Bool.{false≢true}
+use Rattle.std.proofs.lemmas.Bool.{false≢true, or_parts}
 use Rattle.url.specs.Parts.{Parts, serialize}
 use Rattle.fast_check_syntax.specs.declared.source.SourceRange.{SourceRange}
 use Rattle.fast_check_tables.specs.PublicRanges.{PublicRanges, is_public, is_implementation, same_range}
@@ -40,19 +40,11 @@ otherwise_whole : (t : List ℕ) (d : FastCheckDiagnostic) → is_whole d ≡ fa
 otherwise_whole t d h = ap (λ b. b || (tells_untyped_entry t d || tells any_report d)) (missing_whole t d h)
     ∙ ap (λ b. b || tells any_report d) (untyped_entry_whole t d h)
 
-or_left : (b c : Bool) → (b || c) ≡ false → b ≡ false
-or_left true c h = absurd (false≢true (sym h))
-or_left false c h = refl
-
-or_right : (b c : Bool) → (b || c) ≡ false → c ≡ false
-or_right true c h = absurd (false≢true (sym h))
-or_right false c h = h
-
 alike : (f g : FastCheckDiagnostic → Bool) → ((d : FastCheckDiagnostic) → is_whole d ≡ false → f d ≡ g d) → (ds : List FastCheckDiagnostic) →
     list_any is_whole ds ≡ false → list_any f ds ≡ list_any g ds
 alike f g e [] h = refl
-alike f g e (d ∷ ds) h = ap (λ b. b || list_any f ds) (e d (or_left (is_whole d) (list_any is_whole ds) h))
-    ∙ ap (λ b. g d || b) (alike f g e ds (or_right (is_whole d) (list_any is_whole ds) h))
+alike f g e (d ∷ ds) h = ap (λ b. b || list_any f ds) (e d (or_parts (is_whole d) (list_any is_whole ds) h).0)
+    ∙ ap (λ b. g d || b) (alike f g e ds (or_parts (is_whole d) (list_any is_whole ds) h).1)
 
 none : (ds : List FastCheckDiagnostic) → list_any (λ (d : FastCheckDiagnostic). false) ds ≡ false
 none [] = refl

@@ -5,7 +5,7 @@ use Rattle.std.proofs.Common.{Bor, Vec, Global, refl, sym, ap, append_assoc, app
 use Rattle.std.proofs.Math.ListN.{drop_of_length-le}
 use Rattle.std.proofs.lemmas.List.{at_drop_more}
 use Rattle.std.specs.Option.{ok_or}
-use Rattle.std.specs.Result.{IsErr, IsErrAnd}
+use Rattle.std.specs.Result.{IsErr, IsErrAnd, IfErr, result_ok}
 use Rattle.serde_json.specs.Data.{Data}
 use Rattle.serde_json.specs.Find.{as_array}
 use Rattle.serde_json.specs.View.{view, items_view}
@@ -49,6 +49,17 @@ pub refused : {A : Type 0} (expected : Option A) (result : Result A ReadError) (
     → expected ≡ None → result ≡ ok_or expected BadForm
 refused expected (Ok a) error passed bad none = absurd passed
 refused expected (Err e) error passed bad none = ap Err (passed ∙ bad) ∙ ap (λ o. ok_or o BadForm) (sym none)
+
+-- a call that fails gives nothing
+pub gives_none : {A B E : Type 0} (f : A → B) (expected : Option B) (result : Result A E) → expected ≡ None → IsErr result
+    → option_map f (result_ok result) ≡ expected
+gives_none f expected (Ok a) none err = absurd (let e : false ≡ true = err in cc)
+gives_none f expected (Err error) none err = sym none
+
+pub bad_passed : {A : Type 0} (result : Result A ReadError) (error : ReadError) → IsErrAnd result (λ e. e ≡ error) → error ≡ BadForm
+    → IfErr result (λ e. e ≡ BadForm)
+bad_passed (Ok a) error passed bad = tt
+bad_passed (Err e) error passed bad = passed ∙ bad
 
 pub then_none : {A B : Type 0} {a : Option A} (f : A → Option B) → a ≡ None → option_and_then f a ≡ None
 then_none f e = ap (option_and_then f) e

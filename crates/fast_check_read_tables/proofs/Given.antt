@@ -2,14 +2,13 @@
 use Rattle.std.proofs.Common.{◌≡◌, ◌∙◌, ℕ, true, false, List, [], ◌∷◌, Option, Some, None, option_map, Result, Ok, Err, ap, refl, map, length, get_or, sym}
 use Rattle.std.proofs.Common.{◌<◌, ◌≤◌, arith}
 use Rattle.std.proofs.Common.{String, BTreeMap, Global}
-use Rattle.std.specs.Result.{IsErr, IsErrAnd, IfErr, result_ok}
+use Rattle.std.specs.Result.{IsErr}
 use Rattle.serde_json.specs.Data.{Data}
 use Rattle.serde_json.specs.Find.{as_object, as_str}
 use Rattle.serde_json.specs.View.{view, items_view, members_view}
 use Rattle.serde_json.specs.declared.value.Value.{Value, Object}
 use Rattle.serde_json.proofs.Views.{view-Object}
 use Rattle.fast_check_read.specs.declared.error.ReadError.{ReadError}
-use Rattle.fast_check_read.specs.declared.error.ReadError.TheVariants.{BadForm}
 use Rattle.fast_check_read_tables.specs.Reads.{given, only_three, variant_of, Reads}
 
 pub given_some : {A B : Type 0} {a : Option A} {x : A} (f : A → Option B) → a ≡ Some x → given a f ≡ f x
@@ -62,17 +61,6 @@ three (a ∷ b ∷ []) u v w more less first second third = absurd (omega arith)
 three (a ∷ b ∷ c ∷ []) u v w more less first second third =
     ap (λ x. Some (view x, view v, view w)) first ∙ (ap (λ x. Some (view a, view x, view w)) second ∙ ap (λ x. Some (view a, view b, view x)) third)
 three (a ∷ b ∷ c ∷ d ∷ rest) u v w more less first second third = absurd (omega arith)
-
--- a call that fails gives nothing
-pub gives_none : {A B E : Type 0} (f : A → B) (expected : Option B) (result : Result A E) → expected ≡ None → IsErr result
-    → option_map f (result_ok result) ≡ expected
-gives_none f expected (Ok a) none err = absurd (let e : false ≡ true = err in cc)
-gives_none f expected (Err error) none err = sym none
-
-pub bad_passed : {A : Type 0} (result : Result A ReadError) (error : ReadError) → IsErrAnd result (λ e. e ≡ error) → error ≡ BadForm
-    → IfErr result (λ e. e ≡ BadForm)
-bad_passed (Ok a) error passed bad = tt
-bad_passed (Err e) error passed bad = passed ∙ bad
 
 -- the reading that the name of a variant chooses
 pub chosen : {A : Type 0} (read : List ℕ → Data → Option A) (value : Data) (name : List ℕ) (content : Data) (text : List ℕ)

@@ -20,7 +20,7 @@ use Rattle.fast_check_search.proofs.Compared.{compares}
 pub asked_one : (old new : Worklist) (d : SymbolDemand) → new.demands.items ≡ old.demands.items ++ d ∷ [] → asked new ≡ asked old ++ demand_of d ∷ []
 asked_one old new d e = ap (map demand_of) e ∙ map-append demand_of old.demands.items (d ∷ [])
 
-or_last : (b c : Bool) → cond b true c ≡ (c || (b || false))
+pub or_last : (b c : Bool) → cond b true c ≡ (c || (b || false))
 or_last true true = refl
 or_last true false = refl
 or_last false true = refl

@@ -1,7 +1,8 @@
 -- What calls add, one after the other: each lemma makes of the clauses of smaller calls that of a larger one.
-use Rattle.std.specs.Prelude.{◌≡◌, Option, Some, None, List, [], ◌∷◌, ◌++◌, refl, unwrap_or, option_map}
-use Rattle.std.proofs.Common.{ap, ap₂, ◌∙◌, sym}
+use Rattle.std.specs.Prelude.{◌≡◌, Option, Some, None, Result, IfOk, List, [], ◌∷◌, ◌++◌, refl, unwrap_or, option_map}
+use Rattle.std.proofs.Common.{ap, ap₂, ◌∙◌, sym, subst}
 use Rattle.std.proofs.lemmas.List.{append-nil, append_assoc}
+use Rattle.std.proofs.lemmas.Result.{IfOk-weaker}
 use Rattle.fast_check_syntax.specs.declared.tree.Tree.{Tree, Absent}
 use Rattle.fast_check_signatures.specs.declared.fault.Fault.{Fault}
 use Rattle.fast_check_signatures.specs.Seen.{Seen}
@@ -81,3 +82,8 @@ answer_append (x ∷ xs) ys = λ i. record {
   faults = (ap (λ a. (answer_to x).faults ++ a.faults) (answer_append xs ys)
       ∙ sym (append_assoc (answer_to x).faults (answer_of xs).faults (answer_of ys).faults)) i;
 }
+
+-- a call that makes this tree gives the answer
+pub some_of : {E : Type 0} {a : Answer (Option Tree)} {x y : Tree} {old new : List Fault} (r : Result Tree E) → IfOk r (λ t. t ≡ x) →
+    Adds a (Some y) old new → x ≡ y → IfOk r (λ t. Adds a (Some t) old new)
+some_of {a = a} {old = old} {new = new} r e h q = IfOk-weaker r _ _ (λ t p. subst (λ u. Adds a (Some u) old new) (sym (p ∙ q)) h) e

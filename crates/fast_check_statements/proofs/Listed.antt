@@ -1,20 +1,14 @@
 -- What calls add for lists of what is seen, one after the other.
-use Rattle.std.specs.Prelude.{◌≡◌, ℕ, ◌+◌, ◌<◌, ◌≤◌, Option, Some, Result, IfOk, List, [], ◌∷◌, ◌++◌, flat_map, length, take}
+use Rattle.std.specs.Prelude.{◌≡◌, ℕ, ◌+◌, ◌<◌, ◌≤◌, Option, List, [], ◌∷◌, ◌++◌, flat_map, length, take}
 use lib.ListN.{get_or}
 use Rattle.std.proofs.Common.{ap, ◌∙◌, sym, subst, append-nil}
 use Rattle.std.proofs.lemmas.List.{take_more, take_all}
 use Rattle.std.proofs.lemmas.List.Concat.{flat_map-append}
-use Rattle.std.proofs.lemmas.Result.{IfOk-weaker}
 use Rattle.fast_check_syntax.specs.declared.tree.Tree.{Tree}
 use Rattle.fast_check_signatures.specs.declared.fault.Fault.{Fault}
 use Rattle.fast_check_signatures.specs.Seen.{Seen}
 use Rattle.fast_check_signatures.specs.Answers.{Answer, Adds, with_tree, answer_to, answer_of}
 use Rattle.fast_check_signatures.proofs.Adding.{adds_nothing, adds_same, adds_joined, answer_append}
-
--- a call that makes this tree gives the answer
-pub some_of : {E : Type 0} {a : Answer (Option Tree)} {x y : Tree} {old new : List Fault} (r : Result Tree E) → IfOk r (λ t. t ≡ x) →
-    Adds a (Some y) old new → x ≡ y → IfOk r (λ t. Adds a (Some t) old new)
-some_of {a = a} {old = old} {new = new} r e h q = IfOk-weaker r _ _ (λ t p. subst (λ u. Adds a (Some u) old new) (sym (p ∙ q)) h) e
 
 -- one that is seen alone
 pub alone : (s : Seen) {o : Option Tree} {old new : List Fault} → Adds (answer_to s) o old new → Adds (answer_of (s ∷ [])) (with_tree o []) old new

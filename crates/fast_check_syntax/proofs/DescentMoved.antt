@@ -5,17 +5,13 @@ use Rattle.std.proofs.Math.Dec.{ltb}
 use Rattle.std.proofs.lemmas.Bool.{ltb-true}
 use Rattle.fast_check_syntax.specs.declared.tree.Tree.{Tree, out-Tree}
 use Rattle.fast_check_syntax.specs.declared.tree.Tree.TheOpen.{Tree-F}
-use Rattle.fast_check_syntax.specs.declared.tree.Tree.TheFolds.{fold_out-Tree, map-Tree}
+use Rattle.fast_check_syntax.specs.declared.tree.Tree.TheFolds.{map-Tree}
 use Rattle.fast_check_syntax.specs.Shape.{parts_at, parts, OfAll}
-use Rattle.fast_check_syntax.specs.Height.{highest, height_step, height}
+use Rattle.fast_check_syntax.specs.Height.{highest, height_step, height, height_out}
 use Rattle.fast_check_syntax.specs.Moves.{Moves, moved, moved_level}
 use Rattle.fast_check_syntax.specs.Descent.{is_lower, by_descent, by_descent_is, given}
 use Rattle.fast_check_syntax.proofs.Moved.{out_moved, absent_moved}
 use Rattle.fast_check_syntax.proofs.Induction.{tree_ind}
-
-height_out : (t : Tree) → height t ≡ height_step (map-Tree Tree ℕ height (out-Tree t))
-unfolding height
-height_out t = fold_out-Tree ℕ height_step t
 
 module _ (m : Moves) where
   abbrev Stays : Tree → Type 0

@@ -5,3 +5,4 @@ pub mod Same
 pub mod Made
 pub mod DescentMoved
 pub mod Leaves
+pub mod Tests

@@ -2,7 +2,7 @@
 use Rattle.std.specs.Prelude.{◌≡◌, refl, Bool, true, false, ◌&&◌, nat_eq}
 use Rattle.std.proofs.Common.{Decides, ap, subst}
 use Rattle.std.specs.Cmp.{IsEquivalence, IsPartialEquivalence, decided, partial_equiv_from_equiv, unsigned_Decides}
-use Rattle.std.proofs.lemmas.Bool.{false≢true}
+use Rattle.std.proofs.lemmas.Bool.{false≢true, and_parts, and_from}
 use base.Stored.{Coded, Gv, gnil, gnum, gcons}
 
 unfoldable pub same_code : Gv → Gv → Bool
@@ -15,14 +15,6 @@ same_code _ _ = false
 abbrev pub same : {A : Type 0} → Coded A → A → A → Bool
 same c x y = same_code (c.code x) (c.code y)
 
-both : (a b : Bool) → (a && b) ≡ true → (a ≡ true) × (b ≡ true)
-both true b e = (refl, e)
-both false b e = absurd (false≢true e)
-
-joined : (a b : Bool) → a ≡ true → b ≡ true → (a && b) ≡ true
-joined true b e f = f
-joined false b e f = e
-
 to_same : (x y : Gv) → same_code x y ≡ true → x ≡ y
 unfolding same_code
 to_same gnil gnil e = refl
@@ -34,13 +26,13 @@ to_same (gnum m) (gcons c d) e = absurd (false≢true e)
 to_same (gcons a b) gnil e = absurd (false≢true e)
 to_same (gcons a b) (gnum n) e = absurd (false≢true e)
 to_same (gcons a b) (gcons c d) e =
-    let s = both (same_code a c) (same_code b d) e in λ i. gcons (to_same a c s.0 i) (to_same b d s.1 i)
+    let s = and_parts (same_code a c) (same_code b d) e in λ i. gcons (to_same a c s.0 i) (to_same b d s.1 i)
 
 itself : (x : Gv) → same_code x x ≡ true
 unfolding same_code
 itself gnil = refl
 itself (gnum n) = (unsigned_Decides n n).1 refl
-itself (gcons a b) = joined (same_code a a) (same_code b b) (itself a) (itself b)
+itself (gcons a b) = and_from (same_code a a) (same_code b b) (itself a) (itself b)
 
 of_same : (x y : Gv) → x ≡ y → same_code x y ≡ true
 of_same x y e = subst (λ (z : Gv). same_code x z ≡ true) e (itself x)

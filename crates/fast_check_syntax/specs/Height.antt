@@ -19,7 +19,7 @@ height_step _ = 0
 unfoldable pub height : Tree → ℕ
 height = fold-Tree ℕ height_step
 
-absent-zero : height Absent ≡ 0
+pub absent-zero : height Absent ≡ 0
 unfolding height out-Tree denote.Hole.Carrier.out
 absent-zero = fold_out-Tree ℕ height_step Absent
 
@@ -37,7 +37,7 @@ part_below (Tree-F.Text x) i e = absurd (e refl)
 part_below (Tree-F.Range x) i e = absurd (e refl)
 part_below (Tree-F.Word x) i e = absurd (e refl)
 
-height_out : (t : Tree) → height t ≡ height_step (map-Tree Tree ℕ height (out-Tree t))
+pub height_out : (t : Tree) → height t ≡ height_step (map-Tree Tree ℕ height (out-Tree t))
 unfolding height
 height_out t = fold_out-Tree ℕ height_step t
 

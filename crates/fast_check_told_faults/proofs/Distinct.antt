@@ -6,7 +6,7 @@ use Rattle.std.specs.Ordering.{eq_by_cmp}
 use Rattle.std.specs.declared.alloc.Global.{Global}
 use Rattle.std.specs.declared.rc.RcStr.{RcStr}
 use Rattle.std.specs.Rc.{rc_str_bytes}
-use Rattle.std.proofs.lemmas.Bool.{false≢true}
+use Rattle.std.proofs.lemmas.Bool.{false≢true, or_parts}
 use Rattle.std.proofs.lemmas.Map.Keys.{IsDistinct-cons, IsDistinct-head, IsDistinct-tail}
 use Rattle.fast_check_tables.specs.declared.diagnostics.FastCheckDiagnostic.{FastCheckDiagnostic}
 use Rattle.fast_check_faults.specs.Reports.{Report, told}
@@ -57,15 +57,7 @@ all_apart : (w : FastCheckDiagnostic) (ys : List FastCheckDiagnostic) → tells 
 all_apart w [] h = tt
 all_apart w (y ∷ ys) h = (no_report (λ r. tells (same_report r) y) (told w) h, all_apart w ys h)
 
-or_left : (b c : Bool) → (b || c) ≡ false → b ≡ false
-or_left true c h = absurd (false≢true (sym h))
-or_left false c h = refl
-
-or_right : (b c : Bool) → (b || c) ≡ false → c ≡ false
-or_right true c h = absurd (false≢true (sym h))
-or_right false c h = h
-
 pub before : (ws xs : List FastCheckDiagnostic) → list_any (tells any_report) ws ≡ false → IsDistinct same_told xs → IsDistinct same_told (ws ++ xs)
 before [] xs h k = k
-before (w ∷ ws) xs h k = IsDistinct-cons same_told w (ws ++ xs) (all_apart w (ws ++ xs) (or_left (tells any_report w) (list_any (tells any_report) ws) h))
-    (before ws xs (or_right (tells any_report w) (list_any (tells any_report) ws) h) k)
+before (w ∷ ws) xs h k = IsDistinct-cons same_told w (ws ++ xs) (all_apart w (ws ++ xs) (or_parts (tells any_report w) (list_any (tells any_report) ws) h).0)
+    (before ws xs (or_parts (tells any_report w) (list_any (tells any_report) ws) h).1 k)

@@ -3,14 +3,9 @@ use Rattle.std.specs.Prelude.{◌≡◌, ℕ, ◌<◌, ◌≤◌, ◌-◌, Optio
 use Rattle.std.proofs.Common.{arith, sym, ◌∙◌}
 use Rattle.fast_check_syntax.specs.declared.kind.Kind.{Kind}
 use Rattle.fast_check_syntax.specs.declared.kind.Kind.TheVariants.{Leaf}
-use Rattle.fast_check_syntax.specs.declared.tree.Tree.{Tree, out-Tree, Absent}
-use Rattle.fast_check_syntax.specs.declared.tree.Tree.TheFolds.{fold_out-Tree}
+use Rattle.fast_check_syntax.specs.declared.tree.Tree.{Tree, Absent}
 use Rattle.fast_check_syntax.specs.Shape.{kind_of, parts, part}
-use Rattle.fast_check_syntax.specs.Height.{height, height_step, height_part, height_one}
-
-absent-zero : height Absent ≡ 0
-unfolding height out-Tree denote.Hole.Carrier.out
-absent-zero = fold_out-Tree ℕ height_step Absent
+use Rattle.fast_check_syntax.specs.Height.{height, absent-zero, height_part, height_one}
 
 -- a part is lower, where anything is
 pub height_less : (t : Tree) (i : ℕ) → height (part i t) ≤ height t - 1

@@ -5,10 +5,9 @@ use Rattle.fast_check_tables.specs.PublicRanges.{is_implementation}
 use Rattle.fast_check_syntax.specs.Shape.{parts}
 use Rattle.fast_check_signatures.specs.Answers.{answer_to, answer_of, class_of}
 use Rattle.fast_check_signatures.specs.Classes.{class_head, superclass_seen, members_seen}
-use Rattle.fast_check_signatures.proofs.Adding.{adds_same, adds_joined, adds_settled}
+use Rattle.fast_check_signatures.proofs.Adding.{adds_same, adds_joined, adds_settled, some_of}
 use Rattle.std.proofs.Common.{Some}
 use Rattle.fast_check_syntax.specs.declared.tree.Tree.{Tree}
-use Rattle.fast_check_classes.proofs.Making.{some_of}
 use Rattle.fast_check_classes.proofs.classes.transform_class.Goals as goal
 
 pub returns : goal.returns

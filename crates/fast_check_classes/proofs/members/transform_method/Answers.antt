@@ -4,8 +4,8 @@ use Rattle.fast_check_syntax.specs.Part.{seen}
 use Rattle.fast_check_tables.specs.PublicRanges.{is_implementation}
 use Rattle.fast_check_signatures.specs.Answers.{declared_property}
 use Rattle.fast_check_signatures.specs.Members.{is_private}
-use Rattle.fast_check_classes.proofs.Making.{some_of}
 use Rattle.fast_check_classes.proofs.MembersKept.{private_method, method_made}
+use Rattle.fast_check_signatures.proofs.Adding.{some_of}
 use Rattle.fast_check_classes.proofs.members.transform_method.Goals as goal
 
 pub returns-then-is_private : goal.returns-then-is_private

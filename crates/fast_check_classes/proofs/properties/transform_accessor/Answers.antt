@@ -4,8 +4,8 @@ use Rattle.fast_check_syntax.specs.Part.{seen}
 use Rattle.fast_check_ranges.specs.Ranges.{range_of_node}
 use Rattle.fast_check_signatures.specs.Answers.{fault_at, declared_property}
 use Rattle.fast_check_signatures.specs.declared.fault.FaultKind.TheVariants.{MissingExplicitType}
-use Rattle.fast_check_classes.proofs.Making.{some_of}
 use Rattle.fast_check_classes.proofs.PropertyCases.{typed_accessor, untyped_accessor}
+use Rattle.fast_check_signatures.proofs.Adding.{some_of}
 use Rattle.fast_check_classes.proofs.properties.transform_accessor.Goals as goal
 
 pub returns-in_ok-accessor_head-in-Some : goal.returns-in_ok-accessor_head-in-Some

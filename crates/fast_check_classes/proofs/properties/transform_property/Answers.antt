@@ -6,8 +6,8 @@ use Rattle.fast_check_syntax.specs.Shape.{is_absent}
 use Rattle.fast_check_signatures.specs.Answers.{declared_property}
 use Rattle.fast_check_signatures.specs.Classes.{property_head}
 use Rattle.fast_check_signatures.specs.Members.{is_private}
-use Rattle.fast_check_classes.proofs.Making.{some_of}
 use Rattle.fast_check_classes.proofs.PropertyCases.{private_property, written_property, untyped_stays}
+use Rattle.fast_check_signatures.proofs.Adding.{some_of}
 use Rattle.fast_check_classes.proofs.properties.transform_property.Goals as goal
 
 pub returns-then-is_private : goal.returns-then-is_private

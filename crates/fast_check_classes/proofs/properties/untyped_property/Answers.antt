@@ -4,8 +4,8 @@ use Rattle.fast_check_syntax.specs.Part.{seen}
 use Rattle.fast_check_helpers.specs.InferredType.{inferred_type}
 use Rattle.fast_check_signatures.specs.Answers.{declared_property, valued_property}
 use Rattle.fast_check_signatures.specs.Classes.{mutability_of_property, property_head}
-use Rattle.fast_check_classes.proofs.Making.{some_of}
 use Rattle.fast_check_classes.proofs.PropertyCases.{shown_property, valued_property_stays}
+use Rattle.fast_check_signatures.proofs.Adding.{some_of}
 use Rattle.fast_check_classes.proofs.properties.untyped_property.Goals as goal
 
 pub returns-in_ok-ty-in-Some : goal.returns-in_ok-ty-in-Some

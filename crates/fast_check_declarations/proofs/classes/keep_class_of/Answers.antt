@@ -4,7 +4,7 @@ use Rattle.fast_check_syntax.specs.Part.{seen}
 use Rattle.fast_check_signatures.specs.Classes.{ambient_class}
 use Rattle.fast_check_statements.specs.links.Asked.{Asked-around}
 use Rattle.fast_check_declarations.proofs.ClassCases.{ambient_class_stays, plain_class_stays}
-use Rattle.fast_check_statements.proofs.Listed.{some_of}
+use Rattle.fast_check_signatures.proofs.Adding.{some_of}
 use Rattle.fast_check_declarations.proofs.classes.keep_class_of.Goals as goal
 
 pub returns-then-is_ambient_class : goal.returns-then-is_ambient_class

@@ -4,7 +4,7 @@ use Rattle.fast_check_syntax.specs.Shape.{node}
 use Rattle.fast_check_syntax.specs.declared.kind.Kind.TheVariants.{ClassExpr}
 use Rattle.fast_check_statements.specs.links.Asked.{Asked-around}
 use Rattle.fast_check_declarations.proofs.DefaultCases.{made_class}
-use Rattle.fast_check_statements.proofs.Listed.{some_of}
+use Rattle.fast_check_signatures.proofs.Adding.{some_of}
 use Rattle.fast_check_declarations.proofs.defaults.keep_class.Goals as goal
 
 pub returns : goal.returns

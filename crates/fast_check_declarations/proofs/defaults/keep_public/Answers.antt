@@ -4,7 +4,7 @@ use Rattle.fast_check_program_forms.specs.ModuleDecls.{export_default_decl}
 use Rattle.fast_check_syntax.specs.Part.{seen}
 use Rattle.fast_check_statements.specs.links.Asked.{Asked-around}
 use Rattle.fast_check_declarations.proofs.DefaultCases.{value_decl, class_decl, function_decl, interface_decl}
-use Rattle.fast_check_statements.proofs.Listed.{some_of}
+use Rattle.fast_check_signatures.proofs.Adding.{some_of}
 use Rattle.fast_check_declarations.proofs.defaults.keep_public.Goals as goal
 
 pub returns-in-Value : goal.returns-in-Value

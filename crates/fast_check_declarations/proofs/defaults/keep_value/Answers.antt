@@ -4,7 +4,7 @@ use Rattle.fast_check_syntax.specs.Part.{seen}
 use Rattle.fast_check_syntax.specs.declared.tree.Tree.{Absent}
 use Rattle.fast_check_statements.specs.links.Asked.{Asked-around}
 use Rattle.fast_check_declarations.proofs.DefaultCases.{value_stays, value_goes}
-use Rattle.fast_check_statements.proofs.Listed.{some_of}
+use Rattle.fast_check_signatures.proofs.Adding.{some_of}
 use Rattle.fast_check_declarations.proofs.defaults.keep_value.Goals as goal
 
 pub returns-in-Some : goal.returns-in-Some

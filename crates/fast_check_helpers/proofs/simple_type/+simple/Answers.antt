@@ -12,7 +12,7 @@ use Rattle.fast_check_helpers.proofs.SimpleTypes.{IsOtherKind, simple_TsKeywordT
 use Rattle.fast_check_helpers.proofs.SimpleTypes.{simple_TsTupleType, simple_TsTupleElement, simple_TsArrayType, simple_TsOptionalType, simple_TsRestType}
 use Rattle.fast_check_helpers.proofs.SimpleTypes.{simple_TsUnionType, simple_TsIntersectionType, simple_TsParenthesizedType, simple_TsTypeOperator, simple_List}
 use Rattle.fast_check_helpers.proofs.SimpleTypes.{simple_TsLitType, simple_TsTypeRef, simple_other, one_fails, one_passes, all_pass}
-use Rattle.fast_check_helpers.proofs.Tests.{or_first, or_second}
+use Rattle.fast_check_syntax.proofs.Tests.{or_first, or_second}
 use Rattle.fast_check_helpers.proofs.simple_type.+simple.Goals as goal
 
 pub is_simple_type-returns-in-TsKeywordType : goal.is_simple_type-returns-in-TsKeywordType

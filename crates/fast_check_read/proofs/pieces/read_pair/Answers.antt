@@ -3,7 +3,8 @@ use Rattle.std.proofs.lemmas.Bool.{ltb-true, ltb-false}
 use Rattle.serde_json.specs.View.{items_view}
 use Rattle.fast_check_read.specs.Pieces.{pair_of_items}
 use Rattle.fast_check_read.proofs.Each.{then_none, then_some, items_there}
-use Rattle.fast_check_read.proofs.Pairs.{two, too_few, too_many, gives_none, bad_passed}
+use Rattle.fast_check_read.proofs.Each.{gives_none, bad_passed}
+use Rattle.fast_check_read.proofs.Pairs.{two, too_few, too_many}
 use Rattle.fast_check_read.proofs.pieces.read_pair.Goals as goal
 use Rattle.fast_check_read.proofs.pieces.read_pair.Goals.{in_default-via-then-as_slice-lt2, in_default-via-else-as_slice-lt2+else-this-lt3}
 

@@ -4,7 +4,8 @@ use Rattle.serde_json.specs.Find.{as_array}
 use Rattle.serde_json.specs.View.{view, items_view}
 use Rattle.serde_json.proofs.Views.{view-Array}
 use Rattle.fast_check_read_tables.specs.Reads.{given, only_three}
-use Rattle.fast_check_read_tables.proofs.Given.{few, many, three, given_none, gives_none, bad_passed}
+use Rattle.fast_check_read.proofs.Each.{gives_none, bad_passed}
+use Rattle.fast_check_read_tables.proofs.Given.{few, many, three, given_none}
 use Rattle.fast_check_read_tables.proofs.from_json.read_three.Goals as goal
 use Rattle.fast_check_read_tables.proofs.from_json.read_three.Goals.{in_default-via-then-as_slice-lt3, in_default-via-else-as_slice-lt3+else-this-lt4}
 

@@ -8,7 +8,7 @@ use Rattle.fast_check_syntax.specs.Shape.{is_absent}
 use Rattle.fast_check_links.specs.Asked.{Asked-around}
 use Rattle.fast_check_statements.specs.PartAnswers.{retyped}
 use Rattle.fast_check_statements.proofs.Declared.{written_ident, shown_ident, valued_ident}
-use Rattle.fast_check_statements.proofs.Listed.{some_of}
+use Rattle.fast_check_signatures.proofs.Adding.{some_of}
 use Rattle.fast_check_statements.proofs.declarations.ident_declarator.Goals as goal
 
 pub returns-then-not-is_absent : goal.returns-then-not-is_absent

@@ -13,7 +13,7 @@ use Rattle.fast_check_skeleton.specs.Visible.{item_properties}
 use Rattle.fast_check_syntax.specs.Part.{seen}
 use Rattle.fast_check_syntax.specs.Shape.{parts}
 use Rattle.fast_check_syntax.specs.Height.{height, height_at_most}
-use Rattle.fast_check_declarations.proofs.class_proofs.Making.{none_of}
+use Rattle.fast_check_declarations.proofs.class_proofs.Nothing.{none_of}
 use Rattle.fast_check_declarations.specs.links.Asked.{Asked-around}
 use Rattle.fast_check_declarations.specs.links.Links.{as_list}
 use Rattle.fast_check_transform.proofs.ByRule.{variables, functions, classes, standing, namespaces, using_stays, undeclared}
