@@ -17,6 +17,10 @@ import os
 import sys
 import tempfile
 
+sys.dont_write_bytecode = True
+
+from package_worlds import request_of
+
 TOP = os.path.dirname(os.path.dirname(os.path.abspath(__file__)))
 PROGRAM = os.path.join(TOP, 'crates/fast_check_finder_cases/out/fast_check_finder_cases')
 HOST = 'https://host.example/'
@@ -104,7 +108,7 @@ def spent(program, made):
     """Processor seconds and megabytes of a run on one world, and what it printed."""
     with tempfile.TemporaryDirectory() as folder:
         with open(os.path.join(folder, 'worlds'), 'w') as file:
-            json.dump(made, file, separators=(',', ':'))
+            json.dump(request_of(made), file, separators=(',', ':'))
         size = os.path.getsize(file.name)
         out = os.path.join(folder, 'out')
         pid = os.fork()

@@ -200,3 +200,31 @@ def with_ranges(world):
 
 def world(name, text):
     return with_ranges(WorldText(name, text).parts)
+
+
+NO_ITEMS = {'Module': {'span': [0, 0], 'body': [], 'shebang': None}}
+
+
+def module_entry(module):
+    """A module as the input of `build` has it. One without text is a JSON module. No tree has items, since the finder looks at none."""
+    tables = {name: part for name, part in module.items() if name != 'text'}
+    if 'text' not in module:
+        return [module['specifier'], {'Json': tables}]
+    return [module['specifier'], {'Esm': {**tables, 'source': {'media_type': 'TypeScript', 'text': module['text'], 'program': NO_ITEMS}}}]
+
+
+def request_of(world):
+    """A world as the driver reads it: the input of `build`, with the name and the ranges of the world."""
+    return {**world, 'modules': [module_entry(module) for module in world['modules']]}
+
+
+def module_of_entry(entry):
+    (kind, parts), = entry[1].items()
+    parts = dict(parts)
+    source = parts.pop('source', None)
+    return {**parts, 'text': source['text']} if source else parts
+
+
+def world_of(request):
+    """The world of what the driver reads."""
+    return {**request, 'modules': [module_of_entry(entry) for entry in request['modules']]}

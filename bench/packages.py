@@ -21,7 +21,7 @@ sys.dont_write_bytecode = True
 
 from package_accounts import Closure, mismatch, without_nested
 from package_rules import World, order_of
-from package_worlds import with_ranges
+from package_worlds import request_of, with_ranges, world_of
 from random_packages import random_world
 
 TOP = os.path.dirname(os.path.dirname(os.path.abspath(__file__)))
@@ -147,7 +147,7 @@ def random_worlds(count, seed):
 def run(worlds, program):
     with tempfile.TemporaryDirectory() as folder:
         with open(os.path.join(folder, 'worlds'), 'w') as file:
-            file.writelines(json.dumps(world) + '\n' for world in worlds)
+            file.writelines(json.dumps(request_of(world)) + '\n' for world in worlds)
         return subprocess.run([program], cwd=folder, stdout=subprocess.PIPE, check=True).stdout.decode()
 
 
@@ -162,7 +162,7 @@ def write():
             sys.exit('%s: the stated answer is that of no account: %s' % (world['name'], said))
     os.makedirs(os.path.join(CRATE, 'data'), exist_ok=True)
     with open(os.path.join(CRATE, 'data/worlds'), 'w') as file:
-        file.writelines(json.dumps(world) + '\n' for world in worlds)
+        file.writelines(json.dumps(request_of(world)) + '\n' for world in worlds)
     with open(os.path.join(CRATE, 'stdout'), 'w') as file:
         file.writelines(line + '\n' for line in lines)
     print('%d worlds' % len(worlds))
@@ -173,10 +173,10 @@ def main(words):
         return write()
     if words[:1] == ['random'] and len(words) == 3:
         for world in random_worlds(int(words[1]), int(words[2])):
-            print(json.dumps(world))
+            print(json.dumps(request_of(world)))
         return 0
     if words[:1] == ['compare'] and len(words) == 3:
-        return compare([json.loads(line) for line in open(words[1])], open(words[2]).read())
+        return compare([world_of(json.loads(line)) for line in open(words[1])], open(words[2]).read())
     if words[:1] == ['run'] and len(words) in (3, 4):
         program = os.path.abspath(words[3]) if len(words) == 4 else os.path.join(CRATE, 'out/fast_check_finder_cases')
         worlds = random_worlds(int(words[1]), int(words[2]))

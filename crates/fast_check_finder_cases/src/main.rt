@@ -1,19 +1,21 @@
 //! Follows the packages of each world of the file `worlds`, and prints what is found of each package.
 //!
-//! A world is a line of JSON: an object with the members of the input of `build` that say which modules, packages and members of the workspace
-//! there are, and which packages are handed in. A module without `text` is a JSON module. The ranges of `ranges` are asked for in each module.
+//! A world is a line of JSON: the input of `build`, with the two members `name` and `ranges`. The ranges are asked for in each module.
 #![tactic(auto)]
 
-mod modules;
 mod tell;
 mod world;
 
-use crate::world::World;
+use crate::world::{World, world_of};
 use fast_check_build::find_public_ranges;
+use fast_check_build_requests::{BuildRequest, read_build_request};
+use fast_check_modules::TableFault;
 use fast_check_packages::PackageNv;
 use fast_check_provider::BuildFault;
-use fast_check_read::ReadError;
+use fast_check_read::{ReadError, read_text};
+use fast_check_read_tables::read_list;
 use fast_check_said::Said;
+use fast_check_syntax::SourceRange;
 use serde_json::Value;
 use std::alloc::Global;
 use std::collections::VecDeque;
@@ -29,31 +31,49 @@ fn tell_fault(alloc: Global, fault: BuildFault, said: &mut Said) {
 }
 
 /// Follows the packages that are handed in.
-fn tell_found(alloc: Global, world: &World, pending_nvs: VecDeque<PackageNv>, said: &mut Said) {
+fn tell_found(
+    alloc: Global,
+    world: &World,
+    pending_nvs: VecDeque<PackageNv>,
+    ranges: &[SourceRange],
+    said: &mut Said,
+) {
     match find_public_ranges(
         alloc,
         None,
         &world.provider,
-        &world.modules.graph,
-        &world.modules.root_symbol,
+        &world.graph,
+        &world.root_symbol,
         world.workspace_members.as_slice(),
         pending_nvs,
     ) {
-        Ok(found) => tell::tell_packages(alloc, world.ranges.as_slice(), found, said),
+        Ok(found) => tell::tell_packages(alloc, ranges, found, said),
         Err(fault) => tell_fault(alloc, fault, said),
     }
 }
 
+fn tell_request(alloc: Global, request: BuildRequest, ranges: &[SourceRange], said: &mut Said) {
+    match world_of(alloc, request) {
+        Ok((world, pending_nvs)) => tell_found(alloc, &world, pending_nvs, ranges, said),
+        Err(TableFault::OutOfMemory) => said.lack(),
+        Err(_) => said.tell("\n  bad tables"),
+    }
+}
+
+/// Tells what is found in a world.
 fn tell_world(alloc: Global, value: &Value, said: &mut Said) -> Result<(), ReadError> {
-    let world = world::read_world(alloc, value)?;
-    let pending_nvs = world::read_pending(alloc, value)?;
-    tell_found(alloc, &world, pending_nvs, said);
+    let ranges: Vec<SourceRange> = read_list(alloc, value, "ranges")?;
+    match read_build_request(alloc, value) {
+        Ok(request) => tell_request(alloc, request, ranges.as_slice(), said),
+        Err(error) => tell_refused(error, said),
+    }
     Ok(())
 }
 
 /// Tells the name of a world, and what is found in it.
 fn tell_line(alloc: Global, value: &Value, said: &mut Said) -> Result<(), ReadError> {
-    said.tell_path("world ", world::name_of(value)?, "");
+    let name = read_text(value.get("name").ok_or(ReadError::BadForm)?)?;
+    said.tell_path("world ", name, "");
     tell_world(alloc, value, said)
 }
 
