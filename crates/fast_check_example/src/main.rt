@@ -20,12 +20,12 @@ use fast_check::tables::{
 use fast_check::transform::TransformOptions;
 use indexmap::IndexMap;
 use semver::Version;
-use std::alloc::Global;
+use std::alloc::{AllocError, Global};
 use std::collections::{BTreeMap, VecDeque};
 use url::Url;
 
-/// The graph: a module that is written in TypeScript, and the package that exports it.
-fn module_graph(alloc: Global, specifier: &Url, package: &PackageNv) -> Result<ModuleGraph> {
+/// What is known of modules without their sources: there is one, which is written in TypeScript.
+fn known_modules(alloc: Global, specifier: &Url) -> Result<BTreeMap<Url, Module>, AllocError> {
     let module = Module::Js {
         media_type: MediaType::TypeScript,
         has_types_dependency: false,
@@ -33,64 +33,106 @@ fn module_graph(alloc: Global, specifier: &Url, package: &PackageNv) -> Result<M
     };
     let mut modules = BTreeMap::new(alloc);
     modules.insert(specifier.clone()?, module)?;
+    Ok(modules)
+}
+
+/// What the package exports: the module alone.
+fn package_exports(alloc: Global) -> Result<IndexMap<String, String>> {
+    let name = String::from_str(alloc, ".")?;
+    let text = String::from_str(alloc, "./mod.ts")?;
     let mut exports = IndexMap::new(alloc);
-    exports.insert(
-        String::from_str(alloc, ".")?,
-        String::from_str(alloc, "./mod.ts")?,
-    )?;
+    exports.insert(name, text)?;
+    Ok(exports)
+}
+
+/// The packages that are known.
+fn known_packages(
+    alloc: Global,
+    package: &PackageNv,
+) -> Result<BTreeMap<PackageNv, IndexMap<String, String>>> {
+    let package = package.clone()?;
+    let exports = package_exports(alloc)?;
     let mut packages = BTreeMap::new(alloc);
-    packages.insert(package.clone()?, exports)?;
+    packages.insert(package, exports)?;
+    Ok(packages)
+}
+
+/// The graph: the module, and the package that exports it.
+fn module_graph(alloc: Global, specifier: &Url, package: &PackageNv) -> Result<ModuleGraph> {
+    let modules = known_modules(alloc, specifier)?;
+    let packages = known_packages(alloc, package)?;
     Ok(ModuleGraph::from_parts(alloc, modules, BTreeMap::new(alloc), packages)?)
 }
 
-/// The modules with their symbols. What does not fit is refused here, by the fault of its tables.
-fn root_symbol(alloc: Global, specifier: &Url, line: Line) -> Result<RootSymbol> {
+/// The module with its symbols. What does not fit is refused here, by the fault of its tables.
+fn es_module(alloc: Global, specifier: &Url, line: Line) -> Result<EsModuleInfo> {
+    let name = specifier.clone()?;
     let source = parsed_source(alloc, line)?;
     let tables = module_tables(alloc, specifier, line.declarator)?;
-    let module = EsModuleInfo::new(alloc, specifier.clone()?, source, tables)?;
+    Ok(EsModuleInfo::new(alloc, name, source, tables)?)
+}
+
+/// The modules by their names.
+fn root_symbol(alloc: Global, specifier: &Url, line: Line) -> Result<RootSymbol> {
+    let name = specifier.clone()?;
+    let module = es_module(alloc, specifier, line)?;
     let mut modules = BTreeMap::new(alloc);
-    modules.insert(specifier.clone()?, ModuleInfo::Esm(module))?;
+    modules.insert(name, ModuleInfo::Esm(module))?;
     Ok(RootSymbol::new(modules, BTreeMap::new(alloc))?)
 }
 
 /// Which package stands under which URL.
 fn provider(alloc: Global, package: &PackageNv) -> Result<ListedPackages> {
-    let mut packages = Vec::new(alloc);
-    packages.push((
-        package.clone()?,
-        Url::parse(alloc, "https://host.example/hello/")?,
-    ))?;
-    Ok(ListedPackages {
-        packages,
-        fallback: Url::parse(alloc, "https://host.example/other/")?,
-    })
+    let fallback = Url::parse(alloc, "https://host.example/other/")?;
+    let url = Url::parse(alloc, "https://host.example/hello/")?;
+    let package = package.clone()?;
+    let packages = Vec::from_array(alloc, [(package, url)])?;
+    Ok(ListedPackages { packages, fallback })
 }
 
-/// What the package of this module is answered.
-fn build(alloc: Global, line: Line) -> Result<Vec<ModuleAnswer>> {
-    let package = PackageNv {
-        name: String::from_str(alloc, "@example/hello")?,
-        version: Version::new(1, 0, 0),
-    };
-    let specifier = Url::parse(alloc, "https://host.example/hello/mod.ts")?;
-    let graph = module_graph(alloc, &specifier, &package)?;
-    let root_symbol = root_symbol(alloc, &specifier, line)?;
+/// What the package is answered: it is followed, and all that it asks of others.
+fn follow(
+    alloc: Global,
+    graph: &ModuleGraph,
+    root_symbol: &RootSymbol,
+    package: PackageNv,
+) -> Result<Vec<ModuleAnswer>> {
     let provider = provider(alloc, &package)?;
+    let pending = Vec::from_array(alloc, [package])?;
     let options = TransformOptions {
         workspace_members: Vec::new(alloc),
         should_error_on_first_diagnostic: false,
     };
-    let mut pending = VecDeque::new(alloc);
-    pending.push_back(package)?;
     Ok(build_fast_check_type_graph(
         alloc,
         None,
         &provider,
-        &graph,
-        &root_symbol,
-        pending,
+        graph,
+        root_symbol,
+        VecDeque::from(pending),
         &options,
     )?)
+}
+
+/// What the package is answered whose one module has these symbols.
+fn build_package(
+    alloc: Global,
+    specifier: &Url,
+    root_symbol: &RootSymbol,
+) -> Result<Vec<ModuleAnswer>> {
+    let package = PackageNv {
+        name: String::from_str(alloc, "@example/hello")?,
+        version: Version::new(1, 0, 0),
+    };
+    let graph = module_graph(alloc, specifier, &package)?;
+    follow(alloc, &graph, root_symbol, package)
+}
+
+/// What the package of this module is answered.
+fn build(alloc: Global, line: Line) -> Result<Vec<ModuleAnswer>> {
+    let specifier = Url::parse(alloc, "https://host.example/hello/mod.ts")?;
+    let root_symbol = root_symbol(alloc, &specifier, line)?;
+    build_package(alloc, &specifier, &root_symbol)
 }
 
 /// Builds the package of this module, and prints what it is answered.

@@ -71,19 +71,35 @@ fn hello_symbol(alloc: Global, range: SourceRange) -> Result<Symbol, AllocError>
     })
 }
 
+/// Both symbols.
+fn symbols(alloc: Global, range: SourceRange) -> Result<Vec<Symbol>, AllocError> {
+    let module = module_symbol(alloc)?;
+    let hello = hello_symbol(alloc, range)?;
+    Ok(Vec::from_array(alloc, [module, hello])?)
+}
+
+/// Which symbol an identifier stands for.
+fn identifiers(alloc: Global) -> Result<Vec<(Id, SymbolId)>, AllocError> {
+    let hello = Id(Atom::from_str(alloc, "hello")?, MODULE);
+    Ok(Vec::from_array(alloc, [(hello, HELLO)])?)
+}
+
+/// Which module an exported name leads to: its own.
+fn resolved_exports(alloc: Global, specifier: &Url) -> Result<Vec<(String, Url)>, AllocError> {
+    let name = String::from_str(alloc, "hello")?;
+    let specifier = specifier.clone()?;
+    Ok(Vec::from_array(alloc, [(name, specifier)])?)
+}
+
 /// The tables of the module of this name, where the declarator of `hello` has this range.
 pub fn module_tables(
     alloc: Global,
     specifier: &Url,
     range: SourceRange,
 ) -> Result<ModuleTables, AllocError> {
-    let mut symbols = Vec::new(alloc);
-    symbols.push(module_symbol(alloc)?)?;
-    symbols.push(hello_symbol(alloc, range)?)?;
-    let mut swc_ids = Vec::new(alloc);
-    swc_ids.push((Id(Atom::from_str(alloc, "hello")?, MODULE), HELLO))?;
-    let mut resolved_exports = Vec::new(alloc);
-    resolved_exports.push((String::from_str(alloc, "hello")?, specifier.clone()?))?;
+    let swc_ids = identifiers(alloc)?;
+    let resolved_exports = resolved_exports(alloc, specifier)?;
+    let symbols = symbols(alloc, range)?;
     Ok(ModuleTables {
         symbols,
         module_symbol: ROOT,
