@@ -72,12 +72,22 @@ fn es_module(alloc: Global, specifier: &Url, line: Line) -> Result<EsModuleInfo>
     Ok(EsModuleInfo::new(alloc, name, source, tables)?)
 }
 
+/// The module under its name.
+fn modules_by_name(
+    alloc: Global,
+    name: Url,
+    module: EsModuleInfo,
+) -> Result<BTreeMap<Url, ModuleInfo>, AllocError> {
+    let mut modules = BTreeMap::new(alloc);
+    modules.insert(name, ModuleInfo::Esm(module))?;
+    Ok(modules)
+}
+
 /// The modules by their names.
 fn root_symbol(alloc: Global, specifier: &Url, line: Line) -> Result<RootSymbol> {
     let name = specifier.clone()?;
     let module = es_module(alloc, specifier, line)?;
-    let mut modules = BTreeMap::new(alloc);
-    modules.insert(name, ModuleInfo::Esm(module))?;
+    let modules = modules_by_name(alloc, name, module)?;
     Ok(RootSymbol::new(modules, BTreeMap::new(alloc))?)
 }
 
