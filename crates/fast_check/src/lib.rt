@@ -25,10 +25,7 @@ pub mod tables {
 
 /// What is told of what is wrong.
 pub mod diagnostics {
-    pub use fast_check_tables::{
-        Diagnostic, DiagnosticLevel, DiagnosticLocation, DiagnosticSnippet, FastCheckDiagnostic,
-        FastCheckDiagnosticRange,
-    };
+    pub use fast_check_diagnostics::{Diagnostic, DiagnosticLevel, DiagnosticLocation, DiagnosticSnippet, FastCheckDiagnostic, FastCheckDiagnosticRange};
 }
 
 /// Sets of demanded names, and the modules that were followed or wait.
@@ -54,7 +51,7 @@ pub mod cache {
 pub mod range_finder {
     pub use fast_check_build::{PublicRangeFinder, find_public_ranges};
     pub use fast_check_cache::PackagePublicRanges;
-    pub use fast_check_tables::ModulePublicRanges;
+    pub use fast_check_diagnostics::ModulePublicRanges;
 }
 
 /// The skeleton of a module.

@@ -7,8 +7,8 @@ use Rattle.serde_json.specs.View.{items_of}
 use Rattle.url.specs.Parts.{Parts, serialize}
 use Rattle.fast_check_print.specs.Writing.{Adds}
 use Rattle.fast_check_print.proofs.Adding.{adds-last}
-use Rattle.fast_check_tables.specs.declared.diagnostics.range.FastCheckDiagnosticRange.{FastCheckDiagnosticRange}
-use Rattle.fast_check_tables.specs.Report.{Report}
+use Rattle.fast_check_diagnostics.specs.declared.diagnostics.range.FastCheckDiagnosticRange.{FastCheckDiagnosticRange}
+use Rattle.fast_check_diagnostics.specs.Report.{Report}
 use Rattle.fast_check_answers.specs.Diagnostics.{report_data, named, advice, text_or_null, place_or_null, level_text}
 
 -- of a page, a hint and lines

@@ -6,12 +6,12 @@ use Rattle.serde_json.specs.View.{items_of}
 use Rattle.url.specs.Parts.{Parts, serialize}
 use Rattle.fast_check_print.specs.Pieces.{range_data}
 use Rattle.fast_check_print.specs.Writing.{tokens_of}
-use Rattle.fast_check_tables.specs.declared.diagnostics.FastCheckDiagnostic.{FastCheckDiagnostic}
-use Rattle.fast_check_tables.specs.declared.diagnostics.range.FastCheckDiagnosticRange.{FastCheckDiagnosticRange}
-use Rattle.fast_check_tables.specs.declared.diagnostics.report.DiagnosticLevel.{DiagnosticLevel}
-use Rattle.fast_check_tables.specs.declared.diagnostics.report.DiagnosticLevel.TheVariants as levels
-use Rattle.fast_check_tables.specs.Diagnostic.{range_of, specifier_of, report_of}
-use Rattle.fast_check_tables.specs.Report.{Report}
+use Rattle.fast_check_diagnostics.specs.declared.diagnostics.FastCheckDiagnostic.{FastCheckDiagnostic}
+use Rattle.fast_check_diagnostics.specs.declared.diagnostics.range.FastCheckDiagnosticRange.{FastCheckDiagnosticRange}
+use Rattle.fast_check_diagnostics.specs.declared.diagnostics.report.DiagnosticLevel.{DiagnosticLevel}
+use Rattle.fast_check_diagnostics.specs.declared.diagnostics.report.DiagnosticLevel.TheVariants as levels
+use Rattle.fast_check_diagnostics.specs.Diagnostic.{range_of, specifier_of, report_of}
+use Rattle.fast_check_diagnostics.specs.Report.{Report}
 
 abbrev pub text_or_null : Option (List ℕ) → Data
 text_or_null None = null

@@ -6,13 +6,11 @@ ghost use Rattle.std.specs.String.{string_bytes};
 ghost use Rattle.serde_json.specs.Data.{string, array};
 ghost use Rattle.serde_json.specs.View.{items_of};
 ghost use Rattle.fast_check_print.specs.Writing.{Adds, WritesData};
-ghost use Rattle.fast_check_tables.specs.Diagnostic.{report_of};
+ghost use Rattle.fast_check_diagnostics.specs.Diagnostic.{report_of};
 ghost use Rattle.fast_check_answers.specs.Diagnostics.{diagnostic_data, diagnostics_array, text_or_null, place_or_null, level_text, named, advice};
 
 use fast_check_print::write_range;
-use fast_check_tables::{
-    Diagnostic, DiagnosticLevel, FastCheckDiagnostic, FastCheckDiagnosticRange,
-};
+use fast_check_diagnostics::{Diagnostic, DiagnosticLevel, FastCheckDiagnostic, FastCheckDiagnosticRange};
 use json::Writer;
 use std::alloc::{AllocError, Global};
 

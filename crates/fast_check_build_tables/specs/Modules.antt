@@ -2,9 +2,10 @@
 use Rattle.std.specs.Prelude.{◌≡◌, ◌⊎◌, List, [], ◌∷◌}
 use Rattle.std.specs.List.{AllZip}
 use Rattle.url.specs.Parts.{Parts}
-use Rattle.fast_check_modules.specs.declared.fault.TableFault.{TableFault}
+use Rattle.fast_check_symbol_tables.specs.declared.fault.TableFault.{TableFault}
 use Rattle.fast_check_modules.specs.EsModule.{EsModule, JsonModule}
-use Rattle.fast_check_modules.specs.WellFormed.{AreMadeOf, AreWellFormed, FitProgram, IsModuleFault, IsTableFault}
+use Rattle.fast_check_symbol_tables.specs.WellFormed.{AreMadeOf, AreWellFormed, IsTableFault}
+use Rattle.fast_check_modules.specs.FitProgram.{FitProgram, IsModuleFault}
 use Rattle.fast_check_graph.specs.declared.root_symbol.ModuleInfo.{ModuleInfo}
 use Rattle.fast_check_graph.specs.declared.root_symbol.ModuleInfo.TheVariants as infos
 use Rattle.fast_check_requests.specs.declared.request.EsModuleParts.{EsModuleParts}

@@ -3,7 +3,7 @@ ghost use Rattle.fast_check_syntax.specs.Part.{seen};
 ghost use Rattle.fast_check_syntax.specs.Shape.{parts};
 ghost use Rattle.fast_check_signatures.specs.Answers.{Adds, answer_to, answer_of};
 ghost use Rattle.fast_check_signatures.specs.Classes.{is_param_property, takes_apart, constructor_params_seen, constructor_seen};
-ghost use Rattle.fast_check_tables.specs.PublicRanges.{is_implementation};
+ghost use Rattle.fast_check_diagnostics.specs.PublicRanges.{is_implementation};
 ghost use Rattle.fast_check_classes.specs.Parts.{first_pattern, signed_constructor};
 ghost use Rattle.fast_check_values.specs.bindings.Bindings.{bindings_of};
 
@@ -16,7 +16,7 @@ use fast_check_modules::EsModuleInfo;
 use fast_check_ranges::range_of_node;
 use fast_check_signatures::{Fault, FaultKind};
 use fast_check_syntax::{Items, Kind, Part, SourceRange, Tree};
-use fast_check_tables::ModulePublicRanges;
+use fast_check_diagnostics::ModulePublicRanges;
 use fast_check_values::{any_params, transform_params};
 use std::alloc::{AllocError, Global};
 

@@ -2,7 +2,7 @@
 
 use anyhow::{Result, bail};
 use fast_check_syntax::{SourcePos, SourceRange};
-use fast_check_tables::{FastCheckDiagnostic, FastCheckDiagnosticRange};
+use fast_check_diagnostics::{FastCheckDiagnostic, FastCheckDiagnosticRange};
 use std::alloc::{AllocError, Global};
 use std::rc::RcStr;
 use url::Url;

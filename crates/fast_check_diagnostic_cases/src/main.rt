@@ -7,7 +7,7 @@ mod made;
 mod told;
 
 use anyhow::Result;
-use fast_check_tables::FastCheckDiagnostic;
+use fast_check_diagnostics::FastCheckDiagnostic;
 use std::fs;
 
 /// Prints what is told of a diagnostic: as JSON, by its other calls, and by itself.

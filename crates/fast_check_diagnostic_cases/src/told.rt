@@ -2,7 +2,7 @@
 
 use anyhow::Result;
 use fast_check_answers::write_diagnostics;
-use fast_check_tables::{Diagnostic, DiagnosticLocation, FastCheckDiagnostic};
+use fast_check_diagnostics::{Diagnostic, DiagnosticLocation, FastCheckDiagnostic};
 use json::Writer;
 use std::alloc::{AllocError, Global};
 use std::array;

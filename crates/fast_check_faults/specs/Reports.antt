@@ -10,11 +10,11 @@ use Rattle.fast_check_names.specs.Names.{Path}
 use Rattle.fast_check_symbols.specs.declared.symbol.Symbol.{Symbol}
 use Rattle.fast_check_symbols.specs.declared.decl.SymbolDecl.{SymbolDecl}
 use Rattle.fast_check_symbols.specs.Symbols.{symbol_of}
-use Rattle.fast_check_tables.specs.declared.diagnostics.range.FastCheckDiagnosticRange.{FastCheckDiagnosticRange}
-use Rattle.fast_check_tables.specs.declared.diagnostics.FastCheckDiagnostic.{FastCheckDiagnostic}
-use Rattle.fast_check_tables.specs.declared.diagnostics.FastCheckDiagnostic.TheVariants.{NotFoundReference}
-use Rattle.fast_check_tables.specs.declared.diagnostics.FastCheckDiagnostic.TheVariants.{UnsupportedComplexReference}
-use Rattle.fast_check_tables.specs.declared.diagnostics.FastCheckDiagnostic.TheVariants.{UnsupportedPrivateMemberReference}
+use Rattle.fast_check_diagnostics.specs.declared.diagnostics.range.FastCheckDiagnosticRange.{FastCheckDiagnosticRange}
+use Rattle.fast_check_diagnostics.specs.declared.diagnostics.FastCheckDiagnostic.{FastCheckDiagnostic}
+use Rattle.fast_check_diagnostics.specs.declared.diagnostics.FastCheckDiagnostic.TheVariants.{NotFoundReference}
+use Rattle.fast_check_diagnostics.specs.declared.diagnostics.FastCheckDiagnostic.TheVariants.{UnsupportedComplexReference}
+use Rattle.fast_check_diagnostics.specs.declared.diagnostics.FastCheckDiagnostic.TheVariants.{UnsupportedPrivateMemberReference}
 use Rattle.fast_check_demands.specs.declared.fault.FaultKind.{FaultKind}
 use Rattle.fast_check_demands.specs.declared.fault.FaultKind.TheVariants.{PrivateMember, NotFound, TooComplex}
 use Rattle.fast_check_demands.specs.Yields.{Fault}

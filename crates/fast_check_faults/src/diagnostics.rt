@@ -9,7 +9,7 @@ ghost use Rattle.fast_check_faults.specs.Reports.{report_of, told, name_of, full
 
 use fast_check_demands::{CheckedTables, FaultKind, SourceRange, SymbolFault, SymbolId};
 use fast_check_symbols::Symbol;
-use fast_check_tables::{FastCheckDiagnostic, FastCheckDiagnosticRange};
+use fast_check_diagnostics::{FastCheckDiagnostic, FastCheckDiagnosticRange};
 use std::alloc::{AllocError, Global};
 use std::rc::RcStr;
 use url::Url;

@@ -22,8 +22,8 @@ use Rattle.fast_check_symbols.specs.declared.node.SymbolDep.{SymbolDep}
 use Rattle.fast_check_symbols.specs.declared.node.SymbolDep.TheVariants as deps
 use Rattle.fast_check_symbols.specs.declared.node.SymbolNodeDep.{SymbolNodeDep}
 use Rattle.fast_check_symbols.specs.Symbols.{symbol_of, has_id}
-use Rattle.fast_check_modules.specs.declared.tables.ReExportAllNode.{ReExportAllNode}
-use Rattle.fast_check_modules.specs.Tables.{Tables, resolved_export}
+use Rattle.fast_check_symbol_tables.specs.declared.tables.ReExportAllNode.{ReExportAllNode}
+use Rattle.fast_check_symbol_tables.specs.Tables.{Tables, resolved_export}
 use Rattle.fast_check_graph.specs.declared.root_symbol.ModuleInfo.{ModuleInfo}
 use Rattle.fast_check_graph.specs.Modules.{is_typed_module}
 use Rattle.fast_check_graph.specs.Graph.{is_specifier, text_resolved}

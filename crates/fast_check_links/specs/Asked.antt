@@ -1,13 +1,13 @@
 -- What is asked of a module beside its tree.
 use Rattle.fast_check_tables.specs.MediaType.{is_declaration}
-use Rattle.fast_check_tables.specs.PublicRanges.{PublicRanges, is_public, is_implementation}
+use Rattle.fast_check_diagnostics.specs.PublicRanges.{PublicRanges, is_public, is_implementation}
 use Rattle.fast_check_graph.specs.declared.graph.ModuleGraph.{ModuleGraph}
 use Rattle.fast_check_modules.specs.EsModule.{EsModule}
 use Rattle.fast_check_bindings.specs.Bindings.{bindings_of}
 use Rattle.fast_check_skeleton.specs.expandos.ModuleObjects.{objects_of}
 use Rattle.fast_check_sources.specs.Sources.{relative_source}
 use Rattle.fast_check_skeleton.specs.Surroundings.{Surroundings}
-use Rattle.fast_check_links.specs.declared.asked.Asked.{Asked}
+use Rattle.fast_check_asked.specs.declared.asked.Asked.{Asked}
 
 -- what a module's skeleton depends on beside its tree: what is public of it, what is known of its names, whether it is a declaration file, all of which is
 -- ambient, where the graph leads its sources, and what is known of the objects of its expando properties

@@ -4,7 +4,7 @@ use fast_check_graph::ModuleGraph;
 use fast_check_modules::EsModuleInfo;
 use fast_check_statement_forms::TsModuleDecl;
 use fast_check_syntax::Part;
-use fast_check_tables::ModulePublicRanges;
+use fast_check_diagnostics::ModulePublicRanges;
 
 /// What the transform asks beside the tree.
 #[derive(Clone, Copy)]
@@ -20,7 +20,7 @@ pub struct Asked<'a> {
 impl<'a> Asked<'a> {
     ghost use Rattle.fast_check_syntax.specs.Part.{seen};
     ghost use Rattle.fast_check_skeleton.specs.Surroundings.{inside};
-    ghost use Rattle.fast_check_links.specs.Asked.{Asked-around, surroundings_of};
+    ghost use Rattle.fast_check_asked.specs.Asked.{Asked-around, surroundings_of};
 
     /// What is asked of a module of this graph, with these public ranges.
     pub fn of(

@@ -3,7 +3,7 @@ ghost use Rattle.fast_check_syntax.specs.Part.{seen};
 ghost use Rattle.fast_check_signatures.specs.Answers.{faultless};
 ghost use Rattle.fast_check_skeleton.specs.Links.{answered_source, public_specifiers};
 ghost use Rattle.fast_check_skeleton.specs.declared.rules.LinkRule.TheVariants as links;
-ghost use Rattle.fast_check_links.specs.Asked.{Asked-around};
+ghost use Rattle.fast_check_asked.specs.Asked.{Asked-around};
 ghost use Rattle.fast_check_links.specs.Links.{as_list, link_answer};
 
 use crate::asked::Asked;

@@ -5,13 +5,13 @@ use Rattle.url.specs.Parts.{Parts}
 use Rattle.fast_check_syntax.specs.declared.source.SourceRange.{SourceRange}
 use Rattle.fast_check_syntax.specs.declared.tree.Tree.{Tree}
 use Rattle.fast_check_tables.specs.declared.tables.parsed_source.ParsedSource.{ParsedSource}
-use Rattle.fast_check_tables.specs.PublicRanges.{PublicRanges, is_public, same_range}
+use Rattle.fast_check_diagnostics.specs.PublicRanges.{PublicRanges, is_public, same_range}
 use Rattle.fast_check_modules.specs.declared.expandos.Expando.{Expando}
-use Rattle.fast_check_modules.specs.declared.fault.TableFault.{TableFault}
-use Rattle.fast_check_modules.specs.declared.fault.TableFault.TheVariants.{MissingSymbol, SymbolWithoutDecl, ModuleNotUnderOwnName}
-use Rattle.fast_check_modules.specs.declared.fault.TableFault.TheVariants.{ExpandoWithoutSymbol, OutOfMemory}
+use Rattle.fast_check_symbol_tables.specs.declared.fault.TableFault.{TableFault}
+use Rattle.fast_check_symbol_tables.specs.declared.fault.TableFault.TheVariants.{MissingSymbol, SymbolWithoutDecl, ModuleNotUnderOwnName}
+use Rattle.fast_check_symbol_tables.specs.declared.fault.TableFault.TheVariants.{ExpandoWithoutSymbol, OutOfMemory}
 use Rattle.fast_check_modules.specs.Expandos.{expandos}
-use Rattle.fast_check_modules.specs.Tables.{Tables, symbol_of_swc, table_ranges}
+use Rattle.fast_check_symbol_tables.specs.Tables.{Tables, symbol_of_swc, table_ranges}
 
 -- of an ECMAScript module, its name, its source and its tables
 pub record EsModule : Type 0 where

@@ -1,7 +1,5 @@
 pub use Rattle.fast_check_tables.specs.MediaType
 pub use Rattle.fast_check_symbols.specs as symbols
 pub mod Expandos
-pub mod Faults
-pub mod Tables
-pub mod WellFormed
+pub mod FitProgram
 pub mod EsModule

@@ -1,16 +1,16 @@
 ghost use Rattle.std.specs.Prelude.{◌≡◌, IfOk, IfErr, OnOk, IsTrue, ◌↔◌};
 ghost use Rattle.std.specs.Option.{option_copied};
 ghost use Rattle.fast_check_modules.specs.EsModule.{AreRead};
-ghost use Rattle.fast_check_modules.specs.WellFormed.{AreMadeOf, FitProgram, IsModuleFault};
+ghost use Rattle.fast_check_symbol_tables.specs.WellFormed.{AreMadeOf};
+ghost use Rattle.fast_check_modules.specs.FitProgram.{FitProgram, IsModuleFault};
 
-use crate::checked::CheckedTables;
 use crate::expandos::Expando;
-use crate::fault::TableFault;
-use crate::tables::{ModuleTables, ReExportAllNode};
 use crate::unbound::{any_public_unbound, bound_expandos};
+use fast_check_symbol_tables::{CheckedTables, ModuleTables, ReExportAllNode, TableFault};
 use fast_check_symbols::{Symbol, SymbolId};
 use fast_check_syntax::{Id, Tree};
-use fast_check_tables::{ModulePublicRanges, ParsedSource};
+use fast_check_diagnostics::ModulePublicRanges;
+use fast_check_tables::ParsedSource;
 use std::alloc::Global;
 use std::marker::Model;
 use url::Url;
@@ -40,8 +40,9 @@ impl Model for EsModuleInfo {
 }
 
 impl EsModuleInfo {
-    ghost use Rattle.fast_check_modules.specs.Tables.{symbol_of_swc, resolved_export};
-    ghost use Rattle.fast_check_modules.specs.WellFormed.{AreMadeOf, FitProgram, IsModuleFault};
+    ghost use Rattle.fast_check_symbol_tables.specs.Tables.{symbol_of_swc, resolved_export};
+    ghost use Rattle.fast_check_symbol_tables.specs.WellFormed.{AreMadeOf};
+    ghost use Rattle.fast_check_modules.specs.FitProgram.{FitProgram, IsModuleFault};
     ghost use Rattle.fast_check_modules.specs.EsModule.{Admits, AreOwnRanges};
     ghost use Rattle.fast_check_symbols.specs.Symbols.{symbol_of, place_of};
 

@@ -1,9 +1,7 @@
 ghost use Rattle.std.specs.Prelude.{◌≡◌, IfOk, IfErr, OnOk};
 ghost use Rattle.std.specs.Option.{option_copied};
 
-use crate::checked::CheckedTables;
-use crate::fault::TableFault;
-use crate::tables::{ModuleTables, ReExportAllNode};
+use fast_check_symbol_tables::{CheckedTables, ModuleTables, ReExportAllNode, TableFault};
 use fast_check_symbols::{Symbol, SymbolId};
 use fast_check_syntax::Id;
 use std::alloc::Global;
@@ -26,8 +24,8 @@ impl Model for JsonModuleInfo {
 }
 
 impl JsonModuleInfo {
-    ghost use Rattle.fast_check_modules.specs.Tables.{symbol_of_swc, resolved_export};
-    ghost use Rattle.fast_check_modules.specs.WellFormed.{AreMadeOf, AreWellFormed, IsTableFault};
+    ghost use Rattle.fast_check_symbol_tables.specs.Tables.{symbol_of_swc, resolved_export};
+    ghost use Rattle.fast_check_symbol_tables.specs.WellFormed.{AreMadeOf, AreWellFormed, IsTableFault};
     ghost use Rattle.fast_check_symbols.specs.Symbols.{symbol_of, place_of};
 
     /// The module of this name and these tables. Of several faults the first is answered, and what was handed in is dropped.

@@ -1,15 +1,28 @@
 ghost use Rattle.std.specs.Prelude.{◌≡◌, ◌++◌, flat_map, map, IfOk, OnOk};
 ghost use Rattle.std.specs.List.{list_any};
-ghost use Rattle.fast_check_tables.specs.PublicRanges.{same_range};
+ghost use Rattle.fast_check_diagnostics.specs.PublicRanges.{same_range};
+ghost use Rattle.fast_check_symbol_tables.specs.Tables.{table_ranges};
 
-use crate::tables::ReExportAllNode;
+use fast_check_diagnostics::range_set;
+use fast_check_symbol_tables::{CheckedTables, ReExportAllNode};
 use fast_check_symbols::{Symbol, SymbolDecl};
 use fast_check_syntax::SourceRange;
 use std::alloc::{AllocError, Global};
 use std::collections::BTreeSet;
 
+/// The ranges of the declarations of tables and of their re-exports of all.
+pub fn ranges_of(alloc: Global, tables: &CheckedTables) -> Result<BTreeSet<SourceRange>, AllocError>
+    ensures { IfOk result (λ set. (r : _)
+        → list_any (same_range r) set.keys ≡ list_any (same_range r) (table_ranges tables.now.symbols tables.now.re_exports)) }
+{
+    let mut ranges = Vec::new(alloc);
+    push_declarations(tables.symbols(), &mut ranges)?;
+    push_re_exports(tables.re_export_all_nodes(), &mut ranges)?;
+    range_set(alloc, ranges)
+}
+
 /// Pushes the ranges of the declarations of symbols.
-pub fn push_declarations(symbols: &[Symbol], out: &mut Vec<SourceRange>) -> Result<(), AllocError>
+fn push_declarations(symbols: &[Symbol], out: &mut Vec<SourceRange>) -> Result<(), AllocError>
     ensures { OnOk result (out.new.items ≡ out.old.items ++ flat_map (λ s. map (λ d. d.range) s.decls.items) symbols.now) }
 {
     for symbol in symbols {
@@ -28,7 +41,7 @@ fn push_decls(decls: &[SymbolDecl], out: &mut Vec<SourceRange>) -> Result<(), Al
 }
 
 /// Pushes the ranges of re-exports of all.
-pub fn push_re_exports(
+fn push_re_exports(
     nodes: &[ReExportAllNode],
     out: &mut Vec<SourceRange>,
 ) -> Result<(), AllocError>
@@ -38,14 +51,4 @@ pub fn push_re_exports(
         out.push(node.range)?;
     }
     Ok(())
-}
-
-/// The set of these ranges.
-pub fn range_set(
-    alloc: Global,
-    ranges: Vec<SourceRange>,
-) -> Result<BTreeSet<SourceRange>, AllocError>
-    ensures { IfOk result (λ set. (r : _) → list_any (same_range r) set.keys ≡ list_any (same_range r) ranges.items) }
-{
-    ranges.into_iter().collect(alloc)
 }

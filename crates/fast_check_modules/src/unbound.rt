@@ -2,14 +2,14 @@
 
 ghost use Rattle.std.specs.Prelude.{◌≡◌, ◌&&◌, IfOk, IfErr};
 ghost use Rattle.std.specs.List.{list_any};
-ghost use Rattle.fast_check_tables.specs.PublicRanges.{same_range};
+ghost use Rattle.fast_check_diagnostics.specs.PublicRanges.{same_range};
 ghost use Rattle.fast_check_modules.specs.EsModule.{AreRead, IsUnboundFault, is_unbound, is_ranged_unbound, is_public_unbound};
 
-use crate::checked::CheckedTables;
 use crate::expandos::{Expando, expandos_of};
-use crate::fault::TableFault;
+use crate::ranges::ranges_of;
+use fast_check_symbol_tables::{CheckedTables, TableFault};
 use fast_check_syntax::{SourceRange, Tree};
-use fast_check_tables::ModulePublicRanges;
+use fast_check_diagnostics::ModulePublicRanges;
 use std::alloc::{AllocError, Global};
 use std::collections::BTreeSet;
 
@@ -40,7 +40,7 @@ fn any_unbound(
     if expandos.is_empty() {
         return Ok(false);
     }
-    let ranges = tables.ranges(alloc)?;
+    let ranges = ranges_of(alloc, tables)?;
     Ok(any_unbound_within(tables, &ranges, expandos))
 }
 

@@ -6,7 +6,7 @@ use Rattle.std.specs.Str.{bytes_eq}
 use Rattle.url.specs.Parts.{Parts, serialize}
 use Rattle.fast_check_packages.specs.Package.{Nv, nv_of}
 use Rattle.fast_check_packages.specs.declared.package.PackageNv.{PackageNv}
-use Rattle.fast_check_tables.specs.PublicRanges.{same_range}
+use Rattle.fast_check_diagnostics.specs.PublicRanges.{same_range}
 use Rattle.fast_check_told_faults.specs.Once.{where_found, tells, any_report}
 use Rattle.fast_check_worklists.specs.Demands.{Text, same_nv}
 use Rattle.fast_check_findings.specs.declared.finding.Finding.{Finding}

@@ -4,7 +4,7 @@ use Rattle.std.specs.List.{list_any}
 use Rattle.std.specs.Str.{bytes_eq}
 use Rattle.fast_check_syntax.specs.declared.source.SourceRange.{SourceRange}
 use Rattle.fast_check_packages.specs.Package.{Nv}
-use Rattle.fast_check_tables.specs.PublicRanges.{same_range}
+use Rattle.fast_check_diagnostics.specs.PublicRanges.{same_range}
 use Rattle.fast_check_findings.specs.faults.Reports.{Report}
 use Rattle.fast_check_told_faults.specs.Once.{same_report}
 use Rattle.fast_check_worklists.specs.Demands.{Text, same_nv}

@@ -8,7 +8,7 @@ ghost use Rattle.fast_check_package_ranges.specs.Parts.{is_text, module_says, mo
 
 use fast_check_packages::PackageNv;
 use fast_check_syntax::SourceRange;
-use fast_check_tables::FastCheckDiagnostic;
+use fast_check_diagnostics::FastCheckDiagnostic;
 use std::alloc::{AllocError, Global};
 use std::collections::BTreeMap;
 use url::Url;

@@ -12,7 +12,7 @@ use fast_check_modules::EsModuleInfo;
 use fast_check_requests::{
     Ending, EsModuleParts, Refusal, TransformRequest, is_call, read_bytes, read_request,
 };
-use fast_check_tables::ModulePublicRanges;
+use fast_check_diagnostics::ModulePublicRanges;
 use fast_check_transform::{TransformOptions, transform};
 use std::alloc::{AllocError, Global};
 use std::io::{Read, Write};

@@ -19,7 +19,8 @@ use fast_check_read::{
 use fast_check_read_tables::{read_graph, read_member, read_module_tables};
 use fast_check_schema::{Choice, Form};
 use fast_check_syntax::{SourceRange, SyntaxContext, Tree};
-use fast_check_tables::{ModulePublicRanges, ModuleSpecifier, ParsedSource};
+use fast_check_diagnostics::ModulePublicRanges;
+use fast_check_tables::{ModuleSpecifier, ParsedSource};
 use serde_json::Value;
 use std::alloc::Global;
 use std::rc::RcStr;

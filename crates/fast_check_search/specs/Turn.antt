@@ -2,7 +2,7 @@
 use Rattle.std.specs.Prelude.{◌≡◌, ℕ, ◌≤◌, List, ◌++◌, length, take, map}
 use Rattle.std.specs.List.{Contains}
 use Rattle.fast_check_syntax.specs.declared.source.SourceRange.{SourceRange}
-use Rattle.fast_check_modules.specs.Tables.{Tables, table_ranges}
+use Rattle.fast_check_symbol_tables.specs.Tables.{Tables, table_ranges}
 use Rattle.fast_check_files.specs.demands.Demands.{Demand}
 use Rattle.fast_check_files.specs.demands.Rules.{names}
 use Rattle.fast_check_files.specs.demands.Account.{Chained, IsCovered, IsYield}

@@ -4,14 +4,14 @@ ghost use Rattle.fast_check_syntax.specs.Part.{seen};
 ghost use Rattle.fast_check_expression_forms.specs.Calls.{MemberExpr-span};
 ghost use Rattle.fast_check_expression_forms.specs.Operators.{AssignExpr-span, AssignExpr-left};
 ghost use Rattle.fast_check_modules.specs.Expandos.{is_expando_assignment};
-ghost use Rattle.fast_check_modules.specs.Tables.{symbol_of_swc};
+ghost use Rattle.fast_check_symbol_tables.specs.Tables.{symbol_of_swc};
 ghost use Rattle.fast_check_signatures.specs.declared.fault.FaultKind.TheVariants as kinds;
 ghost use Rattle.fast_check_signatures.specs.Answers.{Adds, fault_at};
 ghost use Rattle.fast_check_expandos.specs.Assignments.{missing_place, kept_property};
 ghost use Rattle.fast_check_expandos.specs.Expandos.{object_of, property_name};
 ghost use Rattle.fast_check_expandos.specs.ModuleObjects.{objects_of};
 ghost use Rattle.fast_check_expandos.specs.Objects.{exports_name};
-ghost use Rattle.fast_check_links.specs.Asked.{Asked-around};
+ghost use Rattle.fast_check_asked.specs.Asked.{Asked-around};
 ghost use Rattle.fast_check_statements.specs.Assigned.{assignment_answer, assignment_properties, missing_at};
 
 use crate::declarations::keep_value;

@@ -7,7 +7,7 @@ ghost use Rattle.fast_check_helpers.specs.Builders.{never_value};
 ghost use Rattle.fast_check_signatures.specs.Answers.{Adds, faultless};
 ghost use Rattle.fast_check_links.specs.skeleton.Mutability.{mutability_of};
 ghost use Rattle.fast_check_links.specs.skeleton.Visible.{is_ambient_statement, is_public_declarator, is_public_using, using_place};
-ghost use Rattle.fast_check_links.specs.Asked.{Asked-around};
+ghost use Rattle.fast_check_asked.specs.Asked.{Asked-around};
 ghost use Rattle.fast_check_links.specs.Links.{as_list};
 ghost use Rattle.fast_check_statements.specs.PartAnswers.{retyped, value_answer, valued_answer, ident_answer};
 ghost use Rattle.fast_check_statements.specs.PartAnswers.{declarator_answer, public_answer, declarators_answer, statement_answer, standing_answer};

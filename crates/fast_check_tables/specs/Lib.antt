@@ -1,8 +1,1 @@
-pub mod PublicRanges
-pub mod DiagnosticRange
-pub mod DiagnosticCopy
-pub mod Report
-pub mod Subject
-pub mod KindTexts
-pub mod Diagnostic
 pub mod MediaType

@@ -1,16 +1,9 @@
-//! What the passes over a module read, and what they report: public ranges, diagnostics, sources, skeletons.
+//! A module's source, and the skeleton that answers it.
 #![tactic(auto)]
 
-mod diagnostics;
-mod public_ranges;
 mod tables;
 
-pub use diagnostics::{
-    Diagnostic, DiagnosticLevel, DiagnosticLocation, DiagnosticSnippet, FastCheckDiagnostic,
-    FastCheckDiagnosticRange,
-};
 pub use fast_check_packages::{PackageNv, WorkspaceMember};
-pub use public_ranges::ModulePublicRanges;
 pub use tables::{
     FastCheckModule, MediaType, ModuleInfo, ModuleSpecifier, ParsedSource, StaticSource,
 };

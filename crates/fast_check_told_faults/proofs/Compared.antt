@@ -10,7 +10,7 @@ use Rattle.fast_check_syntax.specs.contracts.source.SourceRangeOrd.TheImpl as ra
 use Rattle.fast_check_demands.specs.contracts.fault.FaultKindOrd.TheImpl as kind_order
 use Rattle.fast_check_demands.specs.declared.fault.FaultKind.{FaultKind}
 use Rattle.fast_check_demands.specs.declared.fault.FaultKind.TheVariants.{PrivateMember, NotFound, TooComplex}
-use Rattle.fast_check_tables.specs.PublicRanges.{same_range}
+use Rattle.fast_check_diagnostics.specs.PublicRanges.{same_range}
 use Rattle.fast_check_faults.specs.Once.{same_kind}
 use Rattle.fast_check_told_faults.specs.contracts.once.ToldFaultOrd.TheImpl as order
 use Rattle.fast_check_told_faults.specs.declared.once.ToldFault.{ToldFault}

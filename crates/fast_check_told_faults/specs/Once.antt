@@ -3,13 +3,13 @@ use Rattle.std.specs.Prelude.{⊤, [], ◌∷◌, ◌&&◌, Option, Some, None, 
 use Rattle.std.specs.Rc.{rc_str_bytes}
 use Rattle.std.specs.declared.alloc.Global.{Global}
 use Rattle.std.specs.declared.rc.RcStr.{RcStr}
-use Rattle.fast_check_tables.specs.declared.diagnostics.FastCheckDiagnostic.{FastCheckDiagnostic}
-use Rattle.fast_check_tables.specs.declared.diagnostics.FastCheckDiagnostic.TheVariants.{ExportNotFound}
-use Rattle.fast_check_tables.specs.declared.diagnostics.FastCheckDiagnostic.TheVariants.{UnsupportedJavaScriptEntrypoint}
-use Rattle.fast_check_tables.specs.declared.diagnostics.FastCheckDiagnostic.TheVariants.{UnsupportedNestedJavaScript}
+use Rattle.fast_check_diagnostics.specs.declared.diagnostics.FastCheckDiagnostic.{FastCheckDiagnostic}
+use Rattle.fast_check_diagnostics.specs.declared.diagnostics.FastCheckDiagnostic.TheVariants.{ExportNotFound}
+use Rattle.fast_check_diagnostics.specs.declared.diagnostics.FastCheckDiagnostic.TheVariants.{UnsupportedJavaScriptEntrypoint}
+use Rattle.fast_check_diagnostics.specs.declared.diagnostics.FastCheckDiagnostic.TheVariants.{UnsupportedNestedJavaScript}
 use Rattle.std.specs.Str.{bytes_eq}
 use Rattle.url.specs.Parts.{serialize}
-use Rattle.fast_check_tables.specs.PublicRanges.{same_range}
+use Rattle.fast_check_diagnostics.specs.PublicRanges.{same_range}
 use Rattle.fast_check_faults.specs.Once.{same_kind}
 use Rattle.fast_check_faults.specs.Reports.{Report, told}
 use Rattle.fast_check_told_faults.specs.declared.once.ToldFault.{ToldFault}

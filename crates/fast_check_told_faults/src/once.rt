@@ -6,7 +6,7 @@ ghost use Rattle.fast_check_told_faults.specs.Once.{IsFair, any_report, entry_te
 
 use fast_check_demands::FaultKind;
 use fast_check_syntax::SourceRange;
-use fast_check_tables::{FastCheckDiagnostic, FastCheckDiagnosticRange};
+use fast_check_diagnostics::{FastCheckDiagnostic, FastCheckDiagnosticRange};
 use std::alloc::{AllocError, Global};
 use std::collections::BTreeMap;
 use std::rc::RcStr;

@@ -9,7 +9,7 @@ use Rattle.fast_check_program_forms.specs.Programs.{Module-span, Module-body, Mo
 use Rattle.fast_check_graph.specs.declared.graph.ModuleGraph.{ModuleGraph}
 use Rattle.fast_check_modules.specs.EsModule.{EsModule}
 use Rattle.fast_check_tables.specs.MediaType.{is_declaration}
-use Rattle.fast_check_tables.specs.PublicRanges.{PublicRanges}
+use Rattle.fast_check_diagnostics.specs.PublicRanges.{PublicRanges}
 use Rattle.fast_check_signatures.specs.declared.fault.Fault.{Fault}
 use Rattle.fast_check_signatures.specs.Answers.{Adds}
 use Rattle.fast_check_signatures.proofs.Adding.{adds_made}

@@ -10,9 +10,8 @@ use crate::program::{KeptModule, keep_module};
 use fast_check_declarations::links::static_sources;
 use fast_check_graph::ModuleGraph;
 use fast_check_modules::EsModuleInfo;
-use fast_check_tables::{
-    FastCheckDiagnostic, FastCheckModule, ModuleInfo, ModulePublicRanges, WorkspaceMember,
-};
+use fast_check_diagnostics::{FastCheckDiagnostic, ModulePublicRanges};
+use fast_check_tables::{FastCheckModule, ModuleInfo, WorkspaceMember};
 use fast_check_transform_faults::tell;
 use std::alloc::{AllocError, Global};
 

@@ -14,7 +14,7 @@ use fast_check_modules::EsModuleInfo;
 use fast_check_program_forms::Module;
 use fast_check_signatures::Fault;
 use fast_check_syntax::{Part, Tree};
-use fast_check_tables::ModulePublicRanges;
+use fast_check_diagnostics::ModulePublicRanges;
 use std::alloc::{AllocError, Global};
 
 /// What is public of a module, the comments that stay with it, and what is wrong with it, in reading order.

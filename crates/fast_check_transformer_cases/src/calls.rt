@@ -3,7 +3,7 @@ use fast_check_graph::ModuleGraph;
 use fast_check_modules::{EsModuleInfo, TableFault};
 use fast_check_requests::{EsModuleParts, Refusal, TransformRequest};
 use fast_check_said::Said;
-use fast_check_tables::{Diagnostic, FastCheckDiagnostic, ModulePublicRanges};
+use fast_check_diagnostics::{Diagnostic, FastCheckDiagnostic, ModulePublicRanges};
 use fast_check_transformer::FastCheckTransformer;
 use std::alloc::{AllocError, Global};
 

@@ -11,7 +11,7 @@ use Rattle.fast_check_worklists.specs.declared.asked.Step.{Step}
 use Rattle.fast_check_worklists.specs.Demands.{Text}
 use Rattle.fast_check_worklists.specs.Account.{Trace}
 use Rattle.fast_check_worklists.specs.State.{want_of, State, AsksAll}
-use Rattle.fast_check_tables.specs.declared.diagnostics.FastCheckDiagnostic.{FastCheckDiagnostic}
+use Rattle.fast_check_diagnostics.specs.declared.diagnostics.FastCheckDiagnostic.{FastCheckDiagnostic}
 use Rattle.fast_check_faults.specs.Reports.{told}
 use Rattle.fast_check_entries.specs.findings.Yields.{Yield, recorded, public, implementing}
 use Rattle.fast_check_entries.specs.findings.Findings.{diagnostic_yields}

@@ -22,7 +22,7 @@ use fast_check_packages::PackageNv;
 use fast_check_provider::JsrUrlProvider;
 use fast_check_search::Found;
 use fast_check_syntax::SourceRange;
-use fast_check_tables::FastCheckDiagnostic;
+use fast_check_diagnostics::FastCheckDiagnostic;
 use fast_check_traces::{Traced, TracedModule, tables_of, trace};
 use fast_check_worklists::Step;
 use std::alloc::{AllocError, Global};

@@ -16,7 +16,7 @@ use fast_check_graph::{ModuleGraph, ModuleInfo};
 use fast_check_packages::PackageNv;
 use fast_check_provider::JsrUrlProvider;
 use fast_check_syntax::SourceRange;
-use fast_check_tables::FastCheckDiagnostic;
+use fast_check_diagnostics::FastCheckDiagnostic;
 use fast_check_worklists::{Asked, PendingTrace, Step};
 use std::alloc::{AllocError, Global};
 use url::Url;

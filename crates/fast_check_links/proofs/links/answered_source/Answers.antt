@@ -1,7 +1,7 @@
 use Rattle.std.proofs.Common.{sym, ◌∙◌}
 use Rattle.std.proofs.lemmas.Result.{IfOk-weaker}
 use Rattle.fast_check_syntax.specs.Part.{seen}
-use Rattle.fast_check_links.specs.Asked.{Asked-around}
+use Rattle.fast_check_asked.specs.Asked.{Asked-around}
 use Rattle.fast_check_links.proofs.LinkCases.{own_source}
 use Rattle.fast_check_links.proofs.links.answered_source.Goals as goal
 

@@ -1,6 +1,6 @@
 use Rattle.std.proofs.Common.{◌≡◌, ◌&&◌, false, take}
 use Rattle.std.specs.List.{list_any}
-use Rattle.fast_check_tables.specs.PublicRanges.{same_range}
+use Rattle.fast_check_diagnostics.specs.PublicRanges.{same_range}
 use Rattle.fast_check_modules.specs.EsModule.{is_unbound}
 use Rattle.fast_check_modules.proofs.unbound.any_unbound_within.Given as goal
 

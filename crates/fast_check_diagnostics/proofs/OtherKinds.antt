@@ -1,0 +1,53 @@
+-- What is told of the diagnostics whose kinds have no rule of their own.
+use Rattle.std.proofs.Common.{◌≡◌, refl}
+use Rattle.fast_check_diagnostics.specs.declared.diagnostics.FastCheckDiagnostic.{FastCheckDiagnostic}
+use Rattle.fast_check_diagnostics.specs.declared.diagnostics.FastCheckDiagnostic.TheVariants.{MissingExplicitReturnType, UnsupportedExpandoProperty}
+use Rattle.fast_check_diagnostics.specs.declared.diagnostics.FastCheckDiagnostic.TheVariants.{NotFoundReference, UnsupportedComplexReference}
+use Rattle.fast_check_diagnostics.specs.declared.diagnostics.FastCheckDiagnostic.TheVariants.{UnsupportedPrivateMemberReference, Emit, ExportNotFound}
+use Rattle.fast_check_diagnostics.specs.declared.diagnostics.FastCheckDiagnostic.TheVariants.{UnsupportedJavaScriptEntrypoint}
+use Rattle.fast_check_diagnostics.specs.declared.diagnostics.report.DiagnosticLevel.TheVariants.{Error}
+use Rattle.fast_check_diagnostics.specs.Diagnostic.{level_of, message_of, hint_of, info_of, texts_of}
+
+-- they are errors
+pub other_levels : (d : FastCheckDiagnostic)
+    → ((specifier : _) → d ≡ UnsupportedJavaScriptEntrypoint specifier → ⊥)
+    → Error ≡ level_of d
+unfolding level_of
+other_levels (UnsupportedJavaScriptEntrypoint specifier) none = absurd (none specifier refl)
+other_levels _ none = refl
+
+-- their messages are those of the kind
+pub other_messages : (d : FastCheckDiagnostic)
+    → ((range name referrer : _) → d ≡ NotFoundReference range name referrer → ⊥)
+    → ((range name referrer : _) → d ≡ UnsupportedComplexReference range name referrer → ⊥)
+    → ((range object_name reference_name : _) → d ≡ UnsupportedExpandoProperty range object_name reference_name → ⊥)
+    → ((range name referrer : _) → d ≡ UnsupportedPrivateMemberReference range name referrer → ⊥)
+    → ((specifier inner : _) → d ≡ Emit specifier inner → ⊥)
+    → ((specifier : _) → d ≡ ExportNotFound specifier → ⊥)
+    → (texts_of d).message ≡ message_of d
+unfolding message_of
+other_messages (NotFoundReference range name referrer) none _ _ _ _ _ = absurd (none range name referrer refl)
+other_messages (UnsupportedComplexReference range name referrer) _ none _ _ _ _ = absurd (none range name referrer refl)
+other_messages (UnsupportedExpandoProperty range object_name reference_name) _ _ none _ _ _ = absurd (none range object_name reference_name refl)
+other_messages (UnsupportedPrivateMemberReference range name referrer) _ _ _ none _ _ = absurd (none range name referrer refl)
+other_messages (Emit specifier inner) _ _ _ _ none _ = absurd (none specifier inner refl)
+other_messages (ExportNotFound specifier) _ _ _ _ _ none = absurd (none specifier refl)
+other_messages _ _ _ _ _ _ _ = refl
+
+-- their hints are those of the kind
+pub other_hints : (d : FastCheckDiagnostic)
+    → ((range : _) (definite is_async : _) → d ≡ MissingExplicitReturnType range definite is_async → ⊥)
+    → ((range object_name reference_name : _) → d ≡ UnsupportedExpandoProperty range object_name reference_name → ⊥)
+    → (texts_of d).hint ≡ hint_of d
+unfolding hint_of
+other_hints (MissingExplicitReturnType range definite is_async) none _ = absurd (none range definite is_async refl)
+other_hints (UnsupportedExpandoProperty range object_name reference_name) _ none = absurd (none range object_name reference_name refl)
+other_hints _ _ _ = refl
+
+-- their lines are those of the kind
+pub other_info : (d : FastCheckDiagnostic)
+    → ((range : _) (definite is_async : _) → d ≡ MissingExplicitReturnType range definite is_async → ⊥)
+    → (texts_of d).info ≡ info_of d
+unfolding info_of
+other_info (MissingExplicitReturnType range definite is_async) none = absurd (none range definite is_async refl)
+other_info _ _ = refl

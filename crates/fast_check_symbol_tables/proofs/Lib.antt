@@ -1,0 +1,6 @@
+pub mod Mentions
+pub mod Witness
+pub mod Alike
+pub mod TableFaults
+pub mod EntriesMissed
+pub mod Pushed

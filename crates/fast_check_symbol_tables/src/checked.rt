@@ -1,0 +1,124 @@
+ghost use Rattle.std.specs.Prelude.{◌≡◌, IfOk, IfErr, OnOk, Some};
+ghost use Rattle.std.specs.Option.{option_copied};
+
+use crate::fault::TableFault;
+use crate::faults::{lacks_declaration, misses_symbol};
+use crate::tables::{ModuleTables, ReExportAllNode};
+use fast_check_symbols::{Symbol, SymbolId, SymbolTable, map_of};
+use fast_check_syntax::Id;
+use std::alloc::Global;
+use std::collections::BTreeMap;
+use std::marker::Model;
+use url::Url;
+
+/// The tables of a module, of which each mentioned id has its symbol.
+#[derive(Drop)]
+pub struct CheckedTables {
+    symbols: SymbolTable,
+    module_symbol: SymbolId,
+    swc_ids: BTreeMap<Id, SymbolId>,
+    re_export_all_nodes: Vec<ReExportAllNode>,
+    resolved_exports: BTreeMap<String, Url>,
+}
+
+impl Model for CheckedTables {
+    ghost use Rattle.std.specs.Prelude.{map, string_bytes};
+    ghost use Rattle.fast_check_symbol_tables.specs.Tables.{Tables};
+
+    ghost Value = { Tables };
+
+    ghost view = { λ t. record {
+      symbols = t.symbols;
+      module_symbol = t.module_symbol;
+      swc_ids = t.swc_ids.entries;
+      re_exports = t.re_export_all_nodes.items;
+      resolved = map (λ e. (string_bytes e.0, e.1)) t.resolved_exports.entries;
+    } };
+}
+
+impl CheckedTables {
+    ghost use Rattle.fast_check_symbol_tables.specs.Tables.{symbol_of_swc, resolved_export};
+    ghost use Rattle.fast_check_symbol_tables.specs.WellFormed.{AreMadeOf, AreWellFormed, IsTableFault};
+    ghost use Rattle.fast_check_symbols.specs.Symbols.{symbol_of, place_of};
+
+    /// The tables, where each id that they mention has a symbol, and each symbol that has to have a declaration has one. Else the first fault.
+    pub fn new(alloc: Global, tables: ModuleTables) -> Result<CheckedTables, TableFault>
+        ensures made { IfOk result (λ made. AreMadeOf tables made) }
+        ensures well_formed { OnOk result (AreWellFormed tables) }
+        ensures fault { IfErr result (IsTableFault tables) }
+    {
+        let ModuleTables {
+            symbols,
+            module_symbol,
+            swc_ids,
+            re_export_all_nodes,
+            resolved_exports,
+        } = tables;
+        let symbols = SymbolTable::new(alloc, symbols)?;
+        if misses_symbol(&symbols, module_symbol, &swc_ids) {
+            return Err(TableFault::MissingSymbol);
+        }
+        if lacks_declaration(module_symbol, symbols.as_slice()) {
+            return Err(TableFault::SymbolWithoutDecl);
+        }
+        let swc_ids = map_of(alloc, swc_ids)?;
+        let resolved_exports = map_of(alloc, resolved_exports)?;
+        Ok(CheckedTables {
+            symbols,
+            module_symbol,
+            swc_ids,
+            re_export_all_nodes,
+            resolved_exports,
+        })
+    }
+
+    /// The symbols, in the order in which they were handed in.
+    pub fn symbols(&self) -> &[Symbol]
+        ensures { result.now ≡ self.now.symbols }
+    {
+        self.symbols.as_slice()
+    }
+
+    /// The symbol of an id.
+    pub fn symbol(&self, id: SymbolId) -> Option<&Symbol>
+        ensures { option_copied result ≡ symbol_of id self.now.symbols }
+    {
+        self.symbols.get(id)
+    }
+
+    /// The place of a symbol among `symbols`.
+    pub fn symbol_place(&self, id: SymbolId) -> Option<usize>
+        ensures { result ≡ place_of id self.now.symbols }
+    {
+        self.symbols.place(id)
+    }
+
+    /// The symbol of a resolved identifier.
+    pub fn symbol_from_swc(&self, id: &Id) -> Option<&Symbol>
+        ensures { option_copied result ≡ symbol_of_swc self.now id.now }
+    {
+        let symbol = self.swc_ids.get(id)?;
+        self.symbols.get(*symbol)
+    }
+
+    /// The id of the symbol that stands for the module.
+    pub fn module_symbol(&self) -> SymbolId
+        ensures { result ≡ self.now.module_symbol }
+    {
+        self.module_symbol
+    }
+
+    /// The re-exports of all, in order.
+    pub fn re_export_all_nodes(&self) -> &[ReExportAllNode]
+        ensures { result.now ≡ self.now.re_exports }
+    {
+        &self.re_export_all_nodes
+    }
+
+    /// The module that answers an exported name.
+    pub fn resolved_export(&self, name: &str) -> Option<&Url>
+        ensures { option_copied result ≡ resolved_export self.now name.now }
+    {
+        self.resolved_exports.get(name)
+    }
+}

@@ -1,0 +1,11 @@
+//! The tables of a module's symbols, checked once, so that what they mention is always found.
+#![tactic(auto)]
+
+mod checked;
+mod fault;
+mod faults;
+mod tables;
+
+pub use checked::CheckedTables;
+pub use fault::TableFault;
+pub use tables::{ModuleTables, ReExportAllNode};
