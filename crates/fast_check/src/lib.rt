@@ -25,7 +25,10 @@ pub mod tables {
 
 /// What is told of what is wrong.
 pub mod diagnostics {
-    pub use fast_check_diagnostics::{Diagnostic, DiagnosticLevel, DiagnosticLocation, DiagnosticSnippet, FastCheckDiagnostic, FastCheckDiagnosticRange};
+    pub use fast_check_diagnostics::{
+        Diagnostic, DiagnosticLevel, DiagnosticLocation, DiagnosticSnippet, FastCheckDiagnostic,
+        FastCheckDiagnosticRange,
+    };
 }
 
 /// Sets of demanded names, and the modules that were followed or wait.

@@ -9,8 +9,10 @@ ghost use Rattle.fast_check_print.specs.Writing.{Adds, WritesData};
 ghost use Rattle.fast_check_diagnostics.specs.Diagnostic.{report_of};
 ghost use Rattle.fast_check_answers.specs.Diagnostics.{diagnostic_data, diagnostics_array, text_or_null, place_or_null, level_text, named, advice};
 
+use fast_check_diagnostics::{
+    Diagnostic, DiagnosticLevel, FastCheckDiagnostic, FastCheckDiagnosticRange,
+};
 use fast_check_print::write_range;
-use fast_check_diagnostics::{Diagnostic, DiagnosticLevel, FastCheckDiagnostic, FastCheckDiagnosticRange};
 use json::Writer;
 use std::alloc::{AllocError, Global};
 

@@ -1,6 +1,6 @@
 use crate::item::FastCheckCacheModuleItem;
-use fast_check_packages::PackageNv;
 use fast_check_diagnostics::ModulePublicRanges;
+use fast_check_packages::PackageNv;
 use std::alloc::Global;
 use std::collections::{BTreeMap, BTreeSet};
 use url::Url;

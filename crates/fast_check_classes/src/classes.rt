@@ -15,10 +15,10 @@ use crate::members::transform_members;
 use crate::superclasses::transform_superclass;
 use fast_check_class_forms::{AutoAccessor, Class, ClassMethod, ClassProp};
 use fast_check_class_nodes::{is_computed, is_private};
+use fast_check_diagnostics::ModulePublicRanges;
 use fast_check_modules::EsModuleInfo;
 use fast_check_signatures::Fault;
 use fast_check_syntax::{Items, Kind, Part, Tree};
-use fast_check_diagnostics::ModulePublicRanges;
 use std::alloc::{AllocError, Global};
 
 /// A class of this superclass and these members, without decorators.

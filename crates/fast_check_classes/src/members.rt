@@ -17,12 +17,12 @@ use fast_check_class_forms::{ClassMethod, Constructor};
 use fast_check_class_nodes::{
     hash_private, is_hash_named, is_private, kept_members, param_property, private_method_head,
 };
+use fast_check_diagnostics::ModulePublicRanges;
 use fast_check_helpers::any_type_ann;
 use fast_check_modules::EsModuleInfo;
 use fast_check_ranges::range_of_node;
 use fast_check_signatures::{Fault, FunctionKind};
 use fast_check_syntax::{Items, Kind, Part, SyntaxContext, Tree, Word};
-use fast_check_diagnostics::ModulePublicRanges;
 use fast_check_values::bindings::unresolved_context;
 use fast_check_values::{transform_fn, transform_implementation};
 use std::alloc::{AllocError, Global};

@@ -7,8 +7,8 @@ use Rattle.fast_check_signatures.specs.declared.fault.Fault.{Fault}
 use Rattle.fast_check_signatures.specs.Seen.{Seen}
 use Rattle.fast_check_signatures.specs.Answers.{Adds, answer_of}
 use Rattle.fast_check_signatures.proofs.Adding.{adds_nothing, adds_same}
-use Rattle.fast_check_statements.specs.links.skeleton.Surroundings.{Surroundings}
-use Rattle.fast_check_statements.specs.links.skeleton.Visible.{class_decl_seen}
+use Rattle.fast_check_statements.specs.asked.skeleton.Surroundings.{Surroundings}
+use Rattle.fast_check_statements.specs.asked.skeleton.Visible.{class_decl_seen}
 use Rattle.fast_check_declarations.specs.ClassAnswers.{class_answer, public_class_answer}
 use Rattle.fast_check_statements.proofs.Listed.{alone}
 

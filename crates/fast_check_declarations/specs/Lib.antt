@@ -1,3 +1,3 @@
 pub use Rattle.fast_check_statements.specs as statements
-pub use Rattle.fast_check_statements.specs.links as links
+pub use Rattle.fast_check_statements.specs.asked as asked
 pub mod ClassAnswers

@@ -1,9 +1,9 @@
 ghost use Rattle.std.specs.Prelude.{◌≡◌, IfOk, Some};
 ghost use Rattle.fast_check_syntax.specs.Part.{seen};
 ghost use Rattle.fast_check_signatures.specs.Answers.{Adds};
-ghost use Rattle.fast_check_statements.specs.links.skeleton.Defaults.{default_place, is_public_value};
-ghost use Rattle.fast_check_statements.specs.links.Asked.{Asked-around};
-ghost use Rattle.fast_check_statements.specs.links.Links.{as_list};
+ghost use Rattle.fast_check_statements.specs.asked.skeleton.Defaults.{default_place, is_public_value};
+ghost use Rattle.fast_check_statements.specs.asked.Asked.{Asked-around};
+ghost use Rattle.fast_check_statements.specs.asked.Kept.{as_list};
 ghost use Rattle.fast_check_declarations.specs.ClassAnswers.{is_public_default, default_value_answer, default_class_answer};
 ghost use Rattle.fast_check_declarations.specs.ClassAnswers.{default_signature_answer, default_function_answer, default_decl_answer, default_answer};
 
@@ -14,8 +14,8 @@ use fast_check_expression_forms::{ClassExpr, FnExpr};
 use fast_check_program_forms::{ExportDefaultDecl, ExportDefaultExpr, Ident};
 use fast_check_ranges::range_of_node;
 use fast_check_signatures::{Fault, FaultKind, FunctionKind};
-use fast_check_statements::links::Asked;
-use fast_check_statements::links::skeleton::DefaultRule;
+use fast_check_statements::asked::Asked;
+use fast_check_statements::asked::skeleton::DefaultRule;
 use fast_check_syntax::{Part, SourceRange, Tree};
 use std::alloc::{AllocError, Global};
 

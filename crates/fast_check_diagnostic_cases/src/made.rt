@@ -1,8 +1,8 @@
 //! A diagnostic from a line.
 
 use anyhow::{Result, bail};
-use fast_check_syntax::{SourcePos, SourceRange};
 use fast_check_diagnostics::{FastCheckDiagnostic, FastCheckDiagnosticRange};
+use fast_check_syntax::{SourcePos, SourceRange};
 use std::alloc::{AllocError, Global};
 use std::rc::RcStr;
 use url::Url;

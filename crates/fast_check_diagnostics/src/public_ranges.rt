@@ -70,7 +70,10 @@ impl ModulePublicRanges {
 }
 
 /// The set of these ranges. A range that stands twice is in it once.
-pub fn range_set(alloc: Global, ranges: Vec<SourceRange>) -> Result<BTreeSet<SourceRange>, AllocError>
+pub fn range_set(
+    alloc: Global,
+    ranges: Vec<SourceRange>,
+) -> Result<BTreeSet<SourceRange>, AllocError>
     ensures { IfOk result (λ set. (r : _) → list_any (same_range r) set.keys ≡ list_any (same_range r) ranges.items) }
 {
     ranges.into_iter().collect(alloc)

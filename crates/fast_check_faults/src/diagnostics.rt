@@ -8,8 +8,8 @@ ghost use Rattle.fast_check_demands.specs.Yields.{fault_seen};
 ghost use Rattle.fast_check_faults.specs.Reports.{report_of, told, name_of, full_name, below, first_range, first_of, reported, report_at, report, told_each};
 
 use fast_check_demands::{CheckedTables, FaultKind, SourceRange, SymbolFault, SymbolId};
-use fast_check_symbols::Symbol;
 use fast_check_diagnostics::{FastCheckDiagnostic, FastCheckDiagnosticRange};
+use fast_check_symbols::Symbol;
 use std::alloc::{AllocError, Global};
 use std::rc::RcStr;
 use url::Url;

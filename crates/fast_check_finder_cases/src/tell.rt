@@ -1,10 +1,12 @@
 //! Tells what is found of packages.
 
 use fast_check_cache::PackagePublicRanges;
+use fast_check_diagnostics::{
+    Diagnostic, FastCheckDiagnostic, FastCheckDiagnosticRange, ModulePublicRanges,
+};
 use fast_check_packages::PackageNv;
 use fast_check_said::Said;
 use fast_check_syntax::SourceRange;
-use fast_check_diagnostics::{Diagnostic, FastCheckDiagnostic, FastCheckDiagnosticRange, ModulePublicRanges};
 use std::alloc::Global;
 use std::collections::{BTreeMap, BTreeSet};
 use url::Url;

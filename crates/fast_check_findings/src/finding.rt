@@ -1,6 +1,6 @@
+use fast_check_diagnostics::FastCheckDiagnostic;
 use fast_check_packages::PackageNv;
 use fast_check_syntax::SourceRange;
-use fast_check_diagnostics::FastCheckDiagnostic;
 use url::Url;
 
 /// What is wrong with an entry point of a package.

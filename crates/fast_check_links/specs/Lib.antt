@@ -1,4 +1,2 @@
-pub use Rattle.fast_check_skeleton.specs as skeleton
-pub mod Asked
 pub mod Links
 pub mod StaticSources

@@ -1,14 +1,10 @@
 -- The answers to what is seen of imports and exports.
-use Rattle.std.specs.Prelude.{Option, Some, None, List, [], ◌∷◌}
+use Rattle.std.specs.Prelude.{List}
 use Rattle.fast_check_syntax.specs.declared.tree.Tree.{Tree}
 use Rattle.fast_check_signatures.specs.Answers.{Answer, answer_of}
 use Rattle.fast_check_skeleton.specs.declared.rules.LinkRule.{LinkRule}
 use Rattle.fast_check_skeleton.specs.Links.{link_seen}
 use Rattle.fast_check_skeleton.specs.Surroundings.{Surroundings}
-
-abbrev pub as_list : Option Tree → List Tree
-as_list (Some t) = t ∷ []
-as_list None = []
 
 -- to an import, or to an export of names or of all
 unfoldable pub link_answer : Surroundings → Tree → LinkRule → Answer (List Tree)

@@ -41,10 +41,7 @@ fn push_decls(decls: &[SymbolDecl], out: &mut Vec<SourceRange>) -> Result<(), Al
 }
 
 /// Pushes the ranges of re-exports of all.
-fn push_re_exports(
-    nodes: &[ReExportAllNode],
-    out: &mut Vec<SourceRange>,
-) -> Result<(), AllocError>
+fn push_re_exports(nodes: &[ReExportAllNode], out: &mut Vec<SourceRange>) -> Result<(), AllocError>
     ensures { OnOk result (out.new.items ≡ out.old.items ++ map (λ n. n.range) nodes.now) }
 {
     for node in nodes {

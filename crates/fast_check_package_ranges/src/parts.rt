@@ -6,9 +6,9 @@ ghost use Rattle.fast_check_worklists.specs.Demands.{Text, same_nv};
 ghost use Rattle.fast_check_package_ranges.specs.Questions.{ModuleQuestion, Question};
 ghost use Rattle.fast_check_package_ranges.specs.Parts.{is_text, module_says, modules_say, package_says, packages_say, found_module_says, found_says};
 
+use fast_check_diagnostics::FastCheckDiagnostic;
 use fast_check_packages::PackageNv;
 use fast_check_syntax::SourceRange;
-use fast_check_diagnostics::FastCheckDiagnostic;
 use std::alloc::{AllocError, Global};
 use std::collections::BTreeMap;
 use url::Url;

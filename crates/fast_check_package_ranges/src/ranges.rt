@@ -13,8 +13,8 @@ ghost use Rattle.fast_check_package_ranges.specs.Made.{whole_tell, IsModuleAnswe
 use crate::found::packages_found;
 use crate::parts::{ModuleParts, PackageParts, either};
 use fast_check_cache::PackagePublicRanges;
-use fast_check_findings::{Finding, PackageNv};
 use fast_check_diagnostics::{FastCheckDiagnostic, ModulePublicRanges};
+use fast_check_findings::{Finding, PackageNv};
 use fast_check_told_faults::{each_once, is_told};
 use std::alloc::{AllocError, Global};
 use std::collections::{BTreeMap, BTreeSet};

@@ -10,6 +10,7 @@ ghost use Rattle.fast_check_requests.specs.Request.{request_of, members_of_reque
 ghost use Rattle.fast_check_requests.specs.Request.{program_of, source_of, module_of, Makes, HoldsModule, IsRequest, IsSource};
 
 use fast_check_comments::Comments;
+use fast_check_diagnostics::ModulePublicRanges;
 use fast_check_graph::ModuleGraph;
 use fast_check_modules::ModuleTables;
 use fast_check_read::{
@@ -19,7 +20,6 @@ use fast_check_read::{
 use fast_check_read_tables::{read_graph, read_member, read_module_tables};
 use fast_check_schema::{Choice, Form};
 use fast_check_syntax::{SourceRange, SyntaxContext, Tree};
-use fast_check_diagnostics::ModulePublicRanges;
 use fast_check_tables::{ModuleSpecifier, ParsedSource};
 use serde_json::Value;
 use std::alloc::Global;

@@ -1,3 +1,3 @@
-pub use Rattle.fast_check_links.specs as links
+pub use Rattle.fast_check_asked.specs as asked
 pub mod PartAnswers
 pub mod Assigned

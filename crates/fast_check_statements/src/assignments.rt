@@ -15,9 +15,9 @@ ghost use Rattle.fast_check_asked.specs.Asked.{Asked-around};
 ghost use Rattle.fast_check_statements.specs.Assigned.{assignment_answer, assignment_properties, missing_at};
 
 use crate::declarations::keep_value;
+use fast_check_asked::Asked;
 use fast_check_expandos::{ExpandoProperty, expando_property, exports_property, object_of};
 use fast_check_expression_forms::{AssignExpr, MemberExpr};
-use fast_check_links::Asked;
 use fast_check_modules::{Symbol, is_expando_assignment};
 use fast_check_ranges::range_of_node;
 use fast_check_signatures::{Fault, FaultKind};

@@ -2,10 +2,10 @@ ghost use Rattle.std.specs.Prelude.{IfOk, Some};
 ghost use Rattle.fast_check_syntax.specs.Part.{seen};
 ghost use Rattle.fast_check_signatures.specs.Answers.{Adds};
 ghost use Rattle.fast_check_asked.specs.Asked.{Asked-around};
-ghost use Rattle.fast_check_links.specs.Links.{as_list};
+ghost use Rattle.fast_check_asked.specs.Kept.{as_list};
 ghost use Rattle.fast_check_statements.specs.PartAnswers.{signature_answer, function_answer, public_function_answer};
 
-use fast_check_links::Asked;
+use fast_check_asked::Asked;
 use fast_check_program_forms::Ident;
 use fast_check_signatures::{Fault, FunctionKind};
 use fast_check_statement_forms::FnDecl;

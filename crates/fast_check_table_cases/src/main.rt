@@ -9,9 +9,9 @@ mod tables;
 
 use anyhow::{Context, Result, bail};
 use fast_check_comments::Comments;
+use fast_check_diagnostics::{FastCheckDiagnosticRange, ModulePublicRanges};
 use fast_check_said::Said;
 use fast_check_syntax::{DUMMY_SP, SourcePos, SourceRange};
-use fast_check_diagnostics::{FastCheckDiagnosticRange, ModulePublicRanges};
 use std::alloc::{AllocError, Global};
 use std::fs;
 use std::rc::RcStr;

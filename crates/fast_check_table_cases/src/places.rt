@@ -2,8 +2,8 @@
 
 use crate::Call;
 use anyhow::Result;
-use fast_check_said::Said;
 use fast_check_diagnostics::FastCheckDiagnosticRange;
+use fast_check_said::Said;
 use std::alloc::Global;
 use std::hash::{DefaultHasher, Hash, Hasher};
 use std::rc::RcStr;

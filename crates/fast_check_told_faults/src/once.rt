@@ -5,8 +5,8 @@ ghost use Rattle.fast_check_faults.specs.Reports.{Report, report_of, told};
 ghost use Rattle.fast_check_told_faults.specs.Once.{IsFair, any_report, entry_tells, is_whole, same_told, report_with, tells};
 
 use fast_check_demands::FaultKind;
-use fast_check_syntax::SourceRange;
 use fast_check_diagnostics::{FastCheckDiagnostic, FastCheckDiagnosticRange};
+use fast_check_syntax::SourceRange;
 use std::alloc::{AllocError, Global};
 use std::collections::BTreeMap;
 use std::rc::RcStr;

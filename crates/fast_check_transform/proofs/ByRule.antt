@@ -33,7 +33,8 @@ use Rattle.fast_check_skeleton.specs.Surroundings.{Surroundings}
 use Rattle.fast_check_skeleton.specs.Visible.{decl_seen, exported_seen, seen_by_rule, item_seen}
 use Rattle.fast_check_skeleton.proofs.Namespaces.{item_seen_is}
 use Rattle.fast_check_skeleton.proofs.Standing.{OneTree, decl_one, export_is}
-use Rattle.fast_check_declarations.specs.links.Links.{as_list, link_answer}
+use Rattle.fast_check_declarations.specs.asked.Kept.{as_list}
+use Rattle.fast_check_links.specs.Links.{link_answer}
 use Rattle.fast_check_declarations.specs.statements.PartAnswers.{statement_answer, public_function_answer, standing_answer, using_answer}
 use Rattle.fast_check_declarations.specs.ClassAnswers.{public_class_answer}
 use Rattle.fast_check_declarations.specs.ClassAnswers.{default_answer}

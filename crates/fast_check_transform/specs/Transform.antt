@@ -3,8 +3,8 @@ use Rattle.std.specs.Prelude.{List}
 use Rattle.fast_check_syntax.specs.declared.tree.Tree.{Tree}
 use Rattle.fast_check_graph.specs.declared.graph.ModuleGraph.{ModuleGraph}
 use Rattle.fast_check_modules.specs.EsModule.{EsModule}
-use Rattle.fast_check_declarations.specs.links.Asked.{surroundings_of}
-use Rattle.fast_check_declarations.specs.links.StaticSources.{static_sources}
+use Rattle.fast_check_declarations.specs.asked.Asked.{surroundings_of}
+use Rattle.fast_check_links.specs.StaticSources.{static_sources}
 use Rattle.fast_check_diagnostics.specs.PublicRanges.{PublicRanges}
 use Rattle.fast_check_tables.specs.declared.tables.fast_check_module.StaticSource.{StaticSource}
 use Rattle.fast_check_signatures.specs.declared.fault.Fault.{Fault}

@@ -7,10 +7,10 @@ ghost use Rattle.fast_check_transform.specs.Transform.{skeleton, sources, commen
 ghost use Rattle.fast_check_transform_faults.specs.Diagnostics.{AreDiagnosticsOf, told};
 
 use crate::program::{KeptModule, keep_module};
-use fast_check_declarations::links::static_sources;
-use fast_check_graph::ModuleGraph;
-use fast_check_modules::EsModuleInfo;
 use fast_check_diagnostics::{FastCheckDiagnostic, ModulePublicRanges};
+use fast_check_graph::ModuleGraph;
+use fast_check_links::static_sources;
+use fast_check_modules::EsModuleInfo;
 use fast_check_tables::{FastCheckModule, ModuleInfo, WorkspaceMember};
 use fast_check_transform_faults::tell;
 use std::alloc::{AllocError, Global};

@@ -2,19 +2,19 @@ ghost use Rattle.std.specs.Prelude.{◌≡◌, IfOk};
 ghost use Rattle.fast_check_syntax.specs.Part.{seen};
 ghost use Rattle.fast_check_signatures.specs.Answers.{Adds};
 ghost use Rattle.fast_check_skeleton.specs.KeptComments.{removed_starts, without_all_leading};
-ghost use Rattle.fast_check_declarations.specs.links.Asked.{Asked-around};
+ghost use Rattle.fast_check_declarations.specs.asked.Asked.{Asked-around};
 ghost use Rattle.fast_check_transform.specs.PartAnswers.{program_answer};
 ghost use Rattle.fast_check_transform.specs.Transform.{skeleton, comments, faults};
 
 use crate::items::keep_items;
 use fast_check_comments::{Comments, CommentsMut};
-use fast_check_declarations::links::Asked;
+use fast_check_declarations::asked::Asked;
+use fast_check_diagnostics::ModulePublicRanges;
 use fast_check_graph::ModuleGraph;
 use fast_check_modules::EsModuleInfo;
 use fast_check_program_forms::Module;
 use fast_check_signatures::Fault;
 use fast_check_syntax::{Part, Tree};
-use fast_check_diagnostics::ModulePublicRanges;
 use std::alloc::{AllocError, Global};
 
 /// What is public of a module, the comments that stay with it, and what is wrong with it, in reading order.

@@ -1,10 +1,10 @@
 ghost use Rattle.std.specs.Prelude.{◌≡◌, IfOk};
 ghost use Rattle.fast_check_transform_faults.specs.Diagnostics.{IsPlaceOf, IsExpandoProperty, IsDiagnosticOf, AreDiagnosticsOf, told};
 
+use fast_check_diagnostics::{FastCheckDiagnostic, FastCheckDiagnosticRange};
 use fast_check_modules::EsModuleInfo;
 use fast_check_signatures::{Fault, FaultKind};
 use fast_check_syntax::{Atom, SourceRange};
-use fast_check_diagnostics::{FastCheckDiagnostic, FastCheckDiagnosticRange};
 use std::alloc::{AllocError, Global};
 
 /// A range of the source text of a module as the place of a diagnostic.

@@ -14,6 +14,7 @@ ghost use Rattle.fast_check_turns.specs.Yields.{text_of, reported_with, reported
 use crate::sources::Sources;
 use crate::steps::steps_of;
 use fast_check_demands::SymbolFault;
+use fast_check_diagnostics::FastCheckDiagnostic;
 use fast_check_faults::{FaultyModule, diagnostics_of, each_once};
 use fast_check_graph::ModuleInfo;
 use fast_check_name_demands::{NameDemand, name_demands, wanted_names};
@@ -22,7 +23,6 @@ use fast_check_packages::PackageNv;
 use fast_check_provider::JsrUrlProvider;
 use fast_check_search::Found;
 use fast_check_syntax::SourceRange;
-use fast_check_diagnostics::FastCheckDiagnostic;
 use fast_check_traces::{Traced, TracedModule, tables_of, trace};
 use fast_check_worklists::Step;
 use std::alloc::{AllocError, Global};

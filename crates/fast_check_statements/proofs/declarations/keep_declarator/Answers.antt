@@ -1,6 +1,6 @@
 use Rattle.std.proofs.Common.{ap, ◌∙◌, sym}
 use Rattle.fast_check_signatures.proofs.Adding.{adds_same}
-use Rattle.fast_check_links.specs.skeleton.Mutability.{mutability_of}
+use Rattle.fast_check_asked.specs.skeleton.Mutability.{mutability_of}
 use Rattle.fast_check_syntax.specs.Part.{seen}
 use Rattle.fast_check_diagnostics.specs.PublicRanges.{is_public}
 use Rattle.fast_check_asked.specs.Asked.{Asked-around}

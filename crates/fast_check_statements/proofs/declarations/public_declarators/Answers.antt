@@ -2,7 +2,7 @@ use Rattle.std.proofs.Common.{rules, ap, sym, ◌∙◌, ◌++◌, append-nil}
 use Rattle.fast_check_syntax.specs.Part.{seen}
 use Rattle.fast_check_syntax.specs.Shape.{parts}
 use Rattle.fast_check_asked.specs.Asked.{Asked-around}
-use Rattle.fast_check_links.specs.Links.{as_list}
+use Rattle.fast_check_asked.specs.Kept.{as_list}
 use Rattle.fast_check_statements.proofs.Declared.{no_declarators, one_more_declarator, all_declarators}
 use Rattle.fast_check_statements.proofs.declarations.public_declarators.Goals as goal
 

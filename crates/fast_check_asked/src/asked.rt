@@ -1,10 +1,10 @@
 ghost use Rattle.std.specs.Prelude.{◌≡◌};
 
+use fast_check_diagnostics::ModulePublicRanges;
 use fast_check_graph::ModuleGraph;
 use fast_check_modules::EsModuleInfo;
 use fast_check_statement_forms::TsModuleDecl;
 use fast_check_syntax::Part;
-use fast_check_diagnostics::ModulePublicRanges;
 
 /// What the transform asks beside the tree.
 #[derive(Clone, Copy)]

@@ -1,0 +1,1 @@
+pub use Rattle.fast_check_skeleton.proofs as skeleton_proofs

@@ -1,0 +1,7 @@
+-- What stays of an item: one at most.
+use Rattle.std.specs.Prelude.{Option, Some, None, List, [], ◌∷◌}
+use Rattle.fast_check_syntax.specs.declared.tree.Tree.{Tree}
+
+abbrev pub as_list : Option Tree → List Tree
+as_list (Some t) = t ∷ []
+as_list None = []

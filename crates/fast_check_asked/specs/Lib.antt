@@ -1,0 +1,3 @@
+pub use Rattle.fast_check_skeleton.specs as skeleton
+pub mod Asked
+pub mod Kept
