@@ -1,1 +1,2 @@
 pub use Rattle.fast_check_skeleton.proofs as skeleton_proofs
+pub mod Listed

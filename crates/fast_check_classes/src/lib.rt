@@ -6,7 +6,6 @@ mod constructors;
 mod copies;
 mod members;
 mod properties;
-mod superclasses;
 
 pub use classes::{ambient_class, transform_class};
 pub use fast_check_class_nodes as class_nodes;

@@ -1,4 +1,3 @@
-pub use Rattle.fast_check_statements.proofs as statement_proofs
 pub use Rattle.fast_check_classes.proofs as class_proofs
 pub mod ClassCases
 pub mod DefaultCases

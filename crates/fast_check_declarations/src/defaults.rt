@@ -1,12 +1,14 @@
 ghost use Rattle.std.specs.Prelude.{◌≡◌, IfOk, Some};
 ghost use Rattle.fast_check_syntax.specs.Part.{seen};
 ghost use Rattle.fast_check_signatures.specs.Answers.{Adds};
-ghost use Rattle.fast_check_statements.specs.asked.skeleton.Defaults.{default_place, is_public_value};
-ghost use Rattle.fast_check_statements.specs.asked.Asked.{Asked-around};
-ghost use Rattle.fast_check_statements.specs.asked.Kept.{as_list};
+ghost use Rattle.fast_check_asked.specs.skeleton.Defaults.{default_place, is_public_value};
+ghost use Rattle.fast_check_asked.specs.Asked.{Asked-around};
+ghost use Rattle.fast_check_asked.specs.Kept.{as_list};
 ghost use Rattle.fast_check_declarations.specs.ClassAnswers.{is_public_default, default_value_answer, default_class_answer};
 ghost use Rattle.fast_check_declarations.specs.ClassAnswers.{default_signature_answer, default_function_answer, default_decl_answer, default_answer};
 
+use fast_check_asked::Asked;
+use fast_check_asked::skeleton::DefaultRule;
 use fast_check_class_forms::Function;
 use fast_check_classes::transform_class;
 use fast_check_classes::values::{leave_expr, transform_fn, transform_implementation};
@@ -14,8 +16,6 @@ use fast_check_expression_forms::{ClassExpr, FnExpr};
 use fast_check_program_forms::{ExportDefaultDecl, ExportDefaultExpr, Ident};
 use fast_check_ranges::range_of_node;
 use fast_check_signatures::{Fault, FaultKind, FunctionKind};
-use fast_check_statements::asked::Asked;
-use fast_check_statements::asked::skeleton::DefaultRule;
 use fast_check_syntax::{Part, SourceRange, Tree};
 use std::alloc::{AllocError, Global};
 

@@ -33,7 +33,7 @@ use Rattle.fast_check_asked.specs.skeleton.Visible.{public_declarators, statemen
 use Rattle.fast_check_asked.proofs.skeleton_proofs.Standing.{declarator_one, statement_is}
 use Rattle.fast_check_statements.specs.PartAnswers.{retyped, value_answer, valued_answer, ident_answer, declarator_answer, public_answer}
 use Rattle.fast_check_statements.specs.PartAnswers.{declarators_answer, statement_answer, signature_answer, function_answer, using_answer}
-use Rattle.fast_check_statements.proofs.Listed.{alone, one_more, whole}
+use Rattle.fast_check_asked.proofs.Listed.{alone, one_more, whole}
 
 -- ---- declarators
 

@@ -20,8 +20,8 @@ use Rattle.fast_check_skeleton.specs.Surroundings.{Surroundings, inside}
 use Rattle.fast_check_skeleton.specs.Visible.{item_look, body_seen, namespace_seen}
 use Rattle.fast_check_skeleton.proofs.Namespaces.{innermost_at_most, namespace_if, hidden_namespace, global_is, ambient_module_is}
 use Rattle.fast_check_skeleton.proofs.StandingNamespaces.{namespace_is}
-use Rattle.fast_check_declarations.specs.statements.PartAnswers.{module_fault}
-use Rattle.fast_check_declarations.proofs.statement_proofs.Listed.{alone}
+use Rattle.fast_check_statements.specs.PartAnswers.{module_fault}
+use Rattle.fast_check_asked.proofs.Listed.{alone}
 use Rattle.fast_check_transform.specs.PartAnswers.{namespace_answer, items_answer}
 
 -- the items of a namespace are no higher than it

@@ -17,7 +17,7 @@ use Rattle.fast_check_skeleton.specs.Grammar.{IsSkeleton}
 use Rattle.fast_check_skeleton.specs.Surroundings.{Surroundings}
 use Rattle.fast_check_skeleton.proofs.Standing.{skeleton_stands}
 use Rattle.fast_check_transform.specs.PartAnswers.{items_answer, program_answer}
-use Rattle.fast_check_declarations.specs.asked.Asked.{surroundings_of}
+use Rattle.fast_check_asked.specs.Asked.{surroundings_of}
 use Rattle.fast_check_transform.specs.Transform.{skeleton, faults}
 
 pub made_program : (around : Surroundings) (program : Tree) {E : Type 0} (r : Result Tree E) {x : Tree} {ts items : List Tree} {old new : List Fault} →

@@ -1,6 +1,6 @@
 use Rattle.std.proofs.Common.{sym, ◌∙◌}
 use Rattle.fast_check_syntax.specs.Part.{seen}
-use Rattle.fast_check_statements.specs.asked.Asked.{Asked-around}
+use Rattle.fast_check_asked.specs.Asked.{Asked-around}
 use Rattle.fast_check_declarations.proofs.DefaultCases.{public_default_stays, private_default}
 use Rattle.fast_check_declarations.proofs.defaults.keep_default.Goals as goal
 

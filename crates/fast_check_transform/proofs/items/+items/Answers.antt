@@ -14,8 +14,8 @@ use Rattle.fast_check_syntax.specs.Part.{seen}
 use Rattle.fast_check_syntax.specs.Shape.{parts}
 use Rattle.fast_check_syntax.specs.Height.{height, height_at_most}
 use Rattle.fast_check_declarations.proofs.class_proofs.Nothing.{none_of}
-use Rattle.fast_check_declarations.specs.asked.Asked.{Asked-around}
-use Rattle.fast_check_declarations.specs.asked.Kept.{as_list}
+use Rattle.fast_check_asked.specs.Asked.{Asked-around}
+use Rattle.fast_check_asked.specs.Kept.{as_list}
 use Rattle.fast_check_transform.proofs.ByRule.{variables, functions, classes, standing, namespaces, using_stays, undeclared}
 use Rattle.fast_check_transform.proofs.ByRule.{declared, exported, no_export, made_export, linked, default_export, refused, silent}
 use Rattle.fast_check_transform.proofs.ByRule.{no_items, one_more_item, one_more_assigned, all_items, with_namespaces}

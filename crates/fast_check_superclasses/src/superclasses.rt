@@ -13,7 +13,7 @@ use std::alloc::{AllocError, Global};
 /// Whether an expression is an identifier, or a chain of members on one, each plain or computed by such an expression again
 /// (deno_graph's `is_expr_ident_or_member_idents`).
 #[cycle(reference)]
-pub fn is_reference(expr: Part<'_>) -> bool
+fn is_reference(expr: Part<'_>) -> bool
     ensures { result ≡ is_reference (seen expr.entry) }
 {
     match expr.kind() {

@@ -5,8 +5,8 @@ use Rattle.fast_check_syntax.specs.Shape.{kind_of}
 use Rattle.fast_check_signatures.specs.Classes.{is_reference, property_of_kind}
 use Rattle.fast_check_syntax.specs.declared.kind.Kind.TheVariants as kinds
 use Rattle.fast_check_syntax.specs.Part.{seen}
-use Rattle.fast_check_classes.proofs.References.{reference_by, no_reference, no_property, member_reference, at-ComputedPropName-expr, lower, lower_odd}
-use Rattle.fast_check_classes.proofs.superclasses.+reference.Goals as goal
+use Rattle.fast_check_superclasses.proofs.References.{reference_by, no_reference, no_property, member_reference, at-ComputedPropName-expr, lower, lower_odd}
+use Rattle.fast_check_superclasses.proofs.superclasses.+reference.Goals as goal
 
 pub is_reference-returns-in-Ident : goal.is_reference-returns-in-Ident
 is_reference-returns-in-Ident t c = reference_by (seen c.args.expr) kinds.Ident (sym c.kind.ensures ∙ c.in-Ident.is)

@@ -2,9 +2,9 @@ use Rattle.std.proofs.Common.{ap, ◌∙◌, sym, refl, ◌++◌, ◌∷◌, []}
 use Rattle.fast_check_syntax.specs.Part.{seen}
 use Rattle.fast_check_signatures.specs.Answers.{fault_at}
 use Rattle.fast_check_signatures.specs.declared.fault.FaultKind.TheVariants.{UnsupportedSuperClassExpr}
-use Rattle.fast_check_classes.proofs.References.{no_superclass, reference_stays, superclass_faulty}
+use Rattle.fast_check_superclasses.proofs.References.{no_superclass, reference_stays, superclass_faulty}
 use Rattle.fast_check_signatures.proofs.Adding.{some_of}
-use Rattle.fast_check_classes.proofs.superclasses.transform_superclass.Goals as goal
+use Rattle.fast_check_superclasses.proofs.superclasses.transform_superclass.Goals as goal
 
 pub returns-then-is_absent : goal.returns-then-is_absent
 returns-then-is_absent c = no_superclass (seen c.args.superclass) (sym c.is_absent.ensures ∙ c.if-is_absent.true) c.args.faults.now.items

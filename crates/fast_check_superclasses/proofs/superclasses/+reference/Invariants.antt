@@ -1,7 +1,7 @@
 use Rattle.std.proofs.Common.{◌+◌, ◌*◌}
 use Rattle.fast_check_syntax.specs.Part.{seen}
 use Rattle.fast_check_syntax.specs.Height.{height}
-use Rattle.fast_check_classes.proofs.superclasses.+reference.Given as goal
+use Rattle.fast_check_superclasses.proofs.superclasses.+reference.Given as goal
 
 abbrev pub decreases-is_reference : goal.decreases-is_reference
 decreases-is_reference l = 2 * height (seen l.expr) + 1
