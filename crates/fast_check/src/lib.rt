@@ -25,7 +25,7 @@ pub mod tables {
 
 /// What is told of what is wrong.
 pub mod diagnostics {
-    pub use fast_check_diagnostics::{
+    pub use fast_check_modules::diagnostics::{
         Diagnostic, DiagnosticLevel, DiagnosticLocation, DiagnosticSnippet, FastCheckDiagnostic,
         FastCheckDiagnosticRange,
     };
@@ -54,7 +54,7 @@ pub mod cache {
 pub mod range_finder {
     pub use fast_check_build::{PublicRangeFinder, find_public_ranges};
     pub use fast_check_cache::PackagePublicRanges;
-    pub use fast_check_diagnostics::ModulePublicRanges;
+    pub use fast_check_modules::diagnostics::ModulePublicRanges;
 }
 
 /// The skeleton of a module.

@@ -1,8 +1,8 @@
 ghost use Rattle.std.specs.Prelude.{◌≡◌};
 
-use fast_check_diagnostics::ModulePublicRanges;
 use fast_check_graph::ModuleGraph;
 use fast_check_modules::EsModuleInfo;
+use fast_check_modules::diagnostics::ModulePublicRanges;
 use fast_check_statement_forms::TsModuleDecl;
 use fast_check_syntax::Part;
 

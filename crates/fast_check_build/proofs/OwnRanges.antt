@@ -6,8 +6,8 @@ use Rattle.std.proofs.lemmas.Slice.Eq.{bytes_eq-Decides}
 use Rattle.std.proofs.lemmas.Bool.{false≢true}
 use Rattle.fast_check_syntax.specs.declared.source.SourceRange.{SourceRange}
 use Rattle.fast_check_packages.specs.Package.{Nv}
-use Rattle.fast_check_diagnostics.specs.PublicRanges.{same_range}
-use Rattle.fast_check_symbol_tables.proofs.Witness.{witness, and_left, and_right}
+use Rattle.fast_check_modules.specs.diagnostics.PublicRanges.{same_range}
+use Rattle.fast_check_modules.proofs.symbol_table_proofs.Witness.{witness, and_left, and_right}
 use Rattle.fast_check_modules.proofs.FaultsFound.{exact_range}
 use Rattle.fast_check_graph.specs.declared.root_symbol.RootSymbol.{RootSymbol}
 use Rattle.fast_check_graph.specs.Root.{AreFoundByOwnNames}

@@ -14,9 +14,9 @@ use Rattle.std.proofs.lemmas.Map.Views.{lookup-from_Contains}
 use Rattle.url.specs.Parts.{Parts, serialize}
 use Rattle.fast_check_symbols.specs.Entries.{last_value}
 use Rattle.fast_check_symbols.proofs.Last.{last_of_none}
-use Rattle.fast_check_symbol_tables.specs.declared.fault.TableFault.{TableFault}
-use Rattle.fast_check_symbol_tables.specs.declared.fault.TableFault.TheVariants as faults
-use Rattle.fast_check_symbol_tables.proofs.Alike.{last_alike}
+use Rattle.fast_check_modules.specs.symbol_tables.declared.fault.TableFault.{TableFault}
+use Rattle.fast_check_modules.specs.symbol_tables.declared.fault.TableFault.TheVariants as faults
+use Rattle.fast_check_modules.proofs.symbol_table_proofs.Alike.{last_alike}
 use Rattle.fast_check_graph.specs.declared.root_symbol.ModuleInfo.{ModuleInfo}
 use Rattle.fast_check_graph.specs.declared.root_symbol.ModuleInfo.TheVariants as infos
 use Rattle.fast_check_graph.specs.declared.root_symbol.RootSymbol.{RootSymbol}

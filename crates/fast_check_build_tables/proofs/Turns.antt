@@ -2,8 +2,8 @@
 use Rattle.std.proofs.Common.{◌≡◌, ◌∙◌, sym, ap, subst, refl, List, [], ◌∷◌, ◌++◌, length, append_assoc, append-nil, arith}
 use Rattle.std.proofs.Math.Logic.{inl, inr}
 use Rattle.url.specs.Parts.{Parts}
-use Rattle.fast_check_symbol_tables.specs.declared.fault.TableFault.{TableFault}
-use Rattle.fast_check_symbol_tables.specs.declared.fault.TableFault.TheVariants.{OutOfMemory}
+use Rattle.fast_check_modules.specs.symbol_tables.declared.fault.TableFault.{TableFault}
+use Rattle.fast_check_modules.specs.symbol_tables.declared.fault.TableFault.TheVariants.{OutOfMemory}
 use Rattle.fast_check_graph.specs.declared.root_symbol.ModuleInfo.{ModuleInfo}
 use Rattle.fast_check_build_requests.specs.declared.module_parts.ModuleParts.{ModuleParts}
 use Rattle.fast_check_build_requests.specs.declared.module_parts.ModuleParts.TheVariants as parts

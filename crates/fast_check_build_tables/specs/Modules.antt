@@ -2,9 +2,9 @@
 use Rattle.std.specs.Prelude.{◌≡◌, ◌⊎◌, List, [], ◌∷◌}
 use Rattle.std.specs.List.{AllZip}
 use Rattle.url.specs.Parts.{Parts}
-use Rattle.fast_check_symbol_tables.specs.declared.fault.TableFault.{TableFault}
+use Rattle.fast_check_modules.specs.symbol_tables.declared.fault.TableFault.{TableFault}
 use Rattle.fast_check_modules.specs.EsModule.{EsModule, JsonModule}
-use Rattle.fast_check_symbol_tables.specs.WellFormed.{AreMadeOf, AreWellFormed, IsTableFault}
+use Rattle.fast_check_modules.specs.symbol_tables.WellFormed.{AreMadeOf, AreWellFormed, IsTableFault}
 use Rattle.fast_check_modules.specs.FitProgram.{FitProgram, IsModuleFault}
 use Rattle.fast_check_graph.specs.declared.root_symbol.ModuleInfo.{ModuleInfo}
 use Rattle.fast_check_graph.specs.declared.root_symbol.ModuleInfo.TheVariants as infos

@@ -7,8 +7,8 @@ use Rattle.std.specs.Cmp.Lexicographic.{slice_cmp}
 use Rattle.std.specs.declared.cmp.Ordering.{Ordering}
 use Rattle.url.specs.Parts.{Parts, serialize}
 use Rattle.fast_check_symbols.specs.Entries.{last_value}
-use Rattle.fast_check_symbol_tables.specs.declared.fault.TableFault.{TableFault}
-use Rattle.fast_check_symbol_tables.specs.declared.fault.TableFault.TheVariants as faults
+use Rattle.fast_check_modules.specs.symbol_tables.declared.fault.TableFault.{TableFault}
+use Rattle.fast_check_modules.specs.symbol_tables.declared.fault.TableFault.TheVariants as faults
 use Rattle.fast_check_graph.specs.declared.root_symbol.ModuleInfo.{ModuleInfo}
 use Rattle.fast_check_graph.specs.declared.root_symbol.RootSymbol.{RootSymbol}
 use Rattle.fast_check_graph.specs.Graph.{is_specifier}

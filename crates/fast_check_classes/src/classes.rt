@@ -7,15 +7,15 @@ ghost use Rattle.fast_check_class_forms.specs.Classes.{Class-span, Class-ctxt, C
 ghost use Rattle.fast_check_signatures.specs.Answers as answers;
 ghost use Rattle.fast_check_signatures.specs.Classes.{class_head, plain_class_seen, ambient_class};
 ghost use Rattle.fast_check_signatures.specs.Members.{ambient_members, is_private_computed};
-ghost use Rattle.fast_check_diagnostics.specs.PublicRanges.{is_implementation};
+ghost use Rattle.fast_check_modules.specs.diagnostics.PublicRanges.{is_implementation};
 ghost use Rattle.fast_check_values.specs.bindings.Bindings.{bindings_of};
 
 use crate::copies::{three_trees, two_trees};
 use crate::members::transform_members;
 use fast_check_class_forms::{AutoAccessor, Class, ClassMethod, ClassProp};
 use fast_check_class_nodes::{is_computed, is_private};
-use fast_check_diagnostics::ModulePublicRanges;
 use fast_check_modules::EsModuleInfo;
+use fast_check_modules::diagnostics::ModulePublicRanges;
 use fast_check_signatures::Fault;
 use fast_check_superclasses::transform_superclass;
 use fast_check_syntax::{Items, Kind, Part, Tree};

@@ -3,7 +3,7 @@ ghost use Rattle.fast_check_syntax.specs.Part.{seen};
 ghost use Rattle.fast_check_syntax.specs.Shape.{parts};
 ghost use Rattle.fast_check_signatures.specs.Answers.{Adds, answer_to, answer_of};
 ghost use Rattle.fast_check_signatures.specs.Classes.{is_param_property, takes_apart, constructor_params_seen, constructor_seen};
-ghost use Rattle.fast_check_diagnostics.specs.PublicRanges.{is_implementation};
+ghost use Rattle.fast_check_modules.specs.diagnostics.PublicRanges.{is_implementation};
 ghost use Rattle.fast_check_classes.specs.Parts.{first_pattern, signed_constructor};
 ghost use Rattle.fast_check_values.specs.bindings.Bindings.{bindings_of};
 
@@ -12,8 +12,8 @@ use fast_check_class_forms::Constructor;
 use fast_check_class_nodes::{
     constructor_body, is_private, param_target, plain_params, takes_apart,
 };
-use fast_check_diagnostics::ModulePublicRanges;
 use fast_check_modules::EsModuleInfo;
+use fast_check_modules::diagnostics::ModulePublicRanges;
 use fast_check_ranges::range_of_node;
 use fast_check_signatures::{Fault, FaultKind};
 use fast_check_syntax::{Items, Kind, Part, SourceRange, Tree};

@@ -6,7 +6,7 @@ ghost use Rattle.fast_check_syntax.specs.declared.kind.Kind.TheVariants as kinds
 ghost use Rattle.fast_check_signatures.specs.Answers.{Adds, answer_to, answer_of, made};
 ghost use Rattle.fast_check_signatures.specs.Classes.{declared_by_params, method_kind, method_function_seen, method_seen, member_seen, members_seen};
 ghost use Rattle.fast_check_signatures.specs.Members.{is_hash_named, hash_mark};
-ghost use Rattle.fast_check_diagnostics.specs.PublicRanges.{is_implementation};
+ghost use Rattle.fast_check_modules.specs.diagnostics.PublicRanges.{is_implementation};
 ghost use Rattle.fast_check_classes.specs.Parts.{signed_method, declared_params, kept_answer};
 ghost use Rattle.fast_check_values.specs.bindings.Bindings.{bindings_of};
 
@@ -17,9 +17,9 @@ use fast_check_class_forms::{ClassMethod, Constructor};
 use fast_check_class_nodes::{
     hash_private, is_hash_named, is_private, kept_members, param_property, private_method_head,
 };
-use fast_check_diagnostics::ModulePublicRanges;
 use fast_check_helpers::any_type_ann;
 use fast_check_modules::EsModuleInfo;
+use fast_check_modules::diagnostics::ModulePublicRanges;
 use fast_check_ranges::range_of_node;
 use fast_check_signatures::{Fault, FunctionKind};
 use fast_check_syntax::{Items, Kind, Part, SyntaxContext, Tree, Word};

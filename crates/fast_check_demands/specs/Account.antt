@@ -3,7 +3,7 @@ use Rattle.std.specs.Prelude.{Bool, true, false, ◌&&◌, ◌||◌, List, [], �
 use Rattle.std.specs.List.{list_any, Contains}
 use Rattle.std.specs.Str.{bytes_eq}
 use Rattle.fast_check_names.specs.Names.{Path}
-use Rattle.fast_check_symbol_tables.specs.Tables.{Tables}
+use Rattle.fast_check_modules.specs.symbol_tables.Tables.{Tables}
 use Rattle.fast_check_modules.specs.symbols.declared.symbol_id.SymbolId.{SymbolId}
 use Rattle.fast_check_demands.specs.declared.demand.Namespace.{Namespace}
 use Rattle.fast_check_demands.specs.declared.demand.Namespace.TheVariants.{Value, Type_}

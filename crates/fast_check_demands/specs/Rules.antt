@@ -20,7 +20,7 @@ use Rattle.fast_check_modules.specs.symbols.declared.node.SymbolDep.TheVariants 
 use Rattle.fast_check_modules.specs.symbols.declared.node.SymbolNodeDep.{SymbolNodeDep}
 use Rattle.fast_check_modules.specs.symbols.Symbols.{symbol_of}
 use Rattle.fast_check_modules.specs.symbols.Exports.{export_named}
-use Rattle.fast_check_symbol_tables.specs.Tables.{Tables, symbol_of_swc}
+use Rattle.fast_check_modules.specs.symbol_tables.Tables.{Tables, symbol_of_swc}
 use Rattle.fast_check_demands.specs.declared.demand.Namespace.{Namespace}
 use Rattle.fast_check_demands.specs.declared.demand.Namespace.TheVariants.{Value, Type_}
 use Rattle.fast_check_demands.specs.declared.demand.Extent.{Extent}

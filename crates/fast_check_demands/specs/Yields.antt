@@ -8,7 +8,7 @@ use Rattle.fast_check_modules.specs.symbols.declared.symbol.Symbol.{Symbol}
 use Rattle.fast_check_modules.specs.symbols.declared.decl.SymbolDecl.{SymbolDecl}
 use Rattle.fast_check_modules.specs.symbols.Symbols.{symbol_of}
 use Rattle.fast_check_modules.specs.symbols.Exports.{export_named}
-use Rattle.fast_check_symbol_tables.specs.Tables.{Tables}
+use Rattle.fast_check_modules.specs.symbol_tables.Tables.{Tables}
 use Rattle.fast_check_demands.specs.declared.demand.Namespace.{Namespace}
 use Rattle.fast_check_demands.specs.declared.fault.FaultKind.{FaultKind}
 use Rattle.fast_check_demands.specs.declared.fault.FaultKind.TheVariants.{PrivateMember, NotFound, TooComplex}

@@ -1,16 +1,16 @@
 ghost use Rattle.std.specs.Prelude.{◌≡◌, IfOk};
 ghost use Rattle.fast_check_syntax.specs.Part.{seen};
 ghost use Rattle.fast_check_signatures.specs.Answers.{faultless};
-ghost use Rattle.fast_check_skeleton.specs.Links.{answered_source, public_specifiers};
-ghost use Rattle.fast_check_skeleton.specs.declared.rules.LinkRule.TheVariants as links;
+ghost use Rattle.fast_check_asked.specs.skeleton.Links.{answered_source, public_specifiers};
+ghost use Rattle.fast_check_asked.specs.skeleton.declared.rules.LinkRule.TheVariants as links;
 ghost use Rattle.fast_check_asked.specs.Asked.{Asked-around};
 ghost use Rattle.fast_check_asked.specs.Kept.{as_list};
 ghost use Rattle.fast_check_links.specs.Links.{link_answer};
 
 use fast_check_asked::Asked;
+use fast_check_asked::skeleton::LinkRule;
 use fast_check_program_forms::{ExportAll, ImportDecl, NamedExport, Str, TsImportEqualsDecl};
 use fast_check_ranges::range_of_node;
-use fast_check_skeleton::LinkRule;
 use fast_check_sources::relative_source;
 use fast_check_syntax::{Atom, Items, Part, Tree};
 use std::alloc::{AllocError, Global};

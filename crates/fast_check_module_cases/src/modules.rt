@@ -3,7 +3,7 @@
 use crate::read_ask;
 use crate::symbols::{tell_found, tell_numbers, tell_place, tell_re_exports, tell_url};
 use fast_check_comments::Comments;
-use fast_check_diagnostics::ModulePublicRanges;
+use fast_check_modules::diagnostics::ModulePublicRanges;
 use fast_check_modules::{EsModuleInfo, JsonModuleInfo, TableFault};
 use fast_check_read::{ReadError, read_text, read_tree};
 use fast_check_read_tables::{FromJson, read_member, read_module_tables};

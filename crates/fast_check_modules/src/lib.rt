@@ -9,6 +9,7 @@ mod unbound;
 
 pub use es_module::EsModuleInfo;
 pub use expandos::{Expando, expandos_of, is_expando_assignment};
+pub use fast_check_diagnostics as diagnostics;
 pub use fast_check_symbol_tables::{CheckedTables, ModuleTables, ReExportAllNode, TableFault};
 pub use fast_check_symbols as symbols;
 pub use fast_check_symbols::{

@@ -8,8 +8,8 @@ use Rattle.std.proofs.Common.{◌∙◌, sym, ap, subst, append_assoc, eq-eqb, e
 use Rattle.std.proofs.lemmas.Bool.{false≢true}
 use Rattle.std.proofs.lemmas.List.{append-nil, map-append, nil_from_length}
 use Rattle.std.proofs.lemmas.Grind.{flat_map-append}
-use Rattle.fast_check_diagnostics.specs.PublicRanges.{PublicRanges}
-use Rattle.fast_check_diagnostics.specs.declared.diagnostics.FastCheckDiagnostic.{FastCheckDiagnostic}
+use Rattle.fast_check_modules.specs.diagnostics.PublicRanges.{PublicRanges}
+use Rattle.fast_check_modules.specs.diagnostics.declared.diagnostics.FastCheckDiagnostic.{FastCheckDiagnostic}
 use Rattle.fast_check_signatures.specs.declared.fault.Fault.{Fault}
 use Rattle.fast_check_tables.specs.MediaType.{is_declaration}
 use Rattle.fast_check_tables.specs.declared.tables.fast_check_module.FastCheckModule.{FastCheckModule}

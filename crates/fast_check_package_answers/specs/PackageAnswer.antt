@@ -4,9 +4,9 @@ use Rattle.std.specs.List.{AllZip, AllByRecursion, flat_map}
 use Rattle.std.specs.declared.alloc.Global.{Global}
 use Rattle.url.specs.Parts.{Parts}
 use Rattle.fast_check_tables.specs.MediaType.{is_declaration}
-use Rattle.fast_check_diagnostics.specs.PublicRanges.{PublicRanges}
-use Rattle.fast_check_diagnostics.specs.DiagnosticCopy.{IsDiagnosticCopy}
-use Rattle.fast_check_diagnostics.specs.declared.diagnostics.FastCheckDiagnostic.{FastCheckDiagnostic}
+use Rattle.fast_check_modules.specs.diagnostics.PublicRanges.{PublicRanges}
+use Rattle.fast_check_modules.specs.diagnostics.DiagnosticCopy.{IsDiagnosticCopy}
+use Rattle.fast_check_modules.specs.diagnostics.declared.diagnostics.FastCheckDiagnostic.{FastCheckDiagnostic}
 use Rattle.fast_check_tables.specs.declared.tables.fast_check_module.FastCheckModule.{FastCheckModule}
 use Rattle.fast_check_modules.specs.EsModule.{EsModule, AreOwnRanges}
 use Rattle.fast_check_transform.specs.skeleton.Grammar.{IsSkeleton}

@@ -7,9 +7,9 @@ ghost use Rattle.fast_check_package_answers.specs.PackageAnswer.{ShowsMore, with
 ghost use Rattle.fast_check_package_answers.specs.PackageAnswer.{IsRefused, IsPackageAnswer};
 
 use fast_check_cache::PackagePublicRanges;
-use fast_check_diagnostics::{FastCheckDiagnostic, ModulePublicRanges};
 use fast_check_graph::{ModuleGraph, ModuleInfo, RootSymbol};
 use fast_check_modules::EsModuleInfo;
+use fast_check_modules::diagnostics::{FastCheckDiagnostic, ModulePublicRanges};
 use fast_check_tables::{FastCheckModule, ModuleSpecifier};
 use fast_check_transform::{TransformOptions, transform};
 use std::alloc::{AllocError, Global};

@@ -2,10 +2,10 @@
 use Rattle.std.specs.Prelude.{◌≡◌, ◌≢◌, ℕ, List, [], ◌++◌, Bool, ◌⊎◌}
 use Rattle.serde_json.specs.Data.{Data}
 use Rattle.serde_json.specs.Written.{compact_text}
-use Rattle.fast_check_diagnostics.specs.declared.diagnostics.FastCheckDiagnostic.{FastCheckDiagnostic}
+use Rattle.fast_check_modules.specs.diagnostics.declared.diagnostics.FastCheckDiagnostic.{FastCheckDiagnostic}
 use Rattle.fast_check_graph.specs.declared.graph.ModuleGraph.{ModuleGraph}
 use Rattle.fast_check_modules.specs.EsModule.{EsModule}
-use Rattle.fast_check_diagnostics.specs.PublicRanges.{PublicRanges}
+use Rattle.fast_check_modules.specs.diagnostics.PublicRanges.{PublicRanges}
 use Rattle.fast_check_transform.specs.Transform.{skeleton, comments, sources, faults}
 use Rattle.fast_check_transform_faults.specs.Diagnostics.{AreDiagnosticsOf, told}
 use Rattle.fast_check_requests.specs.Refusal.{line_end}

@@ -3,7 +3,7 @@ use Rattle.std.specs.Prelude.{◌≡◌, ℕ, ◌<◌, IsTrue, List, Bool, true,
 use Rattle.std.specs.Io.KnownBytes.{Appends}
 use Rattle.fast_check_graph.specs.declared.graph.ModuleGraph.{ModuleGraph}
 use Rattle.fast_check_modules.specs.EsModule.{EsModule, Admits}
-use Rattle.fast_check_symbol_tables.specs.WellFormed.{AreMadeOf}
+use Rattle.fast_check_modules.specs.symbol_tables.WellFormed.{AreMadeOf}
 use Rattle.fast_check_modules.specs.FitProgram.{FitProgram, IsModuleFault}
 use Rattle.fast_check_requests.specs.declared.ending.Ending.{Ending}
 use Rattle.fast_check_requests.specs.declared.refusal.Refusal.{Refusal}
@@ -12,7 +12,7 @@ use Rattle.fast_check_requests.specs.declared.request.EsModuleParts.{EsModulePar
 use Rattle.fast_check_requests.specs.declared.request.TransformRequest.{TransformRequest}
 use Rattle.fast_check_requests.specs.Call.{is_call, File, OfFile}
 use Rattle.fast_check_requests.specs.Input.{HoldsRequest, IsNotJson, IsNoRequest}
-use Rattle.fast_check_diagnostics.specs.PublicRanges.{PublicRanges}
+use Rattle.fast_check_modules.specs.diagnostics.PublicRanges.{PublicRanges}
 use Rattle.fast_check_program.specs.Line.{IsAnswer}
 
 -- ---- a request

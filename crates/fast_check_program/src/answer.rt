@@ -5,7 +5,7 @@ ghost use Rattle.fast_check_answers.specs.Answer.{answer_data};
 ghost use Rattle.fast_check_program.specs.Line.{line_of_data};
 
 use fast_check_answers::write_answer;
-use fast_check_diagnostics::FastCheckDiagnostic;
+use fast_check_modules::diagnostics::FastCheckDiagnostic;
 use fast_check_tables::FastCheckModule;
 use json::Writer;
 use std::alloc::{AllocError, Global};

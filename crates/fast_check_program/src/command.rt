@@ -7,9 +7,9 @@ ghost use Rattle.fast_check_program.specs.Line.{IsAnswer};
 ghost use Rattle.fast_check_program.specs.Program.{AnswersModule, RefusesModule, AnswersRequest, RefusesRequest, IsAnswerTo, RefusesBytes, RefusesCall, AnswersCall, HasAnswer, IsAnswered};
 
 use crate::answer::print_line;
-use fast_check_diagnostics::ModulePublicRanges;
 use fast_check_graph::ModuleGraph;
 use fast_check_modules::EsModuleInfo;
+use fast_check_modules::diagnostics::ModulePublicRanges;
 use fast_check_requests::{
     Ending, EsModuleParts, Refusal, TransformRequest, is_call, read_bytes, read_request,
 };

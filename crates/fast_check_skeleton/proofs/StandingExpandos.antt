@@ -23,7 +23,7 @@ use Rattle.fast_check_statement_forms.specs.TsDeclarations.{TsModuleDecl-global,
 use Rattle.fast_check_statement_forms.specs.TsDeclarations.{TsModuleBlock-body, ts_module_block}
 use Rattle.fast_check_program_forms.specs.Names.{BindingIdent-type_ann, binding_ident}
 use Rattle.fast_check_statement_forms.specs.Declarations.{VarDeclarator-name, VarDeclarator-init, var_declarator}
-use Rattle.fast_check_symbol_tables.specs.Tables.{same_id}
+use Rattle.fast_check_modules.specs.symbol_tables.Tables.{same_id}
 use Rattle.fast_check_modules.specs.Expandos.{is_expando_assignment}
 use Rattle.fast_check_typed_grammar.specs.signatures.Bindings.{Bindings}
 use Rattle.fast_check_typed_grammar.specs.signatures.declared.fault.FaultKind.TheVariants.{MissingExplicitType}

@@ -11,7 +11,7 @@ use Rattle.fast_check_ranges.specs.Ranges.{range_of_node}
 use Rattle.fast_check_symbols.specs.declared.symbol.Symbol.{Symbol}
 use Rattle.fast_check_modules.specs.EsModule.{EsModule}
 use Rattle.fast_check_modules.specs.Expandos.{is_expando_assignment}
-use Rattle.fast_check_symbol_tables.specs.Tables.{symbol_of_swc}
+use Rattle.fast_check_modules.specs.symbol_tables.Tables.{symbol_of_swc}
 use Rattle.fast_check_signatures.specs.declared.fault.Fault.{Fault}
 use Rattle.fast_check_signatures.specs.declared.fault.FaultKind.TheVariants.{MissingExplicitType}
 use Rattle.fast_check_signatures.specs.Answers.{Answer, Adds, fault_at, unless_stays, answer_to, answer_of}

@@ -4,7 +4,7 @@ ghost use Rattle.fast_check_syntax.specs.Part.{seen};
 ghost use Rattle.fast_check_expression_forms.specs.Calls.{MemberExpr-span};
 ghost use Rattle.fast_check_expression_forms.specs.Operators.{AssignExpr-span, AssignExpr-left};
 ghost use Rattle.fast_check_modules.specs.Expandos.{is_expando_assignment};
-ghost use Rattle.fast_check_symbol_tables.specs.Tables.{symbol_of_swc};
+ghost use Rattle.fast_check_modules.specs.symbol_tables.Tables.{symbol_of_swc};
 ghost use Rattle.fast_check_signatures.specs.declared.fault.FaultKind.TheVariants as kinds;
 ghost use Rattle.fast_check_signatures.specs.Answers.{Adds, fault_at};
 ghost use Rattle.fast_check_expandos.specs.Assignments.{missing_place, kept_property};

@@ -1,16 +1,16 @@
 ghost use Rattle.std.specs.Prelude.{◌≡◌, ◌↔◌, [], IfOk, IsOk, IfErr};
-ghost use Rattle.fast_check_skeleton.specs.Grammar.{IsSkeleton};
+ghost use Rattle.fast_check_declarations.specs.asked.skeleton.Grammar.{IsSkeleton};
 ghost use Rattle.fast_check_tables.specs.MediaType.{is_declaration};
 ghost use Rattle.fast_check_modules.specs.EsModule.{Admits};
-ghost use Rattle.fast_check_bindings.specs.Bindings.{bindings_of};
+ghost use Rattle.fast_check_declarations.specs.asked.bindings.Bindings.{bindings_of};
 ghost use Rattle.fast_check_transform.specs.Transform.{skeleton, sources, comments, faults};
 ghost use Rattle.fast_check_transform_faults.specs.Diagnostics.{AreDiagnosticsOf, told};
 
 use crate::program::{KeptModule, keep_module};
-use fast_check_diagnostics::{FastCheckDiagnostic, ModulePublicRanges};
 use fast_check_graph::ModuleGraph;
 use fast_check_links::static_sources;
 use fast_check_modules::EsModuleInfo;
+use fast_check_modules::diagnostics::{FastCheckDiagnostic, ModulePublicRanges};
 use fast_check_tables::{FastCheckModule, ModuleInfo, WorkspaceMember};
 use fast_check_transform_faults::tell;
 use std::alloc::{AllocError, Global};

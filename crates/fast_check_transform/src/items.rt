@@ -2,23 +2,23 @@ ghost use Rattle.std.specs.Prelude.{◌≡◌, ◌++◌, false, flat_map, IfOk};
 ghost use Rattle.fast_check_syntax.specs.Part.{seen};
 ghost use Rattle.fast_check_syntax.specs.Shape.{parts};
 ghost use Rattle.fast_check_signatures.specs.Answers.{Adds};
-ghost use Rattle.fast_check_skeleton.specs.KeptComments.{removed_from, start_look, starts_in_body, starts_in_namespace, starts_below, without_all_leading};
-ghost use Rattle.fast_check_skeleton.specs.Rules.{is_assigned, item_rule};
-ghost use Rattle.fast_check_skeleton.specs.Visible.{item_properties};
-ghost use Rattle.fast_check_asked.specs.Asked.{Asked-around};
-ghost use Rattle.fast_check_asked.specs.Kept.{as_list};
+ghost use Rattle.fast_check_declarations.specs.asked.skeleton.KeptComments.{removed_from, start_look, starts_in_body, starts_in_namespace, starts_below, without_all_leading};
+ghost use Rattle.fast_check_declarations.specs.asked.skeleton.Rules.{is_assigned, item_rule};
+ghost use Rattle.fast_check_declarations.specs.asked.skeleton.Visible.{item_properties};
+ghost use Rattle.fast_check_declarations.specs.asked.Asked.{Asked-around};
+ghost use Rattle.fast_check_declarations.specs.asked.Kept.{as_list};
 ghost use Rattle.fast_check_transform.specs.PartAnswers.{namespace_answer, decl_answer, export_answer, starts_in_export, refused_answer, item_answer};
 ghost use Rattle.fast_check_transform.specs.PartAnswers.{each_answer, items_answer};
 
-use fast_check_asked::Asked;
 use fast_check_comments::CommentsMut;
+use fast_check_declarations::asked::Asked;
+use fast_check_declarations::asked::skeleton::expandos::{ExpandoProperty, keep_namespaces};
+use fast_check_declarations::asked::skeleton::{DeclRule, ItemRule, item_rule};
 use fast_check_declarations::{keep_default, keep_public_class, remove_inside};
 use fast_check_links::keep_link;
 use fast_check_program_forms::ExportDecl;
 use fast_check_ranges::range_of_node;
 use fast_check_signatures::{Fault, FaultKind};
-use fast_check_skeleton::expandos::{ExpandoProperty, keep_namespaces};
-use fast_check_skeleton::{DeclRule, ItemRule, item_rule};
 use fast_check_statement_forms::ExprStmt;
 use fast_check_statements::{
     items_inside, keep_assignment, keep_public_function, keep_standing, keep_statement, keep_using,

@@ -1,17 +1,17 @@
 ghost use Rattle.std.specs.Prelude.{◌≡◌, IfOk};
 ghost use Rattle.fast_check_syntax.specs.Part.{seen};
 ghost use Rattle.fast_check_signatures.specs.Answers.{Adds};
-ghost use Rattle.fast_check_skeleton.specs.KeptComments.{removed_starts, without_all_leading};
-ghost use Rattle.fast_check_asked.specs.Asked.{Asked-around};
+ghost use Rattle.fast_check_declarations.specs.asked.skeleton.KeptComments.{removed_starts, without_all_leading};
+ghost use Rattle.fast_check_declarations.specs.asked.Asked.{Asked-around};
 ghost use Rattle.fast_check_transform.specs.PartAnswers.{program_answer};
 ghost use Rattle.fast_check_transform.specs.Transform.{skeleton, comments, faults};
 
 use crate::items::keep_items;
-use fast_check_asked::Asked;
 use fast_check_comments::{Comments, CommentsMut};
-use fast_check_diagnostics::ModulePublicRanges;
+use fast_check_declarations::asked::Asked;
 use fast_check_graph::ModuleGraph;
 use fast_check_modules::EsModuleInfo;
+use fast_check_modules::diagnostics::ModulePublicRanges;
 use fast_check_program_forms::Module;
 use fast_check_signatures::Fault;
 use fast_check_syntax::{Part, Tree};

@@ -4,7 +4,7 @@ use lib.ListN.{get_or}
 use Rattle.std.proofs.Common.{subst, sym}
 use Rattle.std.proofs.lemmas.List.{take_more}
 use Rattle.fast_check_modules.specs.EsModule.{EsModule}
-use Rattle.fast_check_diagnostics.specs.declared.diagnostics.FastCheckDiagnostic.{FastCheckDiagnostic}
+use Rattle.fast_check_modules.specs.diagnostics.declared.diagnostics.FastCheckDiagnostic.{FastCheckDiagnostic}
 use Rattle.fast_check_signatures.specs.declared.fault.Fault.{Fault}
 use Rattle.fast_check_transform_faults.specs.Diagnostics.{IsDiagnosticOf, AreDiagnosticsOf}
 

@@ -3,14 +3,14 @@ use Rattle.std.specs.Prelude.{◌≡◌, ℕ, Bool, List, [], ◌∷◌, take, i
 use Rattle.std.specs.Rc.{rc_str_bytes}
 use Rattle.fast_check_syntax.specs.declared.source.SourceRange.{SourceRange}
 use Rattle.fast_check_modules.specs.EsModule.{EsModule}
-use Rattle.fast_check_diagnostics.specs.declared.diagnostics.range.FastCheckDiagnosticRange.{FastCheckDiagnosticRange}
-use Rattle.fast_check_diagnostics.specs.declared.diagnostics.FastCheckDiagnostic.{FastCheckDiagnostic}
-use Rattle.fast_check_diagnostics.specs.declared.diagnostics.FastCheckDiagnostic.TheVariants.{MissingExplicitType, MissingExplicitReturnType}
-use Rattle.fast_check_diagnostics.specs.declared.diagnostics.FastCheckDiagnostic.TheVariants.{UnsupportedDestructuring, UnsupportedSuperClassExpr}
-use Rattle.fast_check_diagnostics.specs.declared.diagnostics.FastCheckDiagnostic.TheVariants.{UnsupportedDefaultExportExpr, UnsupportedUsing, UnsupportedRequire}
-use Rattle.fast_check_diagnostics.specs.declared.diagnostics.FastCheckDiagnostic.TheVariants.{UnsupportedTsExportAssignment, UnsupportedTsNamespaceExport}
-use Rattle.fast_check_diagnostics.specs.declared.diagnostics.FastCheckDiagnostic.TheVariants.{UnsupportedGlobalModule, UnsupportedAmbientModule}
-use Rattle.fast_check_diagnostics.specs.declared.diagnostics.FastCheckDiagnostic.TheVariants.{UnsupportedExpandoProperty}
+use Rattle.fast_check_modules.specs.diagnostics.declared.diagnostics.range.FastCheckDiagnosticRange.{FastCheckDiagnosticRange}
+use Rattle.fast_check_modules.specs.diagnostics.declared.diagnostics.FastCheckDiagnostic.{FastCheckDiagnostic}
+use Rattle.fast_check_modules.specs.diagnostics.declared.diagnostics.FastCheckDiagnostic.TheVariants.{MissingExplicitType, MissingExplicitReturnType}
+use Rattle.fast_check_modules.specs.diagnostics.declared.diagnostics.FastCheckDiagnostic.TheVariants.{UnsupportedDestructuring, UnsupportedSuperClassExpr}
+use Rattle.fast_check_modules.specs.diagnostics.declared.diagnostics.FastCheckDiagnostic.TheVariants.{UnsupportedDefaultExportExpr, UnsupportedUsing, UnsupportedRequire}
+use Rattle.fast_check_modules.specs.diagnostics.declared.diagnostics.FastCheckDiagnostic.TheVariants.{UnsupportedTsExportAssignment, UnsupportedTsNamespaceExport}
+use Rattle.fast_check_modules.specs.diagnostics.declared.diagnostics.FastCheckDiagnostic.TheVariants.{UnsupportedGlobalModule, UnsupportedAmbientModule}
+use Rattle.fast_check_modules.specs.diagnostics.declared.diagnostics.FastCheckDiagnostic.TheVariants.{UnsupportedExpandoProperty}
 use Rattle.fast_check_signatures.specs.declared.fault.Fault.{Fault}
 use Rattle.fast_check_signatures.specs.declared.fault.FaultKind.TheVariants as kinds
 

@@ -1,8 +1,8 @@
 ghost use Rattle.std.specs.Prelude.{◌≡◌, IfOk};
 ghost use Rattle.fast_check_transform_faults.specs.Diagnostics.{IsPlaceOf, IsExpandoProperty, IsDiagnosticOf, AreDiagnosticsOf, told};
 
-use fast_check_diagnostics::{FastCheckDiagnostic, FastCheckDiagnosticRange};
 use fast_check_modules::EsModuleInfo;
+use fast_check_modules::diagnostics::{FastCheckDiagnostic, FastCheckDiagnosticRange};
 use fast_check_signatures::{Fault, FaultKind};
 use fast_check_syntax::{Atom, SourceRange};
 use std::alloc::{AllocError, Global};

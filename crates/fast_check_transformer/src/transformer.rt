@@ -6,9 +6,9 @@ ghost use Rattle.fast_check_bindings.specs.Bindings.{bindings_of};
 ghost use Rattle.fast_check_transform_faults.specs.Diagnostics.{AreDiagnosticsOf, told};
 
 use fast_check_comments::Comments;
-use fast_check_diagnostics::{FastCheckDiagnostic, ModulePublicRanges};
 use fast_check_graph::ModuleGraph;
 use fast_check_modules::EsModuleInfo;
+use fast_check_modules::diagnostics::{FastCheckDiagnostic, ModulePublicRanges};
 use fast_check_syntax::Tree;
 use fast_check_transform::{KeptModule, keep_module};
 use fast_check_transform_faults::tell;

@@ -1,6 +1,6 @@
 //! Calls of a transformer, and what is told of them.
-use fast_check_diagnostics::{Diagnostic, FastCheckDiagnostic, ModulePublicRanges};
 use fast_check_graph::ModuleGraph;
+use fast_check_modules::diagnostics::{Diagnostic, FastCheckDiagnostic, ModulePublicRanges};
 use fast_check_modules::{EsModuleInfo, TableFault};
 use fast_check_requests::{EsModuleParts, Refusal, TransformRequest};
 use fast_check_said::Said;

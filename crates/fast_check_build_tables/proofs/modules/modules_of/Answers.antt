@@ -1,6 +1,6 @@
 use Rattle.std.proofs.Common.{rules, arith, refl}
-use Rattle.fast_check_symbol_tables.specs.declared.fault.TableFault.{TableFault}
-use Rattle.fast_check_symbol_tables.specs.declared.fault.TableFault.TheVariants.{OutOfMemory}
+use Rattle.fast_check_modules.specs.symbol_tables.declared.fault.TableFault.{TableFault}
+use Rattle.fast_check_modules.specs.symbol_tables.declared.fault.TableFault.TheVariants.{OutOfMemory}
 use Rattle.fast_check_build_tables.specs.Modules.{IsFaultOf}
 use Rattle.fast_check_build_tables.proofs.Turns.{begins, goes_on, fails, wants_memory, ends}
 use Rattle.fast_check_build_tables.proofs.modules.modules_of.Goals as goal

@@ -1,7 +1,7 @@
 use Rattle.std.proofs.Common.{ap, ◌∙◌, sym, refl}
 use Rattle.fast_check_values.specs.bindings.Bindings.{bindings_of}
 use Rattle.fast_check_syntax.specs.Part.{seen}
-use Rattle.fast_check_diagnostics.specs.PublicRanges.{is_implementation}
+use Rattle.fast_check_modules.specs.diagnostics.PublicRanges.{is_implementation}
 use Rattle.fast_check_syntax.specs.Shape.{parts}
 use Rattle.fast_check_signatures.specs.Answers.{answer_to, answer_of, class_of}
 use Rattle.fast_check_signatures.specs.Classes.{class_head, superclass_seen, members_seen}

@@ -2,7 +2,7 @@ use Rattle.std.proofs.Common.{ap, ◌∙◌, sym, map}
 use Rattle.fast_check_values.specs.bindings.Bindings.{bindings_of}
 use Rattle.fast_check_syntax.specs.Part.{seen}
 use Rattle.fast_check_syntax.specs.Shape.{parts, list}
-use Rattle.fast_check_diagnostics.specs.PublicRanges.{is_implementation}
+use Rattle.fast_check_modules.specs.diagnostics.PublicRanges.{is_implementation}
 use Rattle.fast_check_signatures.specs.Classes.{plain_param}
 use Rattle.fast_check_signatures.specs.Members.{is_private}
 use Rattle.fast_check_classes.proofs.Constructed.{private_params, implementation_params, own_params}

@@ -2,7 +2,7 @@ use Rattle.std.proofs.Common.{ap, ◌∙◌, sym, refl}
 use Rattle.fast_check_values.specs.bindings.Bindings.{bindings_of}
 use Rattle.fast_check_syntax.specs.Part.{seen}
 use Rattle.fast_check_syntax.specs.Shape.{parts}
-use Rattle.fast_check_diagnostics.specs.PublicRanges.{is_implementation}
+use Rattle.fast_check_modules.specs.diagnostics.PublicRanges.{is_implementation}
 use Rattle.fast_check_classes.proofs.Constructed.{constructor_faulty, constructor_stays}
 use Rattle.fast_check_classes.proofs.Nothing.{none_of}
 use Rattle.fast_check_signatures.proofs.Adding.{some_of}

@@ -3,7 +3,7 @@ use Rattle.std.proofs.lemmas.Result.{IfOk-weaker}
 use Rattle.fast_check_values.specs.bindings.Bindings.{bindings_of}
 use Rattle.fast_check_syntax.specs.Part.{seen}
 use Rattle.fast_check_ranges.specs.Ranges.{range_of_node}
-use Rattle.fast_check_diagnostics.specs.PublicRanges.{is_implementation}
+use Rattle.fast_check_modules.specs.diagnostics.PublicRanges.{is_implementation}
 use Rattle.fast_check_signatures.specs.Classes.{method_kind}
 use Rattle.fast_check_classes.proofs.MembersKept.{implementation, signature}
 use Rattle.fast_check_classes.proofs.members.method_function.Goals as goal

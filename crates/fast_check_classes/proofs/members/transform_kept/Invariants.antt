@@ -1,7 +1,7 @@
 use Rattle.std.proofs.Common.{◌++◌, drop, map}
 use Rattle.fast_check_values.specs.bindings.Bindings.{bindings_of}
 use Rattle.fast_check_syntax.specs.Part.{seen}
-use Rattle.fast_check_diagnostics.specs.PublicRanges.{is_implementation}
+use Rattle.fast_check_modules.specs.diagnostics.PublicRanges.{is_implementation}
 use Rattle.fast_check_signatures.specs.Answers.{made}
 use Rattle.fast_check_values.proofs.Behind.{Behind}
 use Rattle.fast_check_classes.specs.Parts.{kept_answer}

@@ -1,6 +1,6 @@
 use Rattle.std.proofs.Common.{◌≡◌, take}
 use Rattle.std.specs.List.{filter}
-use Rattle.fast_check_skeleton.specs.Links.{is_public_specifier}
+use Rattle.fast_check_asked.specs.skeleton.Links.{is_public_specifier}
 use Rattle.fast_check_asked.specs.Asked.{Asked-around}
 use Rattle.fast_check_links.proofs.links.public_specifiers.Given as goal
 

@@ -1,5 +1,5 @@
 use Rattle.std.proofs.Common.{◌∙◌, sym, subst}
-use Rattle.fast_check_diagnostics.specs.PublicRanges.{PublicRanges}
+use Rattle.fast_check_modules.specs.diagnostics.PublicRanges.{PublicRanges}
 use Rattle.fast_check_package_answers.specs.PackageAnswer.{OwnsModule}
 use Rattle.fast_check_package_answers.proofs.Turns.{empty_vec, full_vec, left_same, told_rest, told_found, shows_rest}
 use Rattle.fast_check_package_answers.proofs.answer.answer_module.Goals as goal

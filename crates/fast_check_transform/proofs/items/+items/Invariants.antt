@@ -2,10 +2,10 @@ use Rattle.std.proofs.Common.{◌≡◌, ◌++◌, ◌+◌, ◌*◌, take}
 use Rattle.fast_check_syntax.specs.Part.{seen}
 use Rattle.fast_check_syntax.specs.Height.{height}
 use Rattle.fast_check_signatures.specs.Answers.{Adds}
-use Rattle.fast_check_skeleton.specs.KeptComments.{removed_from, without_all_leading}
+use Rattle.fast_check_declarations.specs.asked.skeleton.KeptComments.{removed_from, without_all_leading}
 use Rattle.std.specs.List.{flat_map}
-use Rattle.fast_check_skeleton.specs.Visible.{item_properties}
-use Rattle.fast_check_asked.specs.Asked.{Asked-around}
+use Rattle.fast_check_declarations.specs.asked.skeleton.Visible.{item_properties}
+use Rattle.fast_check_declarations.specs.asked.Asked.{Asked-around}
 use Rattle.fast_check_transform.specs.PartAnswers.{each_answer}
 use Rattle.fast_check_transform.proofs.items.+items.Given as goal
 
