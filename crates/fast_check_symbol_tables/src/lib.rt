@@ -7,5 +7,6 @@ mod faults;
 mod tables;
 
 pub use checked::CheckedTables;
+pub use fast_check_symbols as symbols;
 pub use fault::TableFault;
 pub use tables::{ModuleTables, ReExportAllNode};
