@@ -7,7 +7,7 @@ use Rattle.std.proofs.lemmas.List.Concat.{flat_map-append}
 use Rattle.fast_check_syntax.specs.declared.tree.Tree.{Tree}
 use Rattle.fast_check_signatures.specs.declared.fault.Fault.{Fault}
 use Rattle.fast_check_signatures.specs.Seen.{Seen}
-use Rattle.fast_check_signatures.specs.Answers.{Answer, Adds, with_tree, answer_to, answer_of}
+use Rattle.fast_check_signatures.specs.Answers.{Adds, with_tree, answer_to, answer_of}
 use Rattle.fast_check_signatures.proofs.Adding.{adds_nothing, adds_same, adds_joined, answer_append}
 
 -- one that is seen alone

@@ -1,5 +1,5 @@
 -- What a call's argument is read as.
-use Rattle.std.specs.Prelude.{◌≡◌, Bool, true, false, Option, Some, None, is_some, refl}
+use Rattle.std.specs.Prelude.{◌≡◌, Option, Some, None, is_some, refl}
 use Rattle.fast_check_syntax.specs.declared.part.Part as part
 use Rattle.fast_check_syntax.specs.declared.tree.Tree.{Tree}
 use Rattle.fast_check_expression_forms.specs.declared.expressions.ExprOrSpread.{ExprOrSpread}

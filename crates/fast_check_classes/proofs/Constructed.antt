@@ -16,16 +16,13 @@ use Rattle.fast_check_syntax.proofs.Made.{parts_node}
 use Rattle.fast_check_syntax.specs.declared.kind.Kind.TheVariants.{List as List'}
 use Rattle.fast_check_class_forms.specs.Classes.{Constructor-span, Constructor-ctxt, Constructor-key, Constructor-params, Constructor-body}
 use Rattle.fast_check_class_forms.specs.Classes.{Constructor-accessibility, Constructor-is_optional}
-use Rattle.fast_check_class_forms.specs.Functions.{Param-pat}
 use Rattle.fast_check_ranges.specs.Ranges.{range_of_node}
 use Rattle.fast_check_signatures.specs.Bindings.{Bindings}
 use Rattle.fast_check_signatures.specs.declared.fault.Fault.{Fault}
 use Rattle.fast_check_signatures.specs.declared.fault.FaultKind.TheVariants.{UnsupportedDestructuring}
 use Rattle.fast_check_signatures.specs.Seen.{Seen}
-use Rattle.fast_check_signatures.specs.Answers.{Answer, Adds, fault_at, faultless, answer_to, answer_of}
-use Rattle.fast_check_signatures.specs.Expressions.{expr_seen}
-use Rattle.fast_check_signatures.specs.Functions.{any_params_from, params_seen}
-use Rattle.fast_check_signatures.specs.Parameters.{pats_seen}
+use Rattle.fast_check_signatures.specs.Answers.{Adds, fault_at, faultless, answer_to, answer_of}
+use Rattle.fast_check_signatures.specs.Functions.{any_params_from}
 use Rattle.fast_check_signatures.specs.Classes.{is_param_property, takes_apart, plain_param, param_target, constructor_body, constructor_of}
 use Rattle.fast_check_signatures.specs.Classes.{unless_taken_apart, patterns_among, param_properties, constructor_params_seen, constructor_seen}
 use Rattle.fast_check_signatures.specs.Classes.{plain_params_seen}

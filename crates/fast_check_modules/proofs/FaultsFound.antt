@@ -1,7 +1,7 @@
 -- What the tests of expando statements say of tables beside a program.
 use Rattle.std.proofs.Common.{◌≡◌, ◌∙◌, sym, ap, refl, subst, ℕ, Bool, true, false, not, ◌==◌, List, ◌∷◌, ◌++◌, IsTrue, ◌↔◌}
 use Rattle.std.specs.Prelude.{is_some, IsSome}
-use Rattle.std.specs.List.{list_any, Contains, flat_map}
+use Rattle.std.specs.List.{list_any, Contains}
 use Rattle.std.specs.Option.{option_and_then}
 use Rattle.std.specs.Cmp.{nat_eq_equiv, and_equiv, on_equiv, IsEquivalence, unsigned_Decides}
 use Rattle.std.proofs.lemmas.Map.Views.{list_any-from_Contains, Contains-from_any}

@@ -1,5 +1,5 @@
 -- How deep the names of a set go. Sets with the same paths are equally deep.
-use Rattle.std.proofs.Common.{◌≡◌, ◌∙◌, sym, ap, refl, subst, ⊎_elim, ℕ, suc, ◌≤◌, max, Bool, true, false, cond, map, List, [], ◌∷◌, Option, Some, None}
+use Rattle.std.proofs.Common.{◌≡◌, ◌∙◌, sym, ap, refl, subst, ⊎_elim, ℕ, suc, ◌≤◌, max, true, false, cond, List, [], ◌∷◌, Option, Some, None}
 use Rattle.std.proofs.Common.{String, string_bytes, option_map, arith}
 use Rattle.std.specs.Option.{is_some}
 use Rattle.std.specs.Map.{lookup}

@@ -16,7 +16,7 @@ use Rattle.fast_check_files.specs.demands.Rules.{each_of}
 use Rattle.fast_check_files.specs.demands.Yields.{decl_ranges, is_within, outside, expando_ranges, decl_yields, symbol_ranges, asked_ranges, ranges, symbol_implementations, asked_implementations, implementations}
 use Rattle.fast_check_files.specs.demands.Account.{IsYield}
 use Rattle.fast_check_search.specs.Turn.{AreTableRanges}
-use Rattle.fast_check_search.proofs.Each.{Contains_first, Contains_later, contains_map, contains_flat_map, Each, each_nil, each_append, each_cons, each_map, each_flat, each_cond, each_each_of}
+use Rattle.fast_check_search.proofs.Each.{Contains_first, Contains_later, contains_map, contains_flat_map, Each, each_nil, each_cons, each_map, each_flat, each_cond, each_each_of}
 use Rattle.fast_check_search.proofs.Inside.{last_inside}
 
 each_filter : {X : Type 0} (P : X → Type 0) (test : X → Bool) (xs : List X) → Each P xs → Each P (filter test xs)

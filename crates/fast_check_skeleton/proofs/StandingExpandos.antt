@@ -3,7 +3,7 @@ use Rattle.std.specs.Prelude.{◌≡◌, ℕ, ◌<◌, Bool, true, false, ◌&&�
 use Rattle.std.proofs.Common.{ap, ◌∙◌, sym, subst, subst₂, inl, inr}
 use Rattle.std.specs.List.{flat_map, list_any}
 use Rattle.fast_check_syntax.specs.declared.atom.Id.{Id}
-use Rattle.fast_check_syntax.specs.declared.kind.Kind.TheVariants.{BindingIdent, VarDeclarator, VarDecl, ExportDecl, TsModuleDecl, TsModuleBlock}
+use Rattle.fast_check_syntax.specs.declared.kind.Kind.TheVariants.{BindingIdent, TsModuleBlock}
 use Rattle.fast_check_syntax.specs.declared.kind.Kind.TheVariants.{List as List'}
 use Rattle.fast_check_syntax.specs.declared.source.SourceRange.{SourceRange}
 use Rattle.fast_check_syntax.specs.declared.kind.Word.TheVariants as words

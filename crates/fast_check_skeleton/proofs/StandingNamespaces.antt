@@ -1,7 +1,7 @@
 -- What stands of namespaces, and that it stands in the grammar.
 use Rattle.std.specs.Prelude.{◌≡◌, ℕ, zero, suc, ◌<◌, Bool, true, false, not, ◌&&◌, ◌||◌, Option, Some, List, [], ◌∷◌, refl, if◌then◌else◌}
 use Rattle.std.proofs.Common.{arith, ap, ◌∙◌, sym, subst, subst₂, append-nil}
-use Rattle.fast_check_syntax.specs.declared.kind.Kind.TheVariants.{Str, TsModuleDecl, TsModuleBlock, TsNamespaceDecl}
+use Rattle.fast_check_syntax.specs.declared.kind.Kind.TheVariants.{Str, TsModuleDecl, TsNamespaceDecl}
 use Rattle.fast_check_syntax.specs.declared.kind.Kind.TheVariants.{List as List'}
 use Rattle.fast_check_syntax.specs.declared.tree.Tree.{Tree, Absent}
 use Rattle.fast_check_syntax.specs.declared.tree.Tree as tree

@@ -1,4 +1,4 @@
-use Rattle.std.proofs.Common.{rules, ap, ◌∙◌, sym, append-nil}
+use Rattle.std.proofs.Common.{rules, ◌∙◌, sym, append-nil}
 use Rattle.fast_check_syntax.specs.Part.{seen}
 use Rattle.fast_check_signatures.specs.Classes.{is_param_property, param_property}
 use Rattle.fast_check_classes.proofs.MembersKept.{taken_more, passed_more, taken_all}

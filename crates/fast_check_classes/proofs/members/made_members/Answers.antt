@@ -1,4 +1,4 @@
-use Rattle.std.proofs.Common.{rules, ap, ◌∙◌, sym, append-nil, ◌++◌, List, map}
+use Rattle.std.proofs.Common.{ap, ◌∙◌, sym, append-nil, ◌++◌, List, map}
 use Rattle.std.specs.Prelude.{flat_map}
 use Rattle.fast_check_syntax.specs.Part.{seen}
 use Rattle.fast_check_syntax.specs.declared.tree.Tree.{Tree}

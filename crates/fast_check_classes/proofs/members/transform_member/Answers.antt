@@ -1,11 +1,10 @@
-use Rattle.std.proofs.Common.{ap, ◌∙◌, sym}
+use Rattle.std.proofs.Common.{◌∙◌, sym}
 use Rattle.std.proofs.lemmas.Result.{IfOk-weaker}
 use Rattle.fast_check_values.specs.bindings.Bindings.{bindings_of}
 use Rattle.fast_check_syntax.specs.Part.{seen}
 use Rattle.fast_check_modules.specs.diagnostics.PublicRanges.{is_implementation}
 use Rattle.fast_check_syntax.specs.declared.kind.Kind.TheVariants as kinds
 use Rattle.fast_check_classes.proofs.MembersKept.{a_constructor, a_method, a_property, an_accessor, another}
-use Rattle.fast_check_signatures.proofs.Adding.{some_of}
 use Rattle.fast_check_classes.proofs.members.transform_member.Goals as goal
 
 pub returns-in-Constructor : goal.returns-in-Constructor

@@ -4,7 +4,6 @@ use Rattle.std.proofs.lemmas.Result.{IfOk-weaker}
 use Rattle.fast_check_values.specs.bindings.Bindings.{bindings_of}
 use Rattle.fast_check_syntax.specs.Part.{seen}
 use Rattle.fast_check_modules.specs.diagnostics.PublicRanges.{is_implementation}
-use Rattle.fast_check_syntax.specs.Shape.{parts}
 use Rattle.fast_check_syntax.specs.declared.tree.Tree.{Tree}
 use Rattle.fast_check_signatures.specs.Answers.{answer_of}
 use Rattle.fast_check_signatures.specs.Classes.{declared_by_params, members_seen}

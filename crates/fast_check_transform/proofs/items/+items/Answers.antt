@@ -1,11 +1,11 @@
 use lib.ListN.{get_or}
-use Rattle.std.proofs.Common.{◌≡◌, rules, refl, arith, ap, sym, ◌∙◌, ◌++◌, ◌∷◌, [], append-nil, true≢false}
+use Rattle.std.proofs.Common.{◌≡◌, refl, arith, ap, sym, ◌∙◌, ◌++◌, ◌∷◌, [], append-nil, true≢false}
 use Rattle.std.proofs.lemmas.List.{take_all}
 use Rattle.std.proofs.lemmas.Result.{IfOk-weaker}
 use Rattle.fast_check_comments.specs.Kept.{without_leading}
 use Rattle.fast_check_program_forms.specs.ModuleDecls.{export_decl}
 use Rattle.fast_check_ranges.specs.Ranges.{range_of_node}
-use Rattle.fast_check_declarations.specs.asked.skeleton.KeptComments.{removed_from, start_look, starts_in_body, starts_below, without_all_leading}
+use Rattle.fast_check_declarations.specs.asked.skeleton.KeptComments.{removed_from, start_look, starts_in_body, without_all_leading}
 use Rattle.std.specs.Prelude.{List}
 use Rattle.std.specs.List.{flat_map}
 use Rattle.fast_check_declarations.specs.asked.skeleton.expandos.declared.properties.ExpandoProperty.{ExpandoProperty}
