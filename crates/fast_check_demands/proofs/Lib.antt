@@ -1,1 +1,1 @@
-pub mod EachAt
+pub use Rattle.fast_check_symbol_demands.proofs.EachAt

@@ -1,6 +1,7 @@
-pub use Rattle.fast_check_modules.specs as modules
-pub mod Demands
-pub mod Decls
-pub mod Rules
+pub use Rattle.fast_check_symbol_demands.specs as symbol_demands
+pub use Rattle.fast_check_symbol_demands.specs.modules as modules
+pub use Rattle.fast_check_symbol_demands.specs.Demands
+pub use Rattle.fast_check_symbol_demands.specs.Decls
+pub use Rattle.fast_check_symbol_demands.specs.Rules
 pub mod Yields
 pub mod Account

@@ -3,19 +3,19 @@ use Rattle.std.specs.Prelude.{Bool, false, cond, not, ◌&&◌, List, [], ◌∷
 use Rattle.std.specs.List.{flat_map, filter}
 use Rattle.fast_check_names.specs.Names.{Name, Path, path_of}
 use Rattle.fast_check_syntax.specs.declared.source.SourceRange.{SourceRange}
-use Rattle.fast_check_modules.specs.symbols.declared.symbol_id.SymbolId.{SymbolId}
-use Rattle.fast_check_modules.specs.symbols.declared.symbol.Symbol.{Symbol}
-use Rattle.fast_check_modules.specs.symbols.declared.decl.SymbolDecl.{SymbolDecl}
-use Rattle.fast_check_modules.specs.symbols.Symbols.{symbol_of}
-use Rattle.fast_check_modules.specs.symbols.Exports.{export_named}
-use Rattle.fast_check_modules.specs.symbol_tables.Tables.{Tables}
-use Rattle.fast_check_demands.specs.declared.demand.Namespace.{Namespace}
+use Rattle.fast_check_symbol_demands.specs.modules.symbols.declared.symbol_id.SymbolId.{SymbolId}
+use Rattle.fast_check_symbol_demands.specs.modules.symbols.declared.symbol.Symbol.{Symbol}
+use Rattle.fast_check_symbol_demands.specs.modules.symbols.declared.decl.SymbolDecl.{SymbolDecl}
+use Rattle.fast_check_symbol_demands.specs.modules.symbols.Symbols.{symbol_of}
+use Rattle.fast_check_symbol_demands.specs.modules.symbols.Exports.{export_named}
+use Rattle.fast_check_symbol_demands.specs.modules.Tables.{Tables}
+use Rattle.fast_check_symbol_demands.specs.declared.demand.Namespace.{Namespace}
 use Rattle.fast_check_demands.specs.declared.fault.FaultKind.{FaultKind}
 use Rattle.fast_check_demands.specs.declared.fault.FaultKind.TheVariants.{PrivateMember, NotFound, TooComplex}
 use Rattle.fast_check_demands.specs.declared.fault.SymbolFault.{SymbolFault}
-use Rattle.fast_check_demands.specs.Demands.{Demand, Asked, by_reference, as_child, by_path, same_symbol}
-use Rattle.fast_check_demands.specs.Decls.{binds, is_implementation, is_function, has_alias, is_closed}
-use Rattle.fast_check_demands.specs.Rules.{each_of, is_prototype, member_named}
+use Rattle.fast_check_symbol_demands.specs.Demands.{Demand, Asked, by_reference, as_child, by_path, same_symbol}
+use Rattle.fast_check_symbol_demands.specs.Decls.{binds, is_implementation, is_function, has_alias, is_closed}
+use Rattle.fast_check_symbol_demands.specs.Rules.{each_of, is_prototype, member_named}
 
 -- ranges
 

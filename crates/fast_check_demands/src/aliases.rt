@@ -1,16 +1,15 @@
 ghost use Rattle.std.specs.Prelude.{◌≡◌, ◌∷◌, [], ◌++◌, OnOk, cond, string_bytes};
 ghost use Rattle.std.specs.List.{flat_map};
 ghost use Rattle.fast_check_names.specs.Names.{path_of};
-ghost use Rattle.fast_check_demands.specs.Demands.{demand_of};
-ghost use Rattle.fast_check_demands.specs.Rules.{each_of, qualified, parts_names, alias_names, member_names, prototype_names, export_names, first_names, path_names};
+ghost use Rattle.fast_check_symbol_demands.specs.Demands.{demand_of};
+ghost use Rattle.fast_check_symbol_demands.specs.Rules.{each_of, qualified, parts_names, alias_names, member_names, prototype_names, export_names, first_names, path_names};
 
-use crate::bindings::{bound, push_path, push_references};
-use crate::decls::{has_alias, is_closed};
-use crate::demand::{Extent, SymbolDemand};
-use crate::list::Demands;
 use crate::names::{is_prototype, member_named};
-use fast_check_modules::CheckedTables;
-use fast_check_modules::symbols::{Symbol, SymbolDecl, SymbolDeclKind, SymbolId};
+use fast_check_symbol_demands::modules::CheckedTables;
+use fast_check_symbol_demands::modules::symbols::{Symbol, SymbolDecl, SymbolDeclKind, SymbolId};
+use fast_check_symbol_demands::{
+    Demands, Extent, SymbolDemand, bound, has_alias, is_closed, push_path, push_references,
+};
 use std::alloc::AllocError;
 use std::slice;
 
@@ -172,7 +171,7 @@ fn push_class(
     }
 }
 
-ghost use Rattle.fast_check_demands.specs.Rules.{whole_names, export_part_names};
+ghost use Rattle.fast_check_symbol_demands.specs.Rules.{whole_names, export_part_names};
 
 fn push_export<'a>(
     demand: SymbolDemand<'_>,

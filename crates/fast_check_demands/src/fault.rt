@@ -1,15 +1,13 @@
 ghost use Rattle.std.specs.Prelude.{◌≡◌, option_map};
 ghost use Rattle.fast_check_names.specs.Names.{path_of};
-ghost use Rattle.fast_check_modules.specs.symbols.Symbols.{symbol_of};
-ghost use Rattle.fast_check_demands.specs.Demands.{demand_of, asked_of};
+ghost use Rattle.fast_check_symbol_demands.specs.modules.symbols.Symbols.{symbol_of};
+ghost use Rattle.fast_check_symbol_demands.specs.Demands.{demand_of, asked_of};
 ghost use Rattle.fast_check_demands.specs.Yields.{fault_seen, fault_at as fault_there, is_parent, private_fault, member_fault, prototype_fault, export_fault, first_fault, path_fault, asked_fault, fault_in};
 
-use crate::decls::{has_alias, is_closed};
-use crate::demand::{Ask, SymbolDemand};
-use crate::dependencies::is_same;
 use crate::names::{is_prototype, member_named, start_of};
-use fast_check_modules::CheckedTables;
-use fast_check_modules::symbols::{Symbol, SymbolId};
+use fast_check_symbol_demands::modules::CheckedTables;
+use fast_check_symbol_demands::modules::symbols::{Symbol, SymbolId};
+use fast_check_symbol_demands::{Ask, SymbolDemand, has_alias, is_closed, is_same};
 
 /// What is wrong with a demand.
 #[derive(Clone, Copy, Debug, PartialEq, Eq, PartialOrd, Ord)]

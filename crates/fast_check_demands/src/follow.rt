@@ -1,13 +1,11 @@
 ghost use Rattle.std.specs.Prelude.{◌≡◌, ◌++◌, IfOk, OnOk};
-ghost use Rattle.fast_check_demands.specs.Demands.{demand_of, asked_of};
-ghost use Rattle.fast_check_demands.specs.Rules.{names, asked_names};
+ghost use Rattle.fast_check_symbol_demands.specs.Demands.{demand_of, asked_of};
+ghost use Rattle.fast_check_symbol_demands.specs.Rules.{names, asked_names};
 
 use crate::aliases::push_path_demands;
-use crate::children::push_symbol;
-use crate::demand::{Ask, SymbolDemand};
-use crate::list::Demands;
-use fast_check_modules::CheckedTables;
-use fast_check_modules::symbols::Symbol;
+use fast_check_symbol_demands::modules::CheckedTables;
+use fast_check_symbol_demands::modules::symbols::Symbol;
+use fast_check_symbol_demands::{Ask, Demands, SymbolDemand, push_symbol};
 use std::alloc::{AllocError, Global};
 
 fn push_asked<'a>(

@@ -2,23 +2,18 @@
 #![tactic(auto)]
 
 mod aliases;
-mod bindings;
-mod children;
-mod decls;
-mod demand;
-mod dependencies;
 mod fault;
 mod follow;
-mod list;
 mod names;
 mod public;
 
-pub use decls::{binds, is_implementation};
-pub use demand::{Ask, Extent, Namespace, SymbolDemand};
-pub use fast_check_modules::CheckedTables;
-pub use fast_check_modules::symbols::SymbolId;
+pub use fast_check_symbol_demands as symbol_demands;
+pub use fast_check_symbol_demands::modules::CheckedTables;
+pub use fast_check_symbol_demands::modules::symbols::SymbolId;
+pub use fast_check_symbol_demands::{
+    Ask, Demands, Extent, Namespace, SymbolDemand, binds, is_implementation,
+};
 pub use fast_check_syntax::SourceRange;
 pub use fault::{FaultKind, SymbolFault, fault_of};
 pub use follow::demands_of;
-pub use list::Demands;
 pub use public::{push_implementations, push_ranges};

@@ -14,9 +14,9 @@ use Rattle.fast_check_symbols.specs.declared.node.SymbolDep.TheVariants as deps
 use Rattle.fast_check_symbols.specs.declared.node.SymbolNodeDep.{SymbolNodeDep}
 use Rattle.fast_check_symbols.specs.Symbols.{symbol_of}
 use Rattle.fast_check_demands.specs.modules.Tables.{Tables}
-use Rattle.fast_check_demands.specs.declared.demand.Namespace.{Namespace}
-use Rattle.fast_check_demands.specs.declared.demand.Extent.{Extent}
-use Rattle.fast_check_demands.specs.declared.demand.Extent.TheVariants.{Touched, Whole}
+use Rattle.fast_check_demands.specs.symbol_demands.declared.demand.Namespace.{Namespace}
+use Rattle.fast_check_demands.specs.symbol_demands.declared.demand.Extent.{Extent}
+use Rattle.fast_check_demands.specs.symbol_demands.declared.demand.Extent.TheVariants.{Touched, Whole}
 use Rattle.fast_check_demands.specs.Demands.{Demand, Asked, by_reference, as_child, by_path}
 use Rattle.fast_check_demands.specs.Decls.{binds, is_implementation}
 use Rattle.fast_check_demands.specs.Rules.{each_of}

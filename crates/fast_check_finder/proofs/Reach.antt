@@ -28,10 +28,10 @@ use Rattle.fast_check_graph.specs.declared.root_symbol.ModuleInfo.{ModuleInfo}
 use Rattle.fast_check_graph.specs.Modules.{is_typed_module}
 use Rattle.fast_check_graph.specs.Graph.{is_specifier, text_resolved}
 use Rattle.fast_check_graph.specs.Root.{specifier_of, module_named, found_module}
-use Rattle.fast_check_demands.specs.declared.demand.Namespace.{Namespace}
-use Rattle.fast_check_demands.specs.declared.demand.Namespace.TheVariants.{Value, Type_}
-use Rattle.fast_check_demands.specs.declared.demand.Extent.{Extent}
-use Rattle.fast_check_demands.specs.declared.demand.Extent.TheVariants.{Touched, Whole}
+use Rattle.fast_check_demands.specs.symbol_demands.declared.demand.Namespace.{Namespace}
+use Rattle.fast_check_demands.specs.symbol_demands.declared.demand.Namespace.TheVariants.{Value, Type_}
+use Rattle.fast_check_demands.specs.symbol_demands.declared.demand.Extent.{Extent}
+use Rattle.fast_check_demands.specs.symbol_demands.declared.demand.Extent.TheVariants.{Touched, Whole}
 use Rattle.fast_check_demands.specs.Demands.{Demand as SymbolDemand, Asked, by_reference, as_child, by_path}
 use Rattle.fast_check_demands.specs.Decls.{binds, is_implementation}
 use Rattle.fast_check_demands.specs.Account.{root, step}

@@ -4,8 +4,8 @@ use Rattle.std.specs.List.{Contains}
 use Rattle.fast_check_names.specs.declared.lattice.imported_exports.ImportedExports.{ImportedExports}
 use Rattle.fast_check_names.specs.Names.{Path, path_of, NameSet, has_subset, has_whole}
 use Rattle.fast_check_names.specs.Imports.{NameDemand, names_but_default, each_name, subset_at, demands}
-use Rattle.fast_check_demands.specs.declared.demand.Extent.{Extent}
-use Rattle.fast_check_demands.specs.declared.demand.Extent.TheVariants.{Touched, Whole}
+use Rattle.fast_check_demands.specs.symbol_demands.declared.demand.Extent.{Extent}
+use Rattle.fast_check_demands.specs.symbol_demands.declared.demand.Extent.TheVariants.{Touched, Whole}
 use Rattle.fast_check_files.specs.Files.{path_demand}
 use Rattle.fast_check_name_demands.specs.declared.single.NameDemand.{NameDemand as Single}
 use Rattle.fast_check_name_demands.specs.declared.single.NameDemand.TheVariants as singles

@@ -22,11 +22,11 @@ use Rattle.fast_check_symbols.specs.declared.node.SymbolDep.TheVariants as deps
 use Rattle.fast_check_symbols.specs.Entries.{last_that}
 use Rattle.fast_check_symbols.specs.Symbols.{symbol_of, has_id, mentioned_by}
 use Rattle.fast_check_symbols.specs.Exports.{export_named}
-use Rattle.fast_check_symbol_tables.specs.Tables.{Tables, symbol_of_swc, symbol_id_of}
-use Rattle.fast_check_files.specs.demands.declared.demand.Namespace.{Namespace}
-use Rattle.fast_check_files.specs.demands.declared.demand.Namespace.TheVariants.{Value, Type_}
-use Rattle.fast_check_files.specs.demands.declared.demand.Extent.{Extent}
-use Rattle.fast_check_files.specs.demands.declared.demand.Extent.TheVariants.{Touched, Whole}
+use Rattle.fast_check_modules.specs.Tables.{Tables, symbol_of_swc, symbol_id_of}
+use Rattle.fast_check_files.specs.demands.symbol_demands.declared.demand.Namespace.{Namespace}
+use Rattle.fast_check_files.specs.demands.symbol_demands.declared.demand.Namespace.TheVariants.{Value, Type_}
+use Rattle.fast_check_files.specs.demands.symbol_demands.declared.demand.Extent.{Extent}
+use Rattle.fast_check_files.specs.demands.symbol_demands.declared.demand.Extent.TheVariants.{Touched, Whole}
 use Rattle.fast_check_files.specs.demands.Demands.{Demand, Asked, by_reference, as_child, by_path, same_symbol}
 use Rattle.fast_check_files.specs.demands.Decls.{binds, is_implementation, has_alias, is_closed}
 use Rattle.fast_check_files.specs.demands.Rules.{reference, child, qualified, references, children, references_in, named, each_of, bound, parent_at, parent_names, dep_names, deps_names, kind_names, decl_names, exports_names, members_names, symbol_names, parts_names, alias_names, member_named, symbol_is_named, member_names, prototype_names, export_names, is_prototype, first_names, path_names, asked_names, names}

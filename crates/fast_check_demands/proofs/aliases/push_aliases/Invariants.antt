@@ -1,8 +1,8 @@
 use Rattle.std.proofs.Common.{◌≡◌, ◌++◌, take}
 use Rattle.std.specs.List.{flat_map}
 use Rattle.fast_check_names.specs.Names.{path_of}
-use Rattle.fast_check_demands.specs.Demands.{demand_of}
-use Rattle.fast_check_demands.specs.Rules.{alias_names}
+use Rattle.fast_check_symbol_demands.specs.Demands.{demand_of}
+use Rattle.fast_check_symbol_demands.specs.Rules.{alias_names}
 use Rattle.fast_check_demands.proofs.aliases.push_aliases.Given as goal
 
 abbrev pub invariant-loop-decl : goal.invariant-loop-decl

@@ -1,7 +1,7 @@
-use Rattle.fast_check_modules.specs.symbols.Symbols.{symbol_of}
-use Rattle.fast_check_demands.specs.Rules.{each_of}
+use Rattle.fast_check_symbol_demands.specs.modules.symbols.Symbols.{symbol_of}
+use Rattle.fast_check_symbol_demands.specs.Rules.{each_of}
 use Rattle.fast_check_demands.specs.Yields.{outside}
-use Rattle.fast_check_demands.proofs.EachAt.{each_more}
+use Rattle.fast_check_symbol_demands.proofs.EachAt.{each_more}
 use Rattle.fast_check_demands.proofs.public.push_expandos.Goals as goal
 
 pub loop-place-preserved : goal.loop-place-preserved

@@ -1,7 +1,7 @@
 use Rattle.std.proofs.Common.{[], ap, refl}
 use Rattle.std.specs.List.{list_any, IsDistinct}
 use Rattle.std.specs.BTreeMap.{is_at}
-use Rattle.fast_check_files.specs.demands.contracts.demand.SymbolDemandOrd.TheImpl as order
+use Rattle.fast_check_files.specs.demands.symbol_demands.contracts.demand.SymbolDemandOrd.TheImpl as order
 use Rattle.std.proofs.lemmas.Map.Made.{IsDistinct-from_count}
 use Rattle.fast_check_files.specs.demands.Account.{alike}
 use Rattle.fast_check_search.proofs.Same.{alike_laws}

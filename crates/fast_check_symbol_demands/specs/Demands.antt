@@ -2,11 +2,11 @@
 use Rattle.std.specs.Prelude.{Bool, ◌==◌}
 use Rattle.fast_check_names.specs.Names.{Path, path_of}
 use Rattle.fast_check_modules.specs.symbols.declared.symbol_id.SymbolId.{SymbolId}
-use Rattle.fast_check_demands.specs.declared.demand.Namespace.{Namespace}
-use Rattle.fast_check_demands.specs.declared.demand.Extent.{Extent}
-use Rattle.fast_check_demands.specs.declared.demand.Ask.{Ask}
-use Rattle.fast_check_demands.specs.declared.demand.Ask.TheVariants as asks
-use Rattle.fast_check_demands.specs.declared.demand.SymbolDemand.{SymbolDemand}
+use Rattle.fast_check_symbol_demands.specs.declared.demand.Namespace.{Namespace}
+use Rattle.fast_check_symbol_demands.specs.declared.demand.Extent.{Extent}
+use Rattle.fast_check_symbol_demands.specs.declared.demand.Ask.{Ask}
+use Rattle.fast_check_symbol_demands.specs.declared.demand.Ask.TheVariants as asks
+use Rattle.fast_check_symbol_demands.specs.declared.demand.SymbolDemand.{SymbolDemand}
 
 -- what is demanded of a symbol: it itself in one of the namespaces, by reference or as a child of the symbol that lists it; or
 -- what a path of names below it leads to

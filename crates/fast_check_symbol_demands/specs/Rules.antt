@@ -20,13 +20,13 @@ use Rattle.fast_check_modules.specs.symbols.declared.node.SymbolDep.TheVariants 
 use Rattle.fast_check_modules.specs.symbols.declared.node.SymbolNodeDep.{SymbolNodeDep}
 use Rattle.fast_check_modules.specs.symbols.Symbols.{symbol_of}
 use Rattle.fast_check_modules.specs.symbols.Exports.{export_named}
-use Rattle.fast_check_modules.specs.symbol_tables.Tables.{Tables, symbol_of_swc}
-use Rattle.fast_check_demands.specs.declared.demand.Namespace.{Namespace}
-use Rattle.fast_check_demands.specs.declared.demand.Namespace.TheVariants.{Value, Type_}
-use Rattle.fast_check_demands.specs.declared.demand.Extent.{Extent}
-use Rattle.fast_check_demands.specs.declared.demand.Extent.TheVariants.{Touched, Whole}
-use Rattle.fast_check_demands.specs.Demands.{Demand, Asked, by_reference, as_child, by_path, same_symbol}
-use Rattle.fast_check_demands.specs.Decls.{binds, is_implementation, has_alias, has_class, is_closed}
+use Rattle.fast_check_modules.specs.Tables.{Tables, symbol_of_swc}
+use Rattle.fast_check_symbol_demands.specs.declared.demand.Namespace.{Namespace}
+use Rattle.fast_check_symbol_demands.specs.declared.demand.Namespace.TheVariants.{Value, Type_}
+use Rattle.fast_check_symbol_demands.specs.declared.demand.Extent.{Extent}
+use Rattle.fast_check_symbol_demands.specs.declared.demand.Extent.TheVariants.{Touched, Whole}
+use Rattle.fast_check_symbol_demands.specs.Demands.{Demand, Asked, by_reference, as_child, by_path, same_symbol}
+use Rattle.fast_check_symbol_demands.specs.Decls.{binds, is_implementation, has_alias, has_class, is_closed}
 
 -- the forms of demands
 

@@ -1,8 +1,8 @@
 ghost use Rattle.std.specs.Prelude.{◌≡◌, ◌++◌, option_map, OnOk};
 ghost use Rattle.fast_check_modules.specs.symbols.Exports.{seen_export};
 ghost use Rattle.std.specs.List.{flat_map};
-ghost use Rattle.fast_check_demands.specs.Demands.{demand_of};
-ghost use Rattle.fast_check_demands.specs.Rules.{each_of, children, decl_names, exports_names, members_names, symbol_names};
+ghost use Rattle.fast_check_symbol_demands.specs.Demands.{demand_of};
+ghost use Rattle.fast_check_symbol_demands.specs.Rules.{each_of, children, decl_names, exports_names, members_names, symbol_names};
 
 use crate::bindings::push_children;
 use crate::decls::{binds, is_implementation};

@@ -1,6 +1,6 @@
 ghost use Rattle.std.specs.Prelude.{◌≡◌};
 ghost use Rattle.std.specs.List.{list_any};
-ghost use Rattle.fast_check_demands.specs.Decls.{binds, is_implementation, is_function, is_class_decl, is_closed_decl, is_alias, has_alias, has_class, is_closed};
+ghost use Rattle.fast_check_symbol_demands.specs.Decls.{binds, is_implementation, is_function, is_class_decl, is_closed_decl, is_alias, has_alias, has_class, is_closed};
 
 use crate::demand::Namespace;
 use fast_check_modules::symbols::{SymbolDecl, SymbolDeclKind, SymbolNode};
@@ -47,7 +47,7 @@ fn is_closed_node(node: &SymbolNode) -> bool
     node.is_class || node.is_ts_namespace || node.is_default_class_expr
 }
 
-ghost use Rattle.fast_check_demands.specs.Decls.{is_closed_node};
+ghost use Rattle.fast_check_symbol_demands.specs.Decls.{is_closed_node};
 
 fn is_closed_decl(decl: &SymbolDecl) -> bool
     ensures { result ≡ is_closed_decl decl.now }

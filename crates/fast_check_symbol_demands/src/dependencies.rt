@@ -1,6 +1,6 @@
 ghost use Rattle.std.specs.Prelude.{◌≡◌, ◌∷◌, [], ◌++◌, OnOk};
-ghost use Rattle.fast_check_demands.specs.Demands.{demand_of, same_symbol};
-ghost use Rattle.fast_check_demands.specs.Rules.{each_of, reference, references_in, parent_at, parent_names, dep_names, deps_names, kind_names};
+ghost use Rattle.fast_check_symbol_demands.specs.Demands.{demand_of, same_symbol};
+ghost use Rattle.fast_check_symbol_demands.specs.Rules.{each_of, reference, references_in, parent_at, parent_names, dep_names, deps_names, kind_names};
 
 use crate::bindings::{bound, push_named_at, push_reference, push_references, push_references_in};
 use crate::demand::{Namespace, SymbolDemand};

@@ -1,7 +1,7 @@
 use Rattle.std.proofs.Common.{◌≡◌, ◌++◌, take, length}
-use Rattle.fast_check_demands.specs.Demands.{demand_of}
-use Rattle.fast_check_demands.specs.Rules.{exports_names}
-use Rattle.fast_check_demands.proofs.children.push_exports.Given as goal
+use Rattle.fast_check_symbol_demands.specs.Demands.{demand_of}
+use Rattle.fast_check_symbol_demands.specs.Rules.{exports_names}
+use Rattle.fast_check_symbol_demands.proofs.children.push_exports.Given as goal
 
 abbrev pub invariant-loop-place : goal.invariant-loop-place
 invariant-loop-place l = record {

@@ -3,7 +3,7 @@ use Rattle.std.proofs.Common.{◌≡◌, ◌∙◌, sym, ap, refl, ℕ, zero, su
 use Rattle.std.specs.List.{flat_map}
 use Rattle.std.proofs.lemmas.List.{take_all}
 use Rattle.std.proofs.Common.{append-nil}
-use Rattle.fast_check_demands.specs.Rules.{each_of}
+use Rattle.fast_check_symbol_demands.specs.Rules.{each_of}
 
 each_next : {X Y : Type 0} (f : X → List Y) (xs : List X) (i : ℕ) → flat_map f (take i xs) ++ each_of f (slice_get xs i) ≡ flat_map f (take (suc i) xs)
 each_next f [] zero = refl

@@ -1,5 +1,5 @@
 ghost use Rattle.std.specs.Prelude.{◌≡◌, [], ◌∷◌, ◌++◌, map, OnOk};
-ghost use Rattle.fast_check_demands.specs.Demands.{demand_of};
+ghost use Rattle.fast_check_symbol_demands.specs.Demands.{demand_of};
 
 use crate::demand::SymbolDemand;
 use std::alloc::{AllocError, Global};
@@ -13,7 +13,7 @@ pub struct Demands<'a> {
 
 impl<'a> Model for Demands<'a> {
     ghost use Rattle.std.specs.Prelude.{List, map};
-    ghost use Rattle.fast_check_demands.specs.Demands.{Demand, demand_of};
+    ghost use Rattle.fast_check_symbol_demands.specs.Demands.{Demand, demand_of};
 
     ghost Value = { List Demand };
 

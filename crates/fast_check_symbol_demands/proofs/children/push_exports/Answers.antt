@@ -1,6 +1,6 @@
-use Rattle.fast_check_demands.specs.Rules.{children}
-use Rattle.fast_check_demands.proofs.EachAt.{each_more}
-use Rattle.fast_check_demands.proofs.children.push_exports.Goals as goal
+use Rattle.fast_check_symbol_demands.specs.Rules.{children}
+use Rattle.fast_check_symbol_demands.proofs.EachAt.{each_more}
+use Rattle.fast_check_symbol_demands.proofs.children.push_exports.Goals as goal
 
 pub loop-place-preserved : goal.loop-place-preserved
 loop-place-preserved c = record {

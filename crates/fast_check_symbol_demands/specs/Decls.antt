@@ -6,8 +6,8 @@ use Rattle.fast_check_modules.specs.symbols.declared.decl.SymbolDecl.{SymbolDecl
 use Rattle.fast_check_modules.specs.symbols.declared.decl.SymbolDeclKind.{SymbolDeclKind}
 use Rattle.fast_check_modules.specs.symbols.declared.decl.SymbolDeclKind.TheVariants.{Target, QualifiedTarget, FileRef, Definition}
 use Rattle.fast_check_modules.specs.symbols.declared.node.SymbolNode.{SymbolNode}
-use Rattle.fast_check_demands.specs.declared.demand.Namespace.{Namespace}
-use Rattle.fast_check_demands.specs.declared.demand.Namespace.TheVariants.{Value, Type_}
+use Rattle.fast_check_symbol_demands.specs.declared.demand.Namespace.{Namespace}
+use Rattle.fast_check_symbol_demands.specs.declared.demand.Namespace.TheVariants.{Value, Type_}
 
 -- it binds its name in a namespace
 abbrev pub binds : SymbolDecl → Namespace → Bool

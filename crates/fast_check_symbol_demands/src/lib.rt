@@ -1,0 +1,17 @@
+//! Demands of the symbols of a module, lists of them, and what follows where a symbol itself is demanded in a namespace.
+#![tactic(auto)]
+
+mod bindings;
+mod children;
+mod decls;
+mod demand;
+mod dependencies;
+mod list;
+
+pub use bindings::{bound, push_path, push_references};
+pub use children::push_symbol;
+pub use decls::{binds, has_alias, has_class, is_closed, is_function, is_implementation};
+pub use demand::{Ask, Extent, Namespace, SymbolDemand};
+pub use dependencies::is_same;
+pub use fast_check_modules as modules;
+pub use list::Demands;
