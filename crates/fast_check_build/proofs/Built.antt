@@ -30,7 +30,7 @@ use Rattle.fast_check_package_ranges.specs.told_faults.Once.{where_found}
 use Rattle.fast_check_package_answers.specs.Reasons.{PublicModule}
 use Rattle.fast_check_package_answers.specs.PackageAnswer.{Answer, TreeModule, with_tree, tree_modules, OwnsPublic, OwnsModule, OwnsAll}
 use Rattle.fast_check_package_answers.proofs.Lists.{all_back}
-use Rattle.fast_check_finder.specs.turns.Sources.{Known}
+use Rattle.fast_check_finder.specs.turns.steps.Sources.{Known}
 use Rattle.fast_check_finder.specs.turns.Own.{IsOwnRange}
 use Rattle.fast_check_build.specs.Found.{IsFound}
 use Rattle.fast_check_build.specs.Build.{by_text, by_nv, IsAnswered, AreAnswered}

@@ -11,7 +11,7 @@ use Rattle.fast_check_package_ranges.specs.findings.declared.finding.Finding.{Fi
 use Rattle.fast_check_package_ranges.specs.Questions.{Question, whether_known, whether_entry_point, whether_dependency, whether_refused, about, whether_public, whether_implementing}
 use Rattle.fast_check_package_ranges.specs.Questions.{is_said, IsTextless}
 use Rattle.fast_check_package_ranges.specs.Answers.{answer, IsSaid, IsExact, IsOnce}
-use Rattle.fast_check_finder.specs.turns.Sources.{Known}
+use Rattle.fast_check_finder.specs.turns.steps.Sources.{Known}
 use Rattle.fast_check_finder.specs.turns.Rules.{world}
 use Rattle.fast_check_finder.specs.turns.Yields.{gives}
 use Rattle.fast_check_finder.specs.Refusals.{JoinAll}

@@ -12,7 +12,7 @@ use Rattle.fast_check_graph.specs.declared.graph.ModuleGraph.{ModuleGraph}
 use Rattle.fast_check_graph.specs.declared.root_symbol.RootSymbol.{RootSymbol}
 use Rattle.fast_check_cache.specs.declared.package_ranges.PackagePublicRanges.{PackagePublicRanges}
 use Rattle.fast_check_package_answers.specs.PackageAnswer.{Answer, IsPackageAnswer}
-use Rattle.fast_check_finder.specs.turns.Sources.{Known}
+use Rattle.fast_check_finder.specs.turns.steps.Sources.{Known}
 use Rattle.fast_check_build.specs.Found.{IsFound}
 
 -- specifiers by their texts

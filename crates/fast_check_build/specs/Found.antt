@@ -16,7 +16,7 @@ use Rattle.fast_check_package_ranges.specs.findings.Yields.{Yield}
 use Rattle.fast_check_package_ranges.specs.Questions.{Question, whether_known, about, whether_public, whether_implementing}
 use Rattle.fast_check_package_ranges.specs.Questions.{whether_told, yields_say, is_said, IsTextless}
 use Rattle.fast_check_package_ranges.specs.Answers.{answer, IsOnce}
-use Rattle.fast_check_finder.specs.turns.Sources.{Known, owner_by, named_at}
+use Rattle.fast_check_finder.specs.turns.steps.Sources.{Known, owner_by, named_at}
 use Rattle.fast_check_finder.specs.turns.Rules.{world}
 use Rattle.fast_check_finder.specs.turns.Yields.{gives}
 use Rattle.fast_check_finder.specs.turns.Own.{IsOwnRange}

@@ -1,6 +1,6 @@
 ghost use Rattle.std.specs.Prelude.{◌≡◌, false, map, is_some, IfOk, IfErr};
 ghost use Rattle.fast_check_packages.specs.Package.{nv_of};
-ghost use Rattle.fast_check_finder.specs.turns.Sources.{known};
+ghost use Rattle.fast_check_finder.specs.turns.steps.Sources.{known};
 ghost use Rattle.fast_check_finder.specs.Refusals.{IsRefusal};
 ghost use Rattle.fast_check_build.specs.Found.{known_of, IsFound};
 

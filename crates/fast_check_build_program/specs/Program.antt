@@ -10,7 +10,7 @@ use Rattle.fast_check_provider.specs.declared.listed.ListedPackages.{ListedPacka
 use Rattle.fast_check_provider.specs.Listed.{url_in, nv_in, row_of, row_at}
 use Rattle.fast_check_graph.specs.declared.graph.ModuleGraph.{ModuleGraph}
 use Rattle.fast_check_graph.specs.declared.root_symbol.RootSymbol.{RootSymbol}
-use Rattle.fast_check_turns.specs.Sources.{Known}
+use Rattle.fast_check_steps.specs.Sources.{Known}
 use Rattle.fast_check_build.specs.finder.Refusals.{IsRefusal}
 use Rattle.fast_check_build.specs.package_answers.PackageAnswer.{Answer}
 use Rattle.fast_check_build.specs.Found.{known_of}

@@ -28,8 +28,9 @@ use Rattle.fast_check_worklists.specs.Account.{Followed, HasIn, IsSymbolMet}
 use Rattle.fast_check_worklists.specs.declared.asked.Step.{Step}
 use Rattle.fast_check_worklists.specs.State.{State, want_of, AsksAll, Reached, root, step, IsSearched, IsOuter, AreWants, AreGiven, IsFollowed}
 use Rattle.fast_check_name_demands.specs.NameDemands.{AreDemands, IsEmpty}
-use Rattle.fast_check_turns.specs.Sources.{Known, module_at}
-use Rattle.fast_check_turns.specs.Rules.{file_wants, left_wants, names_wants, symbol_wants, world}
+use Rattle.fast_check_turns.specs.steps.Sources.{Known, module_at}
+use Rattle.fast_check_turns.specs.steps.Wants.{file_wants, left_wants}
+use Rattle.fast_check_turns.specs.Rules.{names_wants, symbol_wants, world}
 use Rattle.fast_check_findings.specs.Yields.{Yield, recorded, public, implementing}
 use Rattle.fast_check_findings.specs.Findings.{told_at}
 use Rattle.fast_check_turns.specs.Yields.{own_text, dependency_of, dependencies, public_at, implementing_at, reported_as, fault_yields, faults_at}

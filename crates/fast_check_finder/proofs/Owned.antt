@@ -18,8 +18,9 @@ use Rattle.fast_check_worklists.specs.State.{IsOuter}
 use Rattle.fast_check_worklists.specs.Turn.{IsOrderly}
 use Rattle.fast_check_findings.specs.declared.finding.EntryFault.{EntryFault}
 use Rattle.fast_check_turns.specs.entries.Entries.{Entrance, passed_over, refused, entered, all_faults}
-use Rattle.fast_check_turns.specs.Sources.{Known, module_at, entrance_at}
-use Rattle.fast_check_turns.specs.Rules.{file_at, behind, resolved, file_wants, left_wants, names_wants, symbol_wants, entry_want, unless_faulty, entry_wants, world}
+use Rattle.fast_check_turns.specs.steps.Sources.{Known, module_at}
+use Rattle.fast_check_turns.specs.steps.Wants.{file_at, behind, resolved, file_wants, left_wants}
+use Rattle.fast_check_turns.specs.Rules.{names_wants, symbol_wants, entry_want, unless_faulty, entrance_at, entry_wants, world}
 
 module _ (k : Known) where
   -- asked for from outside, under its own package

@@ -52,8 +52,9 @@ use Rattle.fast_check_worklists.specs.Demands.{of_symbol}
 use Rattle.fast_check_worklists.specs.Measure.{IsWithin, IsPathWithin, IsInside, IsWantInside, IsUniverse}
 use Rattle.fast_check_findings.specs.declared.finding.EntryFault.{EntryFault}
 use Rattle.fast_check_turns.specs.entries.Entries.{Entrance, passed_over, refused, entered, all_faults}
-use Rattle.fast_check_turns.specs.Sources.{Known, is_text, node_at, named_at, typed_info, info_at, traced_as, module_at, entrance_at}
-use Rattle.fast_check_turns.specs.Rules.{file_at, behind, resolved, file_wants, left_wants, names_wants, symbol_wants, entry_want, unless_faulty, entry_wants, world}
+use Rattle.fast_check_turns.specs.steps.Sources.{Known, is_text, node_at, named_at, typed_info, info_at, traced_as, module_at}
+use Rattle.fast_check_turns.specs.steps.Wants.{file_at, behind, resolved, file_wants, left_wants}
+use Rattle.fast_check_turns.specs.Rules.{names_wants, symbol_wants, entry_want, unless_faulty, entrance_at, entry_wants, world}
 use Rattle.fast_check_finder.specs.Reach.{dep_names, kind_names, symbol_names, table_names, all_names, paths_up_to, targets, answers, entry_texts}
 use Rattle.fast_check_finder.specs.Reach.{outer_texts, all_packages, urls_in, reach}
 use Rattle.fast_check_finder.proofs.Paths.{flat_contains, flat_longer, Fits, fits_in, in_fits, fits_empty, fits_more, fits_longer, fits_tail, fits_piece}

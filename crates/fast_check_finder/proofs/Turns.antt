@@ -28,8 +28,8 @@ use Rattle.fast_check_packages.specs.declared.package.PackageNv.{PackageNv}
 use Rattle.fast_check_traced_modules.specs.declared.traced_modules.PendingTrace.{PendingTrace}
 use Rattle.fast_check_traced_modules.specs.Traces.{entry_of}
 use Rattle.fast_check_worklists.specs.State.{trace_of, want_of, State, IsFollowed, IsEntered}
-use Rattle.fast_check_turns.specs.Sources.{Known, node_at, named_at, typed_info, info_at, traced_as, module_at, is_untyped, entrance_at}
-use Rattle.fast_check_turns.specs.Rules.{names_wants, world}
+use Rattle.fast_check_turns.specs.steps.Sources.{Known, node_at, named_at, typed_info, info_at, traced_as, module_at, is_untyped}
+use Rattle.fast_check_turns.specs.Rules.{names_wants, entrance_at, world}
 use Rattle.fast_check_turns.specs.Yields.{dependencies, names_yields, untyped_yields, gives}
 use Rattle.fast_check_turns.proofs.Lists.{flat_mapped}
 use Rattle.fast_check_finder.proofs.Followed.{followed_there}

@@ -7,8 +7,8 @@ use Rattle.fast_check_provider.specs.declared.fault.BuildFault.TheVariants.{Inva
 use Rattle.fast_check_worklists.specs.Demands.{of_package}
 use Rattle.fast_check_worklists.specs.Account.{Account, Chained}
 use Rattle.fast_check_turns.specs.entries.Entries.{Entrance, passed_over, refused, entered}
-use Rattle.fast_check_turns.specs.Sources.{Known, entrance_at}
-use Rattle.fast_check_turns.specs.Rules.{world}
+use Rattle.fast_check_turns.specs.steps.Sources.{Known}
+use Rattle.fast_check_turns.specs.Rules.{entrance_at, world}
 
 -- a package that is demanded, and its first export text that does not join. Of want of memory nothing is said
 abbrev pub IsRefusal : Known → List Nv → BuildFault → Type 0

@@ -6,7 +6,7 @@ ghost use Rattle.fast_check_worklists.specs.Account.{Account, IsAccount, IsYield
 ghost use Rattle.fast_check_worklists.specs.State.{state_of, trace_of, IsFollowed};
 ghost use Rattle.fast_check_worklists.specs.Turn.{IsTurn};
 ghost use Rattle.fast_check_findings.specs.Findings.{yields_of};
-ghost use Rattle.fast_check_turns.specs.Sources.{known};
+ghost use Rattle.fast_check_turns.specs.steps.Sources.{known};
 ghost use Rattle.fast_check_turns.specs.Rules.{world};
 ghost use Rattle.fast_check_turns.specs.Yields.{gives};
 ghost use Rattle.fast_check_finder.specs.Refusals.{IsRefusal, IsRefusedOf, JoinAll};

@@ -29,8 +29,8 @@ use Rattle.fast_check_worklists.specs.Demands.{Text, Want, to_package, to_module
 use Rattle.fast_check_entries.specs.findings.Yields.{Yield, entry_point, refused_export, dependency, public, implementing, ModuleFault, recorded, faulty, untyped_module, of_demand}
 use Rattle.fast_check_entries.specs.findings.Findings.{faulty_module, entry_fault, told_at}
 use Rattle.fast_check_entries.specs.Entries.{Entrance, passed_over, refused, entered, all_faults}
-use Rattle.fast_check_turns.specs.Sources.{Known, is_text, node_at, named_at, traced_as, typed_info, info_at, module_at, untyped_at, entrance_at}
-use Rattle.fast_check_turns.specs.Rules.{names_wants, symbol_wants}
+use Rattle.fast_check_steps.specs.Sources.{Known, is_text, node_at, named_at, traced_as, typed_info, info_at, module_at, untyped_at}
+use Rattle.fast_check_turns.specs.Rules.{names_wants, symbol_wants, entrance_at}
 use Rattle.fast_check_turns.specs.Yields.{own_text, dependency_of, dependencies, public_at, implementing_at, names_yields, reported_as, faults_at, fault_yields}
 use Rattle.fast_check_turns.specs.Yields.{symbol_yields, untyped_yields, entry_fault_yields, entry_yields, gives}
 use Rattle.fast_check_turns.specs.Own.{IsOwnRange, IsOwnYield}

@@ -17,8 +17,8 @@ use Rattle.fast_check_traces.specs.Modules.{own_tables}
 use Rattle.fast_check_traces.specs.Roots.{roots}
 use Rattle.fast_check_traces.specs.Wants.{re_export_ranges, module_wants}
 use Rattle.fast_check_worklists.specs.Demands.{Want}
-use Rattle.fast_check_turns.specs.Sources.{Known}
-use Rattle.fast_check_turns.specs.Rules.{file_wants, left_wants}
+use Rattle.fast_check_steps.specs.Sources.{Known}
+use Rattle.fast_check_steps.specs.Wants.{file_wants, left_wants}
 use Rattle.fast_check_turns.specs.Yields.{own_text, public_at, implementing_at, reported_as, dependencies}
 
 -- the reports of these faults, each once

@@ -1,7 +1,6 @@
 pub use Rattle.fast_check_traces.specs as traces
+pub use Rattle.fast_check_steps.specs as steps
 pub use Rattle.fast_check_entries.specs as entries
-pub mod Sources
-pub mod Exports
 pub mod Rules
 pub mod Yields
 pub mod Analysis

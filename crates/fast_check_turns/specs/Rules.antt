@@ -1,47 +1,22 @@
 -- What a demand names: demands of symbols, and of packages and modules.
-use Rattle.std.specs.Prelude.{ℕ, cond, List, [], ◌∷◌, ◌++◌, map, Option, Some, None}
+use Rattle.std.specs.Prelude.{List, [], ◌∷◌, ◌++◌, map}
 use Rattle.std.specs.List.{flat_map}
 use Rattle.url.specs.Parts.{Parts, serialize}
 use Rattle.fast_check_packages.specs.Package.{Nv}
-use Rattle.fast_check_names.specs.Imports.{NameDemand, names_but_default, each_name}
+use Rattle.fast_check_names.specs.Imports.{NameDemand, each_name}
 use Rattle.fast_check_graph.specs.declared.graph.ModuleGraph.{ModuleGraph}
-use Rattle.fast_check_graph.specs.Graph.{resolved_to}
-use Rattle.fast_check_graph.specs.Root.{specifier_of}
 use Rattle.fast_check_demands.specs.Demands.{Demand as SymbolDemand}
 use Rattle.fast_check_demands.specs.Rules.{each_of, names}
-use Rattle.fast_check_files.specs.Files.{FileDemand, files}
+use Rattle.fast_check_files.specs.Files.{files}
 use Rattle.fast_check_traces.specs.declared.modules.TracedModule.{TracedModule}
 use Rattle.fast_check_traces.specs.Modules.{own_tables}
 use Rattle.fast_check_traces.specs.Roots.{roots}
-use Rattle.fast_check_traces.specs.Wants.{Want as ModuleWant, re_exported, answered, module_wants}
+use Rattle.fast_check_traces.specs.Wants.{module_wants}
 use Rattle.fast_check_entries.specs.findings.declared.finding.EntryFault.{EntryFault}
-use Rattle.fast_check_entries.specs.Entries.{Entrance, passed_over, refused, entered, all_faults}
-use Rattle.fast_check_worklists.specs.Demands.{Text, Wanted, same_nv, asked_by, Want, to_package, to_module, to_symbol, of_package, of_module}
-use Rattle.fast_check_worklists.specs.Demands.{of_symbol, World}
-use Rattle.fast_check_turns.specs.Sources.{Known, module_at, entrance_at}
-
--- a file of the same package is demanded. Of another package only the package is
-abbrev pub file_at : Nv → Text → Wanted → Option Nv → List Want
-file_at nv t w None = []
-file_at nv t w (Some p) = cond (same_nv nv p) (to_module p t w ∷ []) (to_package p ∷ [])
-
--- behind a re-export of all a module is demanded of whatever package
-abbrev pub behind : Nv → Text → Wanted → Option Nv → List Want
-behind nv t w None = []
-behind nv t w (Some p) = to_module p t w ∷ cond (same_nv nv p) [] (to_package p ∷ [])
-
--- what a text in the module resolves to
-abbrev pub resolved : TracedModule → List ℕ → Option Parts
-resolved m text = resolved_to m.graph.now text (specifier_of m.info.now)
-
--- what is asked of a file. A text that resolves to nothing, and a module that belongs to no package, ask for nothing
-abbrev pub file_wants : Known → Nv → TracedModule → FileDemand → List Want
-file_wants k nv m f = each_of (λ url. file_at nv (serialize url) (asked_by f.names) (k.owner (serialize url))) (resolved m f.text)
-
--- what is asked by what the module exports again
-abbrev pub left_wants : Known → Nv → TracedModule → ModuleWant → List Want
-left_wants k nv m (re_exported text) = each_of (λ url. behind nv (serialize url) (asked_by names_but_default) (k.owner (serialize url))) (resolved m text)
-left_wants k nv m (answered url d) = behind nv (serialize url) (asked_by d) (k.owner (serialize url))
+use Rattle.fast_check_entries.specs.Entries.{Entrance, passed_over, refused, entered, all_faults, entrance_of}
+use Rattle.fast_check_worklists.specs.Demands.{Text, asked_by, Want, to_module, to_symbol, of_package, of_module, of_symbol, World}
+use Rattle.fast_check_steps.specs.Sources.{Known, module_at}
+use Rattle.fast_check_steps.specs.Wants.{file_wants, left_wants}
 
 -- names of a module, for a package
 abbrev pub names_wants : Known → Nv → Text → NameDemand → TracedModule → List Want
@@ -58,6 +33,10 @@ entry_want nv url = to_module nv (serialize url) (asked_by each_name)
 abbrev pub unless_faulty : List (Parts × EntryFault) → List Want → List Want
 unless_faulty [] wants = wants
 unless_faulty (f ∷ faults) wants = []
+
+-- the entry points of a package
+abbrev pub entrance_at : Known → Nv → Entrance
+entrance_at k nv = entrance_of k.graph k.workspace_members k.url_of nv
 
 -- a package is asked for its entry points, unless something is wrong with one of them
 abbrev pub entry_wants : ModuleGraph → Nv → Entrance → List Want

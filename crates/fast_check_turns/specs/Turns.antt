@@ -17,7 +17,7 @@ use Rattle.fast_check_entries.specs.findings.Yields.{Yield, recorded, public, im
 use Rattle.fast_check_entries.specs.findings.Findings.{diagnostic_yields}
 use Rattle.fast_check_entries.specs.Entries.{Entrance}
 use Rattle.fast_check_graph.specs.declared.graph.ModuleGraph.{ModuleGraph}
-use Rattle.fast_check_turns.specs.Sources.{Known, traced_as}
+use Rattle.fast_check_steps.specs.Sources.{Known, traced_as}
 use Rattle.fast_check_turns.specs.Rules.{entry_wants}
 use Rattle.fast_check_turns.specs.Yields.{dependencies, entry_yields, untyped_yields}
 use Rattle.fast_check_turns.specs.Analysis.{IsAnalyzed}

@@ -22,8 +22,8 @@ use Rattle.fast_check_entries.specs.findings.declared.finding.EntryFault.{EntryF
 use Rattle.fast_check_entries.specs.findings.Yields.{Yield, entry_point, refused_export, dependency, recorded, public, implementing, untyped_module}
 use Rattle.fast_check_entries.specs.findings.Findings.{faulty_module, entry_fault, told_at}
 use Rattle.fast_check_entries.specs.Entries.{Entrance, passed_over, refused, entered, all_faults}
-use Rattle.fast_check_turns.specs.Sources.{Known, module_at, untyped_at, entrance_at}
-use Rattle.fast_check_turns.specs.Rules.{names_wants, symbol_wants}
+use Rattle.fast_check_steps.specs.Sources.{Known, module_at, untyped_at}
+use Rattle.fast_check_turns.specs.Rules.{names_wants, symbol_wants, entrance_at}
 
 -- the module's own name
 abbrev pub own_text : TracedModule → Text

@@ -5,12 +5,10 @@ mod analysis;
 mod findings;
 mod modules;
 mod packages;
-mod sources;
-mod steps;
 
 pub use fast_check_entries::findings::{
     EnteredPackage, EntryFault, Finding, FollowedModule, UntypedModule,
 };
+pub use fast_check_steps::Sources;
 pub use modules::follow;
 pub use packages::enter;
-pub use sources::Sources;

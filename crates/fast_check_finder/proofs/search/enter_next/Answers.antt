@@ -5,7 +5,7 @@ use Rattle.std.proofs.lemmas.Option.{get_or_from_slice_get}
 use Rattle.fast_check_packages.specs.Package.{nv_of}
 use Rattle.fast_check_worklists.specs.State.{state_of}
 use Rattle.fast_check_worklists.specs.Turn.{waiting_trace}
-use Rattle.fast_check_turns.specs.Sources.{known}
+use Rattle.fast_check_turns.specs.steps.Sources.{known}
 use Rattle.fast_check_findings.specs.Findings.{yields_of}
 use Rattle.fast_check_turns.proofs.entry_proofs.Passed.{passed_on}
 use Rattle.fast_check_finder.specs.Refusals.{IsRefusedOf}

@@ -3,7 +3,7 @@ use Rattle.std.specs.List.{flat_map}
 use Rattle.fast_check_packages.specs.Package.{nv_of}
 use Rattle.fast_check_worklists.specs.State.{state_of}
 use Rattle.fast_check_worklists.proofs.Last.{started, later, over}
-use Rattle.fast_check_turns.specs.Sources.{known}
+use Rattle.fast_check_turns.specs.steps.Sources.{known}
 use Rattle.fast_check_turns.specs.Rules.{world}
 use Rattle.fast_check_turns.specs.Yields.{gives}
 use Rattle.fast_check_findings.specs.Findings.{yields_of}

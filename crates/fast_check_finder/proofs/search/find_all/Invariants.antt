@@ -5,7 +5,7 @@ use Rattle.fast_check_worklists.specs.Account.{Followed}
 use Rattle.fast_check_worklists.specs.State.{state_of}
 use Rattle.fast_check_worklists.specs.Turn.{IsOnTheWay}
 use Rattle.fast_check_worklists.specs.Measure.{IsBounded, left}
-use Rattle.fast_check_turns.specs.Sources.{known}
+use Rattle.fast_check_turns.specs.steps.Sources.{known}
 use Rattle.fast_check_turns.specs.Rules.{world}
 use Rattle.fast_check_turns.specs.Yields.{gives}
 use Rattle.fast_check_findings.specs.Findings.{yields_of}

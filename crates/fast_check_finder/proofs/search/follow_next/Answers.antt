@@ -1,6 +1,6 @@
 use Rattle.std.specs.List.{flat_map}
 use Rattle.fast_check_worklists.specs.State.{state_of, trace_of}
-use Rattle.fast_check_turns.specs.Sources.{known}
+use Rattle.fast_check_turns.specs.steps.Sources.{known}
 use Rattle.fast_check_findings.specs.Findings.{yields_of}
 use Rattle.fast_check_finder.proofs.Turns.{followed_at}
 use Rattle.fast_check_finder.proofs.search.follow_next.Goals as goal

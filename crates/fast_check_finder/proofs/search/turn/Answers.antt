@@ -4,7 +4,7 @@ use Rattle.fast_check_packages.specs.Package.{nv_of}
 use Rattle.fast_check_traced_modules.specs.Traces.{handled, pending}
 use Rattle.fast_check_worklists.specs.State.{state_of}
 use Rattle.fast_check_worklists.proofs.Last.{same_turn}
-use Rattle.fast_check_turns.specs.Sources.{known}
+use Rattle.fast_check_turns.specs.steps.Sources.{known}
 use Rattle.fast_check_turns.specs.Rules.{world}
 use Rattle.fast_check_turns.specs.Yields.{gives}
 use Rattle.fast_check_findings.specs.Findings.{yields_of}

@@ -4,7 +4,7 @@ use Rattle.fast_check_files.specs.Files.{names_of}
 use Rattle.fast_check_name_demands.specs.NameDemands.{demand_of}
 use Rattle.fast_check_worklists.specs.State.{want_of}
 use Rattle.fast_check_faults.specs.Reports.{told}
-use Rattle.fast_check_turns.specs.Sources.{known, traced_as}
+use Rattle.fast_check_steps.specs.Sources.{known, traced_as}
 use Rattle.fast_check_turns.proofs.Analyzed.{analyzed}
 use Rattle.fast_check_turns.proofs.analysis.analyze.Goals as goal
 

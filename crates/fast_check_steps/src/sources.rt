@@ -3,7 +3,7 @@ ghost use Rattle.std.specs.Option.{option_copied};
 ghost use Rattle.std.specs.List.{starts_with};
 ghost use Rattle.url.specs.Parts.{serialize};
 ghost use Rattle.fast_check_packages.specs.Package.{nv_of};
-ghost use Rattle.fast_check_turns.specs.Sources.{info_at, member_nv, member_of as member_at, owner_by, untyped_at};
+ghost use Rattle.fast_check_steps.specs.Sources.{info_at, member_nv, member_of as member_at, owner_by, untyped_at};
 
 use fast_check_graph::{ModuleGraph, ModuleInfo, RootSymbol};
 use fast_check_packages::{PackageNv, WorkspaceMember};

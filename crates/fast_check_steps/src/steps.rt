@@ -1,111 +1,25 @@
-ghost use Rattle.std.specs.Prelude.{◌≡◌, ◌++◌, ◌∷◌, [], map, option_map, OnOk, IfOk};
+ghost use Rattle.std.specs.Prelude.{◌≡◌, ◌++◌, map, option_map, OnOk, IfOk};
 ghost use Rattle.std.specs.Option.{option_copied};
 ghost use Rattle.std.specs.List.{flat_map};
 ghost use Rattle.url.specs.Parts.{serialize};
 ghost use Rattle.fast_check_packages.specs.Package.{nv_of};
-ghost use Rattle.fast_check_names.specs.Names.{path_of, paths, paths_below, named, IsSame};
-ghost use Rattle.fast_check_names.specs.Imports.{subset_at, whole_at};
-ghost use Rattle.fast_check_files.specs.Files.{names_of, path_demand, file_demand_of};
+ghost use Rattle.fast_check_files.specs.Files.{names_of, file_demand_of};
 ghost use Rattle.fast_check_traces.specs.Wants.{want_of as want_seen, re_exported};
 ghost use Rattle.fast_check_worklists.specs.Demands.{asked, asked_by};
 ghost use Rattle.fast_check_worklists.specs.State.{want_of};
-ghost use Rattle.fast_check_turns.specs.Sources.{known, owner_by};
-ghost use Rattle.fast_check_turns.specs.Exports.{touched_below};
-ghost use Rattle.fast_check_turns.specs.Rules.{file_at, behind, resolved, file_wants, left_wants};
+ghost use Rattle.fast_check_steps.specs.Sources.{known, owner_by};
+ghost use Rattle.fast_check_steps.specs.Wants.{file_at, behind, resolved, file_wants, left_wants};
 
+use crate::exports::exports_of;
 use crate::sources::{Sources, owner_of};
-use fast_check_demands::Extent;
 use fast_check_files::{FileWant, FileWants, WantedNames};
-use fast_check_names::{Exports, ImportedExports, NamedSubset};
+use fast_check_names::ImportedExports;
 use fast_check_packages::PackageNv;
 use fast_check_provider::JsrUrlProvider;
 use fast_check_traces::{ModuleWant, ModuleWants, TracedModule};
 use fast_check_worklists::{Step, is_same};
 use std::alloc::{AllocError, Global};
 use url::Url;
-
-/// What is asked below a name, where a path goes on below it that is touched.
-fn exports_below(alloc: Global, parts: &[String]) -> Result<Exports, AllocError>
-    ensures { IfOk result (λ below. IsSame (paths_below below) (touched_below (path_of parts.now))) }
-{
-    match parts.split_first() {
-        None => Ok(Exports::subset(alloc)),
-        Some((first, rest)) => {
-            let below = exports_below(alloc, rest)?;
-            Ok(Exports::Subset(one_name(alloc, first.as_str(), below)?))
-        }
-    }
-}
-
-/// The set of one name, and what is asked below it.
-fn one_name(alloc: Global, name: &str, below: Exports) -> Result<NamedSubset, AllocError>
-    ensures { IfOk result (λ names. IsSame (paths names) (named name.now (paths_below below))) }
-{
-    let mut names = NamedSubset::default(alloc);
-    let name = String::from_str(alloc, name)?;
-    names.add_named(alloc, name, below)?;
-    Ok(names)
-}
-
-/// A path that is asked for whole.
-fn whole_exports(alloc: Global, first: &str, rest: &[String]) -> Result<ImportedExports, AllocError>
-    ensures { IfOk result (λ x. asked x ≡ asked_by (whole_at (first.now ∷ path_of rest.now))) }
-{
-    let mut names = NamedSubset::default(alloc);
-    let name = String::from_str(alloc, first)?;
-    names.add_qualified(alloc, name, rest)?;
-    Ok(ImportedExports::Subset(names))
-}
-
-/// A path that is touched.
-fn touched_exports(
-    alloc: Global,
-    first: &str,
-    rest: &[String],
-) -> Result<ImportedExports, AllocError>
-    ensures { IfOk result (λ x. asked x ≡ asked_by (subset_at (first.now ∷ path_of rest.now))) }
-{
-    let below = exports_below(alloc, rest)?;
-    Ok(ImportedExports::Subset(one_name(alloc, first, below)?))
-}
-
-/// A path, as far as it is asked for.
-fn path_exports(
-    alloc: Global,
-    first: &str,
-    rest: &[String],
-    extent: Extent,
-) -> Result<ImportedExports, AllocError>
-    ensures { IfOk result (λ x. asked x ≡ asked_by (path_demand (first.now ∷ path_of rest.now) extent)) }
-{
-    match extent {
-        Extent::Touched => touched_exports(alloc, first, rest),
-        Extent::Whole => whole_exports(alloc, first, rest),
-    }
-}
-
-/// No names: the module alone is asked for.
-fn no_exports(alloc: Global) -> ImportedExports
-    ensures { asked result ≡ asked_by (subset_at []) }
-{
-    ImportedExports::Subset(NamedSubset::default(alloc))
-}
-
-/// What is asked of a module, as the lists of what was asked keep it.
-fn exports_of(alloc: Global, names: WantedNames<'_>) -> Result<ImportedExports, AllocError>
-    ensures { IfOk result (λ x. asked x ≡ asked_by (names_of names.entry)) }
-{
-    match names {
-        WantedNames::AllButDefault => Ok(ImportedExports::Star),
-        WantedNames::All => Ok(ImportedExports::StarWithDefault),
-        WantedNames::Nothing => Ok(no_exports(alloc)),
-        WantedNames::Path {
-            first,
-            rest,
-            extent,
-        } => path_exports(alloc, first, rest, extent),
-    }
-}
 
 /// Adds what is asked of a file with this owner: names of it in the same package, and else the package alone.
 fn push_file_at(

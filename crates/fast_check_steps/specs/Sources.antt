@@ -15,9 +15,8 @@ use Rattle.fast_check_graph.specs.declared.root_symbol.RootSymbol.{RootSymbol}
 use Rattle.fast_check_graph.specs.Modules.{is_typed_module, is_external}
 use Rattle.fast_check_graph.specs.Root.{module_named}
 use Rattle.fast_check_traces.specs.declared.modules.TracedModule.{TracedModule}
-use Rattle.fast_check_entries.specs.Entries.{Entrance, entrance_of}
 use Rattle.fast_check_worklists.specs.Demands.{Text}
-use Rattle.fast_check_turns.specs.declared.sources.Sources.{Sources}
+use Rattle.fast_check_steps.specs.declared.sources.Sources.{Sources}
 
 abbrev pub member_nv : WorkspaceMember → Nv
 member_nv m = (string_bytes m.name, version_or_zero m.version)
@@ -81,7 +80,3 @@ is_untyped (Some m) = not (is_typed_module m || is_external m)
 
 abbrev pub untyped_at : ModuleGraph → Text → Bool
 untyped_at g t = is_untyped (node_at g t)
-
--- the entry points of a package
-abbrev pub entrance_at : Known → Nv → Entrance
-entrance_at k nv = entrance_of k.graph k.workspace_members k.url_of nv

@@ -3,9 +3,9 @@ use Rattle.std.specs.List.{flat_map}
 use Rattle.fast_check_packages.specs.Package.{nv_of}
 use Rattle.fast_check_traces.specs.Wants.{want_of as want_seen}
 use Rattle.fast_check_worklists.specs.State.{want_of}
-use Rattle.fast_check_turns.specs.Sources.{known}
-use Rattle.fast_check_turns.specs.Rules.{left_wants}
-use Rattle.fast_check_turns.proofs.steps.push_wants.Given as goal
+use Rattle.fast_check_steps.specs.Sources.{known}
+use Rattle.fast_check_steps.specs.Wants.{left_wants}
+use Rattle.fast_check_steps.proofs.steps.push_wants.Given as goal
 
 abbrev pub invariant-loop-want : goal.invariant-loop-want
 invariant-loop-want g l =
