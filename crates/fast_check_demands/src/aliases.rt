@@ -5,8 +5,10 @@ ghost use Rattle.fast_check_symbol_demands.specs.Demands.{demand_of};
 ghost use Rattle.fast_check_symbol_demands.specs.Rules.{each_of, qualified, parts_names, alias_names, member_names, prototype_names, export_names, first_names, path_names};
 
 use crate::names::{is_prototype, member_named};
-use fast_check_symbol_demands::modules::CheckedTables;
-use fast_check_symbol_demands::modules::symbols::{Symbol, SymbolDecl, SymbolDeclKind, SymbolId};
+use fast_check_symbol_demands::symbol_tables::CheckedTables;
+use fast_check_symbol_demands::symbol_tables::symbols::{
+    Symbol, SymbolDecl, SymbolDeclKind, SymbolId,
+};
 use fast_check_symbol_demands::{
     Demands, Extent, SymbolDemand, bound, has_alias, is_closed, push_path, push_references,
 };

@@ -3,8 +3,8 @@ ghost use Rattle.fast_check_symbol_demands.specs.Demands.{demand_of, asked_of};
 ghost use Rattle.fast_check_symbol_demands.specs.Rules.{names, asked_names};
 
 use crate::aliases::push_path_demands;
-use fast_check_symbol_demands::modules::CheckedTables;
-use fast_check_symbol_demands::modules::symbols::Symbol;
+use fast_check_symbol_demands::symbol_tables::CheckedTables;
+use fast_check_symbol_demands::symbol_tables::symbols::Symbol;
 use fast_check_symbol_demands::{Ask, Demands, SymbolDemand, push_symbol};
 use std::alloc::{AllocError, Global};
 

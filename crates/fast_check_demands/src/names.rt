@@ -1,12 +1,12 @@
 ghost use Rattle.std.specs.Prelude.{◌≡◌, string_bytes, take, ◌<◌, length};
 ghost use Rattle.std.specs.Option.{option_copied};
 ghost use Rattle.fast_check_names.specs.Names.{path_of};
-ghost use Rattle.fast_check_symbol_demands.specs.modules.symbols.Symbols.{symbol_of};
+ghost use Rattle.fast_check_symbol_demands.specs.symbol_tables.symbols.Symbols.{symbol_of};
 ghost use Rattle.fast_check_symbol_demands.specs.Rules.{is_named, symbol_is_named, member_named, is_prototype};
 
 use fast_check_symbol_demands::has_class;
-use fast_check_symbol_demands::modules::CheckedTables;
-use fast_check_symbol_demands::modules::symbols::{Symbol, SymbolDecl, SymbolId};
+use fast_check_symbol_demands::symbol_tables::CheckedTables;
+use fast_check_symbol_demands::symbol_tables::symbols::{Symbol, SymbolDecl, SymbolId};
 
 fn is_named(name: &str, maybe_name: &Option<String>) -> bool
     ensures { result ≡ is_named name.now maybe_name.now }

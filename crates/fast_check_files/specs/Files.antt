@@ -13,7 +13,7 @@ use Rattle.fast_check_symbols.specs.declared.node.SymbolDep.{SymbolDep}
 use Rattle.fast_check_symbols.specs.declared.node.SymbolDep.TheVariants as deps
 use Rattle.fast_check_symbols.specs.declared.node.SymbolNodeDep.{SymbolNodeDep}
 use Rattle.fast_check_symbols.specs.Symbols.{symbol_of}
-use Rattle.fast_check_demands.specs.modules.Tables.{Tables}
+use Rattle.fast_check_demands.specs.symbol_tables.Tables.{Tables}
 use Rattle.fast_check_demands.specs.symbol_demands.declared.demand.Namespace.{Namespace}
 use Rattle.fast_check_demands.specs.symbol_demands.declared.demand.Extent.{Extent}
 use Rattle.fast_check_demands.specs.symbol_demands.declared.demand.Extent.TheVariants.{Touched, Whole}

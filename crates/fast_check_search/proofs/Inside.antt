@@ -22,7 +22,7 @@ use Rattle.fast_check_symbols.specs.declared.node.SymbolDep.TheVariants as deps
 use Rattle.fast_check_symbols.specs.Entries.{last_that}
 use Rattle.fast_check_symbols.specs.Symbols.{symbol_of, has_id, mentioned_by}
 use Rattle.fast_check_symbols.specs.Exports.{export_named}
-use Rattle.fast_check_modules.specs.Tables.{Tables, symbol_of_swc, symbol_id_of}
+use Rattle.fast_check_symbol_tables.specs.Tables.{Tables, symbol_of_swc, symbol_id_of}
 use Rattle.fast_check_files.specs.demands.symbol_demands.declared.demand.Namespace.{Namespace}
 use Rattle.fast_check_files.specs.demands.symbol_demands.declared.demand.Namespace.TheVariants.{Value, Type_}
 use Rattle.fast_check_files.specs.demands.symbol_demands.declared.demand.Extent.{Extent}

@@ -8,7 +8,7 @@ use Rattle.fast_check_symbols.specs.declared.symbol_id.SymbolId.{SymbolId}
 use Rattle.fast_check_symbols.specs.declared.symbol.Symbol.{Symbol}
 use Rattle.fast_check_symbols.specs.declared.decl.SymbolDecl.{SymbolDecl}
 use Rattle.fast_check_symbols.specs.Symbols.{symbol_of, has_id}
-use Rattle.fast_check_modules.specs.Tables.{Tables, table_ranges}
+use Rattle.fast_check_symbol_tables.specs.Tables.{Tables, table_ranges}
 use Rattle.fast_check_files.specs.demands.symbol_demands.declared.demand.Namespace.{Namespace}
 use Rattle.fast_check_files.specs.demands.Demands.{Demand, Asked, by_reference, as_child, by_path}
 use Rattle.fast_check_files.specs.demands.Decls.{binds, is_implementation, is_function}

@@ -4,8 +4,8 @@ ghost use Rattle.fast_check_symbol_demands.specs.Rules.{bound, each_of, referenc
 
 use crate::demand::{Ask, Extent, Namespace, SymbolDemand};
 use crate::list::Demands;
-use fast_check_modules::CheckedTables;
-use fast_check_modules::symbols::{ReferenceNamespace, SymbolId};
+use fast_check_symbol_tables::CheckedTables;
+use fast_check_symbol_tables::symbols::{ReferenceNamespace, SymbolId};
 use fast_check_syntax::Id;
 use std::alloc::AllocError;
 

@@ -1,4 +1,4 @@
-use fast_check_modules::symbols::SymbolId;
+use fast_check_symbol_tables::symbols::SymbolId;
 
 /// One of TypeScript's two namespaces.
 #[derive(Clone, Copy, PartialEq, Eq, PartialOrd, Ord)]

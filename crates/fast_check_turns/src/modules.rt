@@ -10,13 +10,13 @@ ghost use Rattle.fast_check_turns.specs.Turns.{given_at, FollowsIn, FollowsAt};
 
 use crate::analysis::{Analysis, analyze_exports, dependencies_of};
 use crate::findings::push_finding;
+use fast_check_diagnostics::FastCheckDiagnostic;
 use fast_check_entries::findings::{Finding, FollowedModule, UntypedModule};
 use fast_check_graph::{ModuleGraph, ModuleInfo};
 use fast_check_packages::PackageNv;
 use fast_check_provider::JsrUrlProvider;
 use fast_check_steps::{Sources, info_of, is_untyped};
 use fast_check_syntax::SourceRange;
-use fast_check_tables::FastCheckDiagnostic;
 use fast_check_worklists::{Asked, PendingTrace, Step};
 use std::alloc::{AllocError, Global};
 use url::Url;
