@@ -1,4 +1,2 @@
-mod Gathering
-pub mod Given
-mod Graphs
-mod Parted
+pub use Rattle.fast_check_read_graph.proofs.Given
+mod Exports

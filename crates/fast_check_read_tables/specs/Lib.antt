@@ -1,8 +1,7 @@
-pub mod Gathered
-pub mod Graph
-pub mod Modules
-pub mod Reads
+pub use Rattle.fast_check_read_graph.specs.Graph
+pub use Rattle.fast_check_read_graph.specs.Modules
+pub use Rattle.fast_check_read_graph.specs.Reads
+pub use Rattle.fast_check_read_graph.specs.Workspace
 pub mod Seen
 pub mod Symbols
 pub mod Tables
-pub mod Workspace

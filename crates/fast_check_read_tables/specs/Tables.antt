@@ -5,7 +5,7 @@ use Rattle.serde_json.specs.Find.{as_object, as_str, get}
 use Rattle.fast_check_syntax.specs.declared.source.SourceRange.{SourceRange}
 use Rattle.fast_check_symbols.specs.declared.symbol_id.SymbolId.{SymbolId}
 use Rattle.fast_check_read.specs.Pieces.{range_of_data}
-use Rattle.fast_check_read_tables.specs.Reads.{given, list_of, both_of, or_default, listed, id_of, symbol_id_of, url_of}
+use Rattle.fast_check_read_graph.specs.Reads.{given, list_of, both_of, or_default, listed, id_of, symbol_id_of, url_of}
 use Rattle.fast_check_read_tables.specs.Seen.{SeenSymbol, SeenTables}
 use Rattle.fast_check_read_tables.specs.Symbols.{symbol_of}
 

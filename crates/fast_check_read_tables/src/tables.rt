@@ -3,22 +3,21 @@
 ghost use Rattle.std.specs.Prelude.{◌≡◌, option_map, map};
 ghost use Rattle.serde_json.specs.View.{view};
 ghost use Rattle.serde_json.specs.Find.{get};
-ghost use Rattle.fast_check_read_tables.specs.Reads.{Reads, or_default, list_of};
+ghost use Rattle.fast_check_read_graph.specs.Reads.{Reads, or_default, list_of};
 ghost use Rattle.fast_check_read_tables.specs.Seen as seen;
 ghost use Rattle.fast_check_read_tables.specs.Symbols.{symbol_of};
 ghost use Rattle.fast_check_read_tables.specs.Tables as tables;
 
-use crate::from_json::FromJson;
-use crate::gather::both;
-use crate::members::read_list;
+use crate::symbols::OfTables;
 use fast_check_modules::{ModuleTables, ReExportAllNode};
 use fast_check_read::{ReadError, read_members};
+use fast_check_read_graph::{FromJson, FromJsonBy, both, read_items_by, read_list, read_list_by};
 use fast_check_symbols::{Symbol, SymbolExports, SymbolId};
 use serde_json::Value;
 use std::alloc::{AllocError, Global};
 
 /// An array of a range and a source text.
-impl FromJson for ReExportAllNode {
+impl FromJsonBy<OfTables> for ReExportAllNode {
     ghost use Rattle.std.specs.Prelude.{List, ℕ};
     ghost use Rattle.fast_check_syntax.specs.declared.source.SourceRange.{SourceRange};
 
@@ -28,7 +27,7 @@ impl FromJson for ReExportAllNode {
 
     ghost read_of = { tables.re_export_of };
 
-    fn from_json(alloc: Global, value: &Value) -> Result<ReExportAllNode, ReadError> {
+    fn from_json_by(alloc: Global, value: &Value) -> Result<ReExportAllNode, ReadError> {
         let (range, specifier) = FromJson::from_json(alloc, value)?;
         Ok(ReExportAllNode { range, specifier })
     }
@@ -59,7 +58,7 @@ fn read_symbols(
     ensures { Reads (λ v. map seen.symbol v.items) (tables.symbols_of module_symbol (view value.now)) result }
 {
     match value.get("symbols") {
-        Some(symbols) => FromJson::from_json(alloc, symbols),
+        Some(symbols) => read_items_by::<OfTables, Symbol>(alloc, symbols),
         None => Ok(Vec::from_array(alloc, [lone_symbol(alloc, module_symbol)])?),
     }
 }
@@ -84,7 +83,7 @@ pub fn read_module_tables(alloc: Global, value: &Value) -> Result<ModuleTables, 
         read_list(alloc, value, "swc_ids"),
     );
     let exports = both(
-        read_list(alloc, value, "re_export_all_nodes"),
+        read_list_by::<OfTables, ReExportAllNode>(alloc, value, "re_export_all_nodes"),
         read_list(alloc, value, "resolved_exports"),
     );
     let ((symbols, swc_ids), (re_export_all_nodes, resolved_exports)) = both(names, exports)?;

@@ -1,0 +1,4 @@
+pub mod Gathering
+pub mod Given
+mod Graphs
+mod Parted

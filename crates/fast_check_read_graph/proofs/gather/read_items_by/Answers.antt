@@ -1,0 +1,13 @@
+use Rattle.std.proofs.Common.{◌∙◌, sym, ap, [], ◌∷◌, ◌++◌, map, option_map}
+use Rattle.serde_json.specs.View.{view}
+use Rattle.fast_check_read_graph.specs.Gathered.{all_gathered}
+use Rattle.fast_check_read_graph.specs.Reads.{list_of}
+use Rattle.fast_check_read_graph.proofs.Gathering.{all_items, reads_as}
+use Rattle.fast_check_read_graph.proofs.gather.read_items_by.Goals as goal
+
+pub returns : goal.returns
+returns g c =
+    let items = list_of g.T.FromJsonBy.read_of (view c.args.value.now) in
+    reads_as _ _ _ _ (sym
+    (ap (λ empty. option_map (all_gathered (λ xs x. xs ++ x ∷ []) (map g.T.FromJsonBy.seen empty)) items) c.new.ensures.items ∙ all_items items))
+    c.gather_all.ensures

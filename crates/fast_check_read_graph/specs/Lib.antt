@@ -1,0 +1,5 @@
+pub mod Gathered
+pub mod Graph
+pub mod Modules
+pub mod Reads
+pub mod Workspace
