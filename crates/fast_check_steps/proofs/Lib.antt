@@ -1,1 +1,1 @@
-mod Exports
+mod ExportsAsked

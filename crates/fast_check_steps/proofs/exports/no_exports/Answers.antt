@@ -1,4 +1,4 @@
-use Rattle.fast_check_steps.proofs.Exports.{nothing_asked}
+use Rattle.fast_check_steps.proofs.ExportsAsked.{nothing_asked}
 use Rattle.fast_check_steps.proofs.exports.no_exports.Goals as goal
 
 pub returns : goal.returns

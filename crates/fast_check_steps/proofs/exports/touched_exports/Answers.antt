@@ -1,5 +1,5 @@
 use Rattle.fast_check_names.specs.Names.{path_of, paths_below}
-use Rattle.fast_check_steps.proofs.Exports.{touched_asked}
+use Rattle.fast_check_steps.proofs.ExportsAsked.{touched_asked}
 use Rattle.fast_check_steps.proofs.exports.touched_exports.Goals as goal
 
 pub returns : goal.returns
