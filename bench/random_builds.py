@@ -163,7 +163,7 @@ def told_by(finder, world):
 
 
 # the page of a diagnostic, as the program's definition of it says
-with open(os.path.join(TOP, "crates/fast_check_tables/specs/Diagnostic.antt")) as file:
+with open(os.path.join(TOP, "crates/fast_check_diagnostics/specs/Diagnostic.antt")) as file:
     PAGES = file.read().split('docs_url = codes "')[1].split('"')[0]
 
 

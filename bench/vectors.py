@@ -175,7 +175,7 @@ def missing_type(span):
 
 
 # the page of a diagnostic, as the program's definition of it says
-with open(os.path.join(TOP, "crates/fast_check_tables/specs/Diagnostic.antt")) as file:
+with open(os.path.join(TOP, "crates/fast_check_diagnostics/specs/Diagnostic.antt")) as file:
     DOCS = file.read().split('docs_url = codes "')[1].split('"')[0]
 
 # ---- the bench
