@@ -2,17 +2,13 @@
 //! printed as a line of JSON.
 #![tactic(auto)]
 
-mod calls;
-mod faults;
-mod forms;
 mod modules;
 
-use crate::calls::{Given, write_answer};
-use crate::forms::given_form;
 use crate::modules::read_module;
 use fast_check_helpers::DeclMutabilityKind;
 use fast_check_modules::EsModuleInfo;
 use fast_check_read::{ReadError, read_optional_flag, read_range, read_text, read_tree};
+use fast_check_single_calls::{Given, given_form, write_answer};
 use fast_check_syntax::SourceRange;
 use json::Writer;
 use serde_json::Value;

@@ -1,10 +1,10 @@
 //! The modules that cases stand in.
 
-use crate::calls::UNRESOLVED;
 use fast_check_comments::Comments;
 use fast_check_modules::EsModuleInfo;
 use fast_check_read::ReadError;
 use fast_check_read_tables::read_module_tables;
+use fast_check_single_calls::UNRESOLVED;
 use fast_check_syntax::Tree;
 use fast_check_tables::{MediaType, ParsedSource};
 use serde_json::Value;

@@ -1,7 +1,7 @@
 //! What a search finds.
 
-use crate::build::{Case, Demanded, RootDemand};
 use anyhow::Result;
+use fast_check_demand_lines::{Case, Demanded, RootDemand};
 use fast_check_demands::{
     Ask, CheckedTables, FaultKind, SourceRange, SymbolDemand, SymbolFault, SymbolId,
 };

@@ -1,23 +1,18 @@
 //! Builds a package that is made by hand, and prints what it is answered. The package has one module: `export const hello = "world";`, and then
 //! `export let hello;`, which shows no type.
 //!
-//! docs/LIBRARY.md goes through it.
+//! `fast_check_hello` makes the module. docs/LIBRARY.md goes through both.
 #![tactic(auto)]
 
 mod answers;
-mod source;
-mod symbols;
 
 use crate::answers::print_answer;
-use crate::source::{Line, hello_alone, hello_world, parsed_source};
-use crate::symbols::module_tables;
 use anyhow::Result;
 use fast_check::build::{ModuleAnswer, build_fast_check_type_graph};
 use fast_check::provider::ListedPackages;
-use fast_check::tables::{
-    EsModuleInfo, MediaType, Module, ModuleGraph, ModuleInfo, PackageNv, RootSymbol,
-};
+use fast_check::tables::{MediaType, Module, ModuleGraph, PackageNv, RootSymbol};
 use fast_check::transform::TransformOptions;
+use fast_check_hello::{Line, hello_alone, hello_world, root_symbol};
 use indexmap::IndexMap;
 use semver::Version;
 use std::alloc::{AllocError, Global};
@@ -62,33 +57,6 @@ fn module_graph(alloc: Global, specifier: &Url, package: &PackageNv) -> Result<M
     let modules = known_modules(alloc, specifier)?;
     let packages = known_packages(alloc, package)?;
     Ok(ModuleGraph::from_parts(alloc, modules, BTreeMap::new(alloc), packages)?)
-}
-
-/// The module with its symbols. What does not fit is refused here, by the fault of its tables.
-fn es_module(alloc: Global, specifier: &Url, line: Line) -> Result<EsModuleInfo> {
-    let name = specifier.clone()?;
-    let source = parsed_source(alloc, line)?;
-    let tables = module_tables(alloc, specifier, line.declarator)?;
-    Ok(EsModuleInfo::new(alloc, name, source, tables)?)
-}
-
-/// The module under its name.
-fn modules_by_name(
-    alloc: Global,
-    name: Url,
-    module: EsModuleInfo,
-) -> Result<BTreeMap<Url, ModuleInfo>, AllocError> {
-    let mut modules = BTreeMap::new(alloc);
-    modules.insert(name, ModuleInfo::Esm(module))?;
-    Ok(modules)
-}
-
-/// The modules by their names.
-fn root_symbol(alloc: Global, specifier: &Url, line: Line) -> Result<RootSymbol> {
-    let name = specifier.clone()?;
-    let module = es_module(alloc, specifier, line)?;
-    let modules = modules_by_name(alloc, name, module)?;
-    Ok(RootSymbol::new(modules, BTreeMap::new(alloc))?)
 }
 
 /// Which package stands under which URL.

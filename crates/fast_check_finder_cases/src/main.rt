@@ -3,7 +3,6 @@
 //! A world is a line of JSON: the input of `build`, with the two members `name` and `ranges`. The ranges are asked for in each module.
 #![tactic(auto)]
 
-mod tell;
 mod world;
 
 use crate::world::{World, world_of};
@@ -15,6 +14,7 @@ use fast_check_provider::BuildFault;
 use fast_check_read::{ReadError, read_text};
 use fast_check_read_tables::read_list;
 use fast_check_said::Said;
+use fast_check_said_packages::tell_packages;
 use fast_check_syntax::SourceRange;
 use serde_json::Value;
 use std::alloc::Global;
@@ -47,7 +47,7 @@ fn tell_found(
         world.workspace_members.as_slice(),
         pending_nvs,
     ) {
-        Ok(found) => tell::tell_packages(alloc, ranges, found, said),
+        Ok(found) => tell_packages(alloc, ranges, found, said),
         Err(fault) => tell_fault(alloc, fault, said),
     }
 }

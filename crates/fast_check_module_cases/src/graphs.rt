@@ -1,12 +1,11 @@
 //! The graph of modules.
 
-use crate::read_ask;
-use crate::symbols::tell_url;
 use fast_check_graph::{Module, ModuleGraph};
 use fast_check_packages::PackageNv;
 use fast_check_read::{ReadError, read_pair, read_text};
 use fast_check_read_tables::FromJson;
 use fast_check_said::Said;
+use fast_check_said_modules::{read_ask, tell_url};
 use indexmap::IndexMap;
 use serde_json::Value;
 use std::alloc::Global;

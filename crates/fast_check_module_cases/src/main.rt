@@ -5,34 +5,22 @@
 #![tactic(auto)]
 
 mod graphs;
-mod modules;
 mod roots;
-mod symbols;
 
-use fast_check_read::{ReadError, read_array, read_pair, read_text};
+use fast_check_read::ReadError;
 use fast_check_said::Said;
+use fast_check_said_modules::{asks, tell_json_module, tell_module};
 use serde_json::Value;
 use std::alloc::Global;
 use std::{fs, io};
 
-/// The pairs of a call and what it is given.
-pub fn asks(case: &Value) -> Result<&Vec<Value>, ReadError> {
-    read_array(case.get("ask").ok_or(ReadError::BadForm)?)
-}
-
-/// A call, and what it is given.
-pub fn read_ask(ask: &Value) -> Result<(&str, &Value), ReadError> {
-    let (call, given) = read_pair(ask)?;
-    Ok((read_text(call)?, given))
-}
-
 /// Makes what a case says, and tells what it answers.
 fn tell_case(alloc: Global, case: &Value, said: &mut Said) -> Result<(), ReadError> {
     if let Some(module) = case.get("module") {
-        return modules::tell_module(alloc, module, asks(case)?, said);
+        return tell_module(alloc, module, asks(case)?, said);
     }
     if let Some(module) = case.get("json_module") {
-        return modules::tell_json_module(alloc, module, asks(case)?, said);
+        return tell_json_module(alloc, module, asks(case)?, said);
     }
     if let Some(root) = case.get("root") {
         return roots::tell_root(alloc, root, asks(case)?, said);

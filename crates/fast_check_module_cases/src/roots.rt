@@ -1,11 +1,10 @@
 //! The modules of a program by name, and the names that stand for others.
 
-use crate::modules::{read_json_module, tell_fault};
-use crate::read_ask;
 use fast_check_graph::{ModuleInfo, RootSymbol};
 use fast_check_read::{ReadError, read_array, read_pair};
 use fast_check_read_tables::{FromJson, read_list};
 use fast_check_said::Said;
+use fast_check_said_modules::{read_ask, read_json_module, tell_fault};
 use fast_check_symbols::map_of;
 use serde_json::Value;
 use std::alloc::Global;

@@ -4,7 +4,6 @@
 //! there), `a.b` for a path whole and `a.b?` for a path touched. A line `set NAMES` lists the single demands of the set that has these paths whole.
 #![tactic(auto)]
 
-mod tell;
 mod words;
 mod world;
 
@@ -12,6 +11,7 @@ use crate::world::World;
 use fast_check_name_demands::name_demands;
 use fast_check_read::ReadError;
 use fast_check_said::Said;
+use fast_check_said_traces::{tell_demands, tell_traced};
 use fast_check_traces::TracedModule;
 use std::alloc::{AllocError, Global};
 use std::{fs, io};
@@ -24,7 +24,7 @@ fn tell_followed(
     said: &mut Said,
 ) -> Result<(), AllocError> {
     let demands = words::demands_of(alloc, names)?;
-    tell::tell_traced(alloc, traced, demands.as_slice(), said)
+    tell_traced(alloc, traced, demands.as_slice(), said)
 }
 
 fn tell_module(
@@ -67,7 +67,7 @@ fn tell_trace(
 
 fn tell_set(alloc: Global, names: &[String], said: &mut Said) -> Result<(), AllocError> {
     let demands = name_demands(alloc, words::set_of(alloc, names)?)?;
-    tell::tell_demands(demands.as_slice(), said);
+    tell_demands(demands.as_slice(), said);
     Ok(())
 }
 

@@ -1,6 +1,6 @@
 //! Modules with their tables.
 
-use crate::read_ask;
+use crate::asks::read_ask;
 use crate::symbols::{tell_found, tell_numbers, tell_place, tell_re_exports, tell_url};
 use fast_check_comments::Comments;
 use fast_check_modules::diagnostics::ModulePublicRanges;
@@ -36,7 +36,7 @@ fn source_of(alloc: Global, program: Tree) -> Result<ParsedSource, AllocError> {
 }
 
 /// The module of an object's name, tree and tables.
-pub fn read_module(
+fn read_module(
     alloc: Global,
     module: &Value,
 ) -> Result<Result<EsModuleInfo, TableFault>, ReadError> {
@@ -50,7 +50,7 @@ pub fn read_module(
     ))
 }
 
-/// The same of a JSON module.
+/// The module of the name and the tables of an object of JSON, which has no tree.
 pub fn read_json_module(
     alloc: Global,
     module: &Value,

@@ -1,7 +1,7 @@
 //! Tells what is found of packages.
 
 use fast_check_cache::PackagePublicRanges;
-use fast_check_modules::diagnostics::{
+use fast_check_diagnostics::{
     Diagnostic, FastCheckDiagnostic, FastCheckDiagnosticRange, ModulePublicRanges,
 };
 use fast_check_packages::PackageNv;

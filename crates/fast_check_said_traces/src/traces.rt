@@ -1,8 +1,8 @@
-//! Tells what is found.
+//! Tells what is found where a module is followed.
 
 use fast_check_demands::{Extent, SourceRange, SymbolFault};
+use fast_check_diagnostics::FastCheckDiagnostic;
 use fast_check_faults::{FaultyModule, diagnostics_of, each_once};
-use fast_check_modules::diagnostics::FastCheckDiagnostic;
 use fast_check_name_demands::{NameDemand, wanted_names};
 use fast_check_said::Said;
 use fast_check_traces::{

@@ -2,7 +2,7 @@
 
 use anyhow::{Context, Result, bail};
 use fast_check_demands::{Extent, Namespace, SymbolId};
-use fast_check_modules::{
+use fast_check_symbols::{
     FileDepName, ReferenceNamespace, Symbol, SymbolDecl, SymbolDeclKind, SymbolDep, SymbolExports,
     SymbolNode, SymbolNodeDep,
 };

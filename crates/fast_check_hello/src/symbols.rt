@@ -28,12 +28,11 @@ fn symbol(alloc: Global, id: SymbolId) -> Symbol {
 
 /// The symbol of the module, which exports `hello`.
 fn module_symbol(alloc: Global) -> Result<Symbol, AllocError> {
-    let mut exports = SymbolExports::new(alloc);
-    exports.put(String::from_str(alloc, "hello")?, HELLO)?;
-    Ok(Symbol {
-        exports,
-        ..symbol(alloc, ROOT)
-    })
+    let mut module = symbol(alloc, ROOT);
+    module
+        .exports
+        .put(String::from_str(alloc, "hello")?, HELLO)?;
+    Ok(module)
 }
 
 /// The declaration of `hello`, by the range of its declarator: a value that refers to no other name.

@@ -1,0 +1,6 @@
+//! What is found of packages, as text.
+#![tactic(auto)]
+
+mod packages;
+
+pub use packages::tell_packages;
