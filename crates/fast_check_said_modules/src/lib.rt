@@ -1,10 +1,10 @@
 //! What modules with their tables answer, as text: for each call that is asked of one, what it is told.
 #![tactic(auto)]
 
-mod asks;
+mod cases;
 mod modules;
 mod symbols;
 
-pub use asks::{asks, read_ask};
+pub use cases::{asks, read_ask};
 pub use modules::{read_json_module, tell_fault, tell_json_module, tell_module};
 pub use symbols::tell_url;

@@ -1,6 +1,6 @@
 //! Modules with their tables.
 
-use crate::asks::read_ask;
+use crate::cases::read_ask;
 use crate::symbols::{tell_found, tell_numbers, tell_place, tell_re_exports, tell_url};
 use fast_check_comments::Comments;
 use fast_check_modules::diagnostics::ModulePublicRanges;
