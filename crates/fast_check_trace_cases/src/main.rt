@@ -1,17 +1,14 @@
 //! Follows the modules of the file `modules` for what each line of the file `cases` demands of them, and prints what is found.
 //!
-//! A line `trace MODULE NAMES` follows a module. The names are `*` for each export but `default`, `**` for each, `-` for none (that the module is
-//! there), `a.b` for a path whole and `a.b?` for a path touched. A line `set NAMES` lists the single demands of the set that has these paths whole.
+//! A line `trace MODULE NAMES` follows a module, for names as `fast_check_trace_lines` reads them. A line `set NAMES` lists the single demands of the set
+//! that has these paths whole.
 #![tactic(auto)]
 
-mod words;
-mod world;
-
-use crate::world::World;
 use fast_check_name_demands::name_demands;
 use fast_check_read::ReadError;
 use fast_check_said::Said;
 use fast_check_said_traces::{tell_demands, tell_traced};
+use fast_check_trace_lines::{World, demands_of, read_world, set_of, words_of};
 use fast_check_traces::TracedModule;
 use std::alloc::{AllocError, Global};
 use std::{fs, io};
@@ -23,7 +20,7 @@ fn tell_followed(
     names: &[String],
     said: &mut Said,
 ) -> Result<(), AllocError> {
-    let demands = words::demands_of(alloc, names)?;
+    let demands = demands_of(alloc, names)?;
     tell_traced(alloc, traced, demands.as_slice(), said)
 }
 
@@ -66,13 +63,13 @@ fn tell_trace(
 }
 
 fn tell_set(alloc: Global, names: &[String], said: &mut Said) -> Result<(), AllocError> {
-    let demands = name_demands(alloc, words::set_of(alloc, names)?)?;
+    let demands = name_demands(alloc, set_of(alloc, names)?)?;
     tell_demands(demands.as_slice(), said);
     Ok(())
 }
 
 fn tell_line(alloc: Global, world: &World, line: &str, said: &mut Said) -> Result<(), AllocError> {
-    let words = words::words_of(alloc, line)?;
+    let words = words_of(alloc, line)?;
     let Some((command, rest)) = words.split_first() else {
         return Ok(());
     };
@@ -110,7 +107,7 @@ fn main(rt: HostRuntime) -> io::Result<()> {
     let cases = fs::read_to_string(&rt, "cases")?;
     run(
         &rt,
-        world::read_world(rt.alloc(), modules.as_str()),
+        read_world(rt.alloc(), modules.as_str()),
         cases.as_str(),
     )
 }
