@@ -1,17 +1,17 @@
 //! Runs the calls of the file `cases` on sets of demanded names, and prints what each answers and leaves.
 //!
-//! A line is a call: its name, and its words. A set is written by its paths, as `a b.b1 c.`: the name `a` whole, `b1` whole below `b`, and a
-//! subset without names below `c`. What is demanded of a module is a set, `*` for all names but `default`, or `**` for all names.
+//! A line is a call: its name, and its words. A set is written by its paths, as `fast_check_said_names` reads it. What is demanded of a module is a set,
+//! `*` for all names but `default`, or `**` for all names.
 #![tactic(auto)]
 
 mod demands;
 mod grown;
 mod packages;
 mod pairs;
-mod sets;
 
 use fast_check_names::{Exports, ImportedExports, NamedSubset};
 use fast_check_said::Said;
+use fast_check_said_names::{call_below, call_on_set};
 use fast_check_traced_modules::{HandledExports, PendingTraces};
 use std::alloc::Global;
 use std::{fs, io};
@@ -28,8 +28,8 @@ struct Case {
 
 /// Tells what the call of a line answers and leaves.
 fn call(alloc: Global, case: &mut Case, command: &str, words: &[String], said: &mut Said) {
-    if sets::call(alloc, &mut case.set, command, words, said)
-        || sets::call_below(alloc, &mut case.below, command, words, said)
+    if call_on_set(alloc, &mut case.set, command, words, said)
+        || call_below(alloc, &mut case.below, command, words, said)
         || demands::call(alloc, &mut case.demand, command, words, said)
         || grown::call(alloc, command, words, said)
     {

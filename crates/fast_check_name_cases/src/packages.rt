@@ -1,8 +1,8 @@
 //! Calls on packages and members of a workspace.
 
-use crate::sets::name_and_rest;
 use fast_check_packages::{PackageNv, WorkspaceMember};
 use fast_check_said::Said;
+use fast_check_said_names::name_and_rest;
 use indexmap::IndexMap;
 use semver::Version;
 use std::alloc::{AllocError, Global};

@@ -1,4 +1,4 @@
-use Rattle.fast_check_name_cases.proofs.sets.+tell_paths.Given as goal
+use Rattle.fast_check_said_names.proofs.sets.+tell_paths.Given as goal
 
 abbrev pub decreases-tell_paths : goal.decreases-tell_paths
 decreases-tell_paths l = l.levels

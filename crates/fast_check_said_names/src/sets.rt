@@ -150,7 +150,7 @@ fn change(
 }
 
 /// Tells what a call on a set answers and leaves, and says whether it is such a call.
-pub fn call(
+pub fn call_on_set(
     alloc: Global,
     set: &mut NamedSubset,
     command: &str,
