@@ -20,7 +20,7 @@ pub mod tables {
         TableFault,
     };
     pub use fast_check_packages::{PackageNv, WorkspaceMember};
-    pub use fast_check_tables::{MediaType, ModuleSpecifier, ParsedSource};
+    pub use fast_check_parsed_source::{MediaType, ModuleSpecifier, ParsedSource};
 }
 
 /// What is told of what is wrong.
@@ -59,8 +59,8 @@ pub mod range_finder {
 
 /// The skeleton of a module.
 pub mod transform {
-    pub use fast_check_tables::{FastCheckModule, ModuleInfo, StaticSource};
-    pub use fast_check_transform::{TransformOptions, transform};
+    pub use fast_check_module_transform::{TransformOptions, transform};
+    pub use fast_check_parsed_source::{FastCheckModule, ModuleInfo, StaticSource};
     pub use fast_check_transformer::FastCheckTransformer;
 }
 

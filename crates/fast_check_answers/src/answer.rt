@@ -6,10 +6,10 @@ ghost use Rattle.fast_check_answers.specs.Answer.{answer_data, module_data, sour
 
 use crate::diagnostic::write_diagnostics;
 use fast_check_diagnostics::FastCheckDiagnostic;
+use fast_check_parsed_source::{FastCheckModule, ModuleInfo, StaticSource};
 use fast_check_print::{write_comments, write_range, write_tree};
 use fast_check_schema::Form;
 use fast_check_syntax::Kind;
-use fast_check_tables::{FastCheckModule, ModuleInfo, StaticSource};
 use json::Writer;
 use std::alloc::{AllocError, Global};
 

@@ -1,5 +1,5 @@
 -- What is asked of a module beside its tree.
-use Rattle.fast_check_tables.specs.MediaType.{is_declaration}
+use Rattle.fast_check_parsed_source.specs.MediaType.{is_declaration}
 use Rattle.fast_check_modules.specs.diagnostics.PublicRanges.{PublicRanges, is_public, is_implementation}
 use Rattle.fast_check_graph.specs.declared.graph.ModuleGraph.{ModuleGraph}
 use Rattle.fast_check_modules.specs.EsModule.{EsModule}

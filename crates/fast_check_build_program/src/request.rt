@@ -11,10 +11,10 @@ use fast_check_build::package_answers::ModuleAnswer;
 use fast_check_build_tables::build_requests::BuildRequest;
 use fast_check_build_tables::root_symbol_of;
 use fast_check_graph::{ModuleGraph, RootSymbol};
+use fast_check_module_transform::TransformOptions;
 use fast_check_packages::PackageNv;
 use fast_check_provider::{BuildFault, ListedPackages};
 use fast_check_requests::Refusal;
-use fast_check_transform::TransformOptions;
 use std::alloc::Global;
 use std::collections::VecDeque;
 

@@ -3,8 +3,8 @@ ghost use Rattle.fast_check_cache.specs.Cache.{source_hash_of};
 
 use fast_check_comments::Comments;
 use fast_check_packages::PackageNv;
+use fast_check_parsed_source::ModuleInfo;
 use fast_check_syntax::Tree;
-use fast_check_tables::ModuleInfo;
 use std::collections::BTreeSet;
 use url::Url;
 

@@ -2,11 +2,11 @@
 
 use fast_check_comments::Comments;
 use fast_check_modules::EsModuleInfo;
+use fast_check_parsed_source::{MediaType, ParsedSource};
 use fast_check_read::ReadError;
 use fast_check_read_tables::read_module_tables;
 use fast_check_single_calls::UNRESOLVED;
 use fast_check_syntax::Tree;
-use fast_check_tables::{MediaType, ParsedSource};
 use serde_json::Value;
 use std::alloc::{AllocError, Global};
 use std::rc::RcStr;

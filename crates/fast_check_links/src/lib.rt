@@ -4,6 +4,6 @@
 mod links;
 mod sources;
 
-pub use fast_check_tables::StaticSource;
+pub use fast_check_parsed_source::StaticSource;
 pub use links::keep_link;
 pub use sources::static_sources;

@@ -2,9 +2,9 @@ ghost use Rattle.std.specs.Prelude.{◌≡◌, IfOk};
 ghost use Rattle.fast_check_syntax.specs.Part.{seen};
 ghost use Rattle.fast_check_links.specs.StaticSources.{as_sources, source_of, item_source, static_sources};
 
+use fast_check_parsed_source::StaticSource;
 use fast_check_program_forms::{ExportAll, ImportDecl, Module, NamedExport, Str};
 use fast_check_syntax::{Atom, Kind, Part};
-use fast_check_tables::StaticSource;
 use std::alloc::{AllocError, Global};
 
 /// The source of an import or an export, by its literal; none where it has none.

@@ -7,10 +7,10 @@ ghost use Rattle.fast_check_modules.specs.FitProgram.{FitProgram, IsModuleFault}
 use crate::expandos::Expando;
 use crate::unbound::{any_public_unbound, bound_expandos};
 use fast_check_diagnostics::ModulePublicRanges;
+use fast_check_parsed_source::ParsedSource;
 use fast_check_symbol_tables::{CheckedTables, ModuleTables, ReExportAllNode, TableFault};
 use fast_check_symbols::{Symbol, SymbolId};
 use fast_check_syntax::{Id, Tree};
-use fast_check_tables::ParsedSource;
 use std::alloc::Global;
 use std::marker::Model;
 use url::Url;

@@ -12,7 +12,7 @@ use Rattle.fast_check_graph.specs.declared.graph.ModuleGraph.{ModuleGraph}
 use Rattle.fast_check_graph.specs.declared.root_symbol.ModuleInfo.{ModuleInfo}
 use Rattle.fast_check_graph.specs.declared.root_symbol.ModuleInfo.TheVariants.{Esm, Json}
 use Rattle.fast_check_graph.specs.declared.root_symbol.RootSymbol.{RootSymbol}
-use Rattle.fast_check_transform.specs.Transform.{faults}
+use Rattle.fast_check_module_transform.specs.Transform.{faults}
 use Rattle.fast_check_package_answers.specs.Reasons.{PublicModule, Reason, met, found, reasons_in_tree, found_or, module_reasons, first_list}
 use Rattle.fast_check_package_answers.specs.Reasons.{package_reasons}
 use Rattle.fast_check_package_answers.specs.PackageAnswer.{IsFrontAlone}

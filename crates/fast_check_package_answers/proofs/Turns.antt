@@ -11,9 +11,9 @@ use Rattle.std.proofs.lemmas.Grind.{flat_map-append}
 use Rattle.fast_check_modules.specs.diagnostics.PublicRanges.{PublicRanges}
 use Rattle.fast_check_modules.specs.diagnostics.declared.diagnostics.FastCheckDiagnostic.{FastCheckDiagnostic}
 use Rattle.fast_check_signatures.specs.declared.fault.Fault.{Fault}
-use Rattle.fast_check_tables.specs.MediaType.{is_declaration}
-use Rattle.fast_check_tables.specs.declared.tables.fast_check_module.FastCheckModule.{FastCheckModule}
-use Rattle.fast_check_transform.specs.skeleton.Grammar.{IsSkeleton}
+use Rattle.fast_check_parsed_source.specs.MediaType.{is_declaration}
+use Rattle.fast_check_parsed_source.specs.declared.tables.fast_check_module.FastCheckModule.{FastCheckModule}
+use Rattle.fast_check_module_transform.specs.skeleton.Grammar.{IsSkeleton}
 use Rattle.fast_check_bindings.specs.Bindings.{bindings_of}
 use Rattle.fast_check_modules.specs.EsModule.{EsModule}
 use Rattle.fast_check_graph.specs.Root.{found_module}
@@ -22,7 +22,7 @@ use Rattle.fast_check_graph.specs.declared.root_symbol.ModuleInfo.{ModuleInfo}
 use Rattle.fast_check_graph.specs.declared.root_symbol.ModuleInfo.TheVariants.{Esm}
 use Rattle.fast_check_graph.specs.declared.root_symbol.RootSymbol.{RootSymbol}
 use Rattle.fast_check_cache.specs.declared.package_ranges.PackagePublicRanges.{PackagePublicRanges}
-use Rattle.fast_check_transform.specs.Transform.{skeleton, sources, comments}
+use Rattle.fast_check_module_transform.specs.Transform.{skeleton, sources, comments}
 use Rattle.fast_check_transform_faults.specs.Diagnostics.{AreDiagnosticsOf, told}
 use Rattle.fast_check_package_answers.specs.Reasons.{PublicModule, Reason, met, found, Tells, found_or, reasons_in_tree, first_list, module_reasons}
 use Rattle.fast_check_package_answers.specs.Reasons.{package_reasons}

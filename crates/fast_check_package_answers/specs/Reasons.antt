@@ -11,7 +11,7 @@ use Rattle.fast_check_graph.specs.declared.graph.ModuleGraph.{ModuleGraph}
 use Rattle.fast_check_graph.specs.declared.root_symbol.ModuleInfo.{ModuleInfo}
 use Rattle.fast_check_graph.specs.declared.root_symbol.ModuleInfo.TheVariants.{Esm, Json}
 use Rattle.fast_check_graph.specs.declared.root_symbol.RootSymbol.{RootSymbol}
-use Rattle.fast_check_transform.specs.Transform.{faults}
+use Rattle.fast_check_module_transform.specs.Transform.{faults}
 use Rattle.fast_check_transform_faults.specs.Diagnostics.{IsDiagnosticOf, told}
 
 -- a module of a package: its specifier, and what is public in it

@@ -8,10 +8,10 @@ ghost use Rattle.fast_check_package_answers.specs.PackageAnswer.{IsRefused, IsPa
 
 use fast_check_cache::PackagePublicRanges;
 use fast_check_graph::{ModuleGraph, ModuleInfo, RootSymbol};
+use fast_check_module_transform::{TransformOptions, transform};
 use fast_check_modules::EsModuleInfo;
 use fast_check_modules::diagnostics::{FastCheckDiagnostic, ModulePublicRanges};
-use fast_check_tables::{FastCheckModule, ModuleSpecifier};
-use fast_check_transform::{TransformOptions, transform};
+use fast_check_parsed_source::{FastCheckModule, ModuleSpecifier};
 use std::alloc::{AllocError, Global};
 use std::collections::{BTreeMap, BTreeSet};
 use url::Url;

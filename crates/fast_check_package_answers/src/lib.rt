@@ -5,5 +5,5 @@ mod answer;
 mod law;
 
 pub use answer::{ModuleAnswer, answer_package};
-pub use fast_check_transform as transform;
+pub use fast_check_module_transform as transform;
 pub use law::first_alone;

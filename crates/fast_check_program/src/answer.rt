@@ -6,7 +6,7 @@ ghost use Rattle.fast_check_program.specs.Line.{line_of_data};
 
 use fast_check_answers::write_answer;
 use fast_check_modules::diagnostics::FastCheckDiagnostic;
-use fast_check_tables::FastCheckModule;
+use fast_check_parsed_source::FastCheckModule;
 use json::Writer;
 use std::alloc::{AllocError, Global};
 

@@ -8,12 +8,12 @@ ghost use Rattle.fast_check_program.specs.Program.{AnswersModule, RefusesModule,
 
 use crate::answer::print_line;
 use fast_check_graph::ModuleGraph;
+use fast_check_module_transform::{TransformOptions, transform};
 use fast_check_modules::EsModuleInfo;
 use fast_check_modules::diagnostics::ModulePublicRanges;
 use fast_check_requests::{
     Ending, EsModuleParts, Refusal, TransformRequest, is_call, read_bytes, read_request,
 };
-use fast_check_transform::{TransformOptions, transform};
 use std::alloc::{AllocError, Global};
 use std::io::{Read, Write};
 

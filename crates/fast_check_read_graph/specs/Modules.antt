@@ -3,9 +3,9 @@ use Rattle.std.specs.Prelude.{ℕ, List, [], ◌∷◌, codes, if◌then◌else�
 use Rattle.std.specs.Str.{bytes_eq}
 use Rattle.serde_json.specs.Data.{Data}
 use Rattle.serde_json.specs.Find.{as_object, as_str}
-use Rattle.fast_check_tables.specs.declared.tables.media_type.MediaType.{MediaType}
-use Rattle.fast_check_tables.specs.declared.tables.media_type.MediaType.TheVariants.{TypeScript, Mts, Cts, Tsx, Dts, Dmts, Dcts}
-use Rattle.fast_check_tables.specs.declared.tables.media_type.MediaType.TheVariants.{JavaScript, Mjs, Cjs, Jsx, Unknown}
+use Rattle.fast_check_parsed_source.specs.declared.tables.media_type.MediaType.{MediaType}
+use Rattle.fast_check_parsed_source.specs.declared.tables.media_type.MediaType.TheVariants.{TypeScript, Mts, Cts, Tsx, Dts, Dmts, Dcts}
+use Rattle.fast_check_parsed_source.specs.declared.tables.media_type.MediaType.TheVariants.{JavaScript, Mjs, Cjs, Jsx, Unknown}
 use Rattle.fast_check_graph.specs.declared.module.Module.{Module}
 use Rattle.fast_check_graph.specs.declared.module.Module.TheVariants.{Js, Json, Wasm, Npm, Node, External}
 use Rattle.fast_check_read.specs.Pieces.{u64_of}

@@ -5,13 +5,13 @@ use crate::symbols::{tell_found, tell_numbers, tell_place, tell_re_exports, tell
 use fast_check_comments::Comments;
 use fast_check_modules::diagnostics::ModulePublicRanges;
 use fast_check_modules::{EsModuleInfo, JsonModuleInfo, TableFault};
+use fast_check_parsed_source::{MediaType, ParsedSource};
 use fast_check_read::{ReadError, read_text, read_tree};
 use fast_check_read_tables::{FromJson, read_member, read_module_tables};
 use fast_check_said::Said;
 use fast_check_schema::{Choice, Form};
 use fast_check_symbols::SymbolId;
 use fast_check_syntax::{Id, SyntaxContext, Tree};
-use fast_check_tables::{MediaType, ParsedSource};
 use serde_json::Value;
 use std::alloc::{AllocError, Global};
 use std::rc::RcStr;

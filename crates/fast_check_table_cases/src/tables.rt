@@ -3,9 +3,9 @@
 use crate::Call;
 use anyhow::{Result, bail};
 use fast_check_diagnostics::{FastCheckDiagnostic, FastCheckDiagnosticRange, ModulePublicRanges};
+use fast_check_parsed_source::MediaType;
 use fast_check_said::Said;
 use fast_check_syntax::SourceRange;
-use fast_check_tables::MediaType;
 use std::alloc::{AllocError, Global};
 use std::rc::RcStr;
 use url::Url;

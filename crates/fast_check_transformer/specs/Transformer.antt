@@ -3,7 +3,7 @@ use Rattle.std.specs.Prelude.{List, [], if◌then◌else◌}
 use Rattle.fast_check_syntax.specs.declared.tree.Tree.{Tree}
 use Rattle.fast_check_comments.specs.declared.comments.Comments.{Comments}
 use Rattle.fast_check_signatures.specs.declared.fault.Fault.{Fault}
-use Rattle.fast_check_transform.specs.Transform.{skeleton, comments, faults}
+use Rattle.fast_check_module_transform.specs.Transform.{skeleton, comments, faults}
 use Rattle.fast_check_transformer.specs.declared.transformer.FastCheckTransformer.{FastCheckTransformer}
 
 -- the skeleton of its module, and the comments that stay with it

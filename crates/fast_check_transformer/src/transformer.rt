@@ -1,16 +1,16 @@
 ghost use Rattle.std.specs.Prelude.{◌≡◌, ◌↔◌, [], true, IfOk, IsOk, IfErr, IsTrue};
 ghost use Rattle.fast_check_skeleton.specs.Grammar.{IsSkeleton};
-ghost use Rattle.fast_check_tables.specs.MediaType.{is_declaration};
+ghost use Rattle.fast_check_parsed_source.specs.MediaType.{is_declaration};
 ghost use Rattle.fast_check_modules.specs.EsModule.{Admits};
 ghost use Rattle.fast_check_bindings.specs.Bindings.{bindings_of};
 ghost use Rattle.fast_check_transform_faults.specs.Diagnostics.{AreDiagnosticsOf, told};
 
 use fast_check_comments::Comments;
 use fast_check_graph::ModuleGraph;
+use fast_check_module_transform::{KeptModule, keep_module};
 use fast_check_modules::EsModuleInfo;
 use fast_check_modules::diagnostics::{FastCheckDiagnostic, ModulePublicRanges};
 use fast_check_syntax::Tree;
-use fast_check_transform::{KeptModule, keep_module};
 use fast_check_transform_faults::tell;
 use std::alloc::{AllocError, Global};
 

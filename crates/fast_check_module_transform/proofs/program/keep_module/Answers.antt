@@ -1,0 +1,16 @@
+use Rattle.std.proofs.Common.{rules}
+use Rattle.fast_check_module_transform.proofs.Transformed.{skeleton_is, faults_are}
+use Rattle.fast_check_module_transform.proofs.program.keep_module.Goals as goal
+
+pub returns-clause-skeleton : goal.returns-clause-skeleton
+returns-clause-skeleton c =
+    skeleton_is c.args.graph.now c.args.es_module_info.now c.args.public_ranges.now c.in_ok-program.ensures.answer
+    (search rules) (search rules) (search rules)
+
+pub returns-clause-comments : goal.returns-clause-comments
+returns-clause-comments c = search rules
+
+pub returns-clause-faults : goal.returns-clause-faults
+returns-clause-faults c =
+    faults_are c.args.graph.now c.args.es_module_info.now c.args.public_ranges.now c.in_ok-program.ensures.answer
+    (search rules) (search rules) (search rules)

@@ -1,0 +1,224 @@
+ghost use Rattle.std.specs.Prelude.{◌≡◌, ◌++◌, false, flat_map, IfOk};
+ghost use Rattle.fast_check_syntax.specs.Part.{seen};
+ghost use Rattle.fast_check_syntax.specs.Shape.{parts};
+ghost use Rattle.fast_check_signatures.specs.Answers.{Adds};
+ghost use Rattle.fast_check_declarations.specs.asked.skeleton.KeptComments.{removed_from, start_look, starts_in_body, starts_in_namespace, starts_below, without_all_leading};
+ghost use Rattle.fast_check_declarations.specs.asked.skeleton.Rules.{is_assigned, item_rule};
+ghost use Rattle.fast_check_declarations.specs.asked.skeleton.Visible.{item_properties};
+ghost use Rattle.fast_check_declarations.specs.asked.Asked.{Asked-around};
+ghost use Rattle.fast_check_declarations.specs.asked.Kept.{as_list};
+ghost use Rattle.fast_check_module_transform.specs.PartAnswers.{namespace_answer, decl_answer, export_answer, starts_in_export, refused_answer, item_answer};
+ghost use Rattle.fast_check_module_transform.specs.PartAnswers.{each_answer, items_answer};
+
+use fast_check_comments::CommentsMut;
+use fast_check_declarations::asked::Asked;
+use fast_check_declarations::asked::skeleton::expandos::{ExpandoProperty, keep_namespaces};
+use fast_check_declarations::asked::skeleton::{DeclRule, ItemRule, item_rule};
+use fast_check_declarations::{keep_default, keep_public_class, remove_inside};
+use fast_check_links::keep_link;
+use fast_check_program_forms::ExportDecl;
+use fast_check_ranges::range_of_node;
+use fast_check_signatures::{Fault, FaultKind};
+use fast_check_statement_forms::ExprStmt;
+use fast_check_statements::{
+    items_inside, keep_assignment, keep_public_function, keep_standing, keep_statement, keep_using,
+    module_fault, namespace_with,
+};
+use fast_check_syntax::{Items, Part, SourceRange, Tree};
+use std::alloc::{AllocError, Global};
+
+/// What is public of the items of a body, that of a module or of a namespace, and behind it the namespaces for the expando properties
+/// that its assignments declare. The comments before the others go.
+#[cycle(items)]
+pub fn keep_items(
+    alloc: Global,
+    asked: Asked<'_>,
+    body: Part<'_>,
+    comments: &mut CommentsMut,
+    faults: &mut Vec<Fault>,
+) -> Result<Items<Tree>, AllocError>
+    ensures answer { IfOk result (λ items. Adds (items_answer (Asked-around asked.entry) (parts (seen body.entry))) items faults.old.items faults.new.items) }
+    ensures comments { IfOk result (λ _.
+        comments.new ≡ without_all_leading (removed_from (Asked-around asked.entry) (parts (seen body.entry))) comments.old) }
+{
+    let mut properties = Vec::new(alloc);
+    let mut items = keep_each(alloc, asked, body, comments, &mut properties, faults)?;
+    items.append(keep_namespaces(alloc, properties, faults)?)?;
+    Ok(items)
+}
+
+/// What is public of the items of a body, one by one, and the expando properties that they declare.
+#[cycle(items)]
+fn keep_each(
+    alloc: Global,
+    asked: Asked<'_>,
+    body: Part<'_>,
+    comments: &mut CommentsMut,
+    properties: &mut Vec<ExpandoProperty>,
+    faults: &mut Vec<Fault>,
+) -> Result<Items<Tree>, AllocError>
+    ensures answer { IfOk result (λ items. Adds (each_answer (Asked-around asked.entry) (parts (seen body.entry))) items faults.old.items faults.new.items) }
+    ensures properties { IfOk result (λ _.
+        properties.new.items ≡ properties.old.items ++ flat_map (item_properties (Asked-around asked.entry)) (parts (seen body.entry))) }
+    ensures comments { IfOk result (λ _.
+        comments.new ≡ without_all_leading (removed_from (Asked-around asked.entry) (parts (seen body.entry))) comments.old) }
+{
+    let mut items = Items::new(alloc);
+    for item in body.parts() {
+        let item = item.read();
+        if is_assigned(item) {
+            keep_assignment(alloc, asked, ExprStmt::of(item).expr, properties, faults)?;
+            comments.remove_leading(range_of_node(item).start);
+            continue;
+        }
+        match keep_item(alloc, asked, item, comments, faults)? {
+            None => {
+                comments.remove_leading(range_of_node(item).start);
+                remove_inside(alloc, asked, item, comments)?;
+                continue;
+            }
+            Some(tree) => {
+                remove_inside(alloc, asked, item, comments)?;
+                items.push(tree)?;
+            }
+        }
+    }
+    Ok(items)
+}
+
+/// What is public of a namespace, which is public by `place`: the items in its innermost block are those of a body, and all
+/// else of it stands as it is written. None where it is not public. What no skeleton has is a fault, public or not.
+#[cycle(items)]
+fn keep_namespace(
+    alloc: Global,
+    asked: Asked<'_>,
+    place: SourceRange,
+    decl: Part<'_>,
+    comments: &mut CommentsMut,
+    faults: &mut Vec<Fault>,
+) -> Result<Option<Tree>, AllocError>
+    ensures answer { IfOk result (λ tree.
+        Adds (namespace_answer (Asked-around asked.entry) place (seen decl.entry)) (as_list tree) faults.old.items faults.new.items) }
+    ensures comments { IfOk result (λ _.
+        comments.new ≡ without_all_leading (starts_in_namespace start_look (Asked-around asked.entry) place (seen decl.entry)) comments.old) }
+{
+    if let Some(fault) = module_fault(decl) {
+        faults.push(fault)?;
+        return Ok(Some(Tree::Absent));
+    }
+    if !asked.public_ranges.contains(&place) {
+        return Ok(None);
+    }
+    let items = keep_items(
+        alloc,
+        asked.inside(decl),
+        items_inside(decl),
+        comments,
+        faults,
+    )?;
+    Ok(Some(namespace_with(alloc, decl, items)?))
+}
+
+/// What is public of a declaration with which this is done, and which is public by `place` where it is no variable
+/// statement; none where nothing is.
+#[cycle(items)]
+fn keep_decl(
+    alloc: Global,
+    asked: Asked<'_>,
+    place: SourceRange,
+    decl: Part<'_>,
+    rule: DeclRule,
+    comments: &mut CommentsMut,
+    faults: &mut Vec<Fault>,
+) -> Result<Option<Tree>, AllocError>
+    ensures answer { IfOk result (λ tree.
+        Adds (decl_answer (Asked-around asked.entry) place (seen decl.entry) rule) (as_list tree) faults.old.items faults.new.items) }
+    ensures comments { IfOk result (λ _.
+        comments.new ≡ without_all_leading (starts_in_body start_look (Asked-around asked.entry) place (seen decl.entry) rule) comments.old) }
+{
+    match rule {
+        DeclRule::Variables => keep_statement(alloc, asked, decl, faults),
+        DeclRule::Function => keep_public_function(alloc, asked, place, decl, faults),
+        DeclRule::Class => keep_public_class(alloc, asked, place, decl, faults),
+        DeclRule::Standing => keep_standing(alloc, asked, place, decl),
+        DeclRule::Namespace => keep_namespace(alloc, asked, place, decl, comments, faults),
+        DeclRule::Using => keep_using(asked, place, decl, faults),
+        DeclRule::NoDeclaration => Ok(None),
+    }
+}
+
+/// What is public of an export of a declaration with which this is done; none where nothing is.
+#[cycle(items)]
+fn keep_export(
+    alloc: Global,
+    asked: Asked<'_>,
+    item: Part<'_>,
+    rule: DeclRule,
+    comments: &mut CommentsMut,
+    faults: &mut Vec<Fault>,
+) -> Result<Option<Tree>, AllocError>
+    ensures answer { IfOk result (λ tree.
+        Adds (export_answer (Asked-around asked.entry) (seen item.entry) rule) (as_list tree) faults.old.items faults.new.items) }
+    ensures comments { IfOk result (λ _.
+        comments.new ≡ without_all_leading (starts_in_export (Asked-around asked.entry) (seen item.entry) rule) comments.old) }
+{
+    let ExportDecl { span, decl } = ExportDecl::of(item);
+    match keep_decl(alloc, asked, span, decl, rule, comments, faults)? {
+        Some(decl) => Ok(Some(ExportDecl { span, decl }.into_tree(alloc)?)),
+        None => Ok(None),
+    }
+}
+
+/// The fault of an item that no skeleton has.
+fn refuse(
+    item: Part<'_>,
+    kind: FaultKind,
+    faults: &mut Vec<Fault>,
+) -> Result<Option<Tree>, AllocError>
+    ensures { IfOk result (λ tree. Adds (refused_answer (seen item.entry) kind) (as_list tree) faults.old.items faults.new.items) }
+{
+    let range = range_of_node(item);
+    faults.push(Fault { kind, range })?;
+    Ok(Some(Tree::Absent))
+}
+
+/// Whether an item is an assignment that is a statement.
+fn is_assigned(item: Part<'_>) -> bool
+    ensures { result ≡ is_assigned (item_rule (seen item.entry)) }
+{
+    matches!(item_rule(item), ItemRule::Assigned)
+}
+
+/// What is public of an item of a body that is no assignment; none where nothing is. Of a namespace the comments before the items that
+/// go, go too.
+#[cycle(items)]
+fn keep_item(
+    alloc: Global,
+    asked: Asked<'_>,
+    item: Part<'_>,
+    comments: &mut CommentsMut,
+    faults: &mut Vec<Fault>,
+) -> Result<Option<Tree>, AllocError>
+    requires no_assignment { is_assigned (item_rule (seen item)) ≡ false }
+    ensures answer { IfOk result (λ tree. Adds (item_answer (Asked-around asked.entry) (seen item.entry)) (as_list tree) faults.old.items faults.new.items) }
+    ensures comments { IfOk result (λ _.
+        comments.new ≡ without_all_leading (starts_below start_look (Asked-around asked.entry) (seen item.entry) (item_rule (seen item.entry))) comments.old) }
+{
+    match item_rule(item) {
+        ItemRule::Declared(rule) => keep_decl(
+            alloc,
+            asked,
+            range_of_node(item),
+            item,
+            rule,
+            comments,
+            faults,
+        ),
+        ItemRule::Exported(rule) => keep_export(alloc, asked, item, rule, comments, faults),
+        ItemRule::Linked(rule) => keep_link(alloc, asked, item, rule),
+        ItemRule::Default(rule) => keep_default(alloc, asked, item, rule, faults),
+        ItemRule::Refused(kind) => refuse(item, kind, faults),
+        ItemRule::Assigned => Ok(None),
+        ItemRule::Silent => Ok(None),
+    }
+}

@@ -1,0 +1,10 @@
+//! The transform of a module to its skeleton.
+#![tactic(auto)]
+
+mod answer;
+mod items;
+mod program;
+
+pub use answer::{TransformOptions, transform};
+pub use fast_check_parsed_source::{FastCheckModule, ModuleInfo, StaticSource};
+pub use program::{KeptModule, keep_module};

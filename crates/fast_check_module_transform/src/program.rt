@@ -1,0 +1,81 @@
+ghost use Rattle.std.specs.Prelude.{◌≡◌, IfOk};
+ghost use Rattle.fast_check_syntax.specs.Part.{seen};
+ghost use Rattle.fast_check_signatures.specs.Answers.{Adds};
+ghost use Rattle.fast_check_declarations.specs.asked.skeleton.KeptComments.{removed_starts, without_all_leading};
+ghost use Rattle.fast_check_declarations.specs.asked.Asked.{Asked-around};
+ghost use Rattle.fast_check_module_transform.specs.PartAnswers.{program_answer};
+ghost use Rattle.fast_check_module_transform.specs.Transform.{skeleton, comments, faults};
+
+use crate::items::keep_items;
+use fast_check_comments::{Comments, CommentsMut};
+use fast_check_declarations::asked::Asked;
+use fast_check_graph::ModuleGraph;
+use fast_check_modules::EsModuleInfo;
+use fast_check_modules::diagnostics::ModulePublicRanges;
+use fast_check_program_forms::Module;
+use fast_check_signatures::Fault;
+use fast_check_syntax::{Part, Tree};
+use std::alloc::{AllocError, Global};
+
+/// What is public of a module, the comments that stay with it, and what is wrong with it, in reading order.
+#[derive(Drop)]
+pub struct KeptModule {
+    pub program: Tree,
+    pub comments: Comments,
+    pub faults: Vec<Fault>,
+}
+
+/// What is public of the module with these tables, the comments that stay with it, and what is wrong with it: of a module with faults
+/// the tree is not to be used. `transform` and `FastCheckTransformer` answer what this finds. An `Err` is want of memory.
+pub fn keep_module(
+    alloc: Global,
+    graph: &ModuleGraph,
+    es_module_info: &EsModuleInfo,
+    public_ranges: &ModulePublicRanges,
+) -> Result<KeptModule, AllocError>
+    ensures skeleton { IfOk result (λ kept. kept.program ≡ skeleton graph.now es_module_info.now public_ranges.now) }
+    ensures comments { IfOk result (λ kept. kept.comments ≡ comments graph.now es_module_info.now public_ranges.now) }
+    ensures faults { IfOk result (λ kept. kept.faults.items ≡ faults graph.now es_module_info.now public_ranges.now) }
+{
+    let asked = Asked::of(graph, es_module_info, public_ranges);
+    let source = es_module_info.source();
+    let mut comments = CommentsMut::new(source.comments.clone()?);
+    let mut faults = Vec::new(alloc);
+    let program = keep_program(
+        alloc,
+        asked,
+        source.program.read(),
+        &mut comments,
+        &mut faults,
+    )?;
+    Ok(KeptModule {
+        program,
+        comments: comments.into_comments(),
+        faults,
+    })
+}
+
+/// A module with what is public of its items. The comments before the others go.
+fn keep_program(
+    alloc: Global,
+    asked: Asked<'_>,
+    program: Part<'_>,
+    comments: &mut CommentsMut,
+    faults: &mut Vec<Fault>,
+) -> Result<Tree, AllocError>
+    ensures answer { IfOk result (λ tree. Adds (program_answer (Asked-around asked.entry) (seen program.entry)) tree faults.old.items faults.new.items) }
+    ensures comments { IfOk result (λ _. comments.new ≡ without_all_leading (removed_starts (Asked-around asked.entry) (seen program.entry)) comments.old) }
+{
+    let Module {
+        span,
+        body,
+        shebang,
+    } = Module::of(program);
+    let items = keep_items(alloc, asked, body, comments, faults)?;
+    let module = Module {
+        span,
+        body: Tree::list(items),
+        shebang: shebang.to_tree(alloc)?,
+    };
+    module.into_tree(alloc)
+}
