@@ -12,6 +12,7 @@ use fast_check_symbol_tables::{CheckedTables, ModuleTables, ReExportAllNode, Tab
 use fast_check_symbols::{Symbol, SymbolId};
 use fast_check_syntax::{Id, Tree};
 use std::alloc::Global;
+use std::collections::BTreeMap;
 use std::marker::Model;
 use url::Url;
 
@@ -40,7 +41,7 @@ impl Model for EsModuleInfo {
 }
 
 impl EsModuleInfo {
-    ghost use Rattle.fast_check_symbol_tables.specs.Tables.{symbol_of_swc, resolved_export};
+    ghost use Rattle.fast_check_symbol_tables.specs.Tables.{symbol_of_swc, resolved_export, answered_names};
     ghost use Rattle.fast_check_symbol_tables.specs.WellFormed.{AreMadeOf};
     ghost use Rattle.fast_check_modules.specs.FitProgram.{FitProgram, IsModuleFault};
     ghost use Rattle.fast_check_modules.specs.EsModule.{Admits, AreOwnRanges};
@@ -108,6 +109,13 @@ impl EsModuleInfo {
         ensures { option_copied result ≡ resolved_export self.now.tables name.now }
     {
         self.tables.resolved_export(name)
+    }
+
+    /// The exported names, each with the module that answers it, in order of the names.
+    pub fn resolved_exports(&self) -> &BTreeMap<String, Url>
+        ensures { answered_names result.now.entries ≡ self.now.tables.resolved }
+    {
+        self.tables.resolved_exports()
     }
 
     /// Its symbols, in the order in which they were handed in.

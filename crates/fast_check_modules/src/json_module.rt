@@ -5,6 +5,7 @@ use fast_check_symbol_tables::{CheckedTables, ModuleTables, ReExportAllNode, Tab
 use fast_check_symbols::{Symbol, SymbolId};
 use fast_check_syntax::Id;
 use std::alloc::Global;
+use std::collections::BTreeMap;
 use std::marker::Model;
 use url::Url;
 
@@ -24,7 +25,7 @@ impl Model for JsonModuleInfo {
 }
 
 impl JsonModuleInfo {
-    ghost use Rattle.fast_check_symbol_tables.specs.Tables.{symbol_of_swc, resolved_export};
+    ghost use Rattle.fast_check_symbol_tables.specs.Tables.{symbol_of_swc, resolved_export, answered_names};
     ghost use Rattle.fast_check_symbol_tables.specs.WellFormed.{AreMadeOf, AreWellFormed, IsTableFault};
     ghost use Rattle.fast_check_symbols.specs.Symbols.{symbol_of, place_of};
 
@@ -76,6 +77,13 @@ impl JsonModuleInfo {
         ensures { option_copied result ≡ resolved_export self.now.tables name.now }
     {
         self.tables.resolved_export(name)
+    }
+
+    /// The exported names, each with the module that answers it, in order of the names.
+    pub fn resolved_exports(&self) -> &BTreeMap<String, Url>
+        ensures { answered_names result.now.entries ≡ self.now.tables.resolved }
+    {
+        self.tables.resolved_exports()
     }
 
     /// Its symbols, in the order in which they were handed in.

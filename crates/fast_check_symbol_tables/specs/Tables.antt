@@ -1,5 +1,6 @@
 -- What is known of a module's symbols, re-exports and exports.
-use Rattle.std.specs.Prelude.{ℕ, Bool, ◌&&◌, ◌==◌, List, ◌++◌, map, Option}
+use Rattle.std.specs.Prelude.{ℕ, Bool, ◌&&◌, ◌==◌, List, ◌++◌, map, Option, String, string_bytes}
+use Rattle.std.specs.declared.alloc.Global.{Global}
 use Rattle.std.specs.List.{flat_map}
 use Rattle.std.specs.Map.{lookup}
 use Rattle.std.specs.Option.{option_and_then}
@@ -36,6 +37,10 @@ symbol_of_swc t id = option_and_then (λ s. symbol_of s t.symbols) (symbol_id_of
 -- the module that answers an exported name
 abbrev pub resolved_export : Tables → List ℕ → Option Parts
 resolved_export t name = lookup (bytes_eq name) t.resolved
+
+-- exported names by their bytes, each with the module that answers it
+abbrev pub answered_names : List (String Global × Parts) → List (List ℕ × Parts)
+answered_names = map (λ e. (string_bytes e.0, e.1))
 
 -- the ranges of the declarations and of the re-exports of all
 abbrev pub table_ranges : List Symbol → List ReExportAllNode → List SourceRange

@@ -22,8 +22,7 @@ pub struct CheckedTables {
 }
 
 impl Model for CheckedTables {
-    ghost use Rattle.std.specs.Prelude.{map, string_bytes};
-    ghost use Rattle.fast_check_symbol_tables.specs.Tables.{Tables};
+    ghost use Rattle.fast_check_symbol_tables.specs.Tables.{Tables, answered_names};
 
     ghost Value = { Tables };
 
@@ -32,12 +31,12 @@ impl Model for CheckedTables {
       module_symbol = t.module_symbol;
       swc_ids = t.swc_ids.entries;
       re_exports = t.re_export_all_nodes.items;
-      resolved = map (λ e. (string_bytes e.0, e.1)) t.resolved_exports.entries;
+      resolved = answered_names t.resolved_exports.entries;
     } };
 }
 
 impl CheckedTables {
-    ghost use Rattle.fast_check_symbol_tables.specs.Tables.{symbol_of_swc, resolved_export};
+    ghost use Rattle.fast_check_symbol_tables.specs.Tables.{symbol_of_swc, resolved_export, answered_names};
     ghost use Rattle.fast_check_symbol_tables.specs.WellFormed.{AreMadeOf, AreWellFormed, IsTableFault};
     ghost use Rattle.fast_check_symbols.specs.Symbols.{symbol_of, place_of};
 
@@ -120,5 +119,11 @@ impl CheckedTables {
         ensures { option_copied result ≡ resolved_export self.now name.now }
     {
         self.resolved_exports.get(name)
+    }
+    /// The exported names, each with the module that answers it, in order of the names.
+    pub fn resolved_exports(&self) -> &BTreeMap<String, Url>
+        ensures { answered_names result.now.entries ≡ self.now.resolved }
+    {
+        &self.resolved_exports
     }
 }
