@@ -7,6 +7,7 @@ use crate::item::FastCheckCacheItem;
 use fast_check_packages::PackageNv;
 use std::alloc::AllocError;
 use std::collections::BTreeSet;
+use std::marker::Model;
 use url::Url;
 
 /// What a cache keeps the item of a package under.
@@ -15,17 +16,31 @@ pub struct FastCheckCacheKey {
     hash: u64,
 }
 
+/// Contracts see a key as its hash.
+impl Model for FastCheckCacheKey {
+    ghost use Rattle.std.specs.Prelude.{ℕ};
+    ghost use Rattle.std.specs.Coded.{coded_ℕ};
+
+    ghost Value = { ℕ };
+
+    ghost coded = { coded_ℕ };
+
+    ghost view = { λ key. key.hash };
+
+    ghost inverse = { λ hash. record { hash = hash } };
+}
+
 impl FastCheckCacheKey {
     /// The key of a hash.
     pub fn build(hash: u64) -> FastCheckCacheKey
-        ensures { result.hash ≡ hash }
+        ensures { result ≡ hash }
     {
         FastCheckCacheKey { hash }
     }
 
     /// The hash of the key.
     pub fn as_u64(&self) -> u64
-        ensures { result ≡ self.now.hash }
+        ensures { result ≡ self.now }
     {
         self.hash
     }
@@ -55,11 +70,11 @@ pub trait FastCheckCache {
 
     /// The item under a key, None where there is none. `AllocError` where memory is wanting.
     fn get(&self, key: FastCheckCacheKey) -> Result<Option<FastCheckCacheItem>, AllocError>
-        ensures { IfOk result (λ found. option_map item_of found ≡ stored self.now key.hash) };
+        ensures { IfOk result (λ found. option_map item_of found ≡ stored self.now key) };
 
     /// Keeps an item under a key. Where memory is wanting, nothing changes and the item is dropped.
     fn set(&mut self, key: FastCheckCacheKey, item: FastCheckCacheItem) -> Result<(), AllocError>
-        ensures kept { OnOk result (stored self.new ≡ with_item key.hash (item_of item) (stored self.old)) }
+        ensures kept { OnOk result (stored self.new ≡ with_item key (item_of item) (stored self.old)) }
         ensures err { OnErr result (stored self.new ≡ stored self.old) }
         ensures seed { seed_text self.new ≡ seed_text self.old }
         ensures hash { hash_of self.new ≡ hash_of self.old };

@@ -1,22 +1,40 @@
--- What a transformer answers of its module, and what it keeps.
-use Rattle.std.specs.Prelude.{List, [], if◌then◌else◌}
+-- What a transformer is, what it answers of its module, and what it keeps.
+use Rattle.std.specs.Prelude.{Bool, List, [], Option, Some, None, if◌then◌else◌}
+use Rattle.std.specs.declared.alloc.Global.{Global}
+use Rattle.std.specs.declared.vec.Vec.{Vec}
 use Rattle.fast_check_syntax.specs.declared.tree.Tree.{Tree}
 use Rattle.fast_check_comments.specs.declared.comments.Comments.{Comments}
+use Rattle.fast_check_graph.specs.declared.graph.ModuleGraph.{ModuleGraph}
+use Rattle.fast_check_modules.specs.EsModule.{EsModule}
+use Rattle.fast_check_modules.specs.diagnostics.PublicRanges.{PublicRanges}
+use Rattle.fast_check_modules.specs.diagnostics.declared.diagnostics.FastCheckDiagnostic.{FastCheckDiagnostic}
 use Rattle.fast_check_signatures.specs.declared.fault.Fault.{Fault}
 use Rattle.fast_check_module_transform.specs.Transform.{skeleton, comments, faults}
-use Rattle.fast_check_transformer.specs.declared.transformer.FastCheckTransformer.{FastCheckTransformer}
+
+-- a module of a graph with what is public of it, whether its first fault is answered alone, and the diagnostics that are kept
+pub record Transformer : Type 0 where
+  pub graph : ModuleGraph
+  pub es_module_info : EsModule
+  pub public_ranges : PublicRanges
+  pub first_alone : Bool
+  pub diagnostics : List FastCheckDiagnostic
+
+-- before the first call nothing is told
+abbrev pub told_so_far : Option (Vec FastCheckDiagnostic Global) → List FastCheckDiagnostic
+told_so_far None = []
+told_so_far (Some diagnostics) = diagnostics.items
 
 -- the skeleton of its module, and the comments that stay with it
-abbrev pub own_skeleton : FastCheckTransformer → Tree
-own_skeleton transformer = skeleton transformer.graph.now transformer.es_module_info.now transformer.public_ranges.now
+abbrev pub own_skeleton : Transformer → Tree
+own_skeleton transformer = skeleton transformer.graph transformer.es_module_info transformer.public_ranges
 
-abbrev pub own_comments : FastCheckTransformer → Comments
-own_comments transformer = comments transformer.graph.now transformer.es_module_info.now transformer.public_ranges.now
+abbrev pub own_comments : Transformer → Comments
+own_comments transformer = comments transformer.graph transformer.es_module_info transformer.public_ranges
 
 -- what is wrong with its module, in reading order
-abbrev pub own_faults : FastCheckTransformer → List Fault
-own_faults transformer = faults transformer.graph.now transformer.es_module_info.now transformer.public_ranges.now
+abbrev pub own_faults : Transformer → List Fault
+own_faults transformer = faults transformer.graph transformer.es_module_info transformer.public_ranges
 
 -- those of which it keeps the diagnostics: none where the first is answered alone, and else all
-abbrev pub kept_faults : FastCheckTransformer → List Fault
-kept_faults transformer = if transformer.should_error_on_first_diagnostic then [] else own_faults transformer
+abbrev pub kept_faults : Transformer → List Fault
+kept_faults transformer = if transformer.first_alone then [] else own_faults transformer

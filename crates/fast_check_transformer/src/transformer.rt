@@ -13,6 +13,7 @@ use fast_check_modules::diagnostics::{FastCheckDiagnostic, ModulePublicRanges};
 use fast_check_syntax::Tree;
 use fast_check_transform_faults::tell;
 use std::alloc::{AllocError, Global};
+use std::marker::Model;
 
 /// Transforms a module, and keeps what is wrong with it beside what is public of it. `transform` answers the one or the other.
 #[derive(Drop)]
@@ -21,7 +22,22 @@ pub struct FastCheckTransformer<'a> {
     es_module_info: &'a EsModuleInfo,
     public_ranges: &'a ModulePublicRanges,
     should_error_on_first_diagnostic: bool,
-    diagnostics: Vec<FastCheckDiagnostic>,
+    /// The list of the last call, None before the first one.
+    diagnostics: Option<Vec<FastCheckDiagnostic>>,
+}
+
+impl<'a> Model for FastCheckTransformer<'a> {
+    ghost use Rattle.fast_check_transformer.specs.Transformer.{Transformer, told_so_far};
+
+    ghost Value = { Transformer };
+
+    ghost view = { λ t. record {
+      graph = t.graph.now;
+      es_module_info = t.es_module_info.now;
+      public_ranges = t.public_ranges.now;
+      first_alone = t.should_error_on_first_diagnostic;
+      diagnostics = told_so_far t.diagnostics;
+    } };
 }
 
 impl<'a> FastCheckTransformer<'a> {
@@ -29,25 +45,24 @@ impl<'a> FastCheckTransformer<'a> {
 
     /// A transformer of a module of this graph, which has told nothing so far. The module has to admit the public ranges. It takes no memory.
     pub fn new(
-        alloc: Global,
         graph: &'a ModuleGraph,
         es_module_info: &'a EsModuleInfo,
         public_ranges: &'a ModulePublicRanges,
         should_error_on_first_diagnostic: bool,
     ) -> Self
         requires admitted { Admits es_module_info.now public_ranges.now }
-        ensures graph { result.graph.now ≡ graph.now }
-        ensures es_module_info { result.es_module_info.now ≡ es_module_info.now }
-        ensures public_ranges { result.public_ranges.now ≡ public_ranges.now }
-        ensures first_alone { result.should_error_on_first_diagnostic ≡ should_error_on_first_diagnostic }
-        ensures diagnostics { result.diagnostics.items ≡ [] }
+        ensures graph { result.graph ≡ graph.now }
+        ensures es_module_info { result.es_module_info ≡ es_module_info.now }
+        ensures public_ranges { result.public_ranges ≡ public_ranges.now }
+        ensures first_alone { result.first_alone ≡ should_error_on_first_diagnostic }
+        ensures diagnostics { result.diagnostics ≡ [] }
     {
         FastCheckTransformer {
             graph,
             es_module_info,
             public_ranges,
             should_error_on_first_diagnostic,
-            diagnostics: Vec::new(alloc),
+            diagnostics: None,
         }
     }
 
@@ -60,17 +75,17 @@ impl<'a> FastCheckTransformer<'a> {
         &mut self,
         alloc: Global,
     ) -> Result<Result<(Tree, Comments), Vec<FastCheckDiagnostic>>, AllocError>
-        ensures ok { IfOk result (λ answer. IsOk answer ↔ (IsTrue self.old.should_error_on_first_diagnostic → own_faults self.old ≡ [])) }
+        ensures ok { IfOk result (λ answer. IsOk answer ↔ (IsTrue self.old.first_alone → own_faults self.old ≡ [])) }
         ensures skeleton { IfOk result (λ answer. IfOk answer (λ made. own_faults self.old ≡ [] → made.0 ≡ own_skeleton self.old)) }
         ensures grammar { IfOk result (λ answer. IfOk answer (λ made. own_faults self.old ≡ [] →
-            IsSkeleton (bindings_of self.old.es_module_info.now) (is_declaration self.old.es_module_info.now.source.media_type) made.0)) }
+            IsSkeleton (bindings_of self.old.es_module_info) (is_declaration self.old.es_module_info.source.media_type) made.0)) }
         ensures comments { IfOk result (λ answer. IfOk answer (λ made. own_faults self.old ≡ [] → made.1 ≡ own_comments self.old)) }
         ensures first_fault { IfOk result (λ answer. IfErr answer (λ diagnostics.
-            AreDiagnosticsOf self.old.es_module_info.now (told true (own_faults self.old)) diagnostics.items)) }
-        ensures diagnostics { IfOk result (λ _. AreDiagnosticsOf self.old.es_module_info.now (kept_faults self.old) self.new.diagnostics.items) }
+            AreDiagnosticsOf self.old.es_module_info (told true (own_faults self.old)) diagnostics.items)) }
+        ensures diagnostics { IfOk result (λ _. AreDiagnosticsOf self.old.es_module_info (kept_faults self.old) self.new.diagnostics) }
         ensures unchanged { self.new ≡ record self.old { diagnostics = self.new.diagnostics } }
     {
-        self.diagnostics.clear();
+        self.diagnostics = None;
         let KeptModule {
             program,
             comments,
@@ -79,14 +94,17 @@ impl<'a> FastCheckTransformer<'a> {
         if self.should_error_on_first_diagnostic && !faults.is_empty() {
             return Ok(Err(tell(alloc, self.es_module_info, faults, true)?));
         }
-        self.diagnostics = tell(alloc, self.es_module_info, faults, false)?;
+        self.diagnostics = Some(tell(alloc, self.es_module_info, faults, false)?);
         Ok(Ok((program, comments)))
     }
 
     /// What is wrong with the module by the last call of `transform`, in reading order.
     pub fn diagnostics(&self) -> &[FastCheckDiagnostic]
-        ensures { result.now ≡ self.now.diagnostics.items }
+        ensures { result.now ≡ self.now.diagnostics }
     {
-        self.diagnostics.as_slice()
+        match &self.diagnostics {
+            Some(diagnostics) => diagnostics.as_slice(),
+            None => &[],
+        }
     }
 }
