@@ -12,62 +12,36 @@ pub use fast_check_tree::comments;
 pub use fast_check_tree::helpers;
 
 /// The graph of modules, the source and the tables of a module, and packages.
-pub mod tables {
-    pub use fast_check_graph::{Module, ModuleGraph, ModuleInfo, RootSymbol};
-    pub use fast_check_modules::{
-        EsModuleInfo, JsonModuleInfo, ModuleTables, ReExportAllNode, ReferenceNamespace, Symbol,
-        SymbolDecl, SymbolDeclKind, SymbolDep, SymbolExports, SymbolId, SymbolNode, SymbolNodeDep,
-        TableFault,
-    };
-    pub use fast_check_packages::{PackageNv, WorkspaceMember};
-    pub use fast_check_parsed_source::{MediaType, ModuleSpecifier, ParsedSource};
-}
+pub use fast_check_tables as tables;
 
-/// What is told of what is wrong.
-pub mod diagnostics {
-    pub use fast_check_modules::diagnostics::{
-        Diagnostic, DiagnosticLevel, DiagnosticLocation, DiagnosticSnippet, FastCheckDiagnostic,
-        FastCheckDiagnosticRange,
-    };
-}
+/// What is public of a module, and what is told of what is wrong.
+pub use fast_check_tables::diagnostics;
 
 /// Sets of demanded names, and the modules that were followed or wait.
-pub mod lattice {
-    pub use fast_check_names::{Exports, FileDepName, ImportedExports, NamedSubset};
-    pub use fast_check_traced_modules::{HandledExports, PendingTrace, PendingTraces};
-}
+pub use fast_check_tables::lattice;
 
 /// What a caller lends, and why a build stops.
-pub mod provider {
-    pub use fast_check_provider::{BuildFault, JsrUrlProvider, ListedPackages};
-}
+pub use fast_check_tables::provider;
+
+/// The skeleton of a module.
+pub use fast_check_transform as transform;
 
 /// What a cache keeps.
-pub mod cache {
-    pub use fast_check_cache::{
-        FastCheckCache, FastCheckCacheItem, FastCheckCacheKey, FastCheckCacheModuleItem,
-        FastCheckCacheModuleItemDiagnostic, FastCheckCacheModuleItemInfo,
-    };
-}
+pub use fast_check_transform::cache;
 
 /// What is public in packages.
 pub mod range_finder {
     pub use fast_check_build::{PublicRangeFinder, find_public_ranges};
     pub use fast_check_cache::PackagePublicRanges;
     pub use fast_check_modules::diagnostics::ModulePublicRanges;
-}
-
-/// The skeleton of a module.
-pub mod transform {
-    pub use fast_check_module_transform::{TransformOptions, transform};
-    pub use fast_check_parsed_source::{FastCheckModule, ModuleInfo, StaticSource};
-    pub use fast_check_transformer::FastCheckTransformer;
+    pub use fast_check_provider::BuildFault;
 }
 
 /// The skeletons of packages, or what is wrong with them.
 pub mod build {
     pub use fast_check_build::build_fast_check_type_graph;
     pub use fast_check_package_answers::ModuleAnswer;
+    pub use fast_check_provider::BuildFault;
 }
 
 /// What is promised beyond the contracts of the calls.

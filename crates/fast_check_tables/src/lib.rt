@@ -1,0 +1,32 @@
+//! What is known of modules and packages beside their syntax trees: the graph, the tables of each module, what a caller lends, and what is told of it. It
+//! offers the crates that hold these, and has no code.
+#![tactic(auto)]
+
+pub use fast_check_graph::{Module, ModuleGraph, ModuleInfo, RootSymbol};
+pub use fast_check_modules::{
+    CheckedTables, EsModuleInfo, FileDepName, JsonModuleInfo, ModuleTables, ReExportAllNode,
+    ReferenceNamespace, Symbol, SymbolDecl, SymbolDeclKind, SymbolDep, SymbolExports, SymbolId,
+    SymbolNode, SymbolNodeDep, TableFault,
+};
+pub use fast_check_packages::{PackageNv, WorkspaceMember};
+pub use fast_check_parsed_source::{MediaType, ModuleSpecifier, ParsedSource};
+pub use fast_check_provider::JsrUrlProvider;
+
+/// What is public of a module, and what is told of what is wrong.
+pub mod diagnostics {
+    pub use fast_check_modules::diagnostics::{
+        Diagnostic, DiagnosticLevel, DiagnosticLocation, DiagnosticSnippet, FastCheckDiagnostic,
+        FastCheckDiagnosticRange, ModulePublicRanges,
+    };
+}
+
+/// Sets of demanded names, and the modules that were followed or wait.
+pub mod lattice {
+    pub use fast_check_names::{Exports, FileDepName, ImportedExports, NamedSubset};
+    pub use fast_check_traced_modules::{HandledExports, PendingTrace, PendingTraces};
+}
+
+/// What a caller lends, and why a build stops.
+pub mod provider {
+    pub use fast_check_provider::{BuildFault, JsrUrlProvider, ListedPackages};
+}

@@ -1,0 +1,14 @@
+//! The skeleton of a module, and what a cache keeps of it. It offers the crates that hold these, and has no code.
+#![tactic(auto)]
+
+pub use fast_check_module_transform::{TransformOptions, transform};
+pub use fast_check_parsed_source::{FastCheckModule, ModuleInfo, StaticSource};
+pub use fast_check_transformer::FastCheckTransformer;
+
+/// What a cache keeps.
+pub mod cache {
+    pub use fast_check_cache::{
+        FastCheckCache, FastCheckCacheItem, FastCheckCacheKey, FastCheckCacheModuleItem,
+        FastCheckCacheModuleItemDiagnostic, FastCheckCacheModuleItemInfo,
+    };
+}
