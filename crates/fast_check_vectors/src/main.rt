@@ -6,22 +6,27 @@
 mod streams;
 
 use crate::streams::{Input, Output};
+use anyhow::Result;
 use fast_check_build_program::run as run_build;
+use fast_check_example::run_example;
+use fast_check_finder_cases::{run_finder_cases, run_transformer_cases};
+use fast_check_name_cases::run_name_cases;
 use fast_check_program::{Ending, run};
+use fast_check_table_cases::{run_diagnostic_cases, run_table_cases};
 use std::alloc::{AllocError, Global};
 use std::fs::File;
 use std::io::Write;
 use std::{fs, io};
 
-fn main(rt: HostRuntime) -> io::Result<()> {
-    let cases = fs::read_to_string(&rt, "cases")?;
+fn run_vectors(rt: &HostRuntime) -> io::Result<()> {
+    let cases = fs::read_to_string(rt, "cases")?;
     let mut out = rt.stdout();
     for line in cases.as_str().lines() {
         if line.starts_with('#') {
             println!(rt; "{line}")?;
         } else {
             println!(rt; "$ fast-check {line}")?;
-            let ending = run_line(&rt, line, &mut out)?;
+            let ending = run_line(rt, line, &mut out)?;
             let status = ending.status;
             println!(rt; "status {status}")?;
             if !ending.is_told {
@@ -30,6 +35,22 @@ fn main(rt: HostRuntime) -> io::Result<()> {
         }
     }
     Ok(())
+}
+
+/// Runs the vectors, and then the drivers of single calls.
+fn run_all(rt: &HostRuntime) -> Result<()> {
+    run_vectors(rt)?;
+    run_example(rt)?;
+    run_name_cases(rt)?;
+    run_table_cases(rt)?;
+    run_diagnostic_cases(rt)?;
+    run_finder_cases(rt)?;
+    run_transformer_cases(rt)?;
+    Ok(())
+}
+
+fn main(rt: HostRuntime) -> Result<()> {
+    run_all(&rt)
 }
 
 /// Runs the program with the words of a line. Both its outputs go to `out`.

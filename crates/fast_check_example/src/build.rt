@@ -2,17 +2,15 @@
 //! `export let hello;`, which shows no type.
 //!
 //! `fast_check_hello` makes the module. docs/LIBRARY.md goes through both.
-#![tactic(auto)]
-
 mod answers;
 
-use crate::answers::print_answer;
+use crate::build::answers::print_answer;
+use crate::hello::{Line, hello_alone, hello_world, root_symbol};
 use anyhow::Result;
 use fast_check::build::{ModuleAnswer, build_fast_check_type_graph};
 use fast_check::provider::ListedPackages;
 use fast_check::tables::{MediaType, Module, ModuleGraph, PackageNv, RootSymbol};
 use fast_check::transform::TransformOptions;
-use fast_check_hello::{Line, hello_alone, hello_world, root_symbol};
 use indexmap::IndexMap;
 use semver::Version;
 use std::alloc::{AllocError, Global};
@@ -123,7 +121,7 @@ fn run(rt: &HostRuntime, line: Line) -> Result<()> {
     Ok(())
 }
 
-fn main(rt: HostRuntime) -> Result<()> {
-    run(&rt, hello_world())?;
-    run(&rt, hello_alone())
+pub fn run_example(rt: &HostRuntime) -> Result<()> {
+    run(rt, hello_world())?;
+    run(rt, hello_alone())
 }

@@ -1,10 +1,8 @@
 //! Transforms the module of each file that `cases` names by one transformer, twice, first without the option that answers the first fault alone, and then
 //! with it. Prints what each call answers, and which diagnostics are kept then, each by its code and the place where it begins.
-#![tactic(auto)]
-
 mod calls;
 
-use crate::calls::tell_calls;
+use crate::transformers::calls::tell_calls;
 use fast_check_requests::{Refusal, read_request};
 use fast_check_said::Said;
 use std::alloc::Global;
@@ -28,10 +26,10 @@ fn run_file(rt: &HostRuntime, name: &str) -> io::Result<()> {
     }
 }
 
-fn main(rt: HostRuntime) -> io::Result<()> {
-    let cases = fs::read_to_string(&rt, "cases")?;
+pub fn run_transformer_cases(rt: &HostRuntime) -> io::Result<()> {
+    let cases = fs::read_to_string(rt, "transformers")?;
     for name in cases.as_str().lines() {
-        run_file(&rt, name)?;
+        run_file(rt, name)?;
     }
     Ok(())
 }

@@ -1,6 +1,4 @@
 //! What is found of packages, as text.
-#![tactic(auto)]
-
 mod packages;
 
-pub use packages::tell_packages;
+pub use crate::said_packages::packages::tell_packages;

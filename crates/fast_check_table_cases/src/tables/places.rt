@@ -1,6 +1,6 @@
 //! Calls on the places of diagnostics: when two are one.
 
-use crate::Call;
+use crate::tables::Call;
 use anyhow::Result;
 use fast_check_diagnostics::FastCheckDiagnosticRange;
 use fast_check_said::Said;

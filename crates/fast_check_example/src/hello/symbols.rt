@@ -1,6 +1,6 @@
 //! The symbols of the module, as their analysis gives them: the module itself, and `hello`, which it declares and exports.
 
-use crate::source::MODULE;
+use crate::hello::source::MODULE;
 use fast_check::tables::{
     ModuleTables, Symbol, SymbolDecl, SymbolDeclKind, SymbolExports, SymbolId, SymbolNode,
 };

@@ -1,8 +1,6 @@
 //! Makes the diagnostics of the file `cases`, and prints all that is told of each.
 //!
 //! A line has fields, which are parted by `|`: what its kind holds, the kind, the module, and what the diagnostic holds.
-#![tactic(auto)]
-
 mod made;
 mod told;
 
@@ -28,10 +26,10 @@ fn run_line(rt: &HostRuntime, line: &str) -> Result<()> {
     print_told(rt, &diagnostic)
 }
 
-fn main(rt: HostRuntime) -> Result<()> {
-    let cases = fs::read_to_string(&rt, "cases")?;
+pub fn run_diagnostic_cases(rt: &HostRuntime) -> Result<()> {
+    let cases = fs::read_to_string(rt, "diagnostics")?;
     for line in cases.as_str().lines() {
-        run_line(&rt, line)?;
+        run_line(rt, line)?;
     }
     Ok(())
 }

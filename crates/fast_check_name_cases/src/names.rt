@@ -2,8 +2,6 @@
 //!
 //! A line is a call: its name, and its words. A set is written by its paths, as `fast_check_said_names` reads it. What is demanded of a module is a set,
 //! `*` for all names but `default`, or `**` for all names.
-#![tactic(auto)]
-
 mod demands;
 mod grown;
 mod packages;
@@ -92,8 +90,8 @@ fn run(rt: &HostRuntime, case: &mut Case, cases: &str) -> io::Result<()> {
     Ok(())
 }
 
-fn main(rt: HostRuntime) -> io::Result<()> {
-    let cases = fs::read_to_string(&rt, "cases")?;
+pub fn run_name_cases(rt: &HostRuntime) -> io::Result<()> {
+    let cases = fs::read_to_string(rt, "names")?;
     let mut case = start(rt.alloc());
-    run(&rt, &mut case, cases.as_str())
+    run(rt, &mut case, cases.as_str())
 }

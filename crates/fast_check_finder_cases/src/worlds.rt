@@ -1,11 +1,10 @@
 //! Follows the packages of each world of the file `worlds`, and prints what is found of each package.
 //!
 //! A world is a line of JSON: the input of `build`, with the two members `name` and `ranges`. The ranges are asked for in each module.
-#![tactic(auto)]
-
 mod world;
 
-use crate::world::{World, world_of};
+use crate::said_packages::tell_packages;
+use crate::worlds::world::{World, world_of};
 use fast_check_build::find_public_ranges;
 use fast_check_build_requests::{BuildRequest, read_build_request};
 use fast_check_modules::TableFault;
@@ -14,7 +13,6 @@ use fast_check_provider::BuildFault;
 use fast_check_read::{ReadError, read_text};
 use fast_check_read_tables::read_list;
 use fast_check_said::Said;
-use fast_check_said_packages::tell_packages;
 use fast_check_syntax::SourceRange;
 use serde_json::Value;
 use std::alloc::Global;
@@ -101,10 +99,10 @@ fn run_line(rt: &HostRuntime, line: &str) -> io::Result<()> {
     println!(rt; "{}", said.text().unwrap_or("out of memory"))
 }
 
-fn main(rt: HostRuntime) -> io::Result<()> {
-    let worlds = fs::read_to_string(&rt, "worlds")?;
+pub fn run_finder_cases(rt: &HostRuntime) -> io::Result<()> {
+    let worlds = fs::read_to_string(rt, "worlds")?;
     for line in worlds.as_str().lines() {
-        run_line(&rt, line)?;
+        run_line(rt, line)?;
     }
     Ok(())
 }

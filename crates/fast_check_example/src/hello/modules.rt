@@ -1,7 +1,7 @@
 //! The module under its name.
 
-use crate::source::{Line, parsed_source};
-use crate::symbols::module_tables;
+use crate::hello::source::{Line, parsed_source};
+use crate::hello::symbols::module_tables;
 use anyhow::Result;
 use fast_check::tables::{EsModuleInfo, ModuleInfo, RootSymbol};
 use std::alloc::{AllocError, Global};

@@ -1,6 +1,6 @@
 //! Calls on the comments of a module. A comment is written with its opening sign alone, as `// note` or `/** text `.
 
-use crate::Call;
+use crate::tables::Call;
 use fast_check_comments::{Comment, CommentKind, CommentList, CommentMap, Comments, CommentsMut};
 use fast_check_said::Said;
 use fast_check_syntax::{Atom, DUMMY_SP, SourcePos};
