@@ -314,6 +314,12 @@ def faults_of_tables():
     data = World({"p": ["./mod.ts"]}, Module("p/mod.ts", let("x", value=ONE)), JsonModule("p/d.json")).request()
     data["modules"][1][0] = HOST + "p/e.json"
     yield Refused("build_a_json_module_under_another_name", data, "table-fault 3")
+    for case, change, word in [("build_a_symbol_without_declaration_of_a_json_module", {"symbols": [{"id": 0}, {"id": 1}]}, "table-fault 2"),
+                               ("build_a_private_symbol_of_a_json_module", {"symbols": [{"id": 0, "is_private_member": True}]}, "table-fault 2"),
+                               ("build_an_identifier_without_symbol_of_a_json_module", {"swc_ids": [[["a", 1], 7]]}, "table-fault 1")]:
+        data = World({"p": ["./d.json"]}, JsonModule("p/d.json")).request()
+        data["modules"][0][1]["Json"].update(change)
+        yield Refused(case, data, word)
     replaced = [Module("p/other.ts", let("y")), *single().modules]
     world = World({"p": ["./mod.ts"]}, *replaced)
     world.parts["modules"][0][0] = HOST + "p/mod.ts"
@@ -333,6 +339,7 @@ def forms():
     yield Refused("build_no_text", b"\xff", "not-json")
     yield Refused("build_a_list", [])
     yield Refused("build_without_provider", without("provider"))
+    yield Refused("build_a_provider_that_is_null", plain(provider=None))
     yield Refused("build_without_fallback", plain(provider={"packages": []}))
     yield Refused("build_a_fallback_of_no_url", plain(provider={"fallback": "p/"}))
     for case, pending in [("build_a_version_of_two_numbers", ["@p/p@1.0"]), ("build_a_version_that_is_a_range", ["@p/p@^1.0.0"]),
@@ -346,6 +353,10 @@ def forms():
     yield Refused("build_first_is_no_flag", plain(first=1))
     yield Refused("build_modules_that_are_null", plain(modules=None))
     yield Refused("build_a_module_of_no_kind", plain(modules=[[HOST + "p/mod.ts", {"Wasm": {}}]]))
+    two = {"Esm": plain()["modules"][0][1]["Esm"], "Json": {"specifier": HOST + "p/mod.ts"}}
+    yield Refused("build_a_module_of_two_kinds", plain(modules=[[HOST + "p/mod.ts", two]]))
+    yield Refused("build_a_module_without_source", plain(modules=[[HOST + "p/mod.ts", {"Esm": {"specifier": HOST + "p/mod.ts"}}]]))
+    yield Refused("build_a_member_without_base", plain(workspace_members=[{"name": "@w/a"}]))
     yield Refused("build_a_module_under_no_url", plain(modules=[["p/mod.ts", plain()["modules"][0][1]]]))
     yield Refused("build_a_json_module_without_specifier", plain(modules=[[HOST + "p/d.json", {"Json": {}}]]))
     yield Refused("build_a_tree_of_another_form", with_tables({"source": {}}))

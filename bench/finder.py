@@ -1,9 +1,9 @@
 #!/usr/bin/env python3
 """Times the finder on packages, modules and symbols of growing number.
 
-Each shape is one world for the driver of fast_check_finder_cases, which reads it, follows the packages and prints what is found.
+Each shape is one world for the part `worlds` of fast_check_vectors, which reads it, follows the packages and prints what is found.
 Printed are the processor seconds of the whole run, those of the same run with nothing handed in, which is reading alone, their
-difference for each thousand symbols, and the peak memory. The driver has to be built: run `rt run` in its crate once.
+difference for each thousand symbols, and the peak memory. The program has to be built: run `rt run` in its crate once.
 
     packages   packages in a circle, each with modules in a ring of re-exports and with files and re-exports of other packages
     ring       one package whose modules are a ring of re-exports, which a name goes round
@@ -22,7 +22,7 @@ sys.dont_write_bytecode = True
 from package_worlds import request_of
 
 TOP = os.path.dirname(os.path.dirname(os.path.abspath(__file__)))
-PROGRAM = os.path.join(TOP, 'crates/fast_check_finder_cases/out/fast_check_finder_cases')
+PROGRAM = os.path.join(TOP, 'crates/fast_check_vectors/out/fast_check_vectors')
 HOST = 'https://host.example/'
 SIZES = [('packages', 10, 10, 100), ('packages', 100, 10, 100), ('packages', 1000, 10, 10), ('packages', 1000, 10, 100), ('packages', 10, 100, 100),
          ('ring', 1, 100, 100), ('ring', 1, 1000, 100), ('ring', 1, 10000, 10), ('chain', 1, 1000, 100), ('chain', 1, 10000, 10),
@@ -115,7 +115,7 @@ def spent(program, made):
         if pid == 0:
             os.chdir(folder)
             os.dup2(os.open(out, os.O_WRONLY | os.O_CREAT), 1)
-            os.execv(program, [program])
+            os.execv(program, [program, 'worlds'])
         _, status, usage = os.wait4(pid, 0)
         if status != 0:
             sys.exit('status %d' % status)

@@ -1,17 +1,18 @@
-#!/usr/bin/env python3
-"""Writes the cases of `crates/fast_check_form_cases` (`data/cases`), and what it must print (`stdout`).
+"""The lines of `fast_check_form_cases`, and what each must print: forms that are read and printed, or made, and how bodies return.
 
 The forms, choices and words are those of the tables of docs/FORMATS.md, and the values and answers are laid out by this
 script alone: the program's own output is nowhere taken for right.
-
-Usage: bench/forms.py
 """
 import json
 import os
 import re
 
+from trees import (
+    Source, block, class_, declarator, fn_stmt, form, free, function, ident, lay_as, lit, name as named, paren, returned, run, stmt, thrown, unshared,
+    var_stmt,
+)
+
 TOP = os.path.dirname(os.path.dirname(os.path.abspath(__file__)))
-CRATE = os.path.join(TOP, "crates/fast_check_form_cases")
 LEVELS = 24
 
 
@@ -140,29 +141,74 @@ def variants_come_back():
             same(choice, {name: one(content, "defaults", LEVELS)})
 
 
-def choices_are_told_apart():
-    remark("each node is the variant that it stands under")
-    for choice, variants in CHOICES.items():
-        for name, content in variants:
-            case(f"which {choice} {choice} {text_of({name: one(content, 'defaults', LEVELS)})}", name)
-    remark("a form of another chapter is none of a choice")
-    for choice in CHOICES:
-        other = "Constructor" if choice != "ClassMember" and choice != "ParamOrTsParamProp" else "Tpl"
-        case(f"which {choice} {other} {text_of(sample(other, 'least'))}", "Other")
+# ---- what no transform makes
+
+SPAN, VOID = [1, 3], {"TsKeywordType": {"span": [0, 0], "kind": "TsVoidKeyword"}}
+MADE = {
+    "Bool": {"span": SPAN, "value": True}, "Number": {"span": SPAN, "raw": "text"}, "BigInt": {"span": SPAN, "raw": "text"},
+    "Regex": {"span": SPAN, "exp": "text", "flags": "text"},
+    "TsInterfaceDecl": {"span": SPAN, "id": None, "declare": True, "type_params": None, "extends": None, "body": None},
+    "TsTypeAssertion": {"span": SPAN, "expr": None, "type_ann": VOID}, "TsSatisfiesExpr": {"span": SPAN, "expr": None, "type_ann": VOID},
+    "ts_readonly": {"span": [0, 0], "op": "ReadOnly", "type_ann": VOID}, "ts_tuple_element": {"span": [0, 0], "label": None, "ty": VOID},
+}
 
 
-def main():
+def forms_are_made():
+    remark("forms and types that no transform makes")
+    for name, made in MADE.items():
+        case(f"make {name}", text_of(made))
+
+
+# ---- how bodies return
+
+
+def returns(title, answer, *stmts):
+    source, body = Source(), unshared(block(*stmts))
+    lay_as(source, "block", body)
+    remark(f"{title}: {source.text}")
+    case(f"returns {text_of(body)}", answer)
+
+
+def bodies():
+    a, one, bare, empty = free("a"), returned(lit("1")), returned(), stmt("Empty")
+    scope = lambda *stmts: stmt("Block", ctxt=0, stmts=list(stmts))
+    returns("an empty body", "void")
+    returns("a body that throws", "none", thrown(a))
+    returns("a return in the other branch", "single", stmt("If", test=a, cons=scope(), alt=scope(one)))
+    returns("two returns of nothing", "void", bare, bare)
+    returns("the last return has a value", "single", bare, one)
+    returns("the first return has a value", "multiple", one, bare)
+    caught = lambda handler: None if handler is None else form(param=None, body=block(*handler))
+    tried = lambda first, handler, last: stmt("Try", block=block(*first), handler=caught(handler), finalizer=None if last is None else block(*last))
+    each = {"Pat": named("x")}
+    inside = scope(one)
+    for title, holder in [
+            ("a block", inside), ("with", stmt("With", obj=a, body=inside)), ("a label", stmt("Labeled", label=ident("l"), body=inside)),
+            ("the first branch", stmt("If", test=a, cons=inside, alt=None)), ("the other branch", stmt("If", test=a, cons=empty, alt=inside)),
+            ("a case of a switch", stmt("Switch", discriminant=a, cases=[form(test=a, cons=[inside])])),
+            ("try", tried([one], [], None)), ("catch", tried([], [one], None)),
+            ("finally", tried([], None, [one])), ("while", stmt("While", test=a, body=inside)), ("do", stmt("DoWhile", test=a, body=inside)),
+            ("for", stmt("For", init=None, test=None, update=None, body=inside)), ("for in", stmt("ForIn", left=each, right=a, body=inside)),
+            ("for of", stmt("ForOf", is_await=False, left=each, right=a, body=inside))]:
+        returns(f"a return in {title}", "single", holder)
+    inner = function([], one)
+    for title, other in [
+            ("an empty statement", empty), ("debugger", stmt("Debugger")), ("break", stmt("Break", label=None)), ("continue", stmt("Continue", label=None)),
+            ("a thrown function", thrown(inner)), ("a function expression", run(paren(inner))), ("a function declaration", fn_stmt("g", [], one)),
+            ("a variable", var_stmt("Const", declarator("x", inner))),
+            ("a class", {"Decl": {"Class": {"ident": ident("C"), "declare": False, "class": class_(inner)}}})]:
+        returns(f"no return in {title}", "none", other)
+
+
+def part():
+    """All lines, and what they must print."""
     forms_come_back()
     variants_come_back()
-    choices_are_told_apart()
-    for block in open(os.path.join(TOP, "bench/form_cases.txt"), encoding="utf-8").read().split("\n\n"):
-        lines = block.strip("\n").split("\n")
+    for group in open(os.path.join(TOP, "bench/form_cases.txt"), encoding="utf-8").read().split("\n\n"):
+        lines = group.strip("\n").split("\n")
         remark(lines[0].removeprefix("# "))
         for words, answer in zip(lines[1::2], lines[2::2]):
             case(words, words.split(" ", 2)[2] if answer == "= itself" else answer.removeprefix("= "))
-    for path, lines in (("data/cases", LINES), ("stdout", ANSWERS)):
-        with open(os.path.join(CRATE, path), "w", encoding="utf-8") as file:
-            file.write("\n".join(lines) + "\n")
-
-
-main()
+    forms_are_made()
+    bodies()
+    return "".join(line + "\n" for line in LINES), "".join(line + "\n" for line in ANSWERS)

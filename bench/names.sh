@@ -2,11 +2,10 @@
 # Grows two sets of names to 25,000, 50,000 and 100,000 names and extends one by the other.
 # For each size: the time to grow both, the time with `extend`, and the most memory that the run held.
 set -eu
-cd "$(dirname "$0")/../crates/fast_check_name_cases"
-# This builds the program. Run here, it ends at once, for want of a file of cases.
-rt run >/dev/null 2>&1 || true
-[ -x out/fast_check_name_cases ] || { echo "fast_check_name_cases is not built: 'rt run' in its folder says why" >&2; exit 1; }
-python3 - "$PWD/out/fast_check_name_cases" <<'PY'
+program=$(mktemp)
+trap 'rm -f "$program"' EXIT
+"$(dirname "$0")/driver.sh" names "$program"
+python3 - "$program" <<'PY'
 import os, sys, tempfile, time
 
 def run(program, command, count):

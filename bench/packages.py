@@ -5,10 +5,11 @@ The rules stand in package_rules.py, in words of docs/RULES.md and by nothing of
 an account of demands gives. Compared is exactly that: whether the program's answer is what some account gives, no more and no
 less, where who asked first may decide between accounts. For most worlds there is one answer, that of all demands; they are counted.
 
-usage: bench/packages.py write                  the worlds and the wanted output of crates/fast_check_finder_cases
-       bench/packages.py random COUNT SEED      random worlds, as the driver reads them
+The stated worlds are those of package_cases.py, reference_cases.py and search_cases.py; `bench/vectors.py` writes them with what must come.
+
+usage: bench/packages.py random COUNT SEED      random worlds, as the driver reads them
        bench/packages.py compare WORLDS PRINTED   what the driver printed for these worlds, compared
-       bench/packages.py run COUNT SEED [PROGRAM]   random worlds, run and compared; else by the driver that was built
+       bench/packages.py run COUNT SEED [PROGRAM]   random worlds, run and compared; else by fast_check_vectors, which was built
 """
 import json
 import os
@@ -25,13 +26,14 @@ from package_worlds import request_of, with_ranges, world_of
 from random_packages import random_world
 
 TOP = os.path.dirname(os.path.dirname(os.path.abspath(__file__)))
-CRATE = os.path.join(TOP, 'crates/fast_check_finder_cases')
+PROGRAM = os.path.join(TOP, 'crates/fast_check_vectors/out/fast_check_vectors')
 
 
 def shown_ranges(name, ranges):
     return ' '.join(['    ' + name] + ['%d-%d' % range for range in sorted(ranges)])
 
 
+REFERENCE = 'Some("this is the reference")'
 KINDS = ['unsupported-private-member-reference', 'not-found-reference', 'unsupported-complex-reference']
 
 
@@ -41,9 +43,19 @@ def order_of_fault(fault):
     return ([*map(int, place.split()[0].split('-')), KINDS.index(code)] if place else []), message
 
 
+def told(url, place):
+    """What is told of a diagnostic beside its kind and its place: where a reader is led, and what is shown of the text."""
+    if not place:
+        return ['      location: ' + url, '      snippet: none', '      description: None, mended: false']
+    span, _, size, _ = place.split()
+    start, end = span.split('-')
+    return ['      location: %s of %s, which has %s bytes' % (start, url, size),
+            '      snippet: %s to %s of %s bytes: %s' % (start, end, size, REFERENCE), '      description: %s, mended: false' % REFERENCE]
+
+
 def shown_fault(url, fault):
     place, code, message = fault
-    return '    %s at %s%s: %s' % (code, url, ' ' + place if place else '', message)
+    return ['    %s at %s%s' % (code, url, ' ' + place if place else ''), *told(url, place), '      prints as: ' + message]
 
 
 def shown(name, yields, packages):
@@ -62,7 +74,7 @@ def shown(name, yields, packages):
             lines.append(shown_ranges('ranges', [it[2] for it in of if it[:2] == ('range', url)]))
             lines.append(shown_ranges('implementations', [it[2] for it in of if it[:2] == ('implementation', url)]))
             faults = [it[2:] for it in of if it[:2] == ('fault', url)]
-            lines += [shown_fault(url, fault) for fault in sorted(faults, key=order_of_fault)]
+            lines += [line for fault in sorted(faults, key=order_of_fault) for line in shown_fault(url, fault)]
     return lines
 
 
@@ -71,18 +83,22 @@ def read_range(word):
     return int(start), int(end)
 
 
-def read_fault(nv, line):
-    code, rest = line.strip().split(' at ', 1)
-    where, message = rest.split(': ', 1)
+def read_fault(nv, lines):
+    """A fault of its first line and the four behind it."""
+    code, where = lines[0].strip().split(' at ', 1)
     url, _, place = where.partition(' ')
-    return 'fault', nv, url, place, code, message
+    if lines[1:4] != told(url, place) or not lines[4].startswith('      prints as: '):
+        raise ValueError(lines)
+    return 'fault', nv, url, place, code, lines[4].removeprefix('      prints as: ')
 
 
 def read_shown(lines):
     """What is found by what the driver printed, and the packages in their order."""
     found, packages, nv, url = [], [], None, None
-    for line in lines:
+    for at, line in enumerate(lines):
         words = line.split()
+        if line.startswith('      '):
+            continue
         if line.startswith('  invalid export '):
             found.append(('refused', words[4], words[2]))
         elif line.startswith('package '):
@@ -98,7 +114,7 @@ def read_shown(lines):
         elif words[0] in ('ranges', 'implementations'):
             found += [(words[0][:-1], nv, url, read_range(word)) for word in words[1:]]
         elif line.startswith('    ') and ' at ' in line:
-            found.append(read_fault(nv, line))
+            found.append(read_fault(nv, lines[at:at + 5]))
         else:
             raise ValueError(line)
     return found, packages
@@ -148,29 +164,10 @@ def run(worlds, program):
     with tempfile.TemporaryDirectory() as folder:
         with open(os.path.join(folder, 'worlds'), 'w') as file:
             file.writelines(json.dumps(request_of(world)) + '\n' for world in worlds)
-        return subprocess.run([program], cwd=folder, stdout=subprocess.PIPE, check=True).stdout.decode()
-
-
-def write():
-    import package_cases
-    import reference_cases  # which adds to the same list
-    worlds = package_cases.CASES
-    lines = [line for world in worlds for line in (answered(world) if 'answer' not in world else world['answer'])]
-    for world, text in ((world, world.pop('answer', None)) for world in worlds):
-        said = text and judged(world, text)[0]
-        if said:
-            sys.exit('%s: the stated answer is that of no account: %s' % (world['name'], said))
-    os.makedirs(os.path.join(CRATE, 'data'), exist_ok=True)
-    with open(os.path.join(CRATE, 'data/worlds'), 'w') as file:
-        file.writelines(json.dumps(request_of(world)) + '\n' for world in worlds)
-    with open(os.path.join(CRATE, 'stdout'), 'w') as file:
-        file.writelines(line + '\n' for line in lines)
-    print('%d worlds' % len(worlds))
+        return subprocess.run([program, 'worlds'], cwd=folder, stdout=subprocess.PIPE, check=True).stdout.decode()
 
 
 def main(words):
-    if words == ['write']:
-        return write()
     if words[:1] == ['random'] and len(words) == 3:
         for world in random_worlds(int(words[1]), int(words[2])):
             print(json.dumps(request_of(world)))
@@ -178,7 +175,7 @@ def main(words):
     if words[:1] == ['compare'] and len(words) == 3:
         return compare([world_of(json.loads(line)) for line in open(words[1])], open(words[2]).read())
     if words[:1] == ['run'] and len(words) in (3, 4):
-        program = os.path.abspath(words[3]) if len(words) == 4 else os.path.join(CRATE, 'out/fast_check_finder_cases')
+        program = os.path.abspath(words[3]) if len(words) == 4 else PROGRAM
         worlds = random_worlds(int(words[1]), int(words[2]))
         return compare(worlds, run(worlds, program))
     sys.exit(__doc__)

@@ -3,11 +3,11 @@
 
 Each has packages of some modules, which import and export names of each other, of modules that are lacking, of JSON and of JavaScript, with public
 variables, functions, classes and interfaces, and with faults. What the program answers has to be what the rules give, byte for byte: by all demands that
-follow, or where who asks first decides what is found, by what the driver of fast_check_finder_cases finds, if that is what some account of demands gives
+follow, or where who asks first decides what is found, by what the part `worlds` of fast_check_vectors finds, if that is what some account of demands gives
 (`packages`). A workspace that differs from both is written to a file.
 
 Usage: bench/random_builds.py [COUNT [SEED [PROGRAM [FINDER]]]]     both have to be built first: ./fast-check build examples/build_hello.json, and
-                                                                    `rt run` in crates/fast_check_finder_cases
+                                                                    `rt run` in crates/fast_check_vectors
        bench/random_builds.py write FOLDER COUNT SEED       workspaces NAME.json and what must come, NAME.json.stdout
 """
 import json
@@ -184,7 +184,7 @@ def main(words):
     count, seed = int((words + ["1000"])[0]), int((words + ["1", "1"])[1])
     out = lambda crate: os.path.join(TOP, "crates", crate, "out", crate)
     program, finder = (words + ["", "", "", ""])[2:4]
-    program, finder = os.path.abspath(program or out("fast_check_build_cli")), os.path.abspath(finder or out("fast_check_finder_cases"))
+    program, finder = os.path.abspath(program or out("fast_check_build_cli")), os.path.abspath(finder or out("fast_check_vectors"))
     differ, by_others, statuses = 0, 0, {0: 0, 1: 0, 2: 0}
     for number in range(seed, seed + count):
         world = Writer(number).world()

@@ -1,8 +1,8 @@
 #!/usr/bin/env python3
-"""Writes the vectors of `crates/fast_check_vectors`: its inputs (`data/`), and what it must print (`stdout`).
+"""Writes what `crates/fast_check_vectors` reads (`data/`), and what it must print (`stdout`): runs of the program, and single calls (`single_calls`).
 
-Each case stands here as TypeScript with what is public of it and what has to come out. The trees of the sources and of
-the skeletons are laid out by the rules of this script and its modules alone (`trees`, `skeletons`, `function_cases`, `new_cases`,
+Each run stands here as TypeScript with what is public of it and what has to come out. The trees of the sources and of
+the skeletons are laid out by the rules of this script and its modules alone (`trees`, `skeletons`, `function_cases`, `new_cases`, `value_cases`,
 `class_cases`, `module_cases`, `namespace_cases`, `build_cases`, `build_demand_cases`): the program's own output is nowhere taken for right.
 
 Usage: bench/vectors.py
@@ -22,6 +22,8 @@ import module_cases
 import expando_cases
 import namespace_cases
 import new_cases
+import single_calls
+import value_cases
 from module_skeletons import sources_of
 from ranges import class_of, public_ranges, ranges_of_members, ranges_within
 from skeletons import Skeleton, diagnostic
@@ -181,6 +183,8 @@ with open(os.path.join(TOP, "crates/fast_check_diagnostics/specs/Diagnostic.antt
 # ---- the bench
 
 CASES, STDOUT = [], []
+# for each request of a transform the answer with all its faults, and the source text
+RUNS = {}
 
 
 def line(value):
@@ -208,6 +212,7 @@ def put(name, content):
 def transforms(name, module, first=False, **more):
     put(f"{name}.json", module.request(first=first, **more))
     answer = module.answer(first)
+    RUNS[name] = module.answer(), module.source.text
     case(f"transform {name}.json", 1 if "Err" in answer else 0, line(answer))
 
 
@@ -218,6 +223,8 @@ def refused(name, content, word="bad-form"):
 
 def answered(name, content, answer):
     put(f"{name}.json", content)
+    if isinstance(content, dict) and not content.get("first"):
+        RUNS[name] = answer, content["module"]["source"]["text"]
     case(f"transform {name}.json", 1 if "Err" in answer else 0, line(answer))
 
 
@@ -455,6 +462,11 @@ def comments():
     answered("kept_comments", commented, answer)
     gone = {"Ok": module_answer(program(items[:1] + items[2:], ""))}
     gone["Ok"]["comments"] = {"leading": [], "trailing": at((200, [doc]))}
+    twice = request("", items, ranges)
+    twice["module"]["source"]["comments"] = {"leading": at((110, [doc]), (103, [doc]), (110, [ts, doc])), "trailing": []}
+    last = {"Ok": module_answer(program(items, ""))}
+    last["Ok"]["comments"] = {"leading": at((103, [doc]), (110, [ts, doc])), "trailing": []}
+    answered("the_last_comments_of_a_position_count", twice, last)
     answered("comments_before_what_goes", dict(commented, ranges=[ranges[0], ranges[2]]), gone)
 
 
@@ -517,6 +529,8 @@ def refusals():
     refused("negative", changed(FIRST_VAR + ("span",), [-1, 2]))
     refused("too_large_a_position", changed(FIRST_VAR + ("span",), [1, 4294967296]))
     refused("too_large_a_scope", changed(FIRST_VAR + ("ctxt",), 4294967296))
+    refused("too_large_a_scope_of_what_is_bound_nowhere", changed(SOURCE + ("unresolved_context",), 4294967296))
+    refused("a_number_among_ranges", changed(("ranges",), [[14, 21], 3]))
     refused("huge", changed(FIRST_VAR + ("ctxt",), 18446744073709551616))
     refused("fraction", changed(FIRST_VAR + ("ctxt",), 1.0))
     refused("a_fraction_anywhere", changed(("more",), [{"deep": 0.5}]))
@@ -536,6 +550,13 @@ def refusals():
     title("comments of another form")
     refused("a_comment_of_no_kind", changed(SOURCE + ("comments", "leading"), [[1, [{"span": [1, 5], "text": " a"}]]]))
     refused("comments_without_position", changed(SOURCE + ("comments", "leading"), [[{"kind": "Line", "text": " a"}]]))
+    refused("comments_that_are_null", changed(SOURCE + ("comments",), None))
+    refused("comments_that_are_a_list", changed(SOURCE + ("comments",), []))
+    refused("leading_comments_that_are_null", changed(SOURCE + ("comments", "leading"), None))
+    refused("a_position_without_comments", changed(SOURCE + ("comments", "leading"), [[1]]))
+    for name, comment in [("a_comment_without_text", {"kind": "Line"}), ("a_comment_of_another_kind", {"kind": "Doc", "text": "a"}),
+                          ("a_comment_whose_span_is_null", {"kind": "Line", "span": None, "text": "a"})]:
+        refused(name, changed(SOURCE + ("comments", "leading"), [[1, [comment]]]))
 
 
 def fault_at_nothing(kind):
@@ -619,10 +640,19 @@ def tables():
     refused("a_symbol_of_another_number", with_tables(first_module().request(), symbols=[{"id": 0}], module_symbol=1), "table-fault 1")
     refused("an_export_without_symbol", with_tables(first_module().request(), symbols=[{"id": 0, "exports": [["a", 1]]}]), "table-fault 1")
     refused("an_identifier_without_symbol", with_tables(first_module().request(), swc_ids=[[["x", 2], 1]]), "table-fault 1")
+    declared = {"id": 1, "decls": [definition([14, 21])]}
+    refused("a_parent_without_symbol", with_tables(first_module().request(), symbols=[{"id": 0}, dict(declared, parent_id=3)]), "table-fault 1")
+    refused("a_member_without_symbol", with_tables(first_module().request(), symbols=[{"id": 0, "members": [1, 2]}, declared]), "table-fault 1")
+    refused("an_identifier_without_symbol_that_a_later_one_replaces",
+            with_tables(first_module().request(), symbols=[{"id": 0}, declared], swc_ids=[[["x", 2], 2], [["x", 2], 1]]), "table-fault 1")
+    replaced = with_tables(first_module().request(), symbols=[{"id": 0, "exports": [["x", 2], ["x", 1]]}, declared])
+    answered("an_export_that_a_later_one_of_its_name_replaces", replaced, first_module().answer())
     title("a symbol has to have a declaration, but for the module's; one that is not there goes before")
     undeclared = [{"id": 0}, {"id": 1}]
     refused("a_symbol_without_declaration", with_tables(first_module().request(), symbols=undeclared), "table-fault 2")
     refused("a_private_module_symbol", with_tables(first_module().request(), symbols=[{"id": 0, "is_private_member": True}]), "table-fault 2")
+    refused("a_symbol_without_declaration_that_a_later_one_replaces", with_tables(first_module().request(), symbols=undeclared + [declared]), "table-fault 2")
+    refused("a_missing_member_goes_before", with_tables(first_module().request(), symbols=[{"id": 0, "members": [2]}, {"id": 1}]), "table-fault 1")
     refused("a_missing_symbol_goes_before", with_tables(first_module().request(), symbols=undeclared + [{"id": 2, "parent_id": 3}]), "table-fault 1")
     title("an expando statement of the tables' ranges has to have an object with a symbol; the other faults go before")
     ranged = [{"id": 0}, {"id": 1, "decls": [definition([1, 8])]}]
@@ -652,6 +682,7 @@ def tables():
     refused("a_symbol_without_number", with_tables(first_module().request(), symbols=[{}]))
     refused("an_identifier_of_no_scope", with_tables(first_module().request(), swc_ids=[["x", 0]]))
     refused("an_exported_name_of_no_url", with_tables(first_module().request(), resolved_exports=[["x", "./d.ts"]]))
+    tables_of_another_form()
     refused("first_is_no_flag_beside_a_fault", with_tables(first_module().request(first=1), symbols=[]))
     refused("a_graph_that_is_a_list", first_module().request(graph=[]))
     refused("a_module_of_no_kind", first_module().request(graph={"modules": [[SPECIFIER, {"Js": {}}]]}))
@@ -660,6 +691,26 @@ def tables():
                           ("a_package_of_a_large_version", "a@1.2.18446744073709551616"), ("a_package_with_a_leading_zero", "a@01.2.3"),
                           ("a_package_of_a_range", "a@^1.2.3")):
         refused(name, first_module().request(graph={"packages": [[package, []]]}))
+
+
+def tables_of_another_form():
+    def declared(**kind):
+        return [{"id": 0}, {"id": 1, "decls": [{"range": [14, 21], "kind": kind}]}]
+
+    for name, symbols in [
+            ("an_export_without_number", [{"id": 0, "exports": [["x"]]}]), ("a_parent_that_is_a_text", [{"id": 0, "parent_id": "0"}]),
+            ("a_declaration_without_kind", [{"id": 0, "decls": [{"range": [14, 21]}]}]), ("a_declaration_of_another_kind", declared(Other=None)),
+            ("a_declaration_of_two_kinds", declared(Target=["x", 2], Definition=None)),
+            ("a_reference_in_no_namespace", declared(Definition={"deps": [[{"Id": ["x", 2]}, "Neither"]]})),
+            ("a_definition_that_is_a_list", declared(Definition=[])),
+            ("a_name_of_another_kind", declared(FileRef={"specifier": "./a.ts", "name": "All"}))]:
+        refused(name, with_tables(first_module().request(), symbols=symbols))
+    refused("a_negative_symbol", with_tables(first_module().request(), module_symbol=-1))
+    for name, graph in [
+            ("a_module_of_another_kind", {"modules": [[SPECIFIER, "Other"]]}), ("a_json_module_that_is_null", {"modules": [[SPECIFIER, {"Json": None}]]}),
+            ("a_module_of_no_url", {"modules": [["mod.ts", "Npm"]]}), ("an_export_of_a_package_without_text", {"packages": [["@p/p@1.0.0", [["."]]]]}),
+            ("a_package_of_an_empty_version", {"packages": [["a@", []]]})]:
+        refused(name, first_module().request(graph=graph))
 
 
 # ---- functions and values of all forms: what is stated by hand has to agree with what the rules give
@@ -845,6 +896,7 @@ def main():
     comments()
     groups_of_cases(function_cases.GROUPS)
     groups_of_cases(new_cases.GROUPS)
+    groups_of_cases(value_cases.GROUPS)
     comments_of_functions()
     groups_of_cases(class_cases.GROUPS)
     comments_of_classes()
@@ -858,6 +910,10 @@ def main():
     words()
     streams()
     put("cases", "".join(CASES).encode())
+    for files, printed in single_calls.parts(RUNS):
+        STDOUT.append(printed)
+        for name, content in files.items():
+            put(name, content.encode())
     with open(os.path.join(CRATE, "stdout"), "w") as file:
         file.write("".join(STDOUT))
     print(f"{sum(not text.startswith('#') for text in CASES)} cases")

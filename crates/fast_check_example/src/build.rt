@@ -1,7 +1,7 @@
 //! Builds a package that is made by hand, and prints what it is answered. The package has one module: `export const hello = "world";`, and then
 //! `export let hello;`, which shows no type.
 //!
-//! `fast_check_hello` makes the module. docs/LIBRARY.md goes through both.
+//! The module `hello` makes the module of the package. docs/LIBRARY.md goes through both.
 mod answers;
 
 use crate::build::answers::print_answer;

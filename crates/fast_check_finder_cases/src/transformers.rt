@@ -1,4 +1,4 @@
-//! Transforms the module of each file that `cases` names by one transformer, twice, first without the option that answers the first fault alone, and then
+//! Transforms the module of each file that `transformers` names by one transformer, twice, first without the option that answers the first fault alone, and then
 //! with it. Prints what each call answers, and which diagnostics are kept then, each by its code and the place where it begins.
 mod calls;
 
@@ -26,6 +26,7 @@ fn run_file(rt: &HostRuntime, name: &str) -> io::Result<()> {
     }
 }
 
+/// Runs the files that the file `transformers` names.
 pub fn run_transformer_cases(rt: &HostRuntime) -> io::Result<()> {
     let cases = fs::read_to_string(rt, "transformers")?;
     for name in cases.as_str().lines() {

@@ -5,7 +5,7 @@ mod world;
 
 use crate::said_packages::tell_packages;
 use crate::worlds::world::{World, world_of};
-use fast_check_build::find_public_ranges;
+use fast_check_build::PublicRangeFinder;
 use fast_check_build_requests::{BuildRequest, read_build_request};
 use fast_check_modules::TableFault;
 use fast_check_packages::PackageNv;
@@ -36,15 +36,13 @@ fn tell_found(
     ranges: &[SourceRange],
     said: &mut Said,
 ) {
-    match find_public_ranges(
-        alloc,
-        None,
-        &world.provider,
+    let finder = PublicRangeFinder::new(
         &world.graph,
         &world.root_symbol,
         world.workspace_members.as_slice(),
         pending_nvs,
-    ) {
+    );
+    match finder.find(alloc, None, &world.provider) {
         Ok(found) => tell_packages(alloc, ranges, found, said),
         Err(fault) => tell_fault(alloc, fault, said),
     }
@@ -99,6 +97,7 @@ fn run_line(rt: &HostRuntime, line: &str) -> io::Result<()> {
     println!(rt; "{}", said.text().unwrap_or("out of memory"))
 }
 
+/// Runs the worlds of the file `worlds`.
 pub fn run_finder_cases(rt: &HostRuntime) -> io::Result<()> {
     let worlds = fs::read_to_string(rt, "worlds")?;
     for line in worlds.as_str().lines() {

@@ -1,15 +1,14 @@
-//! Runs the calls of the file `cases` on sets of demanded names, and prints what each answers and leaves.
+//! Runs the calls of the file `names` on sets of demanded names, and prints what each answers and leaves.
 //!
-//! A line is a call: its name, and its words. A set is written by its paths, as `fast_check_said_names` reads it. What is demanded of a module is a set,
-//! `*` for all names but `default`, or `**` for all names.
+//! A line is a call: its name, and its words. A set is written by its paths, as `a b.b1 c.`: the name `a` whole, `b1` whole below `b`, and a subset
+//! without names below `c`. What is demanded of a module is a set, `*` for all names but `default`, or `**` for all names.
 mod demands;
-mod grown;
 mod packages;
-mod pairs;
+mod sets;
 
+use crate::names::sets::{call_below, call_on_set};
 use fast_check_names::{Exports, ImportedExports, NamedSubset};
 use fast_check_said::Said;
-use fast_check_said_names::{call_below, call_on_set};
 use fast_check_traced_modules::{HandledExports, PendingTraces};
 use std::alloc::Global;
 use std::{fs, io};
@@ -29,7 +28,6 @@ fn call(alloc: Global, case: &mut Case, command: &str, words: &[String], said: &
     if call_on_set(alloc, &mut case.set, command, words, said)
         || call_below(alloc, &mut case.below, command, words, said)
         || demands::call(alloc, &mut case.demand, command, words, said)
-        || grown::call(alloc, command, words, said)
     {
         return;
     }
@@ -37,9 +35,7 @@ fn call(alloc: Global, case: &mut Case, command: &str, words: &[String], said: &
         "handle" => demands::handle(alloc, &mut case.handled, words, said),
         "wait" => demands::wait(alloc, &mut case.pending, words, said),
         "pop" => demands::pop(alloc, &mut case.pending, said),
-        "compare" => packages::compare(alloc, words, said),
         "as_nv" => packages::as_nv(alloc, words, said),
-        "each_pair" => pairs::each_pair(alloc, said),
         _ => said.tell("no such call"),
     }
 }
@@ -90,6 +86,7 @@ fn run(rt: &HostRuntime, case: &mut Case, cases: &str) -> io::Result<()> {
     Ok(())
 }
 
+/// Runs the lines of the file `names`.
 pub fn run_name_cases(rt: &HostRuntime) -> io::Result<()> {
     let cases = fs::read_to_string(rt, "names")?;
     let mut case = start(rt.alloc());

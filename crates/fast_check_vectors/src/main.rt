@@ -1,23 +1,38 @@
-//! The bench of vectors: runs `fast-check` with the words of each line of the file `cases`, and prints what it writes and
-//! its status. As in a shell a line may redirect: `<broken` makes reading fail where the file ends, and `>closed` and
-//! `2>closed` make an output take nothing.
+//! The program of all cases. A part is runs of `fast-check`, with the words of each line of the file `cases`: printed is what it writes and
+//! its status. As in a shell a line may redirect: `<broken` makes reading fail where the file ends, and `>closed` and `2>closed` make an output
+//! take nothing. The other parts are single calls, by libraries of their own. Without words all parts run, and else those that the words name.
 #![tactic(auto)]
 
 mod streams;
 
 use crate::streams::{Input, Output};
-use anyhow::Result;
+use anyhow::{Result, bail};
 use fast_check_build_program::run as run_build;
 use fast_check_example::run_example;
-use fast_check_finder_cases::{run_finder_cases, run_transformer_cases};
+use fast_check_finder_cases::{
+    run_finder_cases, run_place_cases, run_transformer_cases, run_unfound_cases,
+};
+use fast_check_form_cases::run_form_cases;
 use fast_check_name_cases::run_name_cases;
 use fast_check_program::{Ending, run};
-use fast_check_table_cases::{run_diagnostic_cases, run_table_cases};
 use std::alloc::{AllocError, Global};
 use std::fs::File;
 use std::io::Write;
-use std::{fs, io};
+use std::{env, fs, io};
 
+/// All parts.
+const PARTS: [&str; 8] = [
+    "runs",
+    "example",
+    "forms",
+    "names",
+    "places",
+    "unfound",
+    "worlds",
+    "transformers",
+];
+
+/// Runs `fast-check` with the words of each line of the file `cases`.
 fn run_vectors(rt: &HostRuntime) -> io::Result<()> {
     let cases = fs::read_to_string(rt, "cases")?;
     let mut out = rt.stdout();
@@ -37,20 +52,35 @@ fn run_vectors(rt: &HostRuntime) -> io::Result<()> {
     Ok(())
 }
 
-/// Runs the vectors, and then the drivers of single calls.
+/// Runs the part of this name.
+fn run_part(rt: &HostRuntime, part: &str) -> Result<()> {
+    match part {
+        "runs" => Ok(run_vectors(rt)?),
+        "example" => run_example(rt),
+        "forms" => Ok(run_form_cases(rt)?),
+        "names" => Ok(run_name_cases(rt)?),
+        "places" => run_place_cases(rt),
+        "unfound" => run_unfound_cases(rt),
+        "worlds" => Ok(run_finder_cases(rt)?),
+        "transformers" => Ok(run_transformer_cases(rt)?),
+        other => bail!("no part: {other}"),
+    }
+}
+
 fn run_all(rt: &HostRuntime) -> Result<()> {
-    run_vectors(rt)?;
-    run_example(rt)?;
-    run_name_cases(rt)?;
-    run_table_cases(rt)?;
-    run_diagnostic_cases(rt)?;
-    run_finder_cases(rt)?;
-    run_transformer_cases(rt)?;
+    for part in PARTS {
+        run_part(rt, part)?;
+    }
     Ok(())
 }
 
 fn main(rt: HostRuntime) -> Result<()> {
-    run_all(&rt)
+    let mut is_named = false;
+    for part in env::args(&rt)?.skip(1) {
+        is_named = true;
+        run_part(&rt, part.as_str())?;
+    }
+    if is_named { Ok(()) } else { run_all(&rt) }
 }
 
 /// Runs the program with the words of a line. Both its outputs go to `out`.

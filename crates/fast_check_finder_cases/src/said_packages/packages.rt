@@ -1,5 +1,6 @@
 //! Tells what is found of packages.
 
+use crate::told::tell_diagnostic;
 use fast_check_cache::PackagePublicRanges;
 use fast_check_diagnostics::{
     Diagnostic, FastCheckDiagnostic, FastCheckDiagnosticRange, ModulePublicRanges,
@@ -50,18 +51,18 @@ fn tell_place(alloc: Global, place: &FastCheckDiagnosticRange, said: &mut Said) 
     said.tell_made(format!(in alloc; " of {} bytes", place.text_info.as_str().len()));
 }
 
-fn tell_diagnostic(alloc: Global, diagnostic: &FastCheckDiagnostic, said: &mut Said) {
+fn tell_found(alloc: Global, diagnostic: &FastCheckDiagnostic, said: &mut Said) {
     said.tell_path("\n    ", diagnostic.code(), " at ");
     said.tell(diagnostic.specifier().as_str());
     if let Some(place) = diagnostic.range() {
         tell_place(alloc, place, said);
     }
-    said.tell_made(format!(in alloc; ": {diagnostic}"));
+    tell_diagnostic(alloc, diagnostic, said);
 }
 
 fn tell_diagnostics(alloc: Global, diagnostics: Vec<FastCheckDiagnostic>, said: &mut Said) {
     for diagnostic in &diagnostics {
-        tell_diagnostic(alloc, diagnostic, said);
+        tell_found(alloc, diagnostic, said);
     }
 }
 

@@ -1,4 +1,5 @@
 //! Calls of a transformer, and what is told of them.
+use crate::told::tell_diagnostic;
 use fast_check_graph::ModuleGraph;
 use fast_check_modules::diagnostics::{Diagnostic, FastCheckDiagnostic, ModulePublicRanges};
 use fast_check_modules::{EsModuleInfo, TableFault};
@@ -7,13 +8,23 @@ use fast_check_said::Said;
 use fast_check_transformer::FastCheckTransformer;
 use std::alloc::{AllocError, Global};
 
-fn tell_diagnostics(alloc: Global, diagnostics: &[FastCheckDiagnostic], said: &mut Said) {
+/// Tells the code of each diagnostic, and the place where it begins.
+fn tell_codes(alloc: Global, diagnostics: &[FastCheckDiagnostic], said: &mut Said) {
     for diagnostic in diagnostics {
         said.tell(" ");
         said.tell(diagnostic.code());
         if let Some(place) = diagnostic.range() {
             said.tell_made(format!(in alloc; " at {}", place.range.start.0));
         }
+    }
+}
+
+/// Tells all of each diagnostic.
+fn tell_diagnostics(alloc: Global, diagnostics: &[FastCheckDiagnostic], said: &mut Said) {
+    for diagnostic in diagnostics {
+        said.tell_path("    refused: ", diagnostic.code(), "");
+        tell_diagnostic(alloc, diagnostic, said);
+        said.tell("\n");
     }
 }
 
@@ -24,14 +35,13 @@ fn tell_call(
     said: &mut Said,
 ) -> Result<(), AllocError> {
     match transformer.transform(alloc)? {
-        Ok(_) => said.tell("    a module"),
+        Ok(_) => said.tell("    a module\n"),
         Err(diagnostics) => {
-            said.tell("    refused:");
             tell_diagnostics(alloc, diagnostics.as_slice(), said);
         }
     }
-    said.tell("\n    kept:");
-    tell_diagnostics(alloc, transformer.diagnostics(), said);
+    said.tell("    kept:");
+    tell_codes(alloc, transformer.diagnostics(), said);
     said.tell("\n");
     Ok(())
 }

@@ -1,9 +1,9 @@
 //! Calls on what is demanded of a module, and on the modules that were followed or wait to be.
 
 use crate::names::packages::package_of;
+use crate::names::sets::{name_and_rest, set_of, tell_set};
 use fast_check_names::{FileDepName, ImportedExports};
 use fast_check_said::Said;
-use fast_check_said_names::{name_and_rest, set_of, tell_set};
 use fast_check_traced_modules::{HandledExports, PendingTrace, PendingTraces};
 use std::alloc::Global;
 use url::Url;

@@ -1,12 +1,11 @@
 //! Calls on packages and members of a workspace.
 
+use crate::names::sets::name_and_rest;
 use fast_check_packages::{PackageNv, WorkspaceMember};
 use fast_check_said::Said;
-use fast_check_said_names::name_and_rest;
 use indexmap::IndexMap;
 use semver::Version;
 use std::alloc::{AllocError, Global};
-use std::cmp::Ordering;
 use url::Url;
 
 /// The first version under a major number, 0 where it is none.
@@ -20,26 +19,6 @@ pub fn package_of(alloc: Global, name: &str, major: &str, said: &mut Said) -> Pa
         name: said.copy(alloc, name),
         version: version_of(major),
     }
-}
-
-/// Tells how two packages compare, each by name and major number.
-pub fn compare(alloc: Global, words: &[String], said: &mut Said) {
-    let (name, words) = name_and_rest(words);
-    let (major, words) = name_and_rest(words);
-    let (other, words) = name_and_rest(words);
-    let first = package_of(alloc, name, major, said);
-    let second = package_of(alloc, other, name_and_rest(words).0, said);
-    tell_order(alloc, &first, &second, said);
-}
-
-fn tell_order(alloc: Global, first: &PackageNv, second: &PackageNv, said: &mut Said) {
-    let order = match first.cmp(second) {
-        Ordering::Less => "before",
-        Ordering::Equal => "beside",
-        Ordering::Greater => "behind",
-    };
-    said.tell_made(format!(in alloc; "{first} {order} {second}, equal "));
-    said.tell_flag(first == second);
 }
 
 /// Tells the package of a workspace member, by its base, its name, and its major number if it has a version.

@@ -1,0 +1,82 @@
+"""The parts of `fast_check_vectors` that are single calls: for each what it reads, by the names of files, and what it must print.
+
+The worlds are answered by `package_rules`, forms by `forms`, and the calls of a transformer by the answers of the runs of the same requests, which
+`vectors` makes. What the others print is stated by hand in the files of `stated/`; those of names and places repeat the lines that they read.
+"""
+import json
+import os
+
+import forms
+import packages
+import search_cases  # which adds to the worlds, as reference_cases does
+from package_cases import CASES as WORLDS
+
+STATED = os.path.join(os.path.dirname(os.path.abspath(__file__)), "stated")
+
+
+def stated(part):
+    with open(os.path.join(STATED, part)) as file:
+        return file.read()
+
+
+def repeated(part):
+    """A part whose output repeats each line that is read, and tells of it in lines that are indented."""
+    printed = stated(part)
+    return {part: "".join(line + "\n" for line in printed.splitlines() if not line.startswith("    "))}, printed
+
+
+# ---- a transformer that is called twice, without and with the option that answers the first fault alone
+
+
+def shown(fault, text):
+    """What is told of a diagnostic that the transform finds."""
+    (start, end), size = fault["range"], len(text.encode())
+    description = 'Some("this is the superclass expression")' if fault["code"] == "unsupported-super-class-expr" else "None"
+    return [f"    refused: {fault['code']}", f"      location: {start} of {fault['specifier']}, which has {size} bytes",
+            f"      snippet: {start} to {end} of {size} bytes: {description}", f"      description: {description}, mended: false",
+            f"      prints as: {fault['message']}"]
+
+
+def called(answer, text):
+    """What two calls print."""
+    if "Ok" in answer:
+        return ["    a module", "    kept:"] * 2
+    told = [line for fault in answer["Err"] for line in shown(fault, text)]
+    return (told + ["    kept:" + "".join(f" {fault['code']} at {fault['range'][0]}" for fault in answer["Err"])]) * 2
+
+
+def transformers(runs):
+    """Calls on a module with three faults, one without, and for each kind of fault a module that has it, with as few faults and as little text as there is.
+    `runs` has for each name of a request the answer, by all faults, and the source text."""
+    size = lambda name: (len(runs[name][0]["Err"]), len(runs[name][1]), name)
+    kinds = {}
+    for name, (answer, text) in runs.items():
+        for code in {fault["code"] for fault in answer.get("Err", ()) if fault["range"][1] <= len(text.encode()) + 1}:
+            kinds[code] = min(kinds.get(code, name), name, key=size)
+    names = ["all_faults", "both_public", *sorted(set(kinds.values()))]
+    lines = []
+    for name in names:
+        answer, text = runs[name]
+        first = answer if "Ok" in answer else {"Err": answer["Err"][:1]}
+        lines += [name + ".json", "  all", *called(answer, text), "  the first alone", *called(first, text), ""]
+    return {"transformers": "".join(f"{name}.json\n" for name in names)}, "\n".join(lines) + "\n"
+
+
+# ---- worlds
+
+
+def worlds():
+    for world in WORLDS:
+        said = "answer" in world and packages.judged({key: part for key, part in world.items() if key != "answer"}, world["answer"])[0]
+        if said:
+            raise SystemExit(f"{world['name']}: the stated answer is that of no account: {said}")
+    requests = [{key: part for key, part in world.items() if key != "answer"} for world in WORLDS]
+    lines = [line for world, request in zip(WORLDS, requests) for line in (world.get("answer") or packages.answered(request))]
+    return {"worlds": "".join(json.dumps(packages.request_of(request)) + "\n" for request in requests)}, "".join(line + "\n" for line in lines)
+
+
+def parts(runs):
+    """For each part, in order, its files and what it prints."""
+    made, printed = forms.part()
+    return [({}, stated("example")), ({"forms": made}, printed), repeated("names"), repeated("places"), ({}, stated("unfound")), worlds(),
+            transformers(runs)]

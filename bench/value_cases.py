@@ -1,0 +1,40 @@
+"""Modules of single values, parameters and return types, each with its skeleton as TypeScript or with its faults, stated by hand."""
+from function_cases import Case, ONE, THROW, const, func
+from trees import (
+    angle, array_of, as_, call, declarator, default, exported, form, free, function, function_type, getter, lit, member, name, named, object_, pair, ref,
+    template, var_stmt,
+)
+
+TEXT = lit('"x"')
+
+
+def shown_types():
+    symbols = [call(free("Symbol"), TEXT), call(member(free("Symbol"), "for"), TEXT), call(free("Symbol"))]
+    yield Case("symbols_under_let", [exported(var_stmt("Let", *[declarator(f"s{place}", value) for place, value in enumerate(symbols)]))],
+               "export let s0: unique symbol = {} as never, s1: unique symbol = {} as never, s2: unique symbol = {} as never;")
+    yield Case("values_that_show_nothing_under_let", [exported(var_stmt("Let", declarator("s", call(ref("Symbol"), TEXT)), declarator("t", lit("<text"))))],
+               ["type s", "type t"])
+    unread = template("t")
+    unread["Tpl"]["quasis"][0]["cooked"] = None
+    yield Case("a_template_without_a_cooked_text", [const("t", unread)], "export const t: string = {} as never;")
+    functions = {"TsTupleType": form(elem_types=[form(label=None, ty=function_type("void"))])}
+    yield Case("assertions_to_arrays_and_tuples", [const("a", as_(TEXT, array_of("string"))), const("t", angle(functions, TEXT))],
+               "export const a: string[] = {} as never; export const t = <[() => void]>({} as never);")
+
+
+def parts_of_functions():
+    yield Case("a_type_that_is_called_void", [func("f", [], THROW, ret=named("void")), func("g", [], ret="any"), func("h", [], THROW, ret="void")],
+               "export function f(): void { return {} as never; } export function g(): any { return {} as never; } export function h(): void {}")
+    yield Case("parameters_from_which_on_all_may_be_left_out",
+               [func("f", [name("a", "string"), name("b", "string", optional=True), default(name("c"), ONE)])],
+               "export function f(a: string, b?: string, c?: number): void {}")
+    throwing = function([], THROW)
+    yield Case("faults_before_a_property_that_goes", [const("o", object_(pair("f", throwing), getter("g"), pair("h", throwing)))],
+               ["return definitely function () { throw 1; }", "type o"])
+
+
+# each group of cases with what it shows
+GROUPS = [
+    ("values show their types alike under let and const, but for literals and templates", shown_types),
+    ("return types by their keywords, parameters that may be left out, and faults before what cannot stay", parts_of_functions),
+]
