@@ -68,10 +68,10 @@ fn tell_info(
         return Err(Refusal::RangesNotAdmitted);
     }
     said.tell("  all\n");
-    let all = FastCheckTransformer::new(alloc, graph, info, public_ranges, false);
+    let all = FastCheckTransformer::new(graph, info, public_ranges, false);
     tell_two(alloc, all, said)?;
     said.tell("  the first alone\n");
-    let first_alone = FastCheckTransformer::new(alloc, graph, info, public_ranges, true);
+    let first_alone = FastCheckTransformer::new(graph, info, public_ranges, true);
     Ok(tell_two(alloc, first_alone, said)?)
 }
 
