@@ -78,5 +78,5 @@ def worlds():
 def parts(runs):
     """For each part, in order, its files and what it prints."""
     made, printed = forms.part()
-    return [({}, stated("example")), ({"forms": made}, printed), repeated("names"), repeated("places"), ({}, stated("unfound")), worlds(),
+    return [({}, stated("example")), ({"forms": made}, printed), repeated("names"), repeated("places"), ({}, stated("unfound")), ({}, stated("faults")), worlds(),
             transformers(runs)]

@@ -10,7 +10,7 @@ use anyhow::{Result, bail};
 use fast_check_build_program::run as run_build;
 use fast_check_example::run_example;
 use fast_check_finder_cases::{
-    run_finder_cases, run_place_cases, run_transformer_cases, run_unfound_cases,
+    run_fault_cases, run_finder_cases, run_place_cases, run_transformer_cases, run_unfound_cases,
 };
 use fast_check_form_cases::run_form_cases;
 use fast_check_name_cases::run_name_cases;
@@ -21,13 +21,14 @@ use std::io::Write;
 use std::{env, fs, io};
 
 /// All parts.
-const PARTS: [&str; 8] = [
+const PARTS: [&str; 9] = [
     "runs",
     "example",
     "forms",
     "names",
     "places",
     "unfound",
+    "faults",
     "worlds",
     "transformers",
 ];
@@ -61,6 +62,7 @@ fn run_part(rt: &HostRuntime, part: &str) -> Result<()> {
         "names" => Ok(run_name_cases(rt)?),
         "places" => run_place_cases(rt),
         "unfound" => run_unfound_cases(rt),
+        "faults" => run_fault_cases(rt),
         "worlds" => Ok(run_finder_cases(rt)?),
         "transformers" => Ok(run_transformer_cases(rt)?),
         other => bail!("no part: {other}"),
