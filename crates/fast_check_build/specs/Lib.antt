@@ -3,3 +3,4 @@ pub use Rattle.fast_check_package_answers.specs as package_answers
 pub mod Found
 pub mod Build
 pub mod Owned
+pub mod Finder

@@ -12,6 +12,7 @@ use fast_check_packages::{PackageNv, WorkspaceMember};
 use fast_check_provider::{BuildFault, JsrUrlProvider};
 use std::alloc::Global;
 use std::collections::{BTreeMap, VecDeque};
+use std::marker::Model;
 
 /// What is found of these packages, and of those that follow from them.
 fn ranges_of(
@@ -66,6 +67,19 @@ pub struct PublicRangeFinder<'a> {
     pending_nvs: VecDeque<PackageNv>,
 }
 
+impl<'a> Model for PublicRangeFinder<'a> {
+    ghost use Rattle.fast_check_build.specs.Finder.{Finder};
+
+    ghost Value = { Finder };
+
+    ghost view = { λ f. record {
+      graph = f.graph.now;
+      root_symbol = f.root_symbol.now;
+      workspace_members = f.workspace_members.now;
+      pending_nvs = f.pending_nvs.items;
+    } };
+}
+
 impl<'a> PublicRangeFinder<'a> {
     /// A finder for these packages. It takes no memory.
     pub fn new(
@@ -74,10 +88,10 @@ impl<'a> PublicRangeFinder<'a> {
         workspace_members: &'a [WorkspaceMember],
         pending_nvs: VecDeque<PackageNv>,
     ) -> PublicRangeFinder<'a>
-        ensures graph { result.graph.now ≡ graph.entry.now }
-        ensures root_symbol { result.root_symbol.now ≡ root_symbol.entry.now }
-        ensures workspace_members { result.workspace_members.now ≡ workspace_members.entry.now }
-        ensures pending_nvs { result.pending_nvs.items ≡ pending_nvs.items }
+        ensures graph { result.graph ≡ graph.entry.now }
+        ensures root_symbol { result.root_symbol ≡ root_symbol.entry.now }
+        ensures workspace_members { result.workspace_members ≡ workspace_members.entry.now }
+        ensures pending_nvs { result.pending_nvs ≡ pending_nvs.items }
     {
         PublicRangeFinder {
             graph,
@@ -96,11 +110,11 @@ impl<'a> PublicRangeFinder<'a> {
     ) -> Result<BTreeMap<PackageNv, PackagePublicRanges>, BuildFault>
         requires { is_some cache ≡ false }
         ensures found { let f = self.entry in
-            let k = known_of f.graph.now f.root_symbol.now f.workspace_members.now (url_of jsr_url_provider.now) (nv_at jsr_url_provider.now) in
-            IfOk result (IsFound k (map nv_of f.pending_nvs.items)) }
+            let k = known_of f.graph f.root_symbol f.workspace_members (url_of jsr_url_provider.now) (nv_at jsr_url_provider.now) in
+            IfOk result (IsFound k (map nv_of f.pending_nvs)) }
         ensures refused { let f = self.entry in
-            let k = known_of f.graph.now f.root_symbol.now f.workspace_members.now (url_of jsr_url_provider.now) (nv_at jsr_url_provider.now) in
-            IfErr result (IsRefusal k (map nv_of f.pending_nvs.items)) }
+            let k = known_of f.graph f.root_symbol f.workspace_members (url_of jsr_url_provider.now) (nv_at jsr_url_provider.now) in
+            IfErr result (IsRefusal k (map nv_of f.pending_nvs)) }
     {
         let PublicRangeFinder {
             graph,
