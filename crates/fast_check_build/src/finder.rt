@@ -12,7 +12,6 @@ use fast_check_packages::{PackageNv, WorkspaceMember};
 use fast_check_provider::{BuildFault, JsrUrlProvider};
 use std::alloc::Global;
 use std::collections::{BTreeMap, VecDeque};
-use std::marker::Model;
 
 /// What is found of these packages, and of those that follow from them.
 fn ranges_of(
@@ -67,20 +66,9 @@ pub struct PublicRangeFinder<'a> {
     pending_nvs: VecDeque<PackageNv>,
 }
 
-impl<'a> Model for PublicRangeFinder<'a> {
-    ghost use Rattle.fast_check_build.specs.Finder.{Finder};
-
-    ghost Value = { Finder };
-
-    ghost view = { λ f. record {
-      graph = f.graph.now;
-      root_symbol = f.root_symbol.now;
-      workspace_members = f.workspace_members.now;
-      pending_nvs = f.pending_nvs.items;
-    } };
-}
-
 impl<'a> PublicRangeFinder<'a> {
+    ghost use Rattle.fast_check_build.specs.Finder.{finder_of};
+
     /// A finder for these packages. It takes no memory.
     pub fn new(
         graph: &'a ModuleGraph,
@@ -88,10 +76,10 @@ impl<'a> PublicRangeFinder<'a> {
         workspace_members: &'a [WorkspaceMember],
         pending_nvs: VecDeque<PackageNv>,
     ) -> PublicRangeFinder<'a>
-        ensures graph { result.graph ≡ graph.entry.now }
-        ensures root_symbol { result.root_symbol ≡ root_symbol.entry.now }
-        ensures workspace_members { result.workspace_members ≡ workspace_members.entry.now }
-        ensures pending_nvs { result.pending_nvs ≡ pending_nvs.items }
+        ensures graph { (finder_of result).graph ≡ graph.entry.now }
+        ensures root_symbol { (finder_of result).root_symbol ≡ root_symbol.entry.now }
+        ensures workspace_members { (finder_of result).workspace_members ≡ workspace_members.entry.now }
+        ensures pending_nvs { (finder_of result).pending_nvs ≡ pending_nvs.items }
     {
         PublicRangeFinder {
             graph,
@@ -109,10 +97,10 @@ impl<'a> PublicRangeFinder<'a> {
         jsr_url_provider: &dyn JsrUrlProvider,
     ) -> Result<BTreeMap<PackageNv, PackagePublicRanges>, BuildFault>
         requires { is_some cache ≡ false }
-        ensures found { let f = self.entry in
+        ensures found { let f = finder_of self.entry in
             let k = known_of f.graph f.root_symbol f.workspace_members (url_of jsr_url_provider.now) (nv_at jsr_url_provider.now) in
             IfOk result (IsFound k (map nv_of f.pending_nvs)) }
-        ensures refused { let f = self.entry in
+        ensures refused { let f = finder_of self.entry in
             let k = known_of f.graph f.root_symbol f.workspace_members (url_of jsr_url_provider.now) (nv_at jsr_url_provider.now) in
             IfErr result (IsRefusal k (map nv_of f.pending_nvs)) }
     {

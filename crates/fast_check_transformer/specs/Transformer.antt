@@ -10,6 +10,7 @@ use Rattle.fast_check_modules.specs.diagnostics.PublicRanges.{PublicRanges}
 use Rattle.fast_check_modules.specs.diagnostics.declared.diagnostics.FastCheckDiagnostic.{FastCheckDiagnostic}
 use Rattle.fast_check_signatures.specs.declared.fault.Fault.{Fault}
 use Rattle.fast_check_module_transform.specs.Transform.{skeleton, comments, faults}
+use Rattle.fast_check_transformer.specs.declared.transformer.FastCheckTransformer.{FastCheckTransformer}
 
 -- a module of a graph with what is public of it, whether its first fault is answered alone, and the diagnostics that are kept
 pub record Transformer : Type 0 where
@@ -23,6 +24,16 @@ pub record Transformer : Type 0 where
 abbrev pub told_so_far : Option (Vec FastCheckDiagnostic Global) → List FastCheckDiagnostic
 told_so_far None = []
 told_so_far (Some diagnostics) = diagnostics.items
+
+-- what a transformer stands for
+abbrev pub transformer_of : FastCheckTransformer → Transformer
+transformer_of t = record {
+  graph = t.graph.now;
+  es_module_info = t.es_module_info.now;
+  public_ranges = t.public_ranges.now;
+  first_alone = t.should_error_on_first_diagnostic;
+  diagnostics = told_so_far t.diagnostics;
+}
 
 -- the skeleton of its module, and the comments that stay with it
 abbrev pub own_skeleton : Transformer → Tree

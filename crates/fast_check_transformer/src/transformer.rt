@@ -13,7 +13,6 @@ use fast_check_modules::diagnostics::{FastCheckDiagnostic, ModulePublicRanges};
 use fast_check_syntax::Tree;
 use fast_check_transform_faults::tell;
 use std::alloc::{AllocError, Global};
-use std::marker::Model;
 
 /// Transforms a module, and keeps what is wrong with it beside what is public of it. `transform` answers the one or the other.
 #[derive(Drop)]
@@ -26,22 +25,8 @@ pub struct FastCheckTransformer<'a> {
     diagnostics: Option<Vec<FastCheckDiagnostic>>,
 }
 
-impl<'a> Model for FastCheckTransformer<'a> {
-    ghost use Rattle.fast_check_transformer.specs.Transformer.{Transformer, told_so_far};
-
-    ghost Value = { Transformer };
-
-    ghost view = { λ t. record {
-      graph = t.graph.now;
-      es_module_info = t.es_module_info.now;
-      public_ranges = t.public_ranges.now;
-      first_alone = t.should_error_on_first_diagnostic;
-      diagnostics = told_so_far t.diagnostics;
-    } };
-}
-
 impl<'a> FastCheckTransformer<'a> {
-    ghost use Rattle.fast_check_transformer.specs.Transformer.{own_skeleton, own_comments, own_faults, kept_faults};
+    ghost use Rattle.fast_check_transformer.specs.Transformer.{transformer_of, own_skeleton, own_comments, own_faults, kept_faults};
 
     /// A transformer of a module of this graph, which has told nothing so far. The module has to admit the public ranges. It takes no memory.
     pub fn new(
@@ -51,11 +36,11 @@ impl<'a> FastCheckTransformer<'a> {
         should_error_on_first_diagnostic: bool,
     ) -> Self
         requires admitted { Admits es_module_info.now public_ranges.now }
-        ensures graph { result.graph ≡ graph.now }
-        ensures es_module_info { result.es_module_info ≡ es_module_info.now }
-        ensures public_ranges { result.public_ranges ≡ public_ranges.now }
-        ensures first_alone { result.first_alone ≡ should_error_on_first_diagnostic }
-        ensures diagnostics { result.diagnostics ≡ [] }
+        ensures graph { (transformer_of result).graph ≡ graph.now }
+        ensures es_module_info { (transformer_of result).es_module_info ≡ es_module_info.now }
+        ensures public_ranges { (transformer_of result).public_ranges ≡ public_ranges.now }
+        ensures first_alone { (transformer_of result).first_alone ≡ should_error_on_first_diagnostic }
+        ensures diagnostics { (transformer_of result).diagnostics ≡ [] }
     {
         FastCheckTransformer {
             graph,
@@ -75,15 +60,20 @@ impl<'a> FastCheckTransformer<'a> {
         &mut self,
         alloc: Global,
     ) -> Result<Result<(Tree, Comments), Vec<FastCheckDiagnostic>>, AllocError>
-        ensures ok { IfOk result (λ answer. IsOk answer ↔ (IsTrue self.old.first_alone → own_faults self.old ≡ [])) }
-        ensures skeleton { IfOk result (λ answer. IfOk answer (λ made. own_faults self.old ≡ [] → made.0 ≡ own_skeleton self.old)) }
-        ensures grammar { IfOk result (λ answer. IfOk answer (λ made. own_faults self.old ≡ [] →
-            IsSkeleton (bindings_of self.old.es_module_info) (is_declaration self.old.es_module_info.source.media_type) made.0)) }
-        ensures comments { IfOk result (λ answer. IfOk answer (λ made. own_faults self.old ≡ [] → made.1 ≡ own_comments self.old)) }
-        ensures first_fault { IfOk result (λ answer. IfErr answer (λ diagnostics.
-            AreDiagnosticsOf self.old.es_module_info (told true (own_faults self.old)) diagnostics.items)) }
-        ensures diagnostics { IfOk result (λ _. AreDiagnosticsOf self.old.es_module_info (kept_faults self.old) self.new.diagnostics) }
-        ensures unchanged { self.new ≡ record self.old { diagnostics = self.new.diagnostics } }
+        ensures ok { let t = transformer_of self.old in
+            IfOk result (λ answer. IsOk answer ↔ (IsTrue t.first_alone → own_faults t ≡ [])) }
+        ensures skeleton { let t = transformer_of self.old in
+            IfOk result (λ answer. IfOk answer (λ made. own_faults t ≡ [] → made.0 ≡ own_skeleton t)) }
+        ensures grammar { let t = transformer_of self.old in
+            IfOk result (λ answer. IfOk answer (λ made. own_faults t ≡ [] →
+            IsSkeleton (bindings_of t.es_module_info) (is_declaration t.es_module_info.source.media_type) made.0)) }
+        ensures comments { let t = transformer_of self.old in
+            IfOk result (λ answer. IfOk answer (λ made. own_faults t ≡ [] → made.1 ≡ own_comments t)) }
+        ensures first_fault { let t = transformer_of self.old in
+            IfOk result (λ answer. IfErr answer (λ diagnostics. AreDiagnosticsOf t.es_module_info (told true (own_faults t)) diagnostics.items)) }
+        ensures diagnostics { let t = transformer_of self.old in
+            IfOk result (λ _. AreDiagnosticsOf t.es_module_info (kept_faults t) (transformer_of self.new).diagnostics) }
+        ensures unchanged { transformer_of self.new ≡ record (transformer_of self.old) { diagnostics = (transformer_of self.new).diagnostics } }
     {
         self.diagnostics = None;
         let KeptModule {
@@ -100,7 +90,7 @@ impl<'a> FastCheckTransformer<'a> {
 
     /// What is wrong with the module by the last call of `transform`, in reading order.
     pub fn diagnostics(&self) -> &[FastCheckDiagnostic]
-        ensures { result.now ≡ self.now.diagnostics }
+        ensures { result.now ≡ (transformer_of self.now).diagnostics }
     {
         match &self.diagnostics {
             Some(diagnostics) => diagnostics.as_slice(),
