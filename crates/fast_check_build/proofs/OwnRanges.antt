@@ -14,7 +14,7 @@ use Rattle.fast_check_graph.specs.Root.{AreFoundByOwnNames}
 use Rattle.fast_check_worklists.specs.Demands.{Text, same_nv}
 use Rattle.fast_check_worklists.specs.Account.{Account, IsYield}
 use Rattle.fast_check_package_ranges.specs.findings.Yields.{ModuleFault, missing_entry, untyped_entry, untyped_module, of_demand}
-use Rattle.fast_check_package_ranges.specs.findings.Yields.{Yield, entry_point, refused_export, dependency, recorded, public, implementing, faulty}
+use Rattle.fast_check_package_ranges.specs.findings.Yields.{Yield, known_package, entry_point, refused_export, dependency, recorded, public, implementing, faulty}
 use Rattle.fast_check_package_ranges.specs.Questions.{ModuleQuestion, whether_public, whether_implementing, about, fault_says, is_recorded}
 use Rattle.fast_check_package_ranges.specs.Questions.{range_says, implementation_says, package_of, yield_says, yields_say}
 use Rattle.fast_check_finder.specs.turns.steps.Sources.{Known, named_at}
@@ -34,6 +34,7 @@ module _ (root : RootSymbol) (t : Text) (r : SourceRange) (q : ModuleQuestion) (
   never b n y = false≢true (sym n ∙ y)
 
   from_yield : (y : Yield) → IsOwnYield root y → yield_says y (about t q) ≡ true → IsOwnRange (named_at root t) r
+  from_yield (known_package nv) h e = absurd (false≢true e)
   from_yield (entry_point nv u) h e = absurd (false≢true e)
   from_yield (refused_export nv u) h e = absurd (false≢true e)
   from_yield (dependency nv d) h e = absurd (false≢true e)

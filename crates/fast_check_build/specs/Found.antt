@@ -1,5 +1,5 @@
 -- What is found of packages that are handed in.
-use Rattle.std.specs.Prelude.{◌≡◌, ⊤, Bool, true, List, Option}
+use Rattle.std.specs.Prelude.{◌≡◌, true, List, Option}
 use Rattle.std.specs.BTreeMap.{BTreeMap}
 use Rattle.fast_check_syntax.specs.declared.source.SourceRange.{SourceRange}
 use Rattle.fast_check_packages.specs.Package.{Nv}
@@ -9,13 +9,11 @@ use Rattle.fast_check_packages.specs.declared.package.WorkspaceMember.{Workspace
 use Rattle.fast_check_graph.specs.declared.graph.ModuleGraph.{ModuleGraph}
 use Rattle.fast_check_graph.specs.declared.root_symbol.RootSymbol.{RootSymbol}
 use Rattle.fast_check_cache.specs.declared.package_ranges.PackagePublicRanges.{PackagePublicRanges}
-use Rattle.fast_check_faults.specs.Reports.{Report}
 use Rattle.fast_check_worklists.specs.Demands.{Text}
 use Rattle.fast_check_worklists.specs.Account.{Account, IsAccount, IsYield}
 use Rattle.fast_check_package_ranges.specs.findings.Yields.{Yield}
-use Rattle.fast_check_package_ranges.specs.Questions.{Question, whether_known, about, whether_public, whether_implementing}
-use Rattle.fast_check_package_ranges.specs.Questions.{whether_told, yields_say, is_said, IsTextless}
-use Rattle.fast_check_package_ranges.specs.Answers.{answer, IsOnce}
+use Rattle.fast_check_package_ranges.specs.Questions.{about, whether_public, whether_implementing}
+use Rattle.fast_check_package_ranges.specs.Answers.{answer, AreAnswers}
 use Rattle.fast_check_finder.specs.turns.steps.Sources.{Known, owner_by, named_at}
 use Rattle.fast_check_finder.specs.turns.Rules.{world}
 use Rattle.fast_check_finder.specs.turns.Yields.{gives}
@@ -32,11 +30,6 @@ known_of graph root_symbol members url_of nv_at = record {
   owner = owner_by members nv_at;
 }
 
--- what yields say: all that can be asked, but whether a package is known of which nothing is found
-abbrev pub IsOfYields : Question → Type 0
-IsOfYields whether_known = ⊥
-IsOfYields _ = ⊤
-
 -- There is an account of demands, from the packages that are handed in, whose export texts all join; and the answers say what its demands give,
 -- and nothing else. What is public in a module is declared in it, so that the module admits it.
 pub record IsFound (k : Known) (roots : List Nv) (answers : BTreeMap PackageNv PackagePublicRanges) : Type 0 where
@@ -45,10 +38,7 @@ pub record IsFound (k : Known) (roots : List Nv) (answers : BTreeMap PackageNv P
   pub is_account : IsAccount (world k) roots account
   pub is_yield : IsYield (gives k) account yields
   pub join : JoinAll k account
-  pub said : (nv : Nv) (q : Question) → IsOfYields q → IsTextless q → answer answers nv q ≡ is_said yields nv q
-  pub exact : (nv : Nv) (t : Text) (test : Report → Bool) → answer answers nv (about t (whether_told test)) ≡ true →
-      yields_say yields nv (about t (whether_told test)) ≡ true
-  pub once : IsOnce answers
+  pub says : AreAnswers yields answers
   pub own : (nv : Nv) (t : Text) (r : SourceRange) → answer answers nv (about t (whether_public r)) ≡ true → IsOwnRange (named_at k.root_symbol t) r
   pub own_implementations : (nv : Nv) (t : Text) (r : SourceRange) → answer answers nv (about t (whether_implementing r)) ≡ true →
       IsOwnRange (named_at k.root_symbol t) r

@@ -11,7 +11,7 @@ use Rattle.fast_check_provider.specs.declared.fault.BuildFault.TheVariants.{Inva
 use Rattle.fast_check_findings.specs.faults.Reports.{Report, told}
 use Rattle.fast_check_findings.specs.declared.finding.Finding.{Finding}
 use Rattle.fast_check_findings.specs.declared.finding.Finding.TheVariants.{Entered, Followed, Untyped}
-use Rattle.fast_check_findings.specs.Yields.{ModuleFault, Yield, entry_point, refused_export, dependency, recorded, public, implementing, faulty, of_demand}
+use Rattle.fast_check_findings.specs.Yields.{ModuleFault, Yield, known_package, entry_point, refused_export, dependency, recorded, public, implementing, faulty, of_demand}
 use Rattle.fast_check_findings.specs.Yields.{untyped_module}
 use Rattle.fast_check_findings.specs.Findings.{faulty_module, entry_fault, told_at, diagnostic_yields, yields_of}
 use Rattle.fast_check_turns.specs.entries.Entries.{Entrance, passed_over, refused, entered, TellsRefused}
@@ -27,6 +27,7 @@ use Rattle.fast_check_finder.specs.Refusals.{IsRefusal, IsNotRefused, JoinAll, I
 
 abbrev Joins : Yield → Type 0
 Joins (refused_export p t) = ⊥
+Joins (known_package p) = Unit {0}
 Joins (entry_point p t) = Unit {0}
 Joins (dependency p q) = Unit {0}
 Joins (recorded p t) = Unit {0}
@@ -43,10 +44,11 @@ told_joins p t (Some r) = each_one Joins (faulty p t (of_demand r)) tt
 
 finding_joins : (f : Finding) → Each Joins (yields_of f)
 finding_joins (Entered e) =
-    each_append Joins (map (λ url. entry_point (nv_of e.package) (serialize url)) e.entry_points.items) _
+    each_cons Joins (known_package (nv_of e.package)) _ tt
+    (each_append Joins (map (λ url. entry_point (nv_of e.package) (serialize url)) e.entry_points.items) _
     (each_map Joins (λ url. entry_point (nv_of e.package) (serialize url)) e.entry_points.items (λ url c. tt))
     (each_flat Joins (λ x. faulty_module (nv_of e.package) (serialize x.0) (entry_fault x.1)) e.faults.items
-    (λ x c. faulty_joins (nv_of e.package) (serialize x.0) (entry_fault x.1)))
+    (λ x c. faulty_joins (nv_of e.package) (serialize x.0) (entry_fault x.1))))
 finding_joins (Followed f) =
     let p = nv_of f.package in
     let t = serialize f.specifier in

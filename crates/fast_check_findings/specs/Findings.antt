@@ -13,7 +13,7 @@ use Rattle.fast_check_findings.specs.declared.finding.FollowedModule.{FollowedMo
 use Rattle.fast_check_findings.specs.declared.finding.Finding.{Finding}
 use Rattle.fast_check_findings.specs.declared.finding.Finding.TheVariants.{Entered, Followed, Untyped}
 use Rattle.fast_check_findings.specs.Yields.{ModuleFault, missing_entry, untyped_entry, untyped_module, of_demand}
-use Rattle.fast_check_findings.specs.Yields.{Yield, entry_point, dependency, recorded, public, implementing, faulty}
+use Rattle.fast_check_findings.specs.Yields.{Yield, known_package, entry_point, dependency, recorded, public, implementing, faulty}
 
 -- a module is recorded with what is wrong with it as a whole
 abbrev pub faulty_module : Nv → Text → ModuleFault → List Yield
@@ -25,8 +25,9 @@ entry_fault UntypedEntry = untyped_entry
 
 abbrev pub entered_yields : EnteredPackage → List Yield
 entered_yields e =
-    map (λ url. entry_point (nv_of e.package) (serialize url)) e.entry_points.items
-    ++ flat_map (λ f. faulty_module (nv_of e.package) (serialize f.0) (entry_fault f.1)) e.faults.items
+    known_package (nv_of e.package)
+    ∷ (map (λ url. entry_point (nv_of e.package) (serialize url)) e.entry_points.items
+    ++ flat_map (λ f. faulty_module (nv_of e.package) (serialize f.0) (entry_fault f.1)) e.faults.items)
 
 abbrev pub told_at : Nv → Text → Option Report → List Yield
 told_at nv t None = []

@@ -12,9 +12,11 @@ pub data ModuleFault : Type 0 where
   untyped_module : ModuleFault
   of_demand : Report → ModuleFault
 
--- An entry point of a package; an export text of a package that cannot be joined to its URL; a package on which another depends; and by package and
--- module: that the module is recorded, a public range, a public range of an implementation of overloads, and what is wrong.
+-- A package whose exports are known; an entry point of a package; an export text of a package that cannot be joined to its URL; a package on which
+-- another depends; and by package and module: that the module is recorded, a public range, a public range of an implementation of overloads, and
+-- what is wrong.
 pub data Yield : Type 0 where
+  known_package : Nv → Yield
   entry_point : Nv → Text → Yield
   refused_export : Nv → Text → Yield
   dependency : Nv → Nv → Yield

@@ -16,21 +16,22 @@ use Rattle.fast_check_findings.specs.declared.finding.FollowedModule.{FollowedMo
 use Rattle.fast_check_findings.specs.declared.finding.Finding.{Finding}
 use Rattle.fast_check_findings.specs.declared.finding.Finding.TheVariants.{Entered, Followed, Untyped}
 use Rattle.fast_check_findings.specs.Yields.{ModuleFault, untyped_module, of_demand}
-use Rattle.fast_check_findings.specs.Yields.{Yield, entry_point, dependency, recorded, public, implementing, faulty}
+use Rattle.fast_check_findings.specs.Yields.{Yield, known_package, entry_point, dependency, recorded, public, implementing, faulty}
 use Rattle.fast_check_findings.specs.Findings.{entry_fault, faulty_module, entered_yields, told_at, diagnostic_yields, followed_yields, yields_of}
 use Rattle.fast_check_package_ranges.specs.declared.parts.ModuleParts.{ModuleParts}
 use Rattle.fast_check_package_ranges.specs.declared.parts.PackageParts.{PackageParts}
 use Rattle.fast_check_package_ranges.specs.Questions.{ModuleQuestion, whether_recorded, whether_public, whether_implementing}
 use Rattle.fast_check_package_ranges.specs.Questions.{whether_missing, whether_untyped_entry, whether_untyped, whether_told, whether_otherwise_faulty}
 use Rattle.fast_check_package_ranges.specs.Questions.{Question, whether_known, whether_entry_point, whether_dependency, whether_refused, about}
-use Rattle.fast_check_package_ranges.specs.Questions.{package_of, yield_says, yields_say, IsTextless, IsTextlessAbout}
+use Rattle.fast_check_package_ranges.specs.Questions.{package_of, yield_says, yields_say, is_said, IsTextless, IsTextlessAbout}
 use Rattle.fast_check_told_faults.specs.Once.{where_found}
 use Rattle.fast_check_package_ranges.specs.Parts.{module_says, package_says, packages_say, lookup_text, lookup_package}
-use Rattle.fast_check_package_ranges.specs.Parts.{package_found, finding_says_of, findings_say}
-use Rattle.fast_check_package_ranges.specs.Answers.{module_answer, package_answer, answer, IsSaid, IsExact, IsToldOnce, AreToldOnce, IsOnce}
+use Rattle.fast_check_package_ranges.specs.Parts.{package_found, findings_say}
+use Rattle.fast_check_package_ranges.specs.Answers.{module_answer, package_answer, answer, AreAnswers}
 use Rattle.fast_check_package_ranges.specs.Made.{module_is_said, AreModuleAnswers, IsPackageAnswer, ArePackageAnswers}
 use Rattle.fast_check_told_faults.proofs.Bools.{or_none, and_or, and_none}
 use Rattle.fast_check_told_faults.proofs.Lists.{any_map, any_flat, any_alike, any_and}
+use Rattle.fast_check_package_ranges.proofs.Only.{only, once, uncached}
 
 -- all these yields are of one package
 abbrev Owned : Nv → Nv → List Yield → Type 0
@@ -62,11 +63,12 @@ own_faulty : (nv n : Nv) (t : List ℕ) (f : ModuleFault) → Owned nv n (faulty
 own_faulty nv n t f = own_both nv n (recorded n t ∷ []) (faulty n t f ∷ []) (own_one nv (recorded n t)) (own_one nv (faulty n t f))
 
 own_entered : (nv : Nv) (e : EnteredPackage) → Owned nv (nv_of e.package) (entered_yields e)
-own_entered nv e = own_both nv (nv_of e.package) (map (λ url. entry_point (nv_of e.package) (serialize url)) e.entry_points.items)
+own_entered nv e = own_both nv (nv_of e.package) (known_package (nv_of e.package) ∷ []) _ (own_one nv (known_package (nv_of e.package)))
+    (own_both nv (nv_of e.package) (map (λ url. entry_point (nv_of e.package) (serialize url)) e.entry_points.items)
     (flat_map (λ f. faulty_module (nv_of e.package) (serialize f.0) (entry_fault f.1)) e.faults.items)
     (own_map nv (nv_of e.package) (λ url. entry_point (nv_of e.package) (serialize url)) (λ url. refl) e.entry_points.items)
     (own_flat nv (nv_of e.package) (λ f. faulty_module (nv_of e.package) (serialize f.0) (entry_fault f.1))
-    (λ f. own_faulty nv (nv_of e.package) (serialize f.0) (entry_fault f.1)) e.faults.items)
+    (λ f. own_faulty nv (nv_of e.package) (serialize f.0) (entry_fault f.1)) e.faults.items))
 
 own_told : (nv n : Nv) (t : List ℕ) (o : Option Report) → Owned nv n (told_at n t o)
 own_told nv n t None = own_none nv n
@@ -97,13 +99,6 @@ all_yields : (found : List Finding) (nv : Nv) (q : Question) →
 all_yields found nv q = sym (any_flat (λ y. same_nv nv (package_of y) && yield_says y q) yields_of found ∙
     any_alike (λ f. list_any (λ y. same_nv nv (package_of y) && yield_says y q) (yields_of f))
     (λ f. same_nv nv (package_found f) && list_any (λ y. yield_says y q) (yields_of f)) (λ f. own_finding nv f (λ y. yield_says y q)) found)
-
-and_true : (b : Bool) → (b && true) ≡ b
-and_true true = refl
-and_true false = refl
-
-known : (found : List Finding) (nv : Nv) → findings_say found nv whether_known ≡ list_any (λ f. same_nv nv (package_found f)) found
-known found nv = any_alike (finding_says_of nv whether_known) (λ f. same_nv nv (package_found f)) (λ f. and_true (same_nv nv (package_found f))) found
 
 -- the answer about a module, by what is known of it
 module_one : (t : List ℕ) (q : ModuleQuestion) → IsTextlessAbout q → (parts : Option ModuleParts) (m : Option PublicRanges) → AreModuleAnswers t parts m →
@@ -147,22 +142,6 @@ packages_exact t test None (Some p) h e = absurd h
 packages_exact t test (Some x) None h e = absurd h
 packages_exact t test (Some x) (Some p) h e = exact_one t test (lookup_text t x.modules.entries) (lookup_text t p.module_ranges.entries) (h.modules t) e
 
-module_once : (t : List ℕ) (parts : Option ModuleParts) (m : Option PublicRanges) → AreModuleAnswers t parts m → IsToldOnce m
-module_once t None None h = tt
-module_once t None (Some m) h = absurd h
-module_once t (Some p) None h = absurd h
-module_once t (Some p) (Some m) h = h.once
-
-package_once : (t : List ℕ) (parts : Option PackageParts) (p : Option PackagePublicRanges) → ArePackageAnswers parts p → AreToldOnce t p
-package_once t None None h = tt
-package_once t None (Some p) h = absurd h
-package_once t (Some x) None h = absurd h
-package_once t (Some x) (Some p) h = module_once t (lookup_text t x.modules.entries) (lookup_text t p.module_ranges.entries) (h.modules t)
-
-pub once : (packages : List (PackageNv × PackageParts)) (answers : BTreeMap PackageNv PackagePublicRanges) →
-    ((nv : Nv) → ArePackageAnswers (lookup_package nv packages) (lookup_package nv answers.entries)) → IsOnce answers
-once packages answers made nv t = package_once t (lookup_package nv packages) (lookup_package nv answers.entries) (made nv)
-
 -- that types are not known, where nothing else is wrong
 hidden_module : (o : Option ModuleParts) → where_found (λ m. module_is_said m whether_untyped) o
     ≡ (where_found (λ m. module_says m whether_untyped) o && not (where_found (λ m. module_says m whether_otherwise_faulty) o))
@@ -180,26 +159,35 @@ module _ (found : List Finding) (packages : List (PackageNv × PackageParts)) (a
   first : (nv : Nv) (q : Question) → IsTextless q → answer answers nv q ≡ where_found (λ x. package_is_said x q) (lookup_package nv packages)
   first nv q fair = packages_one q fair (lookup_package nv packages) (lookup_package nv answers.entries) (made nv)
 
-  module_says_so : (nv : Nv) (t : List ℕ) (q : ModuleQuestion) → packages_say packages nv (about t q) ≡ yields_say (flat_map yields_of found) nv (about t q)
-  module_says_so nv t q = joined nv (about t q) ∙ all_yields found nv (about t q)
+  says_so : (nv : Nv) (q : Question) → packages_say packages nv q ≡ yields_say (flat_map yields_of found) nv q
+  says_so nv q = joined nv q ∙ all_yields found nv q
 
-  pub said : IsSaid found answers
-  said nv whether_known fair = first nv whether_known fair ∙ (joined nv whether_known ∙ known found nv)
-  said nv (whether_entry_point t) fair = first nv (whether_entry_point t) fair ∙
-      (joined nv (whether_entry_point t) ∙ all_yields found nv (whether_entry_point t))
-  said nv (whether_dependency d) fair = first nv (whether_dependency d) fair ∙ (joined nv (whether_dependency d) ∙ all_yields found nv (whether_dependency d))
-  said nv (whether_refused t) fair = first nv (whether_refused t) fair ∙ (joined nv (whether_refused t) ∙ all_yields found nv (whether_refused t))
+  pub said : (nv : Nv) (q : Question) → IsTextless q → answer answers nv q ≡ is_said (flat_map yields_of found) nv q
+  said nv whether_known fair = first nv whether_known fair ∙ says_so nv whether_known
+  said nv (whether_entry_point t) fair = first nv (whether_entry_point t) fair ∙ says_so nv (whether_entry_point t)
+  said nv (whether_dependency d) fair = first nv (whether_dependency d) fair ∙ says_so nv (whether_dependency d)
+  said nv (whether_refused t) fair = first nv (whether_refused t) fair ∙ says_so nv (whether_refused t)
   said nv (about t whether_untyped) fair = first nv (about t whether_untyped) fair ∙ (hidden t (lookup_package nv packages) ∙
-      (ap (λ b. b && not (packages_say packages nv (about t whether_otherwise_faulty))) (module_says_so nv t whether_untyped) ∙
-      ap (λ b. yields_say (flat_map yields_of found) nv (about t whether_untyped) && not b) (module_says_so nv t whether_otherwise_faulty)))
-  said nv (about t whether_recorded) fair = first nv (about t whether_recorded) fair ∙ module_says_so nv t whether_recorded
-  said nv (about t (whether_public r)) fair = first nv (about t (whether_public r)) fair ∙ module_says_so nv t (whether_public r)
-  said nv (about t (whether_implementing r)) fair = first nv (about t (whether_implementing r)) fair ∙ module_says_so nv t (whether_implementing r)
-  said nv (about t whether_missing) fair = first nv (about t whether_missing) fair ∙ module_says_so nv t whether_missing
-  said nv (about t whether_untyped_entry) fair = first nv (about t whether_untyped_entry) fair ∙ module_says_so nv t whether_untyped_entry
-  said nv (about t (whether_told test)) fair = first nv (about t (whether_told test)) fair ∙ module_says_so nv t (whether_told test)
-  said nv (about t whether_otherwise_faulty) fair = first nv (about t whether_otherwise_faulty) fair ∙ module_says_so nv t whether_otherwise_faulty
+      (ap (λ b. b && not (packages_say packages nv (about t whether_otherwise_faulty))) (says_so nv (about t whether_untyped)) ∙
+      ap (λ b. yields_say (flat_map yields_of found) nv (about t whether_untyped) && not b) (says_so nv (about t whether_otherwise_faulty))))
+  said nv (about t whether_recorded) fair = first nv (about t whether_recorded) fair ∙ says_so nv (about t whether_recorded)
+  said nv (about t (whether_public r)) fair = first nv (about t (whether_public r)) fair ∙ says_so nv (about t (whether_public r))
+  said nv (about t (whether_implementing r)) fair = first nv (about t (whether_implementing r)) fair ∙ says_so nv (about t (whether_implementing r))
+  said nv (about t whether_missing) fair = first nv (about t whether_missing) fair ∙ says_so nv (about t whether_missing)
+  said nv (about t whether_untyped_entry) fair = first nv (about t whether_untyped_entry) fair ∙ says_so nv (about t whether_untyped_entry)
+  said nv (about t (whether_told test)) fair = first nv (about t (whether_told test)) fair ∙ says_so nv (about t (whether_told test))
+  said nv (about t whether_otherwise_faulty) fair = first nv (about t whether_otherwise_faulty) fair ∙ says_so nv (about t whether_otherwise_faulty)
 
-  pub exact : IsExact found answers
-  exact nv t test e = sym (module_says_so nv t (whether_told test)) ∙
+  exact : (nv : Nv) (t : List ℕ) (test : Report → Bool) → answer answers nv (about t (whether_told test)) ≡ true →
+      is_said (flat_map yields_of found) nv (about t (whether_told test)) ≡ true
+  exact nv t test e = sym (says_so nv (about t (whether_told test))) ∙
       packages_exact t test (lookup_package nv packages) (lookup_package nv answers.entries) (made nv) e
+
+  pub are_answers : AreAnswers (flat_map yields_of found) answers
+  are_answers = record {
+    said = said;
+    exact = exact;
+    only = only packages answers made (flat_map yields_of found) said exact;
+    once = once packages answers made;
+    uncached = uncached packages answers made;
+  }

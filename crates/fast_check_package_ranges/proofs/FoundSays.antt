@@ -24,7 +24,7 @@ use Rattle.fast_check_package_ranges.specs.Questions.{ModuleQuestion, whether_re
 use Rattle.fast_check_package_ranges.specs.Questions.{whether_missing, whether_untyped_entry, whether_untyped, whether_told, whether_otherwise_faulty}
 use Rattle.fast_check_package_ranges.specs.Questions.{Question, whether_known, whether_entry_point, whether_dependency, whether_refused, about}
 use Rattle.fast_check_package_ranges.specs.Questions.{fault_says, is_recorded, range_says, implementation_says}
-use Rattle.fast_check_package_ranges.specs.Questions.{asks_entry_point, asks_dependency, asks_module, yield_says}
+use Rattle.fast_check_package_ranges.specs.Questions.{asks_known, asks_entry_point, asks_dependency, asks_module, yield_says}
 use Rattle.fast_check_told_faults.specs.Once.{any_report, tells, where_found}
 use Rattle.fast_check_package_ranges.specs.Parts.{is_text, is_package, module_says, found_module_says, found_says, finding_says}
 use Rattle.fast_check_told_faults.proofs.Bools.{or_none, and_or}
@@ -46,9 +46,10 @@ faulty_says nv t f (about u m) = ap (λ b. (bytes_eq u t && is_recorded m) || b)
 abbrev faults_say : Question → List (Parts × EntryFault) → Bool
 faults_say q faults = list_any (λ f. asks_module (serialize f.0) (λ m. is_recorded m || fault_says (entry_fault f.1) m) q) faults
 
-entered_says : (e : EnteredPackage) (q : Question) →
-    list_any (says q) (entered_yields e) ≡ (list_any (λ url. asks_entry_point (serialize url) q) e.entry_points.items || faults_say q e.faults.items)
-entered_says e q = list_any-append (says q) (map (λ url. entry_point (nv_of e.package) (serialize url)) e.entry_points.items)
+entered_says : (e : EnteredPackage) (q : Question) → list_any (says q) (entered_yields e)
+    ≡ (asks_known q || (list_any (λ url. asks_entry_point (serialize url) q) e.entry_points.items || faults_say q e.faults.items))
+entered_says e q = ap (λ b. asks_known q || b)
+    (list_any-append (says q) (map (λ url. entry_point (nv_of e.package) (serialize url)) e.entry_points.items)
     (flat_map (λ f. faulty_module (nv_of e.package) (serialize f.0) (entry_fault f.1)) e.faults.items) ∙
     (ap (λ b. b || list_any (says q) (flat_map (λ f. faulty_module (nv_of e.package) (serialize f.0) (entry_fault f.1)) e.faults.items))
     (any_map (says q) (λ url. entry_point (nv_of e.package) (serialize url)) e.entry_points.items) ∙
@@ -56,7 +57,7 @@ entered_says e q = list_any-append (says q) (map (λ url. entry_point (nv_of e.p
     (any_flat (says q) (λ f. faulty_module (nv_of e.package) (serialize f.0) (entry_fault f.1)) e.faults.items ∙
     any_alike (λ f. list_any (says q) (faulty_module (nv_of e.package) (serialize f.0) (entry_fault f.1)))
     (λ f. asks_module (serialize f.0) (λ m. is_recorded m || fault_says (entry_fault f.1) m) q)
-    (λ f. faulty_says (nv_of e.package) (serialize f.0) (entry_fault f.1) q) e.faults.items))
+    (λ f. faulty_says (nv_of e.package) (serialize f.0) (entry_fault f.1) q) e.faults.items)))
 
 -- what is found of a package that is entered
 pub entered_found : (e : EnteredPackage) (found : FoundPackage) → found.entry_points.items ≡ e.entry_points.items → found.dependencies.items ≡ [] →

@@ -4,4 +4,5 @@ pub mod Converted
 pub mod Joined
 pub mod FoundSays
 pub mod Told
+pub mod Only
 pub mod Answered

@@ -1,25 +1,26 @@
 -- What answers by package say.
-use Rattle.std.specs.Prelude.{◌≡◌, Bool, true, false, ◌||◌, List, ⊤, Option, Some, None}
-use Rattle.std.specs.List.{list_any, flat_map, IsDistinct}
+use Rattle.std.specs.Prelude.{◌≡◌, Bool, true, false, ◌&&◌, ◌||◌, List, [], Option, Some, None}
+use Rattle.std.specs.List.{list_any, Contains, IsDistinct}
 use Rattle.std.specs.BTreeMap.{BTreeMap}
 use Rattle.fast_check_packages.specs.Package.{Nv}
 use Rattle.fast_check_packages.specs.declared.package.PackageNv.{PackageNv}
+use Rattle.url.specs.Parts.{Parts}
+use Rattle.fast_check_cache.specs.declared.item.FastCheckCacheModuleItem.{FastCheckCacheModuleItem}
 use Rattle.fast_check_cache.specs.declared.package_ranges.PackagePublicRanges.{PackagePublicRanges}
 use Rattle.fast_check_diagnostics.specs.PublicRanges.{PublicRanges, is_public, is_implementation}
 use Rattle.fast_check_diagnostics.specs.declared.diagnostics.FastCheckDiagnostic.{FastCheckDiagnostic}
 use Rattle.fast_check_diagnostics.specs.declared.diagnostics.FastCheckDiagnostic.TheVariants.{ExportNotFound}
 use Rattle.fast_check_diagnostics.specs.declared.diagnostics.FastCheckDiagnostic.TheVariants.{UnsupportedJavaScriptEntrypoint}
 use Rattle.fast_check_diagnostics.specs.declared.diagnostics.FastCheckDiagnostic.TheVariants.{UnsupportedNestedJavaScript}
-use Rattle.fast_check_worklists.specs.Demands.{Text, same_nv}
-use Rattle.fast_check_findings.specs.faults.Reports.{Report}
-use Rattle.fast_check_findings.specs.declared.finding.Finding.{Finding}
-use Rattle.fast_check_findings.specs.Findings.{yields_of}
+use Rattle.fast_check_worklists.specs.Demands.{Text}
+use Rattle.fast_check_findings.specs.faults.Reports.{Report, told}
+use Rattle.fast_check_findings.specs.Yields.{Yield}
 use Rattle.fast_check_package_ranges.specs.Questions.{ModuleQuestion, whether_recorded, whether_public, whether_implementing}
 use Rattle.fast_check_package_ranges.specs.Questions.{whether_missing, whether_untyped_entry, whether_untyped, whether_told, whether_otherwise_faulty}
 use Rattle.fast_check_package_ranges.specs.Questions.{Question, whether_known, whether_entry_point, whether_dependency, whether_refused, about}
-use Rattle.fast_check_package_ranges.specs.Questions.{yields_say, is_said, IsTextless}
+use Rattle.fast_check_package_ranges.specs.Questions.{is_report, is_said, IsTextless}
 use Rattle.fast_check_told_faults.specs.Once.{any_report, tells, where_found, same_told}
-use Rattle.fast_check_package_ranges.specs.Parts.{is_text, is_package, lookup_text, lookup_package, package_found}
+use Rattle.fast_check_package_ranges.specs.Parts.{is_text, is_package, lookup_text, lookup_package}
 
 -- Diagnostics of a module as a whole carry its specifier.
 abbrev pub tells_missing : Text → FastCheckDiagnostic → Bool
@@ -36,6 +37,18 @@ tells_untyped t _ = false
 
 abbrev pub tells_otherwise : Text → FastCheckDiagnostic → Bool
 tells_otherwise t d = tells_missing t d || (tells_untyped_entry t d || tells any_report d)
+
+-- two diagnostics tell the same of a module
+abbrev pub tell_alike : Text → FastCheckDiagnostic → FastCheckDiagnostic → Bool
+tell_alike t a b = (tells_missing t a && tells_missing t b)
+    || ((tells_untyped_entry t a && tells_untyped_entry t b) || ((tells_untyped t a && tells_untyped t b) || same_told a b))
+
+-- the yields say what a diagnostic tells of a module: of the module as a whole, or of a fault of a demand, with its source text
+abbrev pub is_so : List Yield → Nv → Text → FastCheckDiagnostic → Bool
+is_so yields nv t d = (tells_missing t d && is_said yields nv (about t whether_missing))
+    || ((tells_untyped_entry t d && is_said yields nv (about t whether_untyped_entry))
+    || ((tells_untyped t d && is_said yields nv (about t whether_untyped))
+    || where_found (λ r. is_said yields nv (about t (whether_told (is_report r)))) (told d)))
 
 -- the answer about a module
 abbrev pub module_answer : Text → ModuleQuestion → PublicRanges → Bool
@@ -60,28 +73,29 @@ package_answer (about t q) p = where_found (module_answer t q) (lookup_text t p.
 abbrev pub answer : BTreeMap PackageNv PackagePublicRanges → Nv → Question → Bool
 answer answers nv q = where_found (package_answer q) (lookup_package nv answers.entries)
 
--- no fault is told twice of a module
-abbrev pub IsToldOnce : Option PublicRanges → Type 0
-IsToldOnce None = ⊤
-IsToldOnce (Some m) = IsDistinct same_told m.diagnostics
+-- the diagnostics of a module in the answers
+abbrev pub module_diagnostics : Option PublicRanges → List FastCheckDiagnostic
+module_diagnostics None = []
+module_diagnostics (Some m) = m.diagnostics
 
-abbrev pub AreToldOnce : Text → Option PackagePublicRanges → Type 0
-AreToldOnce t None = ⊤
-AreToldOnce t (Some p) = IsToldOnce (lookup_text t p.module_ranges.entries)
+abbrev pub package_diagnostics : Text → Option PackagePublicRanges → List FastCheckDiagnostic
+package_diagnostics t None = []
+package_diagnostics t (Some p) = module_diagnostics (lookup_text t p.module_ranges.entries)
 
-abbrev pub IsOnce : BTreeMap PackageNv PackagePublicRanges → Type 0
-IsOnce answers = (nv : Nv) (t : Text) → AreToldOnce t (lookup_package nv answers.entries)
+abbrev pub diagnostics_of : BTreeMap PackageNv PackagePublicRanges → Nv → Text → List FastCheckDiagnostic
+diagnostics_of answers nv t = package_diagnostics t (lookup_package nv answers.entries)
 
--- what findings say: of a package that anything was found of it, and else what their yields say
-abbrev pub found_to_say : List Finding → Nv → Question → Bool
-found_to_say found nv whether_known = list_any (λ f. same_nv nv (package_found f)) found
-found_to_say found nv q = is_said (flat_map yields_of found) nv q
+-- what of a package comes from a cache
+abbrev pub cached_of : Option PackagePublicRanges → List (Parts × FastCheckCacheModuleItem)
+cached_of None = []
+cached_of (Some p) = p.cache_items.items
 
--- the answers say what the findings say, and nothing else
-abbrev pub IsSaid : List Finding → BTreeMap PackageNv PackagePublicRanges → Type 0
-IsSaid found answers = (nv : Nv) (q : Question) → IsTextless q → answer answers nv q ≡ found_to_say found nv q
-
--- what is told of a fault is, with its source text, what some finding tells
-abbrev pub IsExact : List Finding → BTreeMap PackageNv PackagePublicRanges → Type 0
-IsExact found answers = (nv : Nv) (t : Text) (test : Report → Bool) → answer answers nv (about t (whether_told test)) ≡ true →
-    yields_say (flat_map yields_of found) nv (about t (whether_told test)) ≡ true
+-- The answers say what the yields say, and nothing else. What is told of a fault is, with its source text, what some yield tells; every diagnostic of
+-- a module tells what its yields say, and no two tell the same; and nothing comes from a cache.
+pub record AreAnswers (yields : List Yield) (answers : BTreeMap PackageNv PackagePublicRanges) : Type 0 where
+  pub said : (nv : Nv) (q : Question) → IsTextless q → answer answers nv q ≡ is_said yields nv q
+  pub exact : (nv : Nv) (t : Text) (test : Report → Bool) → answer answers nv (about t (whether_told test)) ≡ true →
+      is_said yields nv (about t (whether_told test)) ≡ true
+  pub only : (nv : Nv) (t : Text) (d : FastCheckDiagnostic) → Contains (diagnostics_of answers nv t) d → is_so yields nv t d ≡ true
+  pub once : (nv : Nv) (t : Text) → IsDistinct (tell_alike t) (diagnostics_of answers nv t)
+  pub uncached : (nv : Nv) → cached_of (lookup_package nv answers.entries) ≡ []

@@ -74,7 +74,6 @@ package_found (Untyped u) = nv_of u.package
 
 -- what a finding says of its package
 abbrev pub finding_says : Finding → Question → Bool
-finding_says f whether_known = true
 finding_says f q = list_any (λ y. yield_says y q) (yields_of f)
 
 abbrev pub finding_says_of : Nv → Question → Finding → Bool

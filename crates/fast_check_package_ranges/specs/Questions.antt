@@ -9,7 +9,7 @@ use Rattle.fast_check_findings.specs.faults.Reports.{Report}
 use Rattle.fast_check_told_faults.specs.Once.{same_report}
 use Rattle.fast_check_worklists.specs.Demands.{Text, same_nv}
 use Rattle.fast_check_findings.specs.Yields.{ModuleFault, missing_entry, untyped_entry, untyped_module, of_demand}
-use Rattle.fast_check_findings.specs.Yields.{Yield, entry_point, refused_export, dependency, recorded, public, implementing, faulty}
+use Rattle.fast_check_findings.specs.Yields.{Yield, known_package, entry_point, refused_export, dependency, recorded, public, implementing, faulty}
 
 -- About a module: whether it is recorded; whether a range is public, or one of an implementation of overloads; whether it is an entry point that is
 -- not found, one whose types are not known, or another module whose types are not known; whether a fault of a demand that passes a test is told;
@@ -24,7 +24,7 @@ pub data ModuleQuestion : Type 0 where
   whether_told : (Report → Bool) → ModuleQuestion
   whether_otherwise_faulty : ModuleQuestion
 
--- About a package: whether anything is found of it; whether a module is an entry point; whether it depends on another; whether an export text
+-- About a package: whether it stands in the answer; whether a module is an entry point; whether it depends on another; whether an export text
 -- is refused; and what can be asked about a module.
 pub data Question : Type 0 where
   whether_known : Question
@@ -56,24 +56,34 @@ abbrev pub implementation_says : SourceRange → ModuleQuestion → Bool
 implementation_says s (whether_implementing r) = same_range r s
 implementation_says s _ = false
 
+-- Each yield says that its package is known.
+abbrev pub asks_known : Question → Bool
+asks_known whether_known = true
+asks_known _ = false
+
 abbrev pub asks_entry_point : Text → Question → Bool
+asks_entry_point u whether_known = true
 asks_entry_point u (whether_entry_point t) = bytes_eq t u
 asks_entry_point u _ = false
 
 abbrev pub asks_refused : Text → Question → Bool
+asks_refused u whether_known = true
 asks_refused u (whether_refused t) = bytes_eq t u
 asks_refused u _ = false
 
 abbrev pub asks_dependency : Nv → Question → Bool
+asks_dependency e whether_known = true
 asks_dependency e (whether_dependency d) = same_nv d e
 asks_dependency e _ = false
 
--- the question is about the module, and passes the test
+-- a question about the module has to pass the test
 abbrev pub asks_module : Text → (ModuleQuestion → Bool) → Question → Bool
+asks_module u says whether_known = true
 asks_module u says (about t q) = bytes_eq t u && says q
 asks_module u says _ = false
 
 abbrev pub package_of : Yield → Nv
+package_of (known_package nv) = nv
 package_of (entry_point nv t) = nv
 package_of (refused_export nv t) = nv
 package_of (dependency nv d) = nv
@@ -84,6 +94,7 @@ package_of (faulty nv t f) = nv
 
 -- what a yield says of its package
 abbrev pub yield_says : Yield → Question → Bool
+yield_says (known_package nv) = asks_known
 yield_says (entry_point nv t) = asks_entry_point t
 yield_says (refused_export nv t) = asks_refused t
 yield_says (dependency nv d) = asks_dependency d
@@ -100,6 +111,10 @@ yields_say yields nv q = list_any (λ y. same_nv nv (package_of y) && yield_says
 abbrev pub is_said : List Yield → Nv → Question → Bool
 is_said yields nv (about t whether_untyped) = yields_say yields nv (about t whether_untyped) && not (yields_say yields nv (about t whether_otherwise_faulty))
 is_said yields nv q = yields_say yields nv q
+
+-- reports that are one, and have one source text
+abbrev pub is_report : Report → Report → Bool
+is_report a b = same_report a b && bytes_eq a.text b.text
 
 -- reports that are one answer the question alike
 abbrev pub IsTextlessAbout : ModuleQuestion → Type 0

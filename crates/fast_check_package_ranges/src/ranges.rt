@@ -1,14 +1,15 @@
-ghost use Rattle.std.specs.Prelude.{◌≡◌, ◌&&◌, ◌||◌, not, Bool, OnOk, IfOk};
-ghost use Rattle.std.specs.List.{list_any};
+ghost use Rattle.std.specs.Prelude.{◌≡◌, ◌++◌, ◌&&◌, ◌||◌, not, OnOk, IfOk};
+ghost use Rattle.std.specs.List.{list_any, flat_map};
 ghost use Rattle.url.specs.Parts.{serialize};
 ghost use Rattle.fast_check_packages.specs.Package.{Nv};
 ghost use Rattle.fast_check_diagnostics.specs.declared.diagnostics.FastCheckDiagnostic.TheVariants.{ExportNotFound, UnsupportedJavaScriptEntrypoint};
 ghost use Rattle.fast_check_diagnostics.specs.declared.diagnostics.FastCheckDiagnostic.TheVariants.{UnsupportedNestedJavaScript};
 ghost use Rattle.fast_check_worklists.specs.Demands.{Text};
+ghost use Rattle.fast_check_findings.specs.Findings.{yields_of};
 ghost use Rattle.fast_check_told_faults.specs.Once.{any_report, tells};
 ghost use Rattle.fast_check_package_ranges.specs.Parts.{is_text, is_package, lookup_text, lookup_package};
-ghost use Rattle.fast_check_package_ranges.specs.Answers.{IsSaid, IsExact, IsOnce};
-ghost use Rattle.fast_check_package_ranges.specs.Made.{whole_tell, IsModuleAnswer, AreModuleAnswers, IsPackageAnswer, ArePackageAnswers};
+ghost use Rattle.fast_check_package_ranges.specs.Answers.{AreAnswers};
+ghost use Rattle.fast_check_package_ranges.specs.Made.{told_if, whole_diagnostics, IsModuleAnswer, AreModuleAnswers, IsPackageAnswer, ArePackageAnswers};
 
 use crate::found::packages_found;
 use crate::parts::{ModuleParts, PackageParts, either};
@@ -25,8 +26,7 @@ fn push_missing(
     is_missing: bool,
     out: &mut Vec<FastCheckDiagnostic>,
 ) -> Result<(), AllocError>
-    ensures { OnOk result ((test : FastCheckDiagnostic → Bool) → list_any test out.new.items
-        ≡ (list_any test out.old.items || (is_missing && test (ExportNotFound specifier.now)))) }
+    ensures { OnOk result (out.new.items ≡ out.old.items ++ told_if is_missing (ExportNotFound specifier.now)) }
 {
     if !is_missing {
         return Ok(());
@@ -41,8 +41,7 @@ fn push_untyped_entry(
     is_untyped_entry: bool,
     out: &mut Vec<FastCheckDiagnostic>,
 ) -> Result<(), AllocError>
-    ensures { OnOk result ((test : FastCheckDiagnostic → Bool) → list_any test out.new.items
-        ≡ (list_any test out.old.items || (is_untyped_entry && test (UnsupportedJavaScriptEntrypoint specifier.now)))) }
+    ensures { OnOk result (out.new.items ≡ out.old.items ++ told_if is_untyped_entry (UnsupportedJavaScriptEntrypoint specifier.now)) }
 {
     if !is_untyped_entry {
         return Ok(());
@@ -57,8 +56,7 @@ fn push_untyped(
     is_untyped: bool,
     out: &mut Vec<FastCheckDiagnostic>,
 ) -> Result<(), AllocError>
-    ensures { OnOk result ((test : FastCheckDiagnostic → Bool) → list_any test out.new.items
-        ≡ (list_any test out.old.items || (is_untyped && test (UnsupportedNestedJavaScript specifier.now)))) }
+    ensures { OnOk result (out.new.items ≡ out.old.items ++ told_if is_untyped (UnsupportedNestedJavaScript specifier.now)) }
 {
     if !is_untyped {
         return Ok(());
@@ -76,8 +74,7 @@ fn whole_diagnostics(
     is_untyped_entry: bool,
     is_untyped: bool,
 ) -> Result<Vec<FastCheckDiagnostic>, AllocError>
-    ensures { IfOk result (λ out. (test : FastCheckDiagnostic → Bool) →
-        list_any test out.items ≡ whole_tell specifier.now is_missing is_untyped_entry is_untyped test) }
+    ensures { IfOk result (λ out. out.items ≡ whole_diagnostics specifier.now is_missing is_untyped_entry is_untyped) }
 {
     let mut out = Vec::new(alloc);
     push_missing(specifier, is_missing, &mut out)?;
@@ -199,7 +196,7 @@ fn all_ranges(
     Ok(made)
 }
 
-/// What was found, by package and module. A package is there if it was entered, or if anything was found of it.
+/// What was found, by package and module. A package is there exactly if it was entered, or if anything was found of it.
 ///
 /// No diagnostic is told twice of a module. Those of the module as a whole come first, and then the faults of demands by their places in the text.
 /// That the types of a module are not known is told where nothing else is told of it. Nothing comes from a cache.
@@ -207,9 +204,7 @@ pub fn package_ranges(
     alloc: Global,
     found: Vec<Finding>,
 ) -> Result<BTreeMap<PackageNv, PackagePublicRanges>, AllocError>
-    ensures said { IfOk result (IsSaid found.items) }
-    ensures exact { IfOk result (IsExact found.items) }
-    ensures once { IfOk result IsOnce }
+    ensures { IfOk result (AreAnswers (flat_map yields_of found.items)) }
 {
     let packages = packages_found(alloc, found)?;
     let answers = all_ranges(alloc, packages)?;

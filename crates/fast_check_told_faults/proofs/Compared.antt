@@ -1,7 +1,8 @@
 -- Faults that compare alike are told alike.
-use Rattle.std.proofs.Common.{◌≡◌, refl, ℕ, List}
-use Rattle.std.specs.Cmp.{both_tied, unsigned_ties}
-use Rattle.std.specs.Cmp.Lexicographic.{slice_cmp, texts_ties}
+use Rattle.std.proofs.Common.{◌≡◌, refl, ℕ, Bool, true, false, ◌&&◌, ◌==◌, List}
+use Rattle.std.specs.Cmp.{both_tied, unsigned_ties, unsigned_Decides}
+use Rattle.std.specs.Cmp.Lexicographic.{slice_cmp, texts_ties, nat_list_eq_equiv}
+use Rattle.std.specs.Str.{bytes_eq}
 use Rattle.std.specs.Ordering.{is_eq, nat_cmp}
 use Rattle.std.specs.Prelude.{string_bytes}
 use Rattle.url.specs.Parts.{serialize}
@@ -12,6 +13,7 @@ use Rattle.fast_check_demands.specs.declared.fault.FaultKind.{FaultKind}
 use Rattle.fast_check_demands.specs.declared.fault.FaultKind.TheVariants.{PrivateMember, NotFound, TooComplex}
 use Rattle.fast_check_diagnostics.specs.PublicRanges.{same_range}
 use Rattle.fast_check_faults.specs.Once.{same_kind}
+use Rattle.fast_check_faults.specs.Reports.{Report}
 use Rattle.fast_check_told_faults.specs.contracts.once.ToldFaultOrd.TheImpl as order
 use Rattle.fast_check_told_faults.specs.declared.once.ToldFault.{ToldFault}
 use Rattle.fast_check_told_faults.specs.Once.{report_with, same_report}
@@ -36,3 +38,27 @@ compares a b t u = both_tied _ _ (range_order.cmp-value.it a.range b.range) _ (r
     (both_tied _ _ (slice_cmp nat_cmp (string_bytes a.name) (string_bytes b.name)) _ (texts_ties (string_bytes a.name) (string_bytes b.name))
     (both_tied _ _ (slice_cmp nat_cmp (string_bytes a.referrer) (string_bytes b.referrer)) (slice_cmp nat_cmp (serialize a.specifier) (serialize b.specifier))
     (texts_ties (string_bytes a.referrer) (string_bytes b.referrer)) (texts_ties (serialize a.specifier) (serialize b.specifier)))))
+
+-- a report is one with itself
+
+pub and_both : (a b : Bool) → a ≡ true → b ≡ true → (a && b) ≡ true
+and_both true b h g = g
+and_both false b h g = h
+
+same_number : (n : ℕ) → (n == n) ≡ true
+same_number n = (unsigned_Decides n n).1 refl
+
+kind_itself : (k : FaultKind) → same_kind k k ≡ true
+kind_itself PrivateMember = refl
+kind_itself NotFound = refl
+kind_itself TooComplex = refl
+
+range_itself : (r : SourceRange) → same_range r r ≡ true
+range_itself r = and_both (r.start.0 == r.start.0) (r.end.0 == r.end.0) (same_number r.start.0) (same_number r.end.0)
+
+pub same_itself : (r : Report) → same_report r r ≡ true
+same_itself r = and_both (same_range r.range r.range) _ (range_itself r.range)
+    (and_both (same_kind r.kind r.kind) _ (kind_itself r.kind)
+    (and_both (bytes_eq r.name r.name) _ (nat_list_eq_equiv.refl r.name)
+    (and_both (bytes_eq r.referrer r.referrer) (bytes_eq (serialize r.specifier) (serialize r.specifier)) (nat_list_eq_equiv.refl r.referrer)
+    (nat_list_eq_equiv.refl (serialize r.specifier)))))

@@ -1,18 +1,17 @@
 -- No fault is told twice.
-use Rattle.std.proofs.Common.{◌≡◌, ◌∙◌, sym, refl, ap, Bool, false, true, ◌||◌, List, [], ◌∷◌, ◌++◌, Option, Some, None}
-use Rattle.std.specs.List.{list_any, IsDistinct, AllByRecursion}
+use Rattle.std.proofs.Common.{◌≡◌, ◌∙◌, ap, false, List, [], ◌∷◌, ◌++◌, Some}
+use Rattle.std.specs.List.{IsDistinct, AllByRecursion}
 use Rattle.std.specs.Map.{keys_of}
 use Rattle.std.specs.Ordering.{eq_by_cmp}
 use Rattle.std.specs.declared.alloc.Global.{Global}
 use Rattle.std.specs.declared.rc.RcStr.{RcStr}
 use Rattle.std.specs.Rc.{rc_str_bytes}
-use Rattle.std.proofs.lemmas.Bool.{false≢true, or_parts}
 use Rattle.std.proofs.lemmas.Map.Keys.{IsDistinct-cons, IsDistinct-head, IsDistinct-tail}
 use Rattle.fast_check_diagnostics.specs.declared.diagnostics.FastCheckDiagnostic.{FastCheckDiagnostic}
-use Rattle.fast_check_faults.specs.Reports.{Report, told}
+use Rattle.fast_check_faults.specs.Reports.{told}
 use Rattle.fast_check_told_faults.specs.contracts.once.ToldFaultOrd.TheImpl as order
 use Rattle.fast_check_told_faults.specs.declared.once.ToldFault.{ToldFault}
-use Rattle.fast_check_told_faults.specs.Once.{where_found, tells, any_report, same_report, same_told, report_with, AreOf}
+use Rattle.fast_check_told_faults.specs.Once.{where_found, tells, same_report, same_told, report_with, AreOf}
 use Rattle.fast_check_told_faults.proofs.Compared.{compares}
 
 pub of_push : (ds : List FastCheckDiagnostic) (es : List (ToldFault × RcStr Global)) (d : FastCheckDiagnostic) (e : ToldFault × RcStr Global) →
@@ -47,17 +46,3 @@ told_once (x ∷ xs) [] h s = absurd h
 told_once (x ∷ xs) (y ∷ ys) h s = IsDistinct-cons same_told x xs
     (apart x y xs ys h.0 h.1 (IsDistinct-head (eq_by_cmp order.cmp-value.it) y.0 (keys_of ys) s))
     (told_once xs ys h.1 (IsDistinct-tail (eq_by_cmp order.cmp-value.it) y.0 (keys_of ys) s))
-
--- what tells of no demand is told beside others
-no_report : (f : Report → Bool) (o : Option Report) → where_found any_report o ≡ false → where_found f o ≡ false
-no_report f None h = refl
-no_report f (Some r) h = absurd (false≢true (sym h))
-
-all_apart : (w : FastCheckDiagnostic) (ys : List FastCheckDiagnostic) → tells any_report w ≡ false → AllByRecursion (λ y. same_told w y ≡ false) ys
-all_apart w [] h = tt
-all_apart w (y ∷ ys) h = (no_report (λ r. tells (same_report r) y) (told w) h, all_apart w ys h)
-
-pub before : (ws xs : List FastCheckDiagnostic) → list_any (tells any_report) ws ≡ false → IsDistinct same_told xs → IsDistinct same_told (ws ++ xs)
-before [] xs h k = k
-before (w ∷ ws) xs h k = IsDistinct-cons same_told w (ws ++ xs) (all_apart w (ws ++ xs) (or_parts (tells any_report w) (list_any (tells any_report) ws) h).0)
-    (before ws xs (or_parts (tells any_report w) (list_any (tells any_report) ws) h).1 k)

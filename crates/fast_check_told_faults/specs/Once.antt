@@ -1,12 +1,9 @@
 -- Faults of demands, each told once.
-use Rattle.std.specs.Prelude.{⊤, [], ◌∷◌, ◌&&◌, Option, Some, None, ◌≡◌, ℕ, Bool, true, false, List, string_bytes}
+use Rattle.std.specs.Prelude.{⊤, [], ◌∷◌, ◌&&◌, not, Option, Some, None, ◌≡◌, ℕ, Bool, true, false, List, string_bytes}
 use Rattle.std.specs.Rc.{rc_str_bytes}
 use Rattle.std.specs.declared.alloc.Global.{Global}
 use Rattle.std.specs.declared.rc.RcStr.{RcStr}
 use Rattle.fast_check_diagnostics.specs.declared.diagnostics.FastCheckDiagnostic.{FastCheckDiagnostic}
-use Rattle.fast_check_diagnostics.specs.declared.diagnostics.FastCheckDiagnostic.TheVariants.{ExportNotFound}
-use Rattle.fast_check_diagnostics.specs.declared.diagnostics.FastCheckDiagnostic.TheVariants.{UnsupportedJavaScriptEntrypoint}
-use Rattle.fast_check_diagnostics.specs.declared.diagnostics.FastCheckDiagnostic.TheVariants.{UnsupportedNestedJavaScript}
 use Rattle.std.specs.Str.{bytes_eq}
 use Rattle.url.specs.Parts.{serialize}
 use Rattle.fast_check_diagnostics.specs.PublicRanges.{same_range}
@@ -60,9 +57,6 @@ AreOf _ _ = ⊥
 abbrev pub IsFair : (Report → Bool) → Type 0
 IsFair test = (a b : Report) → same_report a b ≡ true → test a ≡ test b
 
--- what is wrong with a module as a whole
-abbrev pub is_whole : FastCheckDiagnostic → Bool
-is_whole (ExportNotFound specifier) = true
-is_whole (UnsupportedJavaScriptEntrypoint specifier) = true
-is_whole (UnsupportedNestedJavaScript specifier) = true
-is_whole _ = false
+-- a diagnostic that is of no fault of a demand
+abbrev pub is_other : FastCheckDiagnostic → Bool
+is_other d = not (tells any_report d)

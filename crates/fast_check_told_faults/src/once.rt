@@ -2,7 +2,7 @@ ghost use Rattle.std.specs.Prelude.{◌≡◌, true, false, ◌||◌, Bool, Some
 ghost use Rattle.std.specs.List.{list_any, IsDistinct};
 ghost use Rattle.std.specs.Rc.{rc_str_bytes};
 ghost use Rattle.fast_check_faults.specs.Reports.{Report, report_of, told};
-ghost use Rattle.fast_check_told_faults.specs.Once.{IsFair, any_report, entry_tells, is_whole, same_told, report_with, tells};
+ghost use Rattle.fast_check_told_faults.specs.Once.{IsFair, any_report, entry_tells, is_other, same_told, report_with, tells};
 
 use fast_check_demands::FaultKind;
 use fast_check_diagnostics::{FastCheckDiagnostic, FastCheckDiagnosticRange};
@@ -74,8 +74,7 @@ fn told_fault(diagnostic: FastCheckDiagnostic) -> Option<(ToldFault, RcStr)>
 /// The diagnostic of a fault.
 #[tactic(auto, unfolding(fast_check_faults::specs::Reports::told))]
 fn diagnostic_of(fault: ToldFault, text_info: RcStr) -> FastCheckDiagnostic
-    ensures told { told result ≡ Some (report_with fault (rc_str_bytes text_info)) }
-    ensures whole { is_whole result ≡ false }
+    ensures { told result ≡ Some (report_with fault (rc_str_bytes text_info)) }
 {
     let ToldFault {
         range,
@@ -176,7 +175,7 @@ fn diagnostics_of(
     faults: BTreeMap<ToldFault, RcStr>,
 ) -> Result<Vec<FastCheckDiagnostic>, AllocError>
     ensures told { IfOk result (λ told. (test : Report → Bool) → list_any (tells test) told.items ≡ list_any (entry_tells test) faults.entries) }
-    ensures whole { IfOk result (λ told. list_any is_whole told.items ≡ false) }
+    ensures only { IfOk result (λ told. list_any is_other told.items ≡ false) }
     ensures once { IfOk result (λ told. IsDistinct same_told told.items) }
 {
     let mut told = Vec::new(alloc);
@@ -195,7 +194,7 @@ pub fn each_once(
         list_any (tells test) told.items ≡ list_any (tells test) diagnostics.items) }
     ensures exact { IfOk result (λ told. (test : Report → Bool) →
         list_any (tells test) told.items ≡ true → list_any (tells test) diagnostics.items ≡ true) }
-    ensures whole { IfOk result (λ told. list_any is_whole told.items ≡ false) }
+    ensures only { IfOk result (λ told. list_any is_other told.items ≡ false) }
     ensures once { IfOk result (λ told. IsDistinct same_told told.items) }
 {
     let faults = faults_of(alloc, diagnostics)?;

@@ -26,7 +26,7 @@ use Rattle.fast_check_traces.specs.Modules.{own_tables}
 use Rattle.fast_check_traces.specs.Wants.{re_export_ranges}
 use Rattle.fast_check_traces.proofs.OwnRanges.{own_demand}
 use Rattle.fast_check_worklists.specs.Demands.{Text, Want, to_package, to_module, to_symbol, Demand, of_package, of_module, of_symbol}
-use Rattle.fast_check_entries.specs.findings.Yields.{Yield, entry_point, refused_export, dependency, public, implementing, ModuleFault, recorded, faulty, untyped_module, of_demand}
+use Rattle.fast_check_entries.specs.findings.Yields.{Yield, known_package, entry_point, refused_export, dependency, public, implementing, ModuleFault, recorded, faulty, untyped_module, of_demand}
 use Rattle.fast_check_entries.specs.findings.Findings.{faulty_module, entry_fault, told_at}
 use Rattle.fast_check_entries.specs.Entries.{Entrance, passed_over, refused, entered, all_faults}
 use Rattle.fast_check_steps.specs.Sources.{Known, is_text, node_at, named_at, traced_as, typed_info, info_at, module_at, untyped_at}
@@ -155,9 +155,10 @@ module _ (k : Known) (found : AreFoundByOwnNames k.root_symbol) where
   of_entrance : (nv : Nv) (e : Entrance) → Each Q (entry_yields k.graph nv e)
   of_entrance nv passed_over = each_nil Q
   of_entrance nv (refused text) = each_one Q (refused_export nv text) tt
-  of_entrance nv (entered urls) = each_append Q (map (λ url. entry_point nv (serialize url)) urls) (flat_map (entry_fault_yields nv) (all_faults k.graph urls))
+  of_entrance nv (entered urls) = each_cons Q (known_package nv) _ tt
+      (each_append Q (map (λ url. entry_point nv (serialize url)) urls) (flat_map (entry_fault_yields nv) (all_faults k.graph urls))
       (each_map Q (λ url. entry_point nv (serialize url)) urls (λ url _. tt))
-      (each_flat Q (entry_fault_yields nv) (all_faults k.graph urls) (λ f _. one_faulty nv (serialize f.0) (entry_fault f.1)))
+      (each_flat Q (entry_fault_yields nv) (all_faults k.graph urls) (λ f _. one_faulty nv (serialize f.0) (entry_fault f.1))))
 
   pub own_yields : (d : Demand) → Each Q (gives k d)
   own_yields (of_package nv) = of_entrance nv (entrance_at k nv)

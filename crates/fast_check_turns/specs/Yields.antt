@@ -19,7 +19,7 @@ use Rattle.fast_check_traces.specs.Modules.{own_tables}
 use Rattle.fast_check_traces.specs.Wants.{re_export_ranges}
 use Rattle.fast_check_worklists.specs.Demands.{Text, Want, to_package, to_module, to_symbol, Demand, of_package, of_module, of_symbol}
 use Rattle.fast_check_entries.specs.findings.declared.finding.EntryFault.{EntryFault}
-use Rattle.fast_check_entries.specs.findings.Yields.{Yield, entry_point, refused_export, dependency, recorded, public, implementing, untyped_module}
+use Rattle.fast_check_entries.specs.findings.Yields.{Yield, known_package, entry_point, refused_export, dependency, recorded, public, implementing, untyped_module}
 use Rattle.fast_check_entries.specs.findings.Findings.{faulty_module, entry_fault, told_at}
 use Rattle.fast_check_entries.specs.Entries.{Entrance, passed_over, refused, entered, all_faults}
 use Rattle.fast_check_steps.specs.Sources.{Known, module_at, untyped_at}
@@ -82,7 +82,8 @@ entry_fault_yields nv f = faulty_module nv (serialize f.0) (entry_fault f.1)
 abbrev pub entry_yields : ModuleGraph → Nv → Entrance → List Yield
 entry_yields g nv passed_over = []
 entry_yields g nv (refused text) = refused_export nv text ∷ []
-entry_yields g nv (entered urls) = map (λ url. entry_point nv (serialize url)) urls ++ flat_map (entry_fault_yields nv) (all_faults g urls)
+entry_yields g nv (entered urls) =
+    known_package nv ∷ (map (λ url. entry_point nv (serialize url)) urls ++ flat_map (entry_fault_yields nv) (all_faults g urls))
 
 abbrev pub gives : Known → Demand → List Yield
 gives k (of_package nv) = entry_yields k.graph nv (entrance_at k nv)

@@ -2,7 +2,7 @@ ghost use Rattle.std.specs.Prelude.{◌≡◌, ◌++◌, ◌∷◌, [], map, OnO
 ghost use Rattle.std.specs.List.{flat_map};
 ghost use Rattle.url.specs.Parts.{serialize};
 ghost use Rattle.fast_check_packages.specs.Package.{nv_of};
-ghost use Rattle.fast_check_entries.specs.findings.Yields.{entry_point};
+ghost use Rattle.fast_check_entries.specs.findings.Yields.{known_package, entry_point};
 ghost use Rattle.fast_check_entries.specs.findings.Findings.{yields_of};
 ghost use Rattle.fast_check_entries.specs.Entries.{entered, entrance_seen, TellsRefused};
 ghost use Rattle.fast_check_worklists.specs.State.{want_of, state_of};
@@ -65,7 +65,8 @@ fn entered_package(
     faults: Vec<(Url, EntryFault)>,
 ) -> Result<Finding, AllocError>
     ensures { IfOk result (λ finding. yields_of finding
-        ≡ map (λ url. entry_point (nv_of nv.now) (serialize url)) entry_points.items ++ flat_map (entry_fault_yields (nv_of nv.now)) faults.items) }
+        ≡ known_package (nv_of nv.now)
+        ∷ (map (λ url. entry_point (nv_of nv.now) (serialize url)) entry_points.items ++ flat_map (entry_fault_yields (nv_of nv.now)) faults.items)) }
 {
     let package = copy_of(nv)?;
     Ok(Finding::Entered(EnteredPackage {

@@ -1,9 +1,8 @@
-use Rattle.std.proofs.Common.{◌∙◌, ap, ◌&&◌, ◌||◌}
+use Rattle.std.proofs.Common.{◌∙◌, ap, ◌&&◌, ◌||◌, ◌++◌}
 use Rattle.std.specs.Prelude.{not}
 use Rattle.std.specs.List.{list_any}
-use Rattle.std.proofs.lemmas.List.Folds.{list_any-append}
 use Rattle.fast_check_told_faults.specs.Once.{any_report, tells}
-use Rattle.fast_check_package_ranges.specs.Made.{whole_tell}
+use Rattle.fast_check_package_ranges.specs.Made.{whole_diagnostics}
 use Rattle.fast_check_package_ranges.proofs.Told.{module_made}
 use Rattle.fast_check_package_ranges.proofs.ranges.module_ranges.Goals as goal
 
@@ -14,17 +13,12 @@ returns c =
     let told = c.in_ok-told.told.items in
     module_made s parts c.in_ok-made.made told c.in_ok-made.ensures.public c.in_ok-made.ensures.implementations
     (record {
-      all = λ test. ap (list_any test) (c.in_ok-made.ensures.diagnostics ∙ c.in_ok-append.ensures.items) ∙ (list_any-append test c.in_ok-out.out.items told ∙
-          ap (λ b. b || list_any test told) (c.in_ok-out.ensures test ∙ ap (λ u. whole_tell s parts.is_missing parts.is_untyped_entry u test)
+      out_is = c.in_ok-made.ensures.diagnostics ∙ (c.in_ok-append.ensures.items ∙ ap (λ ds. ds ++ told)
+          (c.in_ok-out.ensures ∙ ap (λ u. whole_diagnostics s parts.is_missing parts.is_untyped_entry u)
           (c.only_first-is_untyped.ensures ∙ ap (λ o. parts.is_untyped && not o) (c.is_otherwise_faulty-is_faulty.ensures ∙
           ap (λ ds. parts.is_missing || (parts.is_untyped_entry || list_any (tells any_report) ds)) c.as_slice.ensures.value))));
-      wholes_first = c.in_ok-out.out.items;
-      out_is = c.in_ok-made.ensures.diagnostics ∙ c.in_ok-append.ensures.items;
-      wholes_are = c.in_ok-out.ensures (tells any_report) ∙ ap (λ u. whole_tell s parts.is_missing parts.is_untyped_entry u (tells any_report))
-          (c.only_first-is_untyped.ensures ∙ ap (λ o. parts.is_untyped && not o) (c.is_otherwise_faulty-is_faulty.ensures ∙
-          ap (λ ds. parts.is_missing || (parts.is_untyped_entry || list_any (tells any_report) ds)) c.as_slice.ensures.value));
-      once = c.in_ok-told.ensures.once;
       same = c.in_ok-told.ensures.same;
       exact = c.in_ok-told.ensures.exact;
-      whole = c.in_ok-told.ensures.whole;
+      only = c.in_ok-told.ensures.only;
+      once = c.in_ok-told.ensures.once;
     })

@@ -1,3 +1,4 @@
+use Rattle.std.specs.Prelude.{not}
 use Rattle.std.proofs.Common.{◌≡◌, ◌∙◌, sym, ap, subst, ◌||◌, List, [], ◌∷◌, ◌++◌, map, rules}
 use Rattle.std.specs.List.{list_any, IsDistinct}
 use Rattle.std.specs.Ordering.{eq_by_cmp}
@@ -11,7 +12,7 @@ use Rattle.fast_check_told_faults.specs.declared.once.ToldFault.{ToldFault}
 use Rattle.fast_check_told_faults.proofs.Distinct.{of_push, told_once}
 use Rattle.std.proofs.lemmas.List.{map-id}
 use Rattle.std.proofs.lemmas.Map.Iter.{iter_end}
-use Rattle.fast_check_told_faults.specs.Once.{entry_tells, is_whole, tells, where_found, AreOf}
+use Rattle.fast_check_told_faults.specs.Once.{any_report, entry_tells, is_other, tells, where_found, AreOf}
 use Rattle.fast_check_told_faults.proofs.Lists.{any_push}
 use Rattle.fast_check_told_faults.proofs.once.diagnostics_of.Goals as goal
 
@@ -19,14 +20,14 @@ pub loop-fault-preserved : goal.loop-fault-preserved
 loop-fault-preserved c = record {
   told = λ test. ap (list_any (tells test)) c.in_ok-push.ensures.items ∙ (any_push (tells test) c.loop-fault.told.items c.diagnostic_of.result ∙
       (ap (λ b. b || tells test c.diagnostic_of.result) (c.loop-fault.invariant.told test) ∙
-      (ap (λ o. list_any (entry_tells test) c.loop-fault.yielded || where_found test o) c.diagnostic_of.ensures.told ∙
+      (ap (λ o. list_any (entry_tells test) c.loop-fault.yielded || where_found test o) c.diagnostic_of.ensures ∙
       sym (any_push (entry_tells test) c.loop-fault.yielded (c.in-Some.fault, c.in-Some.text_info)))));
   of = subst (λ (xs : List FastCheckDiagnostic). AreOf xs (c.loop-fault.yielded ++ (c.in-Some.fault, c.in-Some.text_info) ∷ []))
       (sym c.in_ok-push.ensures.items)
       (of_push c.loop-fault.told.items c.loop-fault.yielded c.diagnostic_of.result (c.in-Some.fault, c.in-Some.text_info) c.loop-fault.invariant.of
-      c.diagnostic_of.ensures.told);
-  whole = ap (list_any is_whole) c.in_ok-push.ensures.items ∙ (any_push is_whole c.loop-fault.told.items c.diagnostic_of.result ∙
-      (ap (λ b. b || is_whole c.diagnostic_of.result) c.loop-fault.invariant.whole ∙ c.diagnostic_of.ensures.whole));
+      c.diagnostic_of.ensures);
+  only = ap (list_any is_other) c.in_ok-push.ensures.items ∙ (any_push is_other c.loop-fault.told.items c.diagnostic_of.result ∙
+      (ap (λ b. b || is_other c.diagnostic_of.result) c.loop-fault.invariant.only ∙ ap (λ o. not (where_found any_report o)) c.diagnostic_of.ensures));
 }
 
 pub returns-clause-told : goal.returns-clause-told
