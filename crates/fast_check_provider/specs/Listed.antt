@@ -1,5 +1,5 @@
 -- Packages that are listed with their URLs.
-use Rattle.std.specs.Prelude.{ℕ, Bool, ◌==◌, List, Option, Some, None}
+use Rattle.std.specs.Prelude.{ℕ, Bool, ◌==◌, List, reverse, Option, Some, None}
 use Rattle.std.specs.List.{find, starts_with}
 use Rattle.std.specs.Ordering.{is_eq}
 use Rattle.url.specs.Parts.{Parts, serialize}
@@ -13,9 +13,9 @@ Row = PackageNv × Parts
 abbrev pub begins_with : List ℕ → List ℕ → Bool
 begins_with beginning text = starts_with ◌==◌ text beginning
 
--- the first entry of a package
+-- the last entry of a package
 abbrev pub row_of : List Row → Nv → Option Row
-row_of rows nv = find (λ e. is_eq (nv_cmp nv (nv_of e.0))) rows
+row_of rows nv = find (λ e. is_eq (nv_cmp nv (nv_of e.0))) (reverse rows)
 
 -- the first entry whose URL begins the text of a URL
 abbrev pub row_at : List Row → List ℕ → Option Row

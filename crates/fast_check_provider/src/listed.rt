@@ -12,7 +12,7 @@ use url::Url;
 /// Packages that are listed with their URLs, and the URL of all others.
 #[derive(Debug, Drop)]
 pub struct ListedPackages {
-    /// Of entries with one package the first counts, and of entries whose URLs begin a URL the first.
+    /// Of entries with one package the last has its URL. A URL belongs to the package of the first entry whose URL begins it.
     pub packages: Vec<(PackageNv, Url)>,
     /// The URL of a package that is not listed.
     pub fallback: Url,
@@ -29,7 +29,7 @@ fn is_within(url: &Url, base: &Url) -> bool
 fn row_of<'a>(rows: &'a [(PackageNv, Url)], nv: &PackageNv) -> Option<&'a (PackageNv, Url)>
     ensures { option_copied result ≡ row_of rows.now (nv_of nv.now) }
 {
-    rows.iter().find(|row| nv.cmp(&row.0).is_eq())
+    rows.iter().rev().find(|row| nv.cmp(&row.0).is_eq())
 }
 
 fn row_at<'a>(rows: &'a [(PackageNv, Url)], url: &Url) -> Option<&'a (PackageNv, Url)>

@@ -1,8 +1,7 @@
 -- Entries of a graph, as they are seen through the maps that hold them.
 use Rattle.std.proofs.Common.{◌≡◌, ◌∙◌, sym, ap, refl, ℕ, Bool, true, false, cond, ◌&&◌, List, [], ◌∷◌, map, string_bytes, Option, Some, None, option_map}
-use Rattle.std.proofs.Common.{Result, Ok, Err}
 use Rattle.std.proofs.lemmas.Map.Text.{btree_map_updates_text}
-use Rattle.std.specs.Prelude.{String, option_and_then, unwrap_or, IsOkAnd, IfOk}
+use Rattle.std.specs.Prelude.{String, option_and_then, unwrap_or}
 use Rattle.std.specs.BTreeMap.{BTreeMap, get, Updates, is_at}
 use Rattle.std.specs.Map.{lookup}
 use Rattle.std.specs.Option.{option_or}
@@ -137,11 +136,6 @@ resolutions_gathered others (e ∷ es) = resolutions_gathered (resolved_also e o
 
 -- ---- graphs
 
--- what holds of an `Ok` that is there
-pub if_ok : {A E : Type 0} (P Q : A → Type 0) (r : Result A E) → ((a : A) → P a → Q a) → IsOkAnd r P → IfOk r Q
-if_ok P Q (Ok a) f h = f a h
-if_ok P Q (Err e) f h = absurd h
-
 abbrev Packages : Type 0 → Type 0
 Packages S = BTreeMap PackageNv (IndexMap (String Global) (String Global) S)
 
@@ -162,15 +156,6 @@ graph_of_parts modules resolutions packages g h = λ i. record {
   packages = λ nv. (ap (option_map seen_exports) (h.has_packages (nv_of nv))
       ∙ map_twice (λ m. m.entries) seen_exports (lookup (is_package (nv_of nv)) packages.entries)) i;
 }
-
--- that of no parts
-pub graph_of_none : {S : Type 0} (modules : BTreeMap Parts Module) (resolutions : BTreeMap Parts Texts_of) (packages : Packages S) (g : ModuleGraph)
-    → modules.entries ≡ [] → resolutions.entries ≡ [] → packages.entries ≡ [] → IsGraphOf modules resolutions packages g → seen.graph g ≡ seen.no_graph
-graph_of_none modules resolutions packages g m r p h = graph_of_parts modules resolutions packages g h ∙ (λ i. record {
-  modules = λ specifier. lookup (is_specifier specifier) (m i);
-  resolutions = λ text referrer. option_and_then (text_resolved text) (lookup (is_specifier referrer) (r i));
-  packages = λ nv. option_map (λ m. seen_exports m.entries) (lookup (is_package (nv_of nv)) (p i));
-})
 
 -- that of maps of the last entries
 pub graph_of_entries : {S : Type 0} (ms : List (Parts × Module)) (ps : List (PackageNv × IndexMap (String Global) (String Global) S))

@@ -18,7 +18,7 @@ use Rattle.fast_check_symbols.specs.Entries.{last_value}
 use Rattle.fast_check_graph.specs.declared.graph.ModuleGraph.{ModuleGraph}
 use Rattle.fast_check_graph.specs.declared.module.Module.{Module}
 use Rattle.fast_check_graph.specs.Graph.{is_specifier, module_at, text_resolved, resolved_to, exports_of}
-use Rattle.fast_check_read_graph.specs.Reads.{given, list_of, both_of, three_of, or_null, or_default, listed, url_of}
+use Rattle.fast_check_read_graph.specs.Reads.{given, list_of, both_of, three_of, or_default, needed, listed, url_of}
 use Rattle.fast_check_read_graph.specs.Modules.{module_of}
 
 -- ---- what contracts see of a graph: what its look-ups find
@@ -115,14 +115,6 @@ members_of_graph value =
 abbrev pub graph_of : Data → Option SeenGraph
 graph_of value = given (as_object value) (λ members. members_of_graph value)
 
--- the graph of no modules
-abbrev pub no_graph : SeenGraph
-no_graph = graph_by [] no_resolutions []
-
-abbrev pub or_no_graph : Option SeenGraph → SeenGraph
-or_no_graph None = no_graph
-or_no_graph (Some g) = g
-
--- the graph of a member: of no modules where it is left out, or null
+-- the member graph, which has to stand
 abbrev pub graph_member_of : Data → Option SeenGraph
-graph_member_of value = option_map or_no_graph (or_default None (or_null graph_of) (get (codes "graph") value))
+graph_member_of = needed graph_of (codes "graph")

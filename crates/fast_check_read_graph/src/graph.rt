@@ -1,6 +1,6 @@
 //! The graph of modules.
 
-ghost use Rattle.std.specs.Prelude.{◌≡◌, [], IfOk, option_map};
+ghost use Rattle.std.specs.Prelude.{[], option_map};
 ghost use Rattle.std.specs.Str.{bytes_eq};
 ghost use Rattle.indexmap.specs.IndexMap.{insert_entry};
 ghost use Rattle.semver.specs.Identifiers.{parts_of};
@@ -13,7 +13,7 @@ ghost use Rattle.fast_check_read_graph.specs.Graph as graph;
 use crate::by::ByType;
 use crate::from_json::FromJson;
 use crate::gather::{Gather, gather_all};
-use crate::members::{read_list, read_option};
+use crate::members::{read_list, read_member};
 use fast_check_graph::ModuleGraph;
 use fast_check_packages::PackageNv;
 use fast_check_read::{ReadError, read_members, read_text};
@@ -191,21 +191,9 @@ impl FromJson for ModuleGraph {
     }
 }
 
-/// The graph of no modules.
-fn no_graph(alloc: Global) -> Result<ModuleGraph, AllocError>
-    ensures { IfOk result (λ made. graph.graph made ≡ graph.no_graph) }
-{
-    let modules = BTreeMap::new(alloc);
-    let resolutions = BTreeMap::new(alloc);
-    ModuleGraph::from_parts(alloc, modules, resolutions, BTreeMap::new(alloc))
-}
-
-/// The graph of the member `graph`: of no modules where that is left out, or null.
+/// The graph of the member `graph`, which has to stand.
 pub fn read_graph(alloc: Global, value: &Value) -> Result<ModuleGraph, ReadError>
     ensures { Reads graph.graph (graph.graph_member_of (view value.now)) result }
 {
-    match read_option(alloc, value, "graph")? {
-        Some(graph) => Ok(graph),
-        None => Ok(no_graph(alloc)?),
-    }
+    read_member(alloc, value, "graph")
 }

@@ -12,7 +12,7 @@ mod workspace;
 
 pub use by::{ByType, FromJsonBy};
 pub use from_json::FromJson;
-pub use gather::{Gather, both, gather_all, read_items_by};
+pub use gather::{Gather, both, gather_all};
 pub use graph::read_graph;
 pub use members::{
     read_flag, read_list, read_list_by, read_member, read_member_by, read_option, read_span,
