@@ -1,0 +1,95 @@
+"""The law of the places, the forms by their names, and the page."""
+from layout import camel, fill
+from schema import LEAF_FORMS, no_forms
+from table import LEAVES
+
+
+def places(table):
+    """`specs/Fields.antt` of the law: the name that JSON has for each field, and the definition that reads it."""
+    by_name = lambda file: file.name
+    files = [file for crate in table.form_crates() for file in sorted(table.files_of(crate), key=by_name)]
+    lines = [
+        "-- The fields of each form, in the order of its node's parts: the name that JSON has for a field, "
+        "and the definition that reads it.",
+        "use Rattle.std.specs.Prelude.{List, [], ◌∷◌}",
+        "use Rattle.fast_check_syntax.specs.declared.kind.Kind.{Kind}",
+        "use Rattle.fast_check_syntax.specs.declared.kind.Kind.TheVariants as kinds",
+        "use Rattle.fast_check_places.specs.Reading.{Field, tree, range, scope, flag, text}",
+    ]
+    lines += [f"use Rattle.fast_check_{file.crate}.specs.{camel(file.name)} as {file.name}" for file in files]
+    lines += [
+        "",
+        "-- a leaf and a list have no fields, and a mark has none that JSON shows",
+        "abbrev pub fields_of_form : Kind → List Field",
+    ]
+    for form in table.true_forms():
+        lines += places_of(form)
+    return lines + [f"fields_of_form kinds.{kind} = []" for kind in no_forms(table)]
+
+
+def places_of(form):
+    head = f"fields_of_form kinds.{form.name} ="
+    read = [f'{field.leaf or "tree"} "{field.name}" {form.file}.{form.name}-{field.name}' for field in form.fields]
+    parts = [part + " ∷" for part in read] + ["[]"]
+    line = " ".join([head] + parts)
+    return [line] if len(line) <= 150 else [head] + fill(parts, 4, 150)
+
+
+def write_places(table, out):
+    out.whole("crates/fast_check_places/specs/Fields.antt", places(table))
+
+
+def write_names(table, out):
+    """The re-exports of the tree, and the forms and choices by their names."""
+    names = sorted([form.name for form in table.forms.values()] + list(table.choices) + ["range_of_node"])
+    lines = [f"    pub use fast_check_forms::{name};" for name in names]
+    out.between("crates/fast_check_tree/src/lib.rt", "pub mod forms {", "}", lines)
+    path = "crates/fast_check_form_cases/src/forms/names.rt"
+    kinds = [f"    Kind::{form.name}," for form in table.true_forms()]
+    choices = [f"    Choice::{name}," for name in table.choices]
+    plain = [f"    {form}," for form in LEAF_FORMS.values()]
+    plain += [f"    Form::Word(Words::{name})," for name in table.words]
+    for doc, name, row, rows in [
+        ("/// All forms.", "KINDS", "Kind", kinds),
+        ("/// All choices.", "CHOICES", "Choice", choices),
+        ("/// What stands in a place by itself.", "PLAIN", "Form", plain),
+    ]:
+        out.between(path, doc, "];", [f"static {name}: [{row}; {len(rows)}] = ["] + rows)
+
+
+def page(table):
+    """The tables of docs/FORMATS.md."""
+    lines = []
+    for chapter in table.chapters:
+        lines += ["", f"#### {chapter.title}", "", "| Form | Fields |", "|---|---|"]
+        for form in table.true_forms():
+            if form.chapter == chapter.name:
+                lines.append(f"| `{form.name}` | " + ", ".join(page_field(field) for field in form.fields) + " |")
+        lines += ["", "| Choice | Variants |", "|---|---|"]
+        for choice in table.choices.values():
+            if choice.chapter == chapter.name:
+                variants = ", ".join(page_variant(table, *pair) for pair in choice.variants)
+                lines.append(f"| `{choice.name}` | {variants} |")
+        words = [(name, words) for name, (place, words) in table.words.items() if place == chapter.name]
+        lines += ["", "| Words | |", "|---|---|"] if words else []
+        lines += [f"| `{name}` | " + ", ".join(f"`{word}`" for word in list) + " |" for name, list in words]
+    return lines + [""]
+
+
+def page_field(field):
+    if field.name == "span" or field.type == "scope":
+        return f"`{field.name}`"
+    type = field.type if field.type in LEAVES else f"`{field.type}`"
+    kind = {"": "{}", "?": "{} or null", "*": "list of {}", "?*": "list of {} or null", "*?": "(list of {}) or null"}
+    return f"`{field.name}`: " + kind[field.count].format(type)
+
+
+def page_variant(table, variant, content):
+    if content in table.forms and table.forms[content].mark:
+        content = table.forms[content].fields[0].type
+    return f"`{variant}`" if variant == content else f"`{variant}({content})`"
+
+
+def write_page(table, out):
+    first = "<!-- forms/forms.txt says what stands from here -->"
+    out.between("docs/FORMATS.md", first, "<!-- to here -->", page(table))

@@ -1,0 +1,104 @@
+#!/usr/bin/env python3
+"""Writes all that says of the syntax tree no more than forms.txt says: README.md beside it names the files.
+
+    forms/write.py            writes the files
+    forms/write.py --check    compares them, and names the first difference of each
+    forms/write.py --list     names them, with how many of their lines are written
+"""
+import sys
+from pathlib import Path
+
+# what stands here is read anew each time: it takes less than a second, and leaves no files behind
+sys.dont_write_bytecode = True
+
+from choices import write_choices
+from form_crates import write_form_crates
+from places import write_names, write_page, write_places
+from schema import write_schema
+from table import Table
+
+HERE = Path(__file__).resolve().parent
+ROOT = HERE.parent
+
+
+class Output:
+    """The files, whole or between two lines of theirs, as they are to be."""
+
+    def __init__(self):
+        self.files, self.counts = {}, {}
+
+    def whole(self, path, lines):
+        self.files[path] = "\n".join(lines) + "\n"
+        self.counts[path] = len(lines)
+
+    def between(self, path, first, last, lines):
+        """The lines behind the line `first`, up to the next line `last`, or to the end of the file where it is none."""
+        text = self.files.get(path)
+        if text is None:
+            text = (ROOT / path).read_text()
+        old = text.split("\n")
+        if old.count(first) != 1:
+            raise SystemExit(f"{path}: the line '{first}' has to stand there once")
+        start = old.index(first) + 1
+        end = old.index(last, start) if last is not None else len(old) - 1
+        self.files[path] = "\n".join(old[:start] + lines + old[end:])
+        self.counts[path] = self.counts.get(path, 0) + len(lines)
+
+
+def write_all(table):
+    out = Output()
+    for part in (write_form_crates, write_choices, write_schema, write_places, write_names, write_page):
+        part(table, out)
+    return out
+
+
+def first_difference(path, wanted):
+    """What is said of the first line that is not as it is to be."""
+    file = ROOT / path
+    if not file.exists():
+        return f"{path}: is not there"
+    found = file.read_text()
+    if found == wanted:
+        return None
+    found, wanted = found.split("\n"), wanted.split("\n")
+    for number, (old, new) in enumerate(zip(found + [None], wanted + [None]), 1):
+        if old != new:
+            return f"{path}, line {number}:\n  there: {old}\n  table: {new}"
+
+
+def check(out):
+    """The status: 0 where each file is as it is to be."""
+    told = [difference for path, text in out.files.items() if (difference := first_difference(path, text))]
+    for difference in told:
+        print(difference)
+    print(f"{len(out.files) - len(told)} files as forms.txt has them, {len(told)} others")
+    return 1 if told else 0
+
+
+def write(out):
+    for path, text in out.files.items():
+        file = ROOT / path
+        if not file.exists() or file.read_text() != text:
+            file.parent.mkdir(parents=True, exist_ok=True)
+            file.write_text(text)
+            print("written:", path)
+
+
+def main(words):
+    out = write_all(Table((HERE / "forms.txt").read_text()))
+    if words == ["--check"]:
+        return check(out)
+    if words == ["--list"]:
+        for path, count in out.counts.items():
+            print(f"{count:5} {path}")
+        print(f"{sum(out.counts.values()):5} lines of {len(out.counts)} files")
+        return 0
+    if words:
+        print(__doc__.strip())
+        return 2
+    write(out)
+    return 0
+
+
+if __name__ == "__main__":
+    sys.exit(main(sys.argv[1:]))
