@@ -13,7 +13,7 @@ from module_trees import (
     attributes, default_decl, default_import, default_value, export, export_all, import_, interface, named_export, named_import, property_signature,
     star_import,
 )
-from package_worlds import HOST
+from package_worlds import HOST, nv_of, url_of
 from trees import (
     array, array_of, binary, call, class_, class_method, class_stmt, constructor, declarator, default, exported, fn_stmt, form, hash_prop, ident, ident_name,
     lit, member, name, named, param_prop, prop, ref, returned, run, unexported, var_stmt,
@@ -171,12 +171,23 @@ def packages():
                                                              Module("p/mod.ts", let("x", value=ONE))), SINGLE)
 
 
+def provided(world, *entries):
+    """The world with these packages of the provider, each with the URL that its modules stand below."""
+    world.parts["provider"]["packages"] = [[nv_of(word), url_of(url)] for word, url in entries]
+    return world
+
+
 def graphs():
     yield Build("build_a_package_that_nobody_knows", single(pending=["q", "p"]), SINGLE)
     yield Build("build_a_package_that_nobody_knows_alone", single(pending=["q"]), [])
     yield Build("build_a_package_without_exports", World({"p": []}), [])
     yield Build("build_a_package_that_the_provider_lacks", World({}, Module("other/mod.ts", let("x", value=ONE)), unlisted={"p": ["./mod.ts"]}),
                 [("other/mod.ts", "export let x: number = {} as never;")])
+    one_by_other = lambda: World({"p": ["./mod.ts"]}, Module("p/mod.ts", import_("./a.ts", "x"), export("x"), resolved={"./a.ts": "p/a.ts"}),
+                                 Module("p/a.ts", let("x", value=ONE)))
+    shown = [("p/a.ts", "export let x: number = {} as never;"), ("p/mod.ts", 'import { x } from "./a.ts"; export { x };')]
+    yield Build("build_the_last_entry_of_a_package_counts", provided(one_by_other(), ("p", "elsewhere/"), ("p", "p/")), shown)
+    yield Build("build_the_first_entry_of_a_url_counts", provided(one_by_other(), ("p", "p/"), ("q", "p/a")), shown)
     data = import_("./d.json", default_import("data"), with_=attributes(type="json"))
     mod = lambda word: Module(word, data, default_value(ref("data")), resolved={"./d.json": "p/d.json"})
     shown = ("p/mod.ts", 'import data from "./d.json" with { type: "json" }; export default data;')
@@ -312,6 +323,9 @@ def faults_of_tables():
     data["modules"][1][1]["Json"]["symbols"] = []
     yield Refused("build_a_missing_symbol_of_a_json_module", data, "table-fault 1")
     data = World({"p": ["./mod.ts"]}, Module("p/mod.ts", let("x", value=ONE)), JsonModule("p/d.json")).request()
+    del data["modules"][1][1]["Json"]["symbols"]
+    yield Refused("build_a_json_module_without_symbols", data, "table-fault 1")
+    data = World({"p": ["./mod.ts"]}, Module("p/mod.ts", let("x", value=ONE)), JsonModule("p/d.json")).request()
     data["modules"][1][0] = HOST + "p/e.json"
     yield Refused("build_a_json_module_under_another_name", data, "table-fault 3")
     for case, change, word in [("build_a_symbol_without_declaration_of_a_json_module", {"symbols": [{"id": 0}, {"id": 1}]}, "table-fault 2"),
@@ -332,12 +346,18 @@ def faults_of_tables():
     yield Refused("build_the_last_module_of_a_name_has_another", world, "table-fault 3")
 
 
+# the tables of a module of which no symbol is asked
+OWN = {"module_symbol": 0, "symbols": [{"id": 0}]}
+
+
 def forms():
     plain = lambda **more: single().request(**more)
     without = lambda member: {each: value for each, value in plain().items() if each != member}
     yield Refused("build_no_json", json.dumps(plain()).encode()[:-1], "not-json")
     yield Refused("build_no_text", b"\xff", "not-json")
     yield Refused("build_a_list", [])
+    yield Refused("build_without_graph", without("graph"))
+    yield Refused("build_a_graph_that_is_null", plain(graph=None))
     yield Refused("build_without_provider", without("provider"))
     yield Refused("build_a_provider_that_is_null", plain(provider=None))
     yield Refused("build_without_fallback", plain(provider={"packages": []}))
@@ -353,20 +373,21 @@ def forms():
     yield Refused("build_first_is_no_flag", plain(first=1))
     yield Refused("build_modules_that_are_null", plain(modules=None))
     yield Refused("build_a_module_of_no_kind", plain(modules=[[HOST + "p/mod.ts", {"Wasm": {}}]]))
-    two = {"Esm": plain()["modules"][0][1]["Esm"], "Json": {"specifier": HOST + "p/mod.ts"}}
+    two = {"Esm": plain()["modules"][0][1]["Esm"], "Json": {"specifier": HOST + "p/mod.ts", **OWN}}
     yield Refused("build_a_module_of_two_kinds", plain(modules=[[HOST + "p/mod.ts", two]]))
-    yield Refused("build_a_module_without_source", plain(modules=[[HOST + "p/mod.ts", {"Esm": {"specifier": HOST + "p/mod.ts"}}]]))
+    yield Refused("build_a_module_without_source", plain(modules=[[HOST + "p/mod.ts", {"Esm": {"specifier": HOST + "p/mod.ts", **OWN}}]]))
     yield Refused("build_a_member_without_base", plain(workspace_members=[{"name": "@w/a"}]))
     yield Refused("build_a_module_under_no_url", plain(modules=[["p/mod.ts", plain()["modules"][0][1]]]))
-    yield Refused("build_a_json_module_without_specifier", plain(modules=[[HOST + "p/d.json", {"Json": {}}]]))
+    yield Refused("build_a_json_module_without_specifier", plain(modules=[[HOST + "p/d.json", {"Json": OWN}]]))
+    yield Refused("build_a_json_module_without_module_symbol", plain(modules=[[HOST + "p/d.json", {"Json": {"specifier": HOST + "p/d.json"}}]]))
     yield Refused("build_a_tree_of_another_form", with_tables({"source": {}}))
     yield Refused("build_an_alias_of_one_name", plain(aliases=[[HOST + "p/a.ts"]]))
     yield Refused("build_a_graph_that_is_a_list", plain(graph=[]))
     yield Refused("build_a_bad_form_beside_a_fault", with_tables(MISSING, pending=["p"]))
-    provider = {"provider": {"fallback": HOST}}
-    for case, more in [("build_a_provider_alone", {}), ("build_a_graph_that_is_null", {"graph": None}),
+    least = {"graph": {}, "provider": {"fallback": HOST}}
+    for case, more in [("build_a_graph_and_a_provider_alone", {}),
                        ("build_members_that_are_passed_over", {"pending": ["@p/p@1.0.0"], "provider": {"fallback": HOST, "x": 1}, "x": [], "first": True})]:
-        yield Build(case, World({}, pending=["p"] if "pending" in more else []), [], request={**provider, **more})
+        yield Build(case, World({}, pending=["p"] if "pending" in more else []), [], request={**least, **more})
     member = World({}, Module("file:///w/mod.ts", let("x")), members=[["@w/a", None, "file:///w/", []]], pending=["w/a"])
     request = member.request()
     request["workspace_members"] = [{"base": "file:///w/", "name": "@w/a"}]

@@ -267,7 +267,8 @@ class JsonModule:
         self.url = url_of(word)
         symbols = [{"id": 0, "exports": [["default", 1]]},
                    {"id": 1, "parent_id": 0, "decls": [{"range": [1, 3], "value": True, "kind": {"Definition": None}}]}]
-        self.tables, self.resolved = {"symbols": symbols, "re_export_all_nodes": [], "resolved_exports": [["default", self.url]]}, {}
+        self.tables = {"module_symbol": 0, "symbols": symbols, "re_export_all_nodes": [], "resolved_exports": [["default", self.url]]}
+        self.resolved = {}
 
     def parts(self):
         return {"Json": {"specifier": self.url, **self.tables}}

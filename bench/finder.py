@@ -51,7 +51,7 @@ def module(specifier, kinds, again):
     symbols = [{'id': 0, 'exports': exports}]
     symbols += [{'id': id, 'parent_id': 0, 'maybe_name': 's%d' % id, 'decls': [decl(id, kind)]} for id, kind in enumerate(kinds, 1)]
     nodes = [[[10 * (len(kinds) + 1 + n) + 1, 10 * (len(kinds) + 1 + n) + 9], text] for n, text in enumerate(again)]
-    return {'specifier': specifier, 'symbols': symbols, 'swc_ids': [[['s%d' % id, 1], id] for id in range(1, len(kinds) + 1)],
+    return {'specifier': specifier, 'module_symbol': 0, 'symbols': symbols, 'swc_ids': [[['s%d' % id, 1], id] for id in range(1, len(kinds) + 1)],
             're_export_all_nodes': nodes, 'resolved_exports': [[name, specifier] for name, _ in exports]}
 
 

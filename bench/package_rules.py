@@ -70,9 +70,8 @@ class Module:
 
     def __init__(self, parts):
         self.url, self.text = parts['specifier'], parts.get('text', '')
-        self.own = parts.get('module_symbol', 0)
-        listed = parts.get('symbols', [{'id': self.own}])
-        self.symbols = {symbol['id']: Symbol(symbol) for symbol in listed}
+        self.own = parts['module_symbol']
+        self.symbols = {symbol['id']: Symbol(symbol) for symbol in parts['symbols']}
         self.bound = {tuple(id): symbol for id, symbol in parts.get('swc_ids', [])}
         self.again = [(tuple(range), text) for range, text in parts.get('re_export_all_nodes', [])]
         self.answered = dict(parts.get('resolved_exports', []))
@@ -97,7 +96,7 @@ class World:
     """Modules, the graph around them, and what is asked of them."""
 
     def __init__(self, parts):
-        graph = parts.get('graph', {})
+        graph = parts['graph']
         self.nodes, self.packages = dict(graph.get('modules', [])), dict(graph.get('packages', []))
         self.resolved = {(referrer, text): url for referrer, text, url in graph.get('resolutions', [])}
         self.tables = {module['specifier']: Module(module) for module in parts.get('modules', [])}
@@ -137,7 +136,7 @@ class World:
         if member:
             return member['base']
         listed = [base for listed, base in self.provider['packages'] if listed == nv]
-        return (listed + [self.provider['fallback']])[0]
+        return ([self.provider['fallback']] + listed)[-1]
 
     def entry_points(self, nv):
         return [join(self.base_of(nv), text) for text in self.exports_of(nv)]

@@ -42,7 +42,7 @@ class ModuleText:
 
     def __init__(self, url):
         self.url, self.at, self.texts = url, 1, set()
-        self.parts = {'specifier': url, 'symbols': [{'id': 0, 'exports': []}], 'swc_ids': [], 're_export_all_nodes': [],
+        self.parts = {'specifier': url, 'module_symbol': 0, 'symbols': [{'id': 0, 'exports': []}], 'swc_ids': [], 're_export_all_nodes': [],
                       'resolved_exports': []}
         self.open = [(-1, self.parts['symbols'][0])]
 
@@ -210,7 +210,8 @@ def module_entry(module):
     tables = {name: part for name, part in module.items() if name != 'text'}
     if 'text' not in module:
         return [module['specifier'], {'Json': tables}]
-    return [module['specifier'], {'Esm': {**tables, 'source': {'media_type': 'TypeScript', 'text': module['text'], 'program': NO_ITEMS}}}]
+    source = {'media_type': 'TypeScript', 'text': module['text'], 'program': NO_ITEMS, 'comments': {}}
+    return [module['specifier'], {'Esm': {**tables, 'source': source}}]
 
 
 def request_of(world):

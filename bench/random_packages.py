@@ -66,7 +66,7 @@ class RandomModule:
         rng = self.rng
         symbols = [{'id': 0, 'exports': self.exports(rng.randint(1, 5))}] + [self.symbol(id) for id in range(1, self.count + 1)]
         again = [[self.range(), rng.choice(self.texts)] for _ in range(rng.choice([0, 0, 1, 2])) if self.texts]
-        made = {'specifier': self.url, 'symbols': symbols, 're_export_all_nodes': again,
+        made = {'specifier': self.url, 'module_symbol': 0, 'symbols': symbols, 're_export_all_nodes': again,
                 'swc_ids': [[['s%d' % id, 1], id] for id in range(1, self.count + 1) if rng.random() < 0.95],
                 'resolved_exports': [[name, rng.choice(urls)] for name in rng.sample(NAMES, rng.randint(0, 3))]}
         if rng.random() < 0.5:

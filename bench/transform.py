@@ -185,7 +185,8 @@ def module(shape, size):
 def request(body, end, ranges):
     source = {"media_type": "TypeScript", "text": "", "program": {"Module": {"span": [1, end], "body": body, "shebang": None}},
               "comments": {"leading": [], "trailing": []}, "unresolved_context": 1}
-    return {"module": {"specifier": "file:///p/mod.ts", "source": source}, "ranges": ranges, "impls": [], "first": False}
+    module = {"specifier": "file:///p/mod.ts", "source": source, "module_symbol": 0, "symbols": [{"id": 0}]}
+    return {"graph": {"modules": [], "resolutions": [], "packages": []}, "module": module, "ranges": ranges, "impls": [], "first": False}
 
 
 def best(repeat, call):

@@ -34,6 +34,9 @@ CRATE = os.path.join(TOP, "crates/fast_check_vectors")
 DATA = os.path.join(CRATE, "data")
 EXAMPLES = os.path.join(TOP, "examples")
 SPECIFIER = "file:///p/mod.ts"
+NO_GRAPH = {"modules": [], "resolutions": [], "packages": []}
+# the tables of a module of which no symbol is asked
+NO_TABLES = {"module_symbol": 0, "symbols": [{"id": 0}]}
 
 # ---- sources: a text that grows, with the tree of what is written
 
@@ -163,7 +166,8 @@ def program(body, text):
 def request(text, body, ranges, media_type="TypeScript", **more):
     source = {"media_type": media_type, "text": text, "program": {"Module": program(body, text)},
               "comments": {"leading": [], "trailing": []}, "unresolved_context": 1}
-    return dict({"graph": None, "module": {"specifier": SPECIFIER, "source": source}, "ranges": ranges, "impls": [], "first": False}, **more)
+    module = {"specifier": SPECIFIER, "source": source, **NO_TABLES}
+    return dict({"graph": NO_GRAPH, "module": module, "ranges": ranges, "impls": [], "first": False}, **more)
 
 
 def module_answer(program):
@@ -473,15 +477,17 @@ def comments():
 def defaults():
     title("what may be left out: options, flags, lists, spans and scope numbers; other members are passed over")
     module = Module().statement("let", ("a", None, "1", True))
-    request = {"more": {"deep": [1, -2, "x"]}, "module": {"specifier": SPECIFIER, "more": None, "source": {"media_type": "TypeScript", "text": "", "more": [],
+    request = {"more": {"deep": [1, -2, "x"]}, "graph": {}, "module": {"specifier": SPECIFIER, **NO_TABLES, "more": None,
+               "source": {"media_type": "TypeScript", "text": "", "more": [], "comments": {},
                "program": {"Module": {"body": [{"Stmt": {"Decl": {"Var": {"kind": "Let",
                    "decls": [{"more": 1, "name": {"Ident": {"id": {"sym": "a"}}}, "init": {"Lit": {"Num": {"raw": "1"}}}}]}}}}]}}}}, "ranges": [[0, 0]]}
     ann = {"span": DUMMY, "type_ann": keyword("TsNumberKeyword")}
     decl = {"span": DUMMY, "name": {"Ident": {"id": ident(DUMMY, "a"), "type_ann": ann}}, "init": NEVER, "definite": False}
     var = {"Stmt": {"Decl": {"Var": {"span": DUMMY, "ctxt": 0, "kind": "Let", "declare": False, "decls": [decl]}}}}
     answered("defaults", request, {"Ok": module_answer({"span": DUMMY, "body": [var], "shebang": None})})
-    source = {"media_type": "TypeScript", "text": "", "program": {"Module": {}}}
-    answered("a_module_of_nothing", {"module": {"specifier": SPECIFIER, "source": source}}, {"Ok": module_answer({"span": DUMMY, "body": [], "shebang": None})})
+    source = {"media_type": "TypeScript", "text": "", "program": {"Module": {}}, "comments": {}}
+    answered("a_module_of_nothing", {"graph": {}, "module": {"specifier": SPECIFIER, "source": source, **NO_TABLES}},
+        {"Ok": module_answer({"span": DUMMY, "body": [], "shebang": None})})
     text = json.dumps(first_module().request())
     doubled = text[:-1] + ', "ranges": [[34, 39]]}'
     only = first_module()
@@ -508,9 +514,9 @@ def refusals():
     title("JSON of another form")
     refused("array", b"[]")
     refused("null", b"null")
-    refused("no_module", {"ranges": []})
-    for path in (("module", "specifier"), ("module", "source"), SOURCE + ("media_type",), SOURCE + ("text",), SOURCE + ("program",),
-                 FIRST_VAR + ("kind",), FIRST_VAR + ("decls", 0, "name")):
+    refused("no_module", {"graph": {}, "ranges": []})
+    for path in (("graph",), ("module", "specifier"), ("module", "source"), ("module", "module_symbol"), SOURCE + ("media_type",), SOURCE + ("text",),
+                 SOURCE + ("program",), SOURCE + ("comments",), FIRST_VAR + ("kind",), FIRST_VAR + ("decls", 0, "name")):
         refused("without_" + str(path[-1]), changed(path, ...))
     refused("wrong_kind_of_value", changed(SOURCE + ("text",), 1))
     refused("a_flag_that_is_null", changed(FIRST_VAR + ("declare",), None))
@@ -634,9 +640,11 @@ def tables():
     for name, graph in (("a_graph_of_nothing", {}), ("a_graph_without_resolutions", {"modules": GRAPH["modules"]}),
                         ("a_graph_of_packages", {"more": 1, "packages": GRAPH["packages"]})):
         answered(name, first_module().request(graph=graph), first_module().answer())
-    answered("a_module_symbol_alone", with_tables(first_module().request(), module_symbol=4294967295), first_module().answer())
-    title("a symbol that is mentioned has to be there")
+    answered("a_module_symbol_alone", with_tables(first_module().request(), module_symbol=4294967295, symbols=[{"id": 4294967295}]), first_module().answer())
+    title("a symbol that is mentioned has to be there; symbols that are left out are none")
     refused("no_symbols", with_tables(first_module().request(), symbols=[]), "table-fault 1")
+    refused("without_symbols", changed(("module", "symbols"), ...), "table-fault 1")
+    refused("a_module_symbol_without_symbol", with_tables(first_module().request(), module_symbol=4294967295), "table-fault 1")
     refused("a_symbol_of_another_number", with_tables(first_module().request(), symbols=[{"id": 0}], module_symbol=1), "table-fault 1")
     refused("an_export_without_symbol", with_tables(first_module().request(), symbols=[{"id": 0, "exports": [["a", 1]]}]), "table-fault 1")
     refused("an_identifier_without_symbol", with_tables(first_module().request(), swc_ids=[[["x", 2], 1]]), "table-fault 1")
@@ -684,6 +692,8 @@ def tables():
     refused("an_exported_name_of_no_url", with_tables(first_module().request(), resolved_exports=[["x", "./d.ts"]]))
     tables_of_another_form()
     refused("first_is_no_flag_beside_a_fault", with_tables(first_module().request(first=1), symbols=[]))
+    refused("a_module_symbol_that_is_null", with_tables(first_module().request(), module_symbol=None))
+    refused("a_graph_that_is_null", first_module().request(graph=None))
     refused("a_graph_that_is_a_list", first_module().request(graph=[]))
     refused("a_module_of_no_kind", first_module().request(graph={"modules": [[SPECIFIER, {"Js": {}}]]}))
     refused("a_resolution_of_two", first_module().request(graph={"resolutions": [[SPECIFIER, "./a.ts"]]}))
@@ -749,7 +759,7 @@ def graph_of(case, specifier):
     if "graph" in case.more:
         return case.more["graph"]
     resolved = case.more.get("resolved")
-    return resolved and {"modules": [], "resolutions": [[specifier, text, url] for text, url in resolved.items()], "packages": []}
+    return {**NO_GRAPH, "resolutions": [[specifier, text, url] for text, url in (resolved or {}).items()]}
 
 
 def function_case(case):

@@ -34,7 +34,7 @@ build b = record {
   first = b.should_error_on_first_diagnostic;
 }
 
--- an object of the members graph, modules, aliases, workspace_members, provider, pending and first: all may be left out but the provider
+-- an object of the members graph, modules, aliases, workspace_members, provider, pending and first: all may be left out but the graph and the provider
 abbrev pub members_of_build : Data → Option SeenBuild
 members_of_build value =
     given (graph_member_of value) (λ graph.

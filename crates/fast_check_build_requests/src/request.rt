@@ -33,7 +33,7 @@ pub struct BuildRequest {
 }
 
 /// Reads `{"graph": {..}, "modules": [..], "aliases": [..], "workspace_members": [..], "provider": {..}, "pending": [..], "first": false}`. All may be
-/// left out but `provider`. Other members are passed over, but no number anywhere may have a fraction or an exponent.
+/// left out but `graph` and `provider`. Other members are passed over, but no number anywhere may have a fraction or an exponent.
 pub fn read_build_request(alloc: Global, value: &Value) -> Result<BuildRequest, ReadError>
     ensures { Reads build (build_of (view value.now)) result }
 {

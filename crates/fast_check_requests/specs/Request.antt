@@ -60,11 +60,6 @@ abbrev pub ranges_or_none : Option Data → Option (List SourceRange)
 ranges_or_none None = Some []
 ranges_or_none (Some value) = ranges_of value
 
--- comments: none
-abbrev pub comments_or_none : Option Data → Option Comments
-comments_or_none None = Some (record { leading = []; trailing = [] })
-comments_or_none (Some value) = comments_of value
-
 -- a scope number: 0
 abbrev pub context_or_zero : Option Data → Option SyntaxContext
 context_or_zero None = Some (record { 0 = 0 })
@@ -82,7 +77,7 @@ source_of value =
     given (needed media_type_of (codes "media_type") value) (λ media_type.
     given (given (get (codes "text") value) as_str) (λ text.
     given (given (get (codes "program") value) program_of) (λ program.
-    given (comments_or_none (get (codes "comments") value)) (λ comments.
+    given (given (get (codes "comments") value) comments_of) (λ comments.
     given (context_or_zero (get (codes "unresolved_context") value)) (λ unresolved_context.
     Some (record { media_type = media_type; text = text; program = program; comments = comments; unresolved_context = unresolved_context }))))))
 

@@ -4,9 +4,10 @@ ghost use Rattle.std.specs.Prelude.{◌≡◌, option_map, codes, IfErr, MatchRe
 ghost use Rattle.std.specs.Result.{result_ok};
 ghost use Rattle.serde_json.specs.Find.{get};
 ghost use Rattle.serde_json.specs.View.{view};
+ghost use Rattle.fast_check_read.specs.Comments.{comments_of};
 ghost use Rattle.fast_check_read.specs.Each.{Answers};
 ghost use Rattle.fast_check_read_tables.specs.Reads.{given};
-ghost use Rattle.fast_check_requests.specs.Request.{request_of, members_of_request, ranges_or_none, comments_or_none, context_or_zero};
+ghost use Rattle.fast_check_requests.specs.Request.{request_of, members_of_request, ranges_or_none, context_or_zero};
 ghost use Rattle.fast_check_requests.specs.Request.{program_of, source_of, module_of, Makes, HoldsModule, IsRequest, IsSource};
 
 use fast_check_comments::Comments;
@@ -116,7 +117,7 @@ fn read_source(alloc: Global, value: &Value) -> Result<ParsedSource, ReadError>
     let media_type = read_member(alloc, value, "media_type")?;
     let text = read_text(member(value, "text")?)?;
     let program = read_program(alloc, value)?;
-    let comments = read_optional_comments(alloc, value)?;
+    let comments = read_source_comments(alloc, value)?;
     let unresolved_context = read_optional_context(value)?;
     Ok(ParsedSource {
         media_type,
@@ -138,14 +139,11 @@ fn read_program(alloc: Global, value: &Value) -> Result<Tree, ReadError>
     )
 }
 
-/// The comments of a source, which may be left out, and are then none.
-fn read_optional_comments(alloc: Global, value: &Value) -> Result<Comments, ReadError>
-    ensures { Answers (comments_or_none (get (codes "comments") (view value.now))) result }
+/// The comments of a source.
+fn read_source_comments(alloc: Global, value: &Value) -> Result<Comments, ReadError>
+    ensures { Answers (given (get (codes "comments") (view value.now)) comments_of) result }
 {
-    match value.get("comments") {
-        Some(comments) => read_comments(alloc, comments),
-        None => Ok(Comments::new(alloc)),
-    }
+    read_comments(alloc, member(value, "comments")?)
 }
 
 /// The scope number of a source's unbound names, which may be left out, and is then 0.
