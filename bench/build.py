@@ -24,14 +24,14 @@ from build_worlds import Module, World
 from function_cases import ONE, const, func, if_
 from module_trees import export, export_all, import_, interface, named_export, named_import, property_signature
 from package_worlds import HOST
+from programs import fast_check
 from transform import DUMP, LOAD, NAME, best
 from trees import (
     array, array_of, binary, call, class_method, class_stmt, constructor, declarator, default, exported, fn_stmt, hash_prop, lit, name, named, param_prop, prop,
     ref, returned, run, type_params, unexported, union, var_stmt,
 )
 
-TOP = os.path.dirname(os.path.dirname(os.path.abspath(__file__)))
-PROGRAM = os.path.join(TOP, "crates/fast_check_build_cli/out/fast_check_build_cli")
+PROGRAM = fast_check()
 SHAPES = ["packages", "modules", "faults", "hidden"]
 
 

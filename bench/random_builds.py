@@ -27,6 +27,7 @@ from module_trees import (
     default_import, default_value, export, export_all, import_, interface, named_export, named_import, property_signature, star_export, star_import,
 )
 from package_worlds import with_ranges
+from programs import built, fast_check
 from trees import (
     array, class_method, class_stmt, constructor, declarator, default, exported, fn_stmt, hash_prop, lit, name, named, object_, pair, param_prop, prop, ref,
     returned, unexported, var_stmt,
@@ -182,9 +183,8 @@ def main(words):
         write(words[1], int(words[2]), int(words[3]))
         return
     count, seed = int((words + ["1000"])[0]), int((words + ["1", "1"])[1])
-    out = lambda crate: os.path.join(TOP, "crates", crate, "out", crate)
     program, finder = (words + ["", "", "", ""])[2:4]
-    program, finder = os.path.abspath(program or out("fast_check_build_cli")), os.path.abspath(finder or out("fast_check_vectors"))
+    program, finder = os.path.abspath(program or fast_check()), os.path.abspath(finder or built("fast_check_vectors"))
     differ, by_others, statuses = 0, 0, {0: 0, 1: 0, 2: 0}
     for number in range(seed, seed + count):
         world = Writer(number).world()

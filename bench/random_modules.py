@@ -16,6 +16,7 @@ import tempfile
 
 sys.dont_write_bytecode = True
 
+import programs
 from expando_cases import put
 from module_skeletons import range_of_default, range_of_specifier, sources_of
 from module_trees import (
@@ -32,7 +33,6 @@ from trees import (
     satisfies, shorthand, spread, spread_of, static_block, stmt, super_call, template, thrown, type_params, unary, unexported, union, update, var_stmt,
 )
 
-TOP = os.path.dirname(os.path.dirname(os.path.abspath(__file__)))
 SPECIFIER = "file:///p/q/mod.ts"
 NAMES = ["a", "b", "c", "f", "g", "C", "D", "Object", "Symbol", "Promise"]
 OBJECTS = ["f", "g", "C"]
@@ -331,7 +331,7 @@ def without_pages(answer):
 
 def main():
     count, seed = int((sys.argv + ["1000"])[1]), int((sys.argv + ["1", "1"])[2])
-    program = sys.argv[3] if len(sys.argv) > 3 else os.path.join(TOP, "crates/fast_check_cli/out/fast_check_cli")
+    program = sys.argv[3] if len(sys.argv) > 3 else programs.transform()
     differ, trees, faults = 0, 0, {}
     for number in range(seed, seed + count):
         request, expected = Writer(number).case()

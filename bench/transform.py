@@ -20,6 +20,7 @@ sys.dont_write_bytecode = True
 import class_cases
 import function_cases as cases
 import module_trees
+import programs
 import trees
 from ranges import ranges_of_item
 
@@ -29,8 +30,7 @@ try:
 except ImportError:
     NAME, LOAD, DUMP = "json", json.loads, lambda value: json.dumps(value).encode()
 
-TOP = os.path.dirname(os.path.dirname(os.path.abspath(__file__)))
-PROGRAM = os.path.join(TOP, "crates/fast_check_cli/out/fast_check_cli")
+PROGRAM = programs.transform()
 DEPTH = 40
 
 

@@ -1,1 +1,1 @@
-mod NoCall
+mod Calls

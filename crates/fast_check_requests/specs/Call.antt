@@ -1,13 +1,12 @@
 -- What the program is called with: its words, and the file that they name.
-use Rattle.std.specs.Prelude.{ℕ, List, [], ◌∷◌, Bool, false, Option, Some, None, codes}
-use Rattle.std.specs.Str.{bytes_eq}
+use Rattle.std.specs.Prelude.{ℕ, List, [], ◌∷◌, Option, Some, None}
 use Rattle.fast_check_requests.specs.declared.refusal.Refusal.{Refusal}
 use Rattle.fast_check_requests.specs.declared.refusal.Refusal.TheVariants as refusals
 
--- the words are a command that is there, and one file
-abbrev pub is_call : List (List ℕ) → Bool
-is_call (command ∷ file ∷ []) = bytes_eq command (codes "transform")
-is_call _ = false
+-- the command that the words name, where one file stands behind it
+abbrev pub called : {C : Type 0} → (List ℕ → Option C) → List (List ℕ) → Option C
+called named (name ∷ file ∷ []) = named name
+called named _ = None
 
 -- nothing where it does not open, else its bytes, where they are known
 abbrev pub File : Type 0

@@ -2,3 +2,5 @@ pub mod Call
 pub mod Refusal
 pub mod Request
 pub mod Input
+pub mod Opened
+pub mod Run

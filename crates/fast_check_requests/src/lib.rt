@@ -1,14 +1,19 @@
-//! What the program `fast-check` is asked: its words, the bytes of its input, the request in them, and why it has no answer.
+//! What a program `fast-check` is asked: its words, the bytes of its input, the request in them, and why it has no answer. `run` does
+//! what all commands share, and each answers by its own `Command`.
 #![tactic(auto)]
 
+mod command;
 mod ending;
 mod input;
+mod program;
 mod refusal;
 mod request;
 mod words;
 
+pub use command::{Answer, Command};
 pub use ending::Ending;
 pub use input::{read_bytes, read_request};
+pub use program::run;
 pub use refusal::Refusal;
 pub use request::{EsModuleParts, TransformRequest, read_es_module, read_transform_request};
-pub use words::is_call;
+pub use words::read_call;

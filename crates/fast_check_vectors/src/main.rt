@@ -7,15 +7,14 @@ mod streams;
 
 use crate::streams::{Input, Output};
 use anyhow::{Result, bail};
-use fast_check_build_program::run as run_build;
+use fast_check_commands::{Ending, run};
 use fast_check_example::run_example;
 use fast_check_finder_cases::{
     run_fault_cases, run_finder_cases, run_place_cases, run_transformer_cases, run_unfound_cases,
 };
 use fast_check_form_cases::run_form_cases;
 use fast_check_name_cases::run_name_cases;
-use fast_check_program::{Ending, run};
-use std::alloc::{AllocError, Global};
+use std::alloc::AllocError;
 use std::fs::File;
 use std::io::Write;
 use std::{env, fs, io};
@@ -97,7 +96,7 @@ fn run_line<W: Write>(rt: &HostRuntime, line: &str, out: &mut W) -> io::Result<E
     };
     let mut answer = Output::new(rt.alloc(), redirects(line, ">closed"));
     let mut errors = Output::new(rt.alloc(), redirects(line, "2>closed"));
-    let ending = run_command(
+    let ending = run(
         rt.alloc(),
         words.as_slice(),
         input,
@@ -107,20 +106,6 @@ fn run_line<W: Write>(rt: &HostRuntime, line: &str, out: &mut W) -> io::Result<E
     out.write_all(answer.bytes())?;
     out.write_all(errors.bytes())?;
     Ok(ending)
-}
-
-/// Runs the command that the first word names: `build`, or `transform` and what is refused.
-fn run_command(
-    alloc: Global,
-    words: &[String],
-    input: Option<Input>,
-    out: &mut Output,
-    err: &mut Output,
-) -> Ending {
-    match words {
-        [command, ..] if command.as_str() == "build" => run_build(alloc, words, input, out, err),
-        _ => run(alloc, words, input, out, err),
-    }
 }
 
 /// Whether a line has this redirection.

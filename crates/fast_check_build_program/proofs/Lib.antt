@@ -1,2 +1,0 @@
-mod NoCall
-mod Refused

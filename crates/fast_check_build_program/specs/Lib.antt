@@ -1,7 +1,0 @@
-pub use Rattle.fast_check_requests.specs.Refusal
-pub use Rattle.fast_check_build_tables.specs.build_requests.Input
-pub use Rattle.fast_check_build_tables.specs.build_requests.Request
-pub use Rattle.fast_check_answers.specs.Answers
-pub mod Call
-pub mod Line
-pub mod Program

@@ -1,0 +1,2 @@
+pub use Rattle.fast_check_requests.specs.Refusal
+pub mod Commands

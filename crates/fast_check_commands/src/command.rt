@@ -1,0 +1,38 @@
+//! The commands by their names, and what each answers.
+
+ghost use Rattle.fast_check_commands.specs.Commands.{command_named, AnswersBytes, RefusesBytes};
+
+use fast_check_build_command::answer_build;
+use fast_check_requests::{Answer, Command, Refusal};
+use fast_check_transform_command::answer_transform;
+use std::alloc::Global;
+
+/// A command of the program.
+#[derive(Clone, Copy, Debug, PartialEq, Eq)]
+pub enum AnyCommand {
+    Transform,
+    Build,
+}
+
+impl Command for AnyCommand {
+    ghost named = { command_named };
+
+    ghost Answers = { AnswersBytes };
+
+    ghost Refuses = { RefusesBytes };
+
+    fn of_name(name: &str) -> Option<AnyCommand> {
+        match name {
+            "transform" => Some(AnyCommand::Transform),
+            "build" => Some(AnyCommand::Build),
+            _ => None,
+        }
+    }
+
+    fn answer(self, alloc: Global, bytes: Vec<u8>) -> Result<Answer, Refusal> {
+        match self {
+            AnyCommand::Transform => answer_transform(alloc, bytes),
+            AnyCommand::Build => answer_build(alloc, bytes),
+        }
+    }
+}

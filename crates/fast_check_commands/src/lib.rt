@@ -1,0 +1,9 @@
+//! The program `fast-check`: what it does with its words and its file, all of it but opening the file.
+#![tactic(auto)]
+
+mod command;
+mod program;
+
+pub use command::AnyCommand;
+pub use fast_check_requests::{Ending, Refusal, read_call};
+pub use program::run;

@@ -1,0 +1,18 @@
+//! `fast-check transform FILE`, without the other commands: the fast check of one TypeScript module, from a JSON file to a line of JSON.
+#![tactic(auto)]
+
+use fast_check_requests::{read_call, run};
+use fast_check_transform_command::Transform;
+use std::process::ExitCode;
+
+fn main(rt: HostRuntime) -> ExitCode {
+    let mut out = rt.stdout();
+    let mut err = rt.stderr();
+    let ending = match read_call(&rt) {
+        Ok((words, file)) => {
+            run::<Transform, _, _, _>(rt.alloc(), words.as_slice(), file, &mut out, &mut err)
+        }
+        Err(refusal) => refusal.told(&mut err),
+    };
+    ExitCode::from(ending.status)
+}

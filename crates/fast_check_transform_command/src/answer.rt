@@ -1,0 +1,25 @@
+//! The line that the program answers.
+
+ghost use Rattle.std.specs.Prelude.{◌≡◌, IfOk};
+ghost use Rattle.fast_check_answers.specs.Answer.{answer_data};
+ghost use Rattle.fast_check_transform_command.specs.Line.{line_of_data};
+
+use fast_check_answers::write_answer;
+use fast_check_modules::diagnostics::FastCheckDiagnostic;
+use fast_check_parsed_source::FastCheckModule;
+use json::Writer;
+use std::alloc::{AllocError, Global};
+
+/// `{"Ok": module}`, or `{"Err": [diagnostic, ..]}`, as a line of compact JSON.
+pub fn print_line(
+    alloc: Global,
+    answer: &Result<FastCheckModule, Vec<FastCheckDiagnostic>>,
+) -> Result<Vec<u8>, AllocError>
+    ensures { IfOk result (λ line. line.items ≡ line_of_data (answer_data answer.now)) }
+{
+    let mut out = Writer::new(Vec::new(alloc));
+    write_answer(alloc, &mut out, answer)?;
+    let mut line = out.into_inner();
+    line.push(b'\n')?;
+    Ok(line)
+}
