@@ -26,6 +26,7 @@ class Converter {
     this.offsets = new Offsets(this.text);
     this.short = Boolean(options.short);
     this.errors = [];
+    this.sources = [];
     this.lastScope = UNRESOLVED;
     this.blocks = new Map();
     this.scope = this.newScope(null);

@@ -216,6 +216,13 @@ function declaration(c, node) {
 
 // ---- imports and exports
 
+/** The last comment before a statement, which may name the types of what it imports. */
+function commentBefore(c, node) {
+  const ranges = ts.getLeadingCommentRanges(c.text, node.pos) || [];
+  const last = ranges[ranges.length - 1];
+  return last ? c.text.slice(last.pos, last.end) : null;
+}
+
 function attributes(c, node) {
   const clause = node.attributes || node.assertClause;
   if (!clause) return null;
@@ -246,8 +253,12 @@ function importSpecifiers(c, clause) {
   return made;
 }
 
+/** The text that names a module, which is kept for whoever follows it. */
 function source(c, node) {
-  if (node.kind === K.StringLiteral) return names.str(c, node);
+  if (node.kind === K.StringLiteral) {
+    c.sources.push({ text: node.text, offset: c.start(node), comment: commentBefore(c, node.parent) });
+    return names.str(c, node);
+  }
   c.refuse(node, 'a source that is no text');
   return { span: c.span(node), value: '' };
 }

@@ -60,6 +60,7 @@ function toTree(sourceFile, options = {}) {
     unresolvedContext: UNRESOLVED,
     topLevelContext: TOP,
     offsets: c.offsets,
+    sources: c.sources,
     errors: c.errors,
   };
 }

@@ -209,6 +209,7 @@ function importType(c, node) {
   const argument = node.argument.literal;
   if (!argument || argument.kind !== K.StringLiteral) return c.unknown(node.argument, 'the module of an import type');
   if (node.assertions || node.attributes) c.refuse(node, 'no form for the attributes of an import type');
+  c.sources.push({ text: argument.text, offset: c.start(argument), comment: null });
   const start = node.isTypeOf ? c.after(c.start(node) + 'typeof'.length) : c.start(node);
   const made = form({
     span: c.range(start, node.end),
