@@ -1,0 +1,109 @@
+'use strict';
+// From a folder to what the program answers of it: skeletons by module, or messages with their places.
+const path = require('path');
+const { build } = require('./program.js');
+const { inputOf } = require('./input.js');
+const { Lines } = require('./lines.js');
+
+/** A folder that cannot be read; `messages` say why, and `text` says it where there is no place. */
+class ReadError extends Error {
+  constructor(text, messages) {
+    super(text);
+    this.messages = messages || [];
+    this.status = 2;
+  }
+}
+
+/** The name of a file as it is shown: from the folder that the command was started in, where it lies below it. */
+function shownName(file, cwd) {
+  const relative = path.relative(cwd, file);
+  return relative.startsWith('..') || relative === '' ? file : relative;
+}
+
+/** The message for an error of reading, with its place where it has one. */
+function readMessage(error, cwd, sources) {
+  const message = { level: 'Error', code: error.code || 'syntax-error', message: error.message, info: [], hint: error.hint || null };
+  if (error.path) message.file = shownName(error.path, cwd);
+  const source = sources.get(error.path);
+  if (!source || !error.line) return message;
+  const line = Math.min(error.line, source.lines.starts.length) - 1;
+  const start = Math.min(source.lines.starts[line] + Math.max(0, (error.column || 1) - 1), source.text.length);
+  return { ...message, lines: source.lines, start, end: start };
+}
+
+/** The folder's modules by their specifiers: the path, the name from the folder, the text with its lines. */
+function filesOf(info, dir) {
+  const files = new Map();
+  for (const module of info.modules) {
+    const file = { specifier: module.specifier, path: module.path, text: module.text, name: path.relative(dir, module.path).split(path.sep).join('/') };
+    let lines = null;
+    Object.defineProperty(file, 'lines', { get: () => (lines = lines || new Lines(file.text)) });
+    files.set(module.specifier, file);
+  }
+  return files;
+}
+
+/** A diagnostic of the program as a message with its place. */
+function messageOf(diagnostic, files, cwd) {
+  const file = files.get(diagnostic.specifier);
+  const message = {
+    level: diagnostic.level, code: diagnostic.code, message: diagnostic.message, hint: diagnostic.hint, info: diagnostic.info,
+    docs: diagnostic.docs_url, specifier: diagnostic.specifier, file: file ? shownName(file.path, cwd) : diagnostic.specifier,
+  };
+  if (!file || !diagnostic.range) return message;
+  return { ...message, lines: file.lines, start: file.lines.offset(diagnostic.range[0]), end: file.lines.offset(diagnostic.range[1]) };
+}
+
+/** The answers parted into skeletons and messages. The list of a package stands at each of its entry points, and is told once. */
+function part(answers, files, cwd) {
+  const skeletons = new Map();
+  const messages = new Map();
+  for (const [specifier, answer] of answers) {
+    if (answer.Ok) skeletons.set(specifier, answer.Ok);
+    else for (const each of answer.Err) messages.set(JSON.stringify(each), each);
+  }
+  return { skeletons, messages: [...messages.values()].map((each) => messageOf(each, files, cwd)) };
+}
+
+/** The messages of modules that are nested deeper than the program reads. */
+function deepMessages(deep, files, cwd) {
+  return deep.map(({ specifier, span }) => {
+    const file = files.get(specifier);
+    const message = { level: 'Error', code: 'nested-too-deep', message: 'this is nested deeper than the program reads', info: [] };
+    message.hint = 'give a part of it a name of its own';
+    if (!file) return { ...message, file: specifier };
+    const start = file.lines.offset(span[0]);
+    return { ...message, file: shownName(file.path, cwd), lines: file.lines, start, end: Math.min(file.lines.offset(span[1]), start + 1) };
+  });
+}
+
+/** Reads a folder: its request for the program, and what is known of its files. */
+function read(dir, options, { cwd, progress }) {
+  progress.begin(`reading ${shownName(dir, cwd)}`);
+  const onModule = (name, count) => progress.tell(`reading ${name} (${count})`);
+  const { request, info } = inputOf(dir, { ...options, onModule, times: progress.times });
+  const files = filesOf(info, dir);
+  const sources = new Map([...files.values()].map((file) => [file.path, file]));
+  if (info.errors.length) {
+    const messages = info.errors.map((error) => readMessage(error, cwd, sources));
+    throw new ReadError(`${shownName(dir, cwd)} cannot be read`, messages);
+  }
+  return { dir, request, info, files };
+}
+
+/** Reads a folder and runs the program on it. */
+async function analyse(dir, options, context) {
+  const { cwd, progress, environment } = context;
+  const world = read(dir, options, context);
+  const tell = (line) => progress.line(line);
+  try {
+    const stage = 'the program is at work';
+    const answers = await progress.during(stage, build(world.request, { unproved: options.unproved, environment, tell }));
+    return { ...world, answers, ...part(answers, world.files, cwd) };
+  } catch (error) {
+    if (error.deep) throw new ReadError(`${shownName(dir, cwd)} cannot be read`, deepMessages(error.deep, world.files, cwd));
+    throw error;
+  }
+}
+
+module.exports = { ReadError, analyse, read, shownName };
