@@ -1,0 +1,13 @@
+#!/usr/bin/env bash
+# Tests of tools/typescript that need no corpus: the packages of tests/packages with their stored messages and skeletons, hidden edits, the
+# command line, and the page. Prints what fails, and `N passed, M failed` at the end.
+# usage: tools/typescript/test.sh [NAME ..]      the packages of these names alone
+#        tools/typescript/test.sh --store [NAME ..]   stores what comes as what is expected
+# The program is that of the variable FAST_CHECK, else what the gate or ./fast-check has built; with neither ./fast-check proves and builds it.
+set -u
+here=$(cd "$(dirname "$(readlink -f "${BASH_SOURCE[0]}")")" && pwd)
+built="$here/../../crates/fast_check_build_cli/out/fast_check_build_cli"
+if [ -z "${FAST_CHECK-}" ] && [ -x "$built" ]; then
+  export FAST_CHECK="$built"
+fi
+exec node "$here/tests/test.js" "$@"
