@@ -34,7 +34,7 @@ const OPERATORS = new Map([
 /** A name with dots. `meaning` is what the whole is looked up as; the first of several names is looked up as a namespace. */
 function entity(c, node, meaning) {
   if (node.kind === K.Identifier) return { Ident: names.reference(c, node, meaning) };
-  const first = meaning === VALUE ? VALUE | NAMESPACE : NAMESPACE;
+  const first = meaning & VALUE ? VALUE | NAMESPACE : NAMESPACE;
   return { TsQualifiedName: { span: c.span(node), left: entity(c, node.left, first), right: names.identName(c, node.right) } };
 }
 
