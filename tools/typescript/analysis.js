@@ -1,5 +1,6 @@
 'use strict';
 // From a folder to what the program answers of it: skeletons by module, or messages with their places.
+const fs = require('fs');
 const path = require('path');
 const { build } = require('./program.js');
 const { inputOf } = require('./input.js');
@@ -17,12 +18,19 @@ class ReadError extends Error {
 /** The name of a file as it is shown: from the folder that the command was started in, where it lies below it. */
 function shownName(file, cwd) {
   const relative = path.relative(cwd, file);
-  return relative.startsWith('..') || relative === '' ? file : relative;
+  return relative.startsWith('..') || path.isAbsolute(relative) ? file : relative || '.';
+}
+
+/** The code of an error of reading: of a folder, of its configuration, or of a source. */
+function codeOf(error) {
+  if (error.code) return error.code;
+  if (/\.jsonc?$/.test(error.path)) return 'bad-configuration';
+  return fs.existsSync(error.path) && fs.statSync(error.path).isDirectory() ? 'no-entry-point' : 'syntax-error';
 }
 
 /** The message for an error of reading, with its place where it has one. */
 function readMessage(error, cwd, sources) {
-  const message = { level: 'Error', code: error.code || 'syntax-error', message: error.message, info: [], hint: error.hint || null };
+  const message = { level: 'Error', code: codeOf(error), message: error.message, info: [], hint: error.hint || null };
   if (error.path) message.file = shownName(error.path, cwd);
   const source = sources.get(error.path);
   if (!source || !error.line) return message;
@@ -34,7 +42,7 @@ function readMessage(error, cwd, sources) {
 /** The folder's modules by their specifiers: the path, the name from the folder, the text with its lines. */
 function filesOf(info, dir) {
   const files = new Map();
-  for (const module of info.modules) {
+  for (const module of [...info.modules, ...(info.scripts || [])]) {
     const file = { specifier: module.specifier, path: module.path, text: module.text, name: path.relative(dir, module.path).split(path.sep).join('/') };
     let lines = null;
     Object.defineProperty(file, 'lines', { get: () => (lines = lines || new Lines(file.text)) });
@@ -77,6 +85,17 @@ function deepMessages(deep, files, cwd) {
   });
 }
 
+/** The imports that lead to no file of the folder, as messages. */
+function missingMessages(info, files, cwd) {
+  const byPath = new Map([...files.values()].map((file) => [file.path, file]));
+  return (info.missing || []).map(({ path: at, offset, text }) => {
+    const lines = byPath.get(at).lines;
+    const [message, hint] = [`there is no module '${text}'`, 'give the path of a file that is there'];
+    const info = ['what is asked of this module is not followed'];
+    return { level: 'Warning', code: 'missing-module', message, hint, info, file: shownName(at, cwd), lines, start: offset, end: offset + text.length + 2 };
+  });
+}
+
 /** Reads a folder: its request for the program, and what is known of its files. */
 function read(dir, options, { cwd, progress }) {
   progress.begin(`reading ${shownName(dir, cwd)}`);
@@ -88,7 +107,7 @@ function read(dir, options, { cwd, progress }) {
     const messages = info.errors.map((error) => readMessage(error, cwd, sources));
     throw new ReadError(`${shownName(dir, cwd)} cannot be read`, messages);
   }
-  return { dir, request, info, files };
+  return { dir, request, info, files, warnings: missingMessages(info, files, cwd) };
 }
 
 /** Reads a folder and runs the program on it. */

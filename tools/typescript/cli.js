@@ -55,7 +55,7 @@ function summary(world, told, context) {
 async function check([word], options, context) {
   const { analyse } = require('./analysis.js');
   const world = await analyse(folderOf(word, context), options, context);
-  const messages = [...world.messages];
+  const messages = [...world.warnings, ...world.messages];
   if (options.verify && world.skeletons.size) {
     const { verify } = require('./verify.js');
     context.progress.begin("TypeScript's compiler checks the skeletons");
@@ -75,7 +75,7 @@ async function skeletonsOf(word, options, context) {
   context.progress.begin('printing');
   const skeletons = printed(world);
   context.progress.end();
-  writeMessages(world.messages, {}, { out: context.err, paint: context.paintErrors });
+  writeMessages([...world.warnings, ...world.messages], {}, { out: context.err, paint: context.paintErrors });
   return { world, skeletons };
 }
 

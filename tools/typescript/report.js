@@ -5,6 +5,7 @@ const path = require('path');
 const { LABELS } = require('./messages.js');
 const { Marks } = require('./marks.js');
 const { printed } = require('./skeletons.js');
+const { parse, toTree } = require('./tree.js');
 const { told, ways } = require('./ways.js');
 
 const ESCAPES = { '&': '&amp;', '<': '&lt;', '>': '&gt;', '"': '&quot;' };
@@ -83,22 +84,20 @@ function reasons(world, { found, names }, specifier) {
     const way = found.has(key) ? told(world, found, key) : 'the answer does not tell why';
     items.push(`<li><code>${escape(name)}</code> ${escape(way)}</li>`);
   }
-  return items.length ? `<details><summary>why: ${items.length} public</summary><ul class="ways">${items.join('')}</ul></details>` : '';
+  return items.length ? `<details${items.length > 8 ? '' : ' open'}><summary>why: ${items.length} public</summary><ul class="ways">${items.join('')}</ul></details>` : '';
 }
 
-/** The source of a module as the program was given it. */
-function programOf(world, specifier) {
-  const [, module] = world.request.modules.find(([each]) => each === specifier) || [];
-  return module && module.Esm ? module.Esm.source.program : null;
+/** The whole tree of a module's source: the program's input leaves out what no rule looks at. */
+function programOf(file) {
+  return toTree(parse(file.path, file.text)).program;
 }
 
 /** A module's section: its source, its skeleton if it has one, its messages. */
 function section(world, known, file, skeleton) {
   const messages = world.messages.filter((each) => each.specifier === file.specifier);
   const placed = messages.filter((each) => each.lines);
-  const program = programOf(world, file.specifier);
   const answer = world.skeletons.get(file.specifier);
-  const marks = answer && program ? new Marks(program, answer.program, Buffer.byteLength(file.text) + 1).marks : null;
+  const marks = answer ? new Marks(programOf(file), answer.program, Buffer.byteLength(file.text) + 1).marks : null;
   const source = listing(file.lines, classesOf(file, marks, placed), placed);
   const { Lines } = require('./lines.js');
   const beside = skeleton ? `<div class="pane"><h3>skeleton</h3>${listing(new Lines(skeleton.text), [], [])}</div>` : '';

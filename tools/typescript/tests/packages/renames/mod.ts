@@ -1,3 +1,3 @@
 import defaultName, { original as local, type Shape as Form } from "./names.ts";
-export { local as "quoted name", defaultName };
+export { local as renamed, defaultName };
 export let form: Form;
