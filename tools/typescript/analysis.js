@@ -5,6 +5,7 @@ const path = require('path');
 const { build } = require('./program.js');
 const { inputOf } = require('./input.js');
 const { Lines } = require('./lines.js');
+const { version } = require('./typescript.js');
 
 /** A folder that cannot be read; `messages` say why, and `text` says it where there is no place. */
 class ReadError extends Error {
@@ -51,26 +52,32 @@ function filesOf(info, dir) {
   return files;
 }
 
+/** The name of a module that was not read, as an entry point that is not there. */
+function absentName(specifier, dir, cwd) {
+  const inside = /^file:\/\/\/(.*)$/.exec(specifier);
+  return inside ? shownName(path.join(dir, decodeURIComponent(inside[1])), cwd) : specifier;
+}
+
 /** A diagnostic of the program as a message with its place. */
-function messageOf(diagnostic, files, cwd) {
+function messageOf(diagnostic, { files, dir }, cwd) {
   const file = files.get(diagnostic.specifier);
   const message = {
     level: diagnostic.level, code: diagnostic.code, message: diagnostic.message, hint: diagnostic.hint, info: diagnostic.info,
-    docs: diagnostic.docs_url, specifier: diagnostic.specifier, file: file ? shownName(file.path, cwd) : diagnostic.specifier,
+    docs: diagnostic.docs_url, specifier: diagnostic.specifier, file: file ? shownName(file.path, cwd) : absentName(diagnostic.specifier, dir, cwd),
   };
   if (!file || !diagnostic.range) return message;
   return { ...message, lines: file.lines, start: file.lines.offset(diagnostic.range[0]), end: file.lines.offset(diagnostic.range[1]) };
 }
 
 /** The answers parted into skeletons and messages. The list of a package stands at each of its entry points, and is told once. */
-function part(answers, files, cwd) {
+function part(answers, world, cwd) {
   const skeletons = new Map();
   const messages = new Map();
   for (const [specifier, answer] of answers) {
     if (answer.Ok) skeletons.set(specifier, answer.Ok);
     else for (const each of answer.Err) messages.set(JSON.stringify(each), each);
   }
-  return { skeletons, messages: [...messages.values()].map((each) => messageOf(each, files, cwd)) };
+  return { skeletons, messages: [...messages.values()].map((each) => messageOf(each, world, cwd)) };
 }
 
 /** The messages of modules that are nested deeper than the program reads. */
@@ -105,7 +112,8 @@ function read(dir, options, { cwd, progress }) {
   const sources = new Map([...files.values()].map((file) => [file.path, file]));
   if (info.errors.length) {
     const messages = info.errors.map((error) => readMessage(error, cwd, sources));
-    throw new ReadError(`${shownName(dir, cwd)} cannot be read`, messages);
+    const reader = messages.some((each) => each.code === 'syntax-error') ? ` by TypeScript ${version}` : '';
+    throw new ReadError(`${shownName(dir, cwd)} cannot be read${reader}`, messages);
   }
   return { dir, request, info, files, warnings: missingMessages(info, files, cwd) };
 }
@@ -118,7 +126,7 @@ async function analyse(dir, options, context) {
   try {
     const stage = 'the program is at work';
     const answers = await progress.during(stage, build(world.request, { unproved: options.unproved, environment, tell }));
-    return { ...world, answers, ...part(answers, world.files, cwd) };
+    return { ...world, answers, ...part(answers, world, cwd) };
   } catch (error) {
     if (error.deep) throw new ReadError(`${shownName(dir, cwd)} cannot be read`, deepMessages(error.deep, world.files, cwd));
     throw error;

@@ -79,7 +79,7 @@ function expanded(dir, [key, written]) {
     .map((it) => [key.replace('*', it.slice(before.length, it.length - after.length)), `./${it}`]);
 }
 
-/** The entry points of a package: `[key, path]`, each path of a file that is there. */
+/** The entry points of a package: `[key, path]`. */
 function entryPoints(dir, config, given, files, errors) {
   const written = writtenExports(given === undefined ? config.exports : given);
   const types = config.types || config.typings;
@@ -88,18 +88,20 @@ function entryPoints(dir, config, given, files, errors) {
   const missing = [];
   for (const [key, text] of written.flatMap((it) => expanded(dir, it))) {
     const file = files.find(path.resolve(dir, text));
-    if (!file) missing.push(text);
+    if (!file) missing.push([key, path.resolve(dir, text), text]);
     else if (!file.endsWith('.json') || given !== undefined) found.push([key, file]);
   }
   if (found.length === 0 && (given === undefined || missing.length === 0)) {
     const usual = USUAL.find((it) => files.isFile(path.join(dir, it)));
     if (usual) return [['.', path.join(dir, usual)]];
   }
-  for (const it of missing) errors.push({ path: dir, message: `the entry point ${it} is not there` });
-  if (found.length === 0 && missing.length === 0) {
-    errors.push({ path: dir, message: 'no entry point: neither `exports`, nor mod.ts, index.ts or src/index.ts' });
+  if (found.length === 0) {
+    for (const [, , text] of missing) errors.push({ path: dir, message: `the entry point ${text} is not there` });
+    if (missing.length === 0) errors.push({ path: dir, message: 'no entry point: neither `exports`, nor mod.ts, index.ts or src/index.ts' });
+    return [];
   }
-  return found;
+  // Where some are there, the program says of the others that they are not found.
+  return [...found, ...missing.map(([key, file]) => [key, file])];
 }
 
 /** The folders of a workspace's members. */

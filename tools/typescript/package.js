@@ -138,7 +138,8 @@ class Reader {
   }
 
   read() {
-    this.waiting = this.packages.flatMap((it) => this.entriesOf(it).map(([, file]) => file)).reverse();
+    const entries = this.packages.flatMap((it) => this.entriesOf(it).map(([, file]) => file));
+    this.waiting = entries.filter((it) => this.files.isFile(it)).reverse();
     while (this.waiting.length) this.readFile(this.waiting.pop());
   }
 }

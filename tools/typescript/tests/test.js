@@ -57,7 +57,8 @@ function holds(value, what) {
 async function said(name) {
   const parts = [];
   for (const command of ['check', 'skeleton']) {
-    const { status, out, err } = await run([command, '.'], { cwd: path.join(PACKAGES, name) });
+    const { status, out, err: told } = await run([command, '.'], { cwd: path.join(PACKAGES, name) });
+    const err = told.replace(ts.version, 'VERSION');
     parts.push(`$ ${command}: status ${status}\n${out}${err && command === 'check' ? `$ standard error\n${err}` : ''}`);
   }
   return parts.join('\n');
