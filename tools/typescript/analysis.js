@@ -133,4 +133,4 @@ async function analyse(dir, options, context) {
   }
 }
 
-module.exports = { ReadError, analyse, read, shownName };
+module.exports = { ReadError, analyse, filesOf, part, read, shownName };

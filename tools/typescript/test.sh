@@ -7,7 +7,8 @@
 set -u
 here=$(cd "$(dirname "$(readlink -f "${BASH_SOURCE[0]}")")" && pwd)
 built="$here/../../crates/fast_check_build_cli/out/fast_check_build_cli"
-if [ -z "${FAST_CHECK-}" ] && [ -x "$built" ]; then
+if [ -z "${FAST_CHECK-}" ]; then
+  [ -x "$built" ] || "$here/../../fast-check" build "$here/../../examples/build_hello.json" > /dev/null || exit
   export FAST_CHECK="$built"
 fi
 exec node "$here/tests/test.js" "$@"

@@ -75,7 +75,8 @@ function declarationAt(file, offset) {
   const statement = file.statements.find((each) => each.getStart(file) <= offset && offset < each.end);
   if (!statement) return null;
   const named = statement.declarationList ? statement.declarationList.declarations.find((each) => offset < each.end) : statement;
-  return named && named.name ? named.name.getText(file) : null;
+  if (named && named.name) return named.name.getText(file);
+  return statement.getText(file).startsWith('export default') ? 'default' : null;
 }
 
 /** One error of a skeleton as a message, with the way that it comes from. */
@@ -84,8 +85,9 @@ function messageOf(error, module, { world, skeleton, found, context }) {
   const way = name ? told(world, found, `${module.specifier}\n${name}`) : '';
   const info = [`TypeScript's compiler finds this in the skeleton of ${module.name}, and not in its source`];
   if (way) info.push(`the way to it: ${way}`);
+  else if (world.info.entryPoints.includes(module.specifier)) info.push(`${module.name} is an entry point`);
   return {
-    level: 'Error', code: `typescript-${error.code}`, message: error.text, info, hint: LOST.has(error.code) ? HINT : null,
+    level: 'Error', code: `typescript-${error.code}`, message: error.text.split(`${world.dir}/`).join(''), info, hint: LOST.has(error.code) ? HINT : null,
     file: `${shownName(module.path, context.cwd)} (skeleton)`, lines: new Lines(module.text), start: error.start, end: error.end,
   };
 }
