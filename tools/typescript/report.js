@@ -39,8 +39,9 @@ function classesOf(file, marks, messages) {
 
 /** A line of text as runs of one class each. */
 function line(text, start, classes) {
-  let made = '';
-  for (let at = 0; at < text.length;) {
+  const indent = text.length - text.trimStart().length;
+  let made = text.slice(0, indent);
+  for (let at = indent; at < text.length;) {
     const name = classes[start + at];
     let end = at + 1;
     while (end < text.length && classes[start + end] === name) end++;

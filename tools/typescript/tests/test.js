@@ -53,10 +53,11 @@ function holds(value, what) {
 
 // ---- the stored packages
 
-/** What the commands say of a package; of one where the rules part from TypeScript, what the compiler finds in the skeletons too. */
+/** What the commands say of a package; of one where the rules part from TypeScript, and of
+ * what can be written instead, what the compiler finds in the skeletons too. */
 async function said(name) {
   const parts = [];
-  const commands = [['check'], ['skeleton'], ...(name.startsWith('apart-') && IS_OLD ? [['check', '--verify']] : [])];
+  const commands = [['check'], ['skeleton'], ...(/^(apart|instead)-/.test(name) && IS_OLD ? [['check', '--verify']] : [])];
   for (const words of commands) {
     const { status, out, err: told } = await run([...words, '.'], { cwd: path.join(PACKAGES, name) });
     const err = told.replace(ts.version, 'VERSION');
