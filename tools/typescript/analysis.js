@@ -96,10 +96,10 @@ function deepMessages(deep, files, cwd) {
 function missingMessages(info, files, cwd) {
   const byPath = new Map([...files.values()].map((file) => [file.path, file]));
   return (info.missing || []).map(({ path: at, offset, text }) => {
-    const lines = byPath.get(at).lines;
+    const { lines, specifier } = byPath.get(at);
     const [message, hint] = [`there is no module '${text}'`, 'give the path of a file that is there'];
     const info = ['what is asked of this module is not followed'];
-    return { level: 'Warning', code: 'missing-module', message, hint, info, file: shownName(at, cwd), lines, start: offset, end: offset + text.length + 2 };
+    return { level: 'Warning', code: 'missing-module', message, hint, info, specifier, file: shownName(at, cwd), lines, start: offset, end: offset + text.length + 2 };
   });
 }
 

@@ -121,13 +121,15 @@ function contents(world, shown) {
 const LEGEND = '<p class="legend"><span class="kept">public</span><span class="gone">goes</span></p>';
 
 /** The page of a folder that was analysed. */
-function page(world) {
+function page(analysed) {
+  const world = { ...analysed, messages: [...analysed.warnings, ...analysed.messages] };
   const skeletons = new Map(printed(world).map((each) => [each.specifier, each]));
   const known = ways(world);
   const files = [...world.files.values()].sort((a, b) => (a.name < b.name ? -1 : 1));
   const shown = files.filter((file) => skeletons.has(file.specifier) || world.messages.some((each) => each.specifier === file.specifier));
   const title = world.info.packages.map(({ name, version }) => `${name}@${version}`).join(', ');
-  const said = world.messages.length ? `${world.messages.length} message${world.messages.length === 1 ? '' : 's'}; a package with messages has no skeletons` : `${skeletons.size} public module${skeletons.size === 1 ? '' : 's'}`;
+  const shows = skeletons.size ? `${skeletons.size} public module${skeletons.size === 1 ? '' : 's'}` : 'a package with messages has no skeletons';
+  const said = world.messages.length ? `${world.messages.length} message${world.messages.length === 1 ? '' : 's'}; ${shows}` : shows;
   const elsewhere = world.messages.filter((each) => !world.files.has(each.specifier)).map(message).join('');
   return `<!DOCTYPE html>
 <html lang="en"><head><meta charset="utf-8"><meta name="viewport" content="width=device-width, initial-scale=1">
