@@ -153,7 +153,8 @@ class Surface {
       symbol = target;
     }
     if (this.seen.has(symbol)) return;
-    if (symbol.flags & ts.SymbolFlags.ValueModule && symbol.declarations && symbol.declarations[0].kind === K.SourceFile) {
+    const [first] = symbol.declarations || [];
+    if (first && first.kind === K.SourceFile) {
       this.module(symbol, from);
       return;
     }

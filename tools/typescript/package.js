@@ -6,6 +6,7 @@ const path = require('path');
 const { Files, mediaTypeOf, isDeclarationFile, isJavaScript, namedTypes, selfTypes } = require('./files');
 const { packagesOf } = require('./config');
 const { toTree, parse } = require('./tree');
+const { writeExports } = require('./ambient');
 
 /** The URL of a file: its path below the folder that was named. */
 function urlOf(root, file) {
@@ -120,6 +121,7 @@ class Reader {
     this.times.parse += Number(parsed - began) / 1e6;
     this.times.tree += Number(process.hrtime.bigint() - parsed) / 1e6;
     for (const it of tree.errors) this.errorAt(file, text, it);
+    if (tree.program) writeExports(tree.program, isDeclarationFile(mediaType));
     const module = { specifier, path: file, mediaType, text, tree, isDeclaration: isDeclarationFile(mediaType) };
     if (this.options.keepSourceFiles) module.sourceFile = sourceFile;
     this.modules.set(specifier, module);

@@ -3,14 +3,17 @@
 
 const { Writer } = require('./writer');
 const { items } = require('./print_statements');
+const { needsList } = require('./ambient');
 
 /**
  * The text of a program or a module, with the comments that stand at its nodes.
  *
- * A module without imports and exports is printed with `export {}`, without which a compiler would take it for a script.
+ * A module without imports and exports is printed with `export {}`, without which a compiler would take it for a script, and so
+ * is an ambient one with a declaration that is not exported, without which it would be. `asWritten` leaves it out.
  */
-function print(program, comments) {
+function print(program, comments, { asWritten = false } = {}) {
   const w = new Writer(comments);
+  w.asWritten = asWritten;
   const module = program.Module || program.Script || program;
   const isScript = Boolean(program.Script);
   if (module.shebang !== null && module.shebang !== undefined) {
@@ -20,7 +23,7 @@ function print(program, comments) {
   const body = module.body || [];
   if (isScript) items(w, body.map((Stmt) => ({ Stmt })));
   else items(w, body);
-  if (!isScript && !body.some((it) => it.ModuleDecl)) {
+  if (!isScript && (!body.some((it) => it.ModuleDecl) || (!asWritten && needsList(body)))) {
     w.line();
     w.write('export {};');
   }

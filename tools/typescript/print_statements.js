@@ -3,6 +3,7 @@
 
 const t = require('./print_types');
 const e = require('./print_expressions');
+const { needsList } = require('./ambient');
 
 const { at, variantOf } = t;
 const { expression } = e;
@@ -396,6 +397,8 @@ function enumDeclaration(w, node) {
   inBraces(w, node.members || [], [0, (node.span || [0, 0])[1]], enumMember);
 }
 
+const EMPTY_LIST = { ModuleDecl: { ExportNamed: {} } };
+
 function namespaceBody(w, choice) {
   if (choice.TsNamespaceDecl) {
     w.write('.');
@@ -403,8 +406,10 @@ function namespaceBody(w, choice) {
     namespaceBody(w, choice.TsNamespaceDecl.body);
     return;
   }
+  const { body = [], span } = choice.TsModuleBlock;
+  const list = !w.asWritten && needsList(body, w.isAmbient) ? [...body, EMPTY_LIST] : body;
   w.write(' ');
-  at(w, choice.TsModuleBlock, () => inBraces(w, choice.TsModuleBlock.body || [], choice.TsModuleBlock.span, item));
+  at(w, choice.TsModuleBlock, () => inBraces(w, list, span, item));
 }
 
 function namespaceDeclaration(w, node) {
@@ -412,8 +417,14 @@ function namespaceDeclaration(w, node) {
   if (!node.global) w.write(node.namespace ? 'namespace ' : 'module ');
   if (node.id.Str) t.str(w, node.id.Str);
   else t.ident(w, node.id.Ident);
-  if (node.body) namespaceBody(w, node.body);
-  else w.write(';');
+  if (!node.body) {
+    w.write(';');
+    return;
+  }
+  const outer = w.isAmbient;
+  w.isAmbient = outer || Boolean(node.declare);
+  namespaceBody(w, node.body);
+  w.isAmbient = outer;
 }
 
 function variableStatement(w, node) {

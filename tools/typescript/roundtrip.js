@@ -18,7 +18,7 @@ function shape(tree) {
 function roundTrip(name, text) {
   const first = toTree(parse(name, text));
   if (first.errors.length) return ['refused', first.errors[0].message];
-  const printed = print(first.program, first.comments);
+  const printed = print(first.program, first.comments, { asWritten: true });
   const second = toTree(parse(name, printed));
   if (second.errors.length) return ['printed wrongly', `${second.errors[0].message} in:\n${printed.slice(second.errors[0].offset - 80, second.errors[0].offset + 80)}`];
   const [before, after] = [shape(first.program), shape(second.program)];

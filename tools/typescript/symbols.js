@@ -3,6 +3,7 @@
 // of its identifiers, and the names that it answers.
 
 const deps = require('./dependencies');
+const { saysExports } = require('./ambient');
 const { fillClass, fillInterface } = require('./symbol_members');
 
 const { Dependencies } = deps;
@@ -277,13 +278,8 @@ const MODULE_DECLARATIONS = {
   TsImportEquals: importEquals,
 };
 
-/** Whether the declarations of an ambient body are exported without the keyword: it has no list of exports and no assignment. */
-function exportsAll(list) {
-  return !list.some(({ ModuleDecl: it }) => it && (it.ExportNamed || it.ExportAll || it.TsExportAssignment || it.ExportDefaultExpr));
-}
-
 function items(t, list, parent, isAmbient) {
-  const isAllExported = isAmbient && exportsAll(list);
+  const isAllExported = isAmbient && !saysExports(list);
   for (const it of list) {
     const exported = it.ModuleDecl && it.ModuleDecl.ExportDecl;
     const decl = exported ? exported.decl : it.Stmt && it.Stmt.Decl;

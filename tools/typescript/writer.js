@@ -20,6 +20,8 @@ class Writer {
     this.indent = '';
     this.isLineStart = true;
     this.wantsLine = false;
+    this.isAmbient = false;
+    this.asWritten = false;
     this.leadingAt = byPosition(comments && comments.leading);
     this.trailingAt = byPosition(comments && comments.trailing);
   }
