@@ -114,18 +114,41 @@ function newErrors(source, skeleton, names) {
   return found;
 }
 
+// Differences that a rule of docs/RULES.md makes, each with how a text looks without it.
+const RULES = [
+  ['a default class of a declaration file loses the types of private members and the contents of patterns', (text) => (
+    /default (abstract )?class/.test(text)
+      ? text.replace(/(private [^;:(]*): any(?=[; ])/g, '$1').replace(/#private!: unknown/, '#private').replace(/\{[^{}]*\}(?=\??:)/g, '{}')
+      : text)],
+  ['a pattern loses its contents', (text) => text.replace(/([(,] ?|\.\.\.)(\{[^{}]*\}|\[[^[\]]*\])(?=\??: )/g, (all, before, it) => before + (it[0] === '{' ? '{}' : '[]'))],
+];
+
+/** The rule by which two texts differ, or null. */
+function ruleOf(source, skeleton) {
+  let [before, after] = [source, skeleton];
+  for (const [rule, without] of RULES) {
+    [before, after] = [without(before), without(after)];
+    if (before === after) return rule;
+  }
+  return null;
+}
+
+function differenceOf(name, texts, others) {
+  if (!others) return { kind: 'lost', name, source: [...texts][0] };
+  const missing = [...texts].filter((it) => !others.has(it)).sort();
+  const added = [...others].filter((it) => !texts.has(it)).sort();
+  if (missing.length === 0 && added.length === 0) return null;
+  const [source, skeleton] = [missing.join(' // '), added.join(' // ')];
+  const rule = ruleOf(source, skeleton);
+  return rule ? { kind: 'by a rule', name, rule } : { kind: 'differs', name, source, skeleton };
+}
+
 /** The differences of two surfaces. */
 function differences(source, skeleton) {
   const found = [];
   for (const [key, texts] of source.shown) {
-    const others = skeleton.shown.get(key);
-    const name = key.replace(/^.*\//, '');
-    if (!others) found.push({ kind: 'lost', name, source: [...texts][0] });
-    else {
-      const missing = [...texts].filter((it) => !others.has(it));
-      const added = [...others].filter((it) => !texts.has(it));
-      if (missing.length || added.length) found.push({ kind: 'differs', name, source: missing.join(' // '), skeleton: added.join(' // ') });
-    }
+    const it = differenceOf(key.replace(/^.*\//, ''), texts, skeleton.shown.get(key));
+    if (it) found.push(it);
   }
   for (const key of skeleton.shown.keys()) {
     if (!source.shown.has(key)) found.push({ kind: 'added', name: key.replace(/^.*\//, ''), skeleton: [...skeleton.shown.get(key)][0] });
