@@ -22,53 +22,47 @@ function blockOf(node) {
   return body && body.TsModuleBlock;
 }
 
-/** The items of a body with the word `export` where it is implied. */
-function explicit(items, isAmbient) {
-  const isImplied = isAmbient && !saysExports(items);
+function isExported(item) {
+  return Boolean(item.ModuleDecl && item.ModuleDecl.ExportDecl);
+}
+
+function isPlain(item) {
+  return Boolean(item.Stmt && item.Stmt.Decl && isNamed(item.Stmt.Decl));
+}
+
+/** The items of a body with the word `export` before each declaration. */
+function exported(items) {
   return items.map((item) => {
-    const exported = item.ModuleDecl && item.ModuleDecl.ExportDecl;
-    const decl = exported ? exported.decl : item.Stmt && item.Stmt.Decl;
-    if (!decl) return item;
-    if (decl.TsModule) explicitBlock(decl.TsModule, isAmbient);
-    return isImplied && !exported && isNamed(decl) ? { ModuleDecl: { ExportDecl: { span: spanOf(decl), decl } } } : item;
+    if (!isPlain(item)) return item;
+    const { Decl: decl } = item.Stmt;
+    return { ModuleDecl: { ExportDecl: { span: spanOf(decl), decl } } };
   });
 }
 
-function explicitBlock(node, isAmbient) {
-  const block = blockOf(node);
-  if (block && block.body && node.id.Ident && !node.global) block.body = explicit(block.body, isAmbient || Boolean(node.declare));
+/** Goes through the namespaces of a body. One that has the word before some declarations alone gets it before all. */
+function explicitBlocks(items, isAmbient) {
+  for (const item of items) {
+    const decl = isExported(item) ? item.ModuleDecl.ExportDecl.decl : item.Stmt && item.Stmt.Decl;
+    const node = decl && decl.TsModule;
+    const block = node && node.id.Ident && !node.global && blockOf(node);
+    if (!block || !block.body) continue;
+    const isInside = isAmbient || Boolean(node.declare);
+    explicitBlocks(block.body, isInside);
+    if (isInside && !saysExports(block.body) && block.body.some(isExported)) block.body = exported(block.body);
+  }
 }
 
 /** Writes the implied exports into a program. */
 function writeExports(program, isDeclaration) {
   const { Module } = program;
-  if (Module && Module.body) Module.body = explicit(Module.body, isDeclaration);
+  if (!Module || !Module.body) return;
+  explicitBlocks(Module.body, isDeclaration);
+  if (isDeclaration && !saysExports(Module.body)) Module.body = exported(Module.body);
 }
 
-// ---- what a printed body needs
-
-function hasBody(decl) {
-  const [variant] = Object.keys(decl);
-  const node = decl[variant];
-  if (node.declare || variant === 'TsInterface' || variant === 'TsTypeAlias') return false;
-  if (variant === 'Var') return node.decls.some((it) => it.init);
-  if (variant === 'Fn') return Boolean(node.function.body);
-  if (variant !== 'Class') return true;
-  return (node.class.body || []).some((it) => {
-    const member = it.Method || it.Constructor || it.ClassProp;
-    return member && Boolean((member.function || member).body || member.value);
-  });
-}
-
-/**
- * Whether a printed body needs `export {}`: it is ambient, and has a declaration that is not exported. Of a module it is
- * unknown whether it is ambient (`isAmbient` is undefined): it is not where a declaration has a body or a value.
- */
-function needsList(items, isAmbient) {
-  if (saysExports(items)) return false;
-  const decls = items.map((it) => (it.Stmt ? it.Stmt.Decl : it.ModuleDecl.ExportDecl && it.ModuleDecl.ExportDecl.decl)).filter(Boolean);
-  const isBare = isAmbient === undefined ? !decls.some(hasBody) : isAmbient;
-  return isBare && items.some((it) => it.Stmt && it.Stmt.Decl && isNamed(it.Stmt.Decl));
+/** Whether a printed ambient body needs `export {}`: it has declarations that are exported, and others that are not. */
+function needsList(items) {
+  return !saysExports(items) && items.some(isExported) && items.some(isPlain);
 }
 
 module.exports = { writeExports, saysExports, needsList };

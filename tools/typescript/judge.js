@@ -88,7 +88,9 @@ function skeletonTexts(asked) {
   const texts = new Map(asked.info.jsonModules.map((it) => [it.path, it.text]));
   const paths = new Map(asked.info.modules.map((it) => [it.specifier, it.path]));
   for (const [specifier, answer] of asked.answers) {
-    texts.set(paths.get(specifier), print({ Module: answer.Ok.program }, answer.Ok.comments));
+    const file = paths.get(specifier);
+    const isDeclaration = /\.d\.[cm]?ts$/.test(file);
+    texts.set(file, print({ Module: answer.Ok.program }, answer.Ok.comments, { isDeclaration }));
   }
   return texts;
 }

@@ -9,11 +9,14 @@ const { needsList } = require('./ambient');
  * The text of a program or a module, with the comments that stand at its nodes.
  *
  * A module without imports and exports is printed with `export {}`, without which a compiler would take it for a script, and so
- * is an ambient one with a declaration that is not exported, without which it would be. `asWritten` leaves it out.
+ * is a declaration file with a declaration that is not exported, without which it would be.
+ *
+ * `isDeclaration` says that it is such a file; `asWritten` adds nothing in namespaces.
  */
-function print(program, comments, { asWritten = false } = {}) {
+function print(program, comments, { isDeclaration = false, asWritten = false } = {}) {
   const w = new Writer(comments);
   w.asWritten = asWritten;
+  w.isAmbient = isDeclaration;
   const module = program.Module || program.Script || program;
   const isScript = Boolean(program.Script);
   if (module.shebang !== null && module.shebang !== undefined) {
@@ -23,7 +26,7 @@ function print(program, comments, { asWritten = false } = {}) {
   const body = module.body || [];
   if (isScript) items(w, body.map((Stmt) => ({ Stmt })));
   else items(w, body);
-  if (!isScript && (!body.some((it) => it.ModuleDecl) || (!asWritten && needsList(body)))) {
+  if (!isScript && (!body.some((it) => it.ModuleDecl) || (isDeclaration && needsList(body)))) {
     w.line();
     w.write('export {};');
   }

@@ -9,7 +9,8 @@ function printed(world) {
   const made = [];
   for (const [specifier, skeleton] of world.skeletons) {
     const file = world.files.get(specifier);
-    made.push({ specifier, name: file ? file.name : specifier, text: print({ Module: skeleton.program }, skeleton.comments) });
+    const isDeclaration = /\.d\.[cm]?ts$/.test(specifier);
+    made.push({ specifier, name: file ? file.name : specifier, text: print({ Module: skeleton.program }, skeleton.comments, { isDeclaration }) });
   }
   return made.sort((a, b) => (a.name < b.name ? -1 : a.name > b.name ? 1 : 0));
 }
