@@ -1,32 +1,26 @@
 #!/usr/bin/env bash
-# Fetches sources of Debian packages that are written in TypeScript into a folder outside of the repository:
+# Fetches Debian packages that carry TypeScript, sources or declarations, into a folder outside of the repository:
 #
 #   tools/typescript/corpus.sh FOLDER
+#   FAST_CHECK=PROGRAM node tools/typescript/judge.js FOLDER [--modules]
 #
-# Nothing of the machine's own package lists is changed. `judge.js FOLDER` reads what is fetched.
+# Nothing is installed, and the machine's package lists are those of the last `apt-get update`.
 set -u
 folder=${1:?usage: corpus.sh FOLDER}
-packages="node-yaml node-css-what node-css-select node-domhandler node-domutils node-htmlparser2 node-entities node-dom-serializer
-  node-parse5 node-rxjs node-redux node-ajv node-graphql node-jest node-babel7 node-regexpp node-y18n node-yargs-parser node-cliui
-  node-yargs node-lru-cache node-got node-cheerio node-typescript node-ts-node node-undici node-xterm node-rollup node-immer
-  node-jridgewell-trace-mapping node-js-sdsl node-reflect-metadata node-ws node-uuid node-postcss node-date-fns node-tslib
-  node-css-tree node-keyv node-inversify node-chalk node-commander"
-mkdir -p "$folder/apt/lists/partial" "$folder/apt/archives/partial" "$folder/sources"
-folder=$(readlink -f "$folder")
-echo "deb-src http://deb.debian.org/debian $(. /etc/os-release && echo "$VERSION_CODENAME") main" > "$folder/apt/sources.list"
-options=(-o "Dir::State::Lists=$folder/apt/lists" -o "Dir::Etc::SourceList=$folder/apt/sources.list" -o Dir::Etc::SourceParts=-
-  -o "Dir::Cache=$folder/apt" -o "APT::Sandbox::User=root" -q)
-apt-get "${options[@]}" update || exit 1
-cd "$folder/sources" || exit 1
+packages="node-lumino node-jose node-recast node-ast-types node-chart.js rollup jest node-graphql node-parse5 node-yaml node-js-sdsl
+  node-mj-context-menu node-got node-postcss node-cheerio node-css-select node-css-what node-domutils node-domhandler node-entities
+  node-htmlparser2 node-dom-serializer node-memfs node-undici ts-node node-socks node-agent-base node-redux node-ajv node-axios
+  node-babel7 node-csstype node-immutable node-popper2 node-preact node-prosemirror-model node-sinclair-typebox node-typescript"
+mkdir -p "$folder/archives"
+cd "$folder" || exit 1
 for package in $packages; do
-  if [ -d "$package" ]; then continue; fi
-  rm -rf "$package.part"
-  mkdir "$package.part"
-  if (cd "$package.part" && apt-get "${options[@]}" source "$package" > log 2>&1); then
+  [ -d "$package" ] && continue
+  if (cd archives && apt-get -q download "$package" > /dev/null 2>&1) && dpkg -x archives/"${package}"_*.deb "$package.part"; then
     mv "$package.part" "$package"
-    echo "$package: $(find "$package" -name '*.ts' ! -name '*.d.ts' | wc -l) sources"
+    count() { find "$package" -type f "$@" | wc -l; }
+    echo "$package: $(count -name '*.ts' ! -name '*.d.ts') sources, $(count -name '*.d.ts') declaration files"
   else
-    echo "$package: not fetched: $(tail -1 "$package.part/log")"
     rm -rf "$package.part"
+    echo "$package: not fetched"
   fi
 done

@@ -3,6 +3,7 @@
 // for both are compared for all that the entry points lead to, and its errors in the skeletons have to be those of the source.
 //
 //   node judge.js FOLDER [--modules]     the packages below FOLDER, or each of their modules by itself
+//   node judge.js FOLDER --drop N        the same with each Nth dependency left out of the tables, to see that the judge notices
 //
 // Where a package leaves types to inference, they are written first, as the compiler finds them; where that is not enough, the
 // package of its declarations is taken. The program is that of the variable FAST_CHECK, else the launcher's.
@@ -14,7 +15,7 @@ const path = require('path');
 const { ts } = require('./typescript');
 const { inputOf } = require('./input');
 const { print } = require('./print');
-const { programOf, emitted, surfaceOf } = require('./judge_surface');
+const { programOf, emitted, surfaceOf, takeSmallLibrary } = require('./judge_surface');
 const { withTypes } = require('./judge_types');
 
 const TOP = path.resolve(__dirname, '../..');
@@ -24,8 +25,28 @@ function command(file) {
   return process.env.FAST_CHECK ? [process.env.FAST_CHECK, 'build', file] : [path.join(TOP, 'fast-check'), 'build', file];
 }
 
+const dropped = { each: 0, count: 0 };
+
+function kept() {
+  dropped.count += 1;
+  return dropped.count % dropped.each !== 0;
+}
+
+/** Leaves out each Nth of the dependencies that the tables tell. */
+function drop(request) {
+  for (const [, module] of request.modules) {
+    for (const symbol of (module.Esm || module.Json).symbols) {
+      for (const it of symbol.decls || []) {
+        const node = it.kind.Definition;
+        if (node) node.deps = node.deps.filter(kept);
+      }
+    }
+  }
+}
+
 /** The program's answers to a request, or its line of refusal. */
 function build(request, work) {
+  if (dropped.each) drop(request);
   const file = path.join(work, 'input.json');
   fs.writeFileSync(file, JSON.stringify(request));
   const [program, ...words] = command(file);
@@ -176,8 +197,10 @@ function judge(dir, exports, work) {
   const [source, skeleton] = [programOf(sourceTexts), programOf(skeletons)];
   const entries = asked.info.packages.flatMap((it) => it.exports.map(([, file]) => path.resolve(it.dir, file)));
   const shown = (program, texts) => {
-    const made = emitted(program, texts);
-    return surfaceOf(made, entries.map((it) => it.replace(/(\.d)?\.([cm]?)tsx?$/, '.d.$2ts')));
+    const isDeclared = [...texts.keys()].every((it) => /\.d\.[cm]?ts$/.test(it));
+    const made = isDeclared ? texts : emitted(program, texts);
+    const names = entries.map((it) => it.replace(/(\.d)?\.([cm]?)tsx?$/, '.d.$2ts'));
+    return surfaceOf(isDeclared ? program : programOf(made), made, names);
   };
   const [before, after] = [shown(source, sourceTexts), shown(skeleton, skeletons)];
   return {
@@ -204,7 +227,7 @@ function foldersWithConfig(root, found = []) {
   return found;
 }
 
-const SOURCES = ['src/index.ts', 'index.ts', 'mod.ts', 'lib/index.ts', 'main.ts', 'src/main.ts'];
+const SOURCES = ['src/index.ts', 'dist/deno/index.ts', 'index.ts', 'mod.ts', 'lib/index.ts', 'main.ts', 'src/main.ts'];
 
 /** The entry point of an npm package: its TypeScript, or else its declarations. */
 function entryOf(dir) {
@@ -260,6 +283,7 @@ function modulesBelow(root, found = []) {
 }
 
 function judgeModules(root) {
+  takeSmallLibrary();
   for (const file of modulesBelow(root)) {
     withWork((work) => {
       try {
@@ -276,6 +300,7 @@ function judgeModules(root) {
 
 if (require.main === module) {
   const [root, ...words] = process.argv.slice(2);
+  if (words.includes('--drop')) dropped.each = Number(words[words.indexOf('--drop') + 1]);
   if (words.includes('--modules')) judgeModules(root);
   else judgePackages(root);
 }

@@ -71,6 +71,11 @@ function programOf(texts, resolve = (from, text) => resolveIn(texts, from, text)
   return ts.createProgram(roots, OPTIONS, hostOf(texts, resolve));
 }
 
+/** Takes a small library, for many programs of one module each. */
+function takeSmallLibrary() {
+  OPTIONS.lib = ['lib.es2018.d.ts'];
+}
+
 /** The declarations that the compiler emits, by their paths; declaration files are their own. */
 function emitted(program, texts) {
   const made = new Map();
@@ -87,9 +92,11 @@ function textOf(node) {
   return printer.printNode(ts.EmitHint.Unspecified, node, node.getSourceFile()).replace(/\s+/g, ' ');
 }
 
-/** Types as written, but for the order of unions, which a compiler chooses, and `undefined` of what may be left out. */
+/** Types as written, but for quotes, `x = 1` for `x: 1`, and `undefined` of what may be left out. */
 function normalise(text) {
   return text
+    .replace(/'((?:[^'\\"]|\\.)*)'/g, '"$1"')
+    .replace(/\b((?:readonly|const) [\w$]+) = ("(?:[^"\\]|\\.)*"|-?[\d.]\w*|true|false)/g, '$1: $2')
     .replace(/\b(export|declare) /g, '')
     .replace(/(\?: )([^,;(){}=>]+?) \| undefined(?=[,;)])/g, '$1$2')
     .replace(/[;,] ?([}\])])/g, ' $1')
@@ -223,12 +230,11 @@ function declarationText(node) {
   return `${word} ${textOf(node).replace(/^([\w$]+) = /, '$1: ')}`;
 }
 
-/** What the entry points show: sets of texts by `file#name`. */
-function surfaceOf(texts, entries) {
-  const program = programOf(texts);
+/** What the entry points of declaration files show: sets of texts by `file#name`. */
+function surfaceOf(program, texts, entries) {
   const surface = new Surface(program, new Set(texts.keys()));
   for (const it of entries) surface.entry(it);
   return surface;
 }
 
-module.exports = { programOf, emitted, surfaceOf };
+module.exports = { programOf, emitted, surfaceOf, takeSmallLibrary };
