@@ -7,8 +7,9 @@ const { VALUE } = require('./scopes');
 
 const { SyntaxKind: K } = ts;
 
-/** An identifier that is looked up. */
+/** An identifier that is looked up. The parser gives an empty one where it misses a name without an error. */
 function reference(c, node, meaning = VALUE) {
+  if (node.text === '') c.refuse(node, 'a name is missing here');
   return { span: c.span(node), ctxt: c.scope.find(node.text, meaning), sym: node.text };
 }
 

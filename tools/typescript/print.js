@@ -11,7 +11,7 @@ const { needsList } = require('./ambient');
  * A module without imports and exports is printed with `export {}`, without which a compiler would take it for a script, and so
  * is a declaration file with a declaration that is not exported, without which it would be.
  *
- * `isDeclaration` says that it is such a file; `asWritten` adds nothing in namespaces.
+ * `isDeclaration` says that it is such a file; `asWritten` adds nothing anywhere.
  */
 function print(program, comments, { isDeclaration = false, asWritten = false } = {}) {
   const w = new Writer(comments);
@@ -26,7 +26,7 @@ function print(program, comments, { isDeclaration = false, asWritten = false } =
   const body = module.body || [];
   if (isScript) items(w, body.map((Stmt) => ({ Stmt })));
   else items(w, body);
-  if (!isScript && (!body.some((it) => it.ModuleDecl) || (isDeclaration && needsList(body)))) {
+  if (!isScript && !asWritten && (!body.some((it) => it.ModuleDecl) || (isDeclaration && needsList(body)))) {
     w.line();
     w.write('export {};');
   }

@@ -299,7 +299,9 @@ const EXPRESSIONS = {
   JSXElement: rawText,
   JSXFragment: rawText,
   TsTypeAssertion: (w, node) => {
-    w.write('<');
+    // `<<` would be one sign.
+    const made = node.type_ann.TsFnOrConstructorType && node.type_ann.TsFnOrConstructorType.TsFnType;
+    w.write(made && made.type_params ? '< ' : '<');
     t.type(w, node.type_ann);
     w.write('>');
     expression(w, node.expr);

@@ -551,10 +551,19 @@ function importEquals(w, node) {
 
 function defaultDeclaration(w, node) {
   const [variant, decl] = variantOf(node.decl);
+  if (variant === 'Class') e.decorators(w, decl.class.decorators, '\n');
   w.write('export default ');
   if (variant === 'Fn') at(w, decl.function, () => e.functionOf(w, decl.ident, decl.function));
-  else if (variant === 'Class') at(w, decl.class, () => classOf(w, decl.ident, decl.class));
+  else if (variant === 'Class') at(w, decl.class, () => classOf(w, decl.ident, { ...decl.class, decorators: [] }));
   else at(w, decl, () => interfaceDeclaration(w, decl));
+}
+
+/** A declaration behind `export`. The decorators of a class stand before the word. */
+function exportedDeclaration(w, node) {
+  const { Class } = node.decl;
+  if (Class) e.decorators(w, Class.class.decorators, '\n');
+  w.write('export ');
+  declaration(w, Class ? { Class: { ...Class, class: { ...Class.class, decorators: [] } } } : node.decl);
 }
 
 function ended(before, field) {
@@ -567,14 +576,7 @@ function ended(before, field) {
 
 const MODULE_DECLARATIONS = {
   Import: importDeclaration,
-  ExportDecl: (w, node) => {
-    const decorators = node.decl.Class && node.decl.Class.class.decorators;
-    // Decorators stand before `export`.
-    if (decorators && decorators.length) e.decorators(w, decorators, '\n');
-    w.write('export ');
-    if (decorators && decorators.length) declaration(w, { Class: { ...node.decl.Class, class: { ...node.decl.Class.class, decorators: [] } } });
-    else declaration(w, node.decl);
-  },
+  ExportDecl: exportedDeclaration,
   ExportNamed: exportNamed,
   ExportDefaultDecl: defaultDeclaration,
   ExportDefaultExpr: ended('export default ', 'expr'),

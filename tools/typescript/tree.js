@@ -53,9 +53,17 @@ function programOf(c, sourceFile) {
 function toTree(sourceFile, options = {}) {
   const c = new Converter(sourceFile, options);
   const errors = syntaxErrors(sourceFile, c.offsets);
-  if (errors.length) return { program: null, comments: { leading: [], trailing: [] }, offsets: c.offsets, errors };
+  const nothing = { program: null, comments: { leading: [], trailing: [] }, offsets: c.offsets };
+  if (errors.length) return { ...nothing, errors };
+  let program;
+  try {
+    program = programOf(c, sourceFile);
+  } catch (error) {
+    if (!(error instanceof RangeError)) throw error;
+    return { ...nothing, errors: [{ offset: 0, position: 1, message: 'this is nested deeper than can be read' }] };
+  }
   return {
-    program: programOf(c, sourceFile),
+    program,
     comments: commentsOf(sourceFile, c.offsets),
     unresolvedContext: UNRESOLVED,
     topLevelContext: TOP,

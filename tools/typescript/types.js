@@ -293,6 +293,8 @@ function parameters(c, node) {
 }
 
 function indexSignature(c, node) {
+  const [parameter] = node.parameters;
+  if (!parameter || !parameter.type || parameter.modifiers) c.refuse(node, 'no form for an index signature without its one typed parameter');
   return c.within((scope) => {
     for (const it of node.parameters) patterns.bindParameter(scope, it);
     return form({
