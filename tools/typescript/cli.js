@@ -125,7 +125,7 @@ async function report([word, file], options, context) {
   context.progress.begin('writing the page');
   fs.writeFileSync(path.resolve(context.cwd, file), page(world));
   context.progress.end();
-  context.out.write(`${file}: ${summary(world, world.messages.length, context)}`);
+  context.out.write(`${file}: ${summary(world, world.warnings.length + world.messages.length, context)}`);
   return world.messages.length ? 1 : 0;
 }
 

@@ -52,11 +52,16 @@ function line(text, start, classes) {
   return made;
 }
 
+/** What is said of a message besides its code and its text. */
+function more(each) {
+  const page = each.docs && `<a href="${escape(each.docs)}">${escape(each.docs)}</a>`;
+  return [each.hint && `hint: ${escape(each.hint)}`, ...(each.info || []).map(escape), page].filter(Boolean);
+}
+
 function message(each) {
   const label = LABELS[each.code] ? `: ${LABELS[each.code]}` : '';
-  const lines = [each.hint ? `hint: ${escape(each.hint)}` : '', ...(each.info || []).map(escape), each.docs ? `<a href="${escape(each.docs)}">${escape(each.docs)}</a>` : ''];
-  const kind = each.level === 'Warning' ? 'message warning' : 'message';
-  return `<div class="${kind}"><b>${escape(each.code)}</b> ${escape(each.message)}${escape(label)}${lines.filter(Boolean).map((it) => `<div>${it}</div>`).join('')}</div>`;
+  const lines = more(each).map((it) => `<div>${it}</div>`).join('');
+  return `<div class="message${each.level === 'Warning' ? ' warning' : ''}"><b>${escape(each.code)}</b> ${escape(each.message)}${escape(label)}${lines}</div>`;
 }
 
 /** A text with its line numbers, and the messages behind the lines at which they end. */
@@ -85,7 +90,9 @@ function reasons(world, { found, names }, specifier) {
     const way = found.has(key) ? told(world, found, key) : 'the answer does not tell why';
     items.push(`<li><code>${escape(name)}</code> ${escape(way)}</li>`);
   }
-  return items.length ? `<details${items.length > 8 ? '' : ' open'}><summary>why: ${items.length} public</summary><ul class="ways">${items.join('')}</ul></details>` : '';
+  if (!items.length) return '';
+  const open = items.length > 8 ? '' : ' open';
+  return `<details${open}><summary>why: ${items.length} public</summary><ul class="ways">${items.join('')}</ul></details>`;
 }
 
 /** The whole tree of a module's source: the program's input leaves out what no rule looks at. */
@@ -114,7 +121,9 @@ function contents(world, shown) {
     const count = world.messages.filter((each) => each.specifier === file.specifier).length;
     return `<li><a href="#${idOf(file.name)}">${escape(file.name)}</a>${count ? ` (${count})` : ''}</li>`;
   });
-  const rest = others.length ? `<p>Of ${others.length === 1 ? 'this file' : 'these files'} nothing is public${world.skeletons.size ? '' : ', or nothing is wrong with them'}: ${others.join(', ')}</p>` : '';
+  const which = others.length === 1 ? 'this file' : 'these files';
+  const what = world.skeletons.size ? 'nothing is public' : 'nothing is public, or nothing is wrong with it';
+  const rest = others.length ? `<p>Of ${which} ${what}: ${others.join(', ')}</p>` : '';
   return `<nav><ul>${links.join('')}</ul>${rest}</nav>`;
 }
 
