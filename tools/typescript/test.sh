@@ -6,9 +6,13 @@
 # The program is that of the variable FAST_CHECK, else what the gate or ./fast-check has built; with neither ./fast-check proves and builds it.
 set -u
 here=$(cd "$(dirname "$(readlink -f "${BASH_SOURCE[0]}")")" && pwd)
-built="$here/../../crates/fast_check_build_cli/out/fast_check_build_cli"
+top=$(cd "$here/../.." && pwd)
+# The program that knows `build`.
+name=fast_check_build_cli
+[ -f "$top/crates/$name/src/main.rt" ] || name=fast_check_cli
+built="$top/crates/$name/out/$name"
 if [ -z "${FAST_CHECK-}" ]; then
-  [ -x "$built" ] || "$here/../../fast-check" build "$here/../../examples/build_hello.json" > /dev/null || exit
+  [ -x "$built" ] || "$top/fast-check" build "$top/examples/build_hello.json" > /dev/null || exit
   export FAST_CHECK="$built"
 fi
 exec node "$here/tests/test.js" "$@"
