@@ -73,6 +73,8 @@ function programOf(texts, resolve = (from, text) => resolveIn(texts, from, text)
 
 /** Takes a small library, for many programs of one module each. */
 function takeSmallLibrary() {
+  // Else the compiler writes `any` for an optional parameter whose type a missing module declares.
+  OPTIONS.strict = false;
   OPTIONS.lib = ['lib.es2018.d.ts'];
 }
 
@@ -92,11 +94,12 @@ function textOf(node) {
   return printer.printNode(ts.EmitHint.Unspecified, node, node.getSourceFile()).replace(/\s+/g, ' ');
 }
 
-/** Types as written, but for quotes, `x = 1` for `x: 1`, and `undefined` of what may be left out. */
+/** Types as written, but for quotes, endings of relative sources, `x = 1` for `x: 1`, and `undefined` of what may be left out. */
 function normalise(text) {
   return text
     .replace(/'((?:[^'\\"]|\\.)*)'/g, '"$1"')
     .replace(/\b((?:readonly|const) [\w$]+) = ("(?:[^"\\]|\\.)*"|-?[\d.]\w*|true|false)/g, '$1: $2')
+    .replace(/"(\.{1,2}\/[^"]*?)(\.d)?\.[cm]?[jt]sx?"/g, '"$1"')
     .replace(/\b(export|declare) /g, '')
     .replace(/(\?: )([^,;(){}=>]+?) \| undefined(?=[,;)])/g, '$1$2')
     .replace(/[;,] ?([}\])])/g, ' $1')

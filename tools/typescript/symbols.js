@@ -404,6 +404,35 @@ class World {
     return sources.map((it) => this.resolve(specifier, it)).filter(Boolean);
   }
 
+  /** Whether re-exports of all lead from a module to another one. */
+  leads(from, to) {
+    const seen = new Set();
+    const waiting = [from];
+    while (waiting.length) {
+      const next = waiting.pop();
+      if (next === to) return true;
+      if (seen.has(next)) continue;
+      seen.add(next);
+      waiting.push(...this.targets(next));
+    }
+    return false;
+  }
+
+  /**
+   * The re-exports of all of a module. Since the first one that answers a name is followed, those that lead back to the module
+   * come last: else a name that stands outside of a circle might be looked for round and round in it.
+   */
+  reExports(specifier) {
+    const { re_export_all_nodes: nodes } = this.tables.get(specifier);
+    const back = (it) => {
+      const target = this.resolve(specifier, it[1]);
+      return Boolean(target) && this.leads(target, specifier);
+    };
+    if (nodes.length < 2) return nodes;
+    const known = nodes.map((it) => [it, back(it)]);
+    return [...known.filter(([, isBack]) => !isBack), ...known.filter(([, isBack]) => isBack)].map(([it]) => it);
+  }
+
   /** All names that a module answers. */
   names(specifier) {
     const known = this.answered.get(specifier);
@@ -427,7 +456,7 @@ class World {
 function tablesOf(module, world) {
   const { unbound, ...tables } = world.tables.get(module.specifier);
   const resolved = [...world.names(module.specifier)].map((name) => [name, module.specifier]);
-  return { ...tables, resolved_exports: resolved };
+  return { ...tables, re_export_all_nodes: world.reExports(module.specifier), resolved_exports: resolved };
 }
 
 module.exports = { ownTables, jsonTables, tablesOf, World };
