@@ -144,8 +144,10 @@ class Search {
     const names = this.names.get(specifier);
     if (!names || this.asked.has(`${specifier}\n`)) return;
     this.asked.add(`${specifier}\n`);
-    for (const [name, local] of names.exported) this.local(specifier, local, { ...step, as: name });
-    for (const [name, text, orig] of names.reexported) this.other(specifier, text, orig, { ...step, as: name });
+    // Of a module that stands behind a name, as of `export * as names`, the names below it are told.
+    const as = (name) => ({ ...step, as: step.as ? `${step.as}.${name}` : name });
+    for (const [name, local] of names.exported) this.local(specifier, local, as(name));
+    for (const [name, text, orig] of names.reexported) this.other(specifier, text, orig, as(name));
     for (const text of names.all) this.exports(this.resolve(specifier, text), step);
   }
 
