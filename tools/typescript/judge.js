@@ -1,0 +1,308 @@
+'use strict';
+// Whether a skeleton package shows what its source package shows, by TypeScript's own compiler: the declarations that it emits
+// for both are compared for all that the entry points lead to, and its errors in the skeletons have to be those of the source.
+//
+//   node judge.js FOLDER [--modules]     the packages below FOLDER, or each of their modules by itself
+//   node judge.js FOLDER --drop N        the same with each Nth dependency left out of the tables, to see that the judge notices
+//
+// Where a package leaves types to inference, they are written first, as the compiler finds them; where that is not enough, the
+// package of its declarations is taken. The program is that of the variable FAST_CHECK, else the launcher's.
+
+const childProcess = require('child_process');
+const fs = require('fs');
+const os = require('os');
+const path = require('path');
+const { ts } = require('./typescript');
+const { inputOf } = require('./input');
+const { print } = require('./print');
+const { programOf, emitted, surfaceOf, takeSmallLibrary } = require('./judge_surface');
+const { withTypes } = require('./judge_types');
+
+const TOP = path.resolve(__dirname, '../..');
+const ROUNDS = 8;
+
+function command(file) {
+  return process.env.FAST_CHECK ? [process.env.FAST_CHECK, 'build', file] : [path.join(TOP, 'fast-check'), 'build', file];
+}
+
+const dropped = { each: 0, count: 0 };
+
+function kept() {
+  dropped.count += 1;
+  return dropped.count % dropped.each !== 0;
+}
+
+/** Leaves out each Nth of the dependencies that the tables tell. */
+function drop(request) {
+  for (const [, module] of request.modules) {
+    for (const symbol of (module.Esm || module.Json).symbols) {
+      for (const it of symbol.decls || []) {
+        const node = it.kind.Definition;
+        if (node) node.deps = node.deps.filter(kept);
+      }
+    }
+  }
+}
+
+/** The program's answers to a request, or its line of refusal. */
+function build(request, work) {
+  if (dropped.each) drop(request);
+  const file = path.join(work, 'input.json');
+  fs.writeFileSync(file, JSON.stringify(request));
+  const [program, ...words] = command(file);
+  const ran = childProcess.spawnSync(program, words, { maxBuffer: 1 << 30 });
+  if (ran.status === 0 || ran.status === 1) return JSON.parse(ran.stdout.toString());
+  throw new Error(ran.stderr.toString().trim().split('\n').pop());
+}
+
+function writeTexts(texts) {
+  for (const [file, text] of texts) {
+    fs.mkdirSync(path.dirname(file), { recursive: true });
+    fs.writeFileSync(file, text);
+  }
+}
+
+function messagesOf(answers) {
+  const found = new Map();
+  for (const [, answer] of answers) for (const it of answer.Err || []) found.set(JSON.stringify(it), it);
+  return [...found.values()];
+}
+
+/** Reads a folder and runs the program. */
+function ask(dir, exports, work) {
+  const { request, info } = inputOf(dir, { exports });
+  if (!request) throw new Error(`${info.errors[0].path}: ${info.errors[0].message}`);
+  const answers = build(request, work);
+  return { info, answers, messages: messagesOf(answers) };
+}
+
+function textsOf(info) {
+  return new Map([...info.modules, ...info.jsonModules].map((it) => [it.path, it.text]));
+}
+
+/** Writes missing types until there is no message, or none that a type answers. */
+function typed(dir, exports, work) {
+  let asked = ask(dir, exports, work);
+  let written = 0;
+  for (let round = 0; round < ROUNDS && asked.messages.length; round++) {
+    const texts = textsOf(asked.info);
+    const made = withTypes(programOf(texts), texts, asked.info.modules, asked.messages);
+    if (made.count === 0) break;
+    written += made.count;
+    writeTexts(made.texts);
+    asked = ask(dir, exports, work);
+  }
+  return { ...asked, written };
+}
+
+/** The package of the declarations that the compiler emits. */
+function declared(info, exports, root, work) {
+  const texts = textsOf(info);
+  const folder = path.join(work, 'declarations');
+  const made = [...emitted(programOf(texts), texts)].map(([file, text]) => [path.join(folder, path.relative(root, file)), text]);
+  writeTexts(made);
+  const entries = Object.entries(exports).map(([key, it]) => [key, it.replace(/(\.d)?\.([cm]?)tsx?$/, '.d.$2ts')]);
+  return ask(folder, Object.fromEntries(entries), work);
+}
+
+function skeletonTexts(asked) {
+  const texts = new Map(asked.info.jsonModules.map((it) => [it.path, it.text]));
+  const paths = new Map(asked.info.modules.map((it) => [it.specifier, it.path]));
+  for (const [specifier, answer] of asked.answers) {
+    const file = paths.get(specifier);
+    const isDeclaration = /\.d\.[cm]?ts$/.test(file);
+    texts.set(file, print({ Module: answer.Ok.program }, answer.Ok.comments, { isDeclaration }));
+  }
+  return texts;
+}
+
+/** What the compiler finds wrong in the files of a program: `code message` by file. */
+function errorsOf(program, files) {
+  const found = new Map();
+  for (const name of files) {
+    const file = program.getSourceFile(name);
+    if (!file) continue;
+    const all = [...program.getSyntacticDiagnostics(file), ...program.getSemanticDiagnostics(file)];
+    found.set(name, all.map((it) => `${it.code} ${ts.flattenDiagnosticMessageText(it.messageText, ' ')}`));
+  }
+  return found;
+}
+
+/** The compiler's errors in skeletons that the source does not have. */
+function newErrors(source, skeleton, names) {
+  const [before, after] = [errorsOf(source, names), errorsOf(skeleton, names)];
+  const all = new Set([...before.values()].flat());
+  const found = [];
+  for (const [name, errors] of after) for (const it of errors) if (!all.has(it)) found.push(`${path.basename(name)}: ${it}`);
+  return found;
+}
+
+// Differences that a rule of docs/RULES.md makes, each with how a text looks without it.
+const RULES = [
+  ['a default class of a declaration file loses the types of private members and the contents of patterns', (text) => (
+    /default (abstract )?class/.test(text)
+      ? text.replace(/(private [^;:(]*): any(?=[; ])/g, '$1').replace(/#private!: unknown/, '#private').replace(/\{[^{}]*\}(?=\??:)/g, '{}')
+      : text)],
+  ['a pattern loses its contents', (text) => text.replace(/([(,] ?|\.\.\.)(\{[^{}]*\}|\[[^[\]]*\])(?=\??: )/g, (all, before, it) => before + (it[0] === '{' ? '{}' : '[]'))],
+];
+
+/** The rule by which two texts differ, or null. */
+function ruleOf(source, skeleton) {
+  let [before, after] = [source, skeleton];
+  for (const [rule, without] of RULES) {
+    [before, after] = [without(before), without(after)];
+    if (before === after) return rule;
+  }
+  return null;
+}
+
+function differenceOf(name, texts, others) {
+  if (!others) return { kind: 'lost', name, source: [...texts][0] };
+  const missing = [...texts].filter((it) => !others.has(it)).sort();
+  const added = [...others].filter((it) => !texts.has(it)).sort();
+  if (missing.length === 0 && added.length === 0) return null;
+  const [source, skeleton] = [missing.join(' // '), added.join(' // ')];
+  const rule = ruleOf(source, skeleton);
+  return rule ? { kind: 'by a rule', name, rule } : { kind: 'differs', name, source, skeleton };
+}
+
+/** The differences of two surfaces. */
+function differences(source, skeleton) {
+  const found = [];
+  for (const [key, texts] of source.shown) {
+    const it = differenceOf(key.replace(/^.*\//, ''), texts, skeleton.shown.get(key));
+    if (it) found.push(it);
+  }
+  for (const key of skeleton.shown.keys()) {
+    if (!source.shown.has(key)) found.push({ kind: 'added', name: key.replace(/^.*\//, ''), skeleton: [...skeleton.shown.get(key)][0] });
+  }
+  return found;
+}
+
+/** Judges one package whose files lie in a folder of their own. */
+function judge(dir, exports, work) {
+  const began = typed(dir, exports, work);
+  let asked = began;
+  let way = began.written ? `types written: ${began.written}` : 'as it is';
+  if (asked.messages.length) {
+    asked = declared(began.info, exports, dir, work);
+    way = 'declarations';
+  }
+  const codes = [...new Set(began.messages.map((it) => it.code))];
+  if (asked.messages.length) {
+    return { way: 'refused', modules: asked.info.modules.length, codes: [...new Set(asked.messages.map((it) => it.code))], first: asked.messages[0] };
+  }
+  const sourceTexts = textsOf(asked.info);
+  const skeletons = skeletonTexts(asked);
+  const [source, skeleton] = [programOf(sourceTexts), programOf(skeletons)];
+  const entries = asked.info.packages.flatMap((it) => it.exports.map(([, file]) => path.resolve(it.dir, file)));
+  const shown = (program, texts) => {
+    const isDeclared = [...texts.keys()].every((it) => /\.d\.[cm]?ts$/.test(it));
+    const made = isDeclared ? texts : emitted(program, texts);
+    const names = entries.map((it) => it.replace(/(\.d)?\.([cm]?)tsx?$/, '.d.$2ts'));
+    return surfaceOf(isDeclared ? program : programOf(made), made, names);
+  };
+  const [before, after] = [shown(source, sourceTexts), shown(skeleton, skeletons)];
+  return {
+    way,
+    codes,
+    modules: asked.info.modules.length,
+    skeletons: asked.answers.length,
+    declarations: before.shown.size,
+    lines: [...skeletons.values()].join('').split('\n').length,
+    differences: differences(before, after),
+    errors: newErrors(source, skeleton, [...skeletons.keys()]),
+  };
+}
+
+// ---- which packages
+
+function foldersWithConfig(root, found = []) {
+  for (const it of fs.readdirSync(root, { withFileTypes: true })) {
+    if (!it.isDirectory() || it.name === 'node_modules') continue;
+    const dir = path.join(root, it.name);
+    if (fs.existsSync(path.join(dir, 'package.json'))) found.push(dir);
+    foldersWithConfig(dir, found);
+  }
+  return found;
+}
+
+const SOURCES = ['src/index.ts', 'dist/deno/index.ts', 'index.ts', 'mod.ts', 'lib/index.ts', 'main.ts', 'src/main.ts'];
+
+/** The entry point of an npm package: its TypeScript, or else its declarations. */
+function entryOf(dir) {
+  const config = JSON.parse(fs.readFileSync(path.join(dir, 'package.json'), 'utf8'));
+  const listed = [...SOURCES, config.types, config.typings, 'index.d.ts', 'lib/index.d.ts', 'dist/index.d.ts', 'build/index.d.ts'];
+  return listed.find((it) => typeof it === 'string' && /\.ts$/.test(it) && fs.existsSync(path.join(dir, it)));
+}
+
+/** A copy of the modules of a package, in a folder of its own. */
+function copied(dir, entry, work) {
+  const { info } = inputOf(dir, { exports: { '.': `./${entry.replace(/^\.\//, '')}` } });
+  if (info.errors.length) throw new Error(`${info.errors[0].path}: ${info.errors[0].message}`);
+  const folder = path.join(work, 'package');
+  for (const [file, text] of textsOf(info)) writeTexts([[path.join(folder, path.relative(path.resolve(dir), file)), text]]);
+  return { folder, count: info.modules.length };
+}
+
+function withWork(call) {
+  const work = fs.mkdtempSync(path.join(os.tmpdir(), 'judge-'));
+  try {
+    return call(work);
+  } finally {
+    fs.rmSync(work, { recursive: true, force: true });
+  }
+}
+
+function tell(name, result) {
+  console.log(JSON.stringify({ name, ...result }));
+}
+
+function judgePackages(root) {
+  for (const dir of foldersWithConfig(root)) {
+    const entry = entryOf(dir);
+    if (!entry) continue;
+    withWork((work) => {
+      try {
+        const { folder, count } = copied(dir, entry, work);
+        if (count >= 2) tell(path.relative(root, dir), { entry, ...judge(folder, { '.': `./${entry.replace(/^\.\//, '')}` }, work) });
+      } catch (error) {
+        tell(path.relative(root, dir), { entry, failed: error.message });
+      }
+    });
+  }
+}
+
+function modulesBelow(root, found = []) {
+  for (const it of fs.readdirSync(root, { withFileTypes: true })) {
+    const file = path.join(root, it.name);
+    if (it.isDirectory()) modulesBelow(file, found);
+    else if (it.isFile() && /\.[cm]?tsx?$/.test(it.name)) found.push(file);
+  }
+  return found.sort();
+}
+
+function judgeModules(root) {
+  takeSmallLibrary();
+  for (const file of modulesBelow(root)) {
+    withWork((work) => {
+      try {
+        const folder = path.join(work, 'package');
+        const name = path.basename(file);
+        writeTexts([[path.join(folder, name), fs.readFileSync(file, 'utf8').replace(/^\ufeff/, '')]]);
+        tell(path.relative(root, file), judge(folder, { '.': `./${name}` }, work));
+      } catch (error) {
+        tell(path.relative(root, file), { failed: error.message });
+      }
+    });
+  }
+}
+
+if (require.main === module) {
+  const [root, ...words] = process.argv.slice(2);
+  if (words.includes('--drop')) dropped.each = Number(words[words.indexOf('--drop') + 1]);
+  if (words.includes('--modules')) judgeModules(root);
+  else judgePackages(root);
+}
+
+module.exports = { judge, judgePackages, judgeModules };

@@ -1,0 +1,61 @@
+'use strict';
+// Lines and columns of a source text, asked by the program's positions.
+const { Offsets } = require('./offsets.js');
+
+/** A text with its lines. */
+class Lines {
+  constructor(text) {
+    this.text = text;
+    this.offsets = new Offsets(text);
+    this.starts = [0];
+    for (let at = text.indexOf('\n'); at >= 0; at = text.indexOf('\n', at + 1)) this.starts.push(at + 1);
+  }
+
+  /** The offset in the text, in UTF-16 units, of a position. */
+  offset(position) {
+    return Math.min(this.offsets.offsetOf(Math.max(1, position)), this.text.length);
+  }
+
+  /** The place of an offset: the line and the column, both from 0. */
+  place(offset) {
+    let low = 0;
+    let high = this.starts.length;
+    while (high - low > 1) {
+      const middle = (low + high) >> 1;
+      if (this.starts[middle] <= offset) low = middle;
+      else high = middle;
+    }
+    return { line: low, column: offset - this.starts[low] };
+  }
+
+  /** The text of a line, without its end. */
+  line(number) {
+    const end = number + 1 < this.starts.length ? this.starts[number + 1] - 1 : this.text.length;
+    return this.text.slice(this.starts[number], end).replace(/\r$/, '');
+  }
+
+  /** The line and column that a reader counts: both from 1, columns in characters. */
+  shown(offset) {
+    const { line, column } = this.place(offset);
+    return { line: line + 1, column: [...this.line(line).slice(0, column)].length + 1 };
+  }
+}
+
+// Characters that take two columns of a terminal.
+const WIDE = /[\u1100-\u115f\u2e80-\ua4cf\uac00-\ud7a3\uf900-\ufaff\ufe30-\ufe6f\uff00-\uff60\uffe0-\uffe6\u{1f300}-\u{1faff}]/u;
+// Those that take none.
+const NARROW = /[\u0300-\u036f\u200b-\u200d\ufe00-\ufe0f]/u;
+
+/** The columns that a text takes on a terminal; a tab counts as one, and stays a tab where it is padded. */
+function width(text) {
+  let columns = 0;
+  for (const each of text) columns += WIDE.test(each) ? 2 : NARROW.test(each) ? 0 : 1;
+  return columns;
+}
+
+/** Blanks as wide as a text, with its tabs. */
+function blank(text) {
+  return [...text].map((each) => (each === '\t' ? '\t' : ' '.repeat(width(each)))).join('');
+}
+
+module.exports = { Lines, blank, width };

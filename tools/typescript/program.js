@@ -1,0 +1,104 @@
+'use strict';
+// Runs the proved program on a request, and reads its answer.
+const childProcess = require('child_process');
+const fs = require('fs');
+const os = require('os');
+const path = require('path');
+
+const TOP = path.resolve(__dirname, '../..');
+// The levels of JSON that the program reads.
+const MOST_LEVELS = 127;
+
+/** What the program refuses, or that it is not there. `status` is the status that the command ends with. */
+class ProgramError extends Error {
+  constructor(message, status) {
+    super(message);
+    this.status = status;
+  }
+}
+
+/** The words that run `build`: the program of the variable FAST_CHECK, or the launcher, which proves and builds it first. */
+function command({ unproved, environment }) {
+  if (environment.FAST_CHECK) return [environment.FAST_CHECK, 'build'];
+  return [path.join(TOP, 'fast-check'), ...(unproved ? ['--unproved'] : []), 'build'];
+}
+
+/** Runs the words with a file, and answers the status and both streams; what is said meanwhile goes to `tell`, line by line. */
+function run(words, tell) {
+  return new Promise((resolve, reject) => {
+    const child = childProcess.spawn(words[0], words.slice(1), { stdio: ['ignore', 'pipe', 'pipe'] });
+    const out = [];
+    let said = '';
+    let rest = '';
+    child.on('error', (error) => reject(new ProgramError(`${words[0]} does not start: ${error.message}`, 5)));
+    child.stdout.on('data', (part) => out.push(part));
+    child.stderr.setEncoding('utf8');
+    child.stderr.on('data', (part) => {
+      const lines = (rest + part).split('\n');
+      rest = lines.pop();
+      for (const line of lines) {
+        if (line.startsWith('error: ')) said = line;
+        else tell(line);
+      }
+    });
+    child.on('close', (code, signal) => {
+      if (rest.startsWith('error: ')) said = rest;
+      resolve({ status: signal ? 128 : code, out: Buffer.concat(out).toString(), said, signal });
+    });
+  });
+}
+
+/** The innermost node with a place that stands around the first value which is nested too deep, in the JSON of a module. */
+function tooDeep(value, levels) {
+  let span = null;
+  const walk = (at, depth, around) => {
+    if (at === null || typeof at !== 'object') return false;
+    if (depth > MOST_LEVELS) {
+      span = around;
+      return true;
+    }
+    const here = Array.isArray(at.span) && at.span[0] > 0 ? at.span : around;
+    return Object.values(at).some((each) => walk(each, depth + 1, here));
+  };
+  return walk(value, levels, null) ? span || [1, 1] : null;
+}
+
+/** Why the program takes the request for no JSON: the modules that are nested too deep, each with the place. */
+function deepModules(request) {
+  const found = [];
+  // A module stands within the request, its list, its pair, its choice and itself.
+  for (const [specifier, module] of request.modules) {
+    const span = tooDeep(Object.values(module)[0], 5);
+    if (span) found.push({ specifier, span });
+  }
+  return found;
+}
+
+/** The answers of the program to a request: a list of `[specifier, {Ok | Err}]`. */
+async function build(request, { unproved, environment, tell }) {
+  const folder = fs.mkdtempSync(path.join(os.tmpdir(), 'fast-check-ts-'));
+  const remove = () => fs.rmSync(folder, { recursive: true, force: true });
+  const stop = (signal) => {
+    remove();
+    process.exit(128 + os.constants.signals[signal]);
+  };
+  for (const signal of ['SIGINT', 'SIGTERM', 'SIGHUP']) process.once(signal, stop);
+  try {
+    const file = path.join(folder, 'input.json');
+    fs.writeFileSync(file, JSON.stringify(request));
+    const words = command({ unproved, environment });
+    const { status, out, said, signal } = await run([...words, file], tell);
+    if (status === 0 || status === 1) return JSON.parse(out);
+    if (said === 'error: input refused: not-json') {
+      const deep = deepModules(request);
+      if (deep.length) throw Object.assign(new ProgramError('nested too deep', 2), { deep });
+    }
+    const why = said || (signal ? `it was stopped by ${signal}` : `it ended with status ${status}`);
+    throw new ProgramError(`the program did not answer: ${why.replace(/^error: /, '')}`, status <= 5 ? status : 5);
+  } finally {
+    remove();
+    for (const signal of ['SIGINT', 'SIGTERM', 'SIGHUP']) process.removeListener(signal, stop);
+  }
+}
+
+module.exports = { ProgramError, build };

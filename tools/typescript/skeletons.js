@@ -1,0 +1,33 @@
+'use strict';
+// Skeletons as TypeScript: printed, and written to a folder.
+const fs = require('fs');
+const path = require('path');
+const { print } = require('./print.js');
+
+/** The printed skeletons of a folder, in the order of their names: `{specifier, name, text}`. */
+function printed(world) {
+  const made = [];
+  for (const [specifier, skeleton] of world.skeletons) {
+    const file = world.files.get(specifier);
+    const isDeclaration = /\.d\.[cm]?ts$/.test(specifier);
+    made.push({ specifier, name: file ? file.name : specifier, text: print({ Module: skeleton.program }, skeleton.comments, { isDeclaration }) });
+  }
+  return made.sort((a, b) => (a.name < b.name ? -1 : a.name > b.name ? 1 : 0));
+}
+
+/** All skeletons as one text, each behind a line that names its module. */
+function joined(skeletons) {
+  return skeletons.map(({ name, text }) => `// ${name}\n${text.replace(/\n*$/, '\n')}`).join('\n');
+}
+
+/** Writes the skeletons to a folder, which is made if it is not there. A name that leads out of it is an error. */
+function write(folder, skeletons) {
+  for (const { name, text } of skeletons) {
+    const file = path.join(folder, name);
+    if (path.relative(folder, file).startsWith('..')) throw new Error(`${name} lies outside of the package, and is not written`);
+    fs.mkdirSync(path.dirname(file), { recursive: true });
+    fs.writeFileSync(file, text);
+  }
+}
+
+module.exports = { joined, printed, write };

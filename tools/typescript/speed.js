@@ -1,0 +1,126 @@
+'use strict';
+// Times `fast-check-ts check` beside `tsc --declaration` on packages of growing size, and says where the time goes.
+//
+//   node tools/typescript/speed.js [MODULES ..]        (10 50 200 where nothing is given)
+//
+// The program is that of the variable FAST_CHECK, else the launcher's. Each figure is the best of three runs, in seconds.
+const childProcess = require('child_process');
+const fs = require('fs');
+const os = require('os');
+const path = require('path');
+const { build } = require('./program.js');
+const { inputOf } = require('./input.js');
+const { printed } = require('./skeletons.js');
+const { filesOf, part } = require('./analysis.js');
+
+const TOP = path.resolve(__dirname, '../..');
+const RUNS = 3;
+
+/** A module like those of a library: types, a class and functions with bodies, and imports of two others. */
+function moduleText(at, count) {
+  const [first, second] = [(at + 1) % count, (at * 7 + 3) % count];
+  const body = (name) => `  const made = new Map<string, number>();
+  for (let each = 0; each < ${name}.length; each++) {
+    const value = ${name}.charCodeAt(each) * ${at + 1};
+    if (value % 2 === 0) made.set(${name}.slice(0, each), value);
+    else made.set(\`\${each}:\${value}\`, made.size);
+  }
+  const sum = [...made.values()].reduce((all, it) => all + it, 0);
+`;
+  const method = (each) => `
+  /** What a name has at place ${each}. */
+  step${each}(name: string, depth = ${each}): Shape${first} | undefined {
+${body('name').replace(/^/gm, '  ')}    return sum > depth ? this.shapes.get(name) : undefined;
+  }
+`;
+  const call = (each) => `
+/** Call ${each} of module ${at}. */
+export function call${at}_${each}(text: string, options: Options${at} = { depth: ${each} }): Shape${at} {
+${body('text')}  return { name: text, size: sum + hidden${at}(options.depth), next: null };
+}
+`;
+  return `import type { Shape${first} } from "./m${first}";
+import { Options${second} as Other } from "./m${second}";
+
+/** The shape of module ${at}. */
+export interface Shape${at} {
+  readonly name: string;
+  size: number;
+  next: Shape${first} | null;
+}
+export interface Options${at} {
+  depth: number;
+  other?: Other;
+}
+function hidden${at}(depth: number): number {
+${body('String(depth)')}  return sum;
+}
+/** The class of module ${at}. */
+export class Group${at} {
+  #count = 0;
+  private shapes: Map<string, Shape${first}> = new Map();
+  constructor(readonly options: Options${at}, private label: string = "m${at}") {
+    this.#count = label.length;
+  }
+${[0, 1, 2, 3].map(method).join('')}}
+${[0, 1, 2, 3, 4].map(call).join('')}`;
+}
+
+/** Writes a package of so many modules, all of which its entry point exports. */
+function writePackage(folder, count) {
+  fs.writeFileSync(path.join(folder, 'deno.json'), '{ "name": "@test/speed", "version": "1.0.0", "exports": "./mod.ts" }');
+  const names = Array.from({ length: count }, (_, at) => at);
+  for (const at of names) fs.writeFileSync(path.join(folder, `m${at}.ts`), moduleText(at, count));
+  fs.writeFileSync(path.join(folder, 'mod.ts'), names.map((at) => `export * from "./m${at}";\n`).join(''));
+}
+
+const seconds = (since) => Number(process.hrtime.bigint() - since) / 1e9;
+
+/** The best seconds of some runs of a command, which has to end with status 0. */
+function best(words) {
+  let least = Infinity;
+  for (let run = 0; run < RUNS; run++) {
+    const begun = process.hrtime.bigint();
+    const ran = childProcess.spawnSync(words[0], words.slice(1), { stdio: ['ignore', 'pipe', 'pipe'] });
+    if (ran.status !== 0) throw new Error(`${words.join(' ')} ended with ${ran.status}: ${ran.stdout}${ran.stderr}`);
+    least = Math.min(least, seconds(begun));
+  }
+  return least;
+}
+
+/** The seconds of each part of one run, in this process. */
+async function parts(folder) {
+  const times = {};
+  let begun = process.hrtime.bigint();
+  const { request, info } = inputOf(folder, {});
+  for (const [name, milliseconds] of Object.entries(info.times)) times[name] = milliseconds / 1000;
+  begun = process.hrtime.bigint();
+  const answers = await build(request, { environment: process.env, tell: () => {} });
+  times.program = seconds(begun);
+  const files = filesOf(info, folder);
+  const world = { dir: folder, request, info, files, ...part(answers, { files, dir: folder }, folder) };
+  begun = process.hrtime.bigint();
+  printed(world);
+  times.print = seconds(begun);
+  return times;
+}
+
+async function measure(count) {
+  const folder = fs.mkdtempSync(path.join(os.tmpdir(), 'fast-check-speed-'));
+  try {
+    writePackage(folder, count);
+    const options = ['--declaration', '--emitDeclarationOnly', '--target', 'esnext', '--module', 'esnext', '--moduleResolution', 'node'];
+    const tsc = best(['tsc', ...options, '--outDir', path.join(folder, 'out'), path.join(folder, 'mod.ts')]);
+    const check = best([path.join(TOP, 'fast-check-ts'), 'check', folder]);
+    const where = Object.entries(await parts(folder)).map(([name, each]) => `${name} ${each.toFixed(2)}`).join(', ');
+    const lines = fs.readFileSync(path.join(folder, 'm0.ts'), 'utf8').split('\n').length;
+    console.log(`${count} modules of ${lines} lines: check ${check.toFixed(2)}, tsc --declaration ${tsc.toFixed(2)}; of one run ${where}`);
+  } finally {
+    fs.rmSync(folder, { recursive: true, force: true });
+  }
+}
+
+(async () => {
+  const counts = process.argv.slice(2).map(Number);
+  for (const count of counts.length ? counts : [10, 50, 200]) await measure(count);
+})();

@@ -1,0 +1,4 @@
+export const name: string = "a";
+declare module "other" {
+  export const x: number;
+}

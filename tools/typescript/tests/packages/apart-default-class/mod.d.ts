@@ -1,0 +1,4 @@
+export default class {
+  #secret;
+  name: string;
+}

@@ -1,0 +1,3 @@
+import * as names from "./names.ts";
+export { names };
+export type Standard = typeof names["default"];

@@ -1,0 +1,2 @@
+export const handler = (): void => {};
+handler.title = "a" as string;

@@ -1,0 +1,2 @@
+import { N } from "./n.ts";
+export let part: N.Part;

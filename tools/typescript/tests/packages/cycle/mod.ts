@@ -1,0 +1,5 @@
+import { Leaf } from "./leaf.ts";
+export class Branch {
+  leaves: Leaf[] = [];
+}
+export * from "./leaf.ts";

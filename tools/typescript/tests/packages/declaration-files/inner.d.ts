@@ -1,0 +1,4 @@
+export interface Inner {
+  value: number;
+}
+export interface Unused {}

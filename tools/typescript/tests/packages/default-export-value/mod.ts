@@ -1,0 +1,4 @@
+export default compute() + 1;
+function compute(): number {
+  return 1;
+}

@@ -1,0 +1,6 @@
+export default interface Options extends Base {
+  depth: number;
+}
+interface Base {
+  a: number;
+}

@@ -1,0 +1,2 @@
+const settings = { depth: 1 };
+export default settings;

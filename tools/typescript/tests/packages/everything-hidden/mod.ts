@@ -1,0 +1,3 @@
+import "./effect.ts";
+console.log("no exports");
+export {};

@@ -1,0 +1,3 @@
+export function View(props: { name: string }): JSX.Element {
+  return <b>{props.name}</b>;
+}

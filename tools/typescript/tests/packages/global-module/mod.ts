@@ -1,0 +1,6 @@
+export const name: string = "a";
+declare global {
+  interface Window {
+    name: string;
+  }
+}

@@ -1,0 +1,5 @@
+export namespace Root {
+  export class Inner {
+    depth = 1;
+  }
+}

@@ -1,0 +1,3 @@
+export function helper(a, b) {
+  return a == b;
+}

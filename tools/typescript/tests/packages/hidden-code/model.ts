@@ -1,0 +1,6 @@
+export class Model {
+  data = compute();
+}
+function compute() {
+  return { a: 1 };
+}

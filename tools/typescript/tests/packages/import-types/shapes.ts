@@ -1,0 +1,5 @@
+export interface Circle {
+  radius: Radius;
+}
+type Radius = number;
+export interface Unused {}

@@ -1,0 +1,3 @@
+export const a = 1;
+export const b = "x";
+export default 1;

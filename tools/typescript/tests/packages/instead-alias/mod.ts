@@ -1,0 +1,2 @@
+import { N } from "./n.ts";
+export let y: N.X.Y;

@@ -1,0 +1,7 @@
+export namespace N {
+  export namespace X {
+    export interface Y {
+      a: number;
+    }
+  }
+}

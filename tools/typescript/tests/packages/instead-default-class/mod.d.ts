@@ -1,0 +1,5 @@
+declare class Named {
+  #secret;
+  name: string;
+}
+export default Named;

@@ -1,0 +1,2 @@
+export function handler(): void {}
+handler.title = "a" as string;

@@ -1,0 +1,2 @@
+import type { Part } from "./n.ts";
+export let part: Part;

@@ -1,0 +1,7 @@
+import { Other } from "./other.ts";
+export class N {
+  other?: Other;
+}
+export interface Part {
+  a: number;
+}

@@ -1,0 +1,2 @@
+export const name: string;
+export as namespace names;

@@ -1,0 +1,2 @@
+import fs = require("fs");
+export const name: string = fs.name;

@@ -1,0 +1,4 @@
+interface Alone {
+  a: number;
+}
+const value = 1;

@@ -1,0 +1,7 @@
+export * from "./shapes.ts";
+export function main() {
+  return run();
+}
+function run() {
+  return 1;
+}

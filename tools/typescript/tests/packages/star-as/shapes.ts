@@ -1,0 +1,4 @@
+export interface Circle {
+  radius: number;
+}
+export default class Unseen {}

@@ -1,0 +1,3 @@
+export const a = ;
+export function b( {
+}

@@ -1,0 +1,12 @@
+export type Text = string | number | undefined;
+export type Pair<A, B = A> = [first: A, second?: B, ...rest: B[]];
+export type Keys = keyof typeof table;
+export type Mapped<T> = { readonly [K in keyof T]?: T[K] };
+export type Renamed<T> = { -readonly [K in keyof T as `get${string & K}`]-?: () => T[K] };
+export type Element<T> = T extends (infer U)[] ? U : never;
+export type Call = (this: Date, ...args: unknown[]) => asserts args is string[];
+export type Make = abstract new () => object;
+export type Literal = "a" | 1 | -1 | true | `x${number}` | null;
+export type Unique = { readonly id: unique symbol };
+const table = { a: 1, b: "x" };
+type Hidden = string;

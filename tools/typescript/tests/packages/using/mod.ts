@@ -1,0 +1,5 @@
+using handle = open();
+export { handle };
+function open(): Disposable {
+  return {} as never;
+}

@@ -1,0 +1,4 @@
+import { good } from "@test/good";
+export function bad() {
+  return good;
+}

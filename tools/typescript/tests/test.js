@@ -1,0 +1,291 @@
+'use strict';
+// Runs the commands on small packages, and compares what they say with what is stored.
+const childProcess = require('child_process');
+const fs = require('fs');
+const os = require('os');
+const path = require('path');
+const { main } = require('../cli.js');
+const { ts } = require('../typescript.js');
+
+const PACKAGES = path.join(__dirname, 'packages');
+const EXPECTED = path.join(__dirname, 'expected');
+const LAUNCHER = path.resolve(__dirname, '../../../fast-check-ts');
+// Packages with forms that TypeScript 4.8 does not read: what it says instead is stored, and compared under that version alone.
+const NEWER = ['using', 'quoted-names', 'newer-forms'];
+const IS_OLD = ts.version.startsWith('4.');
+
+let passed = 0;
+const failed = [];
+
+/** A stream that keeps what is written. */
+function keeper(isTTY = false) {
+  return { text: '', isTTY, columns: 80, write(part) { this.text += part; return true; } };
+}
+
+/** Runs the command line in this process. */
+async function run(words, { cwd = PACKAGES, environment = {}, isTTY = false } = {}) {
+  const io = { cwd, environment: { FAST_CHECK: process.env.FAST_CHECK || '', ...environment }, out: keeper(isTTY), err: keeper() };
+  const status = await main(words, io);
+  return { status, out: io.out.text.replace(/, \d+\.\d\d s\n/g, ', 0.00 s\n'), err: io.err.text };
+}
+
+/** One test: passed where it throws nothing. */
+async function test(name, body) {
+  try {
+    await body();
+    passed++;
+  } catch (error) {
+    failed.push(name);
+    console.log(`FAILED ${name}\n${String(error.message || error).replace(/^/gm, '  ')}`);
+  }
+}
+
+function same(got, wanted, what) {
+  if (got === wanted) return;
+  const [a, b] = [String(got).split('\n'), String(wanted).split('\n')];
+  const at = a.findIndex((line, each) => line !== b[each]);
+  throw new Error(`${what || 'it'} differs in line ${at + 1}:\n- ${b[at]}\n+ ${a[at]}`);
+}
+
+function holds(value, what) {
+  if (!value) throw new Error(what);
+}
+
+// ---- the stored packages
+
+/** What the commands say of a package; of one where the rules part from TypeScript, and of
+ * what can be written instead, what the compiler finds in the skeletons too. */
+async function said(name) {
+  const parts = [];
+  const commands = [['check'], ['skeleton'], ...(/^(apart|instead)-/.test(name) && IS_OLD ? [['check', '--verify']] : [])];
+  for (const words of commands) {
+    const { status, out, err: told } = await run([...words, '.'], { cwd: path.join(PACKAGES, name) });
+    const err = told.replace(ts.version, 'VERSION');
+    parts.push(`$ ${words.join(' ')}: status ${status}\n${out}${err && words[0] === 'check' ? `$ standard error\n${err}` : ''}`);
+  }
+  return parts.join('\n');
+}
+
+function expectedOf(name) {
+  return path.join(EXPECTED, `${name}.txt`);
+}
+
+async function storedPackages(names, store) {
+  for (const name of names) {
+    if (!IS_OLD && NEWER.includes(name)) continue;
+    const file = expectedOf(name);
+    if (store) {
+      fs.mkdirSync(EXPECTED, { recursive: true });
+      fs.writeFileSync(file, await said(name));
+      continue;
+    }
+    await test(`package ${name}`, async () => same(await said(name), fs.existsSync(file) ? fs.readFileSync(file, 'utf8') : '(nothing is stored)', file));
+  }
+}
+
+/** The diagnostics that a package can have, but for that of `using`, which TypeScript 4.8 does not read. */
+const CODES = [
+  'not-found-reference', 'missing-explicit-type', 'missing-explicit-return-type', 'unsupported-ambient-module', 'unsupported-complex-reference',
+  'unsupported-default-export-expr', 'unsupported-destructuring', 'unsupported-expando-property', 'unsupported-global-module', 'unsupported-require',
+  'unsupported-private-member-reference', 'unsupported-super-class-expr', 'unsupported-ts-export-assignment', 'unsupported-ts-namespace-export',
+  'unsupported-nested-javascript', 'unsupported-javascript-entrypoint', 'export-not-found',
+];
+
+async function everyDiagnostic(names) {
+  const all = names.map((name) => fs.readFileSync(expectedOf(name), 'utf8')).join('\n');
+  for (const code of CODES) await test(`some package has ${code}`, () => holds(all.includes(`[${code}]`), 'no stored message has it'));
+}
+
+// ---- hidden edits
+
+const EDITS = [
+  ['hidden-code', 'helper.ts', 'return a == b;', 'let c = a;\n  return c === b;'],
+  ['hidden-code', 'model.ts', 'return { a: 1 };', 'return { a: 2, b: "x" };'],
+  ['hidden-code', 'mod.ts', 'helper.length', 'helper.length + 1'],
+  ['hidden-code', 'mod.ts', 'new Map<string, Model>()', 'new Map<string, Model>([["a", new Model()]])'],
+  ['classes', 'mod.ts', 'private cache: Map<string, number> = new Map();', 'private cache: Set<string> = new Set();'],
+  ['classes', 'mod.ts', 'return force;', 'return !force;'],
+  ['classes', 'mod.ts', '#radius = 1;', '#radius = 2;\n  #more = "a";'],
+  ['functions', 'mod.ts', 'return plain("a");', '// another\n  return plain("b", 2);'],
+  ['variables', 'mod.ts', 'const hidden = read();', 'const hidden = [read(), 1];'],
+  ['re-exports', 'shapes.ts', 'export function unused(): void {}', 'export function unused(a: number): string {\n  return "";\n}'],
+  ['namespaces', 'mod.ts', 'const hidden = 2;', 'const hidden = 3, more = hidden;'],
+  ['workspace', 'core/mod.ts', 'return 1;', 'return 2;'],
+  ['comments', 'mod.ts', '// A note that goes.', '// Another note, which goes too.'],
+  ['overloads', 'mod.ts', 'return strict ? null : {};', 'return null;'],
+];
+const SHOWN = [
+  ['variables', 'mod.ts', 'text = "a"', 'text = "b"', 'changed mod.ts'],
+  ['re-exports', 'shapes.ts', 'x: number;', 'x: string;', 'changed shapes.ts'],
+  ['re-export-all', 'mod.ts', 'export * from "./b.ts";\n', '', 'removed b.ts'],
+];
+
+/** A copy of a package with an edit. */
+function edited(folder, name, file, old, now) {
+  fs.cpSync(path.join(PACKAGES, name), folder, { recursive: true });
+  const target = path.join(folder, file);
+  const text = fs.readFileSync(target, 'utf8');
+  holds(text.split(old).length === 2, `'${old}' stands once in ${name}/${file}`);
+  fs.writeFileSync(target, text.replace(old, () => now));
+}
+
+async function withFolder(body) {
+  const folder = fs.mkdtempSync(path.join(os.tmpdir(), 'fast-check-test-'));
+  try {
+    await body(folder);
+  } finally {
+    fs.rmSync(folder, { recursive: true, force: true });
+  }
+}
+
+async function edits() {
+  for (const [name, file, old, now] of EDITS) {
+    await test(`hidden edit in ${name}/${file}: ${now.split('\n')[0]}`, () => withFolder(async (folder) => {
+      edited(folder, name, file, old, now);
+      const before = await run(['skeleton', path.join(PACKAGES, name)]);
+      same((await run(['skeleton', folder])).out, before.out, 'the skeleton');
+      const { status, out, err } = await run(['diff', path.join(PACKAGES, name), folder]);
+      same(`${status}${out}${err}`, '0', 'diff');
+    }));
+  }
+  for (const [name, file, old, now, wanted] of SHOWN) {
+    await test(`public edit in ${name}/${file}`, () => withFolder(async (folder) => {
+      edited(folder, name, file, old, now);
+      const { status, out } = await run(['diff', path.join(PACKAGES, name), folder]);
+      same(status, 1, 'the status');
+      holds(out.includes(wanted), `'${wanted}' is told, and this was: ${out}`);
+    }));
+  }
+}
+
+// ---- the command line
+
+const WRONG = [
+  [[], 'no command is given'],
+  [['nothing'], 'there is no command nothing'],
+  [['check'], 'check wants a folder'],
+  [['check', 'a', 'b'], 'check does not take the word b'],
+  [['check', 'nowhere'], 'there is no folder nowhere'],
+  [['check', 'variables/mod.ts'], 'variables/mod.ts is no folder'],
+  [['check', '--fast', 'variables'], 'there is no option --fast'],
+  [['check', 'variables', '--name'], '--name wants a value'],
+  [['skeleton', '--verify', 'variables'], '--verify is not for skeleton'],
+  [['check', '--exports', '{', 'variables'], '--exports is no JSON'],
+  [['skeleton', 'variables', 'variables'], 'variables is the package itself'],
+  [['diff', 'variables'], 'diff wants two words'],
+];
+
+async function commandLine() {
+  for (const [words, wanted] of WRONG) {
+    await test(`words: ${words.join(' ')}`, async () => {
+      const { status, out, err } = await run(words);
+      same(status, 2, 'the status');
+      same(out, '', 'standard output');
+      holds(err.includes(wanted), err);
+    });
+  }
+  await test('--help', async () => holds((await run(['--help'])).out.startsWith('usage: fast-check-ts COMMAND'), 'the usage comes'));
+  await test('--json gives an object a line', async () => {
+    const { status, out } = await run(['check', '--json', 'missing-return-type']);
+    const lines = out.trimEnd().split('\n').map((line) => JSON.parse(line));
+    same(status, 1, 'the status');
+    holds(lines.every((each) => each.code && each.file.endsWith('mod.ts') && each.line > 0 && each.column > 0), out);
+  });
+  await test('--json tells errors of reading too', async () => {
+    const { status, out } = await run(['check', '--json', 'syntax-error']);
+    same(status, 2, 'the status');
+    same(JSON.parse(out.split('\n')[0]).code, 'syntax-error');
+  });
+  await test('colours on a terminal, and none where they are not wanted', async () => {
+    const escape = '\x1b[';
+    holds((await run(['check', 'missing-type'], { isTTY: true })).out.includes(escape), 'a terminal has colours');
+    holds(!(await run(['check', 'missing-type'])).out.includes(escape), 'a pipe has none');
+    holds(!(await run(['check', 'missing-type'], { isTTY: true, environment: { NO_COLOR: '1' } })).out.includes(escape), 'NO_COLOR is obeyed');
+    holds(!(await run(['check', 'missing-type', '--no-color'], { isTTY: true })).out.includes(escape), '--no-color is obeyed');
+  });
+  await test('name, version and exports of the command line', async () => {
+    const { request } = JSON.parse(`{"request":${(await run(['input', 're-exports', '--name', '@a/b', '--version=2.0.1', '--exports', '{"./s":"./shapes.ts"}'])).out}}`);
+    same(JSON.stringify(request.pending), '["@a/b@2.0.1"]');
+    const [{ name, version, exports }] = request.workspace_members;
+    same(JSON.stringify([name, version, exports]), '["@a/b","2.0.1",[["./s","./shapes.ts"]]]');
+  });
+  await test('skeletons are written to a folder, and are a package again', () => withFolder(async (folder) => {
+    const out = path.join(folder, 'out');
+    same((await run(['skeleton', 're-exports', out])).status, 0, 'the status');
+    same(fs.readdirSync(out).join(' '), 'mod.ts shapes.ts');
+    const { status, err } = await run(['check', out]);
+    same(status, 0, `the status of the skeletons' own check (${err})`);
+  }));
+}
+
+/** Programs in the place of fast check that fail in their ways. */
+const PROGRAMS = [
+  ['echo "error: out of memory" >&2; exit 3', 3, 'out of memory'],
+  ['echo "error: input refused: table-fault 1" >&2; exit 2', 2, 'table-fault 1'],
+  ['kill -9 $$', 5, 'SIGKILL'],
+  ['exit 5', 5, 'status 5'],
+];
+
+async function programs() {
+  for (const [body, wanted, text] of PROGRAMS) {
+    await test(`a program that says ${text}`, () => withFolder(async (folder) => {
+      const program = path.join(folder, 'program');
+      fs.writeFileSync(program, `#!/bin/sh\n${body}\n`, { mode: 0o755 });
+      const { status, err } = await run(['check', 'variables'], { environment: { FAST_CHECK: program } });
+      same(status, wanted, 'the status');
+      holds(err.includes(text), err);
+    }));
+  }
+  await test('a program that is not there', async () => {
+    const { status, err } = await run(['check', 'variables'], { environment: { FAST_CHECK: '/nowhere/program' } });
+    same(status, 5, 'the status');
+    holds(err.includes('does not start'), err);
+  });
+  await test('the launcher, by a link, from elsewhere', () => withFolder(async (folder) => {
+    const link = path.join(folder, 'fast-check-ts');
+    fs.symlinkSync(LAUNCHER, link);
+    const words = ['check', path.join(PACKAGES, 'variables')];
+    const { status, stdout } = childProcess.spawnSync(link, words, { cwd: folder, encoding: 'utf8', input: '' });
+    same(status, 0, 'the status');
+    holds(/^1 file, 1 public module, 0 messages, /.test(stdout), stdout);
+  }));
+}
+
+// ---- the page, and the compiler
+
+async function pages() {
+  for (const name of ['re-exports', 'several-messages', 'unicode', 'workspace', 'javascript-entry']) {
+    await test(`the page of ${name}`, () => withFolder(async (folder) => {
+      const file = path.join(folder, 'page.html');
+      await run(['report', name, file]);
+      const text = fs.readFileSync(file, 'utf8');
+      holds(!/<script|<link|@import|url\(|\bsrc=/.test(text), 'it stands alone');
+      holds(text.includes('width=device-width'), 'it has the width of a phone');
+      const tags = (tag) => [text.split(`<${tag}`).length, text.split(`</${tag}>`).length];
+      for (const tag of ['span', 'div', 'section', 'pre', 'ul', 'li', 'details']) same(...tags(tag), `the tags of ${tag}`);
+    }));
+  }
+}
+
+async function verified() {
+  for (const [name, wanted] of [['re-exports', null], ['workspace', null], ['apart-expando', 'typescript-2451'], ['apart-qualified', 'typescript-2304']]) {
+    await test(`check --verify of ${name}`, async () => {
+      const { status, out } = await run(['check', '--verify', name]);
+      same(status, wanted ? 1 : 0, `the status of\n${out}`);
+      holds(!wanted || out.includes(wanted), out);
+    });
+  }
+}
+
+async function all(words) {
+  const store = words[0] === '--store';
+  const asked = store ? words.slice(1) : words;
+  const names = fs.readdirSync(PACKAGES).sort().filter((name) => !asked.length || asked.includes(name));
+  await storedPackages(names, store);
+  if (store) return;
+  if (!asked.length) for (const part of [() => everyDiagnostic(names), edits, commandLine, programs, pages, verified]) await part();
+  console.log(`${passed} passed, ${failed.length} failed`);
+  process.exitCode = failed.length ? 1 : 0;
+}
+
+all(process.argv.slice(2));

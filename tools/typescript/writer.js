@@ -1,0 +1,96 @@
+'use strict';
+// Text that grows line by line, with the comments that stand at its tokens.
+
+const STEP = '  ';
+
+function byPosition(list) {
+  return new Map((list || []).map(([position, comments]) => [position, comments]));
+}
+
+/** A block comment whose lines begin with `*`, moved to an indentation. */
+function moved(text, indent) {
+  const lines = text.split(/\r\n?|\n/);
+  if (!lines.slice(1).every((it) => /^\s*\*|^\s*$/.test(it))) return text;
+  return lines.map((it, place) => (place === 0 ? it : `${indent} ${it.trim()}`)).join('\n');
+}
+
+class Writer {
+  constructor(comments) {
+    this.pieces = [];
+    this.indent = '';
+    this.isLineStart = true;
+    this.wantsLine = false;
+    this.isAmbient = false;
+    this.asWritten = false;
+    this.leadingAt = byPosition(comments && comments.leading);
+    this.trailingAt = byPosition(comments && comments.trailing);
+  }
+
+  write(text) {
+    if (!text) return;
+    if (this.wantsLine) {
+      this.wantsLine = false;
+      this.line();
+      text = text.trimStart();
+      if (!text) return;
+    }
+    if (this.isLineStart) this.pieces.push(this.indent);
+    this.isLineStart = false;
+    this.pieces.push(text);
+  }
+
+  line() {
+    this.wantsLine = false;
+    if (!this.isLineStart) this.pieces.push('\n');
+    this.isLineStart = true;
+  }
+
+  /** What is written in the call stands further to the right. */
+  indented(call) {
+    const outer = this.indent;
+    this.indent = outer + STEP;
+    call();
+    this.indent = outer;
+  }
+
+  comment(comment) {
+    if (comment.kind === 'Line') this.write(`//${comment.text}`);
+    else this.write(`/*${moved(comment.text, this.indent)}*/`);
+  }
+
+  /** Writes the comments before the token at a position. */
+  leading(position) {
+    const found = position && this.leadingAt.get(position);
+    if (!found) return;
+    this.leadingAt.delete(position);
+    for (const it of found) {
+      const isOwnLine = this.isLineStart || this.wantsLine;
+      this.comment(it);
+      if (it.kind === 'Line' || isOwnLine) this.line();
+      else this.write(' ');
+    }
+  }
+
+  /** Writes the comments after the token that ends at a position. */
+  trailing(position) {
+    const found = position && this.trailingAt.get(position);
+    if (!found) return;
+    this.trailingAt.delete(position);
+    for (const it of found) {
+      this.write(' ');
+      this.comment(it);
+      if (it.kind === 'Line') this.wantsLine = true;
+    }
+  }
+
+  hasLeading(position) {
+    return this.leadingAt.has(position);
+  }
+
+  text() {
+    const text = this.pieces.join('');
+    return text && !text.endsWith('\n') ? `${text}\n` : text;
+  }
+}
+
+module.exports = { Writer };
