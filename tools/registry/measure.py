@@ -24,9 +24,7 @@ import registry
 from build import workspace
 from distributed import Client
 
-# The program that knows `build`.
-NAME = next(it for it in ("fast_check_build_cli", "fast_check_cli") if (registry.TOP / "crates" / it / "src/main.rt").exists())
-BUILT = registry.TOP / "crates" / NAME / "out" / NAME
+BUILT = registry.TOP / "crates/fast_check_cli/out/fast_check_cli"
 
 
 def make(folder, count):

@@ -7,10 +7,7 @@
 set -u
 here=$(cd "$(dirname "$(readlink -f "${BASH_SOURCE[0]}")")" && pwd)
 top=$(cd "$here/../.." && pwd)
-# The program that knows `build`.
-name=fast_check_build_cli
-[ -f "$top/crates/$name/src/main.rt" ] || name=fast_check_cli
-built="$top/crates/$name/out/$name"
+built="$top/crates/fast_check_cli/out/fast_check_cli"
 if [ -z "${FAST_CHECK-}" ]; then
   [ -x "$built" ] || "$top/fast-check" build "$top/examples/build_hello.json" > /dev/null || exit
   export FAST_CHECK="$built"
