@@ -101,8 +101,7 @@ def form_code(table, file):
 
 
 def cited_of(form):
-    names = ["Reads" + form.name] + ([maker(form)] if form.made else [])
-    return names[::-1] if form.name == "ClassExpr" else names
+    return ["Reads" + form.name] + ([maker(form)] if form.made else [])
 
 
 GIVES = {"flag": "Bool", "scope": "SyntaxContext", "text": "List ℕ", "range": "SourceRange", None: "Tree"}

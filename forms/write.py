@@ -21,6 +21,9 @@ HERE = Path(__file__).resolve().parent
 ROOT = HERE.parent
 
 
+WRITTEN = "Written by forms/write.py from forms/forms.txt"
+
+
 class Output:
     """The files, whole or between two lines of theirs, as they are to be."""
 
@@ -28,6 +31,7 @@ class Output:
         self.files, self.counts = {}, {}
 
     def whole(self, path, lines):
+        lines = ([f"// {WRITTEN}.", ""] if path.endswith(".rt") else [f"-- {WRITTEN}."]) + lines
         self.files[path] = "\n".join(lines) + "\n"
         self.counts[path] = len(lines)
 
@@ -41,8 +45,18 @@ class Output:
             raise SystemExit(f"{path}: the line '{first}' has to stand there once")
         start = old.index(first) + 1
         end = old.index(last, start) if last is not None else len(old) - 1
+        if path.endswith(".rt"):
+            lines = written_above(lines)
         self.files[path] = "\n".join(old[:start] + lines + old[end:])
         self.counts[path] = self.counts.get(path, 0) + len(lines)
+
+
+def written_above(lines):
+    """The lines with a comment that says where they come from, within the brackets that they stand in."""
+    if lines[0] == "":
+        return ["", f"// {WRITTEN}, as all that follows."] + lines
+    comment = [f"    // {WRITTEN}, up to the closing bracket."]
+    return lines[:1] + comment + lines[1:] if lines[0].endswith("[") else comment + lines
 
 
 def write_all(table):

@@ -1,3 +1,4 @@
+-- Written by forms/write.py from forms/forms.txt.
 -- JSX, held as it is written.
 -- Each form has its fields by their names, and what it holds once it reads a node.
 use Rattle.std.specs.Prelude.{◌≡◌, ℕ, List}

@@ -1,3 +1,5 @@
+// Written by forms/write.py from forms/forms.txt.
+
 ghost use Rattle.std.specs.Prelude.{◌≡◌, IfOk};
 ghost use Rattle.fast_check_syntax.specs.Part.{seen};
 ghost use Rattle.fast_check_expression_forms.specs.Expressions.{
@@ -10,8 +12,8 @@ ghost use Rattle.fast_check_expression_forms.specs.Expressions.{
   object_lit,
   ReadsFnExpr,
   fn_expr,
-  class_expr,
   ReadsClassExpr,
+  class_expr,
   ReadsArrowExpr,
   arrow_expr,
   ReadsSeqExpr,

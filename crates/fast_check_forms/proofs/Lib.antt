@@ -1,1 +1,2 @@
+-- Written by forms/write.py from forms/forms.txt.
 pub mod Within

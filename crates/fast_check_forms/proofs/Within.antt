@@ -1,3 +1,4 @@
+-- Written by forms/write.py from forms/forms.txt.
 -- What a choice is where its own kinds are ruled out: another choice, asked next.
 use Rattle.std.specs.Prelude.{◌≡◌, refl}
 use Rattle.fast_check_syntax.specs.declared.kind.Kind.{Kind}

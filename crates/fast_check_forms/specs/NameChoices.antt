@@ -1,3 +1,4 @@
+-- Written by forms/write.py from forms/forms.txt.
 -- Which name, key or literal a node is.
 -- Each choice goes by the kind of the node: `Other` stands for a kind of none of its forms.
 use Rattle.fast_check_syntax.specs.declared.kind.Kind.{Kind}

@@ -1,3 +1,4 @@
+-- Written by forms/write.py from forms/forms.txt.
 -- Which type a node is, and which form stands in a part of one.
 -- Each choice goes by the kind of the node: `Other` stands for a kind of none of its forms.
 use Rattle.fast_check_syntax.specs.declared.kind.Kind.{Kind}

@@ -20,6 +20,8 @@
 //! `AssignTarget::Pat` round `TargetPat::of(node).pat`.
 #![tactic(auto)]
 
+// Written by forms/write.py from forms/forms.txt, as all that follows.
+
 mod class_choices;
 mod expression_choices;
 mod name_choices;

@@ -1,3 +1,5 @@
+// Written by forms/write.py from forms/forms.txt.
+
 ghost use Rattle.std.specs.Prelude.{◌≡◌, IfOk};
 ghost use Rattle.fast_check_syntax.specs.Part.{seen};
 ghost use Rattle.fast_check_program_forms.specs.ModuleDecls.{

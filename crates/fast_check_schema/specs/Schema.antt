@@ -1,3 +1,4 @@
+-- Written by forms/write.py from forms/forms.txt.
 -- The tables: which fields a form has, which forms a choice is between, which words a list has.
 use Rattle.std.specs.Prelude.{List, []}
 use Rattle.fast_check_syntax.specs.declared.kind.Kind.{Kind}

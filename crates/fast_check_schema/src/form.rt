@@ -3,6 +3,7 @@ use fast_check_syntax::{Kind, Word};
 /// An enum of the tree whose variants have content. In JSON it is an object of one key, the variant's name.
 #[derive(Clone, Copy, PartialEq, Eq, Debug)]
 pub enum Choice {
+    // Written by forms/write.py from forms/forms.txt, up to the closing bracket.
     Lit,
     Program,
     ModuleItem,
@@ -47,6 +48,7 @@ pub enum Choice {
 /// An enum of the tree whose variants have no content. In JSON it is a text, the variant's name.
 #[derive(Clone, Copy, PartialEq, Eq, Debug)]
 pub enum Words {
+    // Written by forms/write.py from forms/forms.txt, up to the closing bracket.
     VarDeclKind,
     MethodKind,
     Accessibility,

@@ -1,3 +1,5 @@
+// Written by forms/write.py from forms/forms.txt.
+
 //! The fields of names and literals.
 
 use crate::form::{Count, Field, Form, SPAN, Variant};

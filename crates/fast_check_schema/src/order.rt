@@ -13,6 +13,7 @@ pub fn written_order(kind: Kind) -> &'static [usize]
 
 /// The order of each kind, in the order of the kinds.
 static WRITTEN_ORDERS: [&[usize]; 168] = [
+    // Written by forms/write.py from forms/forms.txt, up to the closing bracket.
     &[], // Leaf
     &[], // List
     &[1, 3, 0, 2], // Ident

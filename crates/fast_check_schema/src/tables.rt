@@ -1,3 +1,5 @@
+// Written by forms/write.py from forms/forms.txt.
+
 ghost use Rattle.std.specs.Prelude.{◌≡◌, map};
 ghost use Rattle.fast_check_schema.specs.Rows.{field_row, variant_row, word_row};
 ghost use Rattle.fast_check_schema.specs.Schema.{fields_of, variants_of, words_of};

@@ -1,3 +1,4 @@
+-- Written by forms/write.py from forms/forms.txt.
 pub mod Statements
 pub mod Loops
 pub mod Declarations

@@ -1,3 +1,4 @@
+-- Written by forms/write.py from forms/forms.txt.
 -- Statements.
 -- Each form has its fields by their names, and what it holds once it reads a node; where it is made, the node of its fields.
 use Rattle.std.specs.Prelude.{◌≡◌, [], ◌∷◌}

@@ -4,6 +4,7 @@
 
 /// The forms, to read a node and to make one, and the choices between them.
 pub mod forms {
+    // Written by forms/write.py from forms/forms.txt, up to the closing bracket.
     pub use fast_check_forms::ArrayLit;
     pub use fast_check_forms::ArrayPat;
     pub use fast_check_forms::ArrowExpr;

@@ -1,3 +1,5 @@
+// Written by forms/write.py from forms/forms.txt.
+
 //! The forms of types.
 //!
 //! A form reads a node where its `N` is a `Part` and its `T` a `&str`, and makes one where they are a `Tree` and an `Atom`.

@@ -6,6 +6,7 @@ use std::alloc::{AllocError, Global};
 
 /// All forms.
 static KINDS: [Kind; 164] = [
+    // Written by forms/write.py from forms/forms.txt, up to the closing bracket.
     Kind::Ident,
     Kind::IdentName,
     Kind::BindingIdent,
@@ -174,6 +175,7 @@ static KINDS: [Kind; 164] = [
 
 /// All choices.
 static CHOICES: [Choice; 39] = [
+    // Written by forms/write.py from forms/forms.txt, up to the closing bracket.
     Choice::Lit,
     Choice::Program,
     Choice::ModuleItem,
@@ -217,6 +219,7 @@ static CHOICES: [Choice; 39] = [
 
 /// What stands in a place by itself.
 static PLAIN: [Form; 9] = [
+    // Written by forms/write.py from forms/forms.txt, up to the closing bracket.
     Form::Flag,
     Form::Context,
     Form::Text,

@@ -1,3 +1,4 @@
+-- Written by forms/write.py from forms/forms.txt.
 use Rattle.std.proofs.Common.{sym, ◌∙◌, ap}
 use Rattle.fast_check_forms.specs.ExpressionChoices.{if_expr}
 use Rattle.fast_check_forms.specs.declared.expression_choices.BlockStmtOrExpr.{BlockStmtOrExpr}

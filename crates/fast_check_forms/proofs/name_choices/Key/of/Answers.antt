@@ -1,3 +1,4 @@
+-- Written by forms/write.py from forms/forms.txt.
 use Rattle.std.proofs.Common.{sym, ◌∙◌, ap}
 use Rattle.fast_check_forms.specs.NameChoices.{if_prop_name}
 use Rattle.fast_check_forms.specs.declared.name_choices.Key.{Key}

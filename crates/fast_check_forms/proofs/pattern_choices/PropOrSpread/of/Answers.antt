@@ -1,3 +1,4 @@
+-- Written by forms/write.py from forms/forms.txt.
 use Rattle.std.proofs.Common.{sym, ◌∙◌, ap}
 use Rattle.fast_check_forms.specs.PatternChoices.{if_prop}
 use Rattle.fast_check_forms.specs.declared.pattern_choices.PropOrSpread.{PropOrSpread}
