@@ -407,7 +407,7 @@ function namespaceBody(w, choice) {
     return;
   }
   const { body = [], span } = choice.TsModuleBlock;
-  const list = w.isAmbient && !w.asWritten && needsList(body) ? [...body, EMPTY_LIST] : body;
+  const list = w.isAmbient && !w.asWritten && needsList(body, false) ? [...body, EMPTY_LIST] : body;
   w.write(' ');
   at(w, choice.TsModuleBlock, () => inBraces(w, list, span, item));
 }
