@@ -15,7 +15,7 @@ const path = require('path');
 const { ts } = require('./typescript');
 const { inputOf } = require('./input');
 const { print } = require('./print');
-const { programOf, emitted, surfaceOf, takeSmallLibrary } = require('./judge_surface');
+const { programOf, emitted, surfaceOf, takeLooseTypes } = require('./judge_surface');
 const { withTypes } = require('./judge_types');
 
 const TOP = path.resolve(__dirname, '../..');
@@ -137,13 +137,15 @@ function newErrors(source, skeleton, names) {
   return found;
 }
 
+const PATTERN = /([(,] ?|\.\.\.)(\{[^{}]*\}|\[[^[\]]*\])(?=\??: )/g;
+
 // Differences that a rule of docs/RULES.md makes, each with how a text looks without it.
 const RULES = [
   ['a default class of a declaration file loses the types of private members and the contents of patterns', (text) => (
     /default (abstract )?class/.test(text)
       ? text.replace(/(private [^;:(]*): any(?=[; ])/g, '$1').replace(/#private!: unknown/, '#private').replace(/\{[^{}]*\}(?=\??:)/g, '{}')
       : text)],
-  ['a pattern loses its contents', (text) => text.replace(/([(,] ?|\.\.\.)(\{[^{}]*\}|\[[^[\]]*\])(?=\??: )/g, (all, before, it) => before + (it[0] === '{' ? '{}' : '[]'))],
+  ['a pattern loses its contents', (text) => text.replace(PATTERN, (all, before, it) => before + (it[0] === '{' ? '{}' : '[]'))],
 ];
 
 /** The rule by which two texts differ, or null. */
@@ -209,6 +211,7 @@ function judge(dir, exports, work) {
     modules: asked.info.modules.length,
     skeletons: asked.answers.length,
     declarations: before.shown.size,
+    notJudged: [...before.lost],
     lines: [...skeletons.values()].join('').split('\n').length,
     differences: differences(before, after),
     errors: newErrors(source, skeleton, [...skeletons.keys()]),
@@ -283,7 +286,7 @@ function modulesBelow(root, found = []) {
 }
 
 function judgeModules(root) {
-  takeSmallLibrary();
+  takeLooseTypes();
   for (const file of modulesBelow(root)) {
     withWork((work) => {
       try {

@@ -190,7 +190,8 @@ function functionType(w, choice) {
 
 /** The type as a part of one that binds closer: a made tree may lack the parentheses. */
 function closer(w, choice, variants) {
-  const needs = variants.some((it) => it in choice) || (choice.TsUnionOrIntersectionType && variants.includes(Object.keys(choice.TsUnionOrIntersectionType)[0]));
+  const many = choice.TsUnionOrIntersectionType;
+  const needs = variants.some((it) => it in choice) || (many && variants.includes(Object.keys(many)[0]));
   if (needs) w.write('(');
   type(w, choice);
   if (needs) w.write(')');
