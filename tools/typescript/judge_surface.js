@@ -241,4 +241,4 @@ function surfaceOf(program, texts, entries) {
   return surface;
 }
 
-module.exports = { programOf, emitted, surfaceOf, takeLooseTypes };
+module.exports = { programOf, emitted, surfaceOf, normalise, takeLooseTypes };
