@@ -223,7 +223,7 @@ def words():
 
 def local(workers):
     """A cluster on this machine: one process a worker, one task at a time in each."""
-    dask.config.set({"distributed.worker.memory.terminate": False, "distributed.worker.daemon": False, "logging": {"distributed": "error", "distributed.nanny": "error"}})
+    dask.config.set({"distributed.worker.memory.terminate": False, "distributed.worker.daemon": False, "logging": {"distributed": "error", "distributed.nanny": "error", "distributed.diskutils": "error"}})
     return LocalCluster(n_workers=workers, threads_per_worker=1, processes=True, dashboard_address=None, memory_limit=0, silence_logs=50)
 
 

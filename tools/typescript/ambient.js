@@ -60,9 +60,12 @@ function writeExports(program, isDeclaration) {
   if (isDeclaration && !saysExports(Module.body)) Module.body = exported(Module.body);
 }
 
-/** Whether a printed ambient body needs `export {}`: it has declarations that are exported, and others that are not. */
-function needsList(items) {
-  return !saysExports(items) && items.some(isExported) && items.some(isPlain);
+/**
+ * Whether a printed ambient body needs `export {}`, since a declaration of it is not exported. In a namespace that is told by
+ * another one that is; in a module `writeExports` has written the word wherever it was implied.
+ */
+function needsList(items, isModule) {
+  return !saysExports(items) && items.some(isPlain) && (isModule || items.some(isExported));
 }
 
 module.exports = { writeExports, saysExports, needsList };

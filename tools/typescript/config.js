@@ -115,6 +115,15 @@ function membersOf(dir, config) {
   });
 }
 
+/** The map of imports of a folder, as far as it leads to files: `[text, path]`. A key that ends with `/` stands for what begins so. */
+function importsOf(dir, config) {
+  const made = {};
+  for (const [key, target] of Object.entries(config.imports || {})) {
+    if (typeof target === 'string' && /^\.{1,2}\//.test(target)) made[key] = path.resolve(dir, target);
+  }
+  return made;
+}
+
 const VERSION = /^\d+\.\d+\.\d+(-[0-9A-Za-z.-]+)?(\+[0-9A-Za-z.-]+)?$/;
 
 /** The packages of a folder: itself where it has entry points, and the members of its workspace. */
@@ -130,7 +139,7 @@ function packagesOf(dir, options, files, errors) {
       name: given.name || own.name || path.basename(folder),
       version: VERSION.test(version) ? version : '0.0.0',
       dir: folder,
-      imports: { ...config.imports, ...own.imports },
+      imports: { ...importsOf(dir, config), ...importsOf(folder, own) },
       exports: entryPoints(folder, own, given.exports, files, errors),
     };
   });

@@ -7,10 +7,9 @@
 # Nothing is installed, and the machine's package lists are those of the last `apt-get update`.
 set -u
 folder=${1:?usage: corpus.sh FOLDER}
-packages="node-lumino node-jose node-recast node-ast-types node-chart.js rollup jest node-graphql node-parse5 node-yaml node-js-sdsl
-  node-mj-context-menu node-got node-postcss node-cheerio node-css-select node-css-what node-domutils node-domhandler node-entities
-  node-htmlparser2 node-dom-serializer node-memfs node-undici ts-node node-socks node-agent-base node-redux node-ajv node-axios
-  node-babel7 node-csstype node-immutable node-popper2 node-preact node-prosemirror-model node-sinclair-typebox node-typescript"
+packages="node-lumino node-jose node-inquirer node-recast node-ast-types jest node-graphql node-dom-helpers node-yaml node-undici
+  node-postcss node-parse5 node-cheerio node-chart.js node-memfs node-mqtt node-domutils node-domhandler node-entities node-css-select
+  node-css-what node-htmlparser2 node-ip-address node-cronstrue node-socks node-got node-agent-base ts-node node-js-sdsl rollup"
 mkdir -p "$folder/archives"
 cd "$folder" || exit 1
 for package in $packages; do

@@ -15,7 +15,8 @@ const path = require('path');
 const { ts } = require('./typescript');
 const { inputOf } = require('./input');
 const { print } = require('./print');
-const { programOf, emitted, surfaceOf, takeSmallLibrary } = require('./judge_surface');
+const { parse } = require('./tree');
+const { programOf, emitted, surfaceOf, takeLooseTypes } = require('./judge_surface');
 const { withTypes } = require('./judge_types');
 
 const TOP = path.resolve(__dirname, '../..');
@@ -137,13 +138,15 @@ function newErrors(source, skeleton, names) {
   return found;
 }
 
+const PATTERN = /([(,] ?|\.\.\.)(\{[^{}]*\}|\[[^[\]]*\])(?=\??: )/g;
+
 // Differences that a rule of docs/RULES.md makes, each with how a text looks without it.
 const RULES = [
   ['a default class of a declaration file loses the types of private members and the contents of patterns', (text) => (
     /default (abstract )?class/.test(text)
       ? text.replace(/(private [^;:(]*): any(?=[; ])/g, '$1').replace(/#private!: unknown/, '#private').replace(/\{[^{}]*\}(?=\??:)/g, '{}')
       : text)],
-  ['a pattern loses its contents', (text) => text.replace(/([(,] ?|\.\.\.)(\{[^{}]*\}|\[[^[\]]*\])(?=\??: )/g, (all, before, it) => before + (it[0] === '{' ? '{}' : '[]'))],
+  ['a pattern loses its contents', (text) => text.replace(PATTERN, (all, before, it) => before + (it[0] === '{' ? '{}' : '[]'))],
 ];
 
 /** The rule by which two texts differ, or null. */
@@ -209,6 +212,7 @@ function judge(dir, exports, work) {
     modules: asked.info.modules.length,
     skeletons: asked.answers.length,
     declarations: before.shown.size,
+    notJudged: [...before.lost],
     lines: [...skeletons.values()].join('').split('\n').length,
     differences: differences(before, after),
     errors: newErrors(source, skeleton, [...skeletons.keys()]),
@@ -236,13 +240,27 @@ function entryOf(dir) {
   return listed.find((it) => typeof it === 'string' && /\.ts$/.test(it) && fs.existsSync(path.join(dir, it)));
 }
 
-/** A copy of the modules of a package, in a folder of its own. */
+/** A text without its augmentations of the global scope, which are refused wherever they stand, and how many it had. */
+function withoutGlobals(file, text) {
+  if (!/declare\s+global/.test(text)) return { text, count: 0 };
+  const found = parse(file, text).statements.filter((it) => it.flags & ts.NodeFlags.GlobalAugmentation);
+  let made = text;
+  for (const it of found) made = made.slice(0, it.pos) + made.slice(it.pos, it.end).replace(/[^\n]/g, ' ') + made.slice(it.end);
+  return { text: made, count: found.length };
+}
+
+/** A copy of the modules of a package, in a folder of its own, without augmentations of the global scope. */
 function copied(dir, entry, work) {
   const { info } = inputOf(dir, { exports: { '.': `./${entry.replace(/^\.\//, '')}` } });
   if (info.errors.length) throw new Error(`${info.errors[0].path}: ${info.errors[0].message}`);
   const folder = path.join(work, 'package');
-  for (const [file, text] of textsOf(info)) writeTexts([[path.join(folder, path.relative(path.resolve(dir), file)), text]]);
-  return { folder, count: info.modules.length };
+  let globals = 0;
+  for (const [file, text] of textsOf(info)) {
+    const kept = withoutGlobals(file, text);
+    globals += kept.count;
+    writeTexts([[path.join(folder, path.relative(path.resolve(dir), file)), kept.text]]);
+  }
+  return { folder, count: info.modules.length, globals };
 }
 
 function withWork(call) {
@@ -264,8 +282,8 @@ function judgePackages(root) {
     if (!entry) continue;
     withWork((work) => {
       try {
-        const { folder, count } = copied(dir, entry, work);
-        if (count >= 2) tell(path.relative(root, dir), { entry, ...judge(folder, { '.': `./${entry.replace(/^\.\//, '')}` }, work) });
+        const { folder, count, globals } = copied(dir, entry, work);
+        if (count >= 2) tell(path.relative(root, dir), { entry, globals, ...judge(folder, { '.': `./${entry.replace(/^\.\//, '')}` }, work) });
       } catch (error) {
         tell(path.relative(root, dir), { entry, failed: error.message });
       }
@@ -283,7 +301,7 @@ function modulesBelow(root, found = []) {
 }
 
 function judgeModules(root) {
-  takeSmallLibrary();
+  takeLooseTypes();
   for (const file of modulesBelow(root)) {
     withWork((work) => {
       try {

@@ -11,7 +11,7 @@ const OPTIONS = {
   declaration: true,
   emitDeclarationOnly: true,
   noEmitOnError: false,
-  skipLibCheck: true,
+  skipLibCheck: false,
   strict: true,
   strictPropertyInitialization: false,
   noImplicitAny: false,
@@ -71,11 +71,11 @@ function programOf(texts, resolve = (from, text) => resolveIn(texts, from, text)
   return ts.createProgram(roots, OPTIONS, hostOf(texts, resolve));
 }
 
-/** Takes a small library, for many programs of one module each. */
-function takeSmallLibrary() {
-  // Else the compiler writes `any` for an optional parameter whose type a missing module declares.
+/**
+ * For modules by themselves: else the compiler writes `any` for an optional parameter of a type that a missing module declares.
+ */
+function takeLooseTypes() {
   OPTIONS.strict = false;
-  OPTIONS.lib = ['lib.es2018.d.ts'];
 }
 
 /** The declarations that the compiler emits, by their paths; declaration files are their own. */
@@ -102,6 +102,7 @@ function normalise(text) {
     .replace(/"(\.{1,2}\/[^"]*?)(\.d)?\.[cm]?[jt]sx?"/g, '"$1"')
     .replace(/\b(export|declare) /g, '')
     .replace(/(\?: )([^,;(){}=>]+?) \| undefined(?=[,;)])/g, '$1$2')
+    .replace(/(\?: )\(((?:[^()]|\([^()]*\))*)\) \| undefined(?=[,;)])/g, '$1$2')
     .replace(/[;,] ?([}\])])/g, ' $1')
     .replace(/\s+/g, ' ')
     .trim();
@@ -240,4 +241,4 @@ function surfaceOf(program, texts, entries) {
   return surface;
 }
 
-module.exports = { programOf, emitted, surfaceOf, takeSmallLibrary };
+module.exports = { programOf, emitted, surfaceOf, normalise, takeLooseTypes };

@@ -57,14 +57,10 @@ class Reader {
 
   /** A bare text that stands for a file of the folder: by the map of imports, or by a package's name. */
   mapped(from, text) {
-    const own = this.packageAt(from);
-    const imports = own ? own.imports : {};
-    for (const [key, target] of Object.entries(imports || {}).sort(([a], [b]) => b.length - a.length)) {
-      if (typeof target !== 'string' || !/^\.{1,2}\//.test(target)) continue;
-      const base = own.imports === undefined ? this.root : own.dir;
-      if (key === text) return path.resolve(base, target);
-      if (key.endsWith('/') && text.startsWith(key)) return path.resolve(base, target, text.slice(key.length));
-    }
+    const { imports } = this.packageAt(from) || { imports: {} };
+    const keys = Object.keys(imports).sort((a, b) => b.length - a.length);
+    const key = keys.find((it) => it === text || (it.endsWith('/') && text.startsWith(it)));
+    if (key !== undefined) return path.join(imports[key], text.slice(key.length));
     return this.ofPackage(text.replace(/^(jsr|npm):\/?/, ''));
   }
 

@@ -26,7 +26,7 @@ function print(program, comments, { isDeclaration = false, asWritten = false } =
   const body = module.body || [];
   if (isScript) items(w, body.map((Stmt) => ({ Stmt })));
   else items(w, body);
-  if (!isScript && !asWritten && (!body.some((it) => it.ModuleDecl) || (isDeclaration && needsList(body)))) {
+  if (!isScript && !asWritten && (!body.some((it) => it.ModuleDecl) || (isDeclaration && needsList(body, true)))) {
     w.line();
     w.write('export {};');
   }

@@ -287,7 +287,7 @@ function constructor(w, node) {
   const params = node.params || [];
   const spans = params.map((it) => t.spanOf(it)).filter((it) => it && it[0]);
   const isWide = spans.length > 1 && spans[spans.length - 1][1] - spans[0][0] > 80;
-  t.listed(w, params, '(', ')', isWide || spans.some((it) => w.hasLeading(it[0])), constructorParam);
+  t.listed(w, params, '(', ')', isWide || spans.some((it) => w.hasLeading(it[0])), constructorParam, t.afterLast(params));
   e.body(w, node.body);
 }
 
@@ -407,7 +407,7 @@ function namespaceBody(w, choice) {
     return;
   }
   const { body = [], span } = choice.TsModuleBlock;
-  const list = w.isAmbient && !w.asWritten && needsList(body) ? [...body, EMPTY_LIST] : body;
+  const list = w.isAmbient && !w.asWritten && needsList(body, false) ? [...body, EMPTY_LIST] : body;
   w.write(' ');
   at(w, choice.TsModuleBlock, () => inBraces(w, list, span, item));
 }

@@ -32,7 +32,7 @@ function separated(w, list, between, call) {
 }
 
 /** A list in delimiters, each part on a line of its own where it is wide. */
-function listed(w, list, open, close, wide, call) {
+function listed(w, list, open, close, wide, call, last = ',') {
   if (!wide || list.length === 0) {
     w.write(open);
     separated(w, list, ', ', call);
@@ -41,11 +41,11 @@ function listed(w, list, open, close, wide, call) {
   }
   w.write(open);
   w.indented(() => {
-    for (const it of list) {
+    list.forEach((it, place) => {
       w.line();
       call(w, it);
-      w.write(',');
-    }
+      w.write(place + 1 < list.length ? ',' : last);
+    });
   });
   w.line();
   w.write(close);
@@ -161,7 +161,13 @@ function parameters(w, list) {
   const spans = params.map((it) => spanOf(it)).filter((it) => it && it[0]);
   const width = spans.length ? spans[spans.length - 1][1] - spans[0][0] : 0;
   const hasComments = spans.some((it) => w.hasLeading(it[0]));
-  listed(w, params, '(', ')', width > WIDE || hasComments, pattern);
+  listed(w, params, '(', ')', width > WIDE || hasComments, pattern, afterLast(params));
+}
+
+/** What stands after the last of several lines of parameters: no comma may follow a rest. */
+function afterLast(params) {
+  const last = params[params.length - 1];
+  return last && (last.pat || last.Param?.pat || last).Rest ? '' : ',';
 }
 
 /** The range of a parameter, under whatever names. */
@@ -184,7 +190,8 @@ function functionType(w, choice) {
 
 /** The type as a part of one that binds closer: a made tree may lack the parentheses. */
 function closer(w, choice, variants) {
-  const needs = variants.some((it) => it in choice) || (choice.TsUnionOrIntersectionType && variants.includes(Object.keys(choice.TsUnionOrIntersectionType)[0]));
+  const many = choice.TsUnionOrIntersectionType;
+  const needs = variants.some((it) => it in choice) || (many && variants.includes(Object.keys(many)[0]));
   if (needs) w.write('(');
   type(w, choice);
   if (needs) w.write(')');
@@ -538,5 +545,5 @@ function pattern(w, choice) {
 
 module.exports = {
   variantOf, at, isWide, separated, listed, spanOf, quoted, str, ident, name, privateName, literal, template, entity, annotation,
-  typeArguments, typeParameters, parameters, type, indexSignature, memberLines, pattern,
+  typeArguments, typeParameters, parameters, afterLast, type, indexSignature, memberLines, pattern,
 };

@@ -20,7 +20,10 @@ function roundTrip(name, text) {
   if (first.errors.length) return ['refused', first.errors[0].message];
   const printed = print(first.program, first.comments, { asWritten: true });
   const second = toTree(parse(name, printed));
-  if (second.errors.length) return ['printed wrongly', `${second.errors[0].message} in:\n${printed.slice(second.errors[0].offset - 80, second.errors[0].offset + 80)}`];
+  if (second.errors.length) {
+    const { message, offset } = second.errors[0];
+    return ['printed wrongly', `${message} in:\n${printed.slice(Math.max(0, offset - 80), offset + 80)}`];
+  }
   const [before, after] = [shape(first.program), shape(second.program)];
   if (before === after) return null;
   let place = 0;

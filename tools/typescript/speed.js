@@ -3,7 +3,8 @@
 //
 //   node tools/typescript/speed.js [MODULES ..]        (10 50 200 where nothing is given)
 //
-// The program is that of the variable FAST_CHECK, else the launcher's. Each figure is the best of three runs, in seconds.
+// The program is that of the variable FAST_CHECK, else the launcher's. Each figure is the best of three runs, in seconds, with
+// the seconds of processor beside it.
 const childProcess = require('child_process');
 const fs = require('fs');
 const os = require('os');
@@ -76,16 +77,19 @@ function writePackage(folder, count) {
 
 const seconds = (since) => Number(process.hrtime.bigint() - since) / 1e9;
 
-/** The best seconds of some runs of a command, which has to end with status 0. */
+/** The least seconds of some runs of a command, which has to end with status 0, and the least of its processor. */
 function best(words) {
-  let least = Infinity;
+  const least = { seconds: Infinity, processor: Infinity };
   for (let run = 0; run < RUNS; run++) {
     const begun = process.hrtime.bigint();
-    const ran = childProcess.spawnSync(words[0], words.slice(1), { stdio: ['ignore', 'pipe', 'pipe'] });
+    const timed = ['-c', 'TIMEFORMAT="%U %S"; time "$@"', 'bash', ...words];
+    const ran = childProcess.spawnSync('bash', timed, { stdio: ['ignore', 'pipe', 'pipe'], encoding: 'utf8' });
     if (ran.status !== 0) throw new Error(`${words.join(' ')} ended with ${ran.status}: ${ran.stdout}${ran.stderr}`);
-    least = Math.min(least, seconds(begun));
+    least.seconds = Math.min(least.seconds, seconds(begun));
+    const [user, system] = ran.stderr.trim().split('\n').pop().split(' ').map(Number);
+    least.processor = Math.min(least.processor, user + system);
   }
-  return least;
+  return `${least.seconds.toFixed(2)} (processor ${least.processor.toFixed(2)})`;
 }
 
 /** The seconds of each part of one run, in this process. */
@@ -114,7 +118,7 @@ async function measure(count) {
     const check = best([path.join(TOP, 'fast-check-ts'), 'check', folder]);
     const where = Object.entries(await parts(folder)).map(([name, each]) => `${name} ${each.toFixed(2)}`).join(', ');
     const lines = fs.readFileSync(path.join(folder, 'm0.ts'), 'utf8').split('\n').length;
-    console.log(`${count} modules of ${lines} lines: check ${check.toFixed(2)}, tsc --declaration ${tsc.toFixed(2)}; of one run ${where}`);
+    console.log(`${count} modules of ${lines} lines: check ${check}, tsc --declaration ${tsc}; of one run ${where}`);
   } finally {
     fs.rmSync(folder, { recursive: true, force: true });
   }

@@ -372,6 +372,7 @@ function ownTables(module, unresolved = 1) {
 function jsonTables(length) {
   const decl = { range: [1, length + 1], ...BOTH, kind: { Definition: null } };
   return {
+    module_symbol: 0,
     symbols: [
       { id: 0, exports: [['default', 1]] },
       { id: 1, parent_id: 0, maybe_name: 'default', qualified_name: 'default', decls: [decl] },

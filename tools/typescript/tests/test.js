@@ -277,13 +277,18 @@ async function verified() {
   }
 }
 
+/** The tree, the tables and the printer by themselves. */
+async function trees() {
+  for (const [name, body] of require('./trees.js').tests) await test(name, body);
+}
+
 async function all(words) {
   const store = words[0] === '--store';
   const asked = store ? words.slice(1) : words;
   const names = fs.readdirSync(PACKAGES).sort().filter((name) => !asked.length || asked.includes(name));
   await storedPackages(names, store);
   if (store) return;
-  if (!asked.length) for (const part of [() => everyDiagnostic(names), edits, commandLine, programs, pages, verified]) await part();
+  if (!asked.length) for (const part of [trees, () => everyDiagnostic(names), edits, commandLine, programs, pages, verified]) await part();
   console.log(`${passed} passed, ${failed.length} failed`);
   process.exitCode = failed.length ? 1 : 0;
 }
