@@ -133,6 +133,23 @@ module p/s.ts
 
 # three modules: the first re-exports all of both others, and its names are of all kinds
 FOLLOWED = json.load(open(os.path.join(HERE, 'followed.json')))
+# Names that wait together are one set, in which a member that is asked for whole covers what goes below it.
+COVERED = 'a member, what goes below it, which is not asked for by itself, and a missing one'
+COVERED_ANSWER = """
+package @w/p@0.0.0
+  entry point file:///p/ask.ts
+  module file:///p/ask.ts
+    ranges 1-10
+    implementations
+  module file:///p/mod.ts
+    ranges 61-90 65-70
+    implementations
+    not-found-reference at file:///p/mod.ts 61-90 of 0 bytes
+      location: 61 of file:///p/mod.ts, which has 0 bytes
+      snippet: 61 to 90 of 0 bytes: Some("this is the reference")
+      description: Some("this is the reference"), mended: false
+      prints as: could not resolve 'C.prototype.n' referenced from '<unknown>'
+"""
 IMPORTS = [
     ('an export that stands for another file asks that file; a re-export of all is not asked for it', 'mod.ts', 'a'),
     ('below an alias of all exports of a file, a path is one of that file', 'mod.ts', 'b.u'),
@@ -149,7 +166,8 @@ IMPORTS = [
     ('a name behind the second re-export alone', 'mod.ts', 't'),
     ('a name that nobody has: the ranges of both re-exports', 'mod.ts', 'q'),
     ('a missing name of a namespace, and one of a class', 'mod.ts', 'N.y C.s'),
-    ('a member, what goes below it, and a missing one', 'mod.ts', 'C.prototype.m C.prototype.m.x C.prototype.n'),
+    (COVERED, 'mod.ts', 'C.prototype.m C.prototype.m.x C.prototype.n'),
+    ('what goes below a member, and a missing member', 'mod.ts', 'C.prototype.m.x C.prototype.n'),
     ('two names of one class, one of a namespace, and another name', 'mod.ts', 'C.prototype.m C.prototype.n N.x a'),
     ('all names but default', 'mod.ts', '*'),
     ('all names', 'mod.ts', '**'),
@@ -181,6 +199,8 @@ def imports():
         parts['graph']['resolutions'] += FOLLOWED['resolutions']
         parts['aliases'] += FOLLOWED['aliases']
         add(made)
+        if shown == COVERED:
+            CASES[-1]['answer'] = ['world import: ' + shown, *COVERED_ANSWER.strip('\n').splitlines()]
 
 
 # ---- of what is written twice, which one counts

@@ -28,21 +28,38 @@ def repeated(part):
 # ---- a transformer that is called twice, without and with the option that answers the first fault alone
 
 
+# what the range is to the reader, of the kinds that say it
+DESCRIPTIONS = {
+    "missing-explicit-type": "this symbol is missing an explicit type",
+    "missing-explicit-return-type": "this function is missing an explicit return type",
+    "unsupported-super-class-expr": "this is the superclass expression",
+}
+
+
 def shown(fault, text):
     """What is told of a diagnostic that the transform finds."""
     (start, end), size = fault["range"], len(text.encode())
-    description = 'Some("this is the superclass expression")' if fault["code"] == "unsupported-super-class-expr" else "None"
+    said = DESCRIPTIONS.get(fault["code"])
+    description = f'Some("{said}")' if said else "None"
     return [f"    refused: {fault['code']}", f"      location: {start} of {fault['specifier']}, which has {size} bytes",
             f"      snippet: {start} to {end} of {size} bytes: {description}", f"      description: {description}, mended: false",
             f"      prints as: {fault['message']}"]
 
 
-def called(answer, text):
-    """What two calls print."""
+def kept(faults):
+    return "    kept:" + "".join(f" {fault['code']} at {fault['range'][0]}" for fault in faults)
+
+
+def called(answer):
+    """What two calls print without the option: the module, beside which all that is wrong is kept."""
+    return ["    a module", kept(answer.get("Err", ()))] * 2
+
+
+def called_for_first(answer, text):
+    """What two calls print with the option: the first that is wrong in place of the module, and nothing is kept."""
     if "Ok" in answer:
-        return ["    a module", "    kept:"] * 2
-    told = [line for fault in answer["Err"] for line in shown(fault, text)]
-    return (told + ["    kept:" + "".join(f" {fault['code']} at {fault['range'][0]}" for fault in answer["Err"])]) * 2
+        return called(answer)
+    return [*shown(answer["Err"][0], text), kept(())] * 2
 
 
 def transformers(runs):
@@ -57,8 +74,7 @@ def transformers(runs):
     lines = []
     for name in names:
         answer, text = runs[name]
-        first = answer if "Ok" in answer else {"Err": answer["Err"][:1]}
-        lines += [name + ".json", "  all", *called(answer, text), "  the first alone", *called(first, text), ""]
+        lines += [name + ".json", "  all", *called(answer), "  the first alone", *called_for_first(answer, text), ""]
     return {"transformers": "".join(f"{name}.json\n" for name in names)}, "\n".join(lines) + "\n"
 
 
