@@ -6,9 +6,9 @@ variables, functions, classes and interfaces, and with faults. What the program 
 follow, or where who asks first decides what is found, by what the part `worlds` of fast_check_vectors finds, if that is what some account of demands gives
 (`packages`). A workspace that differs from both is written to a file.
 
-Usage: bench/random_builds.py [COUNT [SEED [PROGRAM [FINDER]]]]     both have to be built first: ./fast-check build examples/build_hello.json, and
+Usage: bench/check/random_builds.py [COUNT [SEED [PROGRAM [FINDER]]]]     both have to be built first: ./fast-check build examples/build_hello.json, and
                                                                     `rt run` in crates/fast_check_vectors
-       bench/random_builds.py write FOLDER COUNT SEED       workspaces NAME.json and what must come, NAME.json.stdout
+       bench/check/random_builds.py write FOLDER COUNT SEED       workspaces NAME.json and what must come, NAME.json.stdout
 """
 import json
 import os
@@ -18,6 +18,7 @@ import sys
 import tempfile
 
 sys.dont_write_bytecode = True
+sys.path[:0] = [os.path.join(os.path.dirname(os.path.dirname(os.path.abspath(__file__))), folder) for folder in ("rules", "cases", "check", "time")]
 
 import packages as finders
 from build_cases import part_of
@@ -27,13 +28,12 @@ from module_trees import (
     default_import, default_value, export, export_all, import_, interface, named_export, named_import, property_signature, star_export, star_import,
 )
 from package_worlds import with_ranges
-from programs import built, fast_check
+from programs import TOP, built, fast_check
 from trees import (
     array, class_method, class_stmt, constructor, declarator, default, exported, fn_stmt, hash_prop, lit, name, named, object_, pair, param_prop, prop, ref,
     returned, unexported, var_stmt,
 )
 
-TOP = os.path.dirname(os.path.dirname(os.path.abspath(__file__)))
 NAMES = ["a", "b", "c", "d", "C", "D", "I", "J"]
 
 
