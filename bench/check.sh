@@ -24,7 +24,7 @@ run() {
   printf '%-16s %7s inputs  seed %-6s %5s differ  %5s s\n' "$name" "$count" "$seed" "${differ:-?}" $((SECONDS - began))
   if [ "$ended" -eq 0 ] && [ -n "$differ" ]; then return; fi
   sed 's/^/  /' <<< "$said"
-  if [ -n "$differ" ]; then status=1; elif [ "$status" -eq 0 ]; then status=2; fi
+  if [ "$ended" -eq 1 ] && [ -n "$differ" ]; then status=1; elif [ "$status" -eq 0 ]; then status=2; fi
 }
 
 run random_modules "$count" "$seed" "$program"
