@@ -1,5 +1,5 @@
 #!/usr/bin/python3
-"""Times registry.py on packages of bench/build.py, each a file of its own: on one worker, on four, and on four of which one is killed in the middle.
+"""Times registry.py on packages of bench/time/build.py, each a file of its own: on one worker, on four, and on four of which one is killed in the middle.
 
 The program has to be built (`./fast-check build examples/build_hello.json`), or named by the variable FAST_CHECK.
 
@@ -16,7 +16,7 @@ from pathlib import Path
 
 HERE = Path(__file__).resolve().parent
 sys.dont_write_bytecode = True
-sys.path[:0] = [str(HERE), str(HERE.parent.parent / "bench")]
+sys.path[:0] = [str(HERE), str(HERE.parent.parent / "bench" / "time")]
 os.environ["PYTHONPATH"] = str(HERE)
 os.environ["PYTHONDONTWRITEBYTECODE"] = "1"
 

@@ -5,7 +5,7 @@ For each shape and size it prints the input's megabytes, the program's seconds a
 library of Python (orjson, or json where that isn't there) needs to load and dump the same file, and the ratio of both.
 The program has to be built: run `./fast-check transform examples/first.json` once.
 
-Usage: bench/transform.py [MEGABYTES ..]        (1 2 5 10 20 where none is given)
+Usage: bench/time/transform.py [MEGABYTES ..]        (1 2 5 10 20 where none is given)
 """
 import json
 import os
@@ -16,6 +16,7 @@ import tempfile
 import time
 
 sys.dont_write_bytecode = True
+sys.path[:0] = [os.path.join(os.path.dirname(os.path.dirname(os.path.abspath(__file__))), folder) for folder in ("rules", "cases", "check", "time")]
 
 import class_cases
 import function_cases as cases

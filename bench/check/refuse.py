@@ -1,9 +1,9 @@
 #!/usr/bin/env python3
 """Runs a program with each of its requests for memory refused in turn, and tells which runs do not end as a want of memory has to.
 
-    bench/refuse.py PROGRAM COMMAND FILE
-    bench/refuse.py --and-all-behind PROGRAM COMMAND FILE
-    bench/refuse.py --where NUMBER PROGRAM COMMAND FILE
+    bench/check/refuse.py PROGRAM COMMAND FILE
+    bench/check/refuse.py --and-all-behind PROGRAM COMMAND FILE
+    bench/check/refuse.py --where NUMBER PROGRAM COMMAND FILE
 
 PROGRAM COMMAND FILE is run with its first request refused, then with its second, and so on, two runs at a time, until a run ends before
 the request that it was to be refused. Each run has to end with status 3, the line `error: out of memory`, and nothing on standard output.

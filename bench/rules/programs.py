@@ -1,7 +1,7 @@
-"""Where the built programs stand."""
+"""Where the repository and the built programs stand."""
 import os
 
-TOP = os.path.dirname(os.path.dirname(os.path.abspath(__file__)))
+TOP = os.path.dirname(os.path.dirname(os.path.dirname(os.path.abspath(__file__))))
 
 
 def built(crate):

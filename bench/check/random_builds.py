@@ -4,11 +4,12 @@
 Each has packages of some modules, which import and export names of each other, of modules that are lacking, of JSON and of JavaScript, with public
 variables, functions, classes and interfaces, and with faults. What the program answers has to be what the rules give, byte for byte: by all demands that
 follow, or where who asks first decides what is found, by what the part `worlds` of fast_check_vectors finds, if that is what some account of demands gives
-(`packages`). A workspace that differs from both is written to a file.
+(`packages`). A workspace that differs from both is written to a file. One that needs the finder
+is not judged where that is not built: the status is 2 then.
 
-Usage: bench/random_builds.py [COUNT [SEED [PROGRAM [FINDER]]]]     both have to be built first: ./fast-check build examples/build_hello.json, and
+Usage: bench/check/random_builds.py [COUNT [SEED [PROGRAM [FINDER]]]]     both have to be built first: ./fast-check build examples/build_hello.json, and
                                                                     `rt run` in crates/fast_check_vectors
-       bench/random_builds.py write FOLDER COUNT SEED       workspaces NAME.json and what must come, NAME.json.stdout
+       bench/check/random_builds.py write FOLDER COUNT SEED       workspaces NAME.json and what must come, NAME.json.stdout
 """
 import json
 import os
@@ -18,6 +19,7 @@ import sys
 import tempfile
 
 sys.dont_write_bytecode = True
+sys.path[:0] = [os.path.join(os.path.dirname(os.path.dirname(os.path.abspath(__file__))), folder) for folder in ("rules", "cases", "check", "time")]
 
 import packages as finders
 from build_cases import part_of
@@ -27,13 +29,12 @@ from module_trees import (
     default_import, default_value, export, export_all, import_, interface, named_export, named_import, property_signature, star_export, star_import,
 )
 from package_worlds import with_ranges
-from programs import built, fast_check
+from programs import TOP, built, fast_check
 from trees import (
     array, class_method, class_stmt, constructor, declarator, default, exported, fn_stmt, hash_prop, lit, name, named, object_, pair, param_prop, prop, ref,
     returned, unexported, var_stmt,
 )
 
-TOP = os.path.dirname(os.path.dirname(os.path.abspath(__file__)))
 NAMES = ["a", "b", "c", "d", "C", "D", "I", "J"]
 
 
@@ -185,7 +186,7 @@ def main(words):
     count, seed = int((words + ["1000"])[0]), int((words + ["1", "1"])[1])
     program, finder = (words + ["", "", "", ""])[2:4]
     program, finder = os.path.abspath(program or fast_check()), os.path.abspath(finder or built("fast_check_vectors"))
-    differ, by_others, statuses = 0, 0, {0: 0, 1: 0, 2: 0}
+    differ, by_others, not_judged, statuses = 0, 0, 0, {0: 0, 1: 0, 2: 0}
     for number in range(seed, seed + count):
         world = Writer(number).world()
         expected = told(world.answers(PAGES))
@@ -198,14 +199,16 @@ def main(words):
         if given == expected:
             continue
         by_others += 1
-        if given != told_by(finder, world):
+        if not os.path.exists(finder):
+            not_judged += 1
+        elif given != told_by(finder, world):
             differ += 1
             path = os.path.join(tempfile.gettempdir(), f"build_{number}.json")
             with open(path, "w") as file:
                 json.dump({"request": world.request(), "expected": expected[0], "given": done.stdout or done.stderr}, file, ensure_ascii=False)
             print(f"{number} differs: {path}")
-    print(f"{count} workspaces, {by_others} not by all demands, {differ} differ; of status 0, 1 and 2: {list(statuses.values())}")
-    sys.exit(differ > 0)
+    print(f"{count} workspaces, {by_others} not by all demands, {differ} differ, {not_judged} not judged; of status 0, 1 and 2: {list(statuses.values())}")
+    sys.exit(1 if differ else 2 if not_judged else 0)
 
 
 if __name__ == "__main__":

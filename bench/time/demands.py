@@ -4,10 +4,10 @@
 The closure stands on the rules in words of docs/RULES.md and on nothing of the code: it follows one demand after another
 until nothing new follows, in the order in which they came: who asks first is who is named in a fault.
 
-usage: bench/demands.py write COUNT SEED          a file of cases, as the driver reads it that `bench/driver.sh demands PROGRAM` builds
-       bench/demands.py answer CASES              the cases with what the closure finds, as the driver prints them
-       bench/demands.py compare PRINTED           what the driver printed: each case is searched again, and compared
-       bench/demands.py chain|star|grid COUNT     a module of about COUNT symbols, for a measurement
+usage: bench/time/demands.py write COUNT SEED          a file of cases, as the driver reads it that `bench/time/driver.sh demands PROGRAM` builds
+       bench/time/demands.py answer CASES              the cases with what the closure finds, as the driver prints them
+       bench/time/demands.py compare PRINTED           what the driver printed: each case is searched again, and compared
+       bench/time/demands.py chain|star|grid COUNT     a module of about COUNT symbols, for a measurement
 """
 import random
 import sys

@@ -10,7 +10,7 @@ The program has to be built: run `./fast-check build examples/build_hello.json` 
     faults     packages as above, each with a module that has faults
     hidden     packages as above, of whose modules the entry points ask for two names alone, so that two modules are answered beside each entry point
 
-Usage: bench/build.py [SHAPE ..] [PACKAGES ..] [modules=N] [PROGRAM]        (all shapes, 10 100 1000 and three modules a package where nothing is given)
+Usage: bench/time/build.py [SHAPE ..] [PACKAGES ..] [modules=N] [PROGRAM]        (all shapes, 10 100 1000 and three modules a package where nothing is given)
 """
 import json
 import os
@@ -19,6 +19,7 @@ import sys
 import tempfile
 
 sys.dont_write_bytecode = True
+sys.path[:0] = [os.path.join(os.path.dirname(os.path.dirname(os.path.abspath(__file__))), folder) for folder in ("rules", "cases", "check", "time")]
 
 from build_worlds import Module, World
 from function_cases import ONE, const, func, if_

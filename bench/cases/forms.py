@@ -7,12 +7,12 @@ import json
 import os
 import re
 
+from programs import TOP
 from trees import (
     Source, block, class_, declarator, fn_stmt, form, free, function, ident, lay_as, lit, name as named, paren, returned, run, stmt, thrown, unshared,
     var_stmt,
 )
 
-TOP = os.path.dirname(os.path.dirname(os.path.abspath(__file__)))
 LEVELS = 24
 
 
@@ -204,7 +204,7 @@ def part():
     """All lines, and what they must print."""
     forms_come_back()
     variants_come_back()
-    for group in open(os.path.join(TOP, "bench/form_cases.txt"), encoding="utf-8").read().split("\n\n"):
+    for group in open(os.path.join(TOP, "bench/cases/form_cases.txt"), encoding="utf-8").read().split("\n\n"):
         lines = group.strip("\n").split("\n")
         remark(lines[0].removeprefix("# "))
         for words, answer in zip(lines[1::2], lines[2::2]):

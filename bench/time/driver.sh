@@ -1,11 +1,11 @@
 #!/usr/bin/env bash
-# Builds a driver of bench/drivers/NAME, as PROGRAM: it is made a crate of a scratch copy, and proved over the libraries that are built. The drivers
+# Builds a driver of bench/time/drivers/NAME, as PROGRAM: it is made a crate of a scratch copy, and proved over the libraries that are built. The drivers
 # are no crates of the repository, since all that they show is shown by runs; the benches measure by them. A driver reads the file `cases` where it
 # runs.
-# usage: bench/driver.sh NAME PROGRAM
+# usage: bench/time/driver.sh NAME PROGRAM
 set -eu
 program=$(readlink -f "$2")
-cd "$(dirname "$(readlink -f "${BASH_SOURCE[0]}")")/.."
+cd "$(dirname "$(readlink -f "${BASH_SOURCE[0]}")")/../.."
 case $1 in
   demands) below="anyhow fast_check_syntax fast_check_symbols fast_check_modules fast_check_demands fast_check_search url" ;;
   names) below="fast_check_said fast_check_names" ;;
@@ -24,7 +24,7 @@ for crate in crates/*/; do
   [ ! -d "${crate}out/rlib" ] || cp -a --reflink=auto "${crate}out/rlib" "$scratch/${crate}out"
 done
 mkdir -p "$scratch/crates/driver/src"
-for file in "bench/drivers/$1"/*.rt.txt; do
+for file in "bench/time/drivers/$1"/*.rt.txt; do
   name=${file##*/}
   cp "$file" "$scratch/crates/driver/src/${name%.txt}"
 done

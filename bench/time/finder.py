@@ -10,7 +10,7 @@ difference for each thousand symbols, and the peak memory. The program has to be
     chain      one package whose modules ask for one name each of the next
     star       one package whose entry point exports all of every other module
 
-usage: bench/finder.py [SHAPE PACKAGES MODULES SYMBOLS] [PROGRAM]     modules of a package, and symbols of a module
+usage: bench/time/finder.py [SHAPE PACKAGES MODULES SYMBOLS] [PROGRAM]     modules of a package, and symbols of a module
 """
 import json
 import os
@@ -18,11 +18,12 @@ import sys
 import tempfile
 
 sys.dont_write_bytecode = True
+sys.path[:0] = [os.path.join(os.path.dirname(os.path.dirname(os.path.abspath(__file__))), folder) for folder in ("rules", "cases", "check", "time")]
 
 from package_worlds import request_of
+from programs import built
 
-TOP = os.path.dirname(os.path.dirname(os.path.abspath(__file__)))
-PROGRAM = os.path.join(TOP, 'crates/fast_check_vectors/out/fast_check_vectors')
+PROGRAM = built('fast_check_vectors')
 HOST = 'https://host.example/'
 SIZES = [('packages', 10, 10, 100), ('packages', 100, 10, 100), ('packages', 1000, 10, 10), ('packages', 1000, 10, 100), ('packages', 10, 100, 100),
          ('ring', 1, 100, 100), ('ring', 1, 1000, 100), ('ring', 1, 10000, 10), ('chain', 1, 1000, 100), ('chain', 1, 10000, 10),

@@ -3,11 +3,11 @@
 # each. They are tried in a scratch copy, over the libraries that are built. Prints each edit that was not refused, and a
 # line for each crate; the status is 0 where all were refused. Then mutants/TRIED has the present commit for the crate, if
 # nothing of it differs from that commit.
-# usage: bench/mutants.sh [CRATE..]             without a name: each crate that has a folder in mutants/
-#        bench/mutants.sh --changed [COMMIT]    each of these that changed, or whose edits did, since the commit; without one: since
+# usage: bench/check/mutants.sh [CRATE..]             without a name: each crate that has a folder in mutants/
+#        bench/check/mutants.sh --changed [COMMIT]    each of these that changed, or whose edits did, since the commit; without one: since
 #                                               the one that mutants/TRIED has for it, and each that it has none for
 set -eu
-top=$(cd "$(dirname "$(readlink -f "${BASH_SOURCE[0]}")")/.." && pwd)
+top=$(cd "$(dirname "$(readlink -f "${BASH_SOURCE[0]}")")/../.." && pwd)
 cd "$top"
 
 # The commit at which all edits of a crate were refused.

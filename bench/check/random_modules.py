@@ -5,7 +5,7 @@ Each module has items of all kinds, nested at random, with random public ranges 
 What the program answers has to be what the rules give: the skeleton and its sources, or the diagnostics, under the option the first alone. A module that
 differs is written to a file.
 
-Usage: bench/random_modules.py [COUNT [SEED [PROGRAM]]]       the program has to be built first: ./fast-check transform examples/first.json
+Usage: bench/check/random_modules.py [COUNT [SEED [PROGRAM]]]       the program has to be built first: ./fast-check transform examples/first.json
 """
 import json
 import os
@@ -15,6 +15,7 @@ import sys
 import tempfile
 
 sys.dont_write_bytecode = True
+sys.path[:0] = [os.path.join(os.path.dirname(os.path.dirname(os.path.abspath(__file__))), folder) for folder in ("rules", "cases", "check", "time")]
 
 import programs
 from expando_cases import put

@@ -5,11 +5,11 @@ The rules stand in package_rules.py, in words of docs/RULES.md and by nothing of
 an account of demands gives. Compared is exactly that: whether the program's answer is what some account gives, no more and no
 less, where who asked first may decide between accounts. For most worlds there is one answer, that of all demands; they are counted.
 
-The stated worlds are those of package_cases.py, reference_cases.py and search_cases.py; `bench/vectors.py` writes them with what must come.
+The stated worlds are those of package_cases.py, reference_cases.py and search_cases.py; `bench/cases/vectors.py` writes them with what must come.
 
-usage: bench/packages.py random COUNT SEED      random worlds, as the driver reads them
-       bench/packages.py compare WORLDS PRINTED   what the driver printed for these worlds, compared
-       bench/packages.py run COUNT SEED [PROGRAM]   random worlds, run and compared; else by fast_check_vectors, which was built
+usage: bench/check/packages.py random COUNT SEED      random worlds, as the driver reads them
+       bench/check/packages.py compare WORLDS PRINTED   what the driver printed for these worlds, compared
+       bench/check/packages.py run COUNT SEED [PROGRAM]   random worlds, run and compared; else by fast_check_vectors, which was built
 """
 import json
 import os
@@ -19,14 +19,15 @@ import sys
 import tempfile
 
 sys.dont_write_bytecode = True
+sys.path[:0] = [os.path.join(os.path.dirname(os.path.dirname(os.path.abspath(__file__))), folder) for folder in ("rules", "cases", "check", "time")]
 
 from package_accounts import Closure, mismatch, without_nested
 from package_rules import World, order_of
 from package_worlds import request_of, with_ranges, world_of
+from programs import built
 from random_packages import random_world
 
-TOP = os.path.dirname(os.path.dirname(os.path.abspath(__file__)))
-PROGRAM = os.path.join(TOP, 'crates/fast_check_vectors/out/fast_check_vectors')
+PROGRAM = built('fast_check_vectors')
 
 
 def shown_ranges(name, ranges):
