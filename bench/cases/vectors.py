@@ -3,7 +3,8 @@
 
 Each run stands here as TypeScript with what is public of it and what has to come out. The trees of the sources and of
 the skeletons are laid out by the rules of this script and its modules alone (`trees`, `skeletons`, `runs`, `plain_runs`, `refused_runs`,
-`function_cases`, `new_cases`, `value_cases`, `class_cases`, `module_cases`, `namespace_cases`, `build_cases`, `build_demand_cases`): the program's own output is nowhere taken for right.
+`function_cases`, `new_cases`, `value_cases`, `class_cases`, `module_cases`, `namespace_cases`, `build_cases`, `build_demand_cases`): the
+program's own output is nowhere taken for right.
 
 Usage: bench/cases/vectors.py
 """
