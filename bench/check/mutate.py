@@ -36,7 +36,7 @@ def stored_inputs():
     for path in glob.glob(os.path.join(TOP, "examples/*.json")):
         if not path.endswith(".answer.json"):
             found.add(("build" if "build_" in path else "transform", path))
-    return sorted((command, path) for command, path in found if os.path.getsize(path) < 200_000)
+    return sorted((command, path) for command, path in found if os.path.isfile(path) and os.path.getsize(path) < 200_000)
 
 
 def places(value, found):
