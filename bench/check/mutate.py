@@ -4,7 +4,7 @@
 Each input is one of the stored runs or examples with some of it changed: as text (bytes turned, cut out, doubled, put in), or as JSON (a value replaced
 by another one of the same input or by an extreme one, a member or an item taken away, doubled or renamed). A run breaches where it ends by a
 signal or another status, where it does not write exactly one line to the stream of its status and nothing to the other, where it takes more than
-10 seconds, or where it holds more than 100 bytes for each byte of its input beyond 16 MB. The input of a breach is written to a file, whose name is printed.
+10 seconds, or where 16 MB of address space and 100 bytes for each byte of its input do not suffice (`prlimit`): it ends with status 3 then. The input of a breach is written to a file, whose name is printed.
 
 Usage: bench/check/mutate.py PROGRAM [COUNT [SEED]]
 """
@@ -106,21 +106,21 @@ def mutated(chance, text):
 
 
 def run(program, command, path):
-    """The status of a run, what it wrote to both streams, its seconds, and the bytes that it held at most."""
+    """The status of a run, what it wrote to both streams, and its seconds."""
+    space = FREE + PER_BYTE * os.path.getsize(path)
+    words = ["prlimit", f"--as={space}", "timeout", "-s", "KILL", str(SECONDS), program, command, path]
     with tempfile.TemporaryFile() as out, tempfile.TemporaryFile() as err:
         began = time.monotonic()
-        child = subprocess.Popen(["timeout", "-s", "KILL", str(SECONDS), program, command, path], stdin=subprocess.DEVNULL, stdout=out, stderr=err)
-        _, status, usage = os.wait4(child.pid, 0)
-        child.returncode = status
+        status = subprocess.run(words, stdin=subprocess.DEVNULL, stdout=out, stderr=err).returncode
         seconds = time.monotonic() - began
         out.seek(0)
         err.seek(0)
-        return os.waitstatus_to_exitcode(status), out.read(), err.read(), seconds, usage.ru_maxrss * 1024
+        return status, out.read(), err.read(), seconds
 
 
-def breach(ran, size):
+def breach(ran):
     """What is wrong with a run, or None."""
-    status, out, err, seconds, held = ran
+    status, out, err, seconds = ran
     if seconds > SECONDS:
         return f"{seconds:.1f} seconds"
     if status not in (0, 1, 2):
@@ -129,8 +129,6 @@ def breach(ran, size):
         return f"status 2 with {out[:100]!r} and {err[:100]!r}"
     if status < 2 and (err or out.count(b"\n") != 1 or not out.endswith(b"\n")):
         return f"status {status} with {out.count(10)} lines and {err[:100]!r}"
-    if held > FREE + PER_BYTE * size:
-        return f"{held} bytes held of {size}"
     return None
 
 
@@ -153,7 +151,7 @@ def main(words):
             ran = run(program, command, path)
             slowest = max(slowest, ran[3])
             ends[ran[0], ran[2].decode(errors="replace").strip().removeprefix("error: input refused: ")] += 1
-            wrong = breach(ran, len(text))
+            wrong = breach(ran)
             if wrong:
                 breaches += 1
                 kept = os.path.join(tempfile.gettempdir(), f"breach-{seed}-{number}.json")
