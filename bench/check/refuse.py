@@ -1,14 +1,15 @@
 #!/usr/bin/env python3
 """Runs a program with each of its requests for memory refused in turn, and tells which runs do not end as a want of memory has to.
 
-    bench/check/refuse.py PROGRAM COMMAND FILE
-    bench/check/refuse.py --and-all-behind PROGRAM COMMAND FILE
+    bench/check/refuse.py PROGRAM COMMAND FILE..
     bench/check/refuse.py --where NUMBER PROGRAM COMMAND FILE
 
 PROGRAM COMMAND FILE is run with its first request refused, then with its second, and so on, two runs at a time, until a run ends before
-the request that it was to be refused. Each run has to end with status 3, the line `error: out of memory`, and nothing on standard output.
-The last line says how many requests there are, how many runs were made, and how many differ. A run that answers as if nothing had been
-refused has passed a want of memory over, or has asked again for less: `--and-all-behind` refuses all further requests too.
+the request that it was to be refused; each once with this request refused alone, and once with all from there on. Each run has to end with
+status 3, the line `error: out of memory`, and nothing on standard output.
+A line for each file says how many requests there are, how many runs were made, and how many differ; the lines below it say in what.
+A run that answers as if nothing had been refused has passed a want of memory over, or has asked again for less. The status is 1 where any
+run differs, and where no request was counted: then the program has an allocator of its own, and nothing was tried.
 
 `--where NUMBER` refuses this request alone, and tells which calls it came from, by the names that the program has kept (`nm`).
 
@@ -85,6 +86,7 @@ int posix_memalign(void **made, size_t align, size_t size) {
 }
 """
 WANT = (3, b"", b"error: out of memory\n")
+MODES = {"alone": {}, "and all from there on": {"REFUSE_BEHIND": "1"}}
 
 
 def compile_shim(folder):
@@ -122,28 +124,31 @@ def spans(numbers):
     return ", ".join(found)
 
 
-def refuse_each(shim, words, **more):
-    """Refuses each request in turn. Answers the status to end with."""
-    answer = run(shim, words, 0)[0]
-    differing, numbers, count = collections.defaultdict(list), itertools.count(1), 0
+def each_request(shim, words, **more):
+    """How each run ended, by the number of the request that it was refused, until one ends before; that one is told under 0."""
+    numbers = itertools.count(1)
     with futures.ThreadPoolExecutor(2) as pool:
-        is_met = True
-        while is_met:
+        while True:
             batch = list(itertools.islice(numbers, 64))
             for number, (ended, told) in zip(batch, pool.map(lambda it: run(shim, words, it, **more), batch)):
+                yield number if told else 0, ended
                 if not told:
-                    is_met = False
-                    if ended != answer:
-                        print(f"a run without a refusal differs: {outcome(ended, answer)}")
-                        return 1
-                    break
-                count += 1
-                if ended != WANT:
-                    differing[outcome(ended, answer)].append(number)
-    for what, found in differing.items():
-        print(f"{what}: {len(found)} of the requests, {spans(found)}")
-    print(f"requests={count} runs={count + 2} differing={sum(map(len, differing.values()))}")
-    return 1 if differing else 0
+                    return
+
+
+def refuse_each(shim, words):
+    """Refuses each request of a run in turn, and prints what differs. Answers whether none did."""
+    answer, runs, requests, differing = run(shim, words, 0)[0], 1, 0, collections.defaultdict(list)
+    for how, more in MODES.items():
+        for number, ended in each_request(shim, words, **more):
+            runs, requests = runs + 1, max(requests, number)
+            if ended != (WANT if number else answer):
+                differing[how, outcome(ended, answer)].append(number)
+    print(f"{words[-1]}: requests={requests} runs={runs} differing={sum(map(len, differing.values()))}")
+    for (how, what), found in differing.items():
+        print(f"    {how}: {what}: {len(found)} of the requests, {spans(found)}")
+    sys.stdout.flush()
+    return requests > 0 and not differing
 
 
 def tell_where(shim, words, number):
@@ -159,19 +164,19 @@ def tell_where(shim, words, number):
 
 
 def main():
-    words = sys.argv[1:]
-    option = words[0] if words and words[0].startswith("--") else None
-    if option not in (None, "--and-all-behind", "--where") or len(words) < 3:
+    words, where = sys.argv[1:], None
+    if words[:1] == ["--where"] and words[1:2] and words[1].isdigit():
+        where, words = int(words[1]), words[2:]
+    if len(words) < 3 or words[0].startswith("-") or where is not None and len(words) > 3:
         print(__doc__)
         return 2
     with tempfile.TemporaryDirectory() as folder:
         shim = compile_shim(folder)
-        if option == "--where":
-            tell_where(shim, words[2:], int(words[1]))
+        if where is not None:
+            tell_where(shim, words, where)
             return 0
-        if option:
-            return refuse_each(shim, words[1:], REFUSE_BEHIND="1")
-        return refuse_each(shim, words)
+        refused = [refuse_each(shim, [*words[:2], file]) for file in words[2:]]
+        return 0 if all(refused) else 1
 
 
 if __name__ == "__main__":

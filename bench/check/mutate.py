@@ -1,0 +1,168 @@
+#!/usr/bin/env python3
+"""Mutated inputs of both commands through the program: whatever the bytes are, a run ends by one line with a status of docs/FORMATS.md.
+
+Each input is one of the stored runs or examples with some of it changed: as text (bytes turned, cut out, doubled, put in), or as JSON (a value replaced
+by another one of the same input or by an extreme one, a member or an item taken away, doubled or renamed). A run breaches where it ends by a
+signal or another status, where it does not write exactly one line to the stream of its status and nothing to the other, where it takes more than
+10 seconds, or where 16 MB of address space and 100 bytes for each byte of its input do not suffice (`prlimit`): it ends with status 3 then. The input of a breach is written to a file, whose name is printed.
+
+Usage: bench/check/mutate.py PROGRAM [COUNT [SEED]]
+"""
+import collections
+import copy
+import glob
+import json
+import os
+import random
+import re
+import subprocess
+import sys
+import tempfile
+import time
+
+TOP = os.path.dirname(os.path.dirname(os.path.dirname(os.path.abspath(__file__))))
+DATA = os.path.join(TOP, "crates/fast_check_vectors/data")
+LINES = re.compile(rb"error: input refused: (unreadable|not-json|bad-form|table-fault [1-4]|ranges-not-admitted|invalid-export)\n")
+EXTREMES = [None, True, False, 0, 1, -1, 2**31, 2**32 - 1, 2**32, 2**64 - 1, 2**64, 0.5, "", "\0", "a" * 1000, "\ud7ff\ue000", "__proto__", "http://[",
+            "file:///", "default", "prototype", [], {}, [[]], [0, 0], [5, 3], [2**32 - 1, 0]]
+SECONDS, FREE, PER_BYTE = 10, 16_000_000, 100
+
+
+def stored_inputs():
+    """The files of both commands, with the command of each."""
+    with open(os.path.join(DATA, "cases")) as file:
+        runs = [line.split() for line in file if line.startswith(("transform ", "build "))]
+    found = {(command, os.path.join(DATA, rest[0])) for command, *rest in runs if len(rest) == 1 and rest[0].endswith(".json")}
+    for path in glob.glob(os.path.join(TOP, "examples/*.json")):
+        if not path.endswith(".answer.json"):
+            found.add(("build" if "build_" in path else "transform", path))
+    return sorted((command, path) for command, path in found if os.path.isfile(path) and os.path.getsize(path) < 200_000)
+
+
+def places(value, found):
+    """Each container of a value, with each of its keys."""
+    if isinstance(value, (list, dict)):
+        for key in range(len(value)) if isinstance(value, list) else list(value):
+            found.append((value, key))
+            places(value[key], found)
+    return found
+
+
+def turn_value(chance, value):
+    """Changes one place of a JSON value."""
+    all_places = places(value, [])
+    if not all_places:
+        return
+    within, key = chance.choice(all_places)
+    other, other_key = chance.choice(all_places)
+    how = chance.randrange(6)
+    if how == 0:
+        del within[key]
+    elif how == 1:
+        within[key] = chance.choice(EXTREMES)
+    elif how == 2:
+        within[key] = copy.deepcopy(other[other_key])
+    elif how == 3 and isinstance(within, list):
+        within.insert(key, copy.deepcopy(within[key]))
+    elif how == 4 and isinstance(within, dict) and isinstance(other, dict):
+        within[other_key] = within.pop(key)
+    elif isinstance(within[key], int):
+        within[key] = max(0, within[key] + chance.choice([-2, -1, 1, 2, 1000]))
+    else:
+        within[key] = [copy.deepcopy(within[key])]
+
+
+def turn_bytes(chance, text):
+    """Changes some bytes of a text."""
+    made = bytearray(text)
+    for _ in range(chance.choice([1, 1, 2, 10])):
+        at = chance.randrange(len(made) + 1)
+        to = min(len(made), at + chance.choice([1, 1, 4, 100]))
+        how = chance.randrange(5)
+        if how == 0:
+            made[at:to] = b""
+        elif how == 1:
+            made[at:at] = made[at:to] * chance.choice([1, 2, 50])
+        elif how == 2:
+            made[at:to] = bytes(chance.randrange(256) for _ in range(to - at))
+        elif how == 3:
+            made[at:at] = chance.choice([b"{", b"}", b"[", b"]", b'"', b",", b":", b"\\u0000", b"\\ud800", b"1e9", b"-", b"\xff", b"[" * 200])
+        elif chance.random() < 0.2:
+            del made[at:]
+    return bytes(made)
+
+
+def mutated(chance, text):
+    """A text that has been changed in one of both ways."""
+    if chance.random() < 0.3:
+        return turn_bytes(chance, text)
+    try:
+        value = json.loads(text)
+    except ValueError:
+        return turn_bytes(chance, text)
+    for _ in range(chance.choice([1, 1, 1, 2, 3, 8])):
+        turn_value(chance, value)
+    return json.dumps(value, separators=(",", ":"), ensure_ascii=chance.random() < 0.5).encode("utf-8", "surrogatepass")
+
+
+def run(program, command, path):
+    """The status of a run, what it wrote to both streams, and its seconds."""
+    space = FREE + PER_BYTE * os.path.getsize(path)
+    words = ["prlimit", f"--as={space}", "timeout", "-s", "KILL", str(SECONDS), program, command, path]
+    with tempfile.TemporaryFile() as out, tempfile.TemporaryFile() as err:
+        began = time.monotonic()
+        status = subprocess.run(words, stdin=subprocess.DEVNULL, stdout=out, stderr=err).returncode
+        seconds = time.monotonic() - began
+        out.seek(0)
+        err.seek(0)
+        return status, out.read(), err.read(), seconds
+
+
+def breach(ran):
+    """What is wrong with a run, or None."""
+    status, out, err, seconds = ran
+    if seconds > SECONDS:
+        return f"{seconds:.1f} seconds"
+    if status not in (0, 1, 2):
+        return f"status {status}"
+    if status == 2 and (out or not LINES.fullmatch(err)):
+        return f"status 2 with {out[:100]!r} and {err[:100]!r}"
+    if status < 2 and (err or out.count(b"\n") != 1 or not out.endswith(b"\n")):
+        return f"status {status} with {out.count(10)} lines and {err[:100]!r}"
+    return None
+
+
+def main(words):
+    if not words:
+        print(__doc__)
+        return 2
+    program, count = os.path.abspath(words[0]), int(words[1]) if len(words) > 1 else 1000
+    seed = int(words[2]) if len(words) > 2 else random.randrange(2**32)
+    print(f"seed={seed}", flush=True)
+    chance, inputs, ends, breaches, slowest = random.Random(seed), stored_inputs(), collections.Counter(), 0, 0.0
+    with tempfile.TemporaryDirectory() as folder:
+        for number in range(count):
+            command, path = chance.choice(inputs)
+            with open(path, "rb") as file:
+                text = mutated(chance, file.read())
+            path = os.path.join(folder, "input.json")
+            with open(path, "wb") as file:
+                file.write(text)
+            ran = run(program, command, path)
+            slowest = max(slowest, ran[3])
+            ends[ran[0], ran[2].decode(errors="replace").strip().removeprefix("error: input refused: ")] += 1
+            wrong = breach(ran)
+            if wrong:
+                breaches += 1
+                kept = os.path.join(tempfile.gettempdir(), f"breach-{seed}-{number}.json")
+                with open(kept, "wb") as file:
+                    file.write(text)
+                print(f"{command} {kept}: {wrong}", flush=True)
+    for (status, line), times in sorted(ends.items()):
+        print(f"status {status} {line or 'and an answer'}: {times}")
+    print(f"inputs={count} breaches={breaches} seed={seed} slowest={slowest:.2f}")
+    return 1 if breaches else 0
+
+
+if __name__ == "__main__":
+    sys.exit(main(sys.argv[1:]))

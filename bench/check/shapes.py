@@ -1,0 +1,283 @@
+#!/usr/bin/env python3
+"""Hostile shapes of tables and requests through the program, in three sizes each: does its time grow with the input, or faster?
+
+A line for each shape: the largest number, its megabytes, the status, the processor seconds of the three sizes (each twice the one before), the
+bytes held a byte of the largest, and the exponent by which seconds grow with bytes, fitted to the three. The first size is doubled until a run takes
+a tenth of a second, or the input has 4 MB. An exponent above 1.2 is told, and so is a run that ends by a signal; then the status is 1.
+
+Usage: bench/check/shapes.py PROGRAM [SHAPE ..]
+"""
+import json
+import math
+import os
+import subprocess
+import sys
+import tempfile
+
+HOST = "https://host.example/"
+FIRST, LEAST_SECONDS, MOST_BYTES, MOST_EXPONENT = 500, 0.1, 4_000_000, 1.2
+RANGES = [[1, 9]]
+NO_TEXT = {"media_type": "TypeScript", "text": "", "program": {"Module": {"span": [1, 1], "body": []}}, "comments": {}}
+
+
+def decl(kind, **more):
+    return {"range": [1, 9], "value": True, "type_": True, "kind": kind, **more}
+
+
+def definition(*deps, **flags):
+    return decl({"Definition": {"deps": list(deps), **flags}})
+
+
+def target(name):
+    return decl({"Target": [name, 1]})
+
+
+def part(name, *names):
+    return decl({"QualifiedTarget": [[name, 1], list(names)]})
+
+
+def file_ref(text, name):
+    return decl({"FileRef": {"specifier": text, "name": {"Name": name}}})
+
+
+def symbol(id, *decls, parent=0, name=None, **more):
+    name = name or f"s{id}"
+    return {"id": id, "parent_id": parent, "maybe_name": name, "qualified_name": name, "decls": list(decls), **more}
+
+
+def module(url, symbols, exports, again=(), ids=None, **more):
+    """A module at a URL, with these symbols beside its own, of which those at the top have identifiers."""
+    if ids is None:
+        ids = [[[each["maybe_name"], 1], each["id"]] for each in symbols if each["parent_id"] == 0]
+    return [url, {"Esm": {"specifier": url, "source": NO_TEXT, "module_symbol": 0, "symbols": [{"id": 0, "exports": exports}, *symbols], "swc_ids": ids,
+                          "re_export_all_nodes": [[[1, 9], text] for text in again], "resolved_exports": [[name, url] for name, _ in exports], **more}}]
+
+
+def request(*modules, packages=1, exports=(), versions=(), **more):
+    """A request of `build` with these modules, in which each URL resolves to itself."""
+    texts = {(url, text) for url, part in modules for text in texts_of(part["Esm"])}
+    bases = [[f"@p/p{p}@1.0.0", f"{HOST}{p}/"] for p in range(packages)] + list(versions)
+    return {"graph": {"modules": [[url, {"Js": {"media_type": "TypeScript"}}] for url, _ in modules], "resolutions": [[url, text, text] for url, text in texts],
+                      "packages": [[nv, list(exports) or [[".", "./0.ts"]]] for nv, _ in bases]},
+            "modules": list(modules), "provider": {"fallback": HOST, "packages": bases}, "pending": ["@p/p0@1.0.0"], **more}
+
+
+def texts_of(tables):
+    for _, text in tables["re_export_all_nodes"]:
+        yield text
+    for each in tables["symbols"]:
+        for it in each.get("decls", []):
+            if "FileRef" in it["kind"]:
+                yield it["kind"]["FileRef"]["specifier"]
+
+
+def url(place, package=0):
+    return f"{HOST}{package}/{place}.ts"
+
+
+def single(symbols, exports, **more):
+    return request(module(url(0), symbols, exports, **more))
+
+
+SHAPES = {}
+
+
+def shape(made):
+    SHAPES[made.__name__] = made
+    return made
+
+
+@shape
+def alias_ring(n):
+    return single([symbol(i, target(f"s{i % n + 1}")) for i in range(1, n + 1)], [["s1", 1]])
+
+
+@shape
+def alias_chain(n):
+    return single([symbol(i, target(f"s{i + 1}")) for i in range(1, n)] + [symbol(n, definition())], [["s1", 1]])
+
+
+@shape
+def own_parents(n):
+    return single([symbol(i, definition(is_member=True), parent=i) for i in range(1, n + 1)], [[f"s{i}", i] for i in range(1, n + 1)])
+
+
+@shape
+def again_from_itself(n):
+    return request(module(url(0), [], [], again=[url(0)] * n))
+
+
+@shape
+def again_in_a_ring(n):
+    return request(*(module(url(i), [], [], again=[url((i + 1) % n)]) for i in range(n)))
+
+
+@shape
+def again_of_many(n):
+    return request(module(url(0), [], [], again=[url(i) for i in range(1, n)]), *(module(url(i), [symbol(1, definition())], [["s1", 1]]) for i in range(1, n)))
+
+
+@shape
+def a_long_name(n):
+    return single([symbol(1, definition(), name="a" * 100 * n)], [["a" * 100 * n, 1]])
+
+
+@shape
+def exports_of_a_symbol(n):
+    inside = [symbol(i, definition(), parent=1) for i in range(2, n + 2)]
+    return single([symbol(1, definition(is_ts_namespace=True), exports=[[f"s{i}", i] for i in range(2, n + 2)]), *inside], [["s1", 1]])
+
+
+@shape
+def nested_namespaces(n):
+    inside = [symbol(i, definition(is_ts_namespace=True), parent=i - 1, exports=[[f"s{i + 1}", i + 1]] if i < n else []) for i in range(1, n + 1)]
+    return single(inside, [["s1", 1]])
+
+
+@shape
+def path_of_names(n):
+    return single([symbol(1, part("N", *["N"] * n)), symbol(2, definition(is_ts_namespace=True), name="N", exports=[["N", 2]])], [["s1", 1]])
+
+
+@shape
+def members_of_a_class(n):
+    inside = [symbol(i, definition(is_member=True), parent=1) for i in range(2, n + 2)]
+    return single([symbol(1, definition(is_class=True), members=list(range(2, n + 2))), *inside], [["s1", 1]])
+
+
+@shape
+def members_asked_for(n):
+    inside = [symbol(i, definition(is_member=True), parent=1) for i in range(2, n + 2)]
+    asks = [symbol(i + n, part("s1", "prototype", f"s{i}")) for i in range(2, n + 2)]
+    return single([symbol(1, definition(is_class=True), members=list(range(2, n + 2))), *inside, *asks], [[f"s{i + n}", i + n] for i in range(2, n + 2)])
+
+
+@shape
+def declarations_of_a_symbol(n):
+    return single([symbol(1, *[definition()] * n)], [["s1", 1]])
+
+
+@shape
+def faults_of_references(n):
+    return single([symbol(1, definition(is_ts_namespace=True)), *(symbol(i, part("s1", f"x{i}")) for i in range(2, n + 2))], [[f"s{i}", i] for i in range(2, n + 2)])
+
+
+@shape
+def every_table_fault(n):
+    lost = [symbol(i, parent=10_000_000 + i, exports=[["x", 20_000_000 + i]], members=[30_000_000 + i], is_private_member=True) for i in range(1, n + 1)]
+    return request([url(1), module(url(0), lost, [["x", 40_000_000]])[1]])
+
+
+@shape
+def duplicate_keys(n):
+    own = module(url(0), [symbol(1, definition())], [["s1", 1]] * n, ids=[[["s1", 1], 1]] * n)
+    made = request(own)
+    made["graph"]["modules"] *= n
+    made["graph"]["packages"] *= n
+    made["provider"]["packages"] *= n
+    made["pending"] *= n
+    return {**made, "aliases": [[HOST + "a.ts", url(0)]] * n}
+
+
+@shape
+def entry_points(n):
+    return request(*(module(url(i), [symbol(1, definition())], [["s1", 1]]) for i in range(n)), exports=[[f"./{i}", f"./{i}.ts"] for i in range(n)])
+
+
+@shape
+def versions_of_a_package(n):
+    return request(module(url(0), [], []), versions=[[f"@p/p0@1.0.{i}", f"{HOST}v{i}/"] for i in range(1, n + 1)])
+
+
+@shape
+def versions_by_build_metadata(n):
+    return request(module(url(0), [], []), versions=[[f"@p/p0@1.0.0+{i}", f"{HOST}v{i}/"] for i in range(n)], pending=[f"@p/p0@1.0.0+{i}" for i in range(n)])
+
+
+@shape
+def slashes_at_the_end(n):
+    return request(*(module(f"{HOST}0/0.ts" + "/" * i, [], [], again=[f"{HOST}0/0.ts" + "/" * (i + 1)]) for i in range(max(1, math.isqrt(n)))))
+
+
+@shape
+def workspace_members(n):
+    members = [{"name": f"@w/w{i}", "base": f"{HOST}w{i}/", "version": "1.0.0", "exports": [[".", "./m.ts"]]} for i in range(n)]
+    return request(module(url(0), [], []), workspace_members=members, pending=[f"@w/w{i}@1.0.0" for i in range(n)])
+
+
+@shape
+def names_of_a_module(n):
+    asks = [symbol(i, file_ref(url(1), f"s{i}")) for i in range(1, n + 1)]
+    gives = [symbol(i, definition()) for i in range(1, n + 1)]
+    names = [[f"s{i}", i] for i in range(1, n + 1)]
+    return request(module(url(0), asks, names), module(url(1), gives, names))
+
+
+def packages_by(n, next_of):
+    each = lambda p: module(url(0, p), [symbol(1, file_ref(url(0, next_of(p)), "s1"))], [["s1", 1]])
+    return request(*map(each, range(n)), packages=n)
+
+
+@shape
+def packages_in_a_chain(n):
+    return packages_by(n, lambda p: min(p + 1, n - 1))
+
+
+@shape
+def packages_in_a_ring(n):
+    return packages_by(n, lambda p: (p + 1) % n)
+
+
+@shape
+def two_packages_of_each_other(n):
+    each = lambda i, p: module(url(i, p), [symbol(1, file_ref(url(i + p, 1 - p), "s1"))], [["s1", 1]])
+    return request(*(each(i, p) for i in range(n) for p in (0, 1)), packages=2)
+
+
+def spent(program, made):
+    """The bytes of an input, and the status, the processor seconds and the bytes held of a run on it."""
+    with tempfile.NamedTemporaryFile("w", suffix=".json") as file:
+        json.dump(made, file, separators=(",", ":"))
+        file.flush()
+        child = subprocess.Popen(["timeout", "120", program, "build", file.name], stdout=subprocess.DEVNULL, stderr=subprocess.DEVNULL)
+        _, status, usage = os.wait4(child.pid, 0)
+        child.returncode = os.waitstatus_to_exitcode(status)
+        return os.path.getsize(file.name), child.returncode, usage.ru_utime + usage.ru_stime, usage.ru_maxrss * 1024
+
+
+def exponent(points):
+    """The slope of a line through the logarithms of the points."""
+    xs, ys = [math.log(x) for x, _ in points], [math.log(max(y, 0.001)) for _, y in points]
+    x, y = sum(xs) / len(xs), sum(ys) / len(ys)
+    return sum((a - x) * (b - y) for a, b in zip(xs, ys)) / sum((a - x) ** 2 for a in xs)
+
+
+def measure(program, name):
+    """Prints the line of a shape. Answers whether it grows as it may."""
+    n = FIRST
+    first = spent(program, SHAPES[name](n))
+    while first[2] < LEAST_SECONDS and first[0] < MOST_BYTES and first[1] < 3:
+        n *= 2
+        first = spent(program, SHAPES[name](n))
+    runs = [first] + [spent(program, SHAPES[name](size)) for size in (2 * n, 4 * n)]
+    grows = exponent([(size, seconds) for size, _, seconds, _ in runs])
+    size, _, _, held = runs[-1]
+    is_good = grows <= MOST_EXPONENT and all(status in (0, 1, 2) for _, status, _, _ in runs)
+    statuses = "/".join(str(each) for each in sorted({status for _, status, _, _ in runs}))
+    seconds = " ".join(f"{each:8.2f}" for _, _, each, _ in runs)
+    print(f"{name:28} {4 * n:8} {size / 1e6:8.2f} {statuses:>6} {seconds} {held / size:8.0f} {grows:8.2f}{'' if is_good else '  too much'}", flush=True)
+    return is_good
+
+
+def main(words):
+    if not words or any(word not in SHAPES for word in words[1:]):
+        print(__doc__ + "\nShapes: " + " ".join(SHAPES))
+        return 2
+    print(f"{'shape':28} {'largest':>8} {'MB':>8} {'status':>6} {'seconds':>8} {'twice':>8} {'4 times':>8} {'held':>8} {'exponent':>8}")
+    good = [measure(os.path.abspath(words[0]), name) for name in words[1:] or SHAPES]
+    print(f"shapes={len(good)} above={good.count(False)}")
+    return 0 if all(good) else 1
+
+
+if __name__ == "__main__":
+    sys.exit(main(sys.argv[1:]))
