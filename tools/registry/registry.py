@@ -25,10 +25,13 @@ import threading
 import time
 from pathlib import Path
 
-import dask
-import psutil
-from distributed import Client, LocalCluster, as_completed
-from distributed.scheduler import KilledWorker
+try:
+    import dask
+    import psutil
+    from distributed import Client, LocalCluster, as_completed
+    from distributed.scheduler import KilledWorker
+except ImportError as lacking:
+    sys.exit(f"registry: {lacking.name} is not there for {sys.executable}: apt-get install -y python3-distributed python3-dask")
 
 TOP = Path(__file__).resolve().parent.parent.parent
 # How often a task's memory is looked at, in seconds.
