@@ -1,0 +1,226 @@
+#!/usr/bin/env python3
+"""Which definitions a reader has to believe: those that the contracts of the public calls cite, and what these stand on.
+
+usage: definitions.py                 the chapters, each with its files, definitions and lines beyond the chapters before it
+       definitions.py read CHAPTER    the files of one chapter in an order in which they can be read, with their definitions
+       definitions.py mark            writes the first line of each file of definitions that no public contract reaches
+       definitions.py check           says which files have that line and should not, or the other way round; status 1 if any
+"""
+import re
+import sys
+from functools import cache
+from pathlib import Path
+
+TOP = Path(__file__).resolve().parents[2]
+CRATES = TOP / "crates"
+INNER = "-- Inner: no contract of a public call cites what stands here."
+# The calls whose contracts are the promises, by crate. None: every public function of the crate.
+CHAPTERS = {
+    "transform": {"fast_check_module_transform": ["transform"], "fast_check_transformer": None, "fast_check_skeleton": ["hash_mark"]},
+    "law": {"fast_check_skeleton": ["two_worlds"], "fast_check_transform_pair": None},
+    "account": {"fast_check_build": ["find_public_ranges", "find", "new"]},
+    "build": {"fast_check_build": None, "fast_check_package_answers": None, "fast_check_cache": None, "fast_check_provider": None},
+    "tables": {
+        "fast_check_names": None, "fast_check_traced_modules": None, "fast_check_packages": None, "fast_check_parsed_source": None,
+        "fast_check_diagnostics": None, "fast_check_symbols": None, "fast_check_symbol_tables": None, "fast_check_modules": None,
+        "fast_check_graph": None, "fast_check_comments": None, "fast_check_syntax": None, "fast_check_helpers": None,
+    },
+    "json": {
+        "fast_check_read": None, "fast_check_print": None, "fast_check_read_tables": None, "fast_check_schema": None, "fast_check_places": None,
+    },
+    "program": {"fast_check_commands": None},
+    "forms": {"fast_check_forms": None, "fast_check_ranges": None},
+}
+HEAD = re.compile(r"^(?:(?:abbrev|unfoldable|pub|record|data|partial)\s+)*(?:record\s+|data\s+)?([^\s:({]+)\s*(?:[:({]|$)")
+WORD = re.compile(r"[^\s(){}\[\],.;]+")
+
+
+@cache
+def passed_on(crate):
+    """The names under which a crate passes on the definitions of others."""
+    lib = CRATES / crate / "specs/Lib.antt"
+    text = lib.read_text() if lib.exists() else ""
+    return dict((name, other) for other, name in re.findall(r"^pub use Rattle\.(\w+)\.specs as (\w+)", text, re.M))
+
+
+def file_of(crate, path):
+    """The file that a path below a crate's `specs` names, None where it is no file of definitions of this repository."""
+    parts = path.split(".")
+    while parts and parts[0] in passed_on(crate):
+        crate = passed_on(crate)[parts.pop(0)]
+    file = CRATES / crate / "specs" / ("/".join(parts) + ".antt")
+    return file if parts and file.exists() else None
+
+
+def imported(text):
+    """What the `use` lines of a text bring in: name, then file and the name there. A module that is brought in whole has no name there."""
+    found = {}
+    for crate, path, names in re.findall(r"use Rattle\.(\w+)\.specs\.([\w.]+?)(?:\.\{([^}]*)\})?(?= as|;|\s*$)", text, re.M):
+        file = file_of(crate, path)
+        if not file:
+            continue
+        if not names:
+            found[path.split(".")[-1]] = (file, None)
+        for name in filter(None, (it.strip() for it in names.split(","))):
+            there, _, here = name.partition(" as ")
+            found[here or there] = (file, there)
+    for crate, path, name in re.findall(r"use Rattle\.(\w+)\.specs\.([\w.]+) as (\w+)", text):
+        if file_of(crate, path):
+            found[name] = (file_of(crate, path), None)
+    return found
+
+
+class Definitions:
+    """The definitions of a file: by their names, each with its lines; the lines of the file that hold them; and what it brings in."""
+
+    def __init__(self, file):
+        text = file.read_text()
+        self.file, self.imports, self.lines, self.order = file, imported(text), {}, []
+        name = None
+        for line in text.splitlines():
+            if not line.strip() or line.startswith(("--", "use ", "pub use ", "pub mod ", "mod ")):
+                continue
+            head = HEAD.match(line)
+            if line[0] not in " }" and head and (head[1] not in self.lines) and (":" in line or "record" in line or "data" in line or "module" in line):
+                name = head[1]
+                self.order.append(name)
+                self.lines[name] = []
+            if name:
+                self.lines[name].append(line)
+
+    @cache
+    def inside(self):
+        """Constructors and fields, by the definition that they stand in."""
+        found = {}
+        for name, lines in self.lines.items():
+            for line in lines[1:]:
+                inner = re.match(r"^\s+(?:pub\s+)?([^\s:]+)\s+:", line)
+                if inner:
+                    found.setdefault(inner[1], name)
+        return found
+
+
+@cache
+def definitions(file):
+    return Definitions(file)
+
+
+def named_in(text, here, imports):
+    """The definitions that a text names, as pairs of file and name."""
+    for word in WORD.findall(text):
+        if here and word in here.lines:
+            yield here.file, word
+        elif here and word in here.inside():
+            yield here.file, here.inside()[word]
+        elif word in imports:
+            file, name = imports[word]
+            there = definitions(file)
+            if name is None:
+                for it in there.order:
+                    if re.search(rf"\b{re.escape(word)}\.{re.escape(it)}(?![\w-])", text):
+                        yield file, it
+            elif name in there.lines:
+                yield file, name
+            elif name in there.inside():
+                yield file, there.inside()[name]
+
+
+def contracts(crate, names):
+    """The clauses of public functions, and of the members of public traits and of models, each with what its file brings in."""
+    for file in sorted((CRATES / crate / "src").rglob("*.rt")):
+        text = file.read_text()
+        imports = imported(text)
+        for found in re.finditer(r"^([ ]*)(?:pub )?(?:const )?fn (\w+)(.*?)(?:^\1\{$|;$|\{$)", text, re.M | re.S):
+            if (names is None or found[2] in names) and ("pub fn" in found[0] or found[1]):
+                yield found[3], imports
+        if names is None:
+            for found in re.finditer(r"^\s+ghost \w+ = \{(.*?)\};?$", text, re.M | re.S):
+                yield found[1], imports
+
+
+def reached(calls):
+    """All definitions that the contracts of calls stand on."""
+    waiting, seen = [], set()
+    for crate, names in calls.items():
+        if (CRATES / crate).is_dir():
+            for text, imports in contracts(crate, names):
+                waiting += named_in(text, None, imports)
+    while waiting:
+        it = waiting.pop()
+        if it not in seen:
+            seen.add(it)
+            here = definitions(it[0])
+            waiting += named_in("\n".join(here.lines[it[1]]), here, here.imports)
+    return seen
+
+
+def in_order(found):
+    """Files so that each comes behind those that its definitions stand on, where that can be."""
+    files = sorted({file for file, _ in found})
+    order, done = [], set()
+
+    def add(file):
+        if file in done or file not in files:
+            return
+        done.add(file)
+        for below, _ in sorted({(it[0], "") for it in definitions(file).imports.values()}):
+            add(below)
+        order.append(file)
+
+    for file in files:
+        add(file)
+    return order
+
+
+def size(found):
+    return sum(len(definitions(file).lines[name]) for file, name in found)
+
+
+def chapters():
+    before = set()
+    for chapter, calls in CHAPTERS.items():
+        found = reached(calls) - before
+        before |= found
+        yield chapter, found
+    yield "in all", before
+
+
+def every_file():
+    return [it for it in sorted(CRATES.glob("*/specs/**/*.antt")) if it.name != "Lib.antt" and "out" not in it.parts]
+
+
+def main(words):
+    every = dict(chapters())
+    public = {file for file, _ in every["in all"]}
+    inner = [it for it in every_file() if it not in public]
+    if not words:
+        for chapter, found in every.items():
+            print(f"{chapter:10} {len({f for f, _ in found}):4} files {len(found):5} definitions {size(found):6} lines")
+        whole = sum(len(it.read_text().splitlines()) for it in public)
+        print(f"{len(public)} files of {len(every_file())} are reached, {whole} lines by whole files; {len(inner)} are inner")
+    elif words[0] == "read" and words[1:] and words[1] in every:
+        found = every[words[1]]
+        for file in in_order(found):
+            names = [it for it in definitions(file).order if (file, it) in found]
+            print(f"{file.relative_to(CRATES)}: {size([(file, it) for it in names])} lines: {' '.join(names)}")
+    elif words[0] in ("mark", "check"):
+        wrong = 0
+        for file in every_file():
+            text = file.read_text()
+            is_marked, is_inner = text.startswith(INNER), file in inner
+            if is_marked != is_inner:
+                wrong += 1
+                if words[0] == "mark":
+                    file.write_text(f"{INNER}\n{text}" if is_inner else text.removeprefix(f"{INNER}\n"))
+                else:
+                    print(f"{file.relative_to(TOP)}: {'is inner and does not say so' if is_inner else 'says that it is inner and is not'}")
+        print(f"{len(inner)} of {len(every_file())} files are inner; {wrong} {'changed' if words[0] == 'mark' else 'are wrong'}")
+        return int(words[0] == "check" and wrong > 0)
+    else:
+        print(__doc__, file=sys.stderr)
+        return 2
+    return 0
+
+
+if __name__ == "__main__":
+    sys.exit(main(sys.argv[1:]))
