@@ -3,6 +3,7 @@
 
 usage: definitions.py                 the chapters, each with its files, definitions and lines beyond the chapters before it
        definitions.py read CHAPTER    the files of one chapter in an order in which they can be read, with their definitions
+       definitions.py page            the chapters as docs/PROVED.md has them
        definitions.py mark            writes the first line of each file of definitions that no public contract reaches
        definitions.py check           says which files have that line and should not, or the other way round; status 1 if any
 """
@@ -32,6 +33,7 @@ CHAPTERS = {
     "forms": {"fast_check_forms": None, "fast_check_ranges": None},
 }
 HEAD = re.compile(r"^(?:(?:abbrev|unfoldable|pub|record|data|partial)\s+)*(?:record\s+|data\s+)?([^\s:({]+)\s*(?:[:({]|$)")
+STARTS = re.compile(r":|\brecord\b|\bdata\b")
 WORD = re.compile(r"[^\s(){}\[\],.;]+")
 
 
@@ -76,15 +78,26 @@ class Definitions:
     def __init__(self, file):
         text = file.read_text()
         self.file, self.imports, self.lines, self.order = file, imported(text), {}, []
-        name = None
+        name, depth, module = None, 0, []
         for line in text.splitlines():
-            if not line.strip() or line.startswith(("--", "use ", "pub use ", "pub mod ", "mod ")):
+            if not line.strip() or line.lstrip().startswith("--") or line.startswith(("use ", "pub use ", "pub mod ", "mod ")):
                 continue
-            head = HEAD.match(line)
-            if line[0] not in " }" and head and (head[1] not in self.lines) and (":" in line or "record" in line or "data" in line or "module" in line):
-                name = head[1]
-                self.order.append(name)
-                self.lines[name] = []
+            if line.startswith("module "):
+                name, depth, module = None, 2, [line]
+                continue
+            indent = len(line) - len(line.lstrip())
+            if line.strip() == "mutual":
+                name, depth = None, indent + 2
+                continue
+            if line[0] not in " }":
+                depth, module = 0, []
+            depth = min(depth, indent) if indent % 2 == 0 and indent >= 2 * bool(module) else depth
+            if indent == depth:
+                head = HEAD.match(line.strip())
+                if head and head[1] not in self.lines and STARTS.search(line):
+                    name = head[1]
+                    self.order.append(name)
+                    self.lines[name] = [*module]
             if name:
                 self.lines[name].append(line)
 
@@ -185,6 +198,24 @@ def chapters():
     yield "in all", before
 
 
+def page(every):
+    """The chapters in words: the files that each adds, in an order in which they can be read, with the lines that are reached."""
+    for chapter, found in every.items():
+        forms, rows = [], []
+        for file in in_order(found):
+            lines = size([it for it in found if it[0] == file])
+            if chapter != "in all":
+                (forms if "forms/forms.txt" in file.read_text()[:400] else rows).append((file, lines))
+        crates = dict.fromkeys(file.parts[len(CRATES.parts)] for file, _ in rows)
+        words = [
+            f"`{crate}`: " + ", ".join(f"{file.stem} {lines}" for file, lines in rows if file.parts[len(CRATES.parts)] == crate)
+            for crate in crates
+        ]
+        if forms:
+            words.append(f"{sum(it[1] for it in forms)} lines in {len(forms)} files of forms, written from one table")
+        print(f"- **{chapter}**, {size(found)} lines. " + "; ".join(words) + ".")
+
+
 def every_file():
     return [it for it in sorted(CRATES.glob("*/specs/**/*.antt")) if it.name != "Lib.antt" and "out" not in it.parts]
 
@@ -198,6 +229,8 @@ def main(words):
             print(f"{chapter:10} {len({f for f, _ in found}):4} files {len(found):5} definitions {size(found):6} lines")
         whole = sum(len(it.read_text().splitlines()) for it in public)
         print(f"{len(public)} files of {len(every_file())} are reached, {whole} lines by whole files; {len(inner)} are inner")
+    elif words[0] == "page":
+        page(every)
     elif words[0] == "read" and words[1:] and words[1] in every:
         found = every[words[1]]
         for file in in_order(found):
