@@ -299,6 +299,11 @@ async function verified() {
   }
 }
 
+/** Folders as they come. */
+async function oddFolders() {
+  for (const [name, body] of require('./odd.js').tests({ run, withFolder, same, holds })) await test(name, body);
+}
+
 /** The tree, the tables and the printer by themselves. */
 async function trees() {
   for (const [name, body] of require('./trees.js').tests) await test(name, body);
@@ -313,7 +318,7 @@ async function all(words) {
     return;
   }
   await storedPackages(names);
-  if (!asked.length) for (const part of [trees, () => everyDiagnostic(names), edits, commandLine, programs, pages, verified]) await part();
+  if (!asked.length) for (const part of [trees, () => everyDiagnostic(names), edits, commandLine, oddFolders, programs, pages, verified]) await part();
   const not = names.filter((name) => !isCompared(name));
   if (not.length) console.log(`not compared under TypeScript ${ts.version}: ${not.join(', ')}`);
   console.log(`${passed} passed, ${failed.length} failed`);
