@@ -3,6 +3,7 @@
 const fs = require('fs');
 const path = require('path');
 const { build } = require('./program.js');
+const { readText } = require('./files.js');
 const { inputOf } = require('./input.js');
 const { Lines } = require('./lines.js');
 const { version } = require('./typescript.js');
@@ -26,14 +27,21 @@ function shownName(file, cwd) {
 function codeOf(error) {
   if (error.code) return error.code;
   if (/\.jsonc?$/.test(error.path)) return 'bad-configuration';
-  return fs.existsSync(error.path) && fs.statSync(error.path).isDirectory() ? 'no-entry-point' : 'syntax-error';
+  return !fs.existsSync(error.path) || fs.statSync(error.path).isDirectory() ? 'no-entry-point' : 'syntax-error';
+}
+
+/** The text of a configuration with its lines, of which no module is made. */
+function configSource(error) {
+  if (!error.line || codeOf(error) !== 'bad-configuration') return null;
+  const { text } = readText(error.path);
+  return { text, lines: new Lines(text) };
 }
 
 /** The message for an error of reading, with its place where it has one. */
 function readMessage(error, cwd, sources) {
   const message = { level: 'Error', code: codeOf(error), message: error.message, info: [], hint: error.hint || null };
   if (error.path) message.file = shownName(error.path, cwd);
-  const source = sources.get(error.path);
+  const source = sources.get(error.path) || configSource(error);
   if (!source || !error.line) return message;
   const line = Math.min(error.line, source.lines.starts.length) - 1;
   const start = Math.min(source.lines.starts[line] + Math.max(0, (error.column || 1) - 1), source.text.length);
@@ -95,9 +103,11 @@ function deepMessages(deep, files, cwd) {
 /** The imports that lead to no file of the folder, as messages. */
 function missingMessages(info, files, cwd) {
   const byPath = new Map([...files.values()].map((file) => [file.path, file]));
-  return (info.missing || []).map(({ path: at, offset, text }) => {
+  return (info.missing || []).map(({ path: at, offset, text, isOutside }) => {
     const { lines, specifier } = byPath.get(at);
-    const [message, hint] = [`there is no module '${text}'`, 'give the path of a file that is there'];
+    const [message, hint] = isOutside
+      ? [`the module '${text}' lies outside of the folder`, 'give the path of a file of the package, or name another package']
+      : [`there is no module '${text}'`, 'give the path of a file that is there'];
     const info = ['what is asked of this module is not followed'];
     return { level: 'Warning', code: 'missing-module', message, hint, info, specifier, file: shownName(at, cwd), lines, start: offset, end: offset + text.length + 2 };
   });

@@ -3,26 +3,43 @@
 
 const fs = require('fs');
 const path = require('path');
+const { readText } = require('./files');
+const { LINE_END } = require('./lines');
 const { ts } = require('./typescript');
 
 const NAMES = ['deno.json', 'deno.jsonc', 'jsr.json', 'jsr.jsonc', 'package.json'];
 const USUAL = ['mod.ts', 'index.ts', 'src/index.ts', 'index.d.ts', 'mod.tsx', 'index.tsx', 'src/mod.ts'];
 const CONDITIONS = ['types', 'deno', 'import', 'module', 'node', 'browser', 'default', 'require'];
 
+const isText = (value) => typeof value === 'string';
+const isMap = (value) => value !== null && typeof value === 'object' && !Array.isArray(value);
+const areTexts = (value) => Array.isArray(value) && value.every(isText);
+
+// What the members that are read have to be.
+const WANTED = [
+  ['name', 'a text', isText],
+  ['version', 'a text', isText],
+  ['exports', 'a path or a map', (value) => isText(value) || value === null || typeof value === 'object'],
+  ['imports', 'a map', isMap],
+  ['workspace', 'a list of paths', (value) => areTexts(value) || (isMap(value) && (value.members === undefined || areTexts(value.members)))],
+];
+
 /** A configuration file, which may have comments; null where it is not there. */
 function readConfig(file, errors) {
-  let text;
-  try {
-    text = fs.readFileSync(file, 'utf8');
-  } catch {
-    return null;
-  }
+  const found = fs.statSync(file, { throwIfNoEntry: false });
+  if (!found || !found.isFile()) return null;
+  const { text, wrong } = readText(file);
   const { config, error } = ts.parseConfigFileTextToJson(file, text);
-  if (!error && config && typeof config === 'object') return config;
-  const before = text.slice(0, error ? error.start : 0).split('\n');
-  const message = error ? ts.flattenDiagnosticMessageText(error.messageText, ' ') : 'this is no object';
-  errors.push({ path: file, line: before.length, column: before[before.length - 1].length + 1, message });
-  return null;
+  const refuse = (offset, message) => {
+    const before = text.slice(0, offset).split(LINE_END);
+    errors.push({ path: file, line: before.length, column: before[before.length - 1].length + 1, message });
+    return null;
+  };
+  if (wrong >= 0) return refuse(wrong, 'the file is no UTF-8 from here on');
+  if (!config || typeof config !== 'object' || Array.isArray(config) || text.trimStart().startsWith('[')) return refuse(0, 'this is no object');
+  if (error) return refuse(error.start, ts.flattenDiagnosticMessageText(error.messageText, ' '));
+  const [key, wanted] = WANTED.find(([name, , isRight]) => config[name] !== undefined && !isRight(config[name])) || [];
+  return key === undefined ? config : refuse(Math.max(0, text.indexOf(`"${key}"`)), `\`${key}\` has to be ${wanted}`);
 }
 
 /** All configuration files of a folder in one: of each member that of the first file that has it. */
@@ -87,14 +104,19 @@ function entryPoints(dir, config, given, files, errors) {
   const found = [];
   const missing = [];
   for (const [key, text] of written.flatMap((it) => expanded(dir, it))) {
+    if (path.isAbsolute(text) || path.relative(dir, path.resolve(dir, text)).startsWith('..')) {
+      errors.push({ path: dir, message: `the entry point ${text} lies outside of the package` });
+      continue;
+    }
     const file = files.find(path.resolve(dir, text));
     if (!file) missing.push([key, path.resolve(dir, text), text]);
     else if (!file.endsWith('.json') || given !== undefined) found.push([key, file]);
   }
   if (found.length === 0 && (given === undefined || missing.length === 0)) {
-    const usual = USUAL.find((it) => files.isFile(path.join(dir, it)));
-    if (usual) return [['.', path.join(dir, usual)]];
+    const usual = USUAL.find((it) => files.isFile(path.join(dir, it))) || [config.module, config.main].filter(isText).find((it) => files.find(path.join(dir, it)));
+    if (usual) return [['.', files.find(path.join(dir, usual))]];
   }
+  if (found.length === 0 && errors.some((it) => it.path === dir)) return [];
   if (found.length === 0) {
     for (const [, , text] of missing) errors.push({ path: dir, message: `the entry point ${text} is not there` });
     if (missing.length === 0) errors.push({ path: dir, message: 'no entry point: neither `exports`, nor mod.ts, index.ts or src/index.ts' });
@@ -111,7 +133,8 @@ function membersOf(dir, config) {
     const folder = path.resolve(dir, it.replace(/\/?\*$/, ''));
     if (!it.endsWith('*')) return [folder];
     const inside = fs.existsSync(folder) ? fs.readdirSync(folder, { withFileTypes: true }) : [];
-    return inside.filter((each) => each.isDirectory() && !each.name.startsWith('.')).map((each) => path.join(folder, each.name)).sort();
+    const isMember = (each) => each.isDirectory() && NAMES.some((name) => fs.existsSync(path.join(folder, each.name, name)));
+    return inside.filter(isMember).map((each) => path.join(folder, each.name)).sort();
   });
 }
 
@@ -129,7 +152,10 @@ const VERSION = /^\d+\.\d+\.\d+(-[0-9A-Za-z.-]+)?(\+[0-9A-Za-z.-]+)?$/;
 /** The packages of a folder: itself where it has entry points, and the members of its workspace. */
 function packagesOf(dir, options, files, errors) {
   const config = configOf(dir, errors);
+  if (errors.length) return [];
   const members = options.exports === undefined ? membersOf(dir, config) : [];
+  for (const folder of members) if (!fs.existsSync(folder)) errors.push({ path: folder, message: 'this member of the workspace is not there' });
+  if (errors.length) return [];
   const folders = members.length && config.exports === undefined ? members : [...members, dir];
   return folders.map((folder) => {
     const own = folder === dir ? config : configOf(folder, errors);

@@ -263,15 +263,21 @@ function source(c, node) {
   return { span: c.span(node), value: '' };
 }
 
+/** When an import is evaluated: `import defer`, which compilers read from 5.9 on, or at once. */
+function phaseOf(clause) {
+  return K.DeferKeyword !== undefined && clause && clause.phaseModifier === K.DeferKeyword ? 'defer' : 'evaluation';
+}
+
 function importDeclaration(c, node) {
+  const clause = node.importClause;
   return {
     Import: form({
       span: c.span(node),
-      specifiers: importSpecifiers(c, node.importClause),
+      specifiers: importSpecifiers(c, clause),
       src: source(c, node.moduleSpecifier),
-      type_only: Boolean(node.importClause && node.importClause.isTypeOnly),
+      type_only: Boolean(clause && clause.isTypeOnly),
       with: attributes(c, node),
-      phase: 'evaluation',
+      phase: phaseOf(clause),
     }),
   };
 }

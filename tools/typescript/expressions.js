@@ -102,9 +102,15 @@ function argument(c, node) {
   return { spread: c.range(c.start(node), c.start(node) + 3), expr: expression(c, node.expression) };
 }
 
+/** Whether a node is the `import.defer` of a call, which compilers read from 5.9 on. */
+function isDeferred(node) {
+  return node.kind === K.MetaProperty && node.keywordToken === K.ImportKeyword && node.name.text === 'defer';
+}
+
 function callee(c, node) {
   if (node.kind === K.SuperKeyword) return { Super: { span: c.span(node) } };
   if (node.kind === K.ImportKeyword) return { Import: { span: c.span(node), phase: 'evaluation' } };
+  if (isDeferred(node)) return { Import: { span: c.span(node), phase: 'defer' } };
   return { Expr: expression(c, node) };
 }
 
@@ -247,7 +253,8 @@ function yieldExpression(c, node) {
 }
 
 function metaProperty(c, node) {
-  const kind = node.keywordToken === K.ImportKeyword ? 'import.meta' : 'new.target';
+  const kind = `${node.keywordToken === K.ImportKeyword ? 'import' : 'new'}.${node.name.text}`;
+  if (kind !== 'import.meta' && kind !== 'new.target') return c.unknown(node, `the property \`${kind}\``);
   return { MetaProp: { span: c.span(node), kind } };
 }
 

@@ -3,6 +3,7 @@
 
 const fs = require('fs');
 const path = require('path');
+const { ts } = require('./typescript');
 
 const MEDIA_TYPES = [
   ['.d.ts', 'Dts'], ['.d.mts', 'Dmts'], ['.d.cts', 'Dcts'], ['.ts', 'TypeScript'], ['.mts', 'Mts'], ['.cts', 'Cts'], ['.tsx', 'Tsx'],
@@ -35,6 +36,38 @@ const INSTEAD = [
 ];
 const ADDED = ['.ts', '.tsx', '.d.ts', '.mts', '.cts', '.js', '.jsx', '.mjs', '.json'];
 
+/** What stands at a path; null where there is nothing, as behind links that lead in a circle and names that are too long. */
+function statOf(file) {
+  try {
+    return fs.statSync(file, { throwIfNoEntry: false }) || null;
+  } catch {
+    return null;
+  }
+}
+
+/** Where the text of some bytes is no UTF-8, as an offset in the text that Node makes of them; -1 where it is. */
+function firstWrong(bytes, text) {
+  const again = Buffer.from(text);
+  if (again.equals(bytes)) return -1;
+  let at = 0;
+  while (again[at] === bytes[at]) at += 1;
+  return Math.min(again.subarray(0, at).toString().replace(/\ufffd$/, '').length, text.length);
+}
+
+/** The text of a file without its mark of byte order, and where it is no text (`wrong`, else -1). Beside UTF-8 the compiler reads UTF-16 with its mark. */
+function readText(file) {
+  const bytes = fs.readFileSync(file);
+  const isBig = bytes[0] === 0xfe && bytes[1] === 0xff;
+  if (isBig || (bytes[0] === 0xff && bytes[1] === 0xfe)) {
+    const even = bytes.subarray(2, bytes.length - (bytes.length % 2));
+    return { text: (isBig ? Buffer.from(even).swap16() : even).toString('utf16le'), wrong: -1 };
+  }
+  const text = bytes.toString();
+  const mark = text.startsWith('\ufeff') ? 1 : 0;
+  const wrong = firstWrong(bytes, text);
+  return { text: text.slice(mark), wrong: wrong < 0 ? wrong : wrong - mark };
+}
+
 /** Looks files up, each once. */
 class Files {
   constructor() {
@@ -44,7 +77,7 @@ class Files {
   kind(file) {
     let kind = this.kinds.get(file);
     if (kind === undefined) {
-      const found = fs.statSync(file, { throwIfNoEntry: false });
+      const found = statOf(file);
       kind = !found ? 'none' : found.isDirectory() ? 'folder' : 'file';
       this.kinds.set(file, kind);
     }
@@ -72,23 +105,22 @@ class Files {
   }
 }
 
-const BESIDE = /^\s*(?:\/\/\s*@(?:deno-types|ts-self-types)\s*=\s*|\/\/\/\s*<reference\s+types\s*=\s*)["']?([^"'\s>]+)/;
+const BEFORE_IMPORT = /^\/[/*]\s*@(?:deno-types|ts-types)\s*=\s*["']?([^"'\s*]+)/i;
+const AT_START = /^(?:\/[/*]\s*@(?:ts-self-types|deno-types)\s*=\s*|\/\/\/\s*<reference\s+types\s*=\s*)["']?([^"'\s>*]+)/i;
 
-/** The declaration file that a comment names: `// @deno-types="./a.d.ts"` and the like. */
+/** The declaration file that a comment names for an import: `// @deno-types="./a.d.ts"` or `// @ts-types="./a.d.ts"`. */
 function namedTypes(comment) {
-  const found = BESIDE.exec(comment);
+  const found = BEFORE_IMPORT.exec(comment);
   return found ? found[1] : null;
 }
 
-/** The declaration file that JavaScript names for itself at its start, or null. */
+/** The declaration file that JavaScript names for itself in the comments at its start, or null. */
 function selfTypes(text) {
-  for (const line of text.split('\n', 20)) {
-    if (/^\s*$/.test(line)) continue;
-    if (!/^\s*(\/\/|#!)/.test(line)) return null;
-    const found = namedTypes(line);
-    if (found) return found;
+  for (const { pos, end } of ts.getLeadingCommentRanges(text, 0) || []) {
+    const found = AT_START.exec(text.slice(pos, end));
+    if (found) return found[1];
   }
   return null;
 }
 
-module.exports = { Files, mediaTypeOf, isDeclarationFile, isJavaScript, namedTypes, selfTypes };
+module.exports = { Files, readText, mediaTypeOf, isDeclarationFile, isJavaScript, namedTypes, selfTypes };

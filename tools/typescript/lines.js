@@ -2,13 +2,16 @@
 // Lines and columns of a source text, asked by the program's positions.
 const { Offsets } = require('./offsets.js');
 
+// What ends a line: also a carriage return by itself, as the compiler and editors take it.
+const LINE_END = /\r\n|\n|\r/g;
+
 /** A text with its lines. */
 class Lines {
   constructor(text) {
     this.text = text;
     this.offsets = new Offsets(text);
     this.starts = [0];
-    for (let at = text.indexOf('\n'); at >= 0; at = text.indexOf('\n', at + 1)) this.starts.push(at + 1);
+    for (const found of text.matchAll(LINE_END)) this.starts.push(found.index + found[0].length);
   }
 
   /** The offset in the text, in UTF-16 units, of a position. */
@@ -30,8 +33,7 @@ class Lines {
 
   /** The text of a line, without its end. */
   line(number) {
-    const end = number + 1 < this.starts.length ? this.starts[number + 1] - 1 : this.text.length;
-    return this.text.slice(this.starts[number], end).replace(/\r$/, '');
+    return this.text.slice(this.starts[number], this.starts[number + 1]).replace(/\r?\n$|\r$/, '');
   }
 
   /** The line and column that a reader counts: both from 1, columns in characters. */
@@ -46,6 +48,14 @@ const WIDE = /[\u1100-\u115f\u2e80-\ua4cf\uac00-\ud7a3\uf900-\ufaff\ufe30-\ufe6f
 // Those that take none.
 const NARROW = /[\u0300-\u036f\u200b-\u200d\ufe00-\ufe0f]/u;
 
+// eslint-disable-next-line no-control-regex
+const CONTROL = /[\u0000-\u0008\u000a-\u001f\u007f-\u009f\u2028-\u202e\u2066-\u2069]/g;
+
+/** A text of a source as a terminal may show it: for what would move, colour or turn it stand pictures of one column. Tabs stay. */
+function visible(text) {
+  return text.replace(CONTROL, (each) => (each < ' ' ? String.fromCharCode(0x2400 + each.charCodeAt(0)) : each === '\u007f' ? '\u2421' : '\ufffd'));
+}
+
 /** The columns that a text takes on a terminal; a tab counts as one, and stays a tab where it is padded. */
 function width(text) {
   let columns = 0;
@@ -58,4 +68,4 @@ function blank(text) {
   return [...text].map((each) => (each === '\t' ? '\t' : ' '.repeat(width(each)))).join('');
 }
 
-module.exports = { Lines, blank, width };
+module.exports = { LINE_END, Lines, blank, visible, width };

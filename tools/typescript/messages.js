@@ -1,6 +1,6 @@
 'use strict';
 // Messages as people know them from `deno publish`: code, message, place, a frame of the source, hint, info and page.
-const { blank, width } = require('./lines.js');
+const { blank, visible, width } = require('./lines.js');
 
 // What the range of a diagnostic is to a reader, by its code; of the others nothing is said.
 const REFERENCE = 'this is the reference';
@@ -56,7 +56,7 @@ function frame(lines, start, end, { label, style, paint, margin }) {
       out.push(bar('') + paint('blue', '...'));
       continue;
     }
-    const text = lines.line(line);
+    const text = visible(lines.line(line));
     const { shown, marks } = marked(text, pointed(text, line === from.line ? from.column : -1, line === to.line ? to.column : -1));
     out.push(bar(line + 1) + shown);
     if (line !== from.line && line !== to.line && text.trim() === '') continue;
@@ -72,21 +72,21 @@ function frame(lines, start, end, { label, style, paint, margin }) {
  */
 function format(message, paint) {
   const style = message.level === 'Warning' ? 'yellow' : 'red';
-  const out = [`${paint(style, `${message.level.toLowerCase()}[${message.code}]`)}${paint('bold', `: ${message.message}`)}`];
+  const out = [`${paint(style, `${message.level.toLowerCase()}[${message.code}]`)}${paint('bold', `: ${visible(message.message)}`)}`];
   const hasPlace = message.lines !== undefined;
   const last = hasPlace ? message.lines.place(Math.max(message.start, message.end)).line + 1 : 1;
   const margin = String(last).length;
   const space = ' '.repeat(margin);
   if (hasPlace) {
     const { line, column } = message.lines.shown(message.start);
-    out.push(`${space}${paint('blue', '-->')} ${paint('cyan', message.file)}${paint('plain_yellow', `:${line}:${column}`)}`);
+    out.push(`${space}${paint('blue', '-->')} ${paint('cyan', visible(message.file))}${paint('plain_yellow', `:${line}:${column}`)}`);
     out.push(...frame(message.lines, message.start, message.end, { label: LABELS[message.code], style, paint, margin }));
   } else if (message.file) {
-    out.push(`${space}${paint('blue', '-->')} ${paint('cyan', message.file)}`);
+    out.push(`${space}${paint('blue', '-->')} ${paint('cyan', visible(message.file))}`);
   }
-  if (message.hint) out.push(`${space} ${paint('blue', '=')} ${paint('bold', 'hint')}: ${message.hint}`);
+  if (message.hint) out.push(`${space} ${paint('blue', '=')} ${paint('bold', 'hint')}: ${visible(message.hint)}`);
   out.push('');
-  for (const each of message.info || []) out.push(`  ${paint('blue', 'info')}: ${each}`);
+  for (const each of message.info || []) out.push(`  ${paint('blue', 'info')}: ${visible(each)}`);
   if (message.docs) out.push(`  ${paint('blue', 'docs')}: ${message.docs}`);
   if (out[out.length - 1] !== '') out.push('');
   return out.map((line) => line.trimEnd());

@@ -3,15 +3,20 @@
 
 const fs = require('fs');
 const path = require('path');
-const { Files, mediaTypeOf, isDeclarationFile, isJavaScript, namedTypes, selfTypes } = require('./files');
+const { Files, readText, mediaTypeOf, isDeclarationFile, isJavaScript, namedTypes, selfTypes } = require('./files');
 const { packagesOf } = require('./config');
 const { toTree, parse } = require('./tree');
 const { writeExports } = require('./ambient');
+const { LINE_END } = require('./lines');
 
 /** The URL of a file: its path below the folder that was named. */
 function urlOf(root, file) {
-  const inside = path.relative(root, file).split(path.sep).map(encodeURIComponent).join('/');
-  return `file:///${inside.replace(/%40/g, '@')}`;
+  return `file:///${urlPath(root, file)}`;
+}
+
+/** The path of a file below a folder, as a URL writes it. */
+function urlPath(folder, file) {
+  return path.relative(folder, file).split(path.sep).map(encodeURIComponent).join('/').replace(/%40/g, '@');
 }
 
 function isInside(root, file) {
@@ -22,6 +27,7 @@ function isInside(root, file) {
 class Reader {
   constructor(dir, options) {
     this.root = path.resolve(dir);
+    this.realRoot = fs.realpathSync(this.root);
     this.options = options;
     this.files = new Files();
     this.errors = [];
@@ -40,19 +46,29 @@ class Reader {
     return inside.sort((a, b) => b.dir.length - a.dir.length)[0] || null;
   }
 
+  /** The file behind links, as the compiler finds it, if it lies in the folder; else the file as it is named. */
+  behindLinks(file) {
+    const real = fs.realpathSync(file);
+    return isInside(this.realRoot, real) ? path.join(this.root, path.relative(this.realRoot, real)) : file;
+  }
+
   /** The declaration file of JavaScript, or the file itself. */
   typed(file) {
     if (!isJavaScript(mediaTypeOf(file))) return file;
     const beside = this.files.find(file.replace(/\.jsx$/, '.js'));
     if (beside && isDeclarationFile(mediaTypeOf(beside))) return beside;
-    const named = selfTypes(fs.readFileSync(file, 'utf8'));
+    const named = selfTypes(readText(file).text);
     const found = named && named.startsWith('.') ? this.files.find(path.resolve(path.dirname(file), named)) : null;
     return found || file;
   }
 
   /** The entry points of a package as URLs. */
   entriesOf(it) {
-    return it.exports.map(([key, file]) => [key, this.typed(file)]);
+    return it.exports.map(([key, file]) => {
+      if (!this.files.isFile(file)) return [key, file];
+      const behind = this.behindLinks(file);
+      return [key, this.typed(isInside(it.dir, behind) ? behind : file)];
+    });
   }
 
   /** A bare text that stands for a file of the folder: by the map of imports, or by a package's name. */
@@ -85,7 +101,7 @@ class Reader {
     const wanted = isRelative ? path.resolve(path.dirname(from), text) : this.mapped(from, text);
     if (!wanted) return null;
     const found = this.files.find(wanted);
-    return found && isInside(this.root, found) ? this.typed(found) : null;
+    return found && isInside(this.root, found) ? this.typed(this.behindLinks(found)) : null;
   }
 
   follow(module, source) {
@@ -94,7 +110,8 @@ class Reader {
       this.resolutions.push([module.specifier, source.text, urlOf(this.root, file)]);
       this.waiting.push(file);
     } else if (/^\.{1,2}(\/|$)/.test(source.text)) {
-      this.missing.push({ path: module.path, offset: source.offset, text: source.text });
+      const outside = this.files.find(path.resolve(path.dirname(module.path), source.text));
+      this.missing.push({ path: module.path, offset: source.offset, text: source.text, isOutside: outside !== null });
     } else {
       const specifier = /^[a-z]+:/.test(source.text) ? source.text : `npm:${source.text}`;
       this.externals.set(source.text, specifier);
@@ -104,7 +121,7 @@ class Reader {
 
   /** An error at a place of a text. */
   errorAt(file, text, { offset, message }) {
-    const before = text.slice(0, offset).split('\n');
+    const before = text.slice(0, offset).split(LINE_END);
     this.errors.push({ path: file, line: before.length, column: before[before.length - 1].length + 1, message });
   }
 
@@ -129,7 +146,8 @@ class Reader {
     const specifier = urlOf(this.root, file);
     if (this.modules.has(specifier) || this.scripts.has(specifier) || this.jsonModules.has(specifier)) return;
     const mediaType = mediaTypeOf(file);
-    const text = fs.readFileSync(file, 'utf8').replace(/^\ufeff/, '');
+    const { text, wrong } = readText(file);
+    if (wrong >= 0 && mediaType !== 'Unknown') this.errorAt(file, text, { offset: wrong, message: 'the file is no UTF-8 from here on' });
     if (mediaType === 'Json') this.jsonModules.set(specifier, { specifier, path: file, text });
     else if (isJavaScript(mediaType)) this.scripts.set(specifier, { specifier, path: file, mediaType, text });
     else if (mediaType !== 'Unknown') this.readModule(file, mediaType, text);
@@ -155,7 +173,7 @@ function readPackage(dir, options = {}) {
     name: it.name,
     version: it.version,
     dir: it.dir,
-    exports: reader.entriesOf(it).map(([key, file]) => [key, `./${path.relative(it.dir, file).split(path.sep).join('/')}`]),
+    exports: reader.entriesOf(it).map(([key, file]) => [key, `./${urlPath(it.dir, file)}`]),
     entryPoints: reader.entriesOf(it).map(([, file]) => urlOf(reader.root, file)),
     url: it.dir === reader.root ? 'file:///' : `${urlOf(reader.root, it.dir)}/`,
   }));

@@ -110,7 +110,7 @@ function member(w, node, optional) {
 
 function callee(w, choice) {
   if (choice.Super) at(w, choice.Super, () => w.write('super'));
-  else if (choice.Import) at(w, choice.Import, () => w.write('import'));
+  else if (choice.Import) at(w, choice.Import, () => w.write(choice.Import.phase === 'defer' ? 'import.defer' : 'import'));
   else expression(w, choice.Expr);
 }
 

@@ -4,9 +4,12 @@
 const t = require('./print_types');
 const e = require('./print_expressions');
 const { needsList } = require('./ambient');
+const { isFrom } = require('./typescript');
 
 const { at, variantOf } = t;
 const { expression } = e;
+// The word before the attributes of an import, as the compiler at hand reads it.
+const ATTRIBUTES = isFrom(5, 3) ? 'with' : 'assert';
 
 // ---- statements
 
@@ -461,7 +464,7 @@ function fromSource(w, node) {
     t.str(w, node.src);
   }
   if (node.with) {
-    w.write(' assert ');
+    w.write(` ${ATTRIBUTES} `);
     expression(w, { Object: node.with });
   }
   w.write(';');
@@ -497,6 +500,7 @@ function namedList(w, list, node) {
 function importDeclaration(w, node) {
   w.write('import ');
   if (node.type_only) w.write('type ');
+  if (node.phase === 'defer') w.write('defer ');
   const list = node.specifiers || [];
   if (list.length === 0) {
     t.str(w, node.src);

@@ -19,9 +19,13 @@ function loadTypeScript() {
 }
 
 const ts = loadTypeScript();
-const [major, minor] = ts.version.split('.').map(Number);
-if (major < 4 || (major === 4 && minor < 8)) {
-  throw new Error(`TypeScript ${ts.version} is too old: 4.8 or newer is needed`);
+const [MAJOR, MINOR] = ts.version.split('.').map(Number);
+
+/** Whether the compiler is of this version or a newer one. */
+function isFrom(major, minor) {
+  return MAJOR > major || (MAJOR === major && MINOR >= minor);
 }
 
-module.exports = { ts, version: ts.version };
+if (!isFrom(4, 8)) throw new Error(`TypeScript ${ts.version} is too old: 4.8 or newer is needed`);
+
+module.exports = { ts, version: ts.version, isFrom };

@@ -5,14 +5,16 @@ const fs = require('fs');
 const os = require('os');
 const path = require('path');
 const { main } = require('../cli.js');
-const { ts } = require('../typescript.js');
+const { ts, isFrom } = require('../typescript.js');
 
 const PACKAGES = path.join(__dirname, 'packages');
 const EXPECTED = path.join(__dirname, 'expected');
 const LAUNCHER = path.resolve(__dirname, '../../../fast-check-ts');
-// Packages with forms that TypeScript 4.8 does not read: what it says instead is stored, and compared under that version alone.
-const NEWER = ['using', 'quoted-names', 'newer-forms'];
-const IS_OLD = ts.version.startsWith('4.');
+// Packages with forms that TypeScript 4.8 does not read. What it says instead is stored, and what a compiler says that reads them all, which
+// is compared by those alone (newest.sh fetches one).
+const NEWER = ['using', 'quoted-names', 'newer-forms', 'newer-classes', 'newer-modules'];
+const READS_ALL = isFrom(5, 9);
+const READS_NONE = !isFrom(4, 9);
 
 let passed = 0;
 const failed = [];
@@ -43,7 +45,8 @@ async function test(name, body) {
 function same(got, wanted, what) {
   if (got === wanted) return;
   const [a, b] = [String(got).split('\n'), String(wanted).split('\n')];
-  const at = a.findIndex((line, each) => line !== b[each]);
+  let at = 0;
+  while (a[at] === b[at]) at++;
   throw new Error(`${what || 'it'} differs in line ${at + 1}:\n- ${b[at]}\n+ ${a[at]}`);
 }
 
@@ -57,7 +60,7 @@ function holds(value, what) {
  * what can be written instead, what the compiler finds in the skeletons too. */
 async function said(name) {
   const parts = [];
-  const commands = [['check'], ['skeleton'], ...(/^(apart|instead)-/.test(name) && IS_OLD ? [['check', '--verify']] : [])];
+  const commands = [['check'], ['skeleton'], ...(/^(apart|instead)-/.test(name) ? [['check', '--verify']] : [])];
   for (const words of commands) {
     const { status, out, err: told } = await run([...words, '.'], { cwd: path.join(PACKAGES, name) });
     const err = told.replace(ts.version, 'VERSION');
@@ -67,24 +70,43 @@ async function said(name) {
 }
 
 function expectedOf(name) {
-  return path.join(EXPECTED, `${name}.txt`);
+  return path.join(EXPECTED, ...(READS_ALL && NEWER.includes(name) ? ['newer'] : []), `${name}.txt`);
 }
 
-async function storedPackages(names, store) {
-  for (const name of names) {
-    if (!IS_OLD && NEWER.includes(name)) continue;
+function readOr(file, otherwise) {
+  return fs.existsSync(file) ? fs.readFileSync(file, 'utf8') : otherwise;
+}
+
+/** Whether what is stored of a package is what the compiler at hand says. */
+function isCompared(name) {
+  return READS_ALL || READS_NONE || !NEWER.includes(name);
+}
+
+async function storedPackages(names) {
+  for (const name of names.filter(isCompared)) {
     const file = expectedOf(name);
-    if (store) {
-      fs.mkdirSync(EXPECTED, { recursive: true });
-      fs.writeFileSync(file, await said(name));
-      continue;
-    }
-    await test(`package ${name}`, async () => same(await said(name), fs.existsSync(file) ? fs.readFileSync(file, 'utf8') : '(nothing is stored)', file));
+    await test(`package ${name}`, async () => same(await said(name), readOr(file, '(nothing is stored)'), file));
   }
 }
 
-/** The diagnostics that a package can have, but for that of `using`, which TypeScript 4.8 does not read. */
+/** Stores what comes as what is expected, and names the files that it changed. */
+async function store(names) {
+  let changed = 0;
+  for (const name of names.filter(isCompared)) {
+    const file = expectedOf(name);
+    const [before, now] = [readOr(file, null), await said(name)];
+    if (before === now) continue;
+    changed++;
+    fs.mkdirSync(path.dirname(file), { recursive: true });
+    fs.writeFileSync(file, now);
+    console.log(`${before === null ? 'new' : 'changed'} ${path.relative(process.cwd(), file)}`);
+  }
+  console.log(`${changed} of ${names.length} packages changed`);
+}
+
+/** The diagnostics that a package can have. */
 const CODES = [
+  ...(READS_ALL ? ['unsupported-using'] : []),
   'not-found-reference', 'missing-explicit-type', 'missing-explicit-return-type', 'unsupported-ambient-module', 'unsupported-complex-reference',
   'unsupported-default-export-expr', 'unsupported-destructuring', 'unsupported-expando-property', 'unsupported-global-module', 'unsupported-require',
   'unsupported-private-member-reference', 'unsupported-super-class-expr', 'unsupported-ts-export-assignment', 'unsupported-ts-namespace-export',
@@ -277,18 +299,28 @@ async function verified() {
   }
 }
 
+/** Folders as they come. */
+async function oddFolders() {
+  for (const [name, body] of require('./odd.js').tests({ run, withFolder, same, holds })) await test(name, body);
+}
+
 /** The tree, the tables and the printer by themselves. */
 async function trees() {
   for (const [name, body] of require('./trees.js').tests) await test(name, body);
 }
 
 async function all(words) {
-  const store = words[0] === '--store';
-  const asked = store ? words.slice(1) : words;
+  const isStoring = words[0] === '--store';
+  const asked = isStoring ? words.slice(1) : words;
   const names = fs.readdirSync(PACKAGES).sort().filter((name) => !asked.length || asked.includes(name));
-  await storedPackages(names, store);
-  if (store) return;
-  if (!asked.length) for (const part of [trees, () => everyDiagnostic(names), edits, commandLine, programs, pages, verified]) await part();
+  if (isStoring) {
+    await store(names);
+    return;
+  }
+  await storedPackages(names);
+  if (!asked.length) for (const part of [trees, () => everyDiagnostic(names), edits, commandLine, oddFolders, programs, pages, verified]) await part();
+  const not = names.filter((name) => !isCompared(name));
+  if (not.length) console.log(`not compared under TypeScript ${ts.version}: ${not.join(', ')}`);
   console.log(`${passed} passed, ${failed.length} failed`);
   process.exitCode = failed.length ? 1 : 0;
 }

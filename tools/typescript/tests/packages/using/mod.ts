@@ -3,3 +3,6 @@ export { handle };
 function open(): Disposable {
   return {} as never;
 }
+export class Cell {
+  accessor untyped = open();
+}

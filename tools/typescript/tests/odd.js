@@ -1,0 +1,73 @@
+'use strict';
+// Folders as they come: bytes that are no text, odd names, links, configurations that say something else, entry points that lead elsewhere.
+const fs = require('fs');
+const path = require('path');
+
+const CONFIG = '{ "name": "@test/odd", "version": "1.0.0", "exports": "./mod.ts" }';
+const UNTYPED = 'export function f() { return Math.max(1); }\n';
+
+/** Each has a name, the files of a folder, the status of `check`, and what has to be told, or may not be told where a `!` stands before it. */
+const FOLDERS = [
+  ['a mark of byte order', { 'deno.json': `\ufeff${CONFIG}`, 'mod.ts': `\ufeff${UNTYPED}` }, 1, ['mod.ts:1:17', '|                 ^ this']],
+  ['lines that end with both', { 'mod.ts': `// one\r\n\t${UNTYPED}` }, 1, ['mod.ts:2:18', '| \t                ^ this']],
+  ['lines that end with a return alone', { 'mod.ts': `export const a: number = 1;\r${UNTYPED}` }, 1, ['mod.ts:2:17', '| export function f']],
+  ['UTF-16', { 'mod.ts': Buffer.from(`\ufeff${UNTYPED}`, 'utf16le') }, 1, ['mod.ts:1:17']],
+  ['bytes that are no text', { 'mod.ts': Buffer.from('export const a = 1;\nexport const b = "\xe9";\n', 'latin1') }, 2, ['the file is no UTF-8', 'mod.ts:2:19']],
+  ['a configuration that is no text', { 'deno.json': Buffer.from('{ "name": "\xff" }', 'latin1'), 'mod.ts': '' }, 2, ['bad-configuration', 'deno.json:1:12']],
+  ['characters that move a terminal', { 'mod.ts': UNTYPED.replace('()', '(a = "\x1b[2J\x07\u202e")') }, 1, ['\u241b[2J\u2407\ufffd', '!\x1b', '!\u202e']],
+  ['wide characters before the place', { 'mod.ts': 'export const a: string = "日本😀", b = f(); function f() {}\n' }, 1, ['mod.ts:1:33', `|${' '.repeat(36)}^ this`]],
+  ['names that a URL writes otherwise', { 'a b#c%20?/é.ts': 'export const q: 1 = 1;', 'mod.ts': 'export * from "./a b#c%20?/é.ts";' }, 0, ['2 files, 2 public']],
+  ['an entry point with such a name', { 'deno.json': CONFIG.replace('mod.ts', 'a b#%2e?.ts'), 'a b#%2e?.ts': UNTYPED }, 1, ['a b#%2e?.ts:1:17']],
+  ['a line break in a name', { 'deno.json': CONFIG.replace('mod.ts', 'a\\nb.ts'), 'a\nb.ts': UNTYPED }, 1, ['a\u240ab.ts:1:17', '!a\nb']],
+  ['names that objects have', { '__proto__.ts': 'export const toString: 1 = 1;', 'mod.ts': 'export * from "./__proto__.ts"; export class constructor {} export const __proto__: 1 = 1;' }, 0, ['2 public']],
+  ['a link in a circle', { 'mod.ts': { linkTo: 'mod.ts' } }, 2, ['the entry point ./mod.ts is not there']],
+  ['a folder that has itself', { 'mod.ts': 'export * from "./self/self/mod.ts"; export const a: 1 = 1;', self: { linkTo: '.' } }, 0, ['1 file, 1 public']],
+  ['two names of a file', { 'mod.ts': 'export * from "./a.ts"; export * from "./b.ts";', 'a.ts': 'export const a: 1 = 1;', 'b.ts': { linkTo: 'a.ts' } }, 0, ['2 files, 2 public']],
+  ['a folder in the place of a file', { 'mod.ts/a.ts': '' }, 2, ['the entry point ./mod.ts is not there']],
+  ['nothing at all', { 'deno.json': null }, 2, ['no entry point']],
+  ['an empty file', { 'mod.ts': '' }, 0, ['1 public module']],
+  ['an entry point elsewhere', { 'deno.json': CONFIG.replace('./mod.ts', '../mod.ts') }, 2, ['the entry point ../mod.ts lies outside of the package']],
+  ['an entry point of the machine', { 'deno.json': CONFIG.replace('./mod.ts', '/etc/passwd') }, 2, ['the entry point /etc/passwd lies outside']],
+  ['an entry point of JavaScript that is not there', { 'deno.json': CONFIG.replace('mod.ts', 'mod.js') }, 2, ['the entry point ./mod.js is not there']],
+  ['a module elsewhere', { 'mod.ts': 'export * from "../../../../../etc/passwd";' }, 1, ["the module '../../../../../etc/passwd' lies outside of the folder"]],
+  ['a configuration that breaks off', { 'deno.json': '{ "name": "a",\n "exports": }' }, 2, ['bad-configuration', 'deno.json:2:13', '|             ^']],
+  ['a configuration that is a list', { 'deno.json': '[]', 'mod.ts': '' }, 2, ['this is no object', '!tsconfig']],
+  ['a name that is a number', { 'deno.json': '{\n  "name": 1 }', 'mod.ts': '' }, 2, ['`name` has to be a text', 'deno.json:2:3', '!no-entry-point']],
+  ['exports that are a number', { 'deno.json': '{ "exports": 5 }', 'mod.ts': '' }, 2, ['`exports` has to be a path or a map']],
+  ['a workspace of numbers', { 'deno.json': '{ "workspace": [1] }', 'mod.ts': '' }, 2, ['`workspace` has to be a list of paths']],
+  ['a member that is not there', { 'deno.json': '{ "workspace": ["./a"] }' }, 2, ['this member of the workspace is not there', 'no-entry-point']],
+  ['members by a star', { 'deno.json': '{ "workspace": ["./*"] }', 'a/deno.json': CONFIG, 'a/mod.ts': 'export {};', 'docs/page.txt': '' }, 0, ['1 file, 1 public']],
+  ['conditions', {
+    'deno.json': null,
+    'package.json': '{ "name": "a", "exports": { ".": { "require": { "types": "./r.d.cts" }, "import": { "types": "./i.d.mts", "default": "./i.mjs" } }, "./none/*": null } }',
+    'i.d.mts': 'export declare const a: 1;', 'i.mjs': '', 'r.d.cts': 'export declare const b = f();',
+  }, 0, ['1 file, 1 public']],
+  ['a main module alone', { 'deno.json': null, 'package.json': '{ "main": "./lib/a.js" }', 'lib/a.js': '', 'lib/a.d.ts': 'export declare const a: 1;' }, 0, ['1 file, 1 public']],
+  ['types that JavaScript names in a block', { 'mod.ts': 'export * from "./a.js";', 'a.js': '/* @ts-self-types="./b.d.ts" */\n', 'b.d.ts': 'export declare const a: 1;' }, 0, ['2 files, 2 public']],
+  ['types of an import', { 'mod.ts': '// @ts-types="./b.d.ts"\nexport * from "./a.js";', 'a.js': '', 'b.d.ts': 'export declare const a: 1;' }, 0, ['2 files, 2 public']],
+  ['a character that no line has', { 'mod.ts': 'export const a: 1 = 1;\x00\n' }, 2, ['Invalid character', '\u2400']],
+];
+
+function write(folder, files) {
+  for (const [name, content] of Object.entries({ 'deno.json': CONFIG, ...files })) {
+    if (content === null) continue;
+    const file = path.join(folder, name);
+    fs.mkdirSync(path.dirname(file), { recursive: true });
+    if (content.linkTo) fs.symlinkSync(content.linkTo, file);
+    else fs.writeFileSync(file, content);
+  }
+}
+
+/** The tests: a name and a call that throws where it fails. `tools` runs the command line, and makes folders. */
+function tests({ run, withFolder, same, holds }) {
+  const checked = ([name, files, wanted, told]) => [`a folder with ${name}`, () => withFolder(async (folder) => {
+    write(folder, files);
+    const { status, out, err } = await run(['check', '.'], { cwd: folder });
+    const text = out + err;
+    for (const each of told) holds(each[0] === '!' ? !text.includes(each.slice(1)) : text.includes(each), `${JSON.stringify(each)} and this was told:\n${text}`);
+    same(status, wanted, `the status of\n${text}\nthat`);
+  })];
+  return FOLDERS.map(checked);
+}
+
+module.exports = { tests, write };

@@ -1,0 +1,3 @@
+export const plain = "a" satisfies string;
+const two = plain;
+export { two as "two words" };

@@ -1,0 +1,5 @@
+export interface Shown {
+  name: string;
+}
+class Hidden {}
+export { Hidden as Kept };
