@@ -6,6 +6,7 @@ The worlds are answered by `package_rules`, forms by `forms`, and the calls of a
 import json
 import os
 
+import cache_cases
 import forms
 import packages
 import search_cases  # which adds to the worlds, as reference_cases does
@@ -94,5 +95,5 @@ def worlds():
 def parts(runs):
     """For each part, in order, its files and what it prints."""
     made, printed = forms.part()
-    return [({}, stated("example")), ({"forms": made}, printed), repeated("names"), repeated("places"), ({}, stated("unfound")), ({}, stated("faults")), worlds(),
+    return [({}, stated("example")), cache_cases.part(), ({"forms": made}, printed), repeated("names"), repeated("places"), ({}, stated("unfound")), ({}, stated("faults")), worlds(),
             transformers(runs)]
