@@ -2,7 +2,7 @@
 
 ghost use Rattle.std.specs.Prelude.{◌≡◌, option_map, IfOk, OnOk, OnErr};
 ghost use Rattle.fast_check_cache.specs.Cache.{item_of, with_item};
-ghost use Rattle.fast_check_cache_cases.specs.Memory.{items_at};
+ghost use Rattle.fast_check_cache_cases.specs.Memory.{items_at, HasNothing};
 
 use fast_check_cache::{FastCheckCacheItem, FastCheckCacheKey};
 use std::alloc::{AllocError, Global};
@@ -16,7 +16,9 @@ pub struct Items {
 
 impl Items {
     /// No items.
-    pub fn new(alloc: Global) -> Items {
+    pub fn new(alloc: Global) -> Items
+        ensures { HasNothing result }
+    {
         Items {
             by_hash: BTreeMap::new(alloc),
         }

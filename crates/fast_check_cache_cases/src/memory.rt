@@ -1,7 +1,7 @@
 //! Caches in memory, as a caller lends them: one with the seed of the rules, and one with a seed of its own.
 
 ghost use Rattle.std.specs.Prelude.{◌≡◌, codes};
-ghost use Rattle.fast_check_cache_cases.specs.Memory.{items_at};
+ghost use Rattle.fast_check_cache_cases.specs.Memory.{items_at, HasNothing};
 ghost use Rattle.fast_check_cache_cases.specs.Hash.{hash_package};
 
 use crate::hash::package_hash;
@@ -20,7 +20,9 @@ pub struct MemoryCache {
 
 impl MemoryCache {
     /// An empty cache.
-    pub fn new(alloc: Global) -> MemoryCache {
+    pub fn new(alloc: Global) -> MemoryCache
+        ensures { HasNothing result.items }
+    {
         MemoryCache {
             items: Items::new(alloc),
         }
@@ -56,7 +58,10 @@ pub struct SeededCache {
 
 impl SeededCache {
     /// An empty cache.
-    pub fn new(alloc: Global, seed: &'static str) -> SeededCache {
+    pub fn new(alloc: Global, seed: &'static str) -> SeededCache
+        ensures items { HasNothing result.items }
+        ensures seed { result.seed.now ≡ seed.now }
+    {
         SeededCache {
             seed,
             items: Items::new(alloc),
