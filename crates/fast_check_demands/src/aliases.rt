@@ -1,14 +1,13 @@
 ghost use Rattle.std.specs.Prelude.{◌≡◌, ◌∷◌, [], ◌++◌, OnOk, cond, string_bytes};
 ghost use Rattle.std.specs.List.{flat_map};
 ghost use Rattle.fast_check_names.specs.Names.{path_of};
+ghost use Rattle.fast_check_symbol_demands.specs.symbol_tables.symbols.Symbols.{symbol_of};
 ghost use Rattle.fast_check_symbol_demands.specs.Demands.{demand_of};
 ghost use Rattle.fast_check_symbol_demands.specs.Rules.{each_of, qualified, parts_names, alias_names, member_names, prototype_names, export_names, first_names, path_names};
 
-use crate::names::{is_prototype, member_named};
+use crate::names::is_prototype;
 use fast_check_symbol_demands::symbol_tables::CheckedTables;
-use fast_check_symbol_demands::symbol_tables::symbols::{
-    Symbol, SymbolDecl, SymbolDeclKind, SymbolId,
-};
+use fast_check_symbol_demands::symbol_tables::symbols::{SymbolDecl, SymbolDeclKind, SymbolId};
 use fast_check_symbol_demands::{
     Demands, Extent, SymbolDemand, bound, has_alias, is_closed, push_path, push_references,
 };
@@ -146,14 +145,17 @@ fn push_prototype(
     demand: SymbolDemand<'_>,
     below: &[String],
     extent: Extent,
-    symbol: &Symbol,
     out: &mut Demands<'_>,
 ) -> Result<(), AllocError>
-    ensures { OnOk result (out.new ≡ out.old ++ prototype_names tables.now (demand_of demand.entry) (path_of below.now) extent symbol.now) }
+    ensures { OnOk result (out.new ≡ out.old ++ each_of (λ s. prototype_names tables.now (demand_of demand.entry) (path_of below.now) extent s)
+        (symbol_of demand.entry.symbol tables.now.symbols)) }
 {
+    let Some(_symbol) = tables.symbol(demand.symbol) else {
+        return Ok(());
+    };
     match below.split_first() {
         Some((name, deeper)) => {
-            let member = member_named(tables, name.as_str(), symbol.members.as_slice());
+            let member = tables.member_named(demand.symbol, name.as_str());
             push_member(demand, deeper, extent, member, out)
         }
         None => push_class(demand, extent, out),
@@ -212,55 +214,52 @@ fn push_export_part<'a>(
 }
 
 fn push_first<'a>(
-    tables: &CheckedTables,
+    tables: &'a CheckedTables,
     demand: SymbolDemand<'_>,
     names: &'a [String],
     extent: Extent,
-    symbol: &Symbol,
     out: &mut Demands<'a>,
 ) -> Result<(), AllocError>
-    ensures { OnOk result (out.new ≡ out.old ++ first_names tables.now (demand_of demand.entry) (path_of names.now) extent symbol.now) }
+    ensures { OnOk result (out.new ≡ out.old ++ each_of (λ s. first_names tables.now (demand_of demand.entry) (path_of names.now) extent s)
+        (symbol_of demand.entry.symbol tables.now.symbols)) }
 {
-    match names.split_first() {
-        None => Ok(()),
-        Some((name, below)) => {
-            push_below(tables, demand, name.as_str(), below, extent, symbol, out)
-        }
-    }
-}
-
-fn push_below<'a>(
-    tables: &CheckedTables,
-    demand: SymbolDemand<'_>,
-    name: &str,
-    below: &'a [String],
-    extent: Extent,
-    symbol: &Symbol,
-    out: &mut Demands<'a>,
-) -> Result<(), AllocError>
-    ensures { OnOk result (out.new ≡ out.old ++ first_names tables.now (demand_of demand.entry) (name.now ∷ path_of below.now) extent symbol.now) }
-{
-    if is_prototype(name, symbol.decls.as_slice()) {
-        return push_prototype(tables, demand, below, extent, symbol, out);
+    let Some(symbol) = tables.symbol(demand.symbol) else {
+        return Ok(());
+    };
+    let Some((name, below)) = names.split_first() else {
+        return Ok(());
+    };
+    if is_prototype(name.as_str(), symbol.decls.as_slice()) {
+        return push_prototype(tables, demand, below, extent, out);
     }
     let closed = is_closed(symbol.decls.as_slice());
-    push_export(demand, below, extent, closed, symbol.exports.get(name), out)
+    push_export(
+        demand,
+        below,
+        extent,
+        closed,
+        symbol.exports.get(name.as_str()),
+        out,
+    )
 }
 
-/// What a path below a symbol demands.
+/// What a path below the symbol of a demand demands.
 pub fn push_path_demands<'a>(
-    tables: &CheckedTables,
+    tables: &'a CheckedTables,
     demand: SymbolDemand<'_>,
     names: &'a [String],
     extent: Extent,
-    symbol: &'a Symbol,
     out: &mut Demands<'a>,
 ) -> Result<(), AllocError>
-    ensures { OnOk result (out.new ≡ out.old ++ path_names tables.now (demand_of demand.entry) (path_of names.now) extent symbol.now) }
+    ensures { OnOk result (out.new ≡ out.old ++ each_of (λ s. path_names tables.now (demand_of demand.entry) (path_of names.now) extent s)
+        (symbol_of demand.entry.symbol tables.now.symbols)) }
 {
+    let Some(symbol) = tables.symbol(demand.symbol) else {
+        return Ok(());
+    };
     if has_alias(symbol.decls.as_slice()) {
         push_aliases(tables, demand, names, extent, symbol.decls.as_slice(), out)
     } else {
-        push_first(tables, demand, names, extent, symbol, out)
+        push_first(tables, demand, names, extent, out)
     }
 }

@@ -1,10 +1,11 @@
 ghost use Rattle.std.specs.Prelude.{◌≡◌, option_map};
+ghost use Rattle.std.specs.Option.{option_and_then};
 ghost use Rattle.fast_check_names.specs.Names.{path_of};
 ghost use Rattle.fast_check_symbol_demands.specs.symbol_tables.symbols.Symbols.{symbol_of};
-ghost use Rattle.fast_check_symbol_demands.specs.Demands.{demand_of, asked_of};
-ghost use Rattle.fast_check_demands.specs.Yields.{fault_seen, fault_at as fault_there, is_parent, private_fault, member_fault, prototype_fault, export_fault, first_fault, path_fault, asked_fault, fault_in};
+ghost use Rattle.fast_check_symbol_demands.specs.Demands.{demand_of};
+ghost use Rattle.fast_check_demands.specs.Yields.{fault_seen, fault_at as fault_there, is_parent, private_fault, member_fault, prototype_fault, export_fault, first_fault, path_fault, fault_in};
 
-use crate::names::{is_prototype, member_named, start_of};
+use crate::names::{is_prototype, start_of};
 use fast_check_symbol_demands::symbol_tables::CheckedTables;
 use fast_check_symbol_demands::symbol_tables::symbols::{Symbol, SymbolId};
 use fast_check_symbol_demands::{Ask, SymbolDemand, has_alias, is_closed, is_same};
@@ -81,14 +82,15 @@ fn prototype_fault<'a>(
     demand: SymbolDemand<'_>,
     names: &'a [String],
     below: &[String],
-    symbol: &Symbol,
 ) -> Option<SymbolFault<'a>>
-    ensures { option_map fault_seen result ≡ prototype_fault tables.now (demand_of demand.entry) (path_of names.now) (path_of below.now) symbol.now }
+    ensures { option_map fault_seen result ≡ option_and_then (λ s. prototype_fault tables.now (demand_of demand.entry) (path_of names.now) (path_of below.now) s)
+        (symbol_of demand.entry.symbol tables.now.symbols) }
 {
+    let _symbol = tables.symbol(demand.symbol)?;
     match below.split_first() {
         None => None,
         Some((name, _)) => {
-            let member = member_named(tables, name.as_str(), symbol.members.as_slice());
+            let member = tables.member_named(demand.symbol, name.as_str());
             member_fault(demand, names, member)
         }
     }
@@ -117,16 +119,16 @@ fn first_fault<'a>(
     tables: &CheckedTables,
     demand: SymbolDemand<'_>,
     names: &'a [String],
-    rest: &[String],
-    symbol: &Symbol,
 ) -> Option<SymbolFault<'a>>
-    ensures { option_map fault_seen result ≡ first_fault tables.now (demand_of demand.entry) (path_of names.now) (path_of rest.now) symbol.now }
+    ensures { option_map fault_seen result ≡ option_and_then (λ s. first_fault tables.now (demand_of demand.entry) (path_of names.now) (path_of names.now) s)
+        (symbol_of demand.entry.symbol tables.now.symbols) }
 {
-    match rest.split_first() {
+    let symbol = tables.symbol(demand.symbol)?;
+    match names.split_first() {
         None => None,
         Some((first, below)) => {
             if is_prototype(first.as_str(), symbol.decls.as_slice()) {
-                return prototype_fault(tables, demand, names, below, symbol);
+                return prototype_fault(tables, demand, names, below);
             }
             let closed = is_closed(symbol.decls.as_slice());
             export_fault(demand, names, closed, symbol.exports.get(first.as_str()))
@@ -138,26 +140,24 @@ fn path_fault<'a>(
     tables: &CheckedTables,
     demand: SymbolDemand<'_>,
     names: &'a [String],
-    symbol: &Symbol,
 ) -> Option<SymbolFault<'a>>
-    ensures { option_map fault_seen result ≡ path_fault tables.now (demand_of demand.entry) (path_of names.now) symbol.now }
+    ensures { option_map fault_seen result ≡ option_and_then (λ s. path_fault tables.now (demand_of demand.entry) (path_of names.now) s)
+        (symbol_of demand.entry.symbol tables.now.symbols) }
 {
+    let symbol = tables.symbol(demand.symbol)?;
     if has_alias(symbol.decls.as_slice()) {
         return None;
     }
-    first_fault(tables, demand, names, names, symbol)
+    first_fault(tables, demand, names)
 }
 
-fn asked_fault<'a>(
-    tables: &CheckedTables,
-    demand: SymbolDemand<'a>,
-    symbol: &Symbol,
-) -> Option<SymbolFault<'a>>
-    ensures { option_map fault_seen result ≡ asked_fault tables.now (demand_of demand.entry) (asked_of demand.entry.ask) symbol.now }
+fn symbol_fault<'a>(tables: &CheckedTables, demand: SymbolDemand<'a>) -> Option<SymbolFault<'a>>
+    ensures { option_map fault_seen result ≡ option_and_then (λ s. private_fault (demand_of demand.entry) s)
+        (symbol_of demand.entry.symbol tables.now.symbols) }
 {
-    match demand.ask {
-        Ask::Reference(_) | Ask::Child(_) => private_fault(demand, symbol),
-        Ask::Path(names, _) => path_fault(tables, demand, names, symbol),
+    match tables.symbol(demand.symbol) {
+        None => None,
+        Some(symbol) => private_fault(demand, symbol),
     }
 }
 
@@ -165,8 +165,8 @@ fn asked_fault<'a>(
 pub fn fault_of<'a>(tables: &CheckedTables, demand: SymbolDemand<'a>) -> Option<SymbolFault<'a>>
     ensures { option_map fault_seen result ≡ fault_in tables.now (demand_of demand.entry) (symbol_of demand.entry.symbol tables.now.symbols) }
 {
-    match tables.symbol(demand.symbol) {
-        None => None,
-        Some(symbol) => asked_fault(tables, demand, symbol),
+    match demand.ask {
+        Ask::Reference(_) | Ask::Child(_) => symbol_fault(tables, demand),
+        Ask::Path(names, _) => path_fault(tables, demand, names),
     }
 }

@@ -1,26 +1,25 @@
 ghost use Rattle.std.specs.Prelude.{◌≡◌, ◌++◌, IfOk, OnOk};
-ghost use Rattle.fast_check_symbol_demands.specs.Demands.{demand_of, asked_of};
-ghost use Rattle.fast_check_symbol_demands.specs.Rules.{names, asked_names};
+ghost use Rattle.fast_check_symbol_demands.specs.Demands.{demand_of};
+ghost use Rattle.fast_check_symbol_demands.specs.Rules.{each_of, names, symbol_names};
+ghost use Rattle.fast_check_symbol_demands.specs.symbol_tables.symbols.Symbols.{symbol_of};
 
 use crate::aliases::push_path_demands;
 use fast_check_symbol_demands::symbol_tables::CheckedTables;
-use fast_check_symbol_demands::symbol_tables::symbols::Symbol;
-use fast_check_symbol_demands::{Ask, Demands, SymbolDemand, push_symbol};
+use fast_check_symbol_demands::{Ask, Demands, Namespace, SymbolDemand, push_symbol};
 use std::alloc::{AllocError, Global};
 
-fn push_asked<'a>(
-    tables: &CheckedTables,
+fn push_symbol_of<'a>(
+    tables: &'a CheckedTables,
     demand: SymbolDemand<'a>,
-    symbol: &'a Symbol,
+    namespace: Namespace,
     out: &mut Demands<'a>,
 ) -> Result<(), AllocError>
-    ensures { OnOk result (out.new ≡ out.old ++ asked_names tables.now (demand_of demand.entry) (asked_of demand.entry.ask) symbol.now) }
+    ensures { OnOk result (out.new ≡ out.old ++ each_of (λ s. symbol_names tables.now (demand_of demand.entry) namespace s)
+        (symbol_of demand.entry.symbol tables.now.symbols)) }
 {
-    match demand.ask {
-        Ask::Reference(namespace) | Ask::Child(namespace) => {
-            push_symbol(tables, demand, namespace, symbol, out)
-        }
-        Ask::Path(names, extent) => push_path_demands(tables, demand, names, extent, symbol, out),
+    match tables.symbol(demand.symbol) {
+        None => Ok(()),
+        Some(symbol) => push_symbol(tables, demand, namespace, symbol, out),
     }
 }
 
@@ -33,8 +32,11 @@ pub fn demands_of<'a>(
     ensures { IfOk result (λ out. out ≡ names tables.now (demand_of demand.entry)) }
 {
     let mut out = Demands::new(alloc);
-    if let Some(symbol) = tables.symbol(demand.symbol) {
-        push_asked(tables, demand, symbol, &mut out)?;
+    match demand.ask {
+        Ask::Reference(namespace) | Ask::Child(namespace) => {
+            push_symbol_of(tables, demand, namespace, &mut out)?;
+        }
+        Ask::Path(names, extent) => push_path_demands(tables, demand, names, extent, &mut out)?,
     }
     Ok(out)
 }

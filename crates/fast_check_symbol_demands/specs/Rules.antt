@@ -3,7 +3,7 @@
 -- A demand names the demands of a list. An identifier that no symbol of the module is bound to names nothing. What a declaration
 -- refers to in another file follows from the demand in that file, and is no matter of the module.
 use Rattle.std.specs.Prelude.{Bool, false, cond, not, ◌&&◌, List, [], ◌∷◌, ◌++◌, map, Option, Some, None, option_map, codes, String, string_bytes}
-use Rattle.std.specs.List.{flat_map, find}
+use Rattle.std.specs.List.{flat_map}
 use Rattle.std.specs.Str.{bytes_eq}
 use Rattle.std.specs.declared.alloc.Global.{Global}
 use Rattle.fast_check_names.specs.Names.{Name, Path, path_of}
@@ -20,6 +20,8 @@ use Rattle.fast_check_symbol_tables.specs.symbols.declared.node.SymbolDep.TheVar
 use Rattle.fast_check_symbol_tables.specs.symbols.declared.node.SymbolNodeDep.{SymbolNodeDep}
 use Rattle.fast_check_symbol_tables.specs.symbols.Symbols.{symbol_of}
 use Rattle.fast_check_symbol_tables.specs.symbols.Exports.{export_named}
+use Rattle.fast_check_symbol_tables.specs.Members.{first_named}
+pub use Rattle.fast_check_symbol_tables.specs.Members.{symbol_is_named}
 use Rattle.fast_check_symbol_tables.specs.Tables.{Tables, symbol_of_swc}
 use Rattle.fast_check_symbol_demands.specs.declared.demand.Namespace.{Namespace}
 use Rattle.fast_check_symbol_demands.specs.declared.demand.Namespace.TheVariants.{Value, Type_}
@@ -122,16 +124,8 @@ alias_names t d path extent (FileRef specifier name) = []
 alias_names t d path extent (Definition _) = []
 
 -- the member of a name: the first among the members that has it
-abbrev pub is_named : Name → Option (String Global) → Bool
-is_named name None = false
-is_named name (Some text) = bytes_eq (string_bytes text) name
-
-abbrev pub symbol_is_named : Name → Option Symbol → Bool
-symbol_is_named name None = false
-symbol_is_named name (Some s) = is_named name s.maybe_name
-
 abbrev pub member_named : Tables → Name → List SymbolId → Option SymbolId
-member_named t name members = find (λ m. symbol_is_named name (symbol_of m t.symbols)) members
+member_named t name members = first_named t.symbols name members
 
 -- `prototype` of a class is the class, seen by its members; what goes below a member is too deep to be followed
 abbrev pub member_names : Demand → Path → Extent → Option SymbolId → List Demand

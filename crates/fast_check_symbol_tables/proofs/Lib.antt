@@ -4,3 +4,4 @@ pub mod Alike
 pub mod TableFaults
 pub mod EntriesMissed
 pub mod Pushed
+pub mod Named

@@ -3,8 +3,9 @@ ghost use Rattle.std.specs.Option.{option_copied};
 
 use crate::fault::TableFault;
 use crate::faults::{lacks_declaration, misses_symbol};
+use crate::members::member_indexes;
 use crate::tables::{ModuleTables, ReExportAllNode};
-use fast_check_symbols::{Symbol, SymbolId, SymbolTable, map_of};
+use fast_check_symbols::{Symbol, SymbolExports, SymbolId, SymbolTable, map_of};
 use fast_check_syntax::Id;
 use std::alloc::Global;
 use std::collections::BTreeMap;
@@ -15,6 +16,8 @@ use url::Url;
 #[derive(Drop)]
 pub struct CheckedTables {
     symbols: SymbolTable,
+    /// The members of each symbol by their names, in the order of the symbols.
+    members: Vec<SymbolExports>,
     module_symbol: SymbolId,
     swc_ids: BTreeMap<Id, SymbolId>,
     re_export_all_nodes: Vec<ReExportAllNode>,
@@ -23,6 +26,7 @@ pub struct CheckedTables {
 
 impl Model for CheckedTables {
     ghost use Rattle.fast_check_symbol_tables.specs.Tables.{Tables, answered_names};
+    ghost use Rattle.fast_check_symbol_tables.specs.Members.{AreNameIndexes};
 
     ghost Value = { Tables };
 
@@ -33,11 +37,14 @@ impl Model for CheckedTables {
       re_exports = t.re_export_all_nodes.items;
       resolved = answered_names t.resolved_exports.entries;
     } };
+
+    ghost invariant = { λ t. AreNameIndexes t.symbols t.symbols t.members.items };
 }
 
 impl CheckedTables {
     ghost use Rattle.fast_check_symbol_tables.specs.Tables.{symbol_of_swc, resolved_export, answered_names};
     ghost use Rattle.fast_check_symbol_tables.specs.WellFormed.{AreMadeOf, AreWellFormed, IsTableFault};
+    ghost use Rattle.fast_check_symbol_tables.specs.Members.{named_member};
     ghost use Rattle.fast_check_symbols.specs.Symbols.{symbol_of, place_of};
 
     /// The tables, where each id that they mention has a symbol, and each symbol that has to have a declaration has one. Else the first fault.
@@ -60,10 +67,12 @@ impl CheckedTables {
         if lacks_declaration(module_symbol, symbols.as_slice()) {
             return Err(TableFault::SymbolWithoutDecl);
         }
+        let members = member_indexes(alloc, &symbols)?;
         let swc_ids = map_of(alloc, swc_ids)?;
         let resolved_exports = map_of(alloc, resolved_exports)?;
         Ok(CheckedTables {
             symbols,
+            members,
             module_symbol,
             swc_ids,
             re_export_all_nodes,
@@ -90,6 +99,15 @@ impl CheckedTables {
         ensures { result ≡ place_of id self.now.symbols }
     {
         self.symbols.place(id)
+    }
+
+    /// The first of the members of a symbol that has a name. None where no symbol has the id.
+    pub fn member_named(&self, id: SymbolId, name: &str) -> Option<SymbolId>
+        ensures { result ≡ named_member self.now.symbols name.now (symbol_of id self.now.symbols) }
+    {
+        let place = self.symbols.place(id)?;
+        let index = self.members.get(place)?;
+        index.get(name)
     }
 
     /// The symbol of a resolved identifier.

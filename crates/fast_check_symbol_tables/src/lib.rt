@@ -4,6 +4,7 @@
 mod checked;
 mod fault;
 mod faults;
+mod members;
 mod tables;
 
 pub use checked::CheckedTables;
