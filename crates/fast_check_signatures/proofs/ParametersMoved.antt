@@ -59,7 +59,7 @@ module _ (m : Moves) (ok : Keeps m) where
   arg_moved kinds.PatExpr arg = sym (empty_object_pat_moved m ok)
   arg_moved _ arg = refl
 
-  rest_arg_moved : (arg : Tree) → rest_arg (moved m arg) ≡ moved m (rest_arg arg)
+  pub rest_arg_moved : (arg : Tree) → rest_arg (moved m arg) ≡ moved m (rest_arg arg)
   rest_arg_moved arg = ap (λ k. arg_by_kind k (moved m arg)) (kind_of_moved m arg) ∙ arg_moved (kind_of arg) arg
 
   rest_pat_moved : (span dot3_token : SourceRange) (arg type : Tree) →
