@@ -171,7 +171,6 @@ class_heads : (ms ns : List Tree) → SameClassHead no_places no_classes no_clas
 class_heads ms ns = record {
   span = at_places _ _ (simp (part_node, range_of_range)) (simp (part_node, range_of_range));
   ctxt = in_scopes _ _ (simp (part_node, context_of_context)) (simp (part_node, context_of_context));
-  superclass = are_same _ _ Absent (part_node _ _ _) (part_node _ _ _) same_absent;
   is_abstract = simp (part_node, flag_of_flag);
   type_params = are_same _ _ Absent (part_node _ _ _) (part_node _ _ _) same_absent;
   super_type_params = are_same _ _ Absent (part_node _ _ _) (part_node _ _ _) same_absent;
@@ -190,6 +189,7 @@ neither_hashed = simp kind_of_node
 classes : SameClass no_places no_classes no_classes f f (class_of_members first_members) (class_of_members second_members)
 classes = record {
   head = class_heads first_members second_members;
+  superclass = s.SameSuperclass.same (are_same _ _ Absent (part_node _ _ _) (part_node _ _ _) same_absent);
   hash_named = subst₂ (λ x y. list_any is_hash_named x ≡ list_any is_hash_named y) (sym (body_made first_members)) (sym (body_made second_members))
       neither_hashed;
   members = subst₂ (SameMembers no_places no_classes no_classes f f [] []) (sym (body_made first_members)) (sym (body_made second_members)) members;
@@ -216,7 +216,7 @@ items_made items = simp parts_node
 
 agree : AgreeHidden no_places all_public all_public first second
 agree = record {
-  bindings = record { unresolved = inl (refl, refl); is_plain_class = λ text x y p. refl };
+  bindings = record { unresolved = inl (refl, refl) };
   is_ambient = refl;
   items = subst₂ (SameItems no_places all_public all_public) (sym (items_made _)) (sym (items_made _))
       (h.SameItems.next (function_items [] (empty_statement ∷ [])) (h.SameItems.next class_items h.SameItems.end));

@@ -98,7 +98,7 @@ defaults ss ts = h.SameItem.default (d.SameDefault.function (default_functions s
 
 agree : AgreeHidden no_places around around first second
 agree = record {
-  bindings = record { unresolved = inl (refl, refl); is_plain_class = λ text x y p. refl };
+  bindings = record { unresolved = inl (refl, refl) };
   is_ambient = refl;
   items = subst₂ (SameItems no_places around around) (sym (items_made _)) (sym (items_made _))
       (h.SameItems.next (h.SameItem.linked (l.SameLink.import imports)) (h.SameItems.next (defaults [] (empty_statement ∷ [])) h.SameItems.end));
