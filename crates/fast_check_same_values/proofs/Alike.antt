@@ -1,17 +1,14 @@
 -- Values, functions and parameters that agree but for what is hidden are seen alike.
 use Rattle.std.specs.Prelude.{◌≡◌, Bool, ◌&&◌, Option, None, List, ◌∷◌, map, refl}
 use Rattle.std.specs.List.{list_all}
-use Rattle.std.proofs.Common.{ap₂, ◌∙◌, sym, subst, subst₂}
-use Rattle.fast_check_syntax.specs.declared.atom.Id.{Id}
+use Rattle.std.proofs.Common.{ap₂, sym, subst, subst₂}
 use Rattle.fast_check_syntax.specs.declared.kind.Kind.{Kind}
 use Rattle.fast_check_syntax.specs.declared.kind.Kind.TheVariants as kinds
 use Rattle.fast_check_syntax.specs.declared.source.SourceRange.{SourceRange}
 use Rattle.fast_check_syntax.specs.declared.tree.Tree.{Tree}
 use Rattle.fast_check_syntax.specs.Shape.{parts}
-use Rattle.fast_check_syntax.specs.Moves.{Renaming, IsRenaming, partners, twice}
-use Rattle.fast_check_syntax.specs.Same.{SameTree}
-use Rattle.fast_check_syntax.proofs.Partners.{partners-keep as partners_keep, twice-keeps as twice_keeps}
-use Rattle.fast_check_syntax.proofs.Same.{tree_to, range_to}
+use Rattle.fast_check_syntax.specs.Moves.{Renaming, IsRenaming}
+use Rattle.fast_check_syntax.proofs.Same.{range_to}
 use Rattle.fast_check_class_forms.specs.Functions.{Function-span, Function-params, Param-pat}
 use Rattle.fast_check_expression_forms.specs.Expressions.{ArrowExpr-span, ArrowExpr-params, FnExpr-function}
 use Rattle.fast_check_helpers.specs.OptionalParams.{is_optional_param}
@@ -29,7 +26,6 @@ use Rattle.fast_check_same_values.specs.SameValues.{SameFunction, SameParams, Sa
 use Rattle.fast_check_same_values.specs.SameValues as s
 use Rattle.fast_check_signatures.proofs.Looks.{expr_seen_is}
 use Rattle.fast_check_signatures.proofs.NewNodesMoved.{never_in_parens_moved}
-use Rattle.fast_check_signatures.proofs.SeenMoved.{expr_seen_moved, pat_seen_moved}
 use Rattle.fast_check_same_values.proofs.AlikeTrees.{RangeAlike, new_alike}
 use Rattle.fast_check_same_values.proofs.AlikeSeen.{Alike, AllAlike, written_alike, same_written, range_alike, scope_alike}
 use Rattle.fast_check_same_values.proofs.AlikeParameters.{PlaceAlike, same_optional, emptied_optional, rest_optional, assign_optional, emptied_alike}

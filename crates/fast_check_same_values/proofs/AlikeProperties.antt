@@ -1,11 +1,11 @@
 -- Properties and accessors that agree but for what is hidden are seen alike.
-use Rattle.std.specs.Prelude.{◌≡◌, Bool, true, false, Option, Some, None, unwrap_or, option_map, List, [], ◌∷◌, map, refl, if◌then◌else◌}
-use Rattle.std.proofs.Common.{ap, ap₂, ◌∙◌, sym, subst, subst₂}
+use Rattle.std.specs.Prelude.{◌≡◌, Bool, true, false, Option, Some, None, unwrap_or, option_map, [], ◌∷◌, refl, if◌then◌else◌}
+use Rattle.std.proofs.Common.{ap, ◌∙◌, sym, subst, subst₂}
 use Rattle.fast_check_syntax.specs.declared.kind.Kind.TheVariants as kinds
 use Rattle.fast_check_syntax.specs.declared.source.SourceRange.{SourceRange}
 use Rattle.fast_check_syntax.specs.declared.tree.Tree.{Tree, Absent}
 use Rattle.fast_check_syntax.specs.Shape.{is_absent}
-use Rattle.fast_check_syntax.specs.Moves.{Renaming, IsRenaming, partners, twice, moved, moved_range}
+use Rattle.fast_check_syntax.specs.Moves.{Renaming, IsRenaming, partners, twice, moved}
 use Rattle.fast_check_syntax.specs.Same.{SameTree}
 use Rattle.fast_check_syntax.proofs.Moved.{absent_moved}
 use Rattle.fast_check_syntax.proofs.Partners.{partners-keep as partners_keep, twice-keeps as twice_keeps}
@@ -19,7 +19,6 @@ use Rattle.fast_check_helpers.specs.declared.literal_type.DeclMutabilityKind.The
 use Rattle.fast_check_helpers.specs.Builders.{type_ann, any_type_ann}
 use Rattle.fast_check_helpers.specs.InferredType.{inferred_type}
 use Rattle.fast_check_helpers.proofs.BuildersMoved.{type_ann_moved, any_type_ann_moved}
-use Rattle.fast_check_helpers.proofs.InferredMoved.{inferred_type_moved}
 use Rattle.fast_check_signatures.specs.Bindings.{Bindings}
 use Rattle.fast_check_signatures.specs.declared.fault.FaultKind.TheVariants.{MissingExplicitType}
 use Rattle.fast_check_signatures.specs.Seen.{PropertyHead, Seen, property, refused}
@@ -30,10 +29,9 @@ use Rattle.fast_check_signatures.specs.Classes.{typed_property, mutability_of_pr
 use Rattle.fast_check_signatures.specs.Classes.{untyped_property_seen, property_seen, untyped_accessor_seen, accessor_seen}
 use Rattle.fast_check_signatures.proofs.MovedParts.{moved_property}
 use Rattle.fast_check_same_values.specs.SameValues.{SameBindings, SameExpr}
-use Rattle.fast_check_same_values.specs.SameValues as v
-use Rattle.fast_check_same_values.specs.SameClasses.{SamePropertyHead, SameTypeShown, NoTypeShown, SameProperty, SameAccessor}
+use Rattle.fast_check_same_values.specs.SameClasses.{SamePropertyHead, SameProperty, SameAccessor}
 use Rattle.fast_check_same_values.specs.SameClasses as s
-use Rattle.fast_check_same_values.proofs.AlikeTrees.{TreeAlike, RangeAlike, scope_to, image_alike, new_alike, absent_alike, range_leaf_alike, flag_leaf_alike}
+use Rattle.fast_check_same_values.proofs.AlikeTrees.{TreeAlike, RangeAlike, image_alike, new_alike, absent_alike, range_leaf_alike, flag_leaf_alike}
 use Rattle.fast_check_same_values.proofs.AlikeTrees.{node_alike, empty_list_alike}
 use Rattle.fast_check_same_values.proofs.AlikeSeen.{Alike, written_alike, faulty_alike, alike_if}
 use Rattle.fast_check_same_values.proofs.AlikePresent.{absent_shows, expr_absent}

@@ -1,5 +1,5 @@
 -- Modules that agree but for what is hidden are seen alike, so that their skeletons and faults are the same.
-use Rattle.std.specs.Prelude.{◌≡◌, ◌&&◌, Bool, true, false, not, ◌||◌, Option, Some, None, unwrap_or, option_map, List, [], ◌∷◌, ◌++◌, map, flat_map, refl}
+use Rattle.std.specs.Prelude.{◌≡◌, ◌&&◌, Bool, true, false, not, ◌||◌, Option, Some, None, List, [], ◌∷◌, ◌++◌, map, flat_map, refl}
 use Rattle.std.specs.Prelude.{if◌then◌else◌}
 use Rattle.std.specs.List.{list_all}
 use Rattle.std.proofs.Common.{ap, ap₂, ◌∙◌, sym, subst, subst₂}
@@ -10,7 +10,7 @@ use Rattle.fast_check_syntax.specs.declared.source.SourceRange.{SourceRange}
 use Rattle.fast_check_syntax.specs.declared.tree.Tree as tree
 use Rattle.fast_check_syntax.specs.declared.tree.Tree.{Tree}
 use Rattle.fast_check_syntax.specs.Shape.{◌is◌, kind_of, parts, is_absent, has_word, list}
-use Rattle.fast_check_syntax.specs.Moves.{Renaming, IsRenaming, partners, twice, moved}
+use Rattle.fast_check_syntax.specs.Moves.{Renaming, IsRenaming, partners, twice}
 use Rattle.fast_check_syntax.specs.Same.{SameTree, SameRange, Each}
 use Rattle.fast_check_syntax.proofs.Moved.{has_word_moved, node_moved}
 use Rattle.fast_check_syntax.proofs.Made.{part_node}
@@ -51,7 +51,7 @@ use Rattle.fast_check_typed_grammar.specs.signatures.Expressions.{expr_seen}
 use Rattle.fast_check_typed_grammar.specs.signatures.Functions.{function_seen, implementation_seen}
 use Rattle.fast_check_same_values.specs.SameValues.{SameBindings, Both, SameExpr}
 use Rattle.fast_check_same_values.specs.SameValues as v
-use Rattle.fast_check_same_values.proofs.AlikeTrees.{TreeAlike, scope_to, image_alike, new_alike, absent_alike, range_leaf_alike, flag_leaf_alike, node_alike}
+use Rattle.fast_check_same_values.proofs.AlikeTrees.{TreeAlike, image_alike, new_alike, absent_alike, range_leaf_alike, flag_leaf_alike, node_alike}
 use Rattle.fast_check_same_values.proofs.AlikeTrees.{range_field_alike}
 use Rattle.fast_check_same_values.proofs.AlikeSeen.{Alike, AllAlike, written_alike, same_written, range_alike, scope_alike, flag_alike}
 use Rattle.fast_check_same_values.proofs.AlikeSeen.{alike_if, all_alike_if, faulty_alike, listed_alike, round_alike, append_alike}
@@ -88,7 +88,6 @@ use Rattle.fast_check_skeleton.proofs.AgreeingDefaults.{silent_default, defaults
 use Rattle.fast_check_skeleton.specs.SameLinks as l
 use Rattle.fast_check_skeleton.specs.Hidden as h
 use Rattle.fast_check_skeleton.specs.Worlds.{SameFault, SameSkeleton}
-use Rattle.fast_check_helpers.proofs.InferredMoved.{inferred_type_moved}
 use Rattle.fast_check_typed_grammar.proofs.signature_proofs.AnswersMoved.{moved_fault, moved_items, answer_of_moved}
 
 -- ---- what is silent is not seen

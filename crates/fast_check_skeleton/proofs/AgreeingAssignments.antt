@@ -66,11 +66,6 @@ module _ (r : Renaming) (ok : IsRenaming r) where
     abbrev left' : Tree
     left' = AssignExpr-left u
 
-    -- both are of expando form, or neither is
-    forms_same : SameForm r a b t u → is_expando_assignment t ≡ is_expando_assignment u
-    forms_same (s.expando e) = e.forms.0 ∙ sym e.forms.1
-    forms_same (s.other e f) = e ∙ sym f
-
     abbrev place_of : Tree → Bool → Option SourceRange
     place_of target missing = if missing then Some (MemberExpr-span target) else None
 

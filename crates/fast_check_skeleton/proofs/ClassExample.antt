@@ -86,7 +86,7 @@ no_place = record { start = inl (refl, refl); end = inl (refl, refl) }
 pub at_places : (a b : SourceRange) → a ≡ none_range → b ≡ none_range → SamePlace a b
 at_places a b e f = subst₂ SamePlace (sym e) (sym f) no_place
 
-in_scopes : (a b : _) → a ≡ no_scope → b ≡ no_scope → IsPair no_places.scopes a.0 b.0
+pub in_scopes : (a b : _) → a ≡ no_scope → b ≡ no_scope → IsPair no_places.scopes a.0 b.0
 in_scopes a b e f = subst₂ (λ x y. IsPair no_places.scopes x.0 y.0) (sym e) (sym f) (inl (refl, refl))
 
 pub are_same : (t u x : Tree) → t ≡ x → u ≡ x → Same x x → Same t u

@@ -54,7 +54,7 @@ use Rattle.fast_check_skeleton.proofs.Namespaces.{item_seen_is}
 same_number : Same (ts_keyword_type words.TsNumberKeyword) (ts_keyword_type words.TsNumberKeyword)
 same_number = new_same (ts_keyword_type words.TsNumberKeyword) (λ m ok. simp (node_moved, range_moved, none_moved m ok, word_moved))
 
-same_target : Same target target
+pub same_target : Same target target
 same_target = new_same target (λ m ok. simp (node_moved, range_moved, none_moved m ok, context_moved, text_moved, flag_moved, ok.scope_zero))
 
 values : (x y : Tree) → SameExpr no_places no_classes no_classes (as_number x) (as_number y)
@@ -62,16 +62,16 @@ values x y = v.SameExpr.as_type (record { left = kind_of_node _ _; right = kind_
     (at_places _ _ (simp (part_node, range_of_range)) (simp (part_node, range_of_range)))
     (are_same _ _ (ts_keyword_type words.TsNumberKeyword) (part_node _ _ _) (part_node _ _ _) same_number)
 
-right_made : (t : Tree) → AssignExpr-right (assignment t) ≡ t
+pub right_made : (t : Tree) → AssignExpr-right (assignment t) ≡ t
 right_made t = part_node _ _ _
 
-left_made : (t : Tree) → AssignExpr-left (assignment t) ≡ target
+pub left_made : (t : Tree) → AssignExpr-left (assignment t) ≡ target
 left_made t = part_node _ _ _
 
-assignment_made : (t : Tree) → ExprStmt-expr (assigned t) ≡ assignment t
+pub assignment_made : (t : Tree) → ExprStmt-expr (assigned t) ≡ assignment t
 assignment_made t = part_node _ _ _
 
-is_one : (t : Tree) → is_expando_assignment (assignment t) ≡ true
+pub is_one : (t : Tree) → is_expando_assignment (assignment t) ≡ true
 is_one t = simp (kind_of_node, part_node, text_of_text)
 
 expandos : (x y : Tree) → SameExpando no_places all_public all_public (assignment (as_number x)) (assignment (as_number y))

@@ -22,3 +22,5 @@ pub mod ClassExample
 pub mod ModuleExample
 pub mod NamespaceExample
 pub mod ExpandoExample
+pub mod PrivateClassExample
+pub mod SilentAssignmentExample
