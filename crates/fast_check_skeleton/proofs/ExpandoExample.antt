@@ -92,7 +92,7 @@ assignments x y = record {
   right_range = at_places _ _ (simp (part_node, kind_of_node, range_of_range)) (simp (part_node, kind_of_node, range_of_range));
 }
 
-both_assigned : (x y : Tree) → SameItem no_places all_public all_public (assigned (as_number x)) (assigned (as_number y))
+pub both_assigned : (x y : Tree) → SameItem no_places all_public all_public (assigned (as_number x)) (assigned (as_number y))
 both_assigned x y = h.SameItem.assigned (record {
   kinds = record { left = kind_of_node _ _; right = kind_of_node _ _ };
   range = at_places _ _ (simp (kind_of_node, part_node, range_of_range)) (simp (kind_of_node, part_node, range_of_range));

@@ -24,3 +24,4 @@ pub mod NamespaceExample
 pub mod ExpandoExample
 pub mod PrivateClassExample
 pub mod SilentAssignmentExample
+pub mod HiddenChangesExample

@@ -1,7 +1,7 @@
 -- Two modules that agree but for what is hidden: a class that is not public comes and goes.
 -- `class H {} export const x: number = 1;`, and `export const x: number = 1;`.
--- The tables of the first say of `H` that it is a class without type parameters, and those of the second of no name. What agrees stands at the place of no text.
--- The class begins at 7.
+-- The tables of the first say of `H` that it is a class without type parameters, and those of the second of no name.
+-- What agrees stands at the place of no text. The class begins at 7.
 use Rattle.std.specs.Prelude.{◌≡◌, ◌==◌, false, None, [], ◌∷◌}
 use Rattle.std.specs.Str.{bytes_eq}
 use Rattle.fast_check_syntax.specs.declared.kind.Kind.TheVariants as kinds
@@ -28,11 +28,15 @@ use Rattle.fast_check_skeleton.specs.Skeleton.{skeleton_of}
 
 -- `class H {}` at 7
 abbrev pub class_h : Tree
-class_h = class_decl (new_ident (72 ∷ [])) false (class (at 7 17) no_scope (list []) (list []) Absent false Absent Absent (list []))
+class_h =
+    class_decl (new_ident (72 ∷ [])) false
+    (class (at 7 17) no_scope (list []) (list []) Absent false Absent Absent (list []))
 
 -- `x: number = value`
 abbrev pub declarator_x : Tree → Tree
-declarator_x value = var_declarator none_range (binding_ident (new_ident (120 ∷ [])) (type_ann (ts_keyword_type words.TsNumberKeyword))) value false
+declarator_x value =
+    var_declarator none_range (binding_ident (new_ident (120 ∷ [])) (type_ann (ts_keyword_type words.TsNumberKeyword)))
+    value false
 
 -- `export const x: number = value;`
 abbrev pub statement_x : Tree → Tree

@@ -1,7 +1,8 @@
--- Two modules that agree but for what is hidden: an assignment to a property of a function that is not public comes and goes.
+-- Two modules that agree but for what is hidden: an assignment to a property of a function, which is not public, comes
+-- and goes.
 -- `function f(): void {} f.a = c; f.b = c;`, and `function f(): void { ; } f.a = c;`.
--- The table of the first has `b` for an export of `f`, and that of the second has none. What agrees stands at the place of no text. The
--- second assignment begins at 7.
+-- The table of the first has `b` for an export of `f`, and that of the second has none. What agrees stands at the place
+-- of no text. The second assignment begins at 7.
 use Rattle.std.specs.Prelude.{◌==◌, false, None, [], ◌∷◌, codes}
 use Rattle.std.specs.Str.{bytes_eq}
 use Rattle.fast_check_syntax.specs.declared.kind.Kind.TheVariants as kinds
@@ -29,8 +30,10 @@ name_c = new_ident (99 ∷ [])
 -- `f.b = c;` at 7
 abbrev pub silent : Tree
 silent =
-    node kinds.ExprStmt (tree.Range (at 7 15) ∷ node kinds.AssignExpr (tree.Range (at 7 14) ∷ tree.Text (codes "=") ∷
-    node kinds.MemberExpr (tree.Range (at 7 10) ∷ new_ident (102 ∷ []) ∷ ident_name (at 9 10) (98 ∷ []) ∷ []) ∷ name_c ∷ []) ∷ [])
+    let target =
+    node kinds.MemberExpr (tree.Range (at 7 10) ∷ new_ident (102 ∷ []) ∷ ident_name (at 9 10) (98 ∷ []) ∷ []) in
+    node kinds.ExprStmt (tree.Range (at 7 15) ∷
+    node kinds.AssignExpr (tree.Range (at 7 14) ∷ tree.Text (codes "=") ∷ target ∷ name_c ∷ []) ∷ [])
 
 abbrev pub first : Tree
 first = module_of (function_f [] ∷ assigned name_c ∷ silent ∷ [])
@@ -58,4 +61,5 @@ pub record SilentAssignmentExample : Type 0 where
   pub one_to_one : IsRenaming no_places
   pub agree : AgreeHidden no_places (around exporting_b) (around no_objects) first second
   -- a value that mentions `b` agrees with no other: in the namespace of `f` it is not what it was where `f` exports it
-  pub other_value : SameExpando no_places (around exporting_b) (around no_objects) (assignment name_b) (assignment name_b) → ⊥
+  pub other_value :
+      SameExpando no_places (around exporting_b) (around no_objects) (assignment name_b) (assignment name_b) → ⊥

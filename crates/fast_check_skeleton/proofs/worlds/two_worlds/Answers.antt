@@ -6,6 +6,7 @@ use Rattle.fast_check_skeleton.proofs.NamespaceExample.{namespace_example}
 use Rattle.fast_check_skeleton.proofs.ExpandoExample.{expando_example}
 use Rattle.fast_check_skeleton.proofs.PrivateClassExample.{private_class_example}
 use Rattle.fast_check_skeleton.proofs.SilentAssignmentExample.{silent_assignment_example}
+use Rattle.fast_check_skeleton.proofs.HiddenChangesExample.{hidden_changes_example}
 use Rattle.fast_check_skeleton.proofs.worlds.two_worlds.Goals as goal
 
 pub returns : goal.returns
@@ -18,4 +19,5 @@ returns c = record {
   of_expandos = expando_example;
   of_private_classes = private_class_example;
   of_silent_assignments = silent_assignment_example;
+  of_all_changes = hidden_changes_example;
 }
