@@ -5,5 +5,6 @@ pub mod Placed
 pub mod SameIds
 pub mod GroupsMoved
 pub mod ReferencesMoved
+pub mod Mentioned
 pub mod PropertiesMoved
 pub mod Extended

@@ -1,7 +1,8 @@
 -- Assignments that are statements. None stays: its right side is tested where it is public, and one of expando form, `object.name = value`, declares
 -- a property.
-use Rattle.std.specs.Prelude.{Bool, not, ◌&&◌, Option, Some, None, List, [], ◌∷◌, if◌then◌else◌}
+use Rattle.std.specs.Prelude.{ℕ, Bool, not, ◌&&◌, Option, Some, None, List, [], ◌∷◌, if◌then◌else◌}
 use Rattle.fast_check_syntax.specs.declared.source.SourceRange.{SourceRange}
+use Rattle.fast_check_syntax.specs.declared.source.SyntaxContext.{SyntaxContext}
 use Rattle.fast_check_syntax.specs.declared.tree.Tree.{Tree}
 use Rattle.fast_check_syntax.specs.Shape.{is_absent}
 use Rattle.fast_check_expression_forms.specs.Calls.{MemberExpr-span}
@@ -15,6 +16,7 @@ use Rattle.fast_check_signatures.specs.Seen.{Seen, tested, refused}
 use Rattle.fast_check_expandos.specs.declared.properties.ExpandoProperty.{ExpandoProperty}
 use Rattle.fast_check_expandos.specs.Expandos.{object_of, property_name, property_of}
 use Rattle.fast_check_expandos.specs.Objects.{Objects}
+use Rattle.fast_check_expandos.specs.References.{mentioned}
 
 -- the right side, if there is one; what is wrong inside of it stands at its place
 abbrev pub right_seen : Bindings → Tree → Seen
@@ -49,3 +51,12 @@ declared_properties is_public bindings objects assignment =
     if is_public (AssignExpr-span assignment) && is_expando_assignment assignment then
     kept_property objects (AssignExpr-span assignment) (AssignExpr-left assignment) (answer_to (right_seen bindings assignment)).stays
     else []
+
+-- the names that the right side mentions, as it stays, in the scope of the object of the target
+abbrev pub mentioned_in : SyntaxContext → Option Tree → List (List ℕ)
+mentioned_in scope None = []
+mentioned_in scope (Some value) = mentioned scope value
+
+abbrev pub mentioned_by : Bindings → Tree → List (List ℕ)
+mentioned_by bindings assignment =
+    mentioned_in (object_of (AssignExpr-left assignment)).1 (answer_to (right_seen bindings assignment)).stays

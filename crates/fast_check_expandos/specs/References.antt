@@ -1,5 +1,5 @@
 -- What the value of an expando property mentions of the names that its object exports.
-use Rattle.std.specs.Prelude.{ℕ, Bool, ◌&&◌, ◌==◌, List, [], ◌∷◌, ◌++◌, map, if◌then◌else◌}
+use Rattle.std.specs.Prelude.{true, ℕ, Bool, ◌&&◌, ◌==◌, List, [], ◌∷◌, ◌++◌, map, if◌then◌else◌}
 use Rattle.std.specs.List.{flat_map}
 use Rattle.std.specs.Str.{bytes_eq}
 use Rattle.fast_check_syntax.specs.declared.kind.Kind.TheVariants as kinds
@@ -46,3 +46,7 @@ once_a_name rs = map (λ e. record { name = e.0; range = e.1 }) (last_ranges rs)
 -- what conflicts of a value
 abbrev pub conflicts : SyntaxContext → (List ℕ → Bool) → Tree → List Reference
 conflicts scope exported value = once_a_name (references scope exported value)
+
+-- the names of an object's scope that a value mentions, whatever the object exports
+abbrev pub mentioned : SyntaxContext → Tree → List (List ℕ)
+mentioned scope value = map (λ r. r.name) (references scope (λ name. true) value)

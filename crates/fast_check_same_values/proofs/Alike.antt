@@ -1,17 +1,14 @@
 -- Values, functions and parameters that agree but for what is hidden are seen alike.
 use Rattle.std.specs.Prelude.{◌≡◌, Bool, ◌&&◌, Option, None, List, ◌∷◌, map, refl}
 use Rattle.std.specs.List.{list_all}
-use Rattle.std.proofs.Common.{ap₂, ◌∙◌, sym, subst, subst₂}
-use Rattle.fast_check_syntax.specs.declared.atom.Id.{Id}
+use Rattle.std.proofs.Common.{ap₂, sym, subst, subst₂}
 use Rattle.fast_check_syntax.specs.declared.kind.Kind.{Kind}
 use Rattle.fast_check_syntax.specs.declared.kind.Kind.TheVariants as kinds
 use Rattle.fast_check_syntax.specs.declared.source.SourceRange.{SourceRange}
 use Rattle.fast_check_syntax.specs.declared.tree.Tree.{Tree}
 use Rattle.fast_check_syntax.specs.Shape.{parts}
-use Rattle.fast_check_syntax.specs.Moves.{Renaming, IsRenaming, partners, twice}
-use Rattle.fast_check_syntax.specs.Same.{SameTree}
-use Rattle.fast_check_syntax.proofs.Partners.{partners-keep as partners_keep, twice-keeps as twice_keeps}
-use Rattle.fast_check_syntax.proofs.Same.{tree_to, range_to}
+use Rattle.fast_check_syntax.specs.Moves.{Renaming, IsRenaming}
+use Rattle.fast_check_syntax.proofs.Same.{range_to}
 use Rattle.fast_check_class_forms.specs.Functions.{Function-span, Function-params, Param-pat}
 use Rattle.fast_check_expression_forms.specs.Expressions.{ArrowExpr-span, ArrowExpr-params, FnExpr-function}
 use Rattle.fast_check_helpers.specs.OptionalParams.{is_optional_param}
@@ -29,24 +26,24 @@ use Rattle.fast_check_same_values.specs.SameValues.{SameFunction, SameParams, Sa
 use Rattle.fast_check_same_values.specs.SameValues as s
 use Rattle.fast_check_signatures.proofs.Looks.{expr_seen_is}
 use Rattle.fast_check_signatures.proofs.NewNodesMoved.{never_in_parens_moved}
-use Rattle.fast_check_signatures.proofs.SeenMoved.{expr_seen_moved, pat_seen_moved}
-use Rattle.fast_check_same_values.proofs.AlikeBindings.{is_plain_name, left_moves, right_moves, bindings_to}
 use Rattle.fast_check_same_values.proofs.AlikeTrees.{RangeAlike, new_alike}
 use Rattle.fast_check_same_values.proofs.AlikeSeen.{Alike, AllAlike, written_alike, same_written, range_alike, scope_alike}
 use Rattle.fast_check_same_values.proofs.AlikeParameters.{PlaceAlike, same_optional, emptied_optional, rest_optional, assign_optional, emptied_alike}
 use Rattle.fast_check_same_values.proofs.AlikeParameters.{rest_alike, typed_default_alike, shown_default_alike, kept_default_alike, typed_pattern_alike}
-use Rattle.fast_check_same_values.proofs.AlikeParameters.{kept_pattern_alike}
+use Rattle.fast_check_same_values.proofs.AlikeParameters.{kept_pattern_alike, unfit_same, bare_alike, taken_apart_alike, default_taken_apart_alike}
 use Rattle.fast_check_same_values.proofs.AlikeFunctions.{or_own_alike, signature_of_alike, param_alike, typed_alike, classed_alike, shown_value_alike}
 use Rattle.fast_check_same_values.proofs.AlikeFunctions.{kept_value_alike}
-use Rattle.fast_check_same_values.proofs.AlikeExpressions.{refused_alike, RuleAlike, kind_alike, compound_alike, frozen_alike, made_alike}
+use Rattle.fast_check_same_values.proofs.AlikeExpressions.{refused_alike, RuleAlike, kind_alike, plain_alike, compound_alike, frozen_alike, made_alike}
 
 module _ (r : Renaming) (ok : IsRenaming r) (c d : Bindings) (pair : SameBindings r c d) where
   -- ---- which parameters may be left out
 
   optional_alike : {t u : Tree} → SamePat r c d t u → is_optional_param t ≡ is_optional_param u
-  optional_alike (s.same_pat {t = t} {u = u} e) = same_optional r ok c d t u e
+  optional_alike (s.bare {t = t} {u = u} k e) = same_optional r ok c d t u e
   optional_alike (s.emptied {t = t} {u = u} e) = emptied_optional r ok c d t u e
   optional_alike (s.rest {t = t} {u = u} k a dots arg e) = rest_optional r ok c d t u k
+  optional_alike (s.taken_apart {t = t} {u = u} e f a) = unfit_same r ok c d t u e f
+  optional_alike (s.default_taken_apart {t = t} {u = u} k e f a) = assign_optional r ok c d t u k
   optional_alike (s.typed_default {t = t} {u = u} k j e w) = assign_optional r ok c d t u k
   optional_alike (s.shown_default {t = t} {u = u} k j e h) = assign_optional r ok c d t u k
   optional_alike (s.kept_default {t = t} {u = u} k j a e h v) = assign_optional r ok c d t u k
@@ -66,21 +63,7 @@ module _ (r : Renaming) (ok : IsRenaming r) (c d : Bindings) (pair : SameBinding
   function_head (s.typed_function h n w ps) = h
   function_head (s.classed_function h n e ps) = h
 
-  -- ---- equal trees
-
-  abbrev common : Id → Bool
-  common = is_plain_name r c d
-
-  same_expr_alike : (t u : Tree) (p q : Option SourceRange) → SameTree r t u → PlaceAlike r ok p q → Alike r ok (expr_seen c t p) (expr_seen d u q)
-  same_expr_alike t u p q e f =
-      sym (expr_seen_moved (partners r) (partners_keep r ok) c common (left_moves r c d pair) t p) ∙
-      ((λ i. expr_seen (bindings_to r c d ok pair i) (tree_to r ok e i) (f i)) ∙ expr_seen_moved twice twice_keeps d common (right_moves r c d) u q)
-
-  same_pat_alike : (b : Bool) (t u : Tree) → SameTree r t u → Alike r ok (pat_seen c (expr_seen c) b t) (pat_seen d (expr_seen d) b u)
-  same_pat_alike b t u e =
-      sym (pat_seen_moved (partners r) (partners_keep r ok) c common (left_moves r c d pair) b t) ∙
-      ((λ i. pat_seen (bindings_to r c d ok pair i) (expr_seen (bindings_to r c d ok pair i)) b (tree_to r ok e i)) ∙
-      pat_seen_moved twice twice_keeps d common (right_moves r c d) b u)
+  -- ---- by the form of an expression
 
   by_form : (t u : Tree) (p q : Option SourceRange) → Alike r ok (expr_form c t (expr_seen c) p) (expr_form d u (expr_seen d) q) →
       Alike r ok (expr_seen c t p) (expr_seen d u q)
@@ -97,7 +80,7 @@ module _ (r : Renaming) (ok : IsRenaming r) (c d : Bindings) (pair : SameBinding
 
   mutual
     pub expr_alike : {t u : Tree} → SameExpr r c d t u → (p q : Option SourceRange) → PlaceAlike r ok p q → Alike r ok (expr_seen c t p) (expr_seen d u q)
-    expr_alike (s.same {t = t} {u = u} e) p q f = same_expr_alike t u p q e f
+    expr_alike (s.plain {t = t} {u = u} e s') p q f = by_form t u p q (plain_alike r ok c d (expr_seen c) (expr_seen d) t u p q e s')
     expr_alike (s.SameExpr.refused {t = t} {u = u} e g) p q f = by_form t u p q (refused_alike r ok c d (expr_seen c) (expr_seen d) t u p q e g)
     expr_alike (s.compound {t = t} {u = u} k b e xs) p q f =
         by_form t u p q (compound_alike r ok c d (expr_seen c) (expr_seen d) t u p q k b e (exprs_alike xs))
@@ -178,9 +161,11 @@ module _ (r : Renaming) (ok : IsRenaming r) (c d : Bindings) (pair : SameBinding
         ap₂ (λ y ys. y ∷ ys) (subst (λ z. Alike r ok (pat_seen c (expr_seen c) b t) (pat_seen d (expr_seen d) z u)) f (pat_alike x b)) (pats_alike xs)
 
     pub pat_alike : {t u : Tree} → SamePat r c d t u → (b : Bool) → Alike r ok (pat_seen c (expr_seen c) b t) (pat_seen d (expr_seen d) b u)
-    pat_alike (s.same_pat {t = t} {u = u} e) b = same_pat_alike b t u e
+    pat_alike (s.bare {t = t} {u = u} k e) b = bare_alike r ok c d (expr_seen c) (expr_seen d) b t u k e
     pat_alike (s.emptied {t = t} {u = u} e) b = emptied_alike r ok c d (expr_seen c) (expr_seen d) b t u e
     pat_alike (s.rest {t = t} {u = u} k a dots arg e) b = rest_alike r ok c d (expr_seen c) (expr_seen d) b t u k a dots arg e
+    pat_alike (s.taken_apart {t = t} {u = u} e f a) b = taken_apart_alike r ok c d (expr_seen c) (expr_seen d) b t u e f a
+    pat_alike (s.default_taken_apart {t = t} {u = u} k e f a) b = default_taken_apart_alike r ok c d (expr_seen c) (expr_seen d) b t u k e f a
     pat_alike (s.typed_default {t = t} {u = u} k j e w) b = typed_default_alike r ok c d (expr_seen c) (expr_seen d) b t u k j e w
     pat_alike (s.shown_default {t = t} {u = u} k j e h) b = shown_default_alike r ok c d (expr_seen c) (expr_seen d) b t u k j e h
     pat_alike (s.kept_default {t = t} {u = u} k j a e h x) b = kept_default_alike r ok c d (expr_seen c)

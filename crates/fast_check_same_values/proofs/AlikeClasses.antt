@@ -55,7 +55,8 @@ use Rattle.fast_check_signatures.proofs.MovedParts.{moved_seen, moved_class, fie
 use Rattle.fast_check_signatures.proofs.References.{is_reference_moved}
 use Rattle.fast_check_same_values.specs.SameValues.{SameBindings, Both}
 use Rattle.fast_check_same_values.specs.SameClasses.{SameParamType, SameParamProperty, SameSuperCall, SameSuperCalls, SameConstructorHead, SameConstructed}
-use Rattle.fast_check_same_values.specs.SameClasses.{plain_params, SameConstructor, SameMethod, SameSigned, SameMember, SameMembers, SameClassHead, SameClass}
+use Rattle.fast_check_same_values.specs.SameClasses.{plain_params, SameConstructor, SameMethod, SameSigned, SameMember, SameMembers, SameSuperclass, SameClassHead}
+use Rattle.fast_check_same_values.specs.SameClasses.{SameClass}
 use Rattle.fast_check_same_values.specs.SameClasses.{SameAmbientMembers, SameAmbientClass}
 use Rattle.fast_check_same_values.specs.SameClasses as s
 use Rattle.fast_check_same_values.proofs.AlikeTrees.{TreeAlike, RangeAlike, scope_to, image_alike, same_read, new_alike, absent_alike, range_leaf_alike}
@@ -129,6 +130,10 @@ module _ (r : Renaming) (ok : IsRenaming r) where
       (λ a. alike_if r ok (is_reference t) (is_reference u) (written t) _ (written u) _
       (same_read r ok is_reference (λ m keeps t. is_reference_moved m t) t u (tree_to r ok e)) (λ b. same_written r ok e)
       (λ b. faulty_alike r ok UnsupportedSuperClassExpr _ _ (place_alike r ok t u e)))
+
+  not_reference : (t : Tree) → is_absent t ≡ false → is_reference t ≡ false →
+      superclass_seen t ≡ faulty UnsupportedSuperClassExpr (range_of_node t)
+  not_reference t a e = rw (a, e) refl
 
   -- ---- bodies of constructors
 
@@ -512,9 +517,15 @@ module _ (r : Renaming) (ok : IsRenaming r) where
         implements = tree_to r ok h.implements i;
       }
 
+      superclass_of : (t u : Tree) → SameSuperclass r c d f g t u → Alike r ok (superclass_seen t) (superclass_seen u)
+      superclass_of t u (s.SameSuperclass.same e) = superclass_alike t u e
+      superclass_of t u (s.SameSuperclass.refused a e j x) =
+          subst₂ (Alike r ok) (sym (not_reference t a.0 e)) (sym (not_reference u a.1 j))
+          (faulty_alike r ok UnsupportedSuperClassExpr _ _ (range_to r ok _ _ x))
+
       pub class_alike : (t u : Tree) → SameClass r c d f g t u → Alike r ok (plain_class_seen c f t) (plain_class_seen d g u)
       class_alike t u h =
-          λ i. class (class_head_alike t u h.head i) (superclass_alike _ _ h.head.superclass i)
+          λ i. class (class_head_alike t u h.head i) (superclass_of _ _ h.superclass i)
           (seens_alike r ok _ _ (all_members_alike _ _ h.hash_named h.members) i)
 
     -- ---- ambient classes
@@ -547,6 +558,6 @@ module _ (r : Renaming) (ok : IsRenaming r) where
     pub ambient_class_alike : (t u : Tree) → SameAmbientClass r c d f g t u → TreeAlike r ok (ambient_class t) (ambient_class u)
     ambient_class_alike t u h = node_alike r ok kinds.Class _ _ (λ i.
         range_leaf_alike r ok _ _ (range_to r ok _ _ h.head.span) i ∷ scope_leaf_alike r ok _ _ h.head.ctxt i ∷ tree_to r ok h.decorators i ∷
-        node_alike r ok kinds.List _ _ (ambient_alike _ _ h.members) i ∷ tree_to r ok h.head.superclass i ∷
+        node_alike r ok kinds.List _ _ (ambient_alike _ _ h.members) i ∷ tree_to r ok h.superclass i ∷
         flag_leaf_alike r ok _ _ h.head.is_abstract i ∷ tree_to r ok h.head.type_params i ∷ tree_to r ok h.head.super_type_params i ∷
         tree_to r ok h.head.implements i ∷ [])

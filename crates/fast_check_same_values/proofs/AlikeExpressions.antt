@@ -8,6 +8,7 @@ use Rattle.fast_check_syntax.specs.declared.tree.Tree.{Tree}
 use Rattle.fast_check_syntax.specs.Shape.{◌is◌, is_kind, kind_of, part, parts}
 use Rattle.fast_check_syntax.specs.Moves.{Renaming, IsRenaming}
 use Rattle.fast_check_syntax.specs.Same.{SameTree}
+use Rattle.fast_check_syntax.proofs.Same.{tree_to}
 use Rattle.fast_check_signatures.specs.Bindings.{Bindings}
 use Rattle.fast_check_signatures.specs.declared.rules.TheConstants.{FREEZE, NEW}
 use Rattle.fast_check_signatures.specs.declared.rules.Slot.{Slot}
@@ -18,10 +19,26 @@ use Rattle.fast_check_signatures.specs.Expressions.{rule, is_refused, slot_seen,
 use Rattle.fast_check_signatures.proofs.Choices.{both_true}
 use Rattle.fast_check_signatures.proofs.Refused.{refused_rule}
 use Rattle.fast_check_same_values.specs.SameValues.{Both}
+use Rattle.fast_check_same_values.proofs.AlikeTrees.{kind_alike as same_kinds}
 use Rattle.fast_check_same_values.proofs.AlikeSeen.{Alike, AllAlike, same_written, round_alike}
 
 compound_rule : (k : Kind) (known : Bool) → is_compound k ≡ true → rule k known ≡ parted
 compound_rule k known e = ap (λ b. if b then parted else (if is_plain k then whole else other_rule k known)) e
+
+-- what stays as it is has no parts to visit
+plain_rule : (k : Kind) (known : Bool) → is_plain k ≡ true → rule k known ≡ whole
+plain_rule kinds.Leaf known e = refl
+plain_rule kinds.ThisExpr known e = refl
+plain_rule kinds.Ident known e = refl
+plain_rule kinds.IdentName known e = refl
+plain_rule kinds.Str known e = refl
+plain_rule kinds.Bool known e = refl
+plain_rule kinds.Null known e = refl
+plain_rule kinds.Number known e = refl
+plain_rule kinds.BigInt known e = refl
+plain_rule kinds.Regex known e = refl
+plain_rule kinds.TplElement known e = refl
+plain_rule _ known e = cc
 
 module _ (r : Renaming) (ok : IsRenaming r) (c d : Bindings) (look look' : Look) (t u : Tree) (p q : Option SourceRange) where
   abbrev pub FormAlike : Type 0
@@ -58,6 +75,12 @@ module _ (r : Renaming) (ok : IsRenaming r) (c d : Bindings) (look look' : Look)
   kind_alike k x b e f alike =
       subst₂ (Alike r ok) (sym (λ i. by_rule c ((ap (λ k. rule k (is_known c t)) b.left ∙ e) i) (b.left i) t look p))
       (sym (λ i. by_rule d ((ap (λ k. rule k (is_known d u)) b.right ∙ f) i) (b.right i) u look' q)) (rule_alike x k alike)
+
+  pub plain_alike : is_plain (kind_of t) ≡ true → SameTree r t u → FormAlike
+  plain_alike e s =
+      let k = same_kinds r ok t u (tree_to r ok s) in
+      kind_alike (kind_of t) whole (record { left = refl; right = sym k }) (plain_rule (kind_of t) (is_known c t) e)
+      (plain_rule (kind_of t) (is_known d u) e) s
 
   pub compound_alike : (k : Kind) → Both k t u → is_compound k ≡ true → RuleAlike parted → FormAlike
   compound_alike k b e alike = kind_alike k parted b (compound_rule k (is_known c t) e) (compound_rule k (is_known d u) e) alike

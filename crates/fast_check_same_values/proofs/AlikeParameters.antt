@@ -14,6 +14,7 @@ use Rattle.fast_check_syntax.proofs.Same.{tree_to, range_to}
 use Rattle.fast_check_expression_forms.specs.Patterns.{ArrayPat-span, ArrayPat-optional, ArrayPat-type_ann, ObjectPat-span, ObjectPat-optional}
 use Rattle.fast_check_expression_forms.specs.Patterns.{ObjectPat-type_ann, RestPat-span, RestPat-dot3_token, RestPat-arg, RestPat-type_ann, rest_pat}
 use Rattle.fast_check_expression_forms.specs.Patterns.{AssignPat-span, AssignPat-left, AssignPat-right, assign_pat}
+use Rattle.fast_check_ranges.specs.Ranges.{range_of_node}
 use Rattle.fast_check_program_forms.specs.Names.{Ident-span, Ident-optional, BindingIdent-id, BindingIdent-type_ann}
 use Rattle.fast_check_helpers.specs.declared.literal_type.DeclMutabilityKind.TheVariants.{Mutable}
 use Rattle.fast_check_helpers.specs.Builders.{type_ann, never_value}
@@ -22,15 +23,15 @@ use Rattle.fast_check_helpers.specs.OptionalParams.{is_optional_param}
 use Rattle.fast_check_helpers.proofs.BuildersMoved.{type_ann_moved, never_value_moved}
 use Rattle.fast_check_helpers.proofs.ReturnsMoved.{is_optional_param_moved}
 use Rattle.fast_check_signatures.specs.Bindings.{Bindings}
-use Rattle.fast_check_signatures.specs.declared.fault.FaultKind.TheVariants.{MissingExplicitType}
+use Rattle.fast_check_signatures.specs.declared.fault.FaultKind.TheVariants.{MissingExplicitType, UnsupportedDestructuring}
 use Rattle.fast_check_signatures.specs.Seen.{Seen, written, default, faulty}
-use Rattle.fast_check_signatures.specs.NewNodes.{never_array}
+use Rattle.fast_check_signatures.specs.NewNodes.{never_array, empty_object_pat}
 use Rattle.fast_check_signatures.specs.Parameters.{Look, emptied_array, emptied_object, typed, arg_by_kind, rest_arg, without_default, default_seen, by_shown}
 use Rattle.fast_check_signatures.specs.Parameters.{pattern_default_seen, assign_by_left, pat_by_kind, pat_seen}
-use Rattle.fast_check_same_values.specs.SameValues.{Both, SameShown, NoneShown, SameEmptied, pattern_type}
+use Rattle.fast_check_same_values.specs.SameValues.{Both, SameShown, NoneShown, SameEmptied, SameGathered, pattern_type, is_parameter, takes_default, gathers_nothing}
 use Rattle.fast_check_same_values.specs.SameValues as s
-use Rattle.fast_check_signatures.proofs.NewNodesMoved.{never_array_moved}
-use Rattle.fast_check_signatures.proofs.ParametersMoved.{without_default_moved}
+use Rattle.fast_check_signatures.proofs.NewNodesMoved.{never_array_moved, empty_object_pat_moved}
+use Rattle.fast_check_signatures.proofs.ParametersMoved.{rest_arg_moved, without_default_moved}
 use Rattle.fast_check_same_values.proofs.AlikeTrees.{TreeAlike, RangeAlike, image_alike, same_read, new_alike, field_alike, range_field_alike, absent_alike}
 use Rattle.fast_check_same_values.proofs.AlikeTrees.{range_leaf_alike, flag_leaf_alike, node_alike, empty_list_alike}
 use Rattle.fast_check_same_values.proofs.AlikeSeen.{Alike, written_alike, faulty_alike, alike_if}
@@ -46,6 +47,29 @@ module _ (bindings : Bindings) (look : Look) (is_optional : Bool) (pat : Tree) w
       pat_seen bindings look is_optional pat ≡ assign_by_left bindings look k is_optional pat
   default_of k e f = pat_of kinds.AssignPat e ∙ ap (λ k. assign_by_left bindings look k is_optional pat) f
 
+  -- what can't be a parameter, and what can't have a default
+  unfit_pat : (k : Kind) → is_parameter k ≡ false → pat_by_kind bindings look k is_optional pat ≡ faulty UnsupportedDestructuring (range_of_node pat)
+  unfit_pat kinds.BindingIdent e = cc
+  unfit_pat kinds.AssignPat e = cc
+  unfit_pat kinds.RestPat e = cc
+  unfit_pat kinds.ArrayPat e = cc
+  unfit_pat kinds.ObjectPat e = cc
+  unfit_pat _ e = refl
+
+  unfit_left : (k : Kind) → takes_default k ≡ false →
+      assign_by_left bindings look k is_optional pat ≡ faulty UnsupportedDestructuring (AssignPat-span pat)
+  unfit_left kinds.BindingIdent e = cc
+  unfit_left kinds.ArrayPat e = cc
+  unfit_left kinds.ObjectPat e = cc
+  unfit_left _ e = refl
+
+-- `{}` stands for what a rest can't be gathered in
+replaced_arg : (k : Kind) (arg : Tree) → gathers_nothing k ≡ true → arg_by_kind k arg ≡ empty_object_pat
+replaced_arg kinds.RestPat arg e = refl
+replaced_arg kinds.AssignPat arg e = refl
+replaced_arg kinds.PatExpr arg e = refl
+replaced_arg _ arg e = cc
+
 -- whether a parameter is optional, by its kind
 abbrev optional_at : Tree → Kind → Bool
 optional_at pat kind =
@@ -53,6 +77,14 @@ optional_at pat kind =
     else (if kind is kinds.ArrayPat then ArrayPat-optional pat
     else (if kind is kinds.ObjectPat then ObjectPat-optional pat
     else ((kind is kinds.AssignPat) || (kind is kinds.RestPat))))
+
+unfit_optional : (pat : Tree) (k : Kind) → is_parameter k ≡ false → optional_at pat k ≡ false
+unfit_optional pat kinds.BindingIdent e = cc
+unfit_optional pat kinds.AssignPat e = cc
+unfit_optional pat kinds.RestPat e = cc
+unfit_optional pat kinds.ArrayPat e = cc
+unfit_optional pat kinds.ObjectPat e = cc
+unfit_optional pat _ e = refl
 
 -- whether the type of an array or an object pattern is written, by its kind
 abbrev no_type_at : Tree → Kind → Bool
@@ -108,11 +140,18 @@ module _ (r : Renaming) (ok : IsRenaming r) where
       λ i. default (record { span = range_to r ok a b s i; left = f i; place = e i }) (g i)
 
   module _ (c d : Bindings) where
-    rest_arg_alike : (t u : Tree) → SameEmptied r c d t u → TreeAlike r ok (rest_arg t) (rest_arg u)
-    rest_arg_alike t u (s.array k a o e) = subst₂ (TreeAlike r ok) (sym (ap (λ k. arg_by_kind k t) k.left)) (sym (ap (λ k. arg_by_kind k u) k.right))
+    emptied_arg_alike : (t u : Tree) → SameEmptied r c d t u → TreeAlike r ok (rest_arg t) (rest_arg u)
+    emptied_arg_alike t u (s.array k a o e) = subst₂ (TreeAlike r ok) (sym (ap (λ k. arg_by_kind k t) k.left)) (sym (ap (λ k. arg_by_kind k u) k.right))
         (array_emptied t u a o e)
-    rest_arg_alike t u (s.object k a o e) = subst₂ (TreeAlike r ok) (sym (ap (λ k. arg_by_kind k t) k.left)) (sym (ap (λ k. arg_by_kind k u) k.right))
+    emptied_arg_alike t u (s.object k a o e) = subst₂ (TreeAlike r ok) (sym (ap (λ k. arg_by_kind k t) k.left)) (sym (ap (λ k. arg_by_kind k u) k.right))
         (object_emptied t u a o e)
+
+    rest_arg_alike : (t u : Tree) → SameGathered r c d t u → TreeAlike r ok (rest_arg t) (rest_arg u)
+    rest_arg_alike t u (s.named e) = image_alike r ok rest_arg (λ m keeps t. rest_arg_moved m keeps t) t u (tree_to r ok e)
+    rest_arg_alike t u (s.emptied_gathered e) = emptied_arg_alike t u e
+    rest_arg_alike t u (s.replaced e f) =
+        subst₂ (TreeAlike r ok) (sym (replaced_arg (kind_of t) t e)) (sym (replaced_arg (kind_of u) u f))
+        (new_alike r ok empty_object_pat empty_object_pat_moved)
 
     -- ---- which may be left out
 
@@ -129,6 +168,9 @@ module _ (r : Renaming) (ok : IsRenaming r) where
     pub assign_optional : (t u : Tree) → Both kinds.AssignPat t u → is_optional_param t ≡ is_optional_param u
     assign_optional t u k = ap (optional_at t) k.left ∙ sym (ap (optional_at u) k.right)
 
+    pub unfit_same : (t u : Tree) → is_parameter (kind_of t) ≡ false → is_parameter (kind_of u) ≡ false → is_optional_param t ≡ is_optional_param u
+    unfit_same t u e f = unfit_optional t (kind_of t) e ∙ sym (unfit_optional u (kind_of u) f)
+
     -- ---- what is seen, whatever is seen of expressions, but for defaults that are to stay
 
     module _ (look look' : Look) (b : Bool) where
@@ -139,6 +181,28 @@ module _ (r : Renaming) (ok : IsRenaming r) where
       -- the defaults of two parameters are seen alike
       abbrev pub DefaultAlike : Tree → Tree → Type 0
       DefaultAlike t u = (p q : Option SourceRange) → PlaceAlike p q → Alike r ok (look (AssignPat-right t) p) (look' (AssignPat-right u) q)
+
+      pub bare_alike : (t u : Tree) → Both kinds.BindingIdent t u → SameTree r t u → PatAlike t u
+      bare_alike t u k e =
+          let same = tree_to r ok e in
+          subst₂ (Alike r ok) (sym (pat_of c look b t kinds.BindingIdent k.left)) (sym (pat_of d look' b u kinds.BindingIdent k.right))
+          (typed_alike (BindingIdent-type_ann t) (BindingIdent-type_ann u) (Ident-span (BindingIdent-id t)) (Ident-span (BindingIdent-id u)) t u
+          (field_alike r ok BindingIdent-type_ann _ (λ t. refl) t u same)
+          (range_field_alike r ok Ident-span _ (λ t. refl) (BindingIdent-id t) (BindingIdent-id u) (field_alike r ok BindingIdent-id _ (λ t. refl) t u same))
+          same)
+
+      pub taken_apart_alike : (t u : Tree) → is_parameter (kind_of t) ≡ false → is_parameter (kind_of u) ≡ false →
+          SameRange r (range_of_node t) (range_of_node u) → PatAlike t u
+      taken_apart_alike t u e f a =
+          subst₂ (Alike r ok) (sym (unfit_pat c look b t (kind_of t) e)) (sym (unfit_pat d look' b u (kind_of u) f))
+          (faulty_alike r ok UnsupportedDestructuring (range_of_node t) (range_of_node u) (range_to r ok (range_of_node t) (range_of_node u) a))
+
+      pub default_taken_apart_alike : (t u : Tree) → Both kinds.AssignPat t u → takes_default (kind_of (AssignPat-left t)) ≡ false →
+          takes_default (kind_of (AssignPat-left u)) ≡ false → SameRange r (AssignPat-span t) (AssignPat-span u) → PatAlike t u
+      default_taken_apart_alike t u k e f a =
+          subst₂ (Alike r ok) (sym (pat_of c look b t kinds.AssignPat k.left ∙ unfit_left c look b t (kind_of (AssignPat-left t)) e))
+          (sym (pat_of d look' b u kinds.AssignPat k.right ∙ unfit_left d look' b u (kind_of (AssignPat-left u)) f))
+          (faulty_alike r ok UnsupportedDestructuring (AssignPat-span t) (AssignPat-span u) (range_to r ok (AssignPat-span t) (AssignPat-span u) a))
 
       pub emptied_alike : (t u : Tree) → SameEmptied r c d t u → PatAlike t u
       emptied_alike t u (s.array k a o e) =
@@ -152,7 +216,7 @@ module _ (r : Renaming) (ok : IsRenaming r) where
 
       pub rest_alike : (t u : Tree) → Both kinds.RestPat t u → SameRange r (RestPat-span t) (RestPat-span u) →
           SameRange r (RestPat-dot3_token t) (RestPat-dot3_token u) →
-          SameEmptied r c d (RestPat-arg t) (RestPat-arg u) → SameTree r (RestPat-type_ann t) (RestPat-type_ann u) → PatAlike t u
+          SameGathered r c d (RestPat-arg t) (RestPat-arg u) → SameTree r (RestPat-type_ann t) (RestPat-type_ann u) → PatAlike t u
       rest_alike t u k a dots arg e =
           subst₂ (Alike r ok) (sym (pat_of c look b t kinds.RestPat k.left)) (sym (pat_of d look' b u kinds.RestPat k.right))
           (typed_alike (RestPat-type_ann t) (RestPat-type_ann u) (RestPat-span t) (RestPat-span u)

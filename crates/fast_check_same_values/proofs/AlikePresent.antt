@@ -1,18 +1,27 @@
--- Of two expressions that agree neither is absent, or both are.
-use Rattle.std.specs.Prelude.{◌≡◌, true, false, ◌||◌, not, refl}
+-- Of two expressions that agree neither is absent, or both are. What is absent shows no type.
+use Rattle.std.specs.Prelude.{◌≡◌, None, true, false, ◌||◌, not, refl}
 use Rattle.std.proofs.Common.{ap, ◌∙◌, sym, true≢false}
 use Rattle.fast_check_syntax.specs.declared.kind.Kind.{Kind}
 use Rattle.fast_check_syntax.specs.declared.kind.Kind.TheVariants.{Leaf, CallExpr, NewExpr, TsSatisfiesExpr, TsAsExpr, TsTypeAssertion, FnExpr, ArrowExpr}
+use Rattle.fast_check_syntax.specs.declared.source.SyntaxContext.{SyntaxContext}
 use Rattle.fast_check_syntax.specs.declared.tree.Tree.{Tree}
 use Rattle.fast_check_syntax.specs.Shape.{◌is◌, is_kind, not_absent, kind_of, is_absent}
 use Rattle.fast_check_syntax.specs.Moves.{Renaming, IsRenaming}
+use Rattle.fast_check_syntax.specs.Recursion.{by_form_is_absent}
 use Rattle.fast_check_syntax.proofs.Same.{tree_to}
+use Rattle.fast_check_helpers.specs.declared.literal_type.DeclMutabilityKind.{DeclMutabilityKind}
+use Rattle.fast_check_helpers.specs.InferredType.{inferred_form, inferred_type}
 use Rattle.fast_check_signatures.specs.Bindings.{Bindings}
 use Rattle.fast_check_signatures.specs.Expressions.{is_plain, is_compound, is_among, other_kinds, freezes, is_frozen, makes_plain, is_made, is_known, is_refused}
 use Rattle.fast_check_signatures.proofs.Choices.{both_true}
 use Rattle.fast_check_same_values.specs.SameValues.{Both, SameExpr}
 use Rattle.fast_check_same_values.specs.SameValues as v
 use Rattle.fast_check_same_values.proofs.AlikeTrees.{absent_alike}
+
+pub absent_shows : (mutability : DeclMutabilityKind) (unresolved : SyntaxContext) (t : Tree) → is_absent t ≡ true →
+    inferred_type mutability unresolved t ≡ None
+unfolding inferred_type
+absent_shows mutability unresolved t e = by_form_is_absent None (inferred_form mutability unresolved) t e
 
 there : (t : Tree) (k : Kind) → kind_of t ≡ k → (k ≡ Leaf → ⊥) → is_absent t ≡ false
 there t k e n = not_absent t k e n
@@ -36,7 +45,7 @@ made_there c t e = there t NewExpr (is_kind (kind_of t) NewExpr (both_true (kind
 module _ (r : Renaming) (ok : IsRenaming r) (c d : Bindings) where
   -- neither is absent, or both are
   pub expr_absent : {t u : Tree} → SameExpr r c d t u → is_absent t ≡ is_absent u
-  expr_absent (v.SameExpr.same {t = t} {u = u} s) = absent_alike r ok t u (tree_to r ok s)
+  expr_absent (v.SameExpr.plain {t = t} {u = u} e s) = absent_alike r ok t u (tree_to r ok s)
   expr_absent (v.SameExpr.refused {t = t} {u = u} e f) = refused_there c t e ∙ sym (refused_there d u f)
   expr_absent (v.SameExpr.compound {t = t} {u = u} k d e xs) = both_there k t u d (compound_there k e)
   expr_absent (v.SameExpr.satisfies {t = t} {u = u} d x y z) = both_there TsSatisfiesExpr t u d (λ l. cc)

@@ -1,11 +1,11 @@
 -- Properties and accessors that agree but for what is hidden are seen alike.
-use Rattle.std.specs.Prelude.{◌≡◌, Bool, true, false, Option, Some, None, unwrap_or, option_map, List, [], ◌∷◌, map, refl, if◌then◌else◌}
-use Rattle.std.proofs.Common.{ap, ap₂, ◌∙◌, sym, subst, subst₂}
+use Rattle.std.specs.Prelude.{◌≡◌, Bool, true, false, Option, Some, None, unwrap_or, option_map, [], ◌∷◌, refl, if◌then◌else◌}
+use Rattle.std.proofs.Common.{ap, ◌∙◌, sym, subst, subst₂}
 use Rattle.fast_check_syntax.specs.declared.kind.Kind.TheVariants as kinds
 use Rattle.fast_check_syntax.specs.declared.source.SourceRange.{SourceRange}
 use Rattle.fast_check_syntax.specs.declared.tree.Tree.{Tree, Absent}
 use Rattle.fast_check_syntax.specs.Shape.{is_absent}
-use Rattle.fast_check_syntax.specs.Moves.{Renaming, IsRenaming, partners, twice, moved, moved_range}
+use Rattle.fast_check_syntax.specs.Moves.{Renaming, IsRenaming, partners, twice, moved}
 use Rattle.fast_check_syntax.specs.Same.{SameTree}
 use Rattle.fast_check_syntax.proofs.Moved.{absent_moved}
 use Rattle.fast_check_syntax.proofs.Partners.{partners-keep as partners_keep, twice-keeps as twice_keeps}
@@ -19,7 +19,6 @@ use Rattle.fast_check_helpers.specs.declared.literal_type.DeclMutabilityKind.The
 use Rattle.fast_check_helpers.specs.Builders.{type_ann, any_type_ann}
 use Rattle.fast_check_helpers.specs.InferredType.{inferred_type}
 use Rattle.fast_check_helpers.proofs.BuildersMoved.{type_ann_moved, any_type_ann_moved}
-use Rattle.fast_check_helpers.proofs.InferredMoved.{inferred_type_moved}
 use Rattle.fast_check_signatures.specs.Bindings.{Bindings}
 use Rattle.fast_check_signatures.specs.declared.fault.FaultKind.TheVariants.{MissingExplicitType}
 use Rattle.fast_check_signatures.specs.Seen.{PropertyHead, Seen, property, refused}
@@ -30,13 +29,12 @@ use Rattle.fast_check_signatures.specs.Classes.{typed_property, mutability_of_pr
 use Rattle.fast_check_signatures.specs.Classes.{untyped_property_seen, property_seen, untyped_accessor_seen, accessor_seen}
 use Rattle.fast_check_signatures.proofs.MovedParts.{moved_property}
 use Rattle.fast_check_same_values.specs.SameValues.{SameBindings, SameExpr}
-use Rattle.fast_check_same_values.specs.SameValues as v
-use Rattle.fast_check_same_values.specs.SameClasses.{SamePropertyHead, SameTypeShown, NoTypeShown, SameProperty, SameAccessor}
+use Rattle.fast_check_same_values.specs.SameClasses.{SamePropertyHead, SameProperty, SameAccessor}
 use Rattle.fast_check_same_values.specs.SameClasses as s
-use Rattle.fast_check_same_values.proofs.AlikeTrees.{TreeAlike, RangeAlike, scope_to, image_alike, new_alike, absent_alike, range_leaf_alike, flag_leaf_alike}
+use Rattle.fast_check_same_values.proofs.AlikeTrees.{TreeAlike, RangeAlike, image_alike, new_alike, absent_alike, range_leaf_alike, flag_leaf_alike}
 use Rattle.fast_check_same_values.proofs.AlikeTrees.{node_alike, empty_list_alike}
 use Rattle.fast_check_same_values.proofs.AlikeSeen.{Alike, written_alike, faulty_alike, alike_if}
-use Rattle.fast_check_same_values.proofs.AlikePresent.{expr_absent}
+use Rattle.fast_check_same_values.proofs.AlikePresent.{absent_shows, expr_absent}
 use Rattle.fast_check_same_values.proofs.AlikeMembers.{private_alike}
 use Rattle.fast_check_same_values.proofs.Alike.{expr_alike}
 
@@ -105,19 +103,16 @@ module _ (r : Renaming) (ok : IsRenaming r) where
         (λ w. typed_alike p q x y h (tree_to r ok e))
 
     module _ (pair : SameBindings r c d) where
-      -- what values that are equal show is so too
-      pub shown_same : (mutability : DeclMutabilityKind) (t u : Tree) → SameTree r t u →
-          option_map (moved (partners r)) (inferred_type mutability c.unresolved t) ≡ option_map (moved twice) (inferred_type mutability d.unresolved u)
-      shown_same mutability t u e =
-          sym (inferred_type_moved (partners r) (partners_keep r ok) mutability c.unresolved t)
-          ∙ (ap₂ (inferred_type mutability) (scope_to r ok c.unresolved d.unresolved pair.unresolved) (tree_to r ok e) ∙
-          inferred_type_moved twice twice_keeps mutability d.unresolved u)
-
       value_alike : (p q : SourceRange) (t u : Tree) → RangeAlike r ok p q → SameExpr r c d t u →
           Alike r ok (member_value_seen c f p t) (member_value_seen d g q u)
       value_alike p q t u e x =
           alike_if r ok (is_absent t) (is_absent u) refused (expr_seen c t (Some p)) refused (expr_seen d u (Some q)) (expr_absent r ok c d x) (λ a. refl)
           (λ a. expr_alike r ok c d pair x (Some p) (Some q) (ap Some e))
+
+      nothing_seen : (p q : SourceRange) (t u : Tree) → is_absent t ≡ true → is_absent u ≡ true →
+          Alike r ok (member_value_seen c f p t) (member_value_seen d g q u)
+      nothing_seen p q t u e j =
+          alike_if r ok (is_absent t) (is_absent u) refused (expr_seen c t (Some p)) refused (expr_seen d u (Some q)) (e ∙ sym j) (λ a. refl) (λ a. cc)
 
       -- ---- properties
 
@@ -162,12 +157,12 @@ module _ (r : Renaming) (ok : IsRenaming r) where
             let value = value_alike (range_of_node p.key) (range_of_node q.key) (ClassProp-value t) (ClassProp-value u) (place_alike p.key q.key h.key) x in
             λ i. property (property_head_alike o i) (value i)
 
-        same_alike : ClassProp-is_override t ≡ ClassProp-is_override u → SameTree r (ClassProp-value t) (ClassProp-value u) → (x y : Option Tree) →
-            option_map (moved (partners r)) x ≡ option_map (moved twice) y → UntypedAlike x y
-        same_alike o e (Some x) (Some y) q = shown_alike x y (ap (λ z. unwrap_or z (moved twice y)) q)
-        same_alike o e None None q = kept_alike o (v.SameExpr.same e)
-        same_alike o e (Some x) None q = cc
-        same_alike o e None (Some y) q = cc
+        none_alike : ClassProp-is_override t ≡ ClassProp-is_override u → is_absent (ClassProp-value t) ≡ true → is_absent (ClassProp-value u) ≡ true →
+            UntypedAlike None None
+        none_alike o e j =
+            let p = property_head t in let q = property_head u in
+            let value = nothing_seen (range_of_node p.key) (range_of_node q.key) (ClassProp-value t) (ClassProp-value u) e j in
+            λ i. property (property_head_alike o i) (value i)
 
         pub property_alike : SameProperty r c d f g t u → Alike r ok (property_seen c f t) (property_seen d g u)
         property_alike (s.SameProperty.any p) = by_privacy (property_head t) (property_head u) _ _ h (λ n. cc)
@@ -176,9 +171,9 @@ module _ (r : Renaming) (ok : IsRenaming r) where
         property_alike (s.SameProperty.inferred e x) =
             valued e (subst₂ UntypedAlike (sym x.left_is) (sym (same_mutability (ClassProp-value u) ∙ x.right_is))
             (shown_alike x.left x.right (tree_to r ok x.types)))
-        property_alike (s.SameProperty.same e o x) =
-            valued e (same_alike o x (shown c t (ClassProp-value t)) (shown d u (ClassProp-value u))
-            (shown_same (mutability t) (ClassProp-value t) (ClassProp-value u) x ∙ ap (option_map (moved twice)) (sym (same_mutability (ClassProp-value u)))))
+        property_alike (s.SameProperty.absent e o x y) =
+            valued e (subst₂ UntypedAlike (sym (absent_shows (mutability t) c.unresolved (ClassProp-value t) x))
+            (sym (absent_shows (mutability u) d.unresolved (ClassProp-value u) y)) (none_alike o x y))
         property_alike (s.SameProperty.kept e o n x) =
             valued e (subst₂ UntypedAlike (sym n.left) (sym (same_mutability (ClassProp-value u) ∙ n.right)) (kept_alike o x))
 
@@ -208,7 +203,5 @@ module _ (r : Renaming) (ok : IsRenaming r) where
         accessor_alike (s.SameAccessor.inferred e x) =
             accessor_valued e (subst₂ AccessorAlike (sym x.left_is) (sym x.right_is)
             (accessor_shown (Some x.left) (Some x.right) (ap Some (tree_to r ok x.types))))
-        accessor_alike (s.SameAccessor.same e x) =
-            accessor_valued e (accessor_shown _ _ (shown_same Mutable (AutoAccessor-value t) (AutoAccessor-value u) x))
         accessor_alike (s.SameAccessor.untyped e n) =
             accessor_valued e (subst₂ AccessorAlike (sym n.left) (sym n.right) (accessor_shown None None refl))

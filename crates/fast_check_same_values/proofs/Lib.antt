@@ -1,5 +1,4 @@
 pub mod AlikeTrees
-pub mod AlikeBindings
 pub mod AlikeMembers
 pub mod AlikeSeen
 pub mod AlikeParameters

@@ -31,7 +31,7 @@ use Rattle.fast_check_signatures.specs.Bindings.{Bindings}
 use Rattle.fast_check_signatures.specs.Seen.{PropertyHead}
 use Rattle.fast_check_signatures.specs.Members.{is_private, is_computed, is_hash_named, is_private_method_of, is_private_implementation, is_private_computed}
 use Rattle.fast_check_signatures.specs.Classes.{mutability_of_property, property_head, accessor_head, private_method_head, plain_param, param_target}
-use Rattle.fast_check_signatures.specs.Classes.{param_properties, patterns_among, is_super_call}
+use Rattle.fast_check_signatures.specs.Classes.{param_properties, patterns_among, is_super_call, is_reference}
 use Rattle.fast_check_same_values.specs.SameValues.{Both, Neither, SameExpr, SameFunction, SameFunctionHead, SameReturn, SameParams, SameImplementation}
 
 -- a has no partner; b is the partner of none
@@ -92,9 +92,9 @@ module _ (r : Renaming) (c d : Bindings) (f g : SourceRange → Bool) where
     -- any values of the same inferred type
     inferred : SameTree r (ClassProp-type_ann t) (ClassProp-type_ann u) →
         SameTypeShown (mutability_of_property (ClassProp-readonly t)) (ClassProp-value t) (ClassProp-value u) → SameProperty t u
-    -- the same values
-    same : SameTree r (ClassProp-type_ann t) (ClassProp-type_ann u) → ClassProp-is_override t ≡ ClassProp-is_override u →
-        SameTree r (ClassProp-value t) (ClassProp-value u) → SameProperty t u
+    -- no values
+    absent : SameTree r (ClassProp-type_ann t) (ClassProp-type_ann u) → ClassProp-is_override t ≡ ClassProp-is_override u →
+        is_absent (ClassProp-value t) ≡ true → is_absent (ClassProp-value u) ≡ true → SameProperty t u
     -- values that show no type and are to stay
     kept : SameTree r (ClassProp-type_ann t) (ClassProp-type_ann u) → ClassProp-is_override t ≡ ClassProp-is_override u →
         NoTypeShown (mutability_of_property (ClassProp-readonly t)) (ClassProp-value t) (ClassProp-value u) →
@@ -106,8 +106,7 @@ module _ (r : Renaming) (c d : Bindings) (f g : SourceRange → Bool) where
     typed : SameTree r (AutoAccessor-type_ann t) (AutoAccessor-type_ann u) → is_absent (AutoAccessor-type_ann t) ≡ false → SameAccessor t u
     inferred : SameTree r (AutoAccessor-type_ann t) (AutoAccessor-type_ann u) →
         SameTypeShown Mutable (AutoAccessor-value t) (AutoAccessor-value u) → SameAccessor t u
-    same : SameTree r (AutoAccessor-type_ann t) (AutoAccessor-type_ann u) → SameTree r (AutoAccessor-value t) (AutoAccessor-value u) → SameAccessor t u
-    -- any values that show no type
+    -- any values that show no type, their presence too
     untyped : SameTree r (AutoAccessor-type_ann t) (AutoAccessor-type_ann u) → NoTypeShown Mutable (AutoAccessor-value t) (AutoAccessor-value u) →
         SameAccessor t u
 
@@ -236,11 +235,18 @@ module _ (r : Renaming) (c d : Bindings) (f g : SourceRange → Bool) where
 
   -- ---- classes
 
-  -- what agrees of two classes, whatever their members and decorators are
+  -- the superclasses of classes that are not ambient
+  pub data SameSuperclass (t u : Tree) : Type 0 where
+    -- the same, or none
+    same : SameTree r t u → SameSuperclass t u
+    -- any two at the same place that are neither a name nor a chain of members on one
+    refused : (is_absent t ≡ false) × (is_absent u ≡ false) → is_reference t ≡ false → is_reference u ≡ false →
+        SameRange r (range_of_node t) (range_of_node u) → SameSuperclass t u
+
+  -- what agrees of two classes, whatever their superclasses, members and decorators are
   pub record SameClassHead (t u : Tree) : Type 0 where
     pub span : SameRange r (Class-span t) (Class-span u)
     pub ctxt : IsPair r.scopes (Class-ctxt t).0 (Class-ctxt u).0
-    pub superclass : SameTree r (Class-super_class t) (Class-super_class u)
     pub is_abstract : Class-is_abstract t ≡ Class-is_abstract u
     pub type_params : SameTree r (Class-type_params t) (Class-type_params u)
     pub super_type_params : SameTree r (Class-super_type_params t) (Class-super_type_params u)
@@ -249,6 +255,7 @@ module _ (r : Renaming) (c d : Bindings) (f g : SourceRange → Bool) where
   -- classes that are not ambient: both have members with a hash name, or neither has
   pub record SameClass (t u : Tree) : Type 0 where
     pub head : SameClassHead t u
+    pub superclass : SameSuperclass (Class-super_class t) (Class-super_class u)
     pub hash_named : list_any is_hash_named (parts (Class-body t)) ≡ list_any is_hash_named (parts (Class-body u))
     pub members : SameMembers [] [] (parts (Class-body t)) (parts (Class-body u))
 
@@ -261,5 +268,6 @@ module _ (r : Renaming) (c d : Bindings) (f g : SourceRange → Bool) where
 
   pub record SameAmbientClass (t u : Tree) : Type 0 where
     pub head : SameClassHead t u
+    pub superclass : SameTree r (Class-super_class t) (Class-super_class u)
     pub decorators : SameTree r (Class-decorators t) (Class-decorators u)
     pub members : SameAmbientMembers (parts (Class-body t)) (parts (Class-body u))

@@ -1,10 +1,9 @@
 -- Agreement of values, functions and parameters but for what is hidden: one rule for each part that may differ. All else agrees under a renaming of
 -- positions and scope numbers.
-use Rattle.std.specs.Prelude.{◌≡◌, ℕ, Bool, true, false, Some, None, List, [], ◌∷◌, map, if◌then◌else◌}
+use Rattle.std.specs.Prelude.{◌≡◌, Bool, true, false, Some, None, List, [], ◌∷◌, map, if◌then◌else◌}
 use Rattle.fast_check_syntax.specs.declared.kind.Kind.{Kind}
-use Rattle.fast_check_syntax.specs.declared.kind.Kind.TheVariants.{AssignPat, ArrayPat, ObjectPat, RestPat, BindingIdent, BlockStmt, TsSatisfiesExpr}
+use Rattle.fast_check_syntax.specs.declared.kind.Kind.TheVariants.{AssignPat, ArrayPat, ObjectPat, RestPat, BindingIdent, PatExpr, BlockStmt, TsSatisfiesExpr}
 use Rattle.fast_check_syntax.specs.declared.kind.Kind.TheVariants.{TsAsExpr, TsTypeAssertion, FnExpr, ArrowExpr}
-use Rattle.fast_check_syntax.specs.declared.source.SyntaxContext.{SyntaxContext}
 use Rattle.fast_check_syntax.specs.declared.tree.Tree.{Tree}
 use Rattle.fast_check_syntax.specs.Shape.{◌is◌, kind_of, parts, is_absent}
 use Rattle.fast_check_syntax.specs.Moves.{Renaming, IsPair}
@@ -21,11 +20,12 @@ use Rattle.fast_check_expression_forms.specs.Patterns.{ArrayPat-span, ArrayPat-o
 use Rattle.fast_check_expression_forms.specs.Patterns.{ObjectPat-type_ann, RestPat-span, RestPat-dot3_token, RestPat-arg, RestPat-type_ann, AssignPat-span}
 use Rattle.fast_check_expression_forms.specs.Patterns.{AssignPat-left, AssignPat-right}
 use Rattle.fast_check_program_forms.specs.Names.{BindingIdent-type_ann}
+use Rattle.fast_check_ranges.specs.Ranges.{range_of_node}
 use Rattle.fast_check_helpers.specs.declared.literal_type.DeclMutabilityKind.TheVariants.{Mutable}
 use Rattle.fast_check_helpers.specs.InferredType.{inferred_type}
 use Rattle.fast_check_helpers.specs.ReturnClass.{return_class}
 use Rattle.fast_check_signatures.specs.Bindings.{Bindings}
-use Rattle.fast_check_signatures.specs.Expressions.{is_compound, is_frozen, is_made, is_refused}
+use Rattle.fast_check_signatures.specs.Expressions.{is_plain, is_compound, is_frozen, is_made, is_refused}
 
 -- both are of a kind
 pub record Both (k : Kind) (t u : Tree) : Type 0 where
@@ -37,6 +37,29 @@ pub record Neither (k : Kind) (t u : Tree) : Type 0 where
   pub left : kind_of t is k ≡ false
   pub right : kind_of u is k ≡ false
 
+-- a kind of pattern that a parameter may be
+abbrev pub is_parameter : Kind → Bool
+is_parameter BindingIdent = true
+is_parameter AssignPat = true
+is_parameter RestPat = true
+is_parameter ArrayPat = true
+is_parameter ObjectPat = true
+is_parameter _ = false
+
+-- one that may have a default
+abbrev pub takes_default : Kind → Bool
+takes_default BindingIdent = true
+takes_default ArrayPat = true
+takes_default ObjectPat = true
+takes_default _ = false
+
+-- one in which no rest is gathered
+abbrev pub gathers_nothing : Kind → Bool
+gathers_nothing RestPat = true
+gathers_nothing AssignPat = true
+gathers_nothing PatExpr = true
+gathers_nothing _ = false
+
 -- which parameters of an implementation are a rest
 abbrev pub rests : Tree → List Bool
 rests function = map (λ p. kind_of (Param-pat p) is RestPat) (parts (Function-params function))
@@ -45,13 +68,11 @@ rests function = map (λ p. kind_of (Param-pat p) is RestPat) (parts (Function-p
 abbrev pub pattern_type : Tree → Tree
 pattern_type pat = if kind_of pat is ArrayPat then ArrayPat-type_ann pat else ObjectPat-type_ann pat
 
--- what is known of names agrees
+-- What is known of all names agrees. Whether a name is that of a class without type parameters has to agree where such a name is called, and nowhere else:
+-- `made` and `refused` ask it there.
 pub record SameBindings (r : Renaming) (c d : Bindings) : Type 0 where
   -- what nothing in the first module binds is what nothing in the second binds
   pub unresolved : IsPair r.scopes c.unresolved.0 d.unresolved.0
-  -- a name is that of a class without type parameters exactly if its partner is
-  pub is_plain_class : (text : List ℕ) (x y : SyntaxContext) → IsPair r.scopes x.0 y.0 →
-      c.is_plain_class (record { 0 = text; 1 = x }) ≡ d.is_plain_class (record { 0 = text; 1 = y })
 
 -- `c` and `d` are what is known of the names of either source
 module _ (r : Renaming) (c d : Bindings) where
@@ -74,6 +95,14 @@ module _ (r : Renaming) (c d : Bindings) where
         SameTree r (ArrayPat-type_ann t) (ArrayPat-type_ann u) → SameEmptied t u
     object : {t u : Tree} → Both ObjectPat t u → SameRange r (ObjectPat-span t) (ObjectPat-span u) → ObjectPat-optional t ≡ ObjectPat-optional u →
         SameTree r (ObjectPat-type_ann t) (ObjectPat-type_ann u) → SameEmptied t u
+
+  -- what two rests are gathered in
+  pub data SameGathered : Tree → Tree → Type 0 where
+    -- identifiers, and what else stands as it is written
+    named : {t u : Tree} → SameTree r t u → SameGathered t u
+    emptied_gathered : {t u : Tree} → SameEmptied t u → SameGathered t u
+    -- a rest, a default or an expression, whatever stands in it: `{}` stands for each
+    replaced : {t u : Tree} → gathers_nothing (kind_of t) ≡ true → gathers_nothing (kind_of u) ≡ true → SameGathered t u
 
   -- what agrees of two functions, whatever their bodies and parameters
   pub record SameFunctionHead (t u : Tree) : Type 0 where
@@ -105,7 +134,8 @@ module _ (r : Renaming) (c d : Bindings) where
   mutual
     -- expressions that may have to stay, with the lists, elements, properties and names inside of them
     pub data SameExpr : Tree → Tree → Type 0 where
-      same : {t u : Tree} → SameTree r t u → SameExpr t u
+      -- those that stay as they are, which hold no others
+      plain : {t u : Tree} → is_plain (kind_of t) ≡ true → SameTree r t u → SameExpr t u
       -- any two that may not stay, whatever their parts
       refused : {t u : Tree} → is_refused c t ≡ true → is_refused d u ≡ true → SameExpr t u
       -- part by part
@@ -166,11 +196,17 @@ module _ (r : Renaming) (c d : Bindings) where
 
     -- parameters
     pub data SamePat : Tree → Tree → Type 0 where
-      same_pat : {t u : Tree} → SameTree r t u → SamePat t u
+      -- identifiers, with their types
+      bare : {t u : Tree} → Both BindingIdent t u → SameTree r t u → SamePat t u
       emptied : {t u : Tree} → SameEmptied t u → SamePat t u
-      -- a rest that is gathered in a pattern
       rest : {t u : Tree} → Both RestPat t u → SameRange r (RestPat-span t) (RestPat-span u) → SameRange r (RestPat-dot3_token t) (RestPat-dot3_token u) →
-          SameEmptied (RestPat-arg t) (RestPat-arg u) → SameTree r (RestPat-type_ann t) (RestPat-type_ann u) → SamePat t u
+          SameGathered (RestPat-arg t) (RestPat-arg u) → SameTree r (RestPat-type_ann t) (RestPat-type_ann u) → SamePat t u
+      -- any two that can't be parameters
+      taken_apart : {t u : Tree} → is_parameter (kind_of t) ≡ false → is_parameter (kind_of u) ≡ false → SameRange r (range_of_node t) (range_of_node u) →
+          SamePat t u
+      -- any two defaults of what can't have one
+      default_taken_apart : {t u : Tree} → Both AssignPat t u → takes_default (kind_of (AssignPat-left t)) ≡ false →
+          takes_default (kind_of (AssignPat-left u)) ≡ false → SameRange r (AssignPat-span t) (AssignPat-span u) → SamePat t u
       -- any defaults of identifiers with a written type
       typed_default : {t u : Tree} → Both AssignPat t u → Both BindingIdent (AssignPat-left t) (AssignPat-left u) →
           SameTree r (AssignPat-left t) (AssignPat-left u) → is_absent (BindingIdent-type_ann (AssignPat-left t)) ≡ false → SamePat t u

@@ -2,8 +2,6 @@ pub mod MovedParts
 pub mod NewNodesMoved
 pub mod AnswersMoved
 pub mod ParametersMoved
-pub mod FunctionsMoved
-pub mod SeenMoved
 pub mod Refused
 pub mod Looks
 pub mod Adding

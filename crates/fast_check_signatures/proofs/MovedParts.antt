@@ -1,26 +1,16 @@
 -- What is seen, moved; what the fields of a moved node read as; and choices between moved things.
 use Rattle.std.specs.Prelude.{◌≡◌, ℕ, Bool, true, false, option_map, List, [], ◌∷◌, map, refl, if◌then◌else◌}
 use Rattle.std.proofs.Common.{ap, ◌∙◌, sym}
-use Rattle.fast_check_syntax.specs.declared.atom.Id.{Id}
 use Rattle.fast_check_syntax.specs.declared.source.SourceRange.{SourceRange}
 use Rattle.fast_check_syntax.specs.declared.source.SyntaxContext.{SyntaxContext}
 use Rattle.fast_check_syntax.specs.declared.tree.Tree.{Tree}
-use Rattle.fast_check_syntax.specs.Shape.{kind_of, part, parts, is_absent, range_of, flag_of, context_of}
+use Rattle.fast_check_syntax.specs.Shape.{kind_of, part, parts, range_of, context_of}
 use Rattle.fast_check_syntax.specs.Moves.{Moves, Keeps, moved, moved_range}
-use Rattle.fast_check_syntax.proofs.Moved.{range_moved, context_moved, kind_of_moved, part_moved, parts_moved, is_absent_moved, flag_of_moved, range_of_moved}
+use Rattle.fast_check_syntax.proofs.Moved.{kind_of_moved, part_moved, parts_moved, range_of_moved}
 use Rattle.fast_check_helpers.proofs.GlobalCallsMoved.{moved_scope, context_of_moved}
-use Rattle.fast_check_signatures.specs.Bindings.{Bindings}
 use Rattle.fast_check_signatures.specs.Seen.{DeclaratorHead, DefaultHead, FunctionHead, ArrowHead, ClassHead, PropertyHead}
 use Rattle.fast_check_signatures.specs.Seen.{Seen, written, round, listed, declarator, default, function, typed_arrow, valued_arrow, class, property}
-use Rattle.fast_check_signatures.specs.Seen.{default_export, tested, faulty, refused, Seens, end, also, seens, range, scope}
-
--- what is known of moved names, where this says which of them are those of plain classes
-abbrev pub moved_bindings : Moves → (Id → Bool) → Bindings → Bindings
-moved_bindings m is_plain_class b = record { unresolved = moved_scope m b.unresolved; is_plain_class = is_plain_class }
-
--- it says so of a moved name exactly if the name is one
-abbrev pub MovesPlain : Moves → (Id → Bool) → Bindings → Type 0
-MovesPlain m is_plain_class b = (id : Id) → is_plain_class (record { 0 = id.0; 1 = moved_scope m id.1 }) ≡ b.is_plain_class id
+use Rattle.fast_check_signatures.specs.Seen.{default_export, tested, faulty, refused, Seens, end, also, seens}
 
 abbrev pub moved_declarator : Moves → DeclaratorHead → DeclaratorHead
 moved_declarator m d = record { span = moved_range m d.span; ident = moved m d.ident; definite = d.definite }
@@ -84,21 +74,11 @@ pub seens_moved : (m : Moves) (ss : List Seen) → seens (map (moved_seen m) ss)
 seens_moved m [] = refl
 seens_moved m (s ∷ ss) = ap (also (moved_seen m s)) (seens_moved m ss)
 
--- a range and a scope number
-pub range_seen_moved : (m : Moves) (r : SourceRange) → moved_seen m (range r) ≡ range (moved_range m r)
-range_seen_moved m r = ap written (range_moved m r)
-
-pub scope_seen_moved : (m : Moves) (c : SyntaxContext) → moved_seen m (scope c) ≡ scope (moved_scope m c)
-scope_seen_moved m c = ap written (context_moved m c)
-
 -- ---- fields, each with the place where it reads, which the form tells
 
 module _ (m : Moves) where
   pub field_moved : (field : Tree → Tree) (n : ℕ) → ((t : Tree) → field t ≡ part n t) → (t : Tree) → field (moved m t) ≡ moved m (field t)
   field_moved field n reads t = reads (moved m t) ∙ (part_moved m n t ∙ ap (moved m) (sym (reads t)))
-
-  pub absent_moved_at : (field : Tree → Tree) (n : ℕ) → ((t : Tree) → field t ≡ part n t) → (t : Tree) → is_absent (field (moved m t)) ≡ is_absent (field t)
-  absent_moved_at field n reads t = ap is_absent (field_moved field n reads t) ∙ is_absent_moved m (field t)
 
   pub kind_moved_at : (field : Tree → Tree) (n : ℕ) → ((t : Tree) → field t ≡ part n t) → (t : Tree) → kind_of (field (moved m t)) ≡ kind_of (field t)
   kind_moved_at field n reads t = ap kind_of (field_moved field n reads t) ∙ kind_of_moved m (field t)
@@ -106,9 +86,6 @@ module _ (m : Moves) where
   pub items_moved_at : (field : Tree → Tree) (n : ℕ) → ((t : Tree) → field t ≡ part n t) → (t : Tree) →
       parts (field (moved m t)) ≡ map (moved m) (parts (field t))
   items_moved_at field n reads t = ap parts (field_moved field n reads t) ∙ parts_moved m (field t)
-
-  pub flag_field_moved : (field : Tree → Bool) (n : ℕ) → ((t : Tree) → field t ≡ flag_of (part n t)) → (t : Tree) → field (moved m t) ≡ field t
-  flag_field_moved field n reads t = reads (moved m t) ∙ (ap flag_of (part_moved m n t) ∙ (flag_of_moved m (part n t) ∙ sym (reads t)))
 
   pub range_field_moved : Keeps m → (field : Tree → SourceRange) (n : ℕ) → ((t : Tree) → field t ≡ range_of (part n t)) → (t : Tree) →
       field (moved m t) ≡ moved_range m (field t)
@@ -122,16 +99,7 @@ module _ (m : Moves) where
 
 -- ---- choices
 
--- what is seen after a move is what was seen before it, moved
-pub record IsMoved (m : Moves) (after before : Seen) : Type 0 where
-  pub path : after ≡ moved_seen m before
-
 pub tree_chosen : (m : Moves) (b' b : Bool) (x x' y y' : Tree) → b' ≡ b → x ≡ moved m x' → y ≡ moved m y' →
     (if b' then x else y) ≡ moved m (if b then x' else y')
 tree_chosen m b' true x x' y y' e p q = ap (λ b. if b then x else y) e ∙ p
 tree_chosen m b' false x x' y y' e p q = ap (λ b. if b then x else y) e ∙ q
-
-pub seen_chosen : (m : Moves) (b' b : Bool) (x x' y y' : Seen) → b' ≡ b → IsMoved m x x' → IsMoved m y y' →
-    IsMoved m (if b' then x else y) (if b then x' else y')
-seen_chosen m b' true x x' y y' e p q = record { path = ap (λ b. if b then x else y) e ∙ p.path }
-seen_chosen m b' false x x' y y' e p q = record { path = ap (λ b. if b then x else y) e ∙ q.path }

@@ -1,5 +1,5 @@
 -- Modules that agree but for what is hidden are seen alike, so that their skeletons and faults are the same.
-use Rattle.std.specs.Prelude.{◌≡◌, ◌&&◌, Bool, true, false, not, ◌||◌, Option, Some, None, unwrap_or, option_map, List, [], ◌∷◌, ◌++◌, map, flat_map, refl}
+use Rattle.std.specs.Prelude.{◌≡◌, ◌&&◌, Bool, true, false, not, ◌||◌, Option, Some, None, List, [], ◌∷◌, ◌++◌, map, flat_map, refl}
 use Rattle.std.specs.Prelude.{if◌then◌else◌}
 use Rattle.std.specs.List.{list_all}
 use Rattle.std.proofs.Common.{ap, ap₂, ◌∙◌, sym, subst, subst₂}
@@ -10,7 +10,7 @@ use Rattle.fast_check_syntax.specs.declared.source.SourceRange.{SourceRange}
 use Rattle.fast_check_syntax.specs.declared.tree.Tree as tree
 use Rattle.fast_check_syntax.specs.declared.tree.Tree.{Tree}
 use Rattle.fast_check_syntax.specs.Shape.{◌is◌, kind_of, parts, is_absent, has_word, list}
-use Rattle.fast_check_syntax.specs.Moves.{Renaming, IsRenaming, partners, twice, moved}
+use Rattle.fast_check_syntax.specs.Moves.{Renaming, IsRenaming, partners, twice}
 use Rattle.fast_check_syntax.specs.Same.{SameTree, SameRange, Each}
 use Rattle.fast_check_syntax.proofs.Moved.{has_word_moved, node_moved}
 use Rattle.fast_check_syntax.proofs.Made.{part_node}
@@ -51,13 +51,13 @@ use Rattle.fast_check_typed_grammar.specs.signatures.Expressions.{expr_seen}
 use Rattle.fast_check_typed_grammar.specs.signatures.Functions.{function_seen, implementation_seen}
 use Rattle.fast_check_same_values.specs.SameValues.{SameBindings, Both, SameExpr}
 use Rattle.fast_check_same_values.specs.SameValues as v
-use Rattle.fast_check_same_values.proofs.AlikeTrees.{TreeAlike, scope_to, image_alike, new_alike, absent_alike, range_leaf_alike, flag_leaf_alike, node_alike}
+use Rattle.fast_check_same_values.proofs.AlikeTrees.{TreeAlike, image_alike, new_alike, absent_alike, range_leaf_alike, flag_leaf_alike, node_alike}
 use Rattle.fast_check_same_values.proofs.AlikeTrees.{range_field_alike}
 use Rattle.fast_check_same_values.proofs.AlikeSeen.{Alike, AllAlike, written_alike, same_written, range_alike, scope_alike, flag_alike}
 use Rattle.fast_check_same_values.proofs.AlikeSeen.{alike_if, all_alike_if, faulty_alike, listed_alike, round_alike, append_alike}
 use Rattle.fast_check_typed_grammar.proofs.signature_proofs.Choices.{both_true}
 use Rattle.fast_check_typed_grammar.proofs.signature_proofs.MovedParts.{moved_declarator}
-use Rattle.fast_check_same_values.proofs.AlikePresent.{expr_absent}
+use Rattle.fast_check_same_values.proofs.AlikePresent.{absent_shows, expr_absent}
 use Rattle.fast_check_same_values.proofs.Alike.{expr_alike, function_alike}
 use Rattle.fast_check_same_values.proofs.AlikeClasses.{class_alike, ambient_class_alike}
 use Rattle.fast_check_same_values.proofs.AlikeFunctions.{implementation_alike}
@@ -88,7 +88,6 @@ use Rattle.fast_check_skeleton.proofs.AgreeingDefaults.{silent_default, defaults
 use Rattle.fast_check_skeleton.specs.SameLinks as l
 use Rattle.fast_check_skeleton.specs.Hidden as h
 use Rattle.fast_check_skeleton.specs.Worlds.{SameFault, SameSkeleton}
-use Rattle.fast_check_helpers.proofs.InferredMoved.{inferred_type_moved}
 use Rattle.fast_check_typed_grammar.proofs.signature_proofs.AnswersMoved.{moved_fault, moved_items, answer_of_moved}
 
 -- ---- what is silent is not seen
@@ -246,30 +245,27 @@ module _ (r : Renaming) (ok : IsRenaming r) where
         (ap Some (range_to r ok place place' (ident_place (declared_ident t) (declared_ident u) d.ident)))) in
         λ i. declarator (head_alike t u d i) (same i)
 
-    -- equal values
-    same_alike : SameBindings r a.bindings b.bindings → (t u : Tree) → SameHead r a b t u → SameTree r (VarDeclarator-init t) (VarDeclarator-init u) →
-        (o o' : Option Tree) → option_map (moved (partners r)) o ≡ option_map (moved twice) o' → UntypedAlike t u o o'
-    same_alike c t u d s (Some x) (Some y) e = shown_alike t u x y d (ap (λ o. unwrap_or o (moved twice y)) e)
-    same_alike c t u d s None None e = kept_alike c t u d (v.SameExpr.same s)
-    same_alike c t u d s (Some x) None e = cc
-    same_alike c t u d s None (Some y) e = cc
-
-    same_shown : (mutability : DeclMutabilityKind) (v w : Tree) → SameBindings r a.bindings b.bindings → SameTree r v w →
-        option_map (moved (partners r)) (inferred_type mutability a.bindings.unresolved v) ≡ option_map (moved twice)
-        (inferred_type mutability b.bindings.unresolved w)
-    same_shown mutability v w c s =
-        sym (inferred_type_moved (partners r) (partners_keep r ok) mutability a.bindings.unresolved v)
-        ∙ (ap₂ (inferred_type mutability) (scope_to r ok a.bindings.unresolved b.bindings.unresolved c.unresolved) (tree_to r ok s) ∙
-        inferred_type_moved twice twice_keeps mutability b.bindings.unresolved w)
+    -- no values
+    none_alike : (t u : Tree) → SameHead r a b t u → is_absent (VarDeclarator-init t) ≡ true → is_absent (VarDeclarator-init u) ≡ true →
+        UntypedAlike t u None None
+    none_alike t u d e f =
+        let place = Ident-span (declared_ident t) in
+        let place' = Ident-span (declared_ident u) in
+        let value = VarDeclarator-init t in
+        let value' = VarDeclarator-init u in
+        let same : Alike r ok (value_seen a place value) (value_seen b place' value') =
+        alike_if r ok (is_absent value) (is_absent value') refused (expr_seen a.bindings value (Some place)) refused
+        (expr_seen b.bindings value' (Some place')) (e ∙ sym f) (λ g. refl) (λ g. cc) in
+        λ i. declarator (head_alike t u d i) (same i)
 
     declarator_alike : SameBindings r a.bindings b.bindings → (mutability : DeclMutabilityKind) {t u : Tree} → SameDeclarator r a b mutability t u →
         Alike r ok (declarator_seen a mutability t) (declarator_seen b mutability u)
     declarator_alike c mutability (h.SameDeclarator.typed {t = t} {u = u} d w) = declared mutability t u d (λ e. cc)
     declarator_alike c mutability (h.SameDeclarator.inferred {t = t} {u = u} x y d f g s) =
         declared mutability t u d (λ e. subst₂ (UntypedAlike t u) (sym f) (sym g) (shown_alike t u x y d (tree_to r ok s)))
-    declarator_alike c mutability (h.SameDeclarator.same {t = t} {u = u} d s) =
-        declared mutability t u d (λ e. same_alike c t u d s (shown_of a mutability t) (shown_of b mutability u)
-        (same_shown mutability (VarDeclarator-init t) (VarDeclarator-init u) c s))
+    declarator_alike c mutability (h.SameDeclarator.absent {t = t} {u = u} d x y) =
+        declared mutability t u d (λ e. subst₂ (UntypedAlike t u) (sym (absent_shows mutability a.bindings.unresolved (VarDeclarator-init t) x))
+        (sym (absent_shows mutability b.bindings.unresolved (VarDeclarator-init u) y)) (none_alike t u d x y))
     declarator_alike c mutability (h.SameDeclarator.kept {t = t} {u = u} d f g s) =
         declared mutability t u d (λ e. subst₂ (UntypedAlike t u) (sym f) (sym g) (kept_alike c t u d s))
     declarator_alike c mutability (h.SameDeclarator.destructured {t = t} {u = u} n s) =

@@ -101,13 +101,13 @@ module _ (r : Renaming) (ok : IsRenaming r) where
     source_alike : (t u : Tree) → SameSource r a b t u → TreeAlike r ok (answered_source a t) (answered_source b u)
     source_alike t u d =
         go (is_absent t) (is_absent u) (absent_alike r ok t u (tree_to r ok d.tree)) (tree_to r ok d.tree)
-        (written_source t u (a.relative (Str-value t)) (b.relative (Str-value u)) d.relative d.tree)
+        (λ e. written_source t u (a.relative (Str-value t)) (b.relative (Str-value u)) (d.relative e) d.tree)
       where
         go : (m n : Bool) → m ≡ n → TreeAlike r ok t u →
-            TreeAlike r ok (source_of t (a.relative (Str-value t))) (source_of u (b.relative (Str-value u))) →
+            (m ≡ false → TreeAlike r ok (source_of t (a.relative (Str-value t))) (source_of u (b.relative (Str-value u)))) →
             TreeAlike r ok (if m then t else source_of t (a.relative (Str-value t))) (if n then u else source_of u (b.relative (Str-value u)))
         go true true e f g = f
-        go false false e f g = g
+        go false false e f g = g refl
         go true false e f g = cc
         go false true e f g = cc
 

@@ -62,7 +62,7 @@ new_same t stays = tree_from no_places is_renaming t t (new_alike no_places is_r
 pub same_absent : Same Absent Absent
 same_absent = new_same Absent (λ m ok. absent_moved m)
 
-same_none : Same (list []) (list [])
+pub same_none : Same (list []) (list [])
 same_none = new_same (list []) (λ m ok. node_moved m kinds.List [])
 
 same_private : Same (tree.Word words.Private) (tree.Word words.Private)
@@ -86,7 +86,7 @@ no_place = record { start = inl (refl, refl); end = inl (refl, refl) }
 pub at_places : (a b : SourceRange) → a ≡ none_range → b ≡ none_range → SamePlace a b
 at_places a b e f = subst₂ SamePlace (sym e) (sym f) no_place
 
-in_scopes : (a b : _) → a ≡ no_scope → b ≡ no_scope → IsPair no_places.scopes a.0 b.0
+pub in_scopes : (a b : _) → a ≡ no_scope → b ≡ no_scope → IsPair no_places.scopes a.0 b.0
 in_scopes a b e f = subst₂ (λ x y. IsPair no_places.scopes x.0 y.0) (sym e) (sym f) (inl (refl, refl))
 
 pub are_same : (t u x : Tree) → t ≡ x → u ≡ x → Same x x → Same t u
@@ -94,7 +94,7 @@ are_same t u x e f s = subst₂ Same (sym e) (sym f) s
 
 -- ---- the function
 
-function_head : (ps qs ss ts : List Tree) → SameFunctionHead no_places no_classes no_classes (void_function ps ss) (void_function qs ts)
+pub function_head : (ps qs ss ts : List Tree) → SameFunctionHead no_places no_classes no_classes (void_function ps ss) (void_function qs ts)
 function_head ps qs ss ts = record {
   span = at_places _ _ (simp (part_node, range_of_range)) (simp (part_node, range_of_range));
   ctxt = in_scopes _ _ (simp (part_node, context_of_context)) (simp (part_node, context_of_context));
@@ -102,7 +102,7 @@ function_head ps qs ss ts = record {
   has_body = simp (part_node, is_absent_node);
 }
 
-function_return : (ps qs ss ts : List Tree) → SameReturn no_places no_classes no_classes (void_function ps ss) (void_function qs ts)
+pub function_return : (ps qs ss ts : List Tree) → SameReturn no_places no_classes no_classes (void_function ps ss) (void_function qs ts)
 function_return ps qs ss ts = record {
   is_async = simp (part_node, flag_of_flag);
   is_generator = simp (part_node, flag_of_flag);
@@ -134,7 +134,7 @@ function_items ss ts = h.SameItem.decl (h.SameDecl.function (function_decls _ _ 
 
 -- ---- the class
 
-abbrev f : SourceRange → Bool
+abbrev pub f : SourceRange → Bool
 f place = false
 
 method_heads : (ps qs : List Tree) → SamePropertyHead no_places no_classes no_classes f f (private_method_head (method_m ps))
@@ -159,7 +159,7 @@ block_begins = simp (kind_of_node, part_node, range_of_range)
 block_alone : IsNoPartner no_places.starts (range_of_node static_block).start.0
 block_alone n p = let q : IsPair no_places.starts n 7 = subst (λ s. IsPair no_places.starts n s.start.0) block_begins p in grind arith
 
-members : SameMembers no_places no_classes no_classes f f [] [] (method_m [] ∷ []) (static_block ∷ method_m (parameter ∷ []) ∷ [])
+pub members : SameMembers no_places no_classes no_classes f f [] [] (method_m [] ∷ []) (static_block ∷ method_m (parameter ∷ []) ∷ [])
 members = s.SameMembers.right (s.IsSilentMember.static_block (kind_of_node _ _)) block_alone (s.SameMembers.next
     (s.SameMember.private_method (record { left = kind_of_node _ _; right = kind_of_node _ _ }) (method_heads [] (parameter ∷ []))
     (ap (has_word words.Private) (part_node _ _ _) ∙ word_read words.Private words.Private)) s.SameMembers.end)
@@ -171,25 +171,25 @@ class_heads : (ms ns : List Tree) → SameClassHead no_places no_classes no_clas
 class_heads ms ns = record {
   span = at_places _ _ (simp (part_node, range_of_range)) (simp (part_node, range_of_range));
   ctxt = in_scopes _ _ (simp (part_node, context_of_context)) (simp (part_node, context_of_context));
-  superclass = are_same _ _ Absent (part_node _ _ _) (part_node _ _ _) same_absent;
   is_abstract = simp (part_node, flag_of_flag);
   type_params = are_same _ _ Absent (part_node _ _ _) (part_node _ _ _) same_absent;
   super_type_params = are_same _ _ Absent (part_node _ _ _) (part_node _ _ _) same_absent;
   implements = are_same _ _ (list []) (part_node _ _ _) (part_node _ _ _) same_none;
 }
 
-abbrev first_members : List Tree
+abbrev pub first_members : List Tree
 first_members = method_m [] ∷ []
 
-abbrev second_members : List Tree
+abbrev pub second_members : List Tree
 second_members = static_block ∷ method_m (parameter ∷ []) ∷ []
 
-neither_hashed : list_any is_hash_named first_members ≡ list_any is_hash_named second_members
+pub neither_hashed : list_any is_hash_named first_members ≡ list_any is_hash_named second_members
 neither_hashed = simp kind_of_node
 
 classes : SameClass no_places no_classes no_classes f f (class_of_members first_members) (class_of_members second_members)
 classes = record {
   head = class_heads first_members second_members;
+  superclass = s.SameSuperclass.same (are_same _ _ Absent (part_node _ _ _) (part_node _ _ _) same_absent);
   hash_named = subst₂ (λ x y. list_any is_hash_named x ≡ list_any is_hash_named y) (sym (body_made first_members)) (sym (body_made second_members))
       neither_hashed;
   members = subst₂ (SameMembers no_places no_classes no_classes f f [] []) (sym (body_made first_members)) (sym (body_made second_members)) members;
@@ -216,7 +216,7 @@ items_made items = simp parts_node
 
 agree : AgreeHidden no_places all_public all_public first second
 agree = record {
-  bindings = record { unresolved = inl (refl, refl); is_plain_class = λ text x y p. refl };
+  bindings = record { unresolved = inl (refl, refl) };
   is_ambient = refl;
   items = subst₂ (SameItems no_places all_public all_public) (sym (items_made _)) (sym (items_made _))
       (h.SameItems.next (function_items [] (empty_statement ∷ [])) (h.SameItems.next class_items h.SameItems.end));

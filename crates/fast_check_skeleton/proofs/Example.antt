@@ -219,7 +219,7 @@ begins_alone n p = let q : IsPair renaming.starts n 10 = subst (λ s. IsPair ren
 
 agree : AgreeHidden renaming a b first second
 agree = record {
-  bindings = record { unresolved = inr (inl (refl, refl)); is_plain_class = λ text x y p. refl };
+  bindings = record { unresolved = inr (inl (refl, refl)) };
   is_ambient = refl;
   items = subst₂ (SameItems renaming a b)
       (sym (items_made (at 10 39) (exported 10 2 text_value 38 ∷ []) Absent))

@@ -37,7 +37,8 @@ use Rattle.fast_check_skeleton.specs.declared.rules.ItemRule.TheVariants.{Assign
 use Rattle.fast_check_skeleton.specs.Hidden.{AgreeHidden, SameItem, SameItems}
 use Rattle.fast_check_skeleton.specs.Hidden as h
 use Rattle.fast_check_skeleton.specs.Rules.{item_rule}
-use Rattle.fast_check_skeleton.specs.SameAssignments.{SameObject, SameAssignment}
+use Rattle.fast_check_skeleton.specs.SameAssignments.{SameObject, SameExpando, SameAssignment}
+use Rattle.fast_check_skeleton.specs.SameAssignments as forms
 use Rattle.fast_check_skeleton.specs.Skeleton.{skeleton_of}
 use Rattle.fast_check_skeleton.specs.Visible.{item_look, item_seen, seen_by_rule, properties_by_rule, item_properties, body_seen, visible}
 use Rattle.fast_check_skeleton.specs.ClassExample.{function_f, empty_statement, module_of, no_places, no_classes, all_public}
@@ -53,7 +54,7 @@ use Rattle.fast_check_skeleton.proofs.Namespaces.{item_seen_is}
 same_number : Same (ts_keyword_type words.TsNumberKeyword) (ts_keyword_type words.TsNumberKeyword)
 same_number = new_same (ts_keyword_type words.TsNumberKeyword) (λ m ok. simp (node_moved, range_moved, none_moved m ok, word_moved))
 
-same_target : Same target target
+pub same_target : Same target target
 same_target = new_same target (λ m ok. simp (node_moved, range_moved, none_moved m ok, context_moved, text_moved, flag_moved, ok.scope_zero))
 
 values : (x y : Tree) → SameExpr no_places no_classes no_classes (as_number x) (as_number y)
@@ -61,28 +62,37 @@ values x y = v.SameExpr.as_type (record { left = kind_of_node _ _; right = kind_
     (at_places _ _ (simp (part_node, range_of_range)) (simp (part_node, range_of_range)))
     (are_same _ _ (ts_keyword_type words.TsNumberKeyword) (part_node _ _ _) (part_node _ _ _) same_number)
 
-right_made : (t : Tree) → AssignExpr-right (assignment t) ≡ t
+pub right_made : (t : Tree) → AssignExpr-right (assignment t) ≡ t
 right_made t = part_node _ _ _
 
-left_made : (t : Tree) → AssignExpr-left (assignment t) ≡ target
+pub left_made : (t : Tree) → AssignExpr-left (assignment t) ≡ target
 left_made t = part_node _ _ _
 
-assignment_made : (t : Tree) → ExprStmt-expr (assigned t) ≡ assignment t
+pub assignment_made : (t : Tree) → ExprStmt-expr (assigned t) ≡ assignment t
 assignment_made t = part_node _ _ _
+
+pub is_one : (t : Tree) → is_expando_assignment (assignment t) ≡ true
+is_one t = simp (kind_of_node, part_node, text_of_text)
+
+expandos : (x y : Tree) → SameExpando no_places all_public all_public (assignment (as_number x)) (assignment (as_number y))
+expandos x y = record {
+  forms = (is_one (as_number x), is_one (as_number y));
+  span = at_places _ _ (simp (part_node, range_of_range)) (simp (part_node, range_of_range));
+  target = are_same _ _ target (left_made (as_number x)) (left_made (as_number y)) same_target;
+  object = record { is_declared = refl; has_export_keyword = refl };
+  exported = refl;
+}
 
 assignments : (x y : Tree) → SameAssignment no_places all_public all_public (assignment (as_number x)) (assignment (as_number y))
 assignments x y = record {
   kinds = record { left = kind_of_node _ _; right = kind_of_node _ _ };
-  span = at_places _ _ (simp (part_node, range_of_range)) (simp (part_node, range_of_range));
   is_public = refl;
-  op = simp part_node;
-  left = are_same _ _ target (left_made (as_number x)) (left_made (as_number y)) same_target;
-  object = record { exports = λ name. refl; has_export_keyword = refl };
+  form = forms.SameForm.expando (expandos x y);
   right = subst₂ (SameExpr no_places no_classes no_classes) (sym (right_made (as_number x))) (sym (right_made (as_number y))) (values x y);
   right_range = at_places _ _ (simp (part_node, kind_of_node, range_of_range)) (simp (part_node, kind_of_node, range_of_range));
 }
 
-both_assigned : (x y : Tree) → SameItem no_places all_public all_public (assigned (as_number x)) (assigned (as_number y))
+pub both_assigned : (x y : Tree) → SameItem no_places all_public all_public (assigned (as_number x)) (assigned (as_number y))
 both_assigned x y = h.SameItem.assigned (record {
   kinds = record { left = kind_of_node _ _; right = kind_of_node _ _ };
   range = at_places _ _ (simp (kind_of_node, part_node, range_of_range)) (simp (kind_of_node, part_node, range_of_range));
@@ -94,7 +104,7 @@ both_assigned x y = h.SameItem.assigned (record {
 
 agree : AgreeHidden no_places all_public all_public first second
 agree = record {
-  bindings = record { unresolved = inl (refl, refl); is_plain_class = λ text x y p. refl };
+  bindings = record { unresolved = inl (refl, refl) };
   is_ambient = refl;
   items = subst₂ (SameItems no_places all_public all_public) (sym (items_made _)) (sym (items_made _))
       (h.SameItems.next (function_items [] (empty_statement ∷ [])) (h.SameItems.next (both_assigned _ _) h.SameItems.end));
@@ -165,9 +175,6 @@ property = record {
   declarator = property_declarator none_range target (as_number never_in_parens);
   conflicts = [];
 }
-
-is_one : (t : Tree) → is_expando_assignment (assignment t) ≡ true
-is_one t = simp (kind_of_node, part_node, text_of_text)
 
 span_made : (t : Tree) → AssignExpr-span (assignment t) ≡ none_range
 span_made t = simp (part_node, range_of_range)

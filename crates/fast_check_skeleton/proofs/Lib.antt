@@ -16,3 +16,6 @@ pub mod ClassExample
 pub mod ModuleExample
 pub mod NamespaceExample
 pub mod ExpandoExample
+pub mod PrivateClassExample
+pub mod SilentAssignmentExample
+pub mod HiddenChangesExample

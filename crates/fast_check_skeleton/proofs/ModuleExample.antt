@@ -56,7 +56,7 @@ source_made : (ts : List Tree) → ImportDecl-src (import_of ts written_source) 
 source_made ts = part_node _ _ _
 
 sources : SameSource no_places around around written_source written_source
-sources = record { tree = same_source; relative = refl }
+sources = record { tree = same_source; relative = λ e. refl }
 
 imports : SameImport no_places around around (import_of first_specifiers written_source) (import_of second_specifiers written_source)
 imports = record {
@@ -98,7 +98,7 @@ defaults ss ts = h.SameItem.default (d.SameDefault.function (default_functions s
 
 agree : AgreeHidden no_places around around first second
 agree = record {
-  bindings = record { unresolved = inl (refl, refl); is_plain_class = λ text x y p. refl };
+  bindings = record { unresolved = inl (refl, refl) };
   is_ambient = refl;
   items = subst₂ (SameItems no_places around around) (sym (items_made _)) (sym (items_made _))
       (h.SameItems.next (h.SameItem.linked (l.SameLink.import imports)) (h.SameItems.next (defaults [] (empty_statement ∷ [])) h.SameItems.end));
@@ -116,7 +116,7 @@ second_is : skeleton_of around second ≡ answered
 second_is = simp (item_seen_is, parts_node, kind_of_node, range_of_range, flag_of_flag, context_of_context, text_of_text, is_absent_node, absent, word_read)
 
 other_source : SameSource no_places around e.unresolving written_source written_source → ⊥
-other_source s = let e = s.relative in cc
+other_source s = let e = s.relative (is_absent_node _ _) in cc
 
 pub module_example : ModuleExample
 module_example = record { one_to_one = is_renaming; agree = agree; first_skeleton = first_is; second_skeleton = second_is; other_source = other_source }

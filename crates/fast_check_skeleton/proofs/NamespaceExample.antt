@@ -99,7 +99,7 @@ namespaces = h.SameItem.namespace (h.SameNamespace.bodies (heads [] (hidden ∷ 
 
 agree : AgreeHidden no_places all_public all_public first second
 agree = record {
-  bindings = record { unresolved = inl (refl, refl); is_plain_class = λ text x y p. refl };
+  bindings = record { unresolved = inl (refl, refl) };
   is_ambient = refl;
   items = subst₂ (SameItems no_places all_public all_public) (sym (items_made _)) (sym (items_made _)) (h.SameItems.next namespaces h.SameItems.end);
   shebang = are_same _ _ Absent (part_node _ _ _) (part_node _ _ _) same_absent;

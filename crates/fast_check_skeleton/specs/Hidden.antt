@@ -90,8 +90,8 @@ module _ (r : Renaming) (a b : Surroundings) where
         inferred_type mutability a.bindings.unresolved (VarDeclarator-init t) ≡ Some x →
         inferred_type mutability b.bindings.unresolved (VarDeclarator-init u) ≡ Some y →
         SameTree r x y → SameDeclarator mutability t u
-    -- the same values
-    same : {t u : Tree} → SameHead t u → SameTree r (VarDeclarator-init t) (VarDeclarator-init u) → SameDeclarator mutability t u
+    -- no values
+    absent : {t u : Tree} → SameHead t u → is_absent (VarDeclarator-init t) ≡ true → is_absent (VarDeclarator-init u) ≡ true → SameDeclarator mutability t u
     -- values that show no type and are to stay
     kept : {t u : Tree} → SameHead t u →
         inferred_type mutability a.bindings.unresolved (VarDeclarator-init t) ≡ None →
@@ -216,7 +216,7 @@ module _ (r : Renaming) where
 module _ (r : Renaming) (a b : Surroundings) where
   -- two modules that agree but for what is hidden
   pub record AgreeHidden (t u : Tree) : Type 0 where
-    -- what is known of names agrees, under the renaming of scope numbers
+    -- what is known of all names agrees, under the renaming of scope numbers
     pub bindings : SameBindings r a.bindings b.bindings
     pub is_ambient : a.is_ambient ≡ b.is_ambient
     pub items : SameItems r a b (items_of t) (items_of u)

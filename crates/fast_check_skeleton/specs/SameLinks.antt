@@ -2,7 +2,7 @@
 use Rattle.std.specs.Prelude.{◌≡◌, Bool, false, List, [], ◌∷◌}
 use Rattle.fast_check_syntax.specs.declared.kind.Kind.TheVariants.{ImportDecl, NamedExport, ExportAll, TsImportEqualsDecl}
 use Rattle.fast_check_syntax.specs.declared.tree.Tree.{Tree}
-use Rattle.fast_check_syntax.specs.Shape.{kind_of, parts}
+use Rattle.fast_check_syntax.specs.Shape.{kind_of, parts, is_absent}
 use Rattle.fast_check_syntax.specs.Moves.{Renaming}
 use Rattle.fast_check_syntax.specs.Same.{SameTree, SameRange}
 use Rattle.fast_check_program_forms.specs.Literals.{Str-value}
@@ -34,10 +34,10 @@ module _ (r : Renaming) (a b : Surroundings) where
   abbrev pub SameSpecifiers : Tree → Tree → Type 0
   SameSpecifiers t u = SamePublic (is_public_specifier a) (is_public_specifier b) (SameTree r) (parts t) (parts u)
 
-  -- the same source, for which the same text stands in both skeletons
+  -- the same source or none, and for one the same text stands in both skeletons
   pub record SameSource (t u : Tree) : Type 0 where
     pub tree : SameTree r t u
-    pub relative : a.relative (Str-value t) ≡ b.relative (Str-value u)
+    pub relative : is_absent t ≡ false → a.relative (Str-value t) ≡ b.relative (Str-value u)
 
   pub record SameImport (t u : Tree) : Type 0 where
     pub kinds : Both ImportDecl t u

@@ -5,8 +5,11 @@ ghost use Rattle.fast_check_skeleton.specs.ClassExample.{ClassExample};
 ghost use Rattle.fast_check_skeleton.specs.Example.{Example};
 ghost use Rattle.fast_check_skeleton.specs.ExpandoExample.{ExpandoExample};
 ghost use Rattle.fast_check_skeleton.specs.HashMark.{HashMarked};
+ghost use Rattle.fast_check_skeleton.specs.HiddenChangesExample.{HiddenChangesExample};
 ghost use Rattle.fast_check_skeleton.specs.ModuleExample.{ModuleExample};
 ghost use Rattle.fast_check_skeleton.specs.NamespaceExample.{NamespaceExample};
+ghost use Rattle.fast_check_skeleton.specs.PrivateClassExample.{PrivateClassExample};
+ghost use Rattle.fast_check_skeleton.specs.SilentAssignmentExample.{SilentAssignmentExample};
 
 use fast_check_syntax::Tree;
 
@@ -17,8 +20,10 @@ use fast_check_syntax::Tree;
 /// example is one documented statement, and the same behind a hidden function, which is documented too, and with
 /// another value. Another one has a function and a class on both sides, of which a body, the signature of a private method
 /// and a static block differ. The modules of the next one import a name and export a function by default: what else they import
-/// from there, and the body of the function, differ. Those of another one have a namespace, in which a statement differs. Those of the
-/// last one assign a property to a function: its body differs, and what the value asserts to be a number.
+/// from there, and the body of the function, differ. Those of another one have a namespace, in which a statement differs. Those of
+/// another one assign a property to a function: its body differs, and what the value asserts to be a number. Of two more the first has
+/// a class that is not public, and the second has not. So it is of two with an assignment that is not public. The
+/// last two differ by hidden changes of all kinds.
 pub fn two_worlds(first: &Tree, second: &Tree)
     ensures law { (a : Surroundings) (c : Comments) (b : Surroundings) (d : Comments) → TwoWorlds a first.now c b second.now d }
     ensures not_empty { Example }
@@ -26,6 +31,9 @@ pub fn two_worlds(first: &Tree, second: &Tree)
     ensures of_modules { ModuleExample }
     ensures of_namespaces { NamespaceExample }
     ensures of_expandos { ExpandoExample }
+    ensures of_private_classes { PrivateClassExample }
+    ensures of_silent_assignments { SilentAssignmentExample }
+    ensures of_all_changes { HiddenChangesExample }
 {
     let _ = first;
     let _ = second;

@@ -4,6 +4,9 @@ use Rattle.fast_check_skeleton.proofs.ClassExample.{class_example}
 use Rattle.fast_check_skeleton.proofs.ModuleExample.{module_example}
 use Rattle.fast_check_skeleton.proofs.NamespaceExample.{namespace_example}
 use Rattle.fast_check_skeleton.proofs.ExpandoExample.{expando_example}
+use Rattle.fast_check_skeleton.proofs.PrivateClassExample.{private_class_example}
+use Rattle.fast_check_skeleton.proofs.SilentAssignmentExample.{silent_assignment_example}
+use Rattle.fast_check_skeleton.proofs.HiddenChangesExample.{hidden_changes_example}
 use Rattle.fast_check_skeleton.proofs.worlds.two_worlds.Goals as goal
 
 pub returns : goal.returns
@@ -14,4 +17,7 @@ returns c = record {
   of_modules = module_example;
   of_namespaces = namespace_example;
   of_expandos = expando_example;
+  of_private_classes = private_class_example;
+  of_silent_assignments = silent_assignment_example;
+  of_all_changes = hidden_changes_example;
 }
