@@ -1,0 +1,4 @@
+pub mod SameSources
+pub mod SameTold
+pub mod Pairs
+pub mod Apart

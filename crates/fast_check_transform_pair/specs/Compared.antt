@@ -1,0 +1,58 @@
+-- How sources and diagnostics are compared under a renaming.
+use Rattle.std.specs.Prelude.{◌≡◌, Option, Some, None, string_bytes}
+use Rattle.fast_check_modules.specs.diagnostics.declared.diagnostics.range.FastCheckDiagnosticRange.{FastCheckDiagnosticRange}
+use Rattle.fast_check_modules.specs.diagnostics.declared.diagnostics.FastCheckDiagnostic.{FastCheckDiagnostic}
+use Rattle.fast_check_modules.specs.diagnostics.declared.diagnostics.FastCheckDiagnostic.TheVariants.{MissingExplicitType, MissingExplicitReturnType}
+use Rattle.fast_check_modules.specs.diagnostics.declared.diagnostics.FastCheckDiagnostic.TheVariants.{UnsupportedDestructuring, UnsupportedSuperClassExpr}
+use Rattle.fast_check_modules.specs.diagnostics.declared.diagnostics.FastCheckDiagnostic.TheVariants.{UnsupportedDefaultExportExpr, UnsupportedUsing, UnsupportedRequire}
+use Rattle.fast_check_modules.specs.diagnostics.declared.diagnostics.FastCheckDiagnostic.TheVariants.{UnsupportedTsExportAssignment, UnsupportedTsNamespaceExport}
+use Rattle.fast_check_modules.specs.diagnostics.declared.diagnostics.FastCheckDiagnostic.TheVariants.{UnsupportedGlobalModule, UnsupportedAmbientModule}
+use Rattle.fast_check_modules.specs.diagnostics.declared.diagnostics.FastCheckDiagnostic.TheVariants.{UnsupportedExpandoProperty}
+use Rattle.fast_check_parsed_source.specs.declared.tables.fast_check_module.StaticSource.{StaticSource}
+use Rattle.fast_check_signatures.specs.declared.fault.FaultKind.{FaultKind}
+use Rattle.fast_check_signatures.specs.declared.fault.FaultKind.TheVariants as kinds
+use Rattle.fast_check_syntax.specs.Moves.{Renaming}
+use Rattle.fast_check_syntax.specs.Same.{SameRange}
+
+-- one source of imports or exports, at a renamed range
+pub record SameStaticSource (r : Renaming) (s t : StaticSource) : Type 0 where
+  pub specifier : s.specifier ≡ t.specifier
+  pub range : SameRange r s.range t.range
+  pub is_export : s.is_export ≡ t.is_export
+  pub type_only : s.type_only ≡ t.type_only
+
+-- one place in modules of one name; the source texts may differ
+pub record SamePlace (r : Renaming) (p q : FastCheckDiagnosticRange) : Type 0 where
+  pub specifier : p.specifier ≡ q.specifier
+  pub range : SameRange r p.range q.range
+
+-- a kind of fault with its flags and names, and its place
+abbrev pub Told : Type 0
+Told = FaultKind × FastCheckDiagnosticRange
+
+-- what a diagnostic of a transform tells
+abbrev pub told_by : FastCheckDiagnostic → Option Told
+told_by (MissingExplicitType place) = Some (kinds.MissingExplicitType, place)
+told_by (MissingExplicitReturnType place is_definitely_void_or_never is_async) =
+    Some (kinds.MissingExplicitReturnType is_definitely_void_or_never is_async, place)
+told_by (UnsupportedDestructuring place) = Some (kinds.UnsupportedDestructuring, place)
+told_by (UnsupportedSuperClassExpr place) = Some (kinds.UnsupportedSuperClassExpr, place)
+told_by (UnsupportedDefaultExportExpr place) = Some (kinds.UnsupportedDefaultExportExpr, place)
+told_by (UnsupportedUsing place) = Some (kinds.UnsupportedUsing, place)
+told_by (UnsupportedRequire place) = Some (kinds.UnsupportedRequire, place)
+told_by (UnsupportedTsExportAssignment place) = Some (kinds.UnsupportedTsExportAssignment, place)
+told_by (UnsupportedTsNamespaceExport place) = Some (kinds.UnsupportedTsNamespaceExport, place)
+told_by (UnsupportedGlobalModule place) = Some (kinds.UnsupportedGlobalModule, place)
+told_by (UnsupportedAmbientModule place) = Some (kinds.UnsupportedAmbientModule, place)
+told_by (UnsupportedExpandoProperty place object reference) =
+    Some (kinds.UnsupportedExpandoProperty (string_bytes object) (string_bytes reference), place)
+told_by _ = None
+
+-- one diagnostic: the same kind, flags and names, by bytes, at places that are the same
+pub record SameDiagnostic (r : Renaming) (d e : FastCheckDiagnostic) : Type 0 where
+  pub kind : FaultKind
+  pub first_place : FastCheckDiagnosticRange
+  pub second_place : FastCheckDiagnosticRange
+  pub first_told : told_by d ≡ Some (kind, first_place)
+  pub second_told : told_by e ≡ Some (kind, second_place)
+  pub places : SamePlace r first_place second_place

@@ -1,0 +1,4 @@
+pub mod Transformed
+pub mod Compared
+pub mod Worlds
+pub mod Apart
