@@ -5,6 +5,7 @@ use Rattle.std.proofs.Common.{ap, ap₂, ◌∙◌, sym}
 use Rattle.fast_check_syntax.specs.declared.kind.Kind.TheVariants.{Param, BlockStmt, RestPat, List as List'}
 use Rattle.fast_check_syntax.specs.declared.atom.Id.{Id}
 use Rattle.fast_check_syntax.specs.declared.source.SourceRange.{SourceRange}
+use Rattle.fast_check_syntax.specs.declared.source.SyntaxContext.{SyntaxContext}
 use Rattle.fast_check_syntax.specs.declared.tree.Tree.{Tree}
 use Rattle.fast_check_syntax.specs.Shape.{◌is◌, kind_of, parts, is_absent}
 use Rattle.fast_check_syntax.specs.Moves.{Moves, Keeps, moved, moved_range}
@@ -18,10 +19,12 @@ use Rattle.fast_check_helpers.specs.declared.return_class.ReturnStatementAnalysi
 use Rattle.fast_check_helpers.specs.declared.return_class.ReturnStatementAnalysis.TheVariants as class
 use Rattle.fast_check_helpers.specs.Builders.{type_ann, any_type_ann}
 use Rattle.fast_check_helpers.specs.InferredType.{inferred_type}
+use Rattle.fast_check_helpers.specs.NamedBodies.{named_return}
 use Rattle.fast_check_helpers.specs.ReturnClass.{return_class}
 use Rattle.fast_check_helpers.proofs.BuildersMoved.{type_ann_moved, any_type_ann_moved}
 use Rattle.fast_check_helpers.proofs.GlobalCallsMoved.{moved_scope}
 use Rattle.fast_check_helpers.proofs.InferredMoved.{inferred_type_moved}
+use Rattle.fast_check_helpers.proofs.NamedMoved.{named_return_moved}
 use Rattle.fast_check_helpers.proofs.ReturnsMoved.{return_class_moved}
 use Rattle.fast_check_signatures.specs.Bindings.{Bindings}
 use Rattle.fast_check_signatures.specs.declared.function_kind.FunctionKind.{FunctionKind}
@@ -31,7 +34,7 @@ use Rattle.fast_check_signatures.specs.NewNodes.{promised, void_or_promise_void,
 use Rattle.fast_check_signatures.specs.Parameters.{Look, pats_seen}
 use Rattle.fast_check_signatures.specs.Functions.{return_type_missing, void_seen, class_seen, is_setter, return_type_seen, function_head, signature_seen, any_params_from}
 use Rattle.fast_check_signatures.specs.Functions.{implementation_seen, param_seen, params_seen, arrow_head, typed_arrow_seen, valued_arrow_seen, or_own}
-use Rattle.fast_check_signatures.specs.Functions.{function_seen}
+use Rattle.fast_check_signatures.specs.Functions.{named_seen, body_seen, function_seen}
 use Rattle.fast_check_signatures.specs.Functions.{by_value, untyped_arrow_seen, arrow_by_type, arrow_seen}
 use Rattle.fast_check_signatures.proofs.NewNodesMoved.{promised_moved, void_or_promise_void_moved, any_param_moved}
 use Rattle.fast_check_signatures.proofs.MovedParts.{moved_bindings, moved_seen, moved_function, moved_arrow, seens_moved, range_seen_moved, field_moved, absent_moved_at}
@@ -68,21 +71,36 @@ module _ (m : Moves) (ok : Keeps m) where
   class_seen_moved kind is_async place class.Single = refl
   class_seen_moved kind is_async place class.Multiple = refl
 
-  pub return_type_seen_moved : (kind : FunctionKind) (place : SourceRange) (t : Tree) →
-      return_type_seen kind (moved_range m place) (moved m t) ≡ moved_seen m (return_type_seen kind place t)
-  return_type_seen_moved kind place t =
+  named_seen_moved : (u : SyntaxContext) (is_async : Bool) (found : Option Tree) (classed : Seen) →
+      named_seen (moved_scope m u) is_async (option_map (moved m) found) (moved_seen m classed) ≡ moved_seen m (named_seen u is_async found classed)
+  named_seen_moved u is_async (Some type) classed =
+      ap written (ap type_ann (promised_moved m ok u is_async type) ∙ sym (type_ann_moved m ok (promised u is_async type)))
+  named_seen_moved u is_async None classed = refl
+
+  pub body_seen_moved : (u : SyntaxContext) (kind : FunctionKind) (is_async is_generator : Bool) (place : SourceRange) (body : Tree) →
+      body_seen (moved_scope m u) kind is_async is_generator (moved_range m place) (moved m body) ≡
+      moved_seen m (body_seen u kind is_async is_generator place body)
+  body_seen_moved u kind is_async is_generator place body =
+      ap₂ (named_seen (moved_scope m u) is_async) (named_return_moved m ok u is_generator body)
+      (ap (class_seen kind is_async (moved_range m place)) (return_class_moved m body) ∙ class_seen_moved kind is_async place (return_class body))
+      ∙ named_seen_moved u is_async (named_return u is_generator body) (class_seen kind is_async place (return_class body))
+
+  pub return_type_seen_moved : (u : SyntaxContext) (kind : FunctionKind) (place : SourceRange) (t : Tree) →
+      return_type_seen (moved_scope m u) kind (moved_range m place) (moved m t) ≡ moved_seen m (return_type_seen u kind place t)
+  return_type_seen_moved u kind place t =
       let is_async = flag_field_moved m Function-is_async _ (λ t. refl) t in
+      let is_generator = flag_field_moved m Function-is_generator _ (λ t. refl) t in
+      let body = field_moved m Function-body _ (λ t. refl) t in
       (seen_chosen m _ (is_absent (Function-return_type t)) _ _ _ _ (absent_moved_at m Function-return_type _ (λ t. refl) t)
       (seen_chosen m _ (is_setter kind) _ _ _ _ refl (record { path = ap written (sym (absent_moved m)) })
-      (seen_chosen m _ (Function-is_generator t) _ _ _ _ (flag_field_moved m Function-is_generator _ (λ t. refl) t)
+      (seen_chosen m _ (Function-is_generator t) _ _ _ _ is_generator
       (record { path = ap (λ b. faulty (return_type_missing false b) (moved_range m place)) is_async })
       (seen_chosen m _ (is_absent (Function-body t)) _ _ _ _ (absent_moved_at m Function-body _ (λ t. refl) t)
       (record { path = ap written (sym (absent_moved m)) })
       (record {
         path =
-            ap₂ (λ b c. class_seen kind b (moved_range m place) c) is_async
-            (ap return_class (field_moved m Function-body _ (λ t. refl) t) ∙ return_class_moved m (Function-body t))
-            ∙ class_seen_moved kind (Function-is_async t) place (return_class (Function-body t));
+            (λ i. body_seen (moved_scope m u) kind (is_async i) (is_generator i) (moved_range m place) (body i))
+            ∙ body_seen_moved u kind (Function-is_async t) (Function-is_generator t) place (Function-body t);
       }))))
       (record { path = ap written (field_moved m Function-return_type _ (λ t. refl) t) })).path
 
@@ -141,6 +159,9 @@ module _ (m : Moves) (ok : Keeps m) where
   is_async_moved : (t : Tree) → ArrowExpr-is_async (moved m t) ≡ ArrowExpr-is_async t
   is_async_moved = flag_field_moved m ArrowExpr-is_async _ (λ t. refl)
 
+  is_generator_moved : (t : Tree) → ArrowExpr-is_generator (moved m t) ≡ ArrowExpr-is_generator t
+  is_generator_moved = flag_field_moved m ArrowExpr-is_generator _ (λ t. refl)
+
   body_moved : (t : Tree) → ArrowExpr-body (moved m t) ≡ moved m (ArrowExpr-body t)
   body_moved = field_moved m ArrowExpr-body _ (λ t. refl)
 
@@ -158,12 +179,12 @@ module _ (m : Moves) (ok : Keeps m) where
     function_seen_moved kind place t =
         let params = parts (Function-params t) in
         let pats = map (λ p. Param-pat p) params in
-        ap₂ (signature_seen (moved m t)) (return_type_seen_moved kind place t)
+        ap₂ (signature_seen (moved m t)) (return_type_seen_moved bindings.unresolved kind place t)
         (ap (λ ps. params_seen ps (pats_seen bindings' look' (map (λ p. Param-pat p) ps))) (items_moved_at m Function-params _ (λ t. refl) t)
         ∙ (ap (λ ps. params_seen (map (moved m) params) (pats_seen bindings' look' ps)) (patterns_moved m params)
         ∙ (ap (params_seen (map (moved m) params)) (pats_seen_moved m ok bindings plain look look' at pats)
         ∙ params_seen_moved params (pats_seen bindings look pats))))
-        ∙ signature_seen_moved t (return_type_seen kind place t) (params_seen params (pats_seen bindings look pats))
+        ∙ signature_seen_moved t (return_type_seen bindings.unresolved kind place t) (params_seen params (pats_seen bindings look pats))
 
     -- a function that is a part of an expression
     pub part_function_moved : (place : Option SourceRange) (t t' : Tree) → t' ≡ moved m t →
@@ -193,13 +214,14 @@ module _ (m : Moves) (ok : Keeps m) where
     untyped_arrow_moved t place pats =
         let body = ArrowExpr-body t in
         let is_async = ArrowExpr-is_async t in
+        let is_generator = ArrowExpr-is_generator t in
         (seen_chosen m _ (kind_of body is BlockStmt) _ _ _ _ (ap (λ k. k is BlockStmt) (kind_moved_at m ArrowExpr-body _ (λ t. refl) t))
         (record {
           path =
               ap (typed_arrow_seen (moved m t) (map (moved_seen m) pats))
-              (ap₂ (λ b c. class_seen ExpressionLike b (moved_range m place) c) (is_async_moved t) (ap return_class (body_moved t) ∙ return_class_moved m body)
-              ∙ class_seen_moved ExpressionLike is_async place (return_class body))
-              ∙ typed_arrow_moved t pats (class_seen ExpressionLike is_async place (return_class body));
+              ((λ i. body_seen bindings'.unresolved ExpressionLike (is_async_moved t i) (is_generator_moved t i) (moved_range m place) (body_moved t i))
+              ∙ body_seen_moved bindings.unresolved ExpressionLike is_async is_generator place body)
+              ∙ typed_arrow_moved t pats (body_seen bindings.unresolved ExpressionLike is_async is_generator place body);
         })
         (record {
           path =
