@@ -118,7 +118,7 @@ DRAWN = [
 
 def faulty(**more):
     """A package of two entry points with three faults, the first two of which are those of u."""
-    u = Module("p/u.ts", let("a"), func("f", [], returned(ONE)))
+    u = Module("p/u.ts", let("a"), func("f", [], returned(unknown())))
     return World({"p": ["./v.ts", "./u.ts"]}, u, Module("p/v.ts", let("b"), let("c", value=ONE)), **more)
 
 

@@ -173,7 +173,7 @@ def word_of(number):
 def of_many(number):
     """Each package exports all of the one before it, and a name of the one of half its number. One of twenty shows no type, and one of fifty no return type."""
     links = [export_all(f"@{number - 1}"), export(named_export("v", "half"), src=f"@{number // 2}")] if number else []
-    v = let("v") if number % 20 == 13 else func("v", [], returned(ONE)) if number % 50 == 7 else const("v", lit(str(number)))
+    v = let("v") if number % 20 == 13 else func("v", [], returned(unknown())) if number % 50 == 7 else const("v", lit(str(number)))
     return Module(f"{word_of(number)}/mod.ts", *links, v, resolved={f"@{each}": f"{word_of(each)}/mod.ts" for each in (number - 1, number // 2) if number})
 
 

@@ -97,7 +97,7 @@ def functions():
     yield Case("returned_values_want_a_type", [
         func("one", [], returned(ONE)), func("more", [], if_(ref("a"), returned(ONE)), returned(lit("2"))), func("late", [], returned(), returned(ONE)),
         func("early", [], returned(ONE), returned()), func("later", [], returned(ONE), is_async=True)],
-               ["return one", "return more", "return late", "return early", "return async later"])
+               ["return more", "return late", "return early"])
     yield Case("generator_without_type", [func("g", is_generator=True)], ["return 18-19"], source="export function* g() {}")
     yield Case("generator_without_body", [func("g", body=False, is_generator=True)], ["return g"])
     yield Case("generators_whatever_they_return", [
@@ -194,7 +194,7 @@ def arrows():
     yield Case("faults_of_function_expressions", [
         const("a", function([], THROW, name="own")), const("b", function([], returned(ONE))), const("c", function([], is_generator=True)),
         const("d", paren(function([], THROW, is_async=True))), const("e", array(function([], returned(ONE), name="own")))],
-               ["return definitely a", "return b", "return c", "return definitely async async function () { throw 1; }", "return function own() { return 1; }"])
+               ["return definitely a", "return c", "return definitely async async function () { throw 1; }"])
     yield Case("arrows_with_blocks", [
         const("a", arrow([], block())), const("b", arrow([], block(returned()), is_async=True)),
         const("c", arrow([], block(returned(unknown())), ret="string")),
@@ -332,7 +332,7 @@ def other_parameters():
         const("g", function([one, required, decorated(default(array_pattern(a), b))]))],
                "export const a = (a: number | undefined, {}: T, ...c: T) => a; export const g = function (a: number | undefined, b: string, [] = b): void {};")
     yield Case("the_faults_of_parameters_come_after_those_of_the_body",
-               [func("g", [a, default(name("b"), arrow([name("c")], unknown())), rest(name("d"))], returned(ONE))],
+               [func("g", [a, default(name("b"), arrow([name("c")], unknown())), rest(name("d"))], returned(unknown()))],
                ["return g", "type a", "return b", "type c", "type ...d"])
 
 
@@ -441,7 +441,8 @@ def returns():
         stmt("DoWhile", test=a, body=one), stmt("For", init=None, test=None, update=None, body=one), stmt("ForIn", left=each, right=a, body=one),
         stmt("ForOf", is_await=False, left=each, right=a, body=one),
         stmt("ForOf", is_await=False, left={"Pat": name("x")}, right=a, body=stmt("Block", ctxt=0, stmts=[empty, one])), one]
-    count = range(len(holders))
+    # the last of them is a body's last statement, and names the type
+    count = range(len(holders) - 1)
     yield Case("statements_that_a_return_is_found_in", [const(f"v{place}", function([], holder)) for place, holder in enumerate(holders)],
                [f"return v{place}" for place in count])
     yield Case("declared_functions_find_returns_alike", [func(f"v{place}", [], holder) for place, holder in enumerate(holders)],

@@ -250,7 +250,7 @@ def default_classes():
     overloads = [class_method("m", [name("a", "string")], body=False, ret="void"), class_method("m", [name("a")], returned(ONE))]
     yield one("overloads_of_a_default_classs_method", default_class("C", *overloads),
               "export default class C { m(a: string): void; m(param0?: any): any { return {} as never; } }", members=[(0, 1)])
-    faulty = [prop("x"), class_method("m", [name("a")], returned(ONE))]
+    faulty = [prop("x"), class_method("m", [name("a")], returned(unknown()))]
     for media_type in ("TypeScript", "Dts"):
         yield one(f"faults_of_a_default_class_in_{media_type}", default_class("C", *faulty, super_class=call(F)),
                   ["superclass f()", "type x", "return m", "type a"], media_type=media_type)
@@ -284,11 +284,12 @@ def default_functions():
                    implementations=(1,))
         yield one(f"a_default_function_of_{what}_of_a_declaration_file", default_function([name("a")], returned(ONE), name=own),
                   f"export default {text}(a) {{ return 1; }}", media_type="Dts")
-        place = "f" if own else "function (a, { c }) { return 1; }"
-        yield one(f"faults_of_a_default_function_of_{what}", default_function([name("a"), object_pattern("c")], returned(ONE), name=own),
+        place = "f" if own else "function (a, { c }) { return f(); }"
+        yield one(f"faults_of_a_default_function_of_{what}", default_function([name("a"), object_pattern("c")], returned(unknown()), name=own),
                   [f"return {place}", "type a", "type { c }"])
-        place = "f" if own else "async function () { return 1; }"
-        yield one(f"faults_of_a_default_function_of_{what}_that_waits", default_function([], returned(ONE), name=own, is_async=True), [f"return async {place}"])
+        place = "f" if own else "async function () { return f(); }"
+        yield one(f"faults_of_a_default_function_of_{what}_that_waits", default_function([], returned(unknown()), name=own, is_async=True),
+                  [f"return async {place}"])
         place = "f" if own else "function* () {}"
         yield one(f"a_default_generator_of_{what}_without_type", default_function([], name=own, is_generator=True), [f"return {place}"])
     yield one("decorators_of_a_default_functions_parameters", default_function([decorated(name("a", "string"))]),

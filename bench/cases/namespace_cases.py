@@ -67,7 +67,7 @@ def bodies():
               ["assignment export = x;", 'require import y = require("z");', "namespace export as namespace M;"], private_inside=[(0, 0), (0, 1), (0, 2)])
     yield one("items_of_what_is_not_public_that_no_skeleton_has", own("N", export_assignment(ref("x"))), "", private=(0,))
     yield one("using_inside_of_a_namespace", own("N", unexported(using(declarator("x", unknown())))), ["using x = f()"])
-    overloads = [func("f", [name("a", "string")], body=False, ret="void"), func("f", [name("a")], returned(ONE))]
+    overloads = [func("f", [name("a", "string")], body=False, ret="void"), func("f", [name("a")], returned(unknown()))]
     yield one("overloads_inside_of_a_namespace", public("N", *overloads), ["return f", "type a"])
     among = [const("a", ONE), public("N", const("b")), func("c", [name("d")])]
     yield Case("faults_in_reading_order", among, ["type b", "type d"])

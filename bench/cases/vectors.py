@@ -3,7 +3,7 @@
 
 Each run stands here as TypeScript with what is public of it and what has to come out. The trees of the sources and of
 the skeletons are laid out by the rules of this script and its modules alone (`trees`, `skeletons`, `runs`, `plain_runs`, `refused_runs`,
-`function_cases`, `new_cases`, `value_cases`, `class_cases`, `module_cases`, `namespace_cases`, `build_cases`, `build_demand_cases`): the
+`function_cases`, `new_cases`, `return_cases`, `value_cases`, `class_cases`, `module_cases`, `namespace_cases`, `build_cases`, `build_demand_cases`): the
 program's own output is nowhere taken for right.
 
 Usage: bench/cases/vectors.py
@@ -23,6 +23,7 @@ import function_cases
 import module_cases
 import namespace_cases
 import new_cases
+import return_cases
 import single_calls
 import value_cases
 from plain_runs import comments, types, values, variables
@@ -217,6 +218,7 @@ def main():
     comments()
     groups_of_cases(function_cases.GROUPS)
     groups_of_cases(new_cases.GROUPS)
+    groups_of_cases(return_cases.GROUPS)
     groups_of_cases(value_cases.GROUPS)
     comments_of_functions()
     groups_of_cases(class_cases.GROUPS)

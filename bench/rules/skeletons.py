@@ -118,6 +118,20 @@ def return_class(body):
     return "Single" if found.index(True) == len(found) - 1 else "Multiple"
 
 
+def single_return_arg(body):
+    """The argument of the only return statement of a body, where that is its last statement. None where it is not."""
+    stmts = body["stmts"]
+    if not stmts or "Return" not in stmts[-1] or all_returned(stmts) != [True]:
+        return None
+    return stmts[-1]["Return"]["arg"]
+
+
+def names_type(value):
+    """A value may name the type of a function that returns it: a literal, a template or an assertion, but no call."""
+    kind, node = variant(value)
+    return names_type(node["expr"]) if kind in ("Paren", "TsSatisfies") else kind in ("Lit", "Tpl", "TsAs", "TsTypeAssertion")
+
+
 # ---- skeletons
 
 ALL_PARTS = {"Unary": ["arg"], "Update": ["arg"], "Await": ["arg"], "Paren": ["expr"], "TsNonNull": ["expr"], "TsConstAssertion": ["expr"],
@@ -261,6 +275,10 @@ class Skeleton(Classes, Expandos, Modules):
 
     def of_body(self, function, body, place, how):
         """The return type that a body shows. A fault and None where it shows none."""
+        arg = None if function["is_generator"] else single_return_arg(body)
+        named = self.shown(False, arg) if arg is not None and names_type(arg) else None
+        if named is not None:
+            return annotated(self.promised(named) if function["is_async"] else named)
         returns = return_class(body)
         if how != "Getter" and (returns == "Void" or returns == "None" and how == "Method"):
             return annotated(reference("Promise", keyword("void")) if function["is_async"] else keyword("void"))

@@ -4,6 +4,8 @@
 //
 // A dependency is `[dep, namespace]`, as docs/FORMATS.md has it.
 
+const { typeNamedBy } = require('./returns');
+
 const VALUE = 'Value';
 const TYPE = 'Type_';
 
@@ -205,14 +207,14 @@ function parameter(d, choice) {
   if (node.Rest) parameter(d, node.Rest.arg);
 }
 
-/** What the parameters and the written return type of a function refer to. */
+/** What the parameters and the return type of a function refer to: the written one, or that which its body asserts. */
 function signature(d, node) {
   walk(d, node.type_params);
   for (const it of node.params || []) {
     if (it.TsParamProp) parameter(d, it.TsParamProp.param);
     else parameter(d, it.Param || it);
   }
-  walk(d, node.return_type);
+  walk(d, node.return_type || typeNamedBy(node));
 }
 
 /** A type if it is written, else the value. */

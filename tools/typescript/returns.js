@@ -1,5 +1,5 @@
 'use strict';
-// The return statements of a body, in the order of the text, without those of functions within it.
+// The return statements of a body, in the order of the text, without those of functions within it, and the value by which a body names its return type.
 
 const { ts } = require('./typescript');
 
@@ -21,4 +21,63 @@ function returnsOf(body) {
   return found;
 }
 
-module.exports = { returnsOf };
+// ---- the value by which a body names its return type, in TypeScript's tree
+
+const NAMING = new Set([
+  K.StringLiteral, K.NumericLiteral, K.BigIntLiteral, K.TrueKeyword, K.FalseKeyword, K.NullKeyword, K.RegularExpressionLiteral,
+  K.NoSubstitutionTemplateLiteral, K.TemplateExpression, K.AsExpression, K.TypeAssertionExpression,
+]);
+
+function namesType(node) {
+  if (node.kind === K.ParenthesizedExpression || node.kind === K.SatisfiesExpression) return namesType(node.expression);
+  return NAMING.has(node.kind);
+}
+
+/** The argument of a function's only return, where that is its last statement and a literal, a template or an assertion; else undefined. */
+function namingArgument(node) {
+  const { body } = node;
+  const last = body.statements[body.statements.length - 1];
+  if (node.asteriskToken || !last || last.kind !== K.ReturnStatement || !last.expression) return undefined;
+  return returnsOf(body).length === 1 && namesType(last.expression) ? last.expression : undefined;
+}
+
+// ---- and the type that it asserts, in the tree of a module
+
+const STATEMENTS = {
+  Block: (node) => node.stmts,
+  With: (node) => [node.body],
+  Labeled: (node) => [node.body],
+  If: (node) => [node.cons, node.alt],
+  Switch: (node) => node.cases.flatMap((each) => each.cons),
+  Try: (node) => [node.block, node.handler && node.handler.body, node.finalizer].flatMap((block) => (block ? block.stmts : [])),
+  While: (node) => [node.body],
+  DoWhile: (node) => [node.body],
+  For: (node) => [node.body],
+  ForIn: (node) => [node.body],
+  ForOf: (node) => [node.body],
+};
+
+function countReturns(stmts) {
+  return stmts.reduce((sum, choice) => {
+    if (!choice) return sum;
+    const [variant] = Object.keys(choice);
+    if (variant === 'Return') return sum + 1;
+    return sum + (STATEMENTS[variant] ? countReturns(STATEMENTS[variant](choice[variant])) : 0);
+  }, 0);
+}
+
+function assertedType(value) {
+  const [variant] = Object.keys(value);
+  if (variant === 'Paren' || variant === 'TsSatisfies') return assertedType(value[variant].expr);
+  return variant === 'TsAs' || variant === 'TsTypeAssertion' ? value[variant].type_ann : null;
+}
+
+/** The type that the only return of a function or an arrow asserts, where that is its last statement; else null. */
+function typeNamedBy(node) {
+  const block = node.body && (node.body.stmts ? node.body : node.body.BlockStmt);
+  const last = block && block.stmts[block.stmts.length - 1];
+  if (node.is_generator || !last || !last.Return || !last.Return.arg || countReturns(block.stmts) !== 1) return null;
+  return assertedType(last.Return.arg);
+}
+
+module.exports = { returnsOf, namingArgument, typeNamedBy };

@@ -8,7 +8,7 @@ const names = require('./names');
 const patterns = require('./patterns');
 const types = require('./types');
 const { expression } = require('./expressions');
-const { returnsOf } = require('./returns');
+const { returnsOf, namingArgument } = require('./returns');
 
 const { SyntaxKind: K } = ts;
 
@@ -20,14 +20,22 @@ function noValue(c, node) {
   return { Lit: { Null: { span: c.span(node) } } };
 }
 
-/** What a body that is cut short keeps: how it returns, where no return type is written. */
+/** What stands for a returned value that is cut away. It names no type. */
+function noType(c, node) {
+  return { This: { span: c.span(node) } };
+}
+
+/** What a body that is cut short keeps, where no return type is written: how it returns, and the value by which it names the type. */
 function shortBody(c, node) {
   const { body } = node;
   if (node.type || body.statements.length === 0 || !returnsCount(node)) return [];
   const returns = returnsOf(body);
   if (returns.length === 0) return [{ Empty: { span: c.span(body.statements[0]) } }];
+  const naming = namingArgument(node);
+  if (naming) bindBody(c.scope, body.statements);
+  const argument = (value) => (value === naming ? expression(c, value) : noType(c, value));
   return returns.map((it) => ({
-    Return: form({ span: c.span(it), arg: it.expression && noValue(c, it.expression) }),
+    Return: form({ span: c.span(it), arg: it.expression && argument(it.expression) }),
   }));
 }
 

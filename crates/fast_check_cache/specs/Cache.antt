@@ -35,4 +35,4 @@ with_item key item old k = if k == key then Some item else old k
 
 -- the seed is that of the rules, or the cache's own
 abbrev pub IsSeed : List ℕ → List ℕ → Type 0
-IsSeed own seed = (seed ≡ codes "0.111.1") ⊎ (seed ≡ own)
+IsSeed own seed = (seed ≡ codes "0.111.1-single-return") ⊎ (seed ≡ own)

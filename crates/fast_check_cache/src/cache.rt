@@ -61,7 +61,7 @@ pub trait FastCheckCache {
     fn hash_seed(&self) -> &'static str
         ensures { IsSeed (seed_text self.now) result.now }
     {
-        "0.111.1"
+        "0.111.1-single-return"
     }
 
     /// The hash that the item of a package is kept under.

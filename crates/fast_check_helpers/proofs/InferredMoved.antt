@@ -32,7 +32,7 @@ use Rattle.fast_check_helpers.proofs.GlobalCallsMoved.{moved_scope, is_symbol_ca
 use Rattle.fast_check_helpers.proofs.SimpleTypesMoved.{is_simple_type_moved}
 use Rattle.fast_check_helpers.proofs.InferredTypes.{inferred_out, inferred_absent}
 
-chosen : (m : Moves) (b : Bool) (x x' y y' : Option Tree) → x ≡ option_map (moved m) x' → y ≡ option_map (moved m) y' →
+pub chosen : (m : Moves) (b : Bool) (x x' y y' : Option Tree) → x ≡ option_map (moved m) x' → y ≡ option_map (moved m) y' →
     (if b then x else y) ≡ option_map (moved m) (if b then x' else y')
 chosen m true x x' y y' p q = p
 chosen m false x x' y y' p q = q

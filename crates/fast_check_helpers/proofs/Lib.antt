@@ -3,9 +3,11 @@ mod Lower
 pub mod SimpleTypes
 pub mod InferredTypes
 pub mod Returns
+pub mod Named
 pub mod BuildersMoved
 pub mod GlobalCallsMoved
 pub mod SimpleTypesMoved
 pub mod InferredMoved
 pub mod ReturnsMoved
+pub mod NamedMoved
 pub mod OptionalStart

@@ -203,7 +203,7 @@ pub each_all : (a : ReturnStatementAnalysis) (items all : List Tree) (i : ℕ) {
 each_all a items all i past are before = before ∙ ap (λ ts. fold after_return a (flat_map returns ts)) (take_all i items past ∙ are)
 
 -- the class from all return statements
-from_multiple : (rs : List Bool) → fold after_return class.Multiple rs ≡ class.Multiple
+pub from_multiple : (rs : List Bool) → fold after_return class.Multiple rs ≡ class.Multiple
 from_multiple [] = refl
 from_multiple (r ∷ rs) = from_multiple rs
 

@@ -9,3 +9,4 @@ pub mod InferredType
 pub mod ReturnClass
 pub mod ReturnStep
 pub mod OptionalParams
+pub mod NamedBodies

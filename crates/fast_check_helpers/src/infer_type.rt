@@ -75,7 +75,7 @@ pub fn maybe_infer_type(
 }
 
 /// Whether an expression is a literal that shows its type.
-fn is_typed_literal(lit: Part<'_>) -> bool
+pub(crate) fn is_typed_literal(lit: Part<'_>) -> bool
     ensures { result ≡ is_some (type_of_literal Mutable (seen lit.entry)) }
 {
     match lit.kind() {

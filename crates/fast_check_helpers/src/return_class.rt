@@ -43,7 +43,7 @@ fn after_return(analysis: ReturnStatementAnalysis, has_argument: bool) -> Return
 
 /// The class after the return statements reached from a statement.
 #[cycle(returns)]
-fn analyze_return_stmts(
+pub(crate) fn analyze_return_stmts(
     stmt: Part<'_>,
     analysis: ReturnStatementAnalysis,
 ) -> ReturnStatementAnalysis

@@ -1,7 +1,7 @@
 -- Values, functions and parameters that agree but for what is hidden are seen alike.
 use Rattle.std.specs.Prelude.{◌≡◌, Bool, ◌&&◌, Option, None, List, ◌∷◌, map, refl}
 use Rattle.std.specs.List.{list_all}
-use Rattle.std.proofs.Common.{ap₂, sym, subst, subst₂}
+use Rattle.std.proofs.Common.{ap₂, ◌∙◌, sym, subst, subst₂, true≢false}
 use Rattle.fast_check_syntax.specs.declared.kind.Kind.{Kind}
 use Rattle.fast_check_syntax.specs.declared.kind.Kind.TheVariants as kinds
 use Rattle.fast_check_syntax.specs.declared.source.SourceRange.{SourceRange}
@@ -61,7 +61,7 @@ module _ (r : Renaming) (ok : IsRenaming r) (c d : Bindings) (pair : SameBinding
 
   function_head : {t u : Tree} → SameFunction r c d t u → SameFunctionHead r c d t u
   function_head (s.typed_function h n w ps) = h
-  function_head (s.classed_function h n e ps) = h
+  function_head (s.classed_function h n e k ps) = h
 
   -- ---- by the form of an expression
 
@@ -120,8 +120,8 @@ module _ (r : Renaming) (ok : IsRenaming r) (c d : Bindings) (pair : SameBinding
         AllAlike r ok pats pats' →
         Alike r ok (arrow_by_type c (expr_seen c) t p pats) (arrow_by_type d (expr_seen d) u q pats')
     arrow_body_alike (s.typed_arrow {t = t} {u = u} w) p q pats pats' h e ps = typed_alike r ok c d (expr_seen c) (expr_seen d) t u p q pats pats' h e ps w
-    arrow_body_alike (s.classed_arrow {t = t} {u = u} b f) p q pats pats' h e ps =
-        classed_alike r ok c d (expr_seen c) (expr_seen d) t u p q pats pats' h e ps b f
+    arrow_body_alike (s.classed_arrow {t = t} {u = u} b f k) p q pats pats' h e ps =
+        classed_alike r ok c d (expr_seen c) (expr_seen d) t u p q pats pats' h e ps pair.unresolved b f k
     arrow_body_alike (s.shown_value {t = t} {u = u} n f) p q pats pats' h e ps =
         shown_value_alike r ok c d (expr_seen c) (expr_seen d) t u p q pats pats' h e ps pair.unresolved n f
     arrow_body_alike (s.kept_value {t = t} {u = u} n f x) p q pats pats' h e ps =
@@ -130,14 +130,16 @@ module _ (r : Renaming) (ok : IsRenaming r) (c d : Bindings) (pair : SameBinding
     pub function_alike : {t u : Tree} → SameFunction r c d t u → (kind : FunctionKind) (p q : SourceRange) → RangeAlike r ok p q →
         Alike r ok (function_seen c (expr_seen c) kind p t) (function_seen d (expr_seen d) kind q u)
     function_alike (s.typed_function {t = t} {u = u} h n w ps) kind p q e =
-        signature_of_alike r ok c d kind p q t u (params_seen (parts (Function-params t))
+        signature_of_alike r ok c d pair.unresolved kind p q t u (params_seen (parts (Function-params t))
         (pats_seen c (expr_seen c) (map (λ x. Param-pat x) (parts (Function-params t)))))
-        (params_seen (parts (Function-params u)) (pats_seen d (expr_seen d) (map (λ x. Param-pat x) (parts (Function-params u))))) e h n (λ a setter. cc)
+        (params_seen (parts (Function-params u)) (pats_seen d (expr_seen d) (map (λ x. Param-pat x) (parts (Function-params u))))) e h n
+        (λ a setter. absurd (true≢false (sym a ∙ w)))
         (params_alike ps)
-    function_alike (s.classed_function {t = t} {u = u} h n f ps) kind p q e =
-        signature_of_alike r ok c d kind p q t u (params_seen (parts (Function-params t))
+    function_alike (s.classed_function {t = t} {u = u} h n f k ps) kind p q e =
+        signature_of_alike r ok c d pair.unresolved kind p q t u (params_seen (parts (Function-params t))
         (pats_seen c (expr_seen c) (map (λ x. Param-pat x) (parts (Function-params t)))))
-        (params_seen (parts (Function-params u)) (pats_seen d (expr_seen d) (map (λ x. Param-pat x) (parts (Function-params u))))) e h n (λ a setter. f)
+        (params_seen (parts (Function-params u)) (pats_seen d (expr_seen d) (map (λ x. Param-pat x) (parts (Function-params u))))) e h n
+        (λ a setter. (f, k))
         (params_alike ps)
 
     pub params_alike : {ts us : List Tree} → SameParams r c d ts us →

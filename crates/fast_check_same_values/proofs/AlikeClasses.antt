@@ -1,7 +1,7 @@
 -- Classes that agree but for what is hidden are seen alike.
 use Rattle.std.specs.Prelude.{◌≡◌, Bool, true, false, not, ◌&&◌, ◌||◌, Option, Some, None, unwrap_or, option_map, List, [], ◌∷◌, ◌++◌, map, flat_map, refl, if◌then◌else◌}
 use Rattle.std.specs.List.{list_any, filter}
-use Rattle.std.proofs.Common.{ap, ap₂, ◌∙◌, sym, subst, subst₂}
+use Rattle.std.proofs.Common.{ap, ap₂, ◌∙◌, sym, subst, subst₂, true≢false}
 use Rattle.std.proofs.lemmas.List.{map-append}
 use Rattle.fast_check_syntax.specs.declared.kind.Kind.{Kind}
 use Rattle.fast_check_syntax.specs.declared.kind.Kind.TheVariants as kinds
@@ -414,7 +414,8 @@ module _ (r : Renaming) (ok : IsRenaming r) where
           subst₂ (λ a b. Alike r ok (signed_if c t a) (signed_if d u b)) (sym e) (sym j)
           (subst (λ z. Alike r ok (here c t kind) (here d u z)) (kind_alike' _ _ w)
           (subst (λ z. Alike r ok (here c t z) (here d u z)) (sym setter)
-          (signature_of_alike r ok c d Setter _ _ _ _ _ _ (place_alike r ok _ _ k) h n (λ a no. cc) (params_alike r ok c d pair ps))))
+          (signature_of_alike r ok c d pair.unresolved Setter _ _ _ _ _ _ (place_alike r ok _ _ k) h n (λ a no. absurd (true≢false no))
+          (params_alike r ok c d pair ps))))
       method_function_alike t u k w (s.SameMethod.implementation e j x) =
           subst₂ (λ a b. Alike r ok (signed_if c t a) (signed_if d u b)) (sym e) (sym j) (implementation_alike r ok c d _ _ x)
 

@@ -1,24 +1,25 @@
 -- Functions and arrows that agree but for what is hidden are seen alike.
 use Rattle.std.specs.Prelude.{◌≡◌, ℕ, suc, Bool, true, false, Option, Some, None, List, [], ◌∷◌, map, refl, if◌then◌else◌}
-use Rattle.std.proofs.Common.{ap, ap₂, ◌∙◌, sym, subst₂, true≢false}
+use Rattle.std.proofs.Common.{ap, ap₂, ◌∙◌, sym, subst, subst₂, true≢false}
 use Rattle.fast_check_syntax.specs.declared.kind.Kind.TheVariants.{Param, BlockStmt, RestPat}
 use Rattle.fast_check_syntax.specs.declared.source.SourceRange.{SourceRange}
 use Rattle.fast_check_syntax.specs.declared.tree.Tree.{Tree, Absent}
 use Rattle.fast_check_syntax.specs.Shape.{◌is◌, kind_of, parts, is_absent, list}
 use Rattle.fast_check_syntax.specs.Moves.{Renaming, IsRenaming, IsPair, partners, twice, moved, moved_range}
-use Rattle.fast_check_syntax.specs.Same.{SameRange}
+use Rattle.fast_check_syntax.specs.Same.{SameTree, SameRange}
 use Rattle.fast_check_syntax.proofs.Moved.{absent_moved}
 use Rattle.fast_check_syntax.proofs.Partners.{partners-keep as partners_keep, twice-keeps as twice_keeps}
 use Rattle.fast_check_syntax.proofs.Same.{tree_to, range_to}
 use Rattle.fast_check_class_forms.specs.Functions.{Function-span, Function-params, Function-ctxt, Function-body, Function-is_generator, Function-is_async}
 use Rattle.fast_check_class_forms.specs.Functions.{Function-return_type, Param-span, Param-pat}
 use Rattle.fast_check_expression_forms.specs.Expressions.{ArrowExpr-span, ArrowExpr-ctxt, ArrowExpr-body, ArrowExpr-is_async}
-use Rattle.fast_check_expression_forms.specs.Expressions.{ArrowExpr-return_type}
+use Rattle.fast_check_expression_forms.specs.Expressions.{ArrowExpr-is_generator, ArrowExpr-return_type}
 use Rattle.fast_check_helpers.specs.declared.literal_type.DeclMutabilityKind.TheVariants.{Mutable}
 use Rattle.fast_check_helpers.specs.declared.return_class.ReturnStatementAnalysis.{ReturnStatementAnalysis}
 use Rattle.fast_check_helpers.specs.declared.return_class.ReturnStatementAnalysis.TheVariants as class
 use Rattle.fast_check_helpers.specs.Builders.{type_ann, any_type_ann}
 use Rattle.fast_check_helpers.specs.InferredType.{inferred_type}
+use Rattle.fast_check_helpers.specs.NamedBodies.{named_return}
 use Rattle.fast_check_helpers.specs.ReturnClass.{return_class}
 use Rattle.fast_check_helpers.proofs.BuildersMoved.{type_ann_moved, any_type_ann_moved}
 use Rattle.fast_check_signatures.specs.Bindings.{Bindings}
@@ -30,12 +31,13 @@ use Rattle.fast_check_signatures.specs.Parameters.{Look}
 use Rattle.fast_check_signatures.specs.Functions.{return_type_missing, void_seen, void_class_seen, no_return_seen, class_seen, is_setter}
 use Rattle.fast_check_signatures.specs.Functions.{shown_return_seen, return_type_seen, function_head, signature_seen, any_params_from}
 use Rattle.fast_check_signatures.specs.Functions.{implementation_seen, param_seen, arrow_head, typed_arrow_seen, valued_arrow_seen, or_own, by_value}
-use Rattle.fast_check_signatures.specs.Functions.{untyped_arrow_seen}
+use Rattle.fast_check_signatures.specs.Functions.{named_seen, body_seen, untyped_arrow_seen}
 use Rattle.fast_check_signatures.specs.Functions.{arrow_by_type}
-use Rattle.fast_check_same_values.specs.SameValues.{Both, Neither, SameShown, NoneShown, SameFunctionHead, SameReturn, SameImplementation, SameArrowHead}
+use Rattle.fast_check_same_values.specs.SameValues.{Both, Neither, SameShown, NoneShown, SameNamed, neither_named, both_named, SameFunctionHead}
+use Rattle.fast_check_same_values.specs.SameValues.{SameReturn, SameImplementation, SameArrowHead}
 use Rattle.fast_check_signatures.proofs.NewNodesMoved.{promised_moved, void_or_promise_void_moved, any_param_moved}
 use Rattle.fast_check_signatures.proofs.MovedParts.{moved_function, moved_arrow}
-use Rattle.fast_check_same_values.proofs.AlikeTrees.{TreeAlike, RangeAlike, scope_to, image_alike, new_alike, absent_alike, empty_list_alike}
+use Rattle.fast_check_same_values.proofs.AlikeTrees.{RangeAlike, scope_to, image_alike, new_alike, absent_alike, empty_list_alike}
 use Rattle.fast_check_same_values.proofs.AlikeSeen.{Alike, AllAlike, written_alike, same_written, range_alike, faulty_alike, alike_if, seens_alike, round_alike}
 use Rattle.fast_check_same_values.proofs.AlikeParameters.{PlaceAlike}
 
@@ -73,6 +75,40 @@ module _ (r : Renaming) (ok : IsRenaming r) where
   class_alike kind is_async p q class.Single e = faulty_alike r ok (return_type_missing false is_async) p q e
   class_alike kind is_async p q class.Multiple e = faulty_alike r ok (return_type_missing false is_async) p q e
 
+  -- ---- types that are shown, in a promise where the function is async
+
+  module _ (c d : Bindings) where
+    shown_type_alike : IsPair r.scopes c.unresolved.0 d.unresolved.0 → (a b : Bool) (t u : Tree) → a ≡ b → SameTree r t u →
+        Alike r ok (written (type_ann (promised c.unresolved a t))) (written (type_ann (promised d.unresolved b u)))
+    shown_type_alike pair a b t u f s =
+        let left = promised c.unresolved a t in
+        let right = promised d.unresolved b u in
+        written_alike r ok (type_ann left) (type_ann right) (image_alike r ok type_ann (λ m keeps t. sym (type_ann_moved m keeps t)) left right
+        (sym (promised_moved (partners r) (partners_keep r ok) c.unresolved a t)
+        ∙ ((λ i. promised (scope_to r ok c.unresolved d.unresolved pair i) (f i) (tree_to r ok s i)) ∙ promised_moved twice twice_keeps d.unresolved b u)))
+
+    named_alike : IsPair r.scopes c.unresolved.0 d.unresolved.0 → (is_async is_generator : Bool) (t u : Tree) (classed classed' : Seen) →
+        Alike r ok classed classed' → SameNamed r c d is_generator t u →
+        Alike r ok (named_seen c.unresolved is_async (named_return c.unresolved is_generator t) classed)
+        (named_seen d.unresolved is_async (named_return d.unresolved is_generator u) classed')
+    named_alike pair is_async is_generator t u classed classed' s (neither_named e f) =
+        subst₂ (λ x y. Alike r ok (named_seen c.unresolved is_async x classed) (named_seen d.unresolved is_async y classed')) (sym e) (sym f) s
+    named_alike pair is_async is_generator t u classed classed' s (both_named left right e f types) =
+        subst₂ (λ x y. Alike r ok (named_seen c.unresolved is_async x classed) (named_seen d.unresolved is_async y classed')) (sym e) (sym f)
+        (shown_type_alike pair is_async is_async left right refl types)
+
+    -- bodies of one return class, which name the same type, if one of them names any
+    abbrev pub SameBodies : Bool → Tree → Tree → Type 0
+    SameBodies is_generator t u = (return_class t ≡ return_class u) × SameNamed r c d is_generator t u
+
+    body_alike : IsPair r.scopes c.unresolved.0 d.unresolved.0 → (kind : FunctionKind) (is_async is_generator : Bool) (p q : SourceRange) (t u : Tree) →
+        RangeAlike r ok p q → SameBodies is_generator t u →
+        Alike r ok (body_seen c.unresolved kind is_async is_generator p t) (body_seen d.unresolved kind is_async is_generator q u)
+    body_alike pair kind is_async is_generator p q t u e s =
+        let classed = class_seen kind is_async p (return_class t) in
+        named_alike pair is_async is_generator t u classed (class_seen kind is_async q (return_class u))
+        (subst (λ x. Alike r ok classed (class_seen kind is_async q x)) s.0 (class_alike kind is_async p q (return_class t) e)) s.1
+
   -- ---- signatures
 
   module _ (c d : Bindings) where
@@ -88,39 +124,44 @@ module _ (r : Renaming) (ok : IsRenaming r) where
         AllAlike r ok params params' → Alike r ok (signature_seen t type params) (signature_seen u type' params')
     signature_alike t u type type' params params' h e ps = λ i. function (function_head_alike t u h i) (e i) (seens_alike r ok params params' ps i)
 
-    return_type_alike : (kind : FunctionKind) (p q : SourceRange) (t u : Tree) → RangeAlike r ok p q → SameFunctionHead r c d t u → SameReturn r c d t u →
-        (is_absent (Function-return_type t) ≡ true → is_setter kind ≡ false → return_class (Function-body t) ≡ return_class (Function-body u)) →
-        Alike r ok (return_type_seen kind p t) (return_type_seen kind q u)
-    return_type_alike kind p q t u e h s classes =
+    return_type_alike : IsPair r.scopes c.unresolved.0 d.unresolved.0 → (kind : FunctionKind) (p q : SourceRange) (t u : Tree) → RangeAlike r ok p q →
+        SameFunctionHead r c d t u → SameReturn r c d t u →
+        (is_absent (Function-return_type t) ≡ true → is_setter kind ≡ false →
+        SameBodies c d (Function-is_generator t) (Function-body t) (Function-body u)) →
+        Alike r ok (return_type_seen c.unresolved kind p t) (return_type_seen d.unresolved kind q u)
+    return_type_alike pair kind p q t u e h s bodies =
         let missing = return_type_missing false (Function-is_async t) in
         let missing' = return_type_missing false (Function-is_async u) in
-        let classed = class_seen kind (Function-is_async t) p (return_class (Function-body t)) in
-        let classed' = class_seen kind (Function-is_async u) q (return_class (Function-body u)) in
-        let bodied = if is_absent (Function-body t) then written Absent else classed in
-        let bodied' = if is_absent (Function-body u) then written Absent else classed' in
+        let shown = body_seen c.unresolved kind (Function-is_async t) (Function-is_generator t) p (Function-body t) in
+        let shown' = body_seen d.unresolved kind (Function-is_async u) (Function-is_generator u) q (Function-body u) in
+        let bodied = if is_absent (Function-body t) then written Absent else shown in
+        let bodied' = if is_absent (Function-body u) then written Absent else shown' in
         let returned = if Function-is_generator t then faulty missing p else bodied in
         let returned' = if Function-is_generator u then faulty missing' q else bodied' in
         let none = written_alike r ok Absent Absent (new_alike r ok Absent (λ m keeps. absent_moved m)) in
         alike_if r ok (is_absent (Function-return_type t)) (is_absent (Function-return_type u))
-        (shown_return_seen kind p t) (written (Function-return_type t)) (shown_return_seen kind q u) (written (Function-return_type u))
+        (shown_return_seen c.unresolved kind p t) (written (Function-return_type t))
+        (shown_return_seen d.unresolved kind q u) (written (Function-return_type u))
         (absent_alike r ok (Function-return_type t) (Function-return_type u) (tree_to r ok s.return_type))
         (λ absent. alike_if r ok (is_setter kind) (is_setter kind) (written Absent) returned (written Absent) returned' refl (λ setter. none)
         (λ setter. alike_if r ok (Function-is_generator t) (Function-is_generator u) (faulty missing p) bodied (faulty missing' q) bodied' s.is_generator
         (λ g. λ i. faulty (return_type_missing false (s.is_async i)) (e i))
-        (λ g. alike_if r ok (is_absent (Function-body t)) (is_absent (Function-body u)) (written Absent) classed (written Absent) classed' h.has_body
+        (λ g. alike_if r ok (is_absent (Function-body t)) (is_absent (Function-body u)) (written Absent) shown (written Absent) shown' h.has_body
         (λ a. none)
-        (λ a. subst₂ (λ x y. Alike r ok classed (class_seen kind x q y)) s.is_async (classes absent setter)
-        (class_alike kind (Function-is_async t) p q (return_class (Function-body t)) e)))))
+        (λ a. subst₂ (λ x y. Alike r ok shown (body_seen d.unresolved kind x y q (Function-body u))) s.is_async s.is_generator
+        (body_alike c d pair kind (Function-is_async t) (Function-is_generator t) p q (Function-body t) (Function-body u) e (bodies absent setter))))))
         (λ w. same_written r ok s.return_type)
 
-    -- a function, by its parameters, where its body has the class of the other's if no type is written
-    pub signature_of_alike : (kind : FunctionKind) (p q : SourceRange) (t u : Tree) (params params' : List Seen) → RangeAlike r ok p q →
-        SameFunctionHead r c d t u → SameReturn r c d t u →
-        (is_absent (Function-return_type t) ≡ true → is_setter kind ≡ false → return_class (Function-body t) ≡ return_class (Function-body u)) →
+    -- a function, by its parameters, where the bodies agree if no type is written
+    pub signature_of_alike : IsPair r.scopes c.unresolved.0 d.unresolved.0 → (kind : FunctionKind) (p q : SourceRange) (t u : Tree)
+        (params params' : List Seen) → RangeAlike r ok p q → SameFunctionHead r c d t u → SameReturn r c d t u →
+        (is_absent (Function-return_type t) ≡ true → is_setter kind ≡ false →
+        SameBodies c d (Function-is_generator t) (Function-body t) (Function-body u)) →
         AllAlike r ok params params' →
-        Alike r ok (signature_seen t (return_type_seen kind p t) params) (signature_seen u (return_type_seen kind q u) params')
-    signature_of_alike kind p q t u params params' e h s classes ps =
-        signature_alike t u (return_type_seen kind p t) (return_type_seen kind q u) params params' h (return_type_alike kind p q t u e h s classes) ps
+        Alike r ok (signature_seen t (return_type_seen c.unresolved kind p t) params) (signature_seen u (return_type_seen d.unresolved kind q u) params')
+    signature_of_alike pair kind p q t u params params' e h s bodies ps =
+        signature_alike t u (return_type_seen c.unresolved kind p t) (return_type_seen d.unresolved kind q u) params params' h
+        (return_type_alike pair kind p q t u e h s bodies) ps
 
     -- ---- parameters
 
@@ -194,19 +235,23 @@ module _ (r : Renaming) (ok : IsRenaming r) where
       -- the body is a block
       abbrev untyped_at : Bindings → Look → Tree → SourceRange → List Seen → Bool → Seen
       untyped_at bindings f v place ss is_block =
-          if is_block then typed_arrow_seen v ss (class_seen ExpressionLike (ArrowExpr-is_async v) place (return_class (ArrowExpr-body v)))
+          if is_block then
+          typed_arrow_seen v ss (body_seen bindings.unresolved ExpressionLike (ArrowExpr-is_async v) (ArrowExpr-is_generator v) place (ArrowExpr-body v))
           else by_value bindings f v place ss (inferred_type Mutable bindings.unresolved (ArrowExpr-body v))
 
-      pub classed_alike : Both BlockStmt (ArrowExpr-body t) (ArrowExpr-body u) → return_class (ArrowExpr-body t) ≡ return_class (ArrowExpr-body u) → ArrowAlike
-      classed_alike k classes =
-          let classed = class_seen ExpressionLike (ArrowExpr-is_async t) p (return_class (ArrowExpr-body t)) in
-          let classed' = class_seen ExpressionLike (ArrowExpr-is_async u) q (return_class (ArrowExpr-body u)) in
+      pub classed_alike : IsPair r.scopes c.unresolved.0 d.unresolved.0 → Both BlockStmt (ArrowExpr-body t) (ArrowExpr-body u) →
+          return_class (ArrowExpr-body t) ≡ return_class (ArrowExpr-body u) →
+          SameNamed r c d (ArrowExpr-is_generator t) (ArrowExpr-body t) (ArrowExpr-body u) → ArrowAlike
+      classed_alike pair k classes named =
+          let shown = body_seen c.unresolved ExpressionLike (ArrowExpr-is_async t) (ArrowExpr-is_generator t) p (ArrowExpr-body t) in
+          let shown' = body_seen d.unresolved ExpressionLike (ArrowExpr-is_async u) (ArrowExpr-is_generator u) q (ArrowExpr-body u) in
           by_type_alike (λ a.
           subst₂ (Alike r ok) (sym (ap (λ j. untyped_at c look t p pats (j is BlockStmt)) k.left))
           (sym (ap (λ j. untyped_at d look' u q pats' (j is BlockStmt)) k.right))
-          (typed_arrow_alike t u pats pats' classed classed' h ps
-          (subst₂ (λ x y. Alike r ok classed (class_seen ExpressionLike x q y)) h.is_async classes
-          (class_alike ExpressionLike (ArrowExpr-is_async t) p q (return_class (ArrowExpr-body t)) e))))
+          (typed_arrow_alike t u pats pats' shown shown' h ps
+          (subst₂ (λ x y. Alike r ok shown (body_seen d.unresolved ExpressionLike x y q (ArrowExpr-body u))) h.is_async h.is_generator
+          (body_alike c d pair ExpressionLike (ArrowExpr-is_async t) (ArrowExpr-is_generator t) p q (ArrowExpr-body t) (ArrowExpr-body u) e
+          (classes, named)))))
 
       -- the body is a value
       valued_alike : Neither BlockStmt (ArrowExpr-body t) (ArrowExpr-body u) →
@@ -222,16 +267,7 @@ module _ (r : Renaming) (ok : IsRenaming r) where
           let type' = type_ann (promised d.unresolved (ArrowExpr-is_async u) s.right) in
           valued_alike n (subst₂ (λ x y. Alike r ok (by_value c look t p pats x) (by_value d look' u q pats' y)) (sym s.left_is) (sym s.right_is)
           (typed_arrow_alike t u pats pats' (written type) (written type') h ps
-          (written_alike r ok type type' (image_alike r ok type_ann (λ m keeps t. sym (type_ann_moved m keeps t))
-          (promised c.unresolved (ArrowExpr-is_async t) s.left)
-          (promised d.unresolved (ArrowExpr-is_async u) s.right)
-          (promised_alike pair (ArrowExpr-is_async t) (ArrowExpr-is_async u) s.left s.right h.is_async (tree_to r ok s.types))))))
-        where
-          promised_alike : IsPair r.scopes c.unresolved.0 d.unresolved.0 → (a b : Bool) (x y : Tree) → a ≡ b → TreeAlike r ok x y →
-              TreeAlike r ok (promised c.unresolved a x) (promised d.unresolved b y)
-          promised_alike pair a b x y f g =
-              sym (promised_moved (partners r) (partners_keep r ok) c.unresolved a x)
-              ∙ ((λ i. promised (scope_to r ok c.unresolved d.unresolved pair i) (f i) (g i)) ∙ promised_moved twice twice_keeps d.unresolved b y)
+          (shown_type_alike c d pair (ArrowExpr-is_async t) (ArrowExpr-is_async u) s.left s.right h.is_async s.types)))
 
       pub kept_value_alike : Neither BlockStmt (ArrowExpr-body t) (ArrowExpr-body u) → NoneShown r c d (ArrowExpr-body t) (ArrowExpr-body u) →
           Alike r ok (look (ArrowExpr-body t) None) (look' (ArrowExpr-body u) None) → ArrowAlike

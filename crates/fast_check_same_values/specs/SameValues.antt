@@ -23,6 +23,7 @@ use Rattle.fast_check_program_forms.specs.Names.{BindingIdent-type_ann}
 use Rattle.fast_check_ranges.specs.Ranges.{range_of_node}
 use Rattle.fast_check_helpers.specs.declared.literal_type.DeclMutabilityKind.TheVariants.{Mutable}
 use Rattle.fast_check_helpers.specs.InferredType.{inferred_type}
+use Rattle.fast_check_helpers.specs.NamedBodies.{named_return}
 use Rattle.fast_check_helpers.specs.ReturnClass.{return_class}
 use Rattle.fast_check_signatures.specs.Bindings.{Bindings}
 use Rattle.fast_check_signatures.specs.Expressions.{is_plain, is_compound, is_frozen, is_made, is_refused}
@@ -88,6 +89,12 @@ module _ (r : Renaming) (c d : Bindings) where
   pub record NoneShown (t u : Tree) : Type 0 where
     pub left : inferred_type Mutable c.unresolved t ≡ None
     pub right : inferred_type Mutable d.unresolved u ≡ None
+
+  -- bodies of which neither names a return type, or both do, and the types agree
+  pub data SameNamed (is_generator : Bool) (t u : Tree) : Type 0 where
+    neither_named : named_return c.unresolved is_generator t ≡ None → named_return d.unresolved is_generator u ≡ None → SameNamed is_generator t u
+    both_named : (left right : Tree) → named_return c.unresolved is_generator t ≡ Some left → named_return d.unresolved is_generator u ≡ Some right →
+        SameTree r left right → SameNamed is_generator t u
 
   -- array or object patterns, whatever stands in them
   pub data SameEmptied : Tree → Tree → Type 0 where
@@ -168,20 +175,22 @@ module _ (r : Renaming) (c d : Bindings) where
     pub data SameArrowBody : Tree → Tree → Type 0 where
       -- any bodies behind a written return type
       typed_arrow : {t u : Tree} → is_absent (ArrowExpr-return_type t) ≡ false → SameArrowBody t u
-      -- blocks of one return class
+      -- blocks of one return class, which name the same type, if one of them names any
       classed_arrow : {t u : Tree} → Both BlockStmt (ArrowExpr-body t) (ArrowExpr-body u) →
-          return_class (ArrowExpr-body t) ≡ return_class (ArrowExpr-body u) → SameArrowBody t u
+          return_class (ArrowExpr-body t) ≡ return_class (ArrowExpr-body u) →
+          SameNamed (ArrowExpr-is_generator t) (ArrowExpr-body t) (ArrowExpr-body u) → SameArrowBody t u
       -- any values of the same inferred type
       shown_value : {t u : Tree} → Neither BlockStmt (ArrowExpr-body t) (ArrowExpr-body u) → SameShown (ArrowExpr-body t) (ArrowExpr-body u) → SameArrowBody t u
       -- values that are to stay
       kept_value : {t u : Tree} → Neither BlockStmt (ArrowExpr-body t) (ArrowExpr-body u) → NoneShown (ArrowExpr-body t) (ArrowExpr-body u) →
           SameExpr (ArrowExpr-body t) (ArrowExpr-body u) → SameArrowBody t u
 
-    -- functions: any bodies behind a written return type, and bodies of one return class
+    -- functions: any bodies behind a written return type, and bodies of one return class, which name the same type, if one of them names any
     pub data SameFunction : Tree → Tree → Type 0 where
       typed_function : {t u : Tree} → SameFunctionHead t u → SameReturn t u → is_absent (Function-return_type t) ≡ false →
           SameParams (parts (Function-params t)) (parts (Function-params u)) → SameFunction t u
       classed_function : {t u : Tree} → SameFunctionHead t u → SameReturn t u → return_class (Function-body t) ≡ return_class (Function-body u) →
+          SameNamed (Function-is_generator t) (Function-body t) (Function-body u) →
           SameParams (parts (Function-params t)) (parts (Function-params u)) → SameFunction t u
 
     -- parameters of functions, whatever their decorators

@@ -103,7 +103,7 @@ module _ (bindings : Bindings) (look other : Look) (limit : ℕ) (same : (u : Tr
       function_seen bindings look kind place t ≡ function_seen bindings other kind place t
   function_same kind place t h = let params = parts (Function-params t) in
       let below : Below limit params = parts_below limit (Function-params t) (field_below Function-params _ (λ t. refl) (suc limit) t h) in
-      ap (λ pats. signature_seen t (return_type_seen kind place t) (params_seen params pats))
+      ap (λ pats. signature_seen t (return_type_seen bindings.unresolved kind place t) (params_seen params pats))
       (pats_same (map (λ p. Param-pat p) params) (patterns_below limit params below))
 
   by_value_same : (t : Tree) (place : SourceRange) (pats : List Seen) → look (ArrowExpr-body t) ≡ other (ArrowExpr-body t) → (shown : Option Tree) →

@@ -1,8 +1,9 @@
--- What is seen of functions and arrows: their parameters and their return type. A body is seen where it shows the return type, by its return class or its
--- value.
+-- What is seen of functions and arrows: their parameters and their return type. A body is seen where it shows the return type, by the type that it names, by
+-- its return class or by its value.
 use Rattle.std.specs.Prelude.{ℕ, suc, Bool, true, false, Option, Some, None, List, [], ◌∷◌, map, if◌then◌else◌}
 use Rattle.fast_check_syntax.specs.declared.kind.Kind.TheVariants.{Param, BlockStmt, RestPat}
 use Rattle.fast_check_syntax.specs.declared.source.SourceRange.{SourceRange}
+use Rattle.fast_check_syntax.specs.declared.source.SyntaxContext.{SyntaxContext}
 use Rattle.fast_check_syntax.specs.declared.tree.Tree.{Tree, Absent}
 use Rattle.fast_check_syntax.specs.Shape.{◌is◌, kind_of, parts, is_absent, list}
 use Rattle.fast_check_class_forms.specs.Functions.{Function-span, Function-params, Function-ctxt, Function-body, Function-is_generator, Function-is_async}
@@ -14,6 +15,7 @@ use Rattle.fast_check_helpers.specs.declared.return_class.ReturnStatementAnalysi
 use Rattle.fast_check_helpers.specs.declared.return_class.ReturnStatementAnalysis.TheVariants as class
 use Rattle.fast_check_helpers.specs.Builders.{type_ann, any_type_ann}
 use Rattle.fast_check_helpers.specs.InferredType.{inferred_type}
+use Rattle.fast_check_helpers.specs.NamedBodies.{named_return}
 use Rattle.fast_check_helpers.specs.ReturnClass.{return_class}
 use Rattle.fast_check_signatures.specs.declared.fault.FaultKind.{FaultKind}
 use Rattle.fast_check_signatures.specs.declared.fault.FaultKind.TheVariants.{MissingExplicitReturnType}
@@ -48,21 +50,32 @@ class_seen kind is_async place class.Void = void_class_seen kind is_async place
 class_seen kind is_async place class.None = no_return_seen kind is_async place
 class_seen kind is_async place _ = faulty (return_type_missing false is_async) place
 
+-- the return type that a body names, in a promise where the function is async, or else what is seen by its class
+abbrev pub named_seen : SyntaxContext → Bool → Option Tree → Seen → Seen
+named_seen unresolved is_async (Some type) classed = written (type_ann (promised unresolved is_async type))
+named_seen unresolved is_async None classed = classed
+
+-- the return type that the body of a function shows; that of a generator names none
+abbrev pub body_seen : SyntaxContext → FunctionKind → Bool → Bool → SourceRange → Tree → Seen
+body_seen unresolved kind is_async is_generator place body =
+    named_seen unresolved is_async (named_return unresolved is_generator body) (class_seen kind is_async place (return_class body))
+
 abbrev pub is_setter : FunctionKind → Bool
 is_setter Setter = true
 is_setter _ = false
 
 -- the return type of a function where none is written: that its body shows; of a generator it must be written, and a setter has none
-abbrev pub shown_return_seen : FunctionKind → SourceRange → Tree → Seen
-shown_return_seen kind place t =
+abbrev pub shown_return_seen : SyntaxContext → FunctionKind → SourceRange → Tree → Seen
+shown_return_seen unresolved kind place t =
     if is_setter kind then written Absent
     else (if Function-is_generator t then faulty (return_type_missing false (Function-is_async t)) place
     else (if is_absent (Function-body t) then written Absent
-    else class_seen kind (Function-is_async t) place (return_class (Function-body t))))
+    else body_seen unresolved kind (Function-is_async t) (Function-is_generator t) place (Function-body t)))
 
 -- the return type of a function: the written one, or that its body shows
-abbrev pub return_type_seen : FunctionKind → SourceRange → Tree → Seen
-return_type_seen kind place t = if is_absent (Function-return_type t) then shown_return_seen kind place t else written (Function-return_type t)
+abbrev pub return_type_seen : SyntaxContext → FunctionKind → SourceRange → Tree → Seen
+return_type_seen unresolved kind place t =
+    if is_absent (Function-return_type t) then shown_return_seen unresolved kind place t else written (Function-return_type t)
 
 -- a function, but for its return type and its parameters
 abbrev pub function_head : Tree → FunctionHead
@@ -110,7 +123,7 @@ module _ (bindings : Bindings) (look : Look) where
   abbrev pub function_seen : FunctionKind → SourceRange → Tree → Seen
   function_seen kind place t =
       let params = parts (Function-params t) in
-      signature_seen t (return_type_seen kind place t) (params_seen params (pats_seen bindings look (map (λ p. Param-pat p) params)))
+      signature_seen t (return_type_seen bindings.unresolved kind place t) (params_seen params (pats_seen bindings look (map (λ p. Param-pat p) params)))
 
   -- an arrow without a written return type, by the type that its value shows
   abbrev pub by_value : Tree → SourceRange → List Seen → Option Tree → Seen
@@ -120,7 +133,8 @@ module _ (bindings : Bindings) (look : Look) where
   abbrev pub untyped_arrow_seen : Tree → SourceRange → List Seen → Seen
   untyped_arrow_seen t place pats =
       let body = ArrowExpr-body t in
-      if kind_of body is BlockStmt then typed_arrow_seen t pats (class_seen ExpressionLike (ArrowExpr-is_async t) place (return_class body))
+      if kind_of body is BlockStmt then
+      typed_arrow_seen t pats (body_seen bindings.unresolved ExpressionLike (ArrowExpr-is_async t) (ArrowExpr-is_generator t) place body)
       else by_value t place pats (inferred_type Mutable bindings.unresolved body)
 
   abbrev pub arrow_by_type : Tree → SourceRange → List Seen → Seen

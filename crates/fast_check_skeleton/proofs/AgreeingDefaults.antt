@@ -93,7 +93,7 @@ module _ (r : Renaming) (ok : IsRenaming r) (a b : Surroundings) where
   -- where the functions begin
   spans_alike : (t u : Tree) → SameFunction r a.bindings b.bindings t u → RangeAlike r ok (Function-span t) (Function-span u)
   spans_alike t u (v.SameFunction.typed_function h n w ps) = range_to r ok (Function-span t) (Function-span u) h.span
-  spans_alike t u (v.SameFunction.classed_function h n f ps) = range_to r ok (Function-span t) (Function-span u) h.span
+  spans_alike t u (v.SameFunction.classed_function h n f k ps) = range_to r ok (Function-span t) (Function-span u) h.span
 
   places_alike : (t u : Tree) → SameTree r (FnExpr-ident t) (FnExpr-ident u) →
       SameFunction r a.bindings b.bindings (FnExpr-function t) (FnExpr-function u) → RangeAlike r ok (default_place t) (default_place u)

@@ -230,7 +230,7 @@ module _ (r : Renaming) (ok : IsRenaming r) where
     decl_begins p q t u (h.SameDecl.ambient d n rest) = of_variables t u d.kinds d.span
     decl_begins p q t u (h.SameDecl.standing k d s e f) = range_alike r ok t u f
     decl_begins p q t u (h.SameDecl.function d e f (v.SameFunction.typed_function g x y z)) = of_functions t u d.kinds g.span
-    decl_begins p q t u (h.SameDecl.function d e f (v.SameFunction.classed_function g x y z)) = of_functions t u d.kinds g.span
+    decl_begins p q t u (h.SameDecl.function d e f (v.SameFunction.classed_function g x y k z)) = of_functions t u d.kinds g.span
     decl_begins p q t u (h.SameDecl.implementation d e f g) = of_functions t u d.kinds g.head.span
     decl_begins p q t u (h.SameDecl.ambient_function k e f s) = range_alike r ok t u s
     decl_begins p q t u (h.SameDecl.class d e n s) = of_classes t u d.kinds s.head.span

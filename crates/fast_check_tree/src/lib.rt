@@ -219,8 +219,9 @@ pub mod helpers {
         DeclMutabilityKind, IdentTypeRef, ParamsOptionalStartIndex, ReturnStatementAnalysis,
         TsKeywordTypeKind, analyze_return_stmts_in_function_body, any_type_ann, is_global,
         is_simple_type, is_void_type, maybe_infer_type, maybe_lit_to_ts_type, never_value,
-        new_ident, object_freeze_call_arg, regex_type, shows_type, tpl_to_ts_type, ts_keyword_type,
-        ts_lit_type, ts_readonly, ts_tuple_element, type_ann, type_ref,
+        new_ident, object_freeze_call_arg, regex_type, shows_type, single_return_arg,
+        tpl_to_ts_type, ts_keyword_type, ts_lit_type, ts_readonly, ts_tuple_element, type_ann,
+        type_ref,
     };
 }
 

@@ -6,17 +6,17 @@ use Rattle.fast_check_syntax.specs.declared.source.SourceRange.{SourceRange}
 use Rattle.fast_check_syntax.specs.declared.tree.Tree.{Tree}
 use Rattle.fast_check_syntax.specs.Shape.{◌is◌, kind_of, parts, flag_of, is_absent, list}
 use Rattle.fast_check_syntax.proofs.Made.{kind_of_node, parts_node, part_node, is_absent_node, flag_of_flag}
-use Rattle.fast_check_expression_forms.specs.Expressions.{ArrowExpr-span, ArrowExpr-params, ArrowExpr-body, ArrowExpr-is_async, ArrowExpr-return_type}
+use Rattle.fast_check_expression_forms.specs.Expressions.{ArrowExpr-span, ArrowExpr-params, ArrowExpr-body, ArrowExpr-is_async, ArrowExpr-is_generator}
+use Rattle.fast_check_expression_forms.specs.Expressions.{ArrowExpr-return_type}
 use Rattle.fast_check_helpers.specs.declared.literal_type.DeclMutabilityKind.TheVariants.{Mutable}
 use Rattle.fast_check_helpers.specs.Builders.{type_ann}
 use Rattle.fast_check_helpers.specs.InferredType.{inferred_type}
-use Rattle.fast_check_helpers.specs.ReturnClass.{return_class}
 use Rattle.fast_check_signatures.specs.Bindings.{Bindings}
 use Rattle.fast_check_signatures.specs.declared.function_kind.FunctionKind.TheVariants.{ExpressionLike}
 use Rattle.fast_check_signatures.specs.Seen.{ArrowHead, Seen, written}
 use Rattle.fast_check_signatures.specs.NewNodes.{arrow_body, promised}
 use Rattle.fast_check_signatures.specs.Parameters.{Look, pats_seen}
-use Rattle.fast_check_signatures.specs.Functions.{return_type_missing, class_seen, arrow_head, typed_arrow_seen, valued_arrow_seen, or_own, by_value}
+use Rattle.fast_check_signatures.specs.Functions.{return_type_missing, body_seen, arrow_head, typed_arrow_seen, valued_arrow_seen, or_own, by_value}
 use Rattle.fast_check_signatures.specs.Functions.{arrow_by_type}
 use Rattle.fast_check_signatures.specs.Functions.{arrow_seen}
 use Rattle.fast_check_signatures.specs.Answers.{fault_at, settled, demanded, signed_arrow, kept_arrow, answer_to, answer_of}
@@ -24,7 +24,7 @@ use Rattle.fast_check_signatures.proofs.Choices.{of_choice}
 use Rattle.fast_check_typed_grammar.specs.TypedGrammar.{IsLeavable, AllTypedPats}
 use Rattle.fast_check_typed_grammar.proofs.Staying.{Holds, Stays, demanded_holds, joined_stays}
 use Rattle.fast_check_typed_grammar.proofs.TypedPatterns.{LookStays, pats_hold}
-use Rattle.fast_check_typed_grammar.proofs.TypedFunctions.{IsType, class_shows}
+use Rattle.fast_check_typed_grammar.proofs.TypedFunctions.{IsType, body_shows}
 
 module _ (bindings : Bindings) where
   abbrev Leavable : Tree → Type 0
@@ -83,8 +83,9 @@ module _ (bindings : Bindings) where
     by_type_stays t place pats hold = let body = ArrowExpr-body t in
         of_choice StaysLeavable (is_absent (ArrowExpr-return_type t)) _ _ (λ untyped.
         of_choice StaysLeavable (kind_of body is BlockStmt) _ _
-        (λ block. let type = class_seen ExpressionLike (ArrowExpr-is_async t) place (return_class body) in
-        typed_stays t pats type hold (class_shows ExpressionLike (ArrowExpr-is_async t) place (return_class body)))
+        (λ block. let is_async = ArrowExpr-is_async t in let is_generator = ArrowExpr-is_generator t in
+        typed_stays t pats (body_seen bindings.unresolved ExpressionLike is_async is_generator place body) hold
+        (body_shows bindings.unresolved ExpressionLike is_async is_generator place body))
         (λ value. by_value_stays t place pats hold (inferred_type Mutable bindings.unresolved body)))
         (λ present. typed_stays t pats (written (ArrowExpr-return_type t)) hold (λ f. present))
 

@@ -1,10 +1,11 @@
 -- Each function that stands without a fault is typed, where values that may stay give the types of its parameters.
-use Rattle.std.specs.Prelude.{◌≡◌, ℕ, suc, Bool, true, false, ◌⊎◌, Some, List, [], ◌∷◌, map, refl, if◌then◌else◌}
+use Rattle.std.specs.Prelude.{◌≡◌, ℕ, suc, Bool, true, false, ◌⊎◌, Option, Some, None, List, [], ◌∷◌, map, refl, if◌then◌else◌}
 use Rattle.std.specs.List.{list_all}
 use Rattle.std.proofs.Common.{ap, ◌∙◌, sym, subst, inl, inr}
 use Rattle.std.proofs.lemmas.Bool.{false≢true}
 use Rattle.fast_check_syntax.specs.declared.kind.Kind.TheVariants.{Param, RestPat}
 use Rattle.fast_check_syntax.specs.declared.source.SourceRange.{SourceRange}
+use Rattle.fast_check_syntax.specs.declared.source.SyntaxContext.{SyntaxContext}
 use Rattle.fast_check_syntax.specs.declared.tree.Tree as tree
 use Rattle.fast_check_syntax.specs.declared.tree.Tree.{Tree, Absent, roll-Tree, out-roll-Tree}
 use Rattle.fast_check_syntax.specs.declared.tree.Tree.TheOpen.{Tree-F}
@@ -18,6 +19,7 @@ use Rattle.fast_check_helpers.specs.declared.return_class.ReturnStatementAnalysi
 use Rattle.fast_check_helpers.specs.declared.return_class.ReturnStatementAnalysis.TheVariants as class
 use Rattle.fast_check_helpers.specs.Builders.{any_type_ann}
 use Rattle.fast_check_helpers.specs.OptionalParams.{is_optional_param}
+use Rattle.fast_check_helpers.specs.NamedBodies.{named_return}
 use Rattle.fast_check_helpers.specs.ReturnClass.{return_class}
 use Rattle.fast_check_signatures.specs.Bindings.{Bindings}
 use Rattle.fast_check_signatures.specs.declared.function_kind.FunctionKind.{FunctionKind}
@@ -26,7 +28,7 @@ use Rattle.fast_check_signatures.specs.Seen.{FunctionHead, Seen, written, seens}
 use Rattle.fast_check_signatures.specs.NewNodes.{function_body, param_ident, any_param}
 use Rattle.fast_check_signatures.specs.Parameters.{Look, pat_seen, pats_seen}
 use Rattle.fast_check_signatures.specs.Functions.{void_class_seen, no_return_seen, class_seen, is_setter, return_type_seen, function_head}
-use Rattle.fast_check_signatures.specs.Functions.{signature_seen, any_params_from, implementation_seen, param_seen}
+use Rattle.fast_check_signatures.specs.Functions.{named_seen, body_seen, signature_seen, any_params_from, implementation_seen, param_seen}
 use Rattle.fast_check_signatures.specs.Functions.{params_seen, function_seen}
 use Rattle.fast_check_signatures.specs.Answers.{settled, visited, faultless, signed_function, answer_to, parts_answer, answer_of}
 use Rattle.fast_check_signatures.proofs.Choices.{of_choice, not_empty}
@@ -53,11 +55,22 @@ no_return_shows : (kind : FunctionKind) (is_async : Bool) (place : SourceRange) 
 no_return_shows DeclarationLike is_async place f = is_absent_node _ _
 no_return_shows _ is_async place f = not_empty f
 
-pub class_shows : (kind : FunctionKind) (is_async : Bool) (place : SourceRange) (c : ReturnStatementAnalysis) → IsType (class_seen kind is_async place c)
+class_shows : (kind : FunctionKind) (is_async : Bool) (place : SourceRange) (c : ReturnStatementAnalysis) → IsType (class_seen kind is_async place c)
 class_shows kind is_async place class.Void f = void_class_shows kind is_async place f
 class_shows kind is_async place class.None f = no_return_shows kind is_async place f
 class_shows kind is_async place class.Single f = not_empty f
 class_shows kind is_async place class.Multiple f = not_empty f
+
+named_shows : (unresolved : SyntaxContext) (is_async : Bool) (found : Option Tree) (classed : Seen) → IsType classed →
+    IsType (named_seen unresolved is_async found classed)
+named_shows unresolved is_async (Some type) classed shows f = is_absent_node _ _
+named_shows unresolved is_async None classed shows f = shows f
+
+pub body_shows : (unresolved : SyntaxContext) (kind : FunctionKind) (is_async is_generator : Bool) (place : SourceRange) (body : Tree) →
+    IsType (body_seen unresolved kind is_async is_generator place body)
+body_shows unresolved kind is_async is_generator place body =
+    named_shows unresolved is_async (named_return unresolved is_generator body) (class_seen kind is_async place (return_class body))
+    (class_shows kind is_async place (return_class body))
 
 -- it is one, or there is no body
 abbrev Shows : Bool → Tree → Type 0
@@ -66,14 +79,14 @@ Shows lacks_body type = (lacks_body ≡ true) ⊎ (is_absent type ≡ false)
 abbrev IsTypeOrBodiless : Tree → Seen → Type 0
 IsTypeOrBodiless body type = Holds (Shows (is_absent body)) (settled (answer_to type))
 
-return_type_shows : (kind : FunctionKind) (place : SourceRange) (t : Tree) → is_setter kind ≡ false →
-    IsTypeOrBodiless (Function-body t) (return_type_seen kind place t)
-return_type_shows kind place t n = let P : Seen → Type 0 = IsTypeOrBodiless (Function-body t) in
+return_type_shows : (unresolved : SyntaxContext) (kind : FunctionKind) (place : SourceRange) (t : Tree) → is_setter kind ≡ false →
+    IsTypeOrBodiless (Function-body t) (return_type_seen unresolved kind place t)
+return_type_shows unresolved kind place t n = let P : Seen → Type 0 = IsTypeOrBodiless (Function-body t) in
     of_choice P (is_absent (Function-return_type t)) _ _ (λ none.
     of_choice P (is_setter kind) _ _ (λ setter f. absurd (false≢true (sym n ∙ setter))) (λ gives.
     of_choice P (Function-is_generator t) _ _ (λ generator f. not_empty f) (λ plain.
     of_choice P (is_absent (Function-body t)) _ _ (λ bodiless f. inl bodiless) (λ body f.
-    inr (class_shows kind (Function-is_async t) place (return_class (Function-body t)) f))))) (λ type f. inr type)
+    inr (body_shows unresolved kind (Function-is_async t) (Function-is_generator t) place (Function-body t) f))))) (λ type f. inr type)
 
 -- a body that stands behind a return type
 abbrev Behind : Tree → Tree → Type 0
@@ -190,8 +203,8 @@ module _ (bindings : Bindings) where
     function_stays kind place t n =
         let params = parts (Function-params t) in
         let pats = map (λ p. Param-pat p) params in
-        signature_stays t (return_type_seen kind place t) (params_seen params (pats_seen bindings look pats)) (return_type_shows kind place t n)
-        (params_hold params pats)
+        signature_stays t (return_type_seen bindings.unresolved kind place t) (params_seen params (pats_seen bindings look pats))
+        (return_type_shows bindings.unresolved kind place t n) (params_hold params pats)
 
     -- the function of a setter: no type shows its body
     typed_setter : (f : FunctionHead) (type : Tree) (params : List Tree) → Unit {0} → AllTypedParams bindings params →
@@ -217,5 +230,5 @@ module _ (bindings : Bindings) where
         let params = parts (Function-params t) in
         let pats = map (λ p. Param-pat p) params in
         joined_stays (λ (type : Tree). Unit {0}) (AllTypedParams bindings) (IsTypedSetter bindings) (signed_function (function_head t))
-        (typed_setter (function_head t)) (settled (answer_to (return_type_seen Setter place t)))
+        (typed_setter (function_head t)) (settled (answer_to (return_type_seen bindings.unresolved Setter place t)))
         (answer_of (params_seen params (pats_seen bindings look pats))) (λ f. tt) (params_hold params pats)

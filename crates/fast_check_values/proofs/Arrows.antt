@@ -1,4 +1,4 @@
--- What is added by an arrow: its return type where it is known, or else its value, and its parameters.
+-- What is added by a body that shows its return type, and by an arrow: its return type where it is known, or else its value, and its parameters.
 use Rattle.std.specs.Prelude.{◌≡◌, Bool, true, false, Option, Some, None, List, ◌++◌, option_map, unwrap_or, refl, if◌then◌else◌}
 use Rattle.std.proofs.Common.{ap, ◌∙◌, sym, subst, append-nil}
 use Rattle.fast_check_syntax.specs.declared.kind.Kind.TheVariants as kinds
@@ -6,23 +6,45 @@ use Rattle.fast_check_syntax.specs.declared.source.SourceRange.{SourceRange}
 use Rattle.fast_check_syntax.specs.declared.source.SyntaxContext.{SyntaxContext}
 use Rattle.fast_check_syntax.specs.declared.tree.Tree.{Tree, Absent}
 use Rattle.fast_check_syntax.specs.Shape.{◌is◌, kind_of, parts, is_absent}
-use Rattle.fast_check_expression_forms.specs.Expressions.{ArrowExpr-span, ArrowExpr-params, ArrowExpr-body, ArrowExpr-is_async, ArrowExpr-return_type}
+use Rattle.fast_check_expression_forms.specs.Expressions.{ArrowExpr-span, ArrowExpr-params, ArrowExpr-body, ArrowExpr-is_async, ArrowExpr-is_generator}
+use Rattle.fast_check_expression_forms.specs.Expressions.{ArrowExpr-return_type}
 use Rattle.fast_check_helpers.specs.declared.literal_type.DeclMutabilityKind.TheVariants.{Mutable}
 use Rattle.fast_check_helpers.specs.Builders.{type_ann}
 use Rattle.fast_check_helpers.specs.InferredType.{inferred_type}
+use Rattle.fast_check_helpers.specs.NamedBodies.{named_return}
 use Rattle.fast_check_helpers.specs.ReturnClass.{return_class}
 use Rattle.fast_check_signatures.specs.declared.fault.Fault.{Fault}
+use Rattle.fast_check_signatures.specs.declared.function_kind.FunctionKind.{FunctionKind}
 use Rattle.fast_check_signatures.specs.declared.function_kind.FunctionKind.TheVariants.{ExpressionLike}
 use Rattle.fast_check_signatures.specs.Bindings.{Bindings}
 use Rattle.fast_check_signatures.specs.Seen.{Seen, written}
 use Rattle.fast_check_signatures.specs.NewNodes.{promised}
 use Rattle.fast_check_signatures.specs.Parameters.{pats_seen}
-use Rattle.fast_check_signatures.specs.Functions.{return_type_missing, class_seen, or_own, arrow_head, typed_arrow_seen, valued_arrow_seen, by_value}
+use Rattle.fast_check_signatures.specs.Functions.{return_type_missing, class_seen, named_seen, body_seen, or_own, arrow_head, typed_arrow_seen, valued_arrow_seen, by_value}
 use Rattle.fast_check_signatures.specs.Functions.{arrow_seen}
 use Rattle.fast_check_signatures.specs.Expressions.{expr_seen}
 use Rattle.fast_check_signatures.specs.Answers.{Adds, fault_at, answer_to, answer_of, demanded, faultless, settled, signed_arrow, kept_arrow}
 use Rattle.fast_check_signatures.proofs.Adding.{adds_same, adds_joined, adds_made, adds_nothing, adds_settled}
 use Rattle.fast_check_values.specs.Looked.{known_type, known_answer}
+
+-- ---- the return type that a body shows
+
+module _ (unresolved : SyntaxContext) (kind : FunctionKind) (is_async is_generator : Bool) (place : SourceRange) (body : Tree) where
+  abbrev by_name : Option Tree → Seen
+  by_name found = named_seen unresolved is_async found (class_seen kind is_async place (return_class body))
+
+  pub body_named : {type ty : Tree} {old : List Fault} → named_return unresolved is_generator body ≡ Some ty →
+      type ≡ type_ann (promised unresolved is_async ty) →
+      Adds (answer_to (body_seen unresolved kind is_async is_generator place body)) (Some type) old old
+  body_named {type = type} {old = old} e w =
+      adds_same (ap (λ found. answer_to (by_name found)) e ∙ ap (λ ty. faultless (Some ty)) (sym w)) (adds_nothing (Some type) old)
+
+  pub body_classed : {type : Tree} {old new : List Fault} → named_return unresolved is_generator body ≡ None →
+      Adds (answer_to (class_seen kind is_async place (return_class body))) (Some type) old new →
+      Adds (answer_to (body_seen unresolved kind is_async is_generator place body)) (Some type) old new
+  body_classed e h = adds_same (ap (λ found. answer_to (by_name found)) e) h
+
+-- ---- an arrow
 
 module _ (bindings : Bindings) (own : Option SourceRange) (t : Tree) where
   abbrev at : SourceRange
@@ -31,8 +53,8 @@ module _ (bindings : Bindings) (own : Option SourceRange) (t : Tree) where
   abbrev pats : List Seen
   pats = pats_seen bindings (expr_seen bindings) (parts (ArrowExpr-params t))
 
-  abbrev by_class : Seen
-  by_class = class_seen ExpressionLike (ArrowExpr-is_async t) at (return_class (ArrowExpr-body t))
+  abbrev by_block : Seen
+  by_block = body_seen bindings.unresolved ExpressionLike (ArrowExpr-is_async t) (ArrowExpr-is_generator t) at (ArrowExpr-body t)
 
   abbrev by_known : Option Seen → Seen
   by_known (Some type) = typed_arrow_seen t pats type
@@ -46,9 +68,9 @@ module _ (bindings : Bindings) (own : Option SourceRange) (t : Tree) where
       (inferred_type Mutable bindings.unresolved (ArrowExpr-body t))
     where
       go : (absent block : Bool) (shown : Option Tree) →
-          (if absent then (if block then typed_arrow_seen t pats by_class else by_value bindings (expr_seen bindings) t at pats shown)
+          (if absent then (if block then typed_arrow_seen t pats by_block else by_value bindings (expr_seen bindings) t at pats shown)
           else typed_arrow_seen t pats (written (ArrowExpr-return_type t))) ≡
-          by_known (if absent then (if block then Some by_class else option_map
+          by_known (if absent then (if block then Some by_block else option_map
           (λ ty. written (type_ann (promised bindings.unresolved (ArrowExpr-is_async t) ty)))
           shown)
           else Some (written (ArrowExpr-return_type t)))
@@ -95,11 +117,11 @@ module _ (unresolved : SyntaxContext) (place : SourceRange) (t : Tree) where
   abbrev shown : Option Tree → Option Seen
   shown type = option_map (λ ty. written (type_ann (promised unresolved (ArrowExpr-is_async t) ty))) type
 
-  abbrev of_class : Seen
-  of_class = class_seen ExpressionLike (ArrowExpr-is_async t) place (return_class (ArrowExpr-body t))
+  abbrev of_block : Seen
+  of_block = body_seen unresolved ExpressionLike (ArrowExpr-is_async t) (ArrowExpr-is_generator t) place (ArrowExpr-body t)
 
   abbrev unwritten : Bool → Option Tree → Option Seen
-  unwritten block type = if block then Some of_class else shown type
+  unwritten block type = if block then Some of_block else shown type
 
   abbrev inferred : Option Tree
   inferred = inferred_type Mutable unresolved (ArrowExpr-body t)
@@ -117,9 +139,9 @@ module _ (unresolved : SyntaxContext) (place : SourceRange) (t : Tree) where
         Adds (known_answer known) (Some type) old old
     type_written {type = type} e w = adds_same (ap known_answer (by_absence e) ∙ ap (λ ty. faultless (Some ty)) (sym w)) (adds_nothing (Some type) old)
 
-    pub type_of_class : {type : Tree} {new : List Fault} → is_absent (ArrowExpr-return_type t) ≡ true →
-        kind_of (ArrowExpr-body t) is kinds.BlockStmt ≡ true → Adds (answer_to of_class) (Some type) old new → Adds (known_answer known) (Some type) old new
-    type_of_class e b h = adds_same (ap known_answer (by_body e b)) (adds_made Some (adds_settled h))
+    pub type_of_block : {type : Tree} {new : List Fault} → is_absent (ArrowExpr-return_type t) ≡ true →
+        kind_of (ArrowExpr-body t) is kinds.BlockStmt ≡ true → Adds (answer_to of_block) (Some type) old new → Adds (known_answer known) (Some type) old new
+    type_of_block e b h = adds_same (ap known_answer (by_body e b)) (adds_made Some (adds_settled h))
 
     pub type_shown : {type : Tree} (ty : Tree) → is_absent (ArrowExpr-return_type t) ≡ true → kind_of (ArrowExpr-body t) is kinds.BlockStmt ≡ false →
         inferred ≡ Some ty → type ≡ type_ann (promised unresolved (ArrowExpr-is_async t) ty) → Adds (known_answer known) (Some type) old old

@@ -7,18 +7,17 @@ use Rattle.fast_check_syntax.specs.declared.source.SyntaxContext.{SyntaxContext}
 use Rattle.fast_check_syntax.specs.declared.tree.Tree.{Tree}
 use Rattle.fast_check_syntax.specs.Shape.{◌is◌, kind_of, is_absent}
 use Rattle.fast_check_class_forms.specs.Functions.{Param-pat}
-use Rattle.fast_check_expression_forms.specs.Expressions.{ArrowExpr-body, ArrowExpr-is_async, ArrowExpr-return_type}
+use Rattle.fast_check_expression_forms.specs.Expressions.{ArrowExpr-body, ArrowExpr-is_async, ArrowExpr-is_generator, ArrowExpr-return_type}
 use Rattle.fast_check_helpers.specs.declared.literal_type.DeclMutabilityKind.TheVariants.{Mutable}
 use Rattle.fast_check_helpers.specs.Builders.{type_ann}
 use Rattle.fast_check_helpers.specs.InferredType.{inferred_type}
-use Rattle.fast_check_helpers.specs.ReturnClass.{return_class}
 use Rattle.fast_check_helpers.specs.OptionalParams.{is_optional_param, is_from}
 use Rattle.fast_check_signatures.specs.declared.function_kind.FunctionKind.TheVariants.{ExpressionLike}
 use Rattle.fast_check_signatures.specs.Bindings.{Bindings}
 use Rattle.fast_check_signatures.specs.Seen.{Seen, written}
 use Rattle.fast_check_signatures.specs.NewNodes.{promised}
 use Rattle.fast_check_signatures.specs.Parameters.{pats_seen}
-use Rattle.fast_check_signatures.specs.Functions.{class_seen, params_seen}
+use Rattle.fast_check_signatures.specs.Functions.{body_seen, params_seen}
 use Rattle.fast_check_signatures.specs.Expressions.{expr_seen}
 use Rattle.fast_check_signatures.specs.Answers.{Answer, answer_to, faultless, made, settled}
 
@@ -39,7 +38,7 @@ abbrev pub known_type : SyntaxContext → SourceRange → Tree → Option Seen
 known_type unresolved place t =
     let body = ArrowExpr-body t in
     if is_absent (ArrowExpr-return_type t) then
-    (if kind_of body is BlockStmt then Some (class_seen ExpressionLike (ArrowExpr-is_async t) place (return_class body))
+    (if kind_of body is BlockStmt then Some (body_seen unresolved ExpressionLike (ArrowExpr-is_async t) (ArrowExpr-is_generator t) place body)
     else option_map (λ type. written (type_ann (promised unresolved (ArrowExpr-is_async t) type))) (inferred_type Mutable unresolved body))
     else Some (written (ArrowExpr-return_type t))
 

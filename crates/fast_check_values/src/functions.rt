@@ -3,7 +3,8 @@ ghost use Rattle.fast_check_syntax.specs.Part.{seen};
 ghost use Rattle.fast_check_syntax.specs.Shape.{parts};
 ghost use Rattle.fast_check_signatures.specs.Answers.{Adds, answer_to, answer_of, faultless};
 ghost use Rattle.fast_check_signatures.specs.Expressions.{expr_seen};
-ghost use Rattle.fast_check_signatures.specs.Functions.{class_seen, return_type_seen, function_seen, arrow_seen, implementation_seen, any_params_from};
+ghost use Rattle.fast_check_signatures.specs.Functions.{class_seen, body_seen, return_type_seen, function_seen, arrow_seen, implementation_seen};
+ghost use Rattle.fast_check_signatures.specs.Functions.{any_params_from};
 ghost use Rattle.fast_check_values.specs.Looked.{known_type, known_answer};
 ghost use Rattle.fast_check_bindings.specs.Bindings.{bindings_of};
 
@@ -14,7 +15,7 @@ use fast_check_class_forms::{Function, Param};
 use fast_check_expression_forms::ArrowExpr;
 use fast_check_helpers::{
     DeclMutabilityKind, ReturnStatementAnalysis, analyze_return_stmts_in_function_body,
-    any_type_ann, maybe_infer_type, type_ann,
+    any_type_ann, maybe_infer_type, named_return, type_ann,
 };
 use fast_check_modules::EsModuleInfo;
 use fast_check_new_nodes::{
@@ -23,6 +24,14 @@ use fast_check_new_nodes::{
 use fast_check_signatures::{Fault, FaultKind, FunctionKind};
 use fast_check_syntax::{Items, Kind, Part, SourceRange, Tree};
 use std::alloc::{AllocError, Global};
+
+/// The body of a function, a `BlockStmt`, with the marks of the function.
+#[derive(Clone, Copy)]
+struct Body<'a> {
+    is_async: bool,
+    is_generator: bool,
+    block: Part<'a>,
+}
 
 /// The return type that a body shows by its class; where it shows none, a fault.
 fn type_by_class(
@@ -60,16 +69,44 @@ fn type_by_class(
     Ok(Tree::Absent)
 }
 
+/// The return type that the body of a function shows, as `: type`: the type that it names, in a promise where the function
+/// is async, or else that of its class; where it shows none, a fault. The body of a generator names none.
+fn type_by_body(
+    alloc: Global,
+    info: &EsModuleInfo,
+    kind: FunctionKind,
+    place: SourceRange,
+    body: Body<'_>,
+    faults: &mut Vec<Fault>,
+) -> Result<Tree, AllocError>
+    ensures { IfOk result (λ tree. Adds (answer_to (body_seen (bindings_of info.now).unresolved kind body.entry.is_async body.entry.is_generator place
+        (seen body.entry.block))) (Some tree) faults.old.items faults.new.items) }
+{
+    let unresolved = unresolved_context(info);
+    match named_return(alloc, unresolved, body.is_generator, body.block)? {
+        Some(ty) => {
+            let ty = promised(alloc, unresolved, body.is_async, ty)?;
+            type_ann(alloc, ty)
+        }
+        None => {
+            let class = analyze_return_stmts_in_function_body(body.block);
+            type_by_class(alloc, kind, body.is_async, place, class, faults)
+        }
+    }
+}
+
 /// The return type of a function, as `: type`: the written one, or that its body shows. Of a generator it must be written,
 /// and a setter has none.
 fn return_type(
     alloc: Global,
+    info: &EsModuleInfo,
     kind: FunctionKind,
     place: SourceRange,
     function: Part<'_>,
     faults: &mut Vec<Fault>,
 ) -> Result<Tree, AllocError>
-    ensures { IfOk result (λ tree. Adds (answer_to (return_type_seen kind place (seen function.entry))) (Some tree) faults.old.items faults.new.items) }
+    ensures { IfOk result (λ tree. Adds (answer_to (return_type_seen (bindings_of info.now).unresolved kind place (seen function.entry))) (Some tree)
+        faults.old.items faults.new.items) }
 {
     let function = Function::of(function);
     if !function.return_type.is_absent() {
@@ -91,8 +128,12 @@ fn return_type(
     if function.body.is_absent() {
         return Ok(Tree::Absent);
     }
-    let class = analyze_return_stmts_in_function_body(function.body);
-    type_by_class(alloc, kind, function.is_async, place, class, faults)
+    let body = Body {
+        is_async: function.is_async,
+        is_generator: function.is_generator,
+        block: function.body,
+    };
+    type_by_body(alloc, info, kind, place, body, faults)
 }
 
 /// The return type of an arrow where it is known, as `: type`: written, or shown by its body; none where its value is to
@@ -113,8 +154,12 @@ fn arrow_type(
     }
     if arrow.body.kind() == Kind::BlockStmt {
         let kind = FunctionKind::ExpressionLike;
-        let class = analyze_return_stmts_in_function_body(arrow.body);
-        return Ok(Some(type_by_class(alloc, kind, arrow.is_async, place, class, faults)?));
+        let body = Body {
+            is_async: arrow.is_async,
+            is_generator: arrow.is_generator,
+            block: arrow.body,
+        };
+        return Ok(Some(type_by_body(alloc, info, kind, place, body, faults)?));
     }
     let unresolved = unresolved_context(info);
     match maybe_infer_type(alloc, arrow.body, DeclMutabilityKind::Mutable, unresolved)? {
@@ -163,7 +208,7 @@ pub fn transform_fn(
         (seen function.entry))) (Some tree)
         faults.old.items faults.new.items) }
 {
-    let return_type = return_type(alloc, kind, place, function, faults)?;
+    let return_type = return_type(alloc, info, kind, place, function, faults)?;
     let params = transform_params(alloc, info, Function::of(function).params, faults)?;
     signed_function(alloc, function, return_type, params)
 }

@@ -94,6 +94,10 @@ const DEPENDENCIES = [
   ['a queried name', 'const a = { b: 1 }; type X = typeof a.b', 'X', '["a.b"]'],
   ['an import type', 'type X = import("./y").Z.W', 'X', '["./y.Z.W"]'],
   ['no type parameter', 'type X<T> = T', 'X', '[]'],
+  ['the type that a body asserts', 'type A = 1; type B = 1; const c = 1; function f() { g(c as B); return (c as A); }', 'f', '["A"]'],
+  ['the type that an arrow asserts', 'type A = 1; const c = 1; const x = () => { return <A>c; }', 'x', '["A"]'],
+  ['no type behind another return', 'type A = 1; const c = 1; function f() { if (c) return; return c as A; }', 'f', '[]'],
+  ['no type of a generator', 'type A = 1; const c = 1; function* f() { return c as A; }', 'f', '[]'],
 ];
 
 function circle() {
@@ -112,12 +116,30 @@ function keptComments() {
   check(printed === text, printed);
 }
 
+/** What a body keeps that is cut short, of each of its returns the kind of the argument. */
+function returnsKept(text) {
+  const [item] = treeOf(text).program.Script.body;
+  return item.Decl.Fn.function.body.stmts.map((each) => (each.Return.arg ? Object.keys(each.Return.arg)[0] : 'nothing')).join(' ');
+}
+
+const KEPT_RETURNS = [
+  ['a literal', 'function f() { g(); return 1; }', 'Lit'],
+  ['a template', 'function f() { const a = 1; return `${a}`; }', 'Tpl'],
+  ['an assertion in parentheses', 'function f() { return (a as T); }', 'Paren'],
+  ['a constant', 'function f() { return a as const; }', 'TsConstAssertion'],
+  ['no call', 'function f() { return g(); }', 'This'],
+  ['no literal in a block', 'function f() { { return 1; } }', 'This'],
+  ['no literal behind another return', 'function f() { if (a) return; return 1; }', 'nothing This'],
+  ['no literal of a generator', 'function* f() { return 1; }', 'This'],
+];
+
 /** The tests: lists of a name and a call that throws where it fails. */
 const tests = [
   ...FOLDERS.flatMap((each) => sourcesBelow(path.join(__dirname, each))).map((file) => [`round trip of ${path.relative(__dirname, file)}`, () => comesBack(file)]),
   ...['unicode.ts', 'types.ts', 'statements.ts'].map((name) => [`places in ${name}`, () => namesStandWhereTheyAre(path.join(__dirname, 'forms', name))]),
   ...SCOPES.map(([name, text, sym, holds]) => [`scopes: ${name}`, () => check(holds(scopesOf(text, sym)), String(scopesOf(text, sym)))]),
   ...DEPENDENCIES.map(([name, text, symbol, wanted]) => [`dependencies: ${name}`, () => check(depsOf(text, symbol) === wanted, depsOf(text, symbol))]),
+  ...KEPT_RETURNS.map(([name, text, wanted]) => [`a body cut short keeps ${name}`, () => check(returnsKept(text) === wanted, returnsKept(text))]),
   ['tables of a circle of re-exports', circle],
   ['comments where they stood', keptComments],
 ];

@@ -6,13 +6,12 @@ use Rattle.fast_check_bindings.specs.Bindings.{bindings_of}
 use Rattle.fast_check_helpers.specs.declared.literal_type.DeclMutabilityKind.TheVariants.{Mutable}
 use Rattle.fast_check_helpers.specs.Builders.{type_ann}
 use Rattle.fast_check_helpers.specs.InferredType.{inferred_type}
-use Rattle.fast_check_helpers.specs.ReturnClass.{return_class}
 use Rattle.fast_check_signatures.specs.declared.function_kind.FunctionKind.TheVariants.{ExpressionLike}
 use Rattle.fast_check_signatures.specs.Answers.{answer_to}
-use Rattle.fast_check_signatures.specs.Functions.{class_seen}
+use Rattle.fast_check_signatures.specs.Functions.{body_seen}
 use Rattle.fast_check_signatures.specs.NewNodes.{promised}
 use Rattle.fast_check_signatures.proofs.Adding.{adds_same}
-use Rattle.fast_check_values.proofs.Arrows.{type_written, type_of_class, type_shown, type_unknown}
+use Rattle.fast_check_values.proofs.Arrows.{type_written, type_of_block, type_shown, type_unknown}
 use Rattle.fast_check_values.proofs.functions.arrow_type.Goals as goal
 
 pub returns-then-not-is_absent : goal.returns-then-not-is_absent
@@ -24,11 +23,12 @@ returns-then-not-is_absent c =
 pub returns-then-eq : goal.returns-then-eq
 returns-then-eq c =
     let of = c.of-arrow.ensures in
-    let class = c.analyze_return_stmts_in_function_body-class.ensures ∙ ap return_class of.body in
-    type_of_class (bindings_of c.args.info.now).unresolved c.args.place (seen c.args.arrow)
+    let u = (bindings_of c.args.info.now).unresolved in
+    type_of_block (bindings_of c.args.info.now).unresolved c.args.place (seen c.args.arrow)
     (ap is_absent (sym of.return_type) ∙ (sym c.is_absent.ensures ∙ c.if-not-is_absent.false))
     (ap (λ k. k is kinds.BlockStmt) (sym (c.kind.ensures ∙ ap kind_of of.body)) ∙ (sym c.eq.ensures ∙ c.if-eq.true))
-    (adds_same (λ i. answer_to (class_seen ExpressionLike (sym of.is_async i) c.args.place (sym class i))) c.in_ok-type_by_class.ensures)
+    (adds_same (λ i. answer_to (body_seen u ExpressionLike (sym of.is_async i) (sym of.is_generator i) c.args.place (sym of.body i)))
+    c.in_ok-type_by_body.ensures)
 
 pub returns-in_ok-type_ann-in-Some : goal.returns-in_ok-type_ann-in-Some
 returns-in_ok-type_ann-in-Some c =

@@ -1,5 +1,5 @@
 export function one() {
-  return 1;
+  return -1;
 }
 export async function later(): Promise<number> {
   return 1;
@@ -15,7 +15,7 @@ export const async_arrow = async () => {
 };
 export class Reader {
   get line() {
-    return "";
+    return String();
   }
   read() {
     return this.line;
