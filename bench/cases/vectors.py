@@ -20,6 +20,7 @@ import build_demand_cases
 import class_cases
 import expando_cases
 import function_cases
+import hostile_cases
 import module_cases
 import namespace_cases
 import new_cases
@@ -172,6 +173,15 @@ def builds():
                 example(each.name, answers)
 
 
+def hostile_builds():
+    """Builds of hostile tables."""
+    title("hostile tables: rings, chains, long paths, names that come twice")
+    for name, made, answers in hostile_cases.runs():
+        put(f"{name}.json", made)
+        is_refused = isinstance(answers, str)
+        case(f"build {name}.json", 2 if is_refused else 0, f"error: input refused: {answers}\n" if is_refused else line(answers))
+
+
 def example(name, answers):
     """A build with its answer, as an example."""
     shutil.copy(os.path.join(DATA, f"{name}.json"), os.path.join(EXAMPLES, f"{name}.json"))
@@ -230,6 +240,7 @@ def main():
     refusals()
     tables()
     builds()
+    hostile_builds()
     words()
     streams()
     put("cases", "".join(CASES).encode())

@@ -106,9 +106,14 @@ def check_command(check, program, command, folder):
     check.that(name("a limit of 16 bytes"), with_a_limit([*words, path]), (4, answer[1][:16], REFUSED))
     check.that(name("a full disk for errors"), full_errors([*words, folder + "/none"]), (2, b"", b""))
     with open(path, "rb") as file:
-        texts = inputs(file.read())
+        whole = file.read()
     made = os.path.join(folder, "input.json")
-    for what, (text, wanted) in texts.items():
+    # Each proper beginning of the example.
+    for length in range(len(whole.rstrip())):
+        with open(made, "wb") as file:
+            file.write(whole[:length])
+        check.that(name(f"its first {length} bytes"), run([*words, made]), (2, b"", NOT_JSON))
+    for what, (text, wanted) in inputs(whole).items():
         with open(made, "wb") as file:
             file.write(text)
         check.that(name(what), run([*words, made]), wanted)

@@ -2,6 +2,7 @@
 """Runs a program with each of its requests for memory refused in turn, and tells which runs do not end as a want of memory has to.
 
     bench/check/refuse.py PROGRAM COMMAND FILE..
+    bench/check/refuse.py --ahead PROGRAM COMMAND FILE..
     bench/check/refuse.py --where NUMBER PROGRAM COMMAND FILE
 
 PROGRAM COMMAND FILE is run with its first request refused, then with its second, and so on, two runs at a time, until a run ends before
@@ -10,6 +11,9 @@ status 3, the line `error: out of memory`, and nothing on standard output.
 A line for each file says how many requests there are, how many runs were made, and how many differ; the lines below it say in what.
 A run that answers as if nothing had been refused has passed a want of memory over, or has asked again for less. The status is 1 where any
 run differs, and where no request was counted: then the program has an allocator of its own, and nothing was tried.
+
+`--ahead` counts the runs that answer as if nothing had been refused where one request alone is, and does not take them for wrong: lists and maps ask
+for room ahead, and go on where that is refused. Each other run has to end as above.
 
 `--where NUMBER` refuses this request alone, and tells which calls it came from, by the names that the program has kept (`nm`).
 
@@ -86,6 +90,7 @@ int posix_memalign(void **made, size_t align, size_t size) {
 }
 """
 WANT = (3, b"", b"error: out of memory\n")
+PASSED_OVER = "the answer is as if nothing had been refused"
 MODES = {"alone": {}, "and all from there on": {"REFUSE_BEHIND": "1"}}
 
 
@@ -109,7 +114,7 @@ def outcome(ended, answer):
     """What a run that did not end as it has to ended with, in words."""
     status, out, err = ended
     if ended == answer:
-        return "the answer is as if nothing had been refused"
+        return PASSED_OVER
     end = f"status {status}" if status >= 0 else f"signal {-status}"
     wrote = f", {len(out)} bytes of output" if out else ""
     return f"{end}, {err.decode(errors='replace').strip() or 'no line'}{wrote}"
@@ -136,8 +141,8 @@ def each_request(shim, words, **more):
                     return
 
 
-def refuse_each(shim, words):
-    """Refuses each request of a run in turn, and prints what differs. Answers whether none did."""
+def refuse_each(shim, words, ahead):
+    """Refuses each request of a run in turn, and prints what differs. Answers whether none did, but for requests ahead where these may be passed over."""
     answer, runs, requests, differing = run(shim, words, 0)[0], 1, 0, collections.defaultdict(list)
     for how, more in MODES.items():
         for number, ended in each_request(shim, words, **more):
@@ -148,7 +153,7 @@ def refuse_each(shim, words):
     for (how, what), found in differing.items():
         print(f"    {how}: {what}: {len(found)} of the requests, {spans(found)}")
     sys.stdout.flush()
-    return requests > 0 and not differing
+    return requests > 0 and all(ahead and (how, what) == ("alone", PASSED_OVER) for how, what in differing)
 
 
 def tell_where(shim, words, number):
@@ -165,6 +170,9 @@ def tell_where(shim, words, number):
 
 def main():
     words, where = sys.argv[1:], None
+    ahead = words[:1] == ["--ahead"]
+    if ahead:
+        words = words[1:]
     if words[:1] == ["--where"] and words[1:2] and words[1].isdigit():
         where, words = int(words[1]), words[2:]
     if len(words) < 3 or words[0].startswith("-") or where is not None and len(words) > 3:
@@ -175,7 +183,7 @@ def main():
         if where is not None:
             tell_where(shim, words, where)
             return 0
-        refused = [refuse_each(shim, [*words[:2], file]) for file in words[2:]]
+        refused = [refuse_each(shim, [*words[:2], file], ahead) for file in words[2:]]
         return 0 if all(refused) else 1
 
 

@@ -1,5 +1,5 @@
 -- Demands that compare alike are one.
-use Rattle.std.proofs.Common.{rules, ◌≡◌, ◌∙◌, refl, ℕ, ◌==◌, Bool, ◌&&◌, List, [], ◌∷◌, String, string_bytes}
+use Rattle.std.proofs.Common.{rules, ◌≡◌, ◌∙◌, ap, refl, ℕ, ◌==◌, Bool, true, false, ◌&&◌, List, [], ◌∷◌, String, string_bytes}
 use Rattle.std.specs.Ordering.{is_eq, nat_cmp, ordering_then}
 use Rattle.std.specs.Cmp.Lexicographic.{slice_cmp}
 use Rattle.std.specs.declared.alloc.Global.{Global}
@@ -7,6 +7,7 @@ use Rattle.std.specs.declared.cmp.Ordering.{Ordering}
 use Rattle.std.specs.declared.cmp.Ordering.TheVariants.{Less, Equal, Greater}
 use Rattle.std.specs.String.{string_cmp}
 use Rattle.std.proofs.lemmas.Map.Text.{is_eq-slice_cmp}
+use Rattle.std.proofs.lemmas.Bool.{eq-eqb, and_from}
 use Rattle.std.specs.Str.{bytes_eq}
 use Rattle.fast_check_names.specs.Names.{path_of}
 use Rattle.fast_check_files.specs.demands.symbol_demands.contracts.demand.SymbolDemandOrd.TheImpl as order
@@ -20,8 +21,12 @@ use Rattle.fast_check_files.specs.demands.symbol_demands.declared.demand.Extent.
 use Rattle.fast_check_files.specs.demands.symbol_demands.declared.demand.Ask.{Ask}
 use Rattle.fast_check_files.specs.demands.symbol_demands.declared.demand.Ask.TheVariants.{Reference, Child, Path}
 use Rattle.fast_check_files.specs.demands.symbol_demands.declared.demand.SymbolDemand.{SymbolDemand}
-use Rattle.fast_check_files.specs.demands.Demands.{demand_of, asked_of}
+use Rattle.fast_check_files.specs.demands.Demands.{Demand, demand_of, asked_of}
 use Rattle.fast_check_files.specs.demands.Account.{same_namespace, same_extent, same_path, same_asked, same}
+use Rattle.fast_check_search.specs.contracts.done.DoneDemandOrd.TheImpl as key_order
+use Rattle.fast_check_search.specs.declared.done.DoneDemand.{DoneDemand}
+use Rattle.fast_check_search.specs.Done.{names_of, key_of}
+use Rattle.fast_check_search.proofs.Same.{same_is}
 
 pub then_equal : (a b : Ordering) → is_eq (ordering_then a b) ≡ (is_eq a && is_eq b)
 then_equal Less b = refl
@@ -74,3 +79,30 @@ compares a b = then_equal (nat_cmp a.symbol.0 b.symbol.0) (ordering_then (ask_or
     (then_equal (ask_order.cmp-value.it a.ask b.ask) (nat_cmp a.referrer.0 b.referrer.0) ∙
     and_same _ (same_asked (asked_of a.ask) (asked_of b.ask)) _ (a.referrer.0 == b.referrer.0) (asks_compare a.ask b.ask)
     (numbers_compare a.referrer.0 b.referrer.0))
+
+-- and so do their keys
+key_alike : (m n : ℕ) (b : Bool) → (b ≡ true → m ≡ n) → ((m == n) && b) ≡ b
+key_alike m n true h = and_from (m == n) true (eq-eqb m n (h refl)) refl
+key_alike m n false h = and_none (m == n)
+  where
+    and_none : (c : Bool) → (c && false) ≡ false
+    and_none true = refl
+    and_none false = refl
+
+pub keys_compare : (a b : SymbolDemand) → is_eq (key_order.cmp-value.it (key_of a) (key_of b)) ≡ same (demand_of a) (demand_of b)
+keys_compare a b =
+    let m = names_of (demand_of a).asked in
+    let n = names_of (demand_of b).asked in
+    then_equal (nat_cmp m n) (order.cmp-value.it a b) ∙
+    (and_same _ (m == n) _ (same (demand_of a) (demand_of b)) (numbers_compare m n) (compares a b) ∙
+    key_alike m n (same (demand_of a) (demand_of b)) (λ e. ap (λ (d : Demand). names_of d.asked) (same_is (demand_of a) (demand_of b) e)))
+
+-- a key by its parts
+abbrev key : ℕ → SymbolDemand → DoneDemand
+key n d = record { names = n; demand = d }
+
+key_by : (m n : ℕ) (a b : SymbolDemand) → m ≡ n → a ≡ b → key m a ≡ key n b
+key_by m n a b e f = ap (λ (x : ℕ). key x a) e ∙ ap (λ (y : SymbolDemand). key n y) f
+
+pub key_made : (k : DoneDemand) (d : SymbolDemand) → k.names ≡ names_of (demand_of d).asked → k.demand ≡ d → k ≡ key_of d
+key_made k d e f = key_by k.names (names_of (demand_of d).asked) k.demand d e f

@@ -1,3 +1,4 @@
+pub mod Done
 pub mod Worklist
 pub mod Turn
 pub mod Universe

@@ -2,18 +2,19 @@
 use Rattle.std.specs.Prelude.{◌≡◌, List, ◌++◌, map}
 use Rattle.std.specs.List.{list_any, Contains, IsDistinct}
 use Rattle.std.specs.BTreeSet.{contains}
-use Rattle.fast_check_files.specs.demands.symbol_demands.contracts.demand.SymbolDemandOrd.TheImpl as order
 use Rattle.fast_check_files.specs.demands.symbol_demands.declared.demand.SymbolDemand.{SymbolDemand}
 use Rattle.fast_check_files.specs.demands.Demands.{Demand, demand_of}
 use Rattle.fast_check_files.specs.demands.Account.{essence, same, alike, IsCovered}
+use Rattle.fast_check_search.specs.contracts.done.DoneDemandOrd.TheImpl as order
 use Rattle.fast_check_search.specs.declared.worklist.Worklist.{Worklist}
+use Rattle.fast_check_search.specs.Done.{key_of}
 
 abbrev pub asked : Worklist → List Demand
 asked w = map demand_of w.demands.items
 
 -- the set has what tells the demands from others, and no demand is asked for twice
 pub record IsKept (w : Worklist) : Type 0 where
-  pub has : (k : SymbolDemand) → contains order.cmp-value.it w.done k ≡ list_any (λ e. same (demand_of k) (essence e)) (asked w)
+  pub has : (k : SymbolDemand) → contains order.cmp-value.it w.done (key_of k) ≡ list_any (λ e. same (demand_of k) (essence e)) (asked w)
   pub distinct : IsDistinct alike (asked w)
 
 -- what is new is of what was asked for

@@ -5,6 +5,7 @@ ghost use Rattle.fast_check_files.specs.demands.Account.{essence as essence_of, 
 ghost use Rattle.fast_check_search.specs.Worklist.{asked, IsKept, Grows, CoversEach};
 ghost use Rattle.std.specs.Prelude.{map, ◌∷◌};
 
+use crate::done::{DoneDemand, done_demand};
 use fast_check_files::demands::{Ask, SymbolDemand};
 use std::alloc::{AllocError, Global};
 use std::collections::BTreeSet;
@@ -14,7 +15,7 @@ use std::collections::BTreeSet;
 pub struct Worklist<'a> {
     demands: Vec<SymbolDemand<'a>>,
     /// The same demands, each by what tells it from others.
-    done: BTreeSet<SymbolDemand<'a>>,
+    done: BTreeSet<DoneDemand<'a>>,
 }
 
 /// What tells a demand from others: who asks plays a part for a path alone.
@@ -75,7 +76,7 @@ impl<'a> Worklist<'a> {
         requires { IsKept self.now }
         ensures { result ≡ list_any (alike (demand_of demand.entry)) (asked self.now) }
     {
-        self.done.contains(&essence(demand))
+        self.done.contains(&done_demand(essence(demand)))
     }
 
     /// Asks for a demand, unless what it asks for was asked for before.
@@ -89,7 +90,7 @@ impl<'a> Worklist<'a> {
             return Ok(());
         }
         self.demands.push(demand)?;
-        self.done.insert(essence(demand))?;
+        self.done.insert(done_demand(essence(demand)))?;
         Ok(())
     }
 

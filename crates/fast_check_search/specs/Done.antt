@@ -1,0 +1,15 @@
+-- A demand as a set has it.
+use Rattle.std.specs.Prelude.{ℕ, length}
+use Rattle.fast_check_files.specs.demands.symbol_demands.declared.demand.SymbolDemand.{SymbolDemand}
+use Rattle.fast_check_files.specs.demands.Demands.{Asked, by_reference, as_child, by_path, demand_of}
+use Rattle.fast_check_search.specs.declared.done.DoneDemand.{DoneDemand}
+
+-- how many names a demand has
+abbrev pub names_of : Asked → ℕ
+names_of (by_reference n) = 0
+names_of (as_child n) = 0
+names_of (by_path path extent) = length path
+
+-- the number of names and the demand
+abbrev pub key_of : SymbolDemand → DoneDemand
+key_of d = record { names = names_of (demand_of d).asked; demand = d }
