@@ -1,3 +1,4 @@
+//! What is asked of a module beside its tree, as the code is lent it.
 ghost use Rattle.std.specs.Prelude.{◌≡◌};
 
 use fast_check_graph::ModuleGraph;

@@ -1,3 +1,4 @@
+//! What a module knows of its names: which scope number nothing in it binds, and which names are of plain classes.
 ghost use Rattle.std.specs.Prelude.{◌≡◌};
 ghost use Rattle.fast_check_bindings.specs.Bindings.{bindings_of};
 

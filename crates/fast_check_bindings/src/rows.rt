@@ -1,3 +1,4 @@
+//! The rows of expressions that go by what is known of names: `Object.freeze(x)` and `new C(x)`.
 ghost use Rattle.std.specs.Prelude.{◌≡◌, option_copied, IfOk};
 ghost use Rattle.fast_check_syntax.specs.Part.{seen};
 ghost use Rattle.fast_check_syntax.specs.Shape.{kind_of};

@@ -1,3 +1,4 @@
+//! A cache as a caller lends it: its keys and the trait `FastCheckCache`.
 ghost use Rattle.std.specs.Prelude.{◌≡◌, ℕ, List, Option, option_map, codes, IfOk, OnOk, OnErr};
 ghost use Rattle.url.specs.Parts.{Parts};
 ghost use Rattle.fast_check_packages.specs.Package.{Nv, nv_of};

@@ -1,3 +1,4 @@
+//! What a cache keeps of a package and of its modules.
 ghost use Rattle.std.specs.Prelude.{◌≡◌};
 ghost use Rattle.fast_check_cache.specs.Cache.{item_of, module_of, source_hash_of};
 

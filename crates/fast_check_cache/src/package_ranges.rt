@@ -1,3 +1,4 @@
+//! What is found of a package.
 use crate::item::FastCheckCacheModuleItem;
 use fast_check_diagnostics::ModulePublicRanges;
 use fast_check_packages::PackageNv;

@@ -1,3 +1,4 @@
+//! Private constructors: their parameters without properties, and the call of `super` that stands in them.
 ghost use Rattle.std.specs.Prelude.{◌≡◌, IfOk, map, if◌then◌else◌};
 ghost use Rattle.std.specs.List.{filter};
 ghost use Rattle.fast_check_syntax.specs.Part.{seen};

@@ -1,3 +1,4 @@
+//! Which members of a class stay: of the private methods of a name the first, and no body of overloads.
 ghost use Rattle.std.specs.Prelude.{◌≡◌, IfOk, List, map, []};
 ghost use Rattle.fast_check_syntax.specs.Part.{seen};
 ghost use Rattle.fast_check_syntax.specs.declared.tree.Tree.{Tree};

@@ -1,3 +1,4 @@
+//! The keys of members: whether a member is private, computed or of a hash name, and its text.
 ghost use Rattle.std.specs.Prelude.{◌≡◌};
 ghost use Rattle.fast_check_syntax.specs.Part.{seen};
 ghost use Rattle.fast_check_signatures.specs.Members as members;

@@ -1,3 +1,4 @@
+//! The properties that stand in a class: declared ones, those with a value, and `#private!: unknown`.
 ghost use Rattle.std.specs.Prelude.{◌≡◌, IfOk, codes};
 ghost use Rattle.fast_check_syntax.specs.Part.{seen};
 ghost use Rattle.fast_check_syntax.specs.Shape.{none_range};

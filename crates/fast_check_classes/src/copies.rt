@@ -1,3 +1,4 @@
+//! Copies of pairs and of triples of trees.
 ghost use Rattle.std.specs.Prelude.{◌≡◌, IfOk};
 ghost use Rattle.fast_check_syntax.specs.Part.{seen};
 

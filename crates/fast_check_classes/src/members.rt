@@ -1,3 +1,4 @@
+//! What stays of the members of a class, in order.
 ghost use Rattle.std.specs.Prelude.{◌≡◌, ◌++◌, IfOk, Some, List, map, flat_map};
 ghost use Rattle.std.specs.List.{list_any};
 ghost use Rattle.fast_check_syntax.specs.Part.{seen};

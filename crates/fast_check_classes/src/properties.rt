@@ -1,3 +1,4 @@
+//! What stays of a property and of an accessor.
 ghost use Rattle.std.specs.Prelude.{◌≡◌, IfOk, Some};
 ghost use Rattle.fast_check_syntax.specs.Part.{seen};
 ghost use Rattle.fast_check_signatures.specs.Answers.{Adds, answer_to, declared_property};

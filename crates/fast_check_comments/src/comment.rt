@@ -1,3 +1,4 @@
+//! A comment: its kind, its range and its text.
 ghost use Rattle.std.specs.Prelude.{◌≡◌};
 
 use fast_check_syntax::{Atom, SourceRange};

@@ -1,3 +1,4 @@
+//! The comments of a module: those before a position and those after one.
 ghost use Rattle.std.specs.Prelude.{◌≡◌, ◌↔◌, [], IsTrue};
 
 use crate::map::CommentMap;

@@ -1,3 +1,4 @@
+//! The comments that a skeleton may keep, while those before what goes are taken away.
 ghost use Rattle.std.specs.Prelude.{◌≡◌};
 ghost use Rattle.fast_check_comments.specs.Kept.{kept, without_leading};
 

@@ -1,3 +1,4 @@
+//! Lists of comments by position.
 ghost use Rattle.std.specs.Prelude.{◌≡◌, ◌↔◌, [], IsTrue, OnOk, OnErr};
 
 use crate::comment::Comment;

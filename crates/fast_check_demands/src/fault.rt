@@ -1,3 +1,4 @@
+//! What is wrong with a demand: its symbol, what refers to it, and the names below it.
 ghost use Rattle.std.specs.Prelude.{◌≡◌, option_map};
 ghost use Rattle.std.specs.Option.{option_and_then};
 ghost use Rattle.fast_check_names.specs.Names.{path_of};

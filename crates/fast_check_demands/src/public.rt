@@ -1,3 +1,4 @@
+//! The ranges that a demand makes public, and those of implementations.
 ghost use Rattle.std.specs.Prelude.{◌≡◌, ◌++◌, not, ◌&&◌, option_map, OnOk};
 ghost use Rattle.fast_check_symbol_demands.specs.symbol_tables.symbols.Exports.{seen_export};
 ghost use Rattle.fast_check_symbol_demands.specs.symbol_tables.symbols.Symbols.{symbol_of};

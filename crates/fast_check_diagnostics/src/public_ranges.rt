@@ -1,3 +1,4 @@
+//! What is public of a module, by ranges.
 ghost use Rattle.std.specs.Prelude.{◌≡◌, [], IfOk};
 ghost use Rattle.std.specs.List.{list_any};
 ghost use Rattle.fast_check_diagnostics.specs.PublicRanges.{is_public, is_implementation, same_range};

@@ -1,3 +1,4 @@
+//! The exports of a package: of a member of the workspace, or of the graph.
 ghost use Rattle.std.specs.Prelude.{◌≡◌, map, option_map, IfOk, string_bytes};
 ghost use Rattle.std.specs.Option.{option_copied, option_or};
 ghost use Rattle.semver.specs.Identifiers.{parts_of};

@@ -1,3 +1,4 @@
+//! What is wrong with the entry points of a package.
 ghost use Rattle.std.specs.Prelude.{◌≡◌, ◌++◌, IfOk, OnOk};
 ghost use Rattle.fast_check_entries.specs.Entries.{fault_at, faults_at, all_faults};
 

@@ -1,3 +1,4 @@
+//! The entry points of a package: its export texts joined to its base.
 ghost use Rattle.std.specs.Prelude.{◌≡◌, ◌++◌, ◌∷◌, [], Some, None, false, map, is_none, option_to_list, OnOk, IfOk, IfErr, string_bytes};
 ghost use Rattle.std.specs.Option.{option_copied};
 ghost use Rattle.fast_check_packages.specs.Package.{nv_of};

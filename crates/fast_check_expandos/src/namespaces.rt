@@ -1,3 +1,4 @@
+//! The namespaces that stand for the properties that assignments declare.
 ghost use Rattle.std.specs.Prelude.{◌≡◌, IfOk, OnOk, map};
 ghost use Rattle.fast_check_syntax.specs.Shape.{none_range};
 ghost use Rattle.fast_check_program_forms.specs.ModuleDecls.{export_decl};

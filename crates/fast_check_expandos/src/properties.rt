@@ -1,3 +1,4 @@
+//! The property that an assignment declares for a function, as `f.a = 1;`.
 ghost use Rattle.std.specs.Prelude.{◌≡◌, IfOk};
 ghost use Rattle.std.specs.Option.{option_copied};
 ghost use Rattle.fast_check_syntax.specs.Part.{seen};

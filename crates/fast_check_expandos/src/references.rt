@@ -1,3 +1,4 @@
+//! What a value mentions of the names that its object exports.
 ghost use Rattle.std.specs.Prelude.{◌≡◌, ◌++◌, flat_map, IfOk, OnOk};
 ghost use Rattle.std.specs.Option.{option_copied};
 ghost use Rattle.fast_check_syntax.specs.Part.{seen};

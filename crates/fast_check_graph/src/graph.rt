@@ -1,3 +1,4 @@
+//! The graph: modules by their names, what a text in a module resolves to, and the exports of packages.
 ghost use Rattle.std.specs.Prelude.{◌≡◌, IsOkAnd, option_map};
 ghost use Rattle.std.specs.Option.{option_copied};
 ghost use Rattle.fast_check_packages.specs.Package.{nv_of};

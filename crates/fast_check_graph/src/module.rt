@@ -1,3 +1,4 @@
+//! A module of the graph, as far as fast check asks of it.
 ghost use Rattle.std.specs.Prelude.{◌≡◌};
 ghost use Rattle.fast_check_graph.specs.Modules.{is_typed_module, is_external, hash_of};
 

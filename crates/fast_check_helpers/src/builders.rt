@@ -1,3 +1,4 @@
+//! New nodes: identifiers, keyword types, literal types, references to types and annotations.
 ghost use Rattle.std.specs.Prelude.{◌≡◌, IfOk};
 ghost use Rattle.fast_check_syntax.specs.Part.{seen};
 ghost use Rattle.fast_check_program_forms.specs.Names.{ident};

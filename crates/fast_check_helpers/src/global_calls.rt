@@ -1,3 +1,4 @@
+//! Calls of names that nothing in the module binds: `Object.freeze(x)`, `Symbol("x")`.
 ghost use Rattle.std.specs.Prelude.{◌≡◌};
 ghost use Rattle.fast_check_syntax.specs.Part.{seen};
 ghost use Rattle.fast_check_helpers.specs.GlobalCalls as globals;

@@ -1,3 +1,4 @@
+//! The type that a value shows by itself.
 ghost use Rattle.std.specs.Prelude.{◌≡◌, IfOk, Some, IsTrue, is_some};
 ghost use Rattle.fast_check_syntax.specs.declared.tree.Tree.{Tree};
 ghost use Rattle.fast_check_syntax.specs.Part.{seen};

@@ -1,3 +1,4 @@
+//! The keywords that are types.
 ghost use Rattle.std.specs.Prelude.{◌≡◌};
 ghost use Rattle.fast_check_helpers.specs.Keywords.{word_of};
 

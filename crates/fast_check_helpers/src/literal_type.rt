@@ -1,3 +1,4 @@
+//! The type of a literal, as a constant and as what may change.
 ghost use Rattle.std.specs.Prelude.{◌≡◌, IfOk};
 ghost use Rattle.fast_check_syntax.specs.Part.{seen};
 ghost use Rattle.fast_check_helpers.specs.Keywords.{word_of};

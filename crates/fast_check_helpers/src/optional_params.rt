@@ -1,3 +1,4 @@
+//! From which parameter on all may be left out.
 ghost use Rattle.std.specs.Prelude.{◌≡◌, List, map};
 ghost use Rattle.std.specs.Iterator.{Drains, UpTo};
 ghost use Rattle.fast_check_syntax.specs.Part.{seen};

@@ -1,3 +1,4 @@
+//! How a body returns: not at all, with nothing, once, or more than once with a value.
 ghost use Rattle.std.specs.Prelude.{◌≡◌, fold, flat_map};
 ghost use Rattle.fast_check_syntax.specs.Part.{seen};
 ghost use Rattle.fast_check_syntax.specs.Shape.{parts};

@@ -1,3 +1,4 @@
+//! Types that an assertion may show: without functions, and of simple parts.
 ghost use Rattle.std.specs.Prelude.{◌≡◌};
 ghost use Rattle.std.specs.List.{list_all};
 ghost use Rattle.fast_check_syntax.specs.Part.{seen};

@@ -1,3 +1,4 @@
+//! The type of a template.
 ghost use Rattle.std.specs.Prelude.{◌≡◌, IfOk};
 ghost use Rattle.fast_check_syntax.specs.Part.{seen};
 ghost use Rattle.fast_check_helpers.specs.TemplateType.{cooked_text, text_or_string, type_of_template};

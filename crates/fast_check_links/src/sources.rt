@@ -1,3 +1,4 @@
+//! The sources that a skeleton depends on.
 ghost use Rattle.std.specs.Prelude.{◌≡◌, IfOk};
 ghost use Rattle.fast_check_syntax.specs.Part.{seen};
 ghost use Rattle.fast_check_links.specs.StaticSources.{as_sources, source_of, item_source, static_sources};

@@ -1,3 +1,4 @@
+//! `transform`: the skeleton of a module, or all that is wrong with it.
 ghost use Rattle.std.specs.Prelude.{◌≡◌, ◌↔◌, [], IfOk, IsOk, IfErr};
 ghost use Rattle.fast_check_declarations.specs.asked.skeleton.Grammar.{IsSkeleton};
 ghost use Rattle.fast_check_parsed_source.specs.MediaType.{is_declaration};

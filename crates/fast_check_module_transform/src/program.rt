@@ -1,3 +1,4 @@
+//! What stays of a whole module.
 ghost use Rattle.std.specs.Prelude.{◌≡◌, IfOk};
 ghost use Rattle.fast_check_syntax.specs.Part.{seen};
 ghost use Rattle.fast_check_signatures.specs.Answers.{Adds};

@@ -1,3 +1,4 @@
+//! An ECMAScript module with its source and its tables.
 ghost use Rattle.std.specs.Prelude.{◌≡◌, IfOk, IfErr, OnOk, IsTrue, ◌↔◌};
 ghost use Rattle.std.specs.Option.{option_copied};
 ghost use Rattle.fast_check_modules.specs.EsModule.{AreRead};

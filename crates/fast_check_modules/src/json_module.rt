@@ -1,3 +1,4 @@
+//! A module of JSON, which has tables and no source.
 ghost use Rattle.std.specs.Prelude.{◌≡◌, IfOk, IfErr, OnOk};
 ghost use Rattle.std.specs.Option.{option_copied};
 

@@ -1,3 +1,4 @@
+//! All ranges that the tables of a module have.
 ghost use Rattle.std.specs.Prelude.{◌≡◌, ◌++◌, flat_map, map, IfOk, OnOk};
 ghost use Rattle.std.specs.List.{list_any};
 ghost use Rattle.fast_check_diagnostics.specs.PublicRanges.{same_range};

@@ -1,3 +1,4 @@
+//! New nodes: `{} as never`, emptied bodies, and what returns a value of type never.
 ghost use Rattle.std.specs.Prelude.{◌≡◌, IfOk, ◌∷◌, [], codes, true, false, if◌then◌else◌};
 ghost use Rattle.fast_check_syntax.specs.Part.{seen};
 ghost use Rattle.fast_check_syntax.specs.Shape.{list, none_range};

@@ -1,3 +1,4 @@
+//! Patterns that are emptied, lose their default, or get a type.
 ghost use Rattle.std.specs.Prelude.{◌≡◌, IfOk, []};
 ghost use Rattle.fast_check_syntax.specs.Part.{seen};
 ghost use Rattle.fast_check_syntax.specs.Shape.{list};

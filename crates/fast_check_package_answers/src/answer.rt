@@ -1,3 +1,4 @@
+//! A package of which it is known what is public, answered by skeletons or by what is wrong.
 ghost use Rattle.std.specs.Prelude.{◌≡◌, ◌==◌, ◌&&◌, not, [], ◌∷◌, ◌++◌, length, IfOk, OnOk};
 ghost use Rattle.std.specs.List.{AllZip};
 ghost use Rattle.fast_check_modules.specs.EsModule.{AreOwnRanges};

@@ -1,3 +1,4 @@
+//! The law that the list under the option is a front of the full one.
 ghost use Rattle.fast_check_package_answers.specs.PackageAnswer.{IsFrontAlone};
 
 use fast_check_cache::PackagePublicRanges;

@@ -1,3 +1,4 @@
+//! Comments as JSON.
 ghost use Rattle.std.specs.Prelude.{◌≡◌, OnOk};
 ghost use Rattle.fast_check_print.specs.Comments.{comments_data, places_data, comment_list_data, entry_data, comment_data, kind_text};
 ghost use Rattle.fast_check_print.specs.Writing.{WritesData};

@@ -1,3 +1,4 @@
+//! Positions and ranges as JSON.
 ghost use Rattle.std.specs.Prelude.{OnOk};
 ghost use Rattle.fast_check_print.specs.Pieces.{number_data, range_data};
 ghost use Rattle.fast_check_print.specs.Writing.{WritesData};

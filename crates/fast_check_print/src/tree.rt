@@ -1,3 +1,4 @@
+//! Trees as JSON, by the schema.
 ghost use Rattle.std.specs.Prelude.{◌≡◌, ◌∷◌, OnOk, map, slice_get};
 ghost use Rattle.json.specs.Token.{key};
 ghost use Rattle.fast_check_schema.specs.Schema.{fields_of};

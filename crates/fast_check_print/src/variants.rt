@@ -1,3 +1,4 @@
+//! The names of choices' variants that stand round a node in JSON.
 ghost use Rattle.std.specs.Prelude.{◌≡◌, ◌≤◌, IfOk, OnOk, length, replicate};
 ghost use Rattle.json.specs.Token.{end_object};
 ghost use Rattle.fast_check_print.specs.Printing.{variant_names};

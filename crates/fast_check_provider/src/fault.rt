@@ -1,3 +1,4 @@
+//! Why a build stops.
 ghost use Rattle.std.specs.Prelude.{◌≡◌};
 ghost use Rattle.fast_check_provider.specs.declared.fault.BuildFault.TheVariants.{OutOfMemory};
 

@@ -1,3 +1,4 @@
+//! A provider by a list of packages with their URLs.
 ghost use Rattle.std.specs.Prelude.{◌≡◌, option_map, IfOk};
 ghost use Rattle.std.specs.Option.{option_copied};
 ghost use Rattle.url.specs.Parts.{serialize};

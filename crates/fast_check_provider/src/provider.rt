@@ -1,3 +1,4 @@
+//! The URLs of packages, as a caller lends them.
 ghost use Rattle.std.specs.Prelude.{◌≡◌, List, ℕ, Option, option_map, IfOk};
 ghost use Rattle.url.specs.Parts.{Parts, serialize};
 ghost use Rattle.fast_check_packages.specs.Package.{Nv, nv_of};

@@ -1,3 +1,4 @@
+//! Comments, read of JSON.
 ghost use Rattle.std.specs.Prelude.{◌≡◌, option_map};
 ghost use Rattle.std.specs.Option.{ok_or};
 ghost use Rattle.serde_json.specs.View.{view, items_view, members_view};

@@ -1,3 +1,4 @@
+//! Why JSON is not read.
 ghost use Rattle.fast_check_read.specs.declared.error.ReadError.TheVariants.{OutOfMemory};
 ghost use Rattle.std.specs.Prelude.{◌≡◌};
 

@@ -1,3 +1,4 @@
+//! Whether a JSON value holds a number as a float.
 ghost use Rattle.std.specs.Prelude.{◌≡◌};
 ghost use Rattle.serde_json.specs.View.{view, items_view, members_view};
 ghost use Rattle.serde_json.specs.Written.{has_float as holds_float, items_have_float, members_have_float};

@@ -1,3 +1,4 @@
+//! Flags, numbers, texts, ranges, pairs and members, read of JSON.
 ghost use Rattle.std.specs.Prelude.{◌≡◌, None, option_map, IfOk, IfErr};
 ghost use Rattle.std.specs.Option.{ok_or};
 ghost use Rattle.std.specs.Result.{result_ok};

@@ -1,3 +1,4 @@
+//! What is read of JSON by its type.
 ghost use Rattle.std.specs.Prelude.{◌≡◌, List, Option, map, option_map, string_bytes, IfErr};
 ghost use Rattle.std.specs.Result.{result_ok};
 ghost use Rattle.serde_json.specs.Data.{Data};

@@ -1,3 +1,4 @@
+//! Look-ups in the tables of the tree's JSON.
 ghost use Rattle.std.specs.Prelude.{◌≡◌, option_map};
 ghost use Rattle.std.specs.List.{list_any};
 ghost use Rattle.fast_check_schema.specs.Lookup.{variant_by_name, variant_by_kind, word_by_text, row_of_word, is_admitted, marked_choice};

@@ -1,3 +1,4 @@
+//! The search through the symbols of a module.
 ghost use Rattle.std.specs.Prelude.{◌≡◌, List, [], map, IfOk, OnOk, ◌++◌, option_map, option_to_list};
 ghost use Rattle.fast_check_files.specs.demands.Demands.{Demand, demand_of};
 ghost use Rattle.fast_check_files.specs.demands.Account.{IsAccount, IsYield};

@@ -1,3 +1,4 @@
+//! The demands of a search: those that were asked for, with a cursor.
 ghost use Rattle.std.specs.Prelude.{◌≡◌, [], length, slice_get, Some, ◌<◌, OnOk};
 ghost use Rattle.std.specs.List.{list_any};
 ghost use Rattle.fast_check_files.specs.demands.Demands.{demand_of};

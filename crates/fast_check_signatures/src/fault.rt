@@ -1,3 +1,4 @@
+//! A fault of the transform: its kind and its range.
 use fast_check_syntax::{Atom, SourceRange};
 
 /// What is wrong with an item of a module, so that it has no skeleton.

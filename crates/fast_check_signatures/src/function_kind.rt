@@ -1,3 +1,4 @@
+//! What a function is of: a declaration, an expression or a member.
 /// How a function came to be, which decides what an empty return class says of it.
 #[derive(Clone, Copy, PartialEq, Eq, Debug)]
 pub enum FunctionKind {

@@ -1,3 +1,4 @@
+//! What is done with an item, by its kind.
 ghost use Rattle.std.specs.Prelude.{◌≡◌};
 ghost use Rattle.fast_check_syntax.specs.Part.{seen};
 ghost use Rattle.fast_check_skeleton.specs.Rules.{decl_rule, default_rule, expr_stmt_rule, item_rule, is_require};

@@ -1,3 +1,4 @@
+//! The law of two worlds, and the law of `#private`, as contracts.
 ghost use Rattle.fast_check_comments.specs.declared.comments.Comments.{Comments};
 ghost use Rattle.fast_check_skeleton.specs.Surroundings.{Surroundings};
 ghost use Rattle.fast_check_skeleton.specs.Worlds.{TwoWorlds};

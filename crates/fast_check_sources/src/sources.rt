@@ -1,3 +1,4 @@
+//! The text that stands for the source of an import.
 ghost use Rattle.std.specs.Prelude.{◌≡◌, IfOk, option_map, string_bytes};
 ghost use Rattle.fast_check_sources.specs.Sources.{dotted, relative_source, relative_url};
 

@@ -1,3 +1,4 @@
+//! Assignments that are statements.
 ghost use Rattle.std.specs.Prelude.{◌≡◌, ◌∷◌, ◌++◌, [], true, IfOk, OnOk, if◌then◌else◌};
 ghost use Rattle.std.specs.Option.{option_copied};
 ghost use Rattle.fast_check_syntax.specs.Part.{seen};

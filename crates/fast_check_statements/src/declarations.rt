@@ -1,3 +1,4 @@
+//! Variable statements and `using`, declarator by declarator.
 ghost use Rattle.std.specs.Prelude.{◌≡◌, IfOk, Some};
 ghost use Rattle.std.specs.List.{list_any};
 ghost use Rattle.fast_check_syntax.specs.Part.{seen};

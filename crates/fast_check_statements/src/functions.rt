@@ -1,3 +1,4 @@
+//! Functions that are declared.
 ghost use Rattle.std.specs.Prelude.{IfOk, Some};
 ghost use Rattle.fast_check_syntax.specs.Part.{seen};
 ghost use Rattle.fast_check_signatures.specs.Answers.{Adds};

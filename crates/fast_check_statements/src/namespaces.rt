@@ -1,3 +1,4 @@
+//! The blocks of namespaces, and what is wrong with ambient modules.
 ghost use Rattle.std.specs.Prelude.{◌≡◌, IfOk};
 ghost use Rattle.fast_check_syntax.specs.Part.{seen};
 ghost use Rattle.fast_check_statement_forms.specs.TsDeclarations.{TsModuleDecl-body, TsModuleBlock-body};

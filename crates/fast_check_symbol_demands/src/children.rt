@@ -1,3 +1,4 @@
+//! Demands of the children of a symbol: its exports, its members and what its declarations bind.
 ghost use Rattle.std.specs.Prelude.{◌≡◌, ◌++◌, option_map, OnOk};
 ghost use Rattle.fast_check_symbol_tables.specs.symbols.Exports.{seen_export};
 ghost use Rattle.std.specs.List.{flat_map};

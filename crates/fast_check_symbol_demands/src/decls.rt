@@ -1,3 +1,4 @@
+//! What is asked of a declaration by its kind.
 ghost use Rattle.std.specs.Prelude.{◌≡◌};
 ghost use Rattle.std.specs.List.{list_any};
 ghost use Rattle.fast_check_symbol_demands.specs.Decls.{binds, is_implementation, is_function, is_class_decl, is_closed_decl, is_alias, has_alias, has_class, is_closed};

@@ -1,3 +1,4 @@
+//! A demand of a symbol of a module.
 use fast_check_symbol_tables::symbols::SymbolId;
 
 /// One of TypeScript's two namespaces.

@@ -1,3 +1,4 @@
+//! Demands of what the public face of a declaration depends on.
 ghost use Rattle.std.specs.Prelude.{◌≡◌, ◌∷◌, [], ◌++◌, OnOk};
 ghost use Rattle.fast_check_symbol_demands.specs.Demands.{demand_of, same_symbol};
 ghost use Rattle.fast_check_symbol_demands.specs.Rules.{each_of, reference, references_in, parent_at, parent_names, dep_names, deps_names, kind_names};

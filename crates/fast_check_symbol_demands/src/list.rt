@@ -1,3 +1,4 @@
+//! A list of demands.
 ghost use Rattle.std.specs.Prelude.{◌≡◌, [], ◌∷◌, ◌++◌, map, OnOk};
 ghost use Rattle.fast_check_symbol_demands.specs.Demands.{demand_of};
 

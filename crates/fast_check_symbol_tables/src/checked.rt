@@ -1,3 +1,4 @@
+//! The tables of a module, of which each mentioned symbol exists.
 ghost use Rattle.std.specs.Prelude.{◌≡◌, IfOk, IfErr, OnOk, Some};
 ghost use Rattle.std.specs.Option.{option_copied};
 

@@ -1,3 +1,4 @@
+//! What is wrong with tables.
 use std::alloc::{AllocError, AllocFailed};
 
 /// What is wrong with tables that were handed in, in order: of several faults the first is told.

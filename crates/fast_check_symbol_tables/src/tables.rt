@@ -1,3 +1,4 @@
+//! The tables of a module as they are handed in.
 use fast_check_symbols::{Symbol, SymbolId};
 use fast_check_syntax::{Id, SourceRange};
 use url::Url;

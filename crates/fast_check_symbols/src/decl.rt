@@ -1,3 +1,4 @@
+//! A declaration of a symbol.
 ghost use Rattle.std.specs.Prelude.{◌≡◌};
 
 use crate::file_dep_name::FileDepName;

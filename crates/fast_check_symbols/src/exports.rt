@@ -1,3 +1,4 @@
+//! The exports of a symbol by their names, in order.
 ghost use Rattle.std.specs.Prelude.{◌≡◌, [], length, slice_get, option_map, OnOk, OnErr, IsTrue, ◌↔◌, string_bytes};
 ghost use Rattle.fast_check_symbols.specs.Exports.{export_named, put_export, seen_export};
 

@@ -1,3 +1,4 @@
+//! What a declaration depends on.
 use fast_check_syntax::Id;
 
 /// In which of TypeScript's two namespaces a name is referred to.

@@ -1,3 +1,4 @@
+//! A symbol of a module.
 ghost use Rattle.std.specs.Prelude.{◌≡◌};
 
 use crate::decl::SymbolDecl;

@@ -1,3 +1,4 @@
+//! The symbols of a module by their numbers.
 ghost use Rattle.std.specs.Prelude.{◌≡◌, IfOk};
 ghost use Rattle.std.specs.Option.{option_copied};
 ghost use Rattle.fast_check_symbols.specs.Symbols.{symbol_of, place_of};

@@ -1,3 +1,4 @@
+//! A part of a node, which may be absent, and its readings.
 ghost use Rattle.std.specs.Prelude.{◌≡◌, IfOk};
 ghost use Rattle.fast_check_syntax.specs.Shape.{part, parts, kind_of, text_of, flag_of, context_of, range_of, has_word, is_absent};
 ghost use Rattle.fast_check_syntax.specs.Part.{seen};

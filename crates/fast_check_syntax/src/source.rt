@@ -1,3 +1,4 @@
+//! Positions, ranges and scope numbers.
 /// A place in the source text: its byte offset plus 1. 0 is no place: nodes that no text stands for have it.
 #[derive(Clone, Copy, PartialEq, Eq, PartialOrd, Ord, Hash, Debug)]
 pub struct SourcePos(pub u32);

@@ -1,3 +1,4 @@
+//! The plain syntax tree: one type for all nodes.
 ghost use Rattle.std.specs.Prelude.{◌≡◌, IfOk, IsTrue, ◌↔◌};
 ghost use Rattle.fast_check_syntax.specs.declared.tree.Tree.{Node};
 

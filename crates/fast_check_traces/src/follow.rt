@@ -1,3 +1,4 @@
+//! A module that is followed: what its names ask of its symbols and of other modules.
 ghost use Rattle.std.specs.Prelude.{◌≡◌, List, IfOk};
 ghost use Rattle.std.specs.List.{flat_map};
 ghost use Rattle.fast_check_demands.specs.Demands.{Demand};

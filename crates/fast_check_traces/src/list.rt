@@ -1,3 +1,4 @@
+//! A list of what is asked of other modules.
 ghost use Rattle.std.specs.Prelude.{◌≡◌, [], ◌∷◌, ◌++◌, map, OnOk};
 ghost use Rattle.fast_check_traces.specs.Wants.{want_of};
 

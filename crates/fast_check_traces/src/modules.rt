@@ -1,3 +1,4 @@
+//! The tables and the exports of a module that is followed.
 ghost use Rattle.std.specs.Prelude.{◌≡◌, is_some};
 ghost use Rattle.std.specs.Option.{option_copied};
 ghost use Rattle.fast_check_traces.specs.Modules.{tables_in, own_tables, own_export, answer_of, first_with, answer_to};

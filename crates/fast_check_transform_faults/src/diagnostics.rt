@@ -1,3 +1,4 @@
+//! Faults of the transform as diagnostics.
 ghost use Rattle.std.specs.Prelude.{◌≡◌, IfOk};
 ghost use Rattle.fast_check_transform_faults.specs.Diagnostics.{IsPlaceOf, IsExpandoProperty, IsDiagnosticOf, AreDiagnosticsOf, told};
 

@@ -1,3 +1,4 @@
+//! A transformer that keeps what is wrong.
 ghost use Rattle.std.specs.Prelude.{◌≡◌, ◌↔◌, [], true, IfOk, IsOk, IfErr, IsTrue};
 ghost use Rattle.fast_check_skeleton.specs.Grammar.{IsSkeleton};
 ghost use Rattle.fast_check_parsed_source.specs.MediaType.{is_declaration};

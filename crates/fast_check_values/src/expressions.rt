@@ -1,3 +1,4 @@
+//! What stays of an expression.
 ghost use Rattle.std.specs.Prelude.{◌≡◌, IfOk, None, Some, map};
 ghost use Rattle.fast_check_syntax.specs.Part.{seen};
 ghost use Rattle.fast_check_syntax.specs.Shape.{kind_of, parts};

@@ -1,3 +1,4 @@
+//! A place that a diagnostic tells: a module, its source text, and a range in it.
 ghost use Rattle.std.specs.Cmp.{partial_equiv_from_equiv};
 ghost use Rattle.std.specs.Cmp.Rules.{hashing};
 ghost use Rattle.std.proofs.Common.{rules};

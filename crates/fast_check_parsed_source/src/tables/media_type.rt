@@ -1,3 +1,4 @@
+//! The media types of modules.
 ghost use Rattle.std.specs.Prelude.{◌≡◌};
 
 /// What a module is written in, by the ending of its URL or by the type that a server gave it.

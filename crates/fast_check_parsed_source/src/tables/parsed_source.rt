@@ -1,3 +1,4 @@
+//! The source of a module: text, tree and comments.
 use crate::tables::MediaType;
 use fast_check_comments::Comments;
 use fast_check_syntax::{SyntaxContext, Tree};
