@@ -29,6 +29,7 @@ run() {
 
 run random_modules "$count" "$seed" "$program"
 run random_builds "$count" "$seed" "$program" "$vectors"
+run random_pairs "$count" "$seed" "$program"
 if [ -x "$vectors" ]; then
   run packages run "$count" "$seed" "$vectors"
 else

@@ -3,7 +3,8 @@
 
 Each run stands here as TypeScript with what is public of it and what has to come out. The trees of the sources and of
 the skeletons are laid out by the rules of this script and its modules alone (`trees`, `skeletons`, `runs`, `plain_runs`, `refused_runs`,
-`function_cases`, `new_cases`, `return_cases`, `value_cases`, `class_cases`, `module_cases`, `namespace_cases`, `build_cases`, `build_demand_cases`): the
+`function_cases`, `new_cases`, `return_cases`, `value_cases`, `class_cases`, `module_cases`, `namespace_cases`, `build_cases`, `build_demand_cases`,
+`hostile_cases`, `pair_cases`): the
 program's own output is nowhere taken for right.
 
 Usage: bench/cases/vectors.py
@@ -24,6 +25,7 @@ import hostile_cases
 import module_cases
 import namespace_cases
 import new_cases
+import pair_cases
 import return_cases
 import single_calls
 import value_cases
@@ -77,6 +79,11 @@ def graph_of(case, specifier):
 
 def function_case(case):
     """Lays a case out, and writes its request and its answer."""
+    answered(case.name, *laid_out(case))
+
+
+def laid_out(case):
+    """The request of a case, and its answer, which has to be the one that is stated."""
     case.items, text = lay_items(case.items)
     more, specifier = case.more, case.more.get("specifier", SPECIFIER)
     media_type, first = more.get("media_type", "TypeScript"), more.get("first", False)
@@ -105,7 +112,7 @@ def function_case(case):
         goes = more["comments"](case.items)
         content["module"]["source"]["comments"] = {"leading": documented([at for at, _ in goes]), "trailing": documented([at for at, _ in goes])}
         answer["Ok"]["comments"] = {"leading": documented([at for at, stays in goes if stays]), "trailing": documented([at for at, _ in goes])}
-    answered(case.name, content, answer)
+    return content, answer
 
 
 def told_sources(answer, text):
@@ -193,14 +200,17 @@ def words():
     title("words that are no command and a file")
     usage = "usage: fast-check (build|transform|pair) FILE\n"
     for text in ("", "transform", "transform both_public.json more", "check both_public.json", "build", "build build_nothing.json more",
-                 "pair both_public.json"):
+                 "pair", "pair pair_another_written_type.json more"):
         case(text, 2, usage)
-    title("what one command asks is refused by the other")
+    title("what one command asks is refused by the others")
     case("build both_public.json", 2, "error: input refused: bad-form\n")
     case("transform build_nothing.json", 2, "error: input refused: bad-form\n")
+    case("pair both_public.json", 2, "error: input refused: bad-form\n")
+    case("transform pair_another_written_type.json", 2, "error: input refused: bad-form\n")
     title("a file that is not there")
     case("transform missing.json", 2, "error: input refused: unreadable\n")
     case("build missing.json", 2, "error: input refused: unreadable\n")
+    case("pair missing.json", 2, "error: input refused: unreadable\n")
 
 
 def streams():
@@ -217,6 +227,9 @@ def streams():
     case("build build_faults_of_two_entry_points.json >closed", 4, "error: output refused\n")
     case("build build_nothing.json >closed 2>closed", 4, "", is_told=False)
     case("build build_a_missing_symbol.json 2>closed", 2, "", is_told=False)
+    case("pair pair_another_written_type.json <broken", 2, "error: input refused: unreadable\n")
+    case("pair pair_another_written_type.json >closed", 4, "error: output refused\n")
+    case("pair pair_values_that_are_refused.json >closed 2>closed", 4, "", is_told=False)
 
 
 def main():
@@ -241,6 +254,7 @@ def main():
     tables()
     builds()
     hostile_builds()
+    pair_cases.pairs(laid_out, agree)
     words()
     streams()
     put("cases", "".join(CASES).encode())

@@ -136,6 +136,10 @@ def property_signature(name, written):
     return {"TsPropertySignature": form(key=ref(name), computed=False, readonly=False, optional=False, type_ann=ann(written))}
 
 
+def method_signature(name, params, written):
+    return {"TsMethodSignature": form(key=ref(name), computed=False, optional=False, params=list(params), type_ann=ann(written), type_params=None)}
+
+
 # ---- `using`
 
 
@@ -239,7 +243,8 @@ LAYOUTS.update({
     "module_ref": {"TsEntityName": "entity", "TsExternalModuleRef": ["require(", one("expr", "source"), ")"]},
     "default_decl": {"Class": lay_default_class, "Fn": lay_default_function, "TsInterfaceDecl": INTERFACE},
     "interface_body": [braces("body", "type_element", " ")],
-    "type_element": {"TsPropertySignature": [one("key", "expr"), one("type_ann", "ann"), ";"]},
+    "type_element": {"TsPropertySignature": [one("key", "expr"), one("type_ann", "ann"), ";"],
+                     "TsMethodSignature": [one("key", "expr"), "(", many("params", "pattern"), ")", one("type_ann", "ann"), ";"]},
 })
 LAYOUTS["entity"]["TsQualifiedName"] = [one("left", "entity"), ".", one("right", "ident_name")]
 LAYOUTS["decl"]["Using"] = [when("is_await", "await "), "using ", many("decls", "declarator"), ";"]

@@ -8,8 +8,9 @@ use Rattle.fast_check_requests.specs.Call.{File}
 use Rattle.fast_check_requests.specs.Run as run
 use Rattle.fast_check_transform_command.specs.Transform as transform
 use Rattle.fast_check_build_command.specs.Build as build
+use Rattle.fast_check_pair_command.specs.Pair as pair
 use Rattle.fast_check_commands.specs.declared.command.AnyCommand.{AnyCommand}
-use Rattle.fast_check_commands.specs.declared.command.AnyCommand.TheVariants.{Transform, Build}
+use Rattle.fast_check_commands.specs.declared.command.AnyCommand.TheVariants.{Transform, Build, Pair}
 
 -- ---- the commands
 
@@ -18,17 +19,20 @@ abbrev pub command_named : List ℕ → Option AnyCommand
 command_named name =
     if bytes_eq name (codes "transform") then Some Transform
     else if bytes_eq name (codes "build") then Some Build
+    else if bytes_eq name (codes "pair") then Some Pair
     else None
 
 -- the line with its status is its answer to these bytes
 abbrev pub AnswersBytes : AnyCommand → List ℕ → List ℕ → ℕ → Type 0
 AnswersBytes Transform bytes line status = transform.IsAnswerTo bytes line status
 AnswersBytes Build bytes line status = build.IsAnswerTo bytes line status
+AnswersBytes Pair bytes line status = pair.IsAnswerTo bytes line status
 
 -- why it refuses them
 abbrev pub RefusesBytes : AnyCommand → List ℕ → Refusal → Type 0
 RefusesBytes Transform bytes refusal = transform.RefusesBytes refusal bytes
 RefusesBytes Build bytes refusal = build.RefusesBytes refusal bytes
+RefusesBytes Pair bytes refusal = pair.RefusesBytes refusal bytes
 
 -- ---- the words and the file
 

@@ -3,6 +3,7 @@
 ghost use Rattle.fast_check_commands.specs.Commands.{command_named, AnswersBytes, RefusesBytes};
 
 use fast_check_build_command::answer_build;
+use fast_check_pair_command::answer_pair;
 use fast_check_requests::{Answer, Command, Refusal};
 use fast_check_transform_command::answer_transform;
 use std::alloc::Global;
@@ -12,6 +13,7 @@ use std::alloc::Global;
 pub enum AnyCommand {
     Transform,
     Build,
+    Pair,
 }
 
 impl Command for AnyCommand {
@@ -25,6 +27,7 @@ impl Command for AnyCommand {
         match name {
             "transform" => Some(AnyCommand::Transform),
             "build" => Some(AnyCommand::Build),
+            "pair" => Some(AnyCommand::Pair),
             _ => None,
         }
     }
@@ -33,6 +36,7 @@ impl Command for AnyCommand {
         match self {
             AnyCommand::Transform => answer_transform(alloc, bytes),
             AnyCommand::Build => answer_build(alloc, bytes),
+            AnyCommand::Pair => answer_pair(alloc, bytes),
         }
     }
 }

@@ -15,5 +15,7 @@ pub use ending::Ending;
 pub use input::{read_bytes, read_request};
 pub use program::run;
 pub use refusal::Refusal;
-pub use request::{EsModuleParts, TransformRequest, read_es_module, read_transform_request};
+pub use request::{
+    EsModuleParts, TransformRequest, read_es_module, read_optional_ranges, read_transform_request,
+};
 pub use words::read_call;

@@ -85,7 +85,7 @@ fn member<'a>(value: &'a Value, name: &str) -> Result<&'a Value, ReadError>
 }
 
 /// The ranges of a member, which may be left out, and are then none.
-fn read_optional_ranges(
+pub fn read_optional_ranges(
     alloc: Global,
     value: &Value,
     name: &str,

@@ -3,6 +3,7 @@
 
 pub use fast_check_module_transform::{TransformOptions, transform};
 pub use fast_check_parsed_source::{FastCheckModule, ModuleInfo, StaticSource};
+pub use fast_check_transform_pair::transform_pair;
 pub use fast_check_transformer::FastCheckTransformer;
 
 /// What a cache keeps.

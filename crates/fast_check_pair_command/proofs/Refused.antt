@@ -1,0 +1,69 @@
+-- Bytes without a request are refused, and so are those whose request is.
+use Rattle.std.proofs.Common.{ℕ, ◌<◌, List, Ok, Err, inl, inr, subst, sym, lit<}
+use Rattle.fast_check_requests.specs.declared.refusal.Refusal.{Refusal}
+use Rattle.fast_check_requests.specs.declared.refusal.Refusal.TheVariants as refusals
+use Rattle.fast_check_requests.specs.Run.{IsOfBytes}
+use Rattle.fast_check_modules.specs.EsModule.{EsModule}
+use Rattle.fast_check_transform_pair.specs.Transformed.{ModuleAnswer}
+use Rattle.fast_check_pair_command.specs.declared.request.PairRequest.{PairRequest}
+use Rattle.fast_check_pair_command.specs.Input.{HoldsPair, LacksPair}
+use Rattle.fast_check_pair_command.specs.Line.{status_of}
+use Rattle.fast_check_pair_command.specs.Pair.{AreModules, RefusesModules, AnswersPair, RefusesPair, RefusesBytes}
+
+pub refused : (refusal : Refusal) (bytes : List ℕ) → LacksPair bytes refusal → RefusesBytes refusal bytes
+refused refusals.NotJson bytes lacks = lacks
+refused refusals.BadForm bytes lacks = lacks
+refused refusals.OutOfMemory bytes lacks = lacks
+refused refusals.Usage bytes lacks = absurd lacks
+refused refusals.Unreadable bytes lacks = absurd lacks
+refused (refusals.TableFault fault) bytes lacks = absurd lacks
+refused refusals.RangesNotAdmitted bytes lacks = absurd lacks
+refused refusals.InvalidExport bytes lacks = absurd lacks
+refused refusals.Unwritable bytes lacks = absurd lacks
+
+pub request_refused : (refusal : Refusal) (bytes : List ℕ) (asked : PairRequest) → HoldsPair bytes asked → RefusesPair asked refusal
+    → RefusesBytes refusal bytes
+request_refused refusals.NotJson bytes asked holds refuses = absurd refuses
+request_refused refusals.BadForm bytes asked holds refuses = absurd refuses
+request_refused refusals.OutOfMemory bytes asked holds refuses = tt
+request_refused refusals.Usage bytes asked holds refuses = absurd refuses
+request_refused refusals.Unreadable bytes asked holds refuses = absurd refuses
+request_refused (refusals.TableFault fault) bytes asked holds refuses = (asked, holds, refuses)
+request_refused refusals.RangesNotAdmitted bytes asked holds refuses = (asked, holds, refuses)
+request_refused refusals.InvalidExport bytes asked holds refuses = absurd refuses
+request_refused refusals.Unwritable bytes asked holds refuses = absurd refuses
+
+pub modules_refused : (refusal : Refusal) (asked : PairRequest) (a b : EsModule) → AreModules asked a b
+    → RefusesModules a asked.a.public_ranges b asked.b.public_ranges refusal → RefusesPair asked refusal
+modules_refused refusals.RangesNotAdmitted asked a b are refuses = record { a = a; b = b; are_modules = are; not_admitted = refuses }
+modules_refused refusals.OutOfMemory asked a b are refuses = tt
+modules_refused refusals.NotJson asked a b are refuses = absurd refuses
+modules_refused refusals.BadForm asked a b are refuses = absurd refuses
+modules_refused refusals.Usage asked a b are refuses = absurd refuses
+modules_refused refusals.Unreadable asked a b are refuses = absurd refuses
+modules_refused (refusals.TableFault fault) asked a b are refuses = absurd refuses
+modules_refused refusals.InvalidExport asked a b are refuses = absurd refuses
+modules_refused refusals.Unwritable asked a b are refuses = absurd refuses
+
+zero_or_one : (x y : ModuleAnswer) → status_of x y < 2
+zero_or_one (Ok m) (Ok n) = lit< tt
+zero_or_one (Ok m) (Err es) = lit< tt
+zero_or_one (Err ds) (Ok n) = lit< tt
+zero_or_one (Err ds) (Err es) = lit< tt
+
+pub answer_status : (asked : PairRequest) (line : List ℕ) (status : ℕ) → AnswersPair asked line status → status < 2
+answer_status asked line status h =
+    let answer = h.answer.1 in
+    subst (λ n. n < 2) (sym answer.status_told) (zero_or_one answer.first answer.second)
+
+-- bytes are not refused by the words, by their file or by an output
+pub of_bytes : (refusal : Refusal) (bytes : List ℕ) → RefusesBytes refusal bytes → IsOfBytes refusal
+of_bytes refusals.NotJson bytes refuses = tt
+of_bytes refusals.BadForm bytes refuses = tt
+of_bytes refusals.OutOfMemory bytes refuses = tt
+of_bytes refusals.Usage bytes refuses = refuses
+of_bytes refusals.Unreadable bytes refuses = refuses
+of_bytes (refusals.TableFault fault) bytes refuses = tt
+of_bytes refusals.RangesNotAdmitted bytes refuses = tt
+of_bytes refusals.InvalidExport bytes refuses = tt
+of_bytes refusals.Unwritable bytes refuses = refuses

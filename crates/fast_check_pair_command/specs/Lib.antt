@@ -1,0 +1,6 @@
+pub use Rattle.fast_check_requests.specs.Refusal
+pub use Rattle.fast_check_requests.specs.Run
+pub mod Request
+pub mod Input
+pub mod Line
+pub mod Pair

@@ -1,0 +1,140 @@
+//! The command `pair`: the request in the bytes of its file, and its answer.
+
+ghost use Rattle.std.specs.Prelude.{◌≡◌, ◌<◌, IfOk, IfErr};
+ghost use Rattle.fast_check_modules.specs.EsModule.{Admits};
+ghost use Rattle.fast_check_modules.specs.FitProgram.{IsModuleFault};
+ghost use Rattle.fast_check_requests.specs.Run.{IsOfBytes};
+ghost use Rattle.fast_check_transform_command.specs.Transform.{IsModuleOf};
+ghost use Rattle.fast_check_pair_command.specs.Input.{HoldsPair, LacksPair};
+ghost use Rattle.fast_check_pair_command.specs.Line.{status_of, IsPairAnswer};
+ghost use Rattle.fast_check_pair_command.specs.Pair.{AnswersModules, RefusesModules, AnswersPair, RefusesPair, IsAnswerTo, RefusesBytes};
+
+use crate::answer::print_answers_line;
+use crate::input::read_pair;
+use crate::request::{PairRequest, Side};
+use fast_check_graph::ModuleGraph;
+use fast_check_module_transform::TransformOptions;
+use fast_check_modules::diagnostics::{FastCheckDiagnostic, ModulePublicRanges};
+use fast_check_modules::{EsModuleInfo, TableFault};
+use fast_check_parsed_source::FastCheckModule;
+use fast_check_requests::{Answer, EsModuleParts, Refusal};
+use fast_check_transform_pair::transform_pair;
+use std::alloc::{AllocError, Global};
+
+/// The answer to the bytes of a file, or why they are refused. They are dropped when the request is read.
+pub fn answer_pair(alloc: Global, bytes: Vec<u8>) -> Result<Answer, Refusal>
+    ensures answer { IfOk result (λ answer. IsAnswerTo bytes.items answer.line.items answer.status) }
+    ensures status { IfOk result (λ answer. answer.status < 2) }
+    ensures refusal { IfErr result (λ refusal. RefusesBytes refusal bytes.items) }
+    ensures of_bytes { IfErr result IsOfBytes }
+{
+    answer_request(alloc, read_request(alloc, bytes)?)
+}
+
+/// The request in the bytes of a file, which are dropped.
+fn read_request(alloc: Global, bytes: Vec<u8>) -> Result<PairRequest, Refusal>
+    ensures request { IfOk result (HoldsPair bytes.items) }
+    ensures refusal { IfErr result (LacksPair bytes.items) }
+{
+    read_pair(alloc, bytes.as_slice())
+}
+
+/// The module of these parts, or the fault of its tables.
+fn checked_module(alloc: Global, parts: EsModuleParts) -> Result<EsModuleInfo, TableFault>
+    ensures made { IfOk result (IsModuleOf parts) }
+    ensures fault { IfErr result (IsModuleFault parts.tables parts.source.program) }
+{
+    let EsModuleParts {
+        specifier,
+        source,
+        tables,
+    } = parts;
+    EsModuleInfo::new(alloc, specifier, source, tables)
+}
+
+/// The answer to a request, or why it is refused: by a fault of the first module's tables before one of the second's, and both before ranges.
+fn answer_request(alloc: Global, request: PairRequest) -> Result<Answer, Refusal>
+    ensures answer { IfOk result (λ answer. AnswersPair request answer.line.items answer.status) }
+    ensures refusal { IfErr result (RefusesPair request) }
+{
+    let PairRequest {
+        graph,
+        a,
+        b,
+        should_error_on_first_diagnostic,
+    } = request;
+    let Side {
+        es_module: parts_a,
+        public_ranges: ranges_a,
+    } = a;
+    let Side {
+        es_module: parts_b,
+        public_ranges: ranges_b,
+    } = b;
+    let info_a = checked_module(alloc, parts_a)?;
+    let info_b = checked_module(alloc, parts_b)?;
+    let is_first = should_error_on_first_diagnostic;
+    answer_if_admitted(
+        alloc, &graph, &info_a, &ranges_a, &info_b, &ranges_b, is_first,
+    )
+}
+
+/// The answer to two modules, or why they are refused: the ranges of both have to be admitted.
+fn answer_if_admitted(
+    alloc: Global,
+    graph: &ModuleGraph,
+    a: &EsModuleInfo,
+    ranges_a: &ModulePublicRanges,
+    b: &EsModuleInfo,
+    ranges_b: &ModulePublicRanges,
+    should_error_on_first_diagnostic: bool,
+) -> Result<Answer, Refusal>
+    ensures answer { IfOk result (λ answer. AnswersModules graph.now a.now ranges_a.now b.now ranges_b.now should_error_on_first_diagnostic
+        answer.line.items answer.status) }
+    ensures refusal { IfErr result (RefusesModules a.now ranges_a.now b.now ranges_b.now) }
+{
+    if !a.admits(ranges_a) || !b.admits(ranges_b) {
+        return Err(Refusal::RangesNotAdmitted);
+    }
+    let options = TransformOptions {
+        workspace_members: Vec::new(alloc),
+        should_error_on_first_diagnostic,
+    };
+    Ok(answer_modules(alloc, graph, a, ranges_a, b, ranges_b, &options)?)
+}
+
+/// The answer to two modules whose ranges are admitted.
+fn answer_modules(
+    alloc: Global,
+    graph: &ModuleGraph,
+    a: &EsModuleInfo,
+    ranges_a: &ModulePublicRanges,
+    b: &EsModuleInfo,
+    ranges_b: &ModulePublicRanges,
+    options: &TransformOptions,
+) -> Result<Answer, AllocError>
+    requires first_admitted { Admits a.now ranges_a.now }
+    requires second_admitted { Admits b.now ranges_b.now }
+    ensures { IfOk result (λ answer. IsPairAnswer graph.now a.now ranges_a.now b.now ranges_b.now
+        options.now.should_error_on_first_diagnostic answer.line.items answer.status) }
+{
+    let (first, second) = transform_pair(alloc, graph, a, ranges_a, b, ranges_b, options)?;
+    Ok(Answer {
+        status: status_of(&first, &second),
+        line: print_answers_line(alloc, &first, &second)?,
+    })
+}
+
+/// 0 where both are skeletons, else 1.
+fn status_of(
+    first: &Result<FastCheckModule, Vec<FastCheckDiagnostic>>,
+    second: &Result<FastCheckModule, Vec<FastCheckDiagnostic>>,
+) -> u8
+    ensures { result ≡ status_of first.now second.now }
+{
+    if first.is_ok() && second.is_ok() {
+        0
+    } else {
+        1
+    }
+}
