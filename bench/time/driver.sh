@@ -31,3 +31,4 @@ done
 : > "$scratch/crates/driver/cases"
 (cd "$scratch/crates/driver" && rt run)
 cp "$scratch/crates/driver/out/driver" "$program"
+chmod +x "$program"

@@ -135,7 +135,7 @@ impl NamedSubset {
     }
 
     /// Adds the names of `new_subset`, and answers those that were lacking: the least set that brings all of it to what was here. The answer is
-    /// empty where nothing is new. Both sets are walked and this one is copied, so that it stays as it was where memory is wanting.
+    /// empty where nothing is new, and then only the new set was walked. Else this one is copied, so that it stays as it was where memory is wanting.
     pub fn extend(
         &mut self,
         alloc: Global,
@@ -146,6 +146,9 @@ impl NamedSubset {
         ensures err { OnErr result (self.new ≡ self.old) }
     {
         let difference = difference(alloc, self, &new_subset)?;
+        if difference.is_empty() {
+            return Ok(difference);
+        }
         let joined = join(alloc, self, &new_subset)?;
         *self = joined;
         Ok(difference)
