@@ -3,13 +3,16 @@
 //
 //   node tools/typescript/hidden.js FOLDER ..
 //
-// Each FOLDER is a package. Of each kind of edit up to ten modules are edited, all at once, in a copy: the bodies of functions with a written return
-// type, private members, and values behind a written type. A package with messages has no skeletons: its messages have to stay then, but for their places.
+// Each FOLDER is a package, of which the sources are taken where it has both sources and declarations. Types that it leaves to inference are written first, in a
+// copy, as the compiler finds them, so that there are skeletons. Of each kind of edit up to ten modules are edited, all at once, in a second copy: the bodies of
+// functions with a written return type, private members, and values behind a written type. The skeletons have to stay byte for byte, and `diff` has to be silent;
+// of a package that still has messages these have to stay, but for their places.
 const fs = require('fs');
 const os = require('os');
 const path = require('path');
 const { main } = require('./cli.js');
 const { inputOf } = require('./input.js');
+const { copied, entryOf, typed } = require('./judge.js');
 const { ts } = require('./typescript.js');
 
 const MOST = 10;
@@ -52,15 +55,19 @@ function editsOf(kind, file) {
   return found.reverse();
 }
 
-/** What the commands say of a folder: its skeletons, or its messages without their places. */
-async function said(folder) {
+/** Runs the command line in a folder. */
+async function run(folder, words) {
   const out = { text: '', write(part) { this.text += part; } };
-  const io = { cwd: folder, environment: process.env, out, err: { write() {} } };
-  const status = await main(['skeleton', '.'], io);
-  if (status === 0) return { status, text: out.text };
-  out.text = '';
-  await main(['check', '--json', '.'], io);
-  const lines = out.text.split('\n').filter(Boolean).map((line) => JSON.parse(line));
+  const status = await main(words, { cwd: folder, environment: process.env, out, err: { write() {} } });
+  return { status, text: out.text };
+}
+
+/** What the commands say of a folder: its skeletons, or its messages without their places. */
+async function said(folder, words) {
+  const shown = await run(folder, ['skeleton', '.', ...words]);
+  if (shown.status === 0) return shown;
+  const { status, text } = await run(folder, ['check', '--json', '.', ...words]);
+  const lines = text.split('\n').filter(Boolean).map((line) => JSON.parse(line));
   return { status, text: lines.map((each) => `${each.file} ${each.code} ${each.message}`).join('\n') };
 }
 
@@ -78,34 +85,59 @@ function editAll(kind, folder, names) {
   return edited;
 }
 
-async function judge(folder) {
-  const before = await said(folder);
-  if (before.status > 1) return { line: `${folder}: cannot be read`, failed: 0 };
-  const names = inputOf(folder, {}).info.modules.map((module) => path.relative(folder, module.path));
-  const told = [];
-  let failed = 0;
-  for (const kind of Object.keys(KINDS)) {
-    const copy = fs.mkdtempSync(path.join(os.tmpdir(), 'fast-check-hidden-'));
-    try {
-      fs.cpSync(folder, copy, { recursive: true });
-      const edited = editAll(kind, copy, names);
-      const after = edited ? await said(copy) : before;
-      const isSame = after.text === before.text;
-      if (!isSame) failed++;
-      told.push(`${kind} in ${edited} modules ${isSame ? 'stays' : 'DIFFERS'}`);
-    } finally {
-      fs.rmSync(copy, { recursive: true, force: true });
-    }
+/** Edits a copy of the package in one way, and tells whether all stays. */
+async function judgeKind(kind, { folder, words, names, before }, copy) {
+  fs.cpSync(folder, copy, { recursive: true });
+  const edited = editAll(kind, copy, names);
+  if (!edited) return { edited, line: `${kind} in no module`, isSame: true };
+  let isSame = (await said(copy, words)).text === before.text;
+  if (isSame && before.status === 0) {
+    const { status, text } = await run(copy, ['diff', folder, '.', ...words]);
+    isSame = status === 0 && text === '';
   }
-  return { line: `${folder} (${before.status === 0 ? 'skeletons' : 'messages'}): ${told.join(', ')}`, failed };
+  return { edited, line: `${kind} in ${edited} modules ${isSame ? 'stays' : 'DIFFERS'}`, isSame };
 }
 
-(async () => {
+async function judge(dir, work) {
+  const entry = entryOf(dir);
+  if (!entry) return { line: `${dir}: no entry point`, failed: 0, counts: {} };
+  const { folder } = copied(dir, entry, work);
+  const exports = { '.': `./${entry.replace(/^\.\//, '')}` };
+  const { written } = typed(folder, exports, work);
+  const words = ['--exports', JSON.stringify(exports)];
+  const before = await said(folder, words);
+  const names = inputOf(folder, { exports }).info.modules.map((module) => path.relative(folder, module.path));
+  const told = [];
+  const counts = {};
   let failed = 0;
-  for (const folder of process.argv.slice(2)) {
-    const { line, failed: more } = await judge(path.resolve(folder));
-    console.log(line);
-    failed += more;
+  for (const kind of Object.keys(KINDS)) {
+    const { edited, line, isSame } = await judgeKind(kind, { folder, words, names, before }, path.join(work, kind));
+    counts[kind] = isSame ? edited : 0;
+    if (!isSame) failed++;
+    told.push(line);
   }
+  const what = `${before.status === 0 ? 'skeletons' : 'messages'}, ${written} types written`;
+  return { line: `${dir} (${what}): ${told.join(', ')}`, failed, counts };
+}
+
+async function judgeAll(folders) {
+  const sums = {};
+  let failed = 0;
+  for (const folder of folders) {
+    const work = fs.mkdtempSync(path.join(os.tmpdir(), 'fast-check-hidden-'));
+    try {
+      const { line, failed: more, counts } = await judge(path.resolve(folder), work);
+      console.log(line);
+      failed += more;
+      for (const [kind, count] of Object.entries(counts)) sums[kind] = (sums[kind] || 0) + count;
+    } catch (error) {
+      console.log(`${folder}: cannot be read: ${error.message}`);
+    } finally {
+      fs.rmSync(work, { recursive: true, force: true });
+    }
+  }
+  console.log(Object.entries(sums).map(([kind, count]) => `${kind}: ${count} modules stay`).join(', '));
   process.exitCode = failed ? 1 : 0;
-})();
+}
+
+judgeAll(process.argv.slice(2));

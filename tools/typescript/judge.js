@@ -323,4 +323,4 @@ if (require.main === module) {
   else judgePackages(root);
 }
 
-module.exports = { judge, judgePackages, judgeModules };
+module.exports = { copied, entryOf, judge, judgePackages, judgeModules, typed };
