@@ -1,7 +1,7 @@
 """The part `caches` of `fast_check_vectors`: under which keys caches in memory are asked, and what they answer. The hashes are computed here anew."""
 
 BASIS, PRIME, END = 14695981039346656037, 1099511628211, 255
-RULES, OWN = "0.111.1", "example 1"
+RULES, OWN = "0.111.1-single-return", "example 1"
 MODULE, MORE = "https://host.example/hello/mod.ts", "https://host.example/hello/more.ts"
 
 

@@ -107,7 +107,7 @@ fn show_key(rt: &HostRuntime, cache: &dyn FastCheckCache, name: &str) -> Result<
         cache.hash_seed(),
         key.as_u64()
     )?;
-    for seed in ["0.111.1", "example 1"] {
+    for seed in ["0.111.1-single-return", "example 1"] {
         let is_key = cache.key_hash(seed, &nv, &entrypoints) == key.as_u64();
         println!(rt; "    is the hash under {seed}: {is_key}")?;
     }

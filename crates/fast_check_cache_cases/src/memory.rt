@@ -32,7 +32,7 @@ impl MemoryCache {
 impl FastCheckCache for MemoryCache {
     ghost stored = { λ cache. items_at cache.items };
 
-    ghost seed_text = { λ _. codes "0.111.1" };
+    ghost seed_text = { λ _. codes "0.111.1-single-return" };
 
     ghost hash_of = { λ _. hash_package };
 
