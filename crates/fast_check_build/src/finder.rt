@@ -1,6 +1,7 @@
+//! What is public in packages.
+
 ghost use Rattle.std.specs.Prelude.{◌≡◌, false, map, is_some, IfOk, IfErr};
 ghost use Rattle.fast_check_packages.specs.Package.{nv_of};
-ghost use Rattle.fast_check_finder.specs.turns.steps.Sources.{known};
 ghost use Rattle.fast_check_finder.specs.Refusals.{IsRefusal};
 ghost use Rattle.fast_check_build.specs.Found.{known_of, IsFound};
 
@@ -12,22 +13,6 @@ use fast_check_packages::{PackageNv, WorkspaceMember};
 use fast_check_provider::{BuildFault, JsrUrlProvider};
 use std::alloc::Global;
 use std::collections::{BTreeMap, VecDeque};
-
-/// What is found of these packages, and of those that follow from them.
-fn ranges_of(
-    alloc: Global,
-    sources: Sources<'_>,
-    provider: &dyn JsrUrlProvider,
-    roots: &[PackageNv],
-) -> Result<BTreeMap<PackageNv, PackagePublicRanges>, BuildFault>
-    ensures found { IfOk result (IsFound (known sources.entry (url_of provider.now) (nv_at provider.now)) (map nv_of roots.now)) }
-    ensures refused { IfErr result (IsRefusal (known sources.entry (url_of provider.now) (nv_at provider.now)) (map nv_of roots.now)) }
-{
-    sources.root_symbol.own_names_find();
-    let found = find_all(alloc, sources, provider, roots)?;
-    let answers = package_ranges(alloc, found)?;
-    Ok(answers)
-}
 
 /// What is public in these packages, and in all that follow from them. A package that is handed in twice is followed once.
 ///
@@ -53,8 +38,11 @@ pub fn find_public_ranges(
         root_symbol,
         workspace_members,
     };
+    root_symbol.own_names_find();
     let roots = pending_nvs.into_vec();
-    ranges_of(alloc, sources, jsr_url_provider, roots.as_slice())
+    let found = find_all(alloc, sources, jsr_url_provider, roots.as_slice())?;
+    let answers = package_ranges(alloc, found)?;
+    Ok(answers)
 }
 
 /// Finds what is public in the packages that are handed in.

@@ -17,13 +17,8 @@ use Rattle.fast_check_worklists.proofs.Single.{whole_covered}
 use Rattle.fast_check_worklists.proofs.Waiting.{map_contains}
 use Rattle.fast_check_worklists.specs.Demands.{begins, touched_path, asked, asked_by}
 use Rattle.fast_check_worklists.specs.Measure.{IsWithin}
+use Rattle.fast_check_turns.proofs.Lists.{flat_contains}
 use Rattle.fast_check_finder.specs.Reach.{paths_up_to}
-
-pub flat_contains : {X Y : Type 0} (f : X → List Y) (xs : List X) (y : Y) → Contains (flat_map f xs) y → (x : X) × Contains xs x × Contains (f x) y
-flat_contains f [] y c = absurd (Contains_none y c)
-flat_contains f (z ∷ zs) y c =
-    ⊎_elim (λ l. (z, Contains_first z zs, l)) (λ r. let m = flat_contains f zs y r in (m.0, Contains_later z zs m.0 m.1, m.2))
-    (Contains-append_cases (f z) (flat_map f zs) y c)
 
 pub flat_longer : {X Y : Type 0} (f : X → List Y) (xs : List X) (x : X) → Contains xs x → length (f x) ≤ length (flat_map f xs)
 flat_longer f [] x c = absurd (Contains_none x c)

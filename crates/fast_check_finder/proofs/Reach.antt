@@ -57,7 +57,8 @@ use Rattle.fast_check_turns.specs.steps.Wants.{file_at, behind, resolved, file_w
 use Rattle.fast_check_turns.specs.Rules.{names_wants, symbol_wants, entry_want, unless_faulty, entrance_at, entry_wants, world}
 use Rattle.fast_check_finder.specs.Reach.{dep_names, kind_names, symbol_names, table_names, all_names, paths_up_to, targets, answers, entry_texts}
 use Rattle.fast_check_finder.specs.Reach.{outer_texts, all_packages, urls_in, reach}
-use Rattle.fast_check_finder.proofs.Paths.{flat_contains, flat_longer, Fits, fits_in, in_fits, fits_empty, fits_more, fits_longer, fits_tail, fits_piece}
+use Rattle.fast_check_turns.proofs.Lists.{flat_contains}
+use Rattle.fast_check_finder.proofs.Paths.{flat_longer, Fits, fits_in, in_fits, fits_empty, fits_more, fits_longer, fits_tail, fits_piece}
 use Rattle.fast_check_finder.proofs.Paths.{empty_in, all_within, asked_within}
 
 none_some : {X : Type 0} (x : X) → None ≡ Some x → ⊥

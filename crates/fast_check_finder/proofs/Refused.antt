@@ -8,12 +8,12 @@ use Rattle.fast_check_packages.specs.declared.package.PackageNv.{PackageNv}
 use Rattle.fast_check_packages.specs.Package.{Nv, nv_of}
 use Rattle.fast_check_provider.specs.declared.fault.BuildFault.{BuildFault}
 use Rattle.fast_check_provider.specs.declared.fault.BuildFault.TheVariants.{InvalidExport, OutOfMemory}
-use Rattle.fast_check_findings.specs.faults.Reports.{Report, told}
+use Rattle.fast_check_findings.specs.Faults.{placed_in}
 use Rattle.fast_check_findings.specs.declared.finding.Finding.{Finding}
 use Rattle.fast_check_findings.specs.declared.finding.Finding.TheVariants.{Entered, Followed, Untyped}
-use Rattle.fast_check_findings.specs.Yields.{ModuleFault, Yield, known_package, entry_point, refused_export, dependency, recorded, public, implementing, faulty, of_demand}
+use Rattle.fast_check_findings.specs.Yields.{ModuleFault, Yield, known_package, entry_point, refused_export, dependency, recorded, public, implementing, faulty}
 use Rattle.fast_check_findings.specs.Yields.{untyped_module}
-use Rattle.fast_check_findings.specs.Findings.{faulty_module, entry_fault, told_at, diagnostic_yields, yields_of}
+use Rattle.fast_check_findings.specs.Findings.{faulty_module, entry_fault, placed_yield, placed_yields, yields_of}
 use Rattle.fast_check_turns.specs.entries.Entries.{Entrance, passed_over, refused, entered, TellsRefused}
 use Rattle.fast_check_search.proofs.Each.{Contains_first, Each, each_nil, each_one, each_cons, each_append, each_map, each_flat}
 use Rattle.fast_check_worklists.specs.Demands.{Text, of_package}
@@ -38,10 +38,6 @@ Joins (faulty p t f) = Unit {0}
 faulty_joins : (p : Nv) (t : Text) (f : ModuleFault) → Each Joins (faulty_module p t f)
 faulty_joins p t f = each_cons Joins (recorded p t) (faulty p t f ∷ []) tt (each_one Joins (faulty p t f) tt)
 
-told_joins : (p : Nv) (t : Text) (o : Option Report) → Each Joins (told_at p t o)
-told_joins p t None = each_nil Joins
-told_joins p t (Some r) = each_one Joins (faulty p t (of_demand r)) tt
-
 finding_joins : (f : Finding) → Each Joins (yields_of f)
 finding_joins (Entered e) =
     each_cons Joins (known_package (nv_of e.package)) _ tt
@@ -53,12 +49,12 @@ finding_joins (Followed f) =
     let p = nv_of f.package in
     let t = serialize f.specifier in
     each_cons Joins (recorded p t) _ tt
-    (each_append Joins (map (public p t) (f.re_export_ranges.items ++ f.ranges.items)) _
-    (each_map Joins (public p t) (f.re_export_ranges.items ++ f.ranges.items) (λ r c. tt))
-    (each_append Joins (map (implementing p t) f.implementations.items) _
-    (each_map Joins (implementing p t) f.implementations.items (λ r c. tt))
-    (each_append Joins (diagnostic_yields p t f.diagnostics.items) _
-    (each_flat Joins (λ d. told_at p t (told d)) f.diagnostics.items (λ d c. told_joins p t (told d)))
+    (each_append Joins (map (public p t) f.found.ranges.items) _
+    (each_map Joins (public p t) f.found.ranges.items (λ r c. tt))
+    (each_append Joins (map (implementing p t) f.found.implementations.items) _
+    (each_map Joins (implementing p t) f.found.implementations.items (λ r c. tt))
+    (each_append Joins (placed_yields p t (map placed_in f.found.faults.items)) _
+    (each_map Joins (placed_yield p t) (map placed_in f.found.faults.items) (λ x c. tt))
     (each_map Joins (λ q. dependency p (nv_of q)) f.dependencies.items (λ q c. tt)))))
 finding_joins (Untyped u) = faulty_joins (nv_of u.package) (serialize u.specifier) untyped_module
 

@@ -1,123 +1,18 @@
--- What a turn does, where there is nothing to follow or to enter, and where there is.
-use Rattle.std.proofs.Common.{ℕ, inl, ◌≡◌, ◌∙◌, sym, ap, refl, subst, Bool, true, cond, not, ◌||◌, List, [], ◌∷◌, ◌++◌, Option, Some, None, map, option_map}
-use Rattle.std.proofs.Common.{⊎_elim}
-use Rattle.std.specs.List.{Contains}
-use Rattle.std.specs.Option.{option_and_then}
-use Rattle.std.proofs.lemmas.Bool.{cases_Bool}
-use Rattle.std.proofs.lemmas.List.Elements.{Contains-append_cases, Contains-append_right}
-use Rattle.url.specs.Parts.{serialize}
-use Rattle.fast_check_graph.specs.declared.module.Module.{Module}
-use Rattle.fast_check_graph.specs.Modules.{is_typed_module, is_external}
-use Rattle.fast_check_graph.specs.Root.{specifier_of}
-use Rattle.fast_check_findings.specs.faults.Reports.{told}
-use Rattle.fast_check_findings.specs.Yields.{Yield, recorded, public, implementing, untyped_module}
-use Rattle.fast_check_findings.specs.Findings.{faulty_module, told_at}
-use Rattle.fast_check_packages.specs.Package.{Nv}
-use Rattle.fast_check_graph.specs.declared.root_symbol.ModuleInfo.{ModuleInfo}
-use Rattle.fast_check_names.specs.Imports.{NameDemand}
-use Rattle.fast_check_demands.specs.Rules.{each_of}
-use Rattle.fast_check_search.proofs.Each.{Contains_none, Each}
-use Rattle.fast_check_worklists.proofs.Asking.{asked_some}
-use Rattle.fast_check_worklists.specs.Demands.{Text, asked, Want, to_symbol, Demand, of_package, of_module, of_symbol}
-use Rattle.fast_check_worklists.specs.Account.{Trace, Followed, HasIn}
-use Rattle.fast_check_worklists.specs.Turn.{waiting_trace, IsTurn}
-use Rattle.fast_check_worklists.proofs.Asks.{map_last}
+-- A turn in which a trace is followed.
+use Rattle.std.proofs.Common.{ℕ, inl, ◌≡◌, ◌∙◌, sym, ap, refl, subst, List, [], ◌∷◌, ◌++◌, Option, Some, map}
 use Rattle.url.specs.Parts.{Parts}
 use Rattle.fast_check_names.specs.declared.lattice.imported_exports.ImportedExports.{ImportedExports}
+use Rattle.fast_check_packages.specs.Package.{Nv}
 use Rattle.fast_check_packages.specs.declared.package.PackageNv.{PackageNv}
 use Rattle.fast_check_traced_modules.specs.declared.traced_modules.PendingTrace.{PendingTrace}
 use Rattle.fast_check_traced_modules.specs.Traces.{entry_of}
-use Rattle.fast_check_worklists.specs.State.{trace_of, want_of, State, IsFollowed, IsEntered}
-use Rattle.fast_check_turns.specs.steps.Sources.{Known, node_at, named_at, typed_info, info_at, traced_as, module_at, is_untyped}
-use Rattle.fast_check_turns.specs.Rules.{names_wants, entrance_at, world}
-use Rattle.fast_check_turns.specs.Yields.{dependencies, names_yields, untyped_yields, gives}
-use Rattle.fast_check_turns.proofs.Lists.{flat_mapped}
-use Rattle.fast_check_finder.proofs.Followed.{followed_there}
-use Rattle.fast_check_turns.specs.Turns.{Enters, FollowsAt}
-
-none_some : {X : Type 0} (x : X) → None ≡ Some x → ⊥
-none_some x e = cc
-
--- a module that is followed is not told as untyped
-typed_only : (k : Known) (nv : Nv) (t : Text) (info : ModuleInfo) → info_at k.graph k.root_symbol t ≡ Some info → untyped_yields k.graph nv t ≡ []
-typed_only k nv t info e = go (node_at k.graph t) e
-  where
-    go : (o : Option Module) → option_and_then (typed_info k.root_symbol t) o ≡ Some info → cond (is_untyped o) (faulty_module nv t untyped_module) [] ≡ []
-    go None e = refl
-    go (Some m) e =
-        ⊎_elim (λ h. ap (λ (b : Bool). cond (not (b || is_external m)) (faulty_module nv t untyped_module) []) h)
-        (λ h. absurd (none_some info (sym (ap (λ (b : Bool). cond b (named_at k.root_symbol t) None) h) ∙ e)))
-        (cases_Bool (is_typed_module m))
-
-module _ (k : Known) (x : Trace) (a b : State) (old new : List Yield) (none : info_at k.graph k.root_symbol x.specifier ≡ None) (same : b ≡ a)
-    (more : new ≡ old ++ untyped_yields k.graph x.nv x.specifier) where
-  abbrev alone : Followed
-  alone = record { trace = x; symbols = [] }
-
-  abbrev given : List Yield
-  given = untyped_yields k.graph x.nv x.specifier
-
-  no_module : module_at k x.specifier ≡ None
-  no_module = ap (option_map (traced_as k)) none
-
-  -- of what the names of the trace have
-  by_names : {Y : Type 0} (f : Demand → List Y) (P : Y → Type 0) → ((d : NameDemand) → Each P (f (of_module x.nv x.specifier d))) → (d : Demand) →
-      HasIn alone d → Each P (f d)
-  by_names f P h (of_package p) i y c = absurd i
-  by_names {Y} f P h (of_module q t d) i y c =
-      h d y (subst (λ (r : Nv). Contains (f (of_module r x.specifier d)) y) (sym i.0) (subst (λ (u : Text). Contains (f (of_module q u d)) y) (sym i.1) c))
-  by_names f P h (of_symbol q t s) i y c = absurd (Contains_none s i.2)
-
-  no_want : (d : Demand) → HasIn alone d → (w : Want) → Contains (world k d) w → ⊥
-  no_want = by_names (world k) (λ w. ⊥) (λ d w c. Contains_none w
-      (subst (λ (ws : List Want). Contains ws w) (ap (each_of (names_wants k x.nv x.specifier d)) no_module) c))
-
-  in_given : (d : Demand) → HasIn alone d → (y : Yield) → Contains (gives k d) y → Contains given y
-  in_given = by_names (gives k) (λ y. Contains given y) (λ d y c. ⊎_elim
-      (λ l. absurd (Contains_none y (subst (λ (ys : List Yield). Contains ys y) (ap (each_of (names_yields k x.nv x.specifier d)) no_module) l)))
-      (λ r. r)
-      (Contains-append_cases (each_of (names_yields k x.nv x.specifier d) (module_at k x.specifier)) given y c))
-
-  a_name : (d : NameDemand) × (asked x.exports d ≡ true)
-  a_name = asked_some x.exports
-
-  pub followed_nowhere : IsFollowed (world k) (gives k) x a b old new
-  followed_nowhere = record {
-    symbols = [];
-    steps = [];
-    given = given;
-    searched = record { reached = λ s c. absurd (Contains_none s c); closed = λ d h p t s c. absurd (no_want d h (to_symbol p t s) c) };
-    wants = record { sound = λ w c. absurd (Contains_none w c); complete = λ d w h c o. absurd (no_want d h w c) };
-    yields = record {
-      sound = λ y c. (
-        of_module x.nv x.specifier a_name.0,
-        (refl, refl, a_name.1),
-        Contains-append_right (each_of (names_yields k x.nv x.specifier a_name.0) (module_at k x.specifier)) given y c,
-      );
-      complete = λ d y h c. in_given d h y c;
-    };
-    asks = same;
-    new_is = more;
-  }
-
-pub entered_at : (k : Known) (nv : Nv) (a b : State) (old new : List Yield) → Enters k.graph nv (entrance_at k nv) a b old new →
-    IsEntered (world k) (gives k) nv a b old new
-entered_at k nv a b old new h = record { steps = h.0; wants = h.1; asks = h.2; new_is = h.3 }
-
-pub followed_at : (k : Known) (x : Trace) (a b : State) (old new : List Yield) → FollowsAt k (info_at k.graph k.root_symbol x.specifier) x a b old new →
-    IsFollowed (world k) (gives k) x a b old new
-followed_at k x a b old new h = go (info_at k.graph k.root_symbol x.specifier) refl h
-  where
-    go : (o : Option ModuleInfo) → info_at k.graph k.root_symbol x.specifier ≡ o → FollowsAt k o x a b old new → IsFollowed (world k) (gives k) x a b old new
-    go None e h = followed_nowhere k x a b old new e h.0 h.1
-    go (Some info) e h =
-        let given_with : List Yield → List Yield = λ ys.
-        recorded x.nv (serialize (specifier_of info))
-        ∷ (map (public x.nv (serialize (specifier_of info))) (h.4 ++ h.2)
-        ++ (map (implementing x.nv (serialize (specifier_of info))) h.3 ++ (ys ++ dependencies x.nv (map want_of h.1)))) in
-        followed_there k x.nv x.specifier (traced_as k info) (ap (option_map (traced_as k)) e) (typed_only k x.nv x.specifier info e) x.exports h.0 h.6
-        (map want_of h.1) h.2 h.3 h.4 (map told h.5) h.7 h.1 a b old new refl h.8
-        (h.9 ∙ ap (λ (ys : List Yield). old ++ given_with ys) (sym (flat_mapped (told_at x.nv (serialize (specifier_of info))) told h.5)))
+use Rattle.fast_check_worklists.proofs.Asks.{map_last}
+use Rattle.fast_check_worklists.specs.State.{trace_of, State, IsFollowed}
+use Rattle.fast_check_worklists.specs.Turn.{waiting_trace, IsTurn}
+use Rattle.fast_check_findings.specs.Yields.{Yield}
+use Rattle.fast_check_turns.specs.steps.Sources.{Known}
+use Rattle.fast_check_turns.specs.Rules.{world}
+use Rattle.fast_check_turns.specs.Yields.{gives}
 
 -- a trace was taken from what waits, and followed
 pub traced_turn : (k : Known) (next : ℕ) (hs : List (Parts × ImportedExports)) (ps : List Nv) (ws us : List (Parts × (PackageNv × ImportedExports)))

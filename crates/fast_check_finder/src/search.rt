@@ -1,9 +1,11 @@
+//! The turns of the finder, until nothing waits.
+
 ghost use Rattle.std.specs.Prelude.{◌≡◌, [], Some, map, OnOk, IfOk, IfErr};
 ghost use Rattle.std.specs.List.{flat_map};
 ghost use Rattle.fast_check_packages.specs.Package.{nv_of};
 ghost use Rattle.fast_check_traced_modules.specs.Traces.{pending};
 ghost use Rattle.fast_check_worklists.specs.Account.{Account, IsAccount, IsYield};
-ghost use Rattle.fast_check_worklists.specs.State.{state_of, trace_of, IsFollowed};
+ghost use Rattle.fast_check_worklists.specs.State.{state_of};
 ghost use Rattle.fast_check_worklists.specs.Turn.{IsTurn};
 ghost use Rattle.fast_check_findings.specs.Findings.{yields_of};
 ghost use Rattle.fast_check_turns.specs.steps.Sources.{known};
@@ -14,7 +16,7 @@ ghost use Rattle.fast_check_finder.specs.Refusals.{IsRefusal, IsRefusedOf, JoinA
 use fast_check_packages::PackageNv;
 use fast_check_provider::{BuildFault, JsrUrlProvider};
 use fast_check_turns::{Finding, Sources, enter, follow};
-use fast_check_worklists::{Asked, PendingTrace, begin, copy_of};
+use fast_check_worklists::{Asked, begin, copy_of};
 use std::alloc::{AllocError, Global};
 
 /// Enters the next package, if there is one, and answers the number of those that were entered.
@@ -40,25 +42,6 @@ fn enter_next(
     Ok(Some(next + 1))
 }
 
-/// Follows a trace that was taken from what waits, and answers the number of packages that were entered, which stays.
-fn follow_next(
-    alloc: Global,
-    sources: Sources<'_>,
-    provider: &dyn JsrUrlProvider,
-    next: usize,
-    trace: PendingTrace,
-    asked: &mut Asked,
-    found: &mut Vec<Finding>,
-) -> Result<Option<usize>, AllocError>
-    ensures followed { let k = known sources.entry (url_of provider.now) (nv_at provider.now) in
-        OnOk result (IsFollowed (world k) (gives k) (trace_of trace) (state_of asked.old) (state_of asked.new)
-        (flat_map yields_of found.old.items) (flat_map yields_of found.new.items)) }
-    ensures next { IfOk result (λ after. after ≡ Some next) }
-{
-    follow(alloc, sources, provider, trace, asked, found)?;
-    Ok(Some(next))
-}
-
 /// Follows what waits last, or enters the next package where nothing waits. Answers the number of packages that were entered, and None where
 /// nothing is left.
 fn turn(
@@ -80,8 +63,8 @@ fn turn(
             Ok(after)
         }
         Some(trace) => {
-            let after = follow_next(alloc, sources, provider, next, trace, asked, found)?;
-            Ok(after)
+            follow(alloc, sources, provider, trace, asked, found)?;
+            Ok(Some(next))
         }
     }
 }

@@ -3,12 +3,12 @@ use Rattle.std.specs.Prelude.{List, [], ◌∷◌, ◌++◌, map, Option, Some, 
 use Rattle.std.specs.List.{flat_map}
 use Rattle.url.specs.Parts.{serialize}
 use Rattle.fast_check_packages.specs.Package.{Nv, nv_of}
-use Rattle.fast_check_diagnostics.specs.declared.diagnostics.FastCheckDiagnostic.{FastCheckDiagnostic}
-use Rattle.fast_check_faults.specs.Reports.{Report, told}
+use Rattle.fast_check_findings.specs.Faults.{PlacedFault, placed_in}
 use Rattle.fast_check_worklists.specs.Demands.{Text}
 use Rattle.fast_check_findings.specs.declared.finding.EntryFault.{EntryFault}
 use Rattle.fast_check_findings.specs.declared.finding.EntryFault.TheVariants.{NotFound, Untyped as UntypedEntry}
 use Rattle.fast_check_findings.specs.declared.finding.EnteredPackage.{EnteredPackage}
+use Rattle.fast_check_findings.specs.declared.finding.FoundModule.{FoundModule}
 use Rattle.fast_check_findings.specs.declared.finding.FollowedModule.{FollowedModule}
 use Rattle.fast_check_findings.specs.declared.finding.Finding.{Finding}
 use Rattle.fast_check_findings.specs.declared.finding.Finding.TheVariants.{Entered, Followed, Untyped}
@@ -29,21 +29,26 @@ entered_yields e =
     ∷ (map (λ url. entry_point (nv_of e.package) (serialize url)) e.entry_points.items
     ++ flat_map (λ f. faulty_module (nv_of e.package) (serialize f.0) (entry_fault f.1)) e.faults.items)
 
-abbrev pub told_at : Nv → Text → Option Report → List Yield
-told_at nv t None = []
-told_at nv t (Some r) = faulty nv t (of_demand r) ∷ []
+-- a fault of a demand
+abbrev pub placed_yield : Nv → Text → PlacedFault → Yield
+placed_yield nv t f = faulty nv t (of_demand f)
 
 -- what is wrong with what was demanded of a module
-abbrev pub diagnostic_yields : Nv → Text → List FastCheckDiagnostic → List Yield
-diagnostic_yields nv t diagnostics = flat_map (λ d. told_at nv t (told d)) diagnostics
+abbrev pub placed_yields : Nv → Text → List PlacedFault → List Yield
+placed_yields nv t found = map (placed_yield nv t) found
+
+-- what is found of a module, for a package, and the packages that it asks for
+abbrev pub module_yields : Nv → Text → FoundModule → List Yield → List Yield
+module_yields nv t found depends =
+    recorded nv t
+    ∷ (map (public nv t) found.ranges.items
+    ++ (map (implementing nv t) found.implementations.items
+    ++ (placed_yields nv t (map placed_in found.faults.items)
+    ++ depends)))
 
 abbrev pub followed_yields : FollowedModule → List Yield
-followed_yields f =
-    recorded (nv_of f.package) (serialize f.specifier)
-    ∷ (map (public (nv_of f.package) (serialize f.specifier)) (f.re_export_ranges.items ++ f.ranges.items)
-    ++ (map (implementing (nv_of f.package) (serialize f.specifier)) f.implementations.items
-    ++ (diagnostic_yields (nv_of f.package) (serialize f.specifier) f.diagnostics.items
-    ++ map (λ p. dependency (nv_of f.package) (nv_of p)) f.dependencies.items)))
+followed_yields f = module_yields (nv_of f.package) (serialize f.specifier) f.found
+    (map (λ p. dependency (nv_of f.package) (nv_of p)) f.dependencies.items)
 
 -- what a finding says
 abbrev pub yields_of : Finding → List Yield

@@ -1,3 +1,4 @@
-pub use Rattle.fast_check_faults.specs as faults
+pub mod Faults
+pub mod Diagnostics
 pub mod Yields
 pub mod Findings

@@ -1,7 +1,7 @@
 -- What a demand gives.
 use Rattle.fast_check_syntax.specs.declared.source.SourceRange.{SourceRange}
 use Rattle.fast_check_packages.specs.Package.{Nv}
-use Rattle.fast_check_faults.specs.Reports.{Report}
+use Rattle.fast_check_findings.specs.Faults.{PlacedFault}
 use Rattle.fast_check_worklists.specs.Demands.{Text}
 
 -- What is wrong with a module: an entry point that the graph does not have, one whose types are not known, another module whose types are not known,
@@ -10,7 +10,7 @@ pub data ModuleFault : Type 0 where
   missing_entry : ModuleFault
   untyped_entry : ModuleFault
   untyped_module : ModuleFault
-  of_demand : Report → ModuleFault
+  of_demand : PlacedFault → ModuleFault
 
 -- A package whose exports are known; an entry point of a package; an export text of a package that cannot be joined to its URL; a package on which
 -- another depends; and by package and module: that the module is recorded, a public range, a public range of an implementation of overloads, and

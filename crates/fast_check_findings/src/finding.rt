@@ -1,6 +1,12 @@
-use fast_check_diagnostics::FastCheckDiagnostic;
+//! What is found in a turn.
+
+ghost use Rattle.std.specs.Prelude.{◌≡◌, ◌++◌, [], OnOk};
+
+use crate::demand_fault::DemandFault;
 use fast_check_packages::PackageNv;
 use fast_check_syntax::SourceRange;
+use std::alloc::{AllocError, Global};
+use std::rc::RcStr;
 use url::Url;
 
 /// What is wrong with an entry point of a package.
@@ -21,19 +27,56 @@ pub struct EnteredPackage {
     pub faults: Vec<(Url, EntryFault)>,
 }
 
+/// What is public of a module, and what is wrong with what was demanded of it. Each may stand here more than once.
+#[derive(Drop)]
+pub struct FoundModule {
+    /// The ranges of declarations, and of re-exports of all.
+    pub ranges: Vec<SourceRange>,
+    /// The ranges of implementations of overloads.
+    pub implementations: Vec<SourceRange>,
+    /// The faults, each with the source text of the module.
+    pub faults: Vec<(DemandFault, RcStr)>,
+}
+
+impl FoundModule {
+    /// Nothing. It takes no memory.
+    pub fn new(alloc: Global) -> FoundModule
+        ensures ranges { result.ranges.items ≡ [] }
+        ensures implementations { result.implementations.items ≡ [] }
+        ensures faults { result.faults.items ≡ [] }
+    {
+        FoundModule {
+            ranges: Vec::new(alloc),
+            implementations: Vec::new(alloc),
+            faults: Vec::new(alloc),
+        }
+    }
+
+    /// Adds what was found in another turn.
+    pub fn append(&mut self, found: FoundModule) -> Result<(), AllocError>
+        ensures ranges { OnOk result (self.new.ranges.items ≡ self.old.ranges.items ++ found.ranges.items) }
+        ensures implementations { OnOk result (self.new.implementations.items ≡ self.old.implementations.items ++ found.implementations.items) }
+        ensures faults { OnOk result (self.new.faults.items ≡ self.old.faults.items ++ found.faults.items) }
+    {
+        let FoundModule {
+            mut ranges,
+            mut implementations,
+            mut faults,
+        } = found;
+        self.ranges.append(&mut ranges)?;
+        self.implementations.append(&mut implementations)?;
+        self.faults.append(&mut faults)?;
+        Ok(())
+    }
+}
+
 /// A module of which names were followed, for a package.
 #[derive(Drop)]
 pub struct FollowedModule {
     pub package: PackageNv,
     /// The module's own name.
     pub specifier: Url,
-    pub ranges: Vec<SourceRange>,
-    /// The ranges of public implementations of overloads.
-    pub implementations: Vec<SourceRange>,
-    /// The ranges of public re-exports of all.
-    pub re_export_ranges: Vec<SourceRange>,
-    /// What is wrong with what was demanded.
-    pub diagnostics: Vec<FastCheckDiagnostic>,
+    pub found: FoundModule,
     /// The packages that the module asks for.
     pub dependencies: Vec<PackageNv>,
 }

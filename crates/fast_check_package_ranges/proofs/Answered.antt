@@ -9,28 +9,28 @@ use Rattle.fast_check_packages.specs.Package.{Nv, nv_of}
 use Rattle.fast_check_packages.specs.declared.package.PackageNv.{PackageNv}
 use Rattle.fast_check_diagnostics.specs.PublicRanges.{PublicRanges}
 use Rattle.fast_check_cache.specs.declared.package_ranges.PackagePublicRanges.{PackagePublicRanges}
-use Rattle.fast_check_findings.specs.faults.Reports.{Report, told}
+use Rattle.fast_check_findings.specs.Faults.{PlacedFault, placed_in}
 use Rattle.fast_check_worklists.specs.Demands.{same_nv}
 use Rattle.fast_check_findings.specs.declared.finding.EnteredPackage.{EnteredPackage}
 use Rattle.fast_check_findings.specs.declared.finding.FollowedModule.{FollowedModule}
 use Rattle.fast_check_findings.specs.declared.finding.Finding.{Finding}
 use Rattle.fast_check_findings.specs.declared.finding.Finding.TheVariants.{Entered, Followed, Untyped}
-use Rattle.fast_check_findings.specs.Yields.{ModuleFault, untyped_module, of_demand}
+use Rattle.fast_check_findings.specs.Yields.{ModuleFault, untyped_module}
 use Rattle.fast_check_findings.specs.Yields.{Yield, known_package, entry_point, dependency, recorded, public, implementing, faulty}
-use Rattle.fast_check_findings.specs.Findings.{entry_fault, faulty_module, entered_yields, told_at, diagnostic_yields, followed_yields, yields_of}
-use Rattle.fast_check_package_ranges.specs.declared.parts.ModuleParts.{ModuleParts}
-use Rattle.fast_check_package_ranges.specs.declared.parts.PackageParts.{PackageParts}
+use Rattle.fast_check_findings.specs.Findings.{entry_fault, faulty_module, entered_yields, placed_yield, placed_yields, followed_yields, yields_of}
+use Rattle.fast_check_package_ranges.specs.declared.parts.JoinedModule.{JoinedModule}
+use Rattle.fast_check_package_ranges.specs.declared.parts.JoinedPackage.{JoinedPackage}
 use Rattle.fast_check_package_ranges.specs.Questions.{ModuleQuestion, whether_recorded, whether_public, whether_implementing}
-use Rattle.fast_check_package_ranges.specs.Questions.{whether_missing, whether_untyped_entry, whether_untyped, whether_told, whether_otherwise_faulty}
+use Rattle.fast_check_package_ranges.specs.Questions.{whether_missing, whether_untyped_entry, whether_untyped, whether_faulty, whether_otherwise_faulty}
 use Rattle.fast_check_package_ranges.specs.Questions.{Question, whether_known, whether_entry_point, whether_dependency, whether_refused, about}
 use Rattle.fast_check_package_ranges.specs.Questions.{package_of, yield_says, yields_say, is_said, IsTextless, IsTextlessAbout}
-use Rattle.fast_check_told_faults.specs.Once.{where_found}
+use Rattle.fast_check_findings.specs.Diagnostics.{where_found}
 use Rattle.fast_check_package_ranges.specs.Parts.{module_says, package_says, packages_say, lookup_text, lookup_package}
 use Rattle.fast_check_package_ranges.specs.Parts.{package_found, findings_say}
 use Rattle.fast_check_package_ranges.specs.Answers.{module_answer, package_answer, answer, AreAnswers}
 use Rattle.fast_check_package_ranges.specs.Made.{module_is_said, AreModuleAnswers, IsPackageAnswer, ArePackageAnswers}
-use Rattle.fast_check_told_faults.proofs.Bools.{or_none, and_or, and_none}
-use Rattle.fast_check_told_faults.proofs.Lists.{any_map, any_flat, any_alike, any_and}
+use Rattle.fast_check_findings.proofs.Bools.{or_none, and_or, and_none}
+use Rattle.fast_check_findings.proofs.Lists.{any_map, any_flat, any_alike, any_and}
 use Rattle.fast_check_package_ranges.proofs.Only.{only, once, uncached}
 
 -- all these yields are of one package
@@ -70,22 +70,18 @@ own_entered nv e = own_both nv (nv_of e.package) (known_package (nv_of e.package
     (own_flat nv (nv_of e.package) (λ f. faulty_module (nv_of e.package) (serialize f.0) (entry_fault f.1))
     (λ f. own_faulty nv (nv_of e.package) (serialize f.0) (entry_fault f.1)) e.faults.items))
 
-own_told : (nv n : Nv) (t : List ℕ) (o : Option Report) → Owned nv n (told_at n t o)
-own_told nv n t None = own_none nv n
-own_told nv n t (Some r) = own_one nv (faulty n t (of_demand r))
-
 own_followed : (nv : Nv) (f : FollowedModule) → Owned nv (nv_of f.package) (followed_yields f)
 own_followed nv f =
     let n = nv_of f.package in
     let t = serialize f.specifier in
-    let publics = map (public n t) (f.re_export_ranges.items ++ f.ranges.items) in
-    let others = map (implementing n t) f.implementations.items in
-    let faults = diagnostic_yields n t f.diagnostics.items in
+    let publics = map (public n t) f.found.ranges.items in
+    let others = map (implementing n t) f.found.implementations.items in
+    let faults = placed_yields n t (map placed_in f.found.faults.items) in
     let asked = map (λ p. dependency n (nv_of p)) f.dependencies.items in
     own_both nv n (recorded n t ∷ []) (publics ++ (others ++ (faults ++ asked))) (own_one nv (recorded n t))
-    (own_both nv n publics (others ++ (faults ++ asked)) (own_map nv n (public n t) (λ r. refl) (f.re_export_ranges.items ++ f.ranges.items))
-    (own_both nv n others (faults ++ asked) (own_map nv n (implementing n t) (λ r. refl) f.implementations.items)
-    (own_both nv n faults asked (own_flat nv n (λ d. told_at n t (told d)) (λ d. own_told nv n t (told d)) f.diagnostics.items)
+    (own_both nv n publics (others ++ (faults ++ asked)) (own_map nv n (public n t) (λ r. refl) f.found.ranges.items)
+    (own_both nv n others (faults ++ asked) (own_map nv n (implementing n t) (λ r. refl) f.found.implementations.items)
+    (own_both nv n faults asked (own_map nv n (placed_yield n t) (λ x. refl) (map placed_in f.found.faults.items))
     (own_map nv n (λ p. dependency n (nv_of p)) (λ p. refl) f.dependencies.items))))
 
 own_finding : (nv : Nv) (f : Finding) → Owned nv (package_found f) (yields_of f)
@@ -101,26 +97,26 @@ all_yields found nv q = sym (any_flat (λ y. same_nv nv (package_of y) && yield_
     (λ f. same_nv nv (package_found f) && list_any (λ y. yield_says y q) (yields_of f)) (λ f. own_finding nv f (λ y. yield_says y q)) found)
 
 -- the answer about a module, by what is known of it
-module_one : (t : List ℕ) (q : ModuleQuestion) → IsTextlessAbout q → (parts : Option ModuleParts) (m : Option PublicRanges) → AreModuleAnswers t parts m →
+module_one : (t : List ℕ) (q : ModuleQuestion) → IsTextlessAbout q → (parts : Option JoinedModule) (m : Option PublicRanges) → AreModuleAnswers t parts m →
     where_found (module_answer t q) m ≡ where_found (λ p. module_is_said p q) parts
 module_one t q fair None None h = refl
 module_one t q fair None (Some m) h = absurd h
 module_one t q fair (Some p) None h = absurd h
 module_one t q fair (Some p) (Some m) h = h.said q fair
 
-exact_one : (t : List ℕ) (test : Report → Bool) (parts : Option ModuleParts) (m : Option PublicRanges) → AreModuleAnswers t parts m →
-    where_found (module_answer t (whether_told test)) m ≡ true → where_found (λ p. module_says p (whether_told test)) parts ≡ true
+exact_one : (t : List ℕ) (test : PlacedFault → Bool) (parts : Option JoinedModule) (m : Option PublicRanges) → AreModuleAnswers t parts m →
+    where_found (module_answer t (whether_faulty test)) m ≡ true → where_found (λ p. module_says p (whether_faulty test)) parts ≡ true
 exact_one t test None None h e = e
 exact_one t test None (Some m) h e = absurd h
 exact_one t test (Some p) None h e = absurd h
 exact_one t test (Some p) (Some m) h e = h.exact test e
 
 -- what is to be said of a package
-abbrev package_is_said : PackageParts → Question → Bool
+abbrev package_is_said : JoinedPackage → Question → Bool
 package_is_said p (about t q) = where_found (λ m. module_is_said m q) (lookup_text t p.modules.entries)
 package_is_said p q = package_says p q
 
-package_one : (q : Question) → IsTextless q → (parts : PackageParts) (p : PackagePublicRanges) → IsPackageAnswer parts p →
+package_one : (q : Question) → IsTextless q → (parts : JoinedPackage) (p : PackagePublicRanges) → IsPackageAnswer parts p →
     package_answer q p ≡ package_is_said parts q
 package_one whether_known fair parts p h = refl
 package_one (whether_entry_point t) fair parts p h = h.entry_points t
@@ -128,32 +124,32 @@ package_one (whether_dependency nv) fair parts p h = h.dependencies nv
 package_one (whether_refused t) fair parts p h = refl
 package_one (about t q) fair parts p h = module_one t q fair (lookup_text t parts.modules.entries) (lookup_text t p.module_ranges.entries) (h.modules t)
 
-packages_one : (q : Question) → IsTextless q → (parts : Option PackageParts) (p : Option PackagePublicRanges) → ArePackageAnswers parts p →
+packages_one : (q : Question) → IsTextless q → (parts : Option JoinedPackage) (p : Option PackagePublicRanges) → ArePackageAnswers parts p →
     where_found (package_answer q) p ≡ where_found (λ x. package_is_said x q) parts
 packages_one q fair None None h = refl
 packages_one q fair None (Some p) h = absurd h
 packages_one q fair (Some x) None h = absurd h
 packages_one q fair (Some x) (Some p) h = package_one q fair x p h
 
-packages_exact : (t : List ℕ) (test : Report → Bool) (parts : Option PackageParts) (p : Option PackagePublicRanges) → ArePackageAnswers parts p →
-    where_found (package_answer (about t (whether_told test))) p ≡ true → where_found (λ x. package_says x (about t (whether_told test))) parts ≡ true
+packages_exact : (t : List ℕ) (test : PlacedFault → Bool) (parts : Option JoinedPackage) (p : Option PackagePublicRanges) → ArePackageAnswers parts p →
+    where_found (package_answer (about t (whether_faulty test))) p ≡ true → where_found (λ x. package_says x (about t (whether_faulty test))) parts ≡ true
 packages_exact t test None None h e = e
 packages_exact t test None (Some p) h e = absurd h
 packages_exact t test (Some x) None h e = absurd h
 packages_exact t test (Some x) (Some p) h e = exact_one t test (lookup_text t x.modules.entries) (lookup_text t p.module_ranges.entries) (h.modules t) e
 
 -- that types are not known, where nothing else is wrong
-hidden_module : (o : Option ModuleParts) → where_found (λ m. module_is_said m whether_untyped) o
+hidden_module : (o : Option JoinedModule) → where_found (λ m. module_is_said m whether_untyped) o
     ≡ (where_found (λ m. module_says m whether_untyped) o && not (where_found (λ m. module_says m whether_otherwise_faulty) o))
 hidden_module None = refl
 hidden_module (Some m) = refl
 
-hidden : (t : List ℕ) (o : Option PackageParts) → where_found (λ x. package_is_said x (about t whether_untyped)) o
+hidden : (t : List ℕ) (o : Option JoinedPackage) → where_found (λ x. package_is_said x (about t whether_untyped)) o
     ≡ (where_found (λ x. package_says x (about t whether_untyped)) o && not (where_found (λ x. package_says x (about t whether_otherwise_faulty)) o))
 hidden t None = refl
 hidden t (Some p) = hidden_module (lookup_text t p.modules.entries)
 
-module _ (found : List Finding) (packages : List (PackageNv × PackageParts)) (answers : BTreeMap PackageNv PackagePublicRanges)
+module _ (found : List Finding) (packages : List (PackageNv × JoinedPackage)) (answers : BTreeMap PackageNv PackagePublicRanges)
     (joined : (nv : Nv) (q : Question) → packages_say packages nv q ≡ findings_say found nv q)
     (made : (nv : Nv) → ArePackageAnswers (lookup_package nv packages) (lookup_package nv answers.entries)) where
   first : (nv : Nv) (q : Question) → IsTextless q → answer answers nv q ≡ where_found (λ x. package_is_said x q) (lookup_package nv packages)
@@ -175,12 +171,12 @@ module _ (found : List Finding) (packages : List (PackageNv × PackageParts)) (a
   said nv (about t (whether_implementing r)) fair = first nv (about t (whether_implementing r)) fair ∙ says_so nv (about t (whether_implementing r))
   said nv (about t whether_missing) fair = first nv (about t whether_missing) fair ∙ says_so nv (about t whether_missing)
   said nv (about t whether_untyped_entry) fair = first nv (about t whether_untyped_entry) fair ∙ says_so nv (about t whether_untyped_entry)
-  said nv (about t (whether_told test)) fair = first nv (about t (whether_told test)) fair ∙ says_so nv (about t (whether_told test))
+  said nv (about t (whether_faulty test)) fair = first nv (about t (whether_faulty test)) fair ∙ says_so nv (about t (whether_faulty test))
   said nv (about t whether_otherwise_faulty) fair = first nv (about t whether_otherwise_faulty) fair ∙ says_so nv (about t whether_otherwise_faulty)
 
-  exact : (nv : Nv) (t : List ℕ) (test : Report → Bool) → answer answers nv (about t (whether_told test)) ≡ true →
-      is_said (flat_map yields_of found) nv (about t (whether_told test)) ≡ true
-  exact nv t test e = sym (says_so nv (about t (whether_told test))) ∙
+  exact : (nv : Nv) (t : List ℕ) (test : PlacedFault → Bool) → answer answers nv (about t (whether_faulty test)) ≡ true →
+      is_said (flat_map yields_of found) nv (about t (whether_faulty test)) ≡ true
+  exact nv t test e = sym (says_so nv (about t (whether_faulty test))) ∙
       packages_exact t test (lookup_package nv packages) (lookup_package nv answers.entries) (made nv) e
 
   pub are_answers : AreAnswers (flat_map yields_of found) answers

@@ -8,27 +8,27 @@ use Rattle.fast_check_syntax.specs.declared.source.SourceRange.{SourceRange}
 use Rattle.fast_check_packages.specs.Package.{Nv, nv_of}
 use Rattle.fast_check_packages.specs.declared.package.PackageNv.{PackageNv}
 use Rattle.fast_check_diagnostics.specs.PublicRanges.{same_range}
-use Rattle.fast_check_diagnostics.specs.declared.diagnostics.FastCheckDiagnostic.{FastCheckDiagnostic}
-use Rattle.fast_check_findings.specs.faults.Reports.{Report, told}
+use Rattle.fast_check_findings.specs.Faults.{PlacedFault, placed_in}
 use Rattle.fast_check_findings.specs.declared.finding.EntryFault.{EntryFault}
 use Rattle.fast_check_findings.specs.declared.finding.EnteredPackage.{EnteredPackage}
 use Rattle.fast_check_findings.specs.declared.finding.FollowedModule.{FollowedModule}
+use Rattle.fast_check_findings.specs.declared.finding.FoundModule.{FoundModule}
 use Rattle.fast_check_findings.specs.declared.finding.UntypedModule.{UntypedModule}
 use Rattle.fast_check_findings.specs.declared.finding.Finding.TheVariants.{Entered, Followed, Untyped}
 use Rattle.fast_check_findings.specs.Yields.{ModuleFault, untyped_module, of_demand}
 use Rattle.fast_check_findings.specs.Yields.{Yield, entry_point, dependency, public, implementing}
-use Rattle.fast_check_findings.specs.Findings.{entry_fault, faulty_module, entered_yields, told_at, diagnostic_yields, followed_yields}
-use Rattle.fast_check_package_ranges.specs.declared.parts.ModuleParts.{ModuleParts}
+use Rattle.fast_check_findings.specs.Findings.{entry_fault, faulty_module, entered_yields, placed_yield, placed_yields, followed_yields}
+use Rattle.fast_check_package_ranges.specs.declared.parts.JoinedModule.{JoinedModule}
 use Rattle.fast_check_package_ranges.specs.declared.parts.FoundPackage.{FoundPackage}
 use Rattle.fast_check_package_ranges.specs.Questions.{ModuleQuestion, whether_recorded, whether_public, whether_implementing}
-use Rattle.fast_check_package_ranges.specs.Questions.{whether_missing, whether_untyped_entry, whether_untyped, whether_told, whether_otherwise_faulty}
+use Rattle.fast_check_package_ranges.specs.Questions.{whether_missing, whether_untyped_entry, whether_untyped, whether_faulty, whether_otherwise_faulty}
 use Rattle.fast_check_package_ranges.specs.Questions.{Question, whether_known, whether_entry_point, whether_dependency, whether_refused, about}
 use Rattle.fast_check_package_ranges.specs.Questions.{fault_says, is_recorded, range_says, implementation_says}
 use Rattle.fast_check_package_ranges.specs.Questions.{asks_known, asks_entry_point, asks_dependency, asks_module, yield_says}
-use Rattle.fast_check_told_faults.specs.Once.{any_report, tells, where_found}
+use Rattle.fast_check_findings.specs.Diagnostics.{any_fault, passes}
 use Rattle.fast_check_package_ranges.specs.Parts.{is_text, is_package, module_says, found_module_says, found_says, finding_says}
-use Rattle.fast_check_told_faults.proofs.Bools.{or_none, and_or}
-use Rattle.fast_check_told_faults.proofs.Lists.{any_map, any_flat, any_alike, any_false, any_none, found_none}
+use Rattle.fast_check_findings.proofs.Bools.{or_none, and_or}
+use Rattle.fast_check_findings.proofs.Lists.{any_map, any_flat, any_alike, any_false, any_none}
 
 abbrev says : Question → Yield → Bool
 says q y = yield_says y q
@@ -75,17 +75,17 @@ entered_found e found p d h (about t m) = h t m ∙ sym (entered_says e (about t
     ap (λ b. b || faults_say (about t m) e.faults.items) (any_false e.entry_points.items))
 
 -- what is found of one module
-pub record IsOne (found : FoundPackage) (specifier : Parts) (parts : ModuleParts) (dependencies : List PackageNv) : Type 0 where
+pub record IsOne (found : FoundPackage) (specifier : Parts) (parts : JoinedModule) (dependencies : List PackageNv) : Type 0 where
   pub entry_points : found.entry_points.items ≡ []
   pub modules : found.modules.items ≡ (specifier, parts) ∷ []
   pub dependencies_are : found.dependencies.items ≡ dependencies
 
-one_about : (found : FoundPackage) (specifier : Parts) (parts : ModuleParts) (dependencies : List PackageNv) → IsOne found specifier parts dependencies →
+one_about : (found : FoundPackage) (specifier : Parts) (parts : JoinedModule) (dependencies : List PackageNv) → IsOne found specifier parts dependencies →
     (t : List ℕ) (m : ModuleQuestion) → found_says found (about t m) ≡ (bytes_eq t (serialize specifier) && module_says parts m)
 one_about found specifier parts dependencies h t m = ap (list_any (found_module_says t m)) h.modules ∙
     or_none (bytes_eq t (serialize specifier) && module_says parts m)
 
-pub untyped_found : (u : UntypedModule) (found : FoundPackage) (parts : ModuleParts) → IsOne found u.specifier parts [] →
+pub untyped_found : (u : UntypedModule) (found : FoundPackage) (parts : JoinedModule) → IsOne found u.specifier parts [] →
     ((m : ModuleQuestion) → module_says parts m ≡ (is_recorded m || fault_says untyped_module m)) →
     (q : Question) → found_says found q ≡ finding_says (Untyped u) q
 untyped_found u found parts h p whether_known = refl
@@ -95,131 +95,120 @@ untyped_found u found parts h p (whether_refused t) = refl
 untyped_found u found parts h p (about t m) = one_about found u.specifier parts [] h t m ∙
     (ap (λ b. bytes_eq t (serialize u.specifier) && b) (p m) ∙ sym (faulty_says (nv_of u.package) (serialize u.specifier) untyped_module (about t m)))
 
--- what the diagnostics of a module say
-abbrev diagnostic_says : List ℕ → Question → FastCheckDiagnostic → Bool
-diagnostic_says t q d = where_found (λ r. asks_module t (fault_says (of_demand r)) q) (told d)
-
-told_says : (nv : Nv) (t : List ℕ) (q : Question) (o : Option Report) →
-    list_any (says q) (told_at nv t o) ≡ where_found (λ r. asks_module t (fault_says (of_demand r)) q) o
-told_says nv t q None = refl
-told_says nv t q (Some r) = or_none (asks_module t (fault_says (of_demand r)) q)
-
-diagnostics_say : (nv : Nv) (t : List ℕ) (q : Question) (ds : List FastCheckDiagnostic) →
-    list_any (says q) (diagnostic_yields nv t ds) ≡ list_any (diagnostic_says t q) ds
-diagnostics_say nv t q ds = any_flat (says q) (λ d. told_at nv t (told d)) ds ∙
-    any_alike (λ d. list_any (says q) (told_at nv t (told d))) (diagnostic_says t q) (λ d. told_says nv t q (told d)) ds
+-- what a fault of a demand says
+abbrev placed_says : List ℕ → Question → PlacedFault → Bool
+placed_says t q f = asks_module t (fault_says (of_demand f)) q
 
 four : (a a' b b' c c' d d' : Bool) → a ≡ a' → b ≡ b' → c ≡ c' → d ≡ d' → (a || (b || (c || d))) ≡ (a' || (b' || (c' || d')))
 four a a' b b' c c' d d' e f g h = cc
 
 -- what a module that was followed says, piece by piece
-abbrev pieces : List ℕ → Question → List SourceRange → List SourceRange → List FastCheckDiagnostic → List PackageNv → Bool
+abbrev pieces : List ℕ → Question → List SourceRange → List SourceRange → List PlacedFault → List PackageNv → Bool
 pieces t q ranges implementations ds dependencies = asks_module t is_recorded q
     || (list_any (λ r. asks_module t (range_says r) q) ranges
     || (list_any (λ r. asks_module t (implementation_says r) q) implementations
-    || (list_any (diagnostic_says t q) ds || list_any (λ p. asks_dependency (nv_of p) q) dependencies)))
+    || (list_any (placed_says t q) ds || list_any (λ p. asks_dependency (nv_of p) q) dependencies)))
 
 followed_pieces : (f : FollowedModule) (q : Question) → list_any (says q) (followed_yields f)
-    ≡ pieces (serialize f.specifier) q (f.re_export_ranges.items ++ f.ranges.items) f.implementations.items f.diagnostics.items f.dependencies.items
+    ≡ pieces (serialize f.specifier) q f.found.ranges.items f.found.implementations.items (map placed_in f.found.faults.items) f.dependencies.items
 followed_pieces f q =
     let nv = nv_of f.package in
     let t = serialize f.specifier in
-    let publics = map (public nv t) (f.re_export_ranges.items ++ f.ranges.items) in
-    let others = map (implementing nv t) f.implementations.items in
-    let faults = diagnostic_yields nv t f.diagnostics.items in
+    let publics = map (public nv t) f.found.ranges.items in
+    let others = map (implementing nv t) f.found.implementations.items in
+    let faults = placed_yields nv t (map placed_in f.found.faults.items) in
     let asked = map (λ p. dependency nv (nv_of p)) f.dependencies.items in
     ap (λ b. asks_module t is_recorded q || b)
     (list_any-append (says q) publics (others ++ (faults ++ asked)) ∙
     (ap (λ b. list_any (says q) publics || b) (list_any-append (says q) others (faults ++ asked) ∙
     ap (λ b. list_any (says q) others || b) (list_any-append (says q) faults asked)) ∙
     four _ _ _ _ _ _ _ _
-    (any_map (says q) (public nv t) (f.re_export_ranges.items ++ f.ranges.items))
-    (any_map (says q) (implementing nv t) f.implementations.items)
-    (diagnostics_say nv t q f.diagnostics.items)
+    (any_map (says q) (public nv t) f.found.ranges.items)
+    (any_map (says q) (implementing nv t) f.found.implementations.items)
+    (any_map (says q) (placed_yield nv t) (map placed_in f.found.faults.items))
     (any_map (says q) (λ p. dependency nv (nv_of p)) f.dependencies.items)))
 
 -- none of these pieces is asked for
-none_of : (t : List ℕ) (q : Question) (ranges implementations : List SourceRange) (ds : List FastCheckDiagnostic) (dependencies : List PackageNv) →
+none_of : (t : List ℕ) (q : Question) (ranges implementations : List SourceRange) (ds : List PlacedFault) (dependencies : List PackageNv) →
     ((s : ModuleQuestion → Bool) → asks_module t s q ≡ false) →
     pieces t q ranges implementations ds dependencies ≡ list_any (λ p. asks_dependency (nv_of p) q) dependencies
 none_of t q ranges implementations ds dependencies h =
     ap (λ b. b || (list_any (λ r. asks_module t (range_says r) q) ranges || (list_any (λ r. asks_module t (implementation_says r) q) implementations
-    || (list_any (diagnostic_says t q) ds || list_any (λ p. asks_dependency (nv_of p) q) dependencies)))) (h is_recorded) ∙
+    || (list_any (placed_says t q) ds || list_any (λ p. asks_dependency (nv_of p) q) dependencies)))) (h is_recorded) ∙
     four _ false _ false _ false _ _
     (any_none (λ r. asks_module t (range_says r) q) (λ r. h (range_says r)) ranges)
     (any_none (λ r. asks_module t (implementation_says r) q) (λ r. h (implementation_says r)) implementations)
-    (any_none (diagnostic_says t q) (λ d. found_none (λ r. asks_module t (fault_says (of_demand r)) q) (λ r. h (fault_says (of_demand r))) (told d)) ds)
+    (any_none (placed_says t q) (λ r. h (fault_says (of_demand r))) ds)
     refl
 
 -- the pieces that speak of the module itself
-abbrev here : ModuleQuestion → List SourceRange → List SourceRange → List FastCheckDiagnostic → List PackageNv → Bool
+abbrev here : ModuleQuestion → List SourceRange → List SourceRange → List PlacedFault → List PackageNv → Bool
 here m ranges implementations ds dependencies = is_recorded m
     || (list_any (λ r. range_says r m) ranges || (list_any (λ r. implementation_says r m) implementations
-    || (list_any (λ d. where_found (λ r. fault_says (of_demand r) m) (told d)) ds || list_any (λ (p : PackageNv). false) dependencies)))
+    || (list_any (λ r. fault_says (of_demand r) m) ds || list_any (λ (p : PackageNv). false) dependencies)))
 
-pub record IsFollowed (f : FollowedModule) (parts : ModuleParts) : Type 0 where
-  pub ranges : parts.ranges.items ≡ f.re_export_ranges.items ++ f.ranges.items
-  pub implementations : parts.implementations.items ≡ f.implementations.items
-  pub diagnostics : parts.diagnostics.items ≡ f.diagnostics.items
+pub record IsFollowed (f : FollowedModule) (parts : JoinedModule) : Type 0 where
+  pub found : parts.found ≡ f.found
   pub missing : parts.is_missing ≡ false
   pub untyped_entry : parts.is_untyped_entry ≡ false
   pub untyped : parts.is_untyped ≡ false
 
-none_told : (ds : List FastCheckDiagnostic) → list_any (λ d. where_found (λ (r : Report). false) (told d)) ds ≡ false
-none_told ds = any_none (λ d. where_found (λ (r : Report). false) (told d)) (λ d. found_none (λ r. false) (λ r. refl) (told d)) ds
-
-all_false : (rs is : List SourceRange) (ds : List FastCheckDiagnostic) (ps : List PackageNv) →
+all_false : (rs is : List SourceRange) (ds : List PlacedFault) (ps : List PackageNv) →
     (list_any (λ (r : SourceRange). false) rs || (list_any (λ (r : SourceRange). false) is
-    || (list_any (λ d. where_found (λ (r : Report). false) (told d)) ds || list_any (λ (p : PackageNv). false) ps))) ≡ false
-all_false rs is ds ps = four _ false _ false _ false _ false (any_false rs) (any_false is) (none_told ds) (any_false ps)
+    || (list_any (λ (r : PlacedFault). false) ds || list_any (λ (p : PackageNv). false) ps))) ≡ false
+all_false rs is ds ps = four _ false _ false _ false _ false (any_false rs) (any_false is) (any_false ds) (any_false ps)
+
+-- its faults, among the pieces
+faults_here : (f : FollowedModule) (test : PlacedFault → Bool) → list_any (passes test) f.found.faults.items
+    ≡ (list_any (λ (r : SourceRange). false) f.found.ranges.items || (list_any (λ (r : SourceRange). false) f.found.implementations.items
+    || (list_any test (map placed_in f.found.faults.items) || list_any (λ (p : PackageNv). false) f.dependencies.items)))
+faults_here f test = sym (four _ false _ false _ (list_any (passes test) f.found.faults.items) _ false (any_false f.found.ranges.items)
+    (any_false f.found.implementations.items) (any_map test placed_in f.found.faults.items) (any_false f.dependencies.items) ∙
+    or_none (list_any (passes test) f.found.faults.items))
 
 -- the parts of a module that was followed say what its pieces say
-parts_here : (f : FollowedModule) (parts : ModuleParts) → IsFollowed f parts → (m : ModuleQuestion) →
-    module_says parts m ≡ here m (f.re_export_ranges.items ++ f.ranges.items) f.implementations.items f.diagnostics.items f.dependencies.items
+parts_here : (f : FollowedModule) (parts : JoinedModule) → IsFollowed f parts → (m : ModuleQuestion) →
+    module_says parts m ≡ here m f.found.ranges.items f.found.implementations.items (map placed_in f.found.faults.items) f.dependencies.items
 parts_here f parts h whether_recorded = refl
-parts_here f parts h (whether_public r) = ap (list_any (same_range r)) h.ranges ∙ sym
-    (four _ (list_any (same_range r) (f.re_export_ranges.items ++ f.ranges.items)) _ false _ false _ false refl (any_false f.implementations.items)
-    (none_told f.diagnostics.items) (any_false f.dependencies.items) ∙ or_none (list_any (same_range r) (f.re_export_ranges.items ++ f.ranges.items)))
-parts_here f parts h (whether_implementing r) = ap (list_any (same_range r)) h.implementations ∙ sym
-    (four _ false _ (list_any (same_range r) f.implementations.items) _ false _ false (any_false (f.re_export_ranges.items ++ f.ranges.items)) refl
-    (none_told f.diagnostics.items) (any_false f.dependencies.items) ∙ or_none (list_any (same_range r) f.implementations.items))
+parts_here f parts h (whether_public r) = ap (λ (x : FoundModule). list_any (same_range r) x.ranges.items) h.found ∙ sym
+    (four _ (list_any (same_range r) f.found.ranges.items) _ false _ false _ false refl (any_false f.found.implementations.items)
+    (any_false (map placed_in f.found.faults.items)) (any_false f.dependencies.items) ∙ or_none (list_any (same_range r) f.found.ranges.items))
+parts_here f parts h (whether_implementing r) = ap (λ (x : FoundModule). list_any (same_range r) x.implementations.items) h.found ∙ sym
+    (four _ false _ (list_any (same_range r) f.found.implementations.items) _ false _ false (any_false f.found.ranges.items) refl
+    (any_false (map placed_in f.found.faults.items)) (any_false f.dependencies.items) ∙ or_none (list_any (same_range r) f.found.implementations.items))
 parts_here f parts h whether_missing =
-    h.missing ∙ sym (all_false (f.re_export_ranges.items ++ f.ranges.items) f.implementations.items f.diagnostics.items f.dependencies.items)
+    h.missing ∙ sym (all_false f.found.ranges.items f.found.implementations.items (map placed_in f.found.faults.items) f.dependencies.items)
 parts_here f parts h whether_untyped_entry =
-    h.untyped_entry ∙ sym (all_false (f.re_export_ranges.items ++ f.ranges.items) f.implementations.items f.diagnostics.items f.dependencies.items)
+    h.untyped_entry ∙ sym (all_false f.found.ranges.items f.found.implementations.items (map placed_in f.found.faults.items) f.dependencies.items)
 parts_here f parts h whether_untyped =
-    h.untyped ∙ sym (all_false (f.re_export_ranges.items ++ f.ranges.items) f.implementations.items f.diagnostics.items f.dependencies.items)
-parts_here f parts h (whether_told test) = ap (list_any (tells test)) h.diagnostics ∙ sym
-    (four _ false _ false _ (list_any (tells test) f.diagnostics.items) _ false (any_false (f.re_export_ranges.items ++ f.ranges.items))
-    (any_false f.implementations.items) refl (any_false f.dependencies.items) ∙ or_none (list_any (tells test) f.diagnostics.items))
+    h.untyped ∙ sym (all_false f.found.ranges.items f.found.implementations.items (map placed_in f.found.faults.items) f.dependencies.items)
+parts_here f parts h (whether_faulty test) = ap (λ (x : FoundModule). list_any (passes test) x.faults.items) h.found ∙ faults_here f test
 parts_here f parts h whether_otherwise_faulty =
-    ap (λ b. b || (parts.is_untyped_entry || list_any (tells any_report) parts.diagnostics.items)) h.missing ∙
-    (ap (λ b. b || list_any (tells any_report) parts.diagnostics.items) h.untyped_entry ∙
-    (ap (list_any (tells any_report)) h.diagnostics ∙ sym
-    (four _ false _ false _ (list_any (tells any_report) f.diagnostics.items) _ false (any_false (f.re_export_ranges.items ++ f.ranges.items))
-    (any_false f.implementations.items) refl (any_false f.dependencies.items) ∙ or_none (list_any (tells any_report) f.diagnostics.items))))
+    ap (λ b. b || (parts.is_untyped_entry || list_any (passes any_fault) parts.found.faults.items)) h.missing ∙
+    (ap (λ b. b || list_any (passes any_fault) parts.found.faults.items) h.untyped_entry ∙
+    (ap (λ (x : FoundModule). list_any (passes any_fault) x.faults.items) h.found ∙ faults_here f any_fault))
 
 -- the pieces about a module are those of the module itself, if it is the one
-pieces_about : (b : Bool) (m : ModuleQuestion) (ranges implementations : List SourceRange) (ds : List FastCheckDiagnostic) (dependencies : List PackageNv) →
+pieces_about : (b : Bool) (m : ModuleQuestion) (ranges implementations : List SourceRange) (ds : List PlacedFault) (dependencies : List PackageNv) →
     ((b && is_recorded m) || (list_any (λ r. b && range_says r m) ranges || (list_any (λ r. b && implementation_says r m) implementations
-    || (list_any (λ d. where_found (λ r. b && fault_says (of_demand r) m) (told d)) ds || list_any (λ (p : PackageNv). false) dependencies))))
+    || (list_any (λ r. b && fault_says (of_demand r) m) ds || list_any (λ (p : PackageNv). false) dependencies))))
     ≡ (b && here m ranges implementations ds dependencies)
 pieces_about true m ranges implementations ds dependencies = refl
 pieces_about false m ranges implementations ds dependencies = all_false ranges implementations ds dependencies
 
-pub followed_found : (f : FollowedModule) (found : FoundPackage) (parts : ModuleParts) → IsOne found f.specifier parts f.dependencies.items →
+pub followed_found : (f : FollowedModule) (found : FoundPackage) (parts : JoinedModule) → IsOne found f.specifier parts f.dependencies.items →
     IsFollowed f parts → (q : Question) → found_says found q ≡ finding_says (Followed f) q
 followed_found f found parts h p whether_known = refl
 followed_found f found parts h p (whether_entry_point t) = ap (list_any (is_text t)) h.entry_points ∙ sym (followed_pieces f (whether_entry_point t) ∙
-    (none_of (serialize f.specifier) (whether_entry_point t) (f.re_export_ranges.items ++ f.ranges.items) f.implementations.items f.diagnostics.items
+    (none_of (serialize f.specifier) (whether_entry_point t) f.found.ranges.items f.found.implementations.items (map placed_in f.found.faults.items)
     f.dependencies.items (λ s. refl) ∙ any_false f.dependencies.items))
 followed_found f found parts h p (whether_dependency nv) = ap (list_any (is_package nv)) h.dependencies_are ∙ sym (followed_pieces f (whether_dependency nv) ∙
-    none_of (serialize f.specifier) (whether_dependency nv) (f.re_export_ranges.items ++ f.ranges.items) f.implementations.items f.diagnostics.items
+    none_of (serialize f.specifier) (whether_dependency nv) f.found.ranges.items f.found.implementations.items (map placed_in f.found.faults.items)
     f.dependencies.items (λ s. refl))
 followed_found f found parts h p (whether_refused t) = sym (followed_pieces f (whether_refused t) ∙
-    (none_of (serialize f.specifier) (whether_refused t) (f.re_export_ranges.items ++ f.ranges.items) f.implementations.items f.diagnostics.items
+    (none_of (serialize f.specifier) (whether_refused t) f.found.ranges.items f.found.implementations.items (map placed_in f.found.faults.items)
     f.dependencies.items (λ s. refl) ∙ any_false f.dependencies.items))
 followed_found f found parts h p (about t m) = one_about found f.specifier parts f.dependencies.items h t m ∙
     (ap (λ b. bytes_eq t (serialize f.specifier) && b) (parts_here f parts p m) ∙ sym (followed_pieces f (about t m) ∙
-    pieces_about (bytes_eq t (serialize f.specifier)) m (f.re_export_ranges.items ++ f.ranges.items) f.implementations.items f.diagnostics.items
+    pieces_about (bytes_eq t (serialize f.specifier)) m f.found.ranges.items f.found.implementations.items (map placed_in f.found.faults.items)
     f.dependencies.items))

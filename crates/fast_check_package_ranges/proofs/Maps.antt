@@ -14,9 +14,9 @@ use Rattle.fast_check_packages.specs.Package.{Nv, nv_of, nv_cmp}
 use Rattle.fast_check_packages.specs.PackageOrder.{nv_total}
 use Rattle.fast_check_packages.specs.declared.package.PackageNv.{PackageNv}
 use Rattle.fast_check_worklists.specs.Demands.{Text}
-use Rattle.fast_check_told_faults.specs.Once.{where_found}
+use Rattle.fast_check_findings.specs.Diagnostics.{where_found}
 use Rattle.fast_check_package_ranges.specs.Parts.{is_text, is_package}
-use Rattle.fast_check_told_faults.proofs.Bools.{or_none}
+use Rattle.fast_check_findings.proofs.Bools.{or_none}
 
 -- tests that agree find the same
 pub lookup_alike : {K X : Type 0} (f g : K → Bool) → ((k : K) → f k ≡ g k) → (es : List (K × X)) → lookup f es ≡ lookup g es

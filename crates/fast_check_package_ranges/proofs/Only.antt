@@ -11,14 +11,14 @@ use Rattle.fast_check_packages.specs.declared.package.PackageNv.{PackageNv}
 use Rattle.fast_check_diagnostics.specs.PublicRanges.{PublicRanges}
 use Rattle.fast_check_diagnostics.specs.declared.diagnostics.FastCheckDiagnostic.{FastCheckDiagnostic}
 use Rattle.fast_check_cache.specs.declared.package_ranges.PackagePublicRanges.{PackagePublicRanges}
-use Rattle.fast_check_findings.specs.faults.Reports.{Report, told}
+use Rattle.fast_check_findings.specs.Faults.{PlacedFault, demand_fault}
 use Rattle.fast_check_findings.specs.Yields.{Yield}
-use Rattle.fast_check_told_faults.specs.Once.{any_report, tells, where_found, same_report}
-use Rattle.fast_check_told_faults.proofs.Compared.{and_both, same_itself}
-use Rattle.fast_check_package_ranges.specs.declared.parts.ModuleParts.{ModuleParts}
-use Rattle.fast_check_package_ranges.specs.declared.parts.PackageParts.{PackageParts}
-use Rattle.fast_check_package_ranges.specs.Questions.{ModuleQuestion, whether_missing, whether_untyped_entry, whether_untyped, whether_told}
-use Rattle.fast_check_package_ranges.specs.Questions.{Question, about, is_report, is_said, IsTextless}
+use Rattle.fast_check_findings.specs.Diagnostics.{any_fault, tells, where_found, same_fault}
+use Rattle.fast_check_findings.proofs.Compared.{and_both, same_itself}
+use Rattle.fast_check_package_ranges.specs.declared.parts.JoinedModule.{JoinedModule}
+use Rattle.fast_check_package_ranges.specs.declared.parts.JoinedPackage.{JoinedPackage}
+use Rattle.fast_check_package_ranges.specs.Questions.{ModuleQuestion, whether_missing, whether_untyped_entry, whether_untyped, whether_faulty}
+use Rattle.fast_check_package_ranges.specs.Questions.{Question, about, is_fault, is_said, IsTextless}
 use Rattle.fast_check_package_ranges.specs.Parts.{lookup_text, lookup_package}
 use Rattle.fast_check_package_ranges.specs.Answers.{tells_missing, tells_untyped_entry, tells_untyped, tell_alike, is_so, module_answer, package_answer}
 use Rattle.fast_check_package_ranges.specs.Answers.{answer, module_diagnostics, package_diagnostics, diagnostics_of, cached_of}
@@ -37,9 +37,9 @@ present f (y ∷ xs) x (suc k, lt, is) e = or_true (f y) (list_any f xs) (presen
 passes_not : {X : Type 0} (f : X → Bool) (xs : List X) (x : X) → Contains xs x → list_any f xs ≡ false → f x ≡ false
 passes_not f xs x c h = ⊎_elim (λ y. absurd (false≢true (sym h ∙ present f xs x c y))) (λ n. n) (cases_Bool (f x))
 
--- a report is one with itself
-report_itself : (r : Report) → is_report r r ≡ true
-report_itself r = and_both (same_report r r) (bytes_eq r.text r.text) (same_itself r) (nat_list_eq_equiv.refl r.text)
+-- a fault is one with itself
+fault_itself : (r : PlacedFault) → is_fault r r ≡ true
+fault_itself r = and_both (same_fault r r) (bytes_eq r.text r.text) (same_itself r) (nat_list_eq_equiv.refl r.text)
 
 -- one of four things is told, and what is told is so
 one_of : (a b c e A B C E : Bool) → (a ≡ true → A ≡ true) → (b ≡ true → B ≡ true) → (c ≡ true → C ≡ true) → (e ≡ true → E ≡ true) →
@@ -62,14 +62,14 @@ asked_of t f q h None = refl
 asked_of t f q h (Some p) = asked_in t f q h (lookup_text t p.module_ranges.entries)
 
 -- none of them tells nothing of the module
-foreign_in : (t : List ℕ) (parts : Option ModuleParts) (m : Option PublicRanges) → AreModuleAnswers t parts m →
+foreign_in : (t : List ℕ) (parts : Option JoinedModule) (m : Option PublicRanges) → AreModuleAnswers t parts m →
     list_any (is_foreign t) (module_diagnostics m) ≡ false
 foreign_in t None None h = refl
 foreign_in t None (Some m) h = absurd h
 foreign_in t (Some p) None h = absurd h
 foreign_in t (Some p) (Some m) h = h.only
 
-foreign : (t : List ℕ) (parts : Option PackageParts) (p : Option PackagePublicRanges) → ArePackageAnswers parts p →
+foreign : (t : List ℕ) (parts : Option JoinedPackage) (p : Option PackagePublicRanges) → ArePackageAnswers parts p →
     list_any (is_foreign t) (package_diagnostics t p) ≡ false
 foreign t None None h = refl
 foreign t None (Some p) h = absurd h
@@ -81,26 +81,26 @@ none_alike : (t : List ℕ) → IsDistinct (tell_alike t) []
 unfolding IsDistinct
 none_alike t = tt
 
-once_in : (t : List ℕ) (parts : Option ModuleParts) (m : Option PublicRanges) → AreModuleAnswers t parts m → IsDistinct (tell_alike t) (module_diagnostics m)
+once_in : (t : List ℕ) (parts : Option JoinedModule) (m : Option PublicRanges) → AreModuleAnswers t parts m → IsDistinct (tell_alike t) (module_diagnostics m)
 once_in t None None h = none_alike t
 once_in t None (Some m) h = absurd h
 once_in t (Some p) None h = absurd h
 once_in t (Some p) (Some m) h = h.once
 
-once_of : (t : List ℕ) (parts : Option PackageParts) (p : Option PackagePublicRanges) → ArePackageAnswers parts p →
+once_of : (t : List ℕ) (parts : Option JoinedPackage) (p : Option PackagePublicRanges) → ArePackageAnswers parts p →
     IsDistinct (tell_alike t) (package_diagnostics t p)
 once_of t None None h = none_alike t
 once_of t None (Some p) h = absurd h
 once_of t (Some x) None h = absurd h
 once_of t (Some x) (Some p) h = once_in t (lookup_text t x.modules.entries) (lookup_text t p.module_ranges.entries) (h.modules t)
 
-uncached_of : (parts : Option PackageParts) (p : Option PackagePublicRanges) → ArePackageAnswers parts p → cached_of p ≡ []
+uncached_of : (parts : Option JoinedPackage) (p : Option PackagePublicRanges) → ArePackageAnswers parts p → cached_of p ≡ []
 uncached_of None None h = refl
 uncached_of None (Some p) h = absurd h
 uncached_of (Some x) None h = absurd h
 uncached_of (Some x) (Some p) h = h.uncached
 
-module _ (packages : List (PackageNv × PackageParts)) (answers : BTreeMap PackageNv PackagePublicRanges)
+module _ (packages : List (PackageNv × JoinedPackage)) (answers : BTreeMap PackageNv PackagePublicRanges)
     (made : (nv : Nv) → ArePackageAnswers (lookup_package nv packages) (lookup_package nv answers.entries)) where
   pub once : (nv : Nv) (t : List ℕ) → IsDistinct (tell_alike t) (diagnostics_of answers nv t)
   once nv t = once_of t (lookup_package nv packages) (lookup_package nv answers.entries) (made nv)
@@ -109,24 +109,24 @@ module _ (packages : List (PackageNv × PackageParts)) (answers : BTreeMap Packa
   uncached nv = uncached_of (lookup_package nv packages) (lookup_package nv answers.entries) (made nv)
 
   module _ (yields : List Yield) (said : (nv : Nv) (q : Question) → IsTextless q → answer answers nv q ≡ is_said yields nv q)
-      (exact : (nv : Nv) (t : List ℕ) (test : Report → Bool) → answer answers nv (about t (whether_told test)) ≡ true →
-      is_said yields nv (about t (whether_told test)) ≡ true) where
+      (exact : (nv : Nv) (t : List ℕ) (test : PlacedFault → Bool) → answer answers nv (about t (whether_faulty test)) ≡ true →
+      is_said yields nv (about t (whether_faulty test)) ≡ true) where
     -- what a diagnostic tells is answered
     answered : (nv : Nv) (t : List ℕ) (f : FastCheckDiagnostic → Bool) (q : ModuleQuestion) →
         ((m : PublicRanges) → module_answer t q m ≡ list_any f m.diagnostics) → (d : FastCheckDiagnostic) → Contains (diagnostics_of answers nv t) d →
         f d ≡ true → answer answers nv (about t q) ≡ true
     answered nv t f q h d c y = asked_of t f q h (lookup_package nv answers.entries) ∙ present f (diagnostics_of answers nv t) d c y
 
-    of_fault : (nv : Nv) (t : List ℕ) (d : FastCheckDiagnostic) → Contains (diagnostics_of answers nv t) d → (o : Option Report) → told d ≡ o →
-        where_found any_report o ≡ true → where_found (λ r. is_said yields nv (about t (whether_told (is_report r)))) o ≡ true
+    of_fault : (nv : Nv) (t : List ℕ) (d : FastCheckDiagnostic) → Contains (diagnostics_of answers nv t) d → (o : Option PlacedFault) → demand_fault d ≡ o →
+        where_found any_fault o ≡ true → where_found (λ r. is_said yields nv (about t (whether_faulty (is_fault r)))) o ≡ true
     of_fault nv t d c None e h = absurd (false≢true h)
-    of_fault nv t d c (Some r) e h = exact nv t (is_report r)
-        (answered nv t (tells (is_report r)) (whether_told (is_report r)) (λ m. refl) d c (ap (where_found (is_report r)) e ∙ report_itself r))
+    of_fault nv t d c (Some r) e h = exact nv t (is_fault r)
+        (answered nv t (tells (is_fault r)) (whether_faulty (is_fault r)) (λ m. refl) d c (ap (where_found (is_fault r)) e ∙ fault_itself r))
 
     pub only : (nv : Nv) (t : List ℕ) (d : FastCheckDiagnostic) → Contains (diagnostics_of answers nv t) d → is_so yields nv t d ≡ true
-    only nv t d c = one_of (tells_missing t d) (tells_untyped_entry t d) (tells_untyped t d) (tells any_report d) _ _ _ _
+    only nv t d c = one_of (tells_missing t d) (tells_untyped_entry t d) (tells_untyped t d) (tells any_fault d) _ _ _ _
         (λ y. sym (said nv (about t whether_missing) tt) ∙ answered nv t (tells_missing t) whether_missing (λ m. refl) d c y)
         (λ y. sym (said nv (about t whether_untyped_entry) tt) ∙ answered nv t (tells_untyped_entry t) whether_untyped_entry (λ m. refl) d c y)
         (λ y. sym (said nv (about t whether_untyped) tt) ∙ answered nv t (tells_untyped t) whether_untyped (λ m. refl) d c y)
-        (of_fault nv t d c (told d) refl)
+        (of_fault nv t d c (demand_fault d) refl)
         (passes_not (is_foreign t) (diagnostics_of answers nv t) d c (foreign t (lookup_package nv packages) (lookup_package nv answers.entries) (made nv)))

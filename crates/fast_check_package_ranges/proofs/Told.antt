@@ -14,44 +14,44 @@ use Rattle.fast_check_diagnostics.specs.declared.diagnostics.FastCheckDiagnostic
 use Rattle.fast_check_diagnostics.specs.declared.diagnostics.FastCheckDiagnostic.TheVariants.{ExportNotFound}
 use Rattle.fast_check_diagnostics.specs.declared.diagnostics.FastCheckDiagnostic.TheVariants.{UnsupportedJavaScriptEntrypoint}
 use Rattle.fast_check_diagnostics.specs.declared.diagnostics.FastCheckDiagnostic.TheVariants.{UnsupportedNestedJavaScript}
-use Rattle.fast_check_findings.specs.faults.Reports.{Report, told}
-use Rattle.fast_check_package_ranges.specs.declared.parts.ModuleParts.{ModuleParts}
+use Rattle.fast_check_findings.specs.Faults.{PlacedFault, demand_fault}
+use Rattle.fast_check_package_ranges.specs.declared.parts.JoinedModule.{JoinedModule}
 use Rattle.fast_check_package_ranges.specs.Questions.{IsTextlessAbout, ModuleQuestion, whether_recorded, whether_public, whether_implementing}
-use Rattle.fast_check_package_ranges.specs.Questions.{whether_missing, whether_untyped_entry, whether_untyped, whether_told, whether_otherwise_faulty}
-use Rattle.fast_check_told_faults.specs.Once.{IsFair, any_report, is_other, tells, same_told}
+use Rattle.fast_check_package_ranges.specs.Questions.{whether_missing, whether_untyped_entry, whether_untyped, whether_faulty, whether_otherwise_faulty}
+use Rattle.fast_check_findings.specs.Diagnostics.{IsFair, any_fault, is_other, passes, tells, tell_one_fault}
 use Rattle.fast_check_package_ranges.specs.Parts.{is_text, module_says}
 use Rattle.fast_check_package_ranges.specs.Answers.{tells_missing, tells_untyped_entry, tells_untyped, tells_otherwise, tell_alike, module_answer}
 use Rattle.fast_check_package_ranges.specs.Made.{told_if, whole_diagnostics, module_is_said, is_foreign, IsModuleAnswer}
-use Rattle.fast_check_told_faults.proofs.Bools.{or_none, or_assoc, and_none}
+use Rattle.fast_check_findings.proofs.Bools.{or_none, or_assoc, and_none}
 
-missing_tells : (test : Report → Bool) (s : Parts) → tells test (ExportNotFound s) ≡ false
-unfolding told
+missing_tells : (test : PlacedFault → Bool) (s : Parts) → tells test (ExportNotFound s) ≡ false
+unfolding demand_fault
 missing_tells test s = refl
 
-untyped_entry_tells : (test : Report → Bool) (s : Parts) → tells test (UnsupportedJavaScriptEntrypoint s) ≡ false
-unfolding told
+untyped_entry_tells : (test : PlacedFault → Bool) (s : Parts) → tells test (UnsupportedJavaScriptEntrypoint s) ≡ false
+unfolding demand_fault
 untyped_entry_tells test s = refl
 
-untyped_tells : (test : Report → Bool) (s : Parts) → tells test (UnsupportedNestedJavaScript s) ≡ false
-unfolding told
+untyped_tells : (test : PlacedFault → Bool) (s : Parts) → tells test (UnsupportedNestedJavaScript s) ≡ false
+unfolding demand_fault
 untyped_tells test s = refl
 
 -- a diagnostic of a fault of a demand tells nothing of the module as a whole
 missing_other : (t : List ℕ) (d : FastCheckDiagnostic) → is_other d ≡ false → tells_missing t d ≡ false
-missing_other t (ExportNotFound s) h = absurd (false≢true (sym h ∙ ap not (missing_tells any_report s)))
+missing_other t (ExportNotFound s) h = absurd (false≢true (sym h ∙ ap not (missing_tells any_fault s)))
 missing_other t _ h = refl
 
 untyped_entry_other : (t : List ℕ) (d : FastCheckDiagnostic) → is_other d ≡ false → tells_untyped_entry t d ≡ false
-untyped_entry_other t (UnsupportedJavaScriptEntrypoint s) h = absurd (false≢true (sym h ∙ ap not (untyped_entry_tells any_report s)))
+untyped_entry_other t (UnsupportedJavaScriptEntrypoint s) h = absurd (false≢true (sym h ∙ ap not (untyped_entry_tells any_fault s)))
 untyped_entry_other t _ h = refl
 
 untyped_other : (t : List ℕ) (d : FastCheckDiagnostic) → is_other d ≡ false → tells_untyped t d ≡ false
-untyped_other t (UnsupportedNestedJavaScript s) h = absurd (false≢true (sym h ∙ ap not (untyped_tells any_report s)))
+untyped_other t (UnsupportedNestedJavaScript s) h = absurd (false≢true (sym h ∙ ap not (untyped_tells any_fault s)))
 untyped_other t _ h = refl
 
-otherwise_other : (t : List ℕ) (d : FastCheckDiagnostic) → is_other d ≡ false → tells_otherwise t d ≡ tells any_report d
-otherwise_other t d h = ap (λ b. b || (tells_untyped_entry t d || tells any_report d)) (missing_other t d h)
-    ∙ ap (λ b. b || tells any_report d) (untyped_entry_other t d h)
+otherwise_other : (t : List ℕ) (d : FastCheckDiagnostic) → is_other d ≡ false → tells_otherwise t d ≡ tells any_fault d
+otherwise_other t d h = ap (λ b. b || (tells_untyped_entry t d || tells any_fault d)) (missing_other t d h)
+    ∙ ap (λ b. b || tells any_fault d) (untyped_entry_other t d h)
 
 last_of_four : (c a b e : Bool) → not e ≡ false → not (c || (a || (b || e))) ≡ false
 last_of_four true a b e h = refl
@@ -60,7 +60,7 @@ last_of_four false false true e h = refl
 last_of_four false false false e h = h
 
 foreign_other : (t : List ℕ) (d : FastCheckDiagnostic) → is_other d ≡ false → is_foreign t d ≡ false
-foreign_other t d h = last_of_four (tells_untyped t d) (tells_missing t d) (tells_untyped_entry t d) (tells any_report d) h
+foreign_other t d h = last_of_four (tells_untyped t d) (tells_missing t d) (tells_untyped_entry t d) (tells any_fault d) h
 
 alike : (f g : FastCheckDiagnostic → Bool) → ((d : FastCheckDiagnostic) → is_other d ≡ false → f d ≡ g d) → (ds : List FastCheckDiagnostic) →
     list_any is_other ds ≡ false → list_any f ds ≡ list_any g ds
@@ -144,17 +144,17 @@ no_one false false false = refl
 -- no two diagnostics tell the same
 
 missing_apart : (t : List ℕ) (s : Parts) (d : FastCheckDiagnostic) → tells_missing t d ≡ false → tell_alike t (ExportNotFound s) d ≡ false
-unfolding told
+unfolding demand_fault
 missing_apart t s d h = ap (λ b. (is_text t s && b) || false) h ∙ (or_none (is_text t s && false) ∙ and_none (is_text t s))
 
 untyped_entry_apart : (t : List ℕ) (s : Parts) (d : FastCheckDiagnostic) → tells_untyped_entry t d ≡ false →
     tell_alike t (UnsupportedJavaScriptEntrypoint s) d ≡ false
-unfolding told
+unfolding demand_fault
 untyped_entry_apart t s d h = ap (λ b. (is_text t s && b) || false) h ∙ (or_none (is_text t s && false) ∙ and_none (is_text t s))
 
 untyped_apart : (t : List ℕ) (s : Parts) (d : FastCheckDiagnostic) → tells_untyped t d ≡ false →
     tell_alike t (UnsupportedNestedJavaScript s) d ≡ false
-unfolding told
+unfolding demand_fault
 untyped_apart t s d h = ap (λ b. (is_text t s && b) || false) h ∙ (or_none (is_text t s && false) ∙ and_none (is_text t s))
 
 all_apart : (f g : FastCheckDiagnostic → Bool) → ((d : FastCheckDiagnostic) → g d ≡ false → f d ≡ false) → (ds : List FastCheckDiagnostic) →
@@ -166,11 +166,11 @@ none_of_four : (a b c x y z e : Bool) → a ≡ false → b ≡ false → c ≡ 
 none_of_four a b c x y z e p q r h = ap (λ i. (i && x) || ((b && y) || ((c && z) || e))) p ∙ (ap (λ i. (i && y) || ((c && z) || e)) q ∙
     (ap (λ i. (i && z) || e) r ∙ h))
 
-told_apart : (t : List ℕ) (d : FastCheckDiagnostic) → is_other d ≡ false → (ds : List FastCheckDiagnostic) → AllByRecursion (λ x. same_told d x ≡ false) ds →
+told_apart : (t : List ℕ) (d : FastCheckDiagnostic) → is_other d ≡ false → (ds : List FastCheckDiagnostic) → AllByRecursion (λ x. tell_one_fault d x ≡ false) ds →
     AllByRecursion (λ x. tell_alike t d x ≡ false) ds
 told_apart t d o [] h = tt
 told_apart t d o (x ∷ xs) h = (
-  none_of_four (tells_missing t d) (tells_untyped_entry t d) (tells_untyped t d) _ _ _ (same_told d x) (missing_other t d o) (untyped_entry_other t d o)
+  none_of_four (tells_missing t d) (tells_untyped_entry t d) (tells_untyped t d) _ _ _ (tell_one_fault d x) (missing_other t d o) (untyped_entry_other t d o)
       (untyped_other t d o) h.0,
   told_apart t d o xs h.1,
 )
@@ -179,11 +179,11 @@ none_twice : (t : List ℕ) → IsDistinct (tell_alike t) []
 unfolding IsDistinct
 none_twice t = tt
 
-told_distinct : (t : List ℕ) (ds : List FastCheckDiagnostic) → list_any is_other ds ≡ false → IsDistinct same_told ds → IsDistinct (tell_alike t) ds
+told_distinct : (t : List ℕ) (ds : List FastCheckDiagnostic) → list_any is_other ds ≡ false → IsDistinct tell_one_fault ds → IsDistinct (tell_alike t) ds
 told_distinct t [] o h = none_twice t
 told_distinct t (d ∷ ds) o h = IsDistinct-cons (tell_alike t) d ds
-    (told_apart t d (or_parts (is_other d) (list_any is_other ds) o).0 ds (IsDistinct-head same_told d ds h))
-    (told_distinct t ds (or_parts (is_other d) (list_any is_other ds) o).1 (IsDistinct-tail same_told d ds h))
+    (told_apart t d (or_parts (is_other d) (list_any is_other ds) o).0 ds (IsDistinct-head tell_one_fault d ds h))
+    (told_distinct t ds (or_parts (is_other d) (list_any is_other ds) o).1 (IsDistinct-tail tell_one_fault d ds h))
 
 -- one in front
 in_front : (t : List ℕ) (b : Bool) (d : FastCheckDiagnostic) (ds : List FastCheckDiagnostic) → AllByRecursion (λ x. tell_alike t d x ≡ false) ds →
@@ -196,7 +196,7 @@ none_more : (test : FastCheckDiagnostic → Bool) (b : Bool) (d : FastCheckDiagn
 none_more test true d ds n h = ap (λ x. x || list_any test ds) n ∙ h
 none_more test false d ds n h = h
 
-wholes_before : (t : List ℕ) (s : Parts) (a b c : Bool) (ds : List FastCheckDiagnostic) → list_any is_other ds ≡ false → IsDistinct same_told ds →
+wholes_before : (t : List ℕ) (s : Parts) (a b c : Bool) (ds : List FastCheckDiagnostic) → list_any is_other ds ≡ false → IsDistinct tell_one_fault ds →
     IsDistinct (tell_alike t) (told_if a (ExportNotFound s) ++ (told_if b (UnsupportedJavaScriptEntrypoint s) ++
     (told_if c (UnsupportedNestedJavaScript s) ++ ds)))
 wholes_before t s a b c ds o h =
@@ -213,7 +213,7 @@ wholes_before t s a b c ds o h =
     (all_apart (tell_alike t (UnsupportedNestedJavaScript s)) (tells_untyped t) (untyped_apart t s) ds (all_none (tells_untyped t) (untyped_other t) ds o))
     (told_distinct t ds o h)))
 
-wholes_distinct : (t : List ℕ) (s : Parts) (a b c : Bool) (ds : List FastCheckDiagnostic) → list_any is_other ds ≡ false → IsDistinct same_told ds →
+wholes_distinct : (t : List ℕ) (s : Parts) (a b c : Bool) (ds : List FastCheckDiagnostic) → list_any is_other ds ≡ false → IsDistinct tell_one_fault ds →
     IsDistinct (tell_alike t) (whole_diagnostics s a b c ++ ds)
 wholes_distinct t s a b c ds o h =
     let first = told_if a (ExportNotFound s) in
@@ -224,18 +224,18 @@ wholes_distinct t s a b c ds o h =
     (wholes_before t s a b c ds o h)
 
 -- whether that its types are not known is told
-abbrev pub shown : ModuleParts → Bool
+abbrev pub shown : JoinedModule → Bool
 shown parts = parts.is_untyped && not (module_says parts whether_otherwise_faulty)
 
 -- the diagnostics of a module: those of it as a whole, and then those of demands, each once
-pub record IsTold (specifier : Parts) (parts : ModuleParts) (out told_once : List FastCheckDiagnostic) : Type 0 where
+pub record IsTold (specifier : Parts) (parts : JoinedModule) (out told_once : List FastCheckDiagnostic) : Type 0 where
   pub out_is : out ≡ whole_diagnostics specifier parts.is_missing parts.is_untyped_entry (shown parts) ++ told_once
-  pub same : (test : Report → Bool) → IsFair test → list_any (tells test) told_once ≡ list_any (tells test) parts.diagnostics.items
-  pub exact : (test : Report → Bool) → list_any (tells test) told_once ≡ true → list_any (tells test) parts.diagnostics.items ≡ true
+  pub same : (test : PlacedFault → Bool) → IsFair test → list_any (tells test) told_once ≡ list_any (passes test) parts.found.faults.items
+  pub exact : (test : PlacedFault → Bool) → list_any (tells test) told_once ≡ true → list_any (passes test) parts.found.faults.items ≡ true
   pub only : list_any is_other told_once ≡ false
-  pub once : IsDistinct same_told told_once
+  pub once : IsDistinct tell_one_fault told_once
 
-module _ (specifier : Parts) (parts : ModuleParts) (out told_once : List FastCheckDiagnostic) (h : IsTold specifier parts out told_once) where
+module _ (specifier : Parts) (parts : JoinedModule) (out told_once : List FastCheckDiagnostic) (h : IsTold specifier parts out told_once) where
   itself : bytes_eq (serialize specifier) (serialize specifier) ≡ true
   itself = nat_list_eq_equiv.refl (serialize specifier)
 
@@ -266,7 +266,7 @@ module _ (specifier : Parts) (parts : ModuleParts) (out told_once : List FastChe
       (wholes parts.is_missing parts.is_untyped_entry (shown parts) false false _ false false true refl refl itself ∙
       only_third parts.is_missing parts.is_untyped_entry (shown parts))
 
-  pub told_of_demands : (test : Report → Bool) → list_any (tells test) out ≡ list_any (tells test) told_once
+  pub told_of_demands : (test : PlacedFault → Bool) → list_any (tells test) out ≡ list_any (tells test) told_once
   told_of_demands test = all (tells test) ∙
       ap (λ b. b || list_any (tells test) told_once)
       (wholes parts.is_missing parts.is_untyped_entry (shown parts) _ _ _ false false false
@@ -280,27 +280,27 @@ module _ (specifier : Parts) (parts : ModuleParts) (out told_once : List FastChe
   pub told_only : list_any (is_foreign (serialize specifier)) out ≡ false
   told_only = all_whole (is_foreign (serialize specifier)) (foreign_other (serialize specifier)) ∙
       (wholes parts.is_missing parts.is_untyped_entry (shown parts) _ _ _ false false false
-      (ap (λ b. not (b || (false || tells any_report (ExportNotFound specifier)))) itself)
-      (ap (λ b. not (b || tells any_report (UnsupportedJavaScriptEntrypoint specifier))) itself)
-      (ap (λ b. not (b || (false || (false || tells any_report (UnsupportedNestedJavaScript specifier))))) itself) ∙
+      (ap (λ b. not (b || (false || tells any_fault (ExportNotFound specifier)))) itself)
+      (ap (λ b. not (b || tells any_fault (UnsupportedJavaScriptEntrypoint specifier))) itself)
+      (ap (λ b. not (b || (false || (false || tells any_fault (UnsupportedNestedJavaScript specifier))))) itself) ∙
       no_one parts.is_missing parts.is_untyped_entry (shown parts))
 
   pub told_otherwise : list_any (tells_otherwise (serialize specifier)) out ≡ module_says parts whether_otherwise_faulty
   told_otherwise = all (tells_otherwise (serialize specifier)) ∙
       (ap (λ b. b || list_any (tells_otherwise (serialize specifier)) told_once)
       (wholes parts.is_missing parts.is_untyped_entry (shown parts) _ _ _ true true false
-      (ap (λ b. b || (false || tells any_report (ExportNotFound specifier))) itself)
-      (ap (λ b. b || tells any_report (UnsupportedJavaScriptEntrypoint specifier)) itself)
-      (untyped_tells any_report specifier) ∙
+      (ap (λ b. b || (false || tells any_fault (ExportNotFound specifier))) itself)
+      (ap (λ b. b || tells any_fault (UnsupportedJavaScriptEntrypoint specifier)) itself)
+      (untyped_tells any_fault specifier) ∙
       first_two parts.is_missing parts.is_untyped_entry (shown parts)) ∙
       (ap (λ b. (parts.is_missing || parts.is_untyped_entry) || b)
-      (alike (tells_otherwise (serialize specifier)) (tells any_report) (otherwise_other (serialize specifier)) told_once h.only ∙
-      h.same any_report (λ a b e. refl)) ∙
-      or_assoc parts.is_missing parts.is_untyped_entry (list_any (tells any_report) parts.diagnostics.items)))
+      (alike (tells_otherwise (serialize specifier)) (tells any_fault) (otherwise_other (serialize specifier)) told_once h.only ∙
+      h.same any_fault (λ a b e. refl)) ∙
+      or_assoc parts.is_missing parts.is_untyped_entry (list_any (passes any_fault) parts.found.faults.items)))
 
-said : (specifier : Parts) (parts : ModuleParts) (m : PublicRanges) (told_once : List FastCheckDiagnostic) →
-    ((r : SourceRange) → is_public m r ≡ list_any (same_range r) parts.ranges.items) →
-    ((r : SourceRange) → is_implementation m r ≡ list_any (same_range r) parts.implementations.items) →
+said : (specifier : Parts) (parts : JoinedModule) (m : PublicRanges) (told_once : List FastCheckDiagnostic) →
+    ((r : SourceRange) → is_public m r ≡ list_any (same_range r) parts.found.ranges.items) →
+    ((r : SourceRange) → is_implementation m r ≡ list_any (same_range r) parts.found.implementations.items) →
     IsTold specifier parts m.diagnostics told_once → (q : ModuleQuestion) → IsTextlessAbout q → module_answer (serialize specifier) q m ≡ module_is_said parts q
 said specifier parts m told_once publics others h whether_recorded fair = refl
 said specifier parts m told_once publics others h (whether_public r) fair = publics r
@@ -308,12 +308,12 @@ said specifier parts m told_once publics others h (whether_implementing r) fair 
 said specifier parts m told_once publics others h whether_missing fair = told_missing specifier parts m.diagnostics told_once h
 said specifier parts m told_once publics others h whether_untyped_entry fair = told_untyped_entry specifier parts m.diagnostics told_once h
 said specifier parts m told_once publics others h whether_untyped fair = told_untyped specifier parts m.diagnostics told_once h
-said specifier parts m told_once publics others h (whether_told test) fair = told_of_demands specifier parts m.diagnostics told_once h test ∙ h.same test fair
+said specifier parts m told_once publics others h (whether_faulty test) fair = told_of_demands specifier parts m.diagnostics told_once h test ∙ h.same test fair
 said specifier parts m told_once publics others h whether_otherwise_faulty fair = told_otherwise specifier parts m.diagnostics told_once h
 
-pub module_made : (specifier : Parts) (parts : ModuleParts) (m : PublicRanges) (told_once : List FastCheckDiagnostic) →
-    ((r : SourceRange) → is_public m r ≡ list_any (same_range r) parts.ranges.items) →
-    ((r : SourceRange) → is_implementation m r ≡ list_any (same_range r) parts.implementations.items) →
+pub module_made : (specifier : Parts) (parts : JoinedModule) (m : PublicRanges) (told_once : List FastCheckDiagnostic) →
+    ((r : SourceRange) → is_public m r ≡ list_any (same_range r) parts.found.ranges.items) →
+    ((r : SourceRange) → is_implementation m r ≡ list_any (same_range r) parts.found.implementations.items) →
     IsTold specifier parts m.diagnostics told_once → IsModuleAnswer (serialize specifier) parts m
 module_made specifier parts m told_once publics others h = record {
   said = said specifier parts m told_once publics others h;

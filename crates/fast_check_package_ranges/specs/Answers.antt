@@ -13,13 +13,13 @@ use Rattle.fast_check_diagnostics.specs.declared.diagnostics.FastCheckDiagnostic
 use Rattle.fast_check_diagnostics.specs.declared.diagnostics.FastCheckDiagnostic.TheVariants.{UnsupportedJavaScriptEntrypoint}
 use Rattle.fast_check_diagnostics.specs.declared.diagnostics.FastCheckDiagnostic.TheVariants.{UnsupportedNestedJavaScript}
 use Rattle.fast_check_worklists.specs.Demands.{Text}
-use Rattle.fast_check_findings.specs.faults.Reports.{Report, told}
+use Rattle.fast_check_findings.specs.Faults.{PlacedFault, demand_fault}
 use Rattle.fast_check_findings.specs.Yields.{Yield}
 use Rattle.fast_check_package_ranges.specs.Questions.{ModuleQuestion, whether_recorded, whether_public, whether_implementing}
-use Rattle.fast_check_package_ranges.specs.Questions.{whether_missing, whether_untyped_entry, whether_untyped, whether_told, whether_otherwise_faulty}
+use Rattle.fast_check_package_ranges.specs.Questions.{whether_missing, whether_untyped_entry, whether_untyped, whether_faulty, whether_otherwise_faulty}
 use Rattle.fast_check_package_ranges.specs.Questions.{Question, whether_known, whether_entry_point, whether_dependency, whether_refused, about}
-use Rattle.fast_check_package_ranges.specs.Questions.{is_report, is_said, IsTextless}
-use Rattle.fast_check_told_faults.specs.Once.{any_report, tells, where_found, same_told}
+use Rattle.fast_check_package_ranges.specs.Questions.{is_fault, is_said, IsTextless}
+use Rattle.fast_check_findings.specs.Diagnostics.{any_fault, tells, where_found, tell_one_fault}
 use Rattle.fast_check_package_ranges.specs.Parts.{is_text, is_package, lookup_text, lookup_package}
 
 -- Diagnostics of a module as a whole carry its specifier.
@@ -36,19 +36,19 @@ tells_untyped t (UnsupportedNestedJavaScript specifier) = is_text t specifier
 tells_untyped t _ = false
 
 abbrev pub tells_otherwise : Text → FastCheckDiagnostic → Bool
-tells_otherwise t d = tells_missing t d || (tells_untyped_entry t d || tells any_report d)
+tells_otherwise t d = tells_missing t d || (tells_untyped_entry t d || tells any_fault d)
 
 -- two diagnostics tell the same of a module
 abbrev pub tell_alike : Text → FastCheckDiagnostic → FastCheckDiagnostic → Bool
 tell_alike t a b = (tells_missing t a && tells_missing t b)
-    || ((tells_untyped_entry t a && tells_untyped_entry t b) || ((tells_untyped t a && tells_untyped t b) || same_told a b))
+    || ((tells_untyped_entry t a && tells_untyped_entry t b) || ((tells_untyped t a && tells_untyped t b) || tell_one_fault a b))
 
 -- the yields say what a diagnostic tells of a module: of the module as a whole, or of a fault of a demand, with its source text
 abbrev pub is_so : List Yield → Nv → Text → FastCheckDiagnostic → Bool
 is_so yields nv t d = (tells_missing t d && is_said yields nv (about t whether_missing))
     || ((tells_untyped_entry t d && is_said yields nv (about t whether_untyped_entry))
     || ((tells_untyped t d && is_said yields nv (about t whether_untyped))
-    || where_found (λ r. is_said yields nv (about t (whether_told (is_report r)))) (told d)))
+    || where_found (λ r. is_said yields nv (about t (whether_faulty (is_fault r)))) (demand_fault d)))
 
 -- the answer about a module
 abbrev pub module_answer : Text → ModuleQuestion → PublicRanges → Bool
@@ -58,7 +58,7 @@ module_answer t (whether_implementing r) m = is_implementation m r
 module_answer t whether_missing m = list_any (tells_missing t) m.diagnostics
 module_answer t whether_untyped_entry m = list_any (tells_untyped_entry t) m.diagnostics
 module_answer t whether_untyped m = list_any (tells_untyped t) m.diagnostics
-module_answer t (whether_told test) m = list_any (tells test) m.diagnostics
+module_answer t (whether_faulty test) m = list_any (tells test) m.diagnostics
 module_answer t whether_otherwise_faulty m = list_any (tells_otherwise t) m.diagnostics
 
 -- about a package
@@ -94,8 +94,8 @@ cached_of (Some p) = p.cache_items.items
 -- a module tells what its yields say, and no two tell the same; and nothing comes from a cache.
 pub record AreAnswers (yields : List Yield) (answers : BTreeMap PackageNv PackagePublicRanges) : Type 0 where
   pub said : (nv : Nv) (q : Question) → IsTextless q → answer answers nv q ≡ is_said yields nv q
-  pub exact : (nv : Nv) (t : Text) (test : Report → Bool) → answer answers nv (about t (whether_told test)) ≡ true →
-      is_said yields nv (about t (whether_told test)) ≡ true
+  pub exact : (nv : Nv) (t : Text) (test : PlacedFault → Bool) → answer answers nv (about t (whether_faulty test)) ≡ true →
+      is_said yields nv (about t (whether_faulty test)) ≡ true
   pub only : (nv : Nv) (t : Text) (d : FastCheckDiagnostic) → Contains (diagnostics_of answers nv t) d → is_so yields nv t d ≡ true
   pub once : (nv : Nv) (t : Text) → IsDistinct (tell_alike t) (diagnostics_of answers nv t)
   pub uncached : (nv : Nv) → cached_of (lookup_package nv answers.entries) ≡ []

@@ -10,14 +10,14 @@ use Rattle.fast_check_diagnostics.specs.declared.diagnostics.FastCheckDiagnostic
 use Rattle.fast_check_diagnostics.specs.declared.diagnostics.FastCheckDiagnostic.TheVariants.{UnsupportedNestedJavaScript}
 use Rattle.fast_check_cache.specs.declared.package_ranges.PackagePublicRanges.{PackagePublicRanges}
 use Rattle.fast_check_worklists.specs.Demands.{Text}
-use Rattle.fast_check_findings.specs.faults.Reports.{Report}
-use Rattle.fast_check_package_ranges.specs.declared.parts.ModuleParts.{ModuleParts}
-use Rattle.fast_check_package_ranges.specs.declared.parts.PackageParts.{PackageParts}
-use Rattle.fast_check_package_ranges.specs.Questions.{ModuleQuestion, whether_untyped, whether_told, whether_otherwise_faulty, IsTextlessAbout}
+use Rattle.fast_check_findings.specs.Faults.{PlacedFault}
+use Rattle.fast_check_package_ranges.specs.declared.parts.JoinedModule.{JoinedModule}
+use Rattle.fast_check_package_ranges.specs.declared.parts.JoinedPackage.{JoinedPackage}
+use Rattle.fast_check_package_ranges.specs.Questions.{ModuleQuestion, whether_untyped, whether_faulty, whether_otherwise_faulty, IsTextlessAbout}
 use Rattle.fast_check_package_ranges.specs.Parts.{is_text, is_package, module_says, lookup_text}
 use Rattle.fast_check_package_ranges.specs.Answers.{tells_untyped, tells_otherwise, tell_alike, module_answer}
 
--- a diagnostic that is told, or is not
+-- a diagnostic that is there, or is not
 abbrev pub told_if : Bool → FastCheckDiagnostic → List FastCheckDiagnostic
 told_if b d = cond b (d ∷ []) []
 
@@ -27,7 +27,7 @@ whole_diagnostics specifier is_missing is_untyped_entry is_untyped = told_if is_
     ++ (told_if is_untyped_entry (UnsupportedJavaScriptEntrypoint specifier) ++ told_if is_untyped (UnsupportedNestedJavaScript specifier))
 
 -- what is said of a module
-abbrev pub module_is_said : ModuleParts → ModuleQuestion → Bool
+abbrev pub module_is_said : JoinedModule → ModuleQuestion → Bool
 module_is_said m whether_untyped = m.is_untyped && not (module_says m whether_otherwise_faulty)
 module_is_said m q = module_says m q
 
@@ -35,24 +35,24 @@ module_is_said m q = module_says m q
 abbrev pub is_foreign : Text → FastCheckDiagnostic → Bool
 is_foreign t d = not (tells_untyped t d || tells_otherwise t d)
 
-pub record IsModuleAnswer (t : Text) (parts : ModuleParts) (m : PublicRanges) : Type 0 where
+pub record IsModuleAnswer (t : Text) (parts : JoinedModule) (m : PublicRanges) : Type 0 where
   pub said : (q : ModuleQuestion) → IsTextlessAbout q → module_answer t q m ≡ module_is_said parts q
-  pub exact : (test : Report → Bool) → module_answer t (whether_told test) m ≡ true → module_says parts (whether_told test) ≡ true
+  pub exact : (test : PlacedFault → Bool) → module_answer t (whether_faulty test) m ≡ true → module_says parts (whether_faulty test) ≡ true
   pub only : list_any (is_foreign t) m.diagnostics ≡ false
   pub once : IsDistinct (tell_alike t) m.diagnostics
 
-abbrev pub AreModuleAnswers : Text → Option ModuleParts → Option PublicRanges → Type 0
+abbrev pub AreModuleAnswers : Text → Option JoinedModule → Option PublicRanges → Type 0
 AreModuleAnswers t None None = ⊤
 AreModuleAnswers t (Some parts) (Some m) = IsModuleAnswer t parts m
 AreModuleAnswers t _ _ = ⊥
 
-pub record IsPackageAnswer (parts : PackageParts) (p : PackagePublicRanges) : Type 0 where
+pub record IsPackageAnswer (parts : JoinedPackage) (p : PackagePublicRanges) : Type 0 where
   pub entry_points : (t : Text) → list_any (is_text t) p.entrypoints.keys ≡ list_any (is_text t) parts.entry_points.items
   pub dependencies : (nv : Nv) → list_any (is_package nv) p.dependencies.keys ≡ list_any (is_package nv) parts.dependencies.items
   pub modules : (t : Text) → AreModuleAnswers t (lookup_text t parts.modules.entries) (lookup_text t p.module_ranges.entries)
   pub uncached : p.cache_items.items ≡ []
 
-abbrev pub ArePackageAnswers : Option PackageParts → Option PackagePublicRanges → Type 0
+abbrev pub ArePackageAnswers : Option JoinedPackage → Option PackagePublicRanges → Type 0
 ArePackageAnswers None None = ⊤
 ArePackageAnswers (Some parts) (Some p) = IsPackageAnswer parts p
 ArePackageAnswers _ _ = ⊥

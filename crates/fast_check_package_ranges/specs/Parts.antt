@@ -7,16 +7,16 @@ use Rattle.url.specs.Parts.{Parts, serialize}
 use Rattle.fast_check_packages.specs.Package.{Nv, nv_of}
 use Rattle.fast_check_packages.specs.declared.package.PackageNv.{PackageNv}
 use Rattle.fast_check_diagnostics.specs.PublicRanges.{same_range}
-use Rattle.fast_check_told_faults.specs.Once.{where_found, tells, any_report}
+use Rattle.fast_check_findings.specs.Diagnostics.{where_found, passes, any_fault}
 use Rattle.fast_check_worklists.specs.Demands.{Text, same_nv}
 use Rattle.fast_check_findings.specs.declared.finding.Finding.{Finding}
 use Rattle.fast_check_findings.specs.declared.finding.Finding.TheVariants.{Entered, Followed, Untyped}
 use Rattle.fast_check_findings.specs.Findings.{yields_of}
-use Rattle.fast_check_package_ranges.specs.declared.parts.ModuleParts.{ModuleParts}
-use Rattle.fast_check_package_ranges.specs.declared.parts.PackageParts.{PackageParts}
+use Rattle.fast_check_package_ranges.specs.declared.parts.JoinedModule.{JoinedModule}
+use Rattle.fast_check_package_ranges.specs.declared.parts.JoinedPackage.{JoinedPackage}
 use Rattle.fast_check_package_ranges.specs.declared.parts.FoundPackage.{FoundPackage}
 use Rattle.fast_check_package_ranges.specs.Questions.{ModuleQuestion, whether_recorded, whether_public, whether_implementing}
-use Rattle.fast_check_package_ranges.specs.Questions.{whether_missing, whether_untyped_entry, whether_untyped, whether_told, whether_otherwise_faulty}
+use Rattle.fast_check_package_ranges.specs.Questions.{whether_missing, whether_untyped_entry, whether_untyped, whether_faulty, whether_otherwise_faulty}
 use Rattle.fast_check_package_ranges.specs.Questions.{Question, whether_known, whether_entry_point, whether_dependency, whether_refused, about}
 use Rattle.fast_check_package_ranges.specs.Questions.{yield_says}
 
@@ -26,15 +26,15 @@ is_text t url = bytes_eq t (serialize url)
 abbrev pub is_package : Nv → PackageNv → Bool
 is_package nv p = same_nv nv (nv_of p)
 
-abbrev pub module_says : ModuleParts → ModuleQuestion → Bool
+abbrev pub module_says : JoinedModule → ModuleQuestion → Bool
 module_says m whether_recorded = true
-module_says m (whether_public r) = list_any (same_range r) m.ranges.items
-module_says m (whether_implementing r) = list_any (same_range r) m.implementations.items
+module_says m (whether_public r) = list_any (same_range r) m.found.ranges.items
+module_says m (whether_implementing r) = list_any (same_range r) m.found.implementations.items
 module_says m whether_missing = m.is_missing
 module_says m whether_untyped_entry = m.is_untyped_entry
 module_says m whether_untyped = m.is_untyped
-module_says m (whether_told test) = list_any (tells test) m.diagnostics.items
-module_says m whether_otherwise_faulty = m.is_missing || (m.is_untyped_entry || list_any (tells any_report) m.diagnostics.items)
+module_says m (whether_faulty test) = list_any (passes test) m.found.faults.items
+module_says m whether_otherwise_faulty = m.is_missing || (m.is_untyped_entry || list_any (passes any_fault) m.found.faults.items)
 
 abbrev pub lookup_text : {X : Type 0} → Text → List (Parts × X) → Option X
 lookup_text t modules = lookup (is_text t) modules
@@ -42,21 +42,21 @@ lookup_text t modules = lookup (is_text t) modules
 abbrev pub lookup_package : {X : Type 0} → Nv → List (PackageNv × X) → Option X
 lookup_package nv packages = lookup (is_package nv) packages
 
-abbrev pub modules_say : List (Parts × ModuleParts) → Text → ModuleQuestion → Bool
+abbrev pub modules_say : List (Parts × JoinedModule) → Text → ModuleQuestion → Bool
 modules_say modules t q = where_found (λ m. module_says m q) (lookup_text t modules)
 
-abbrev pub package_says : PackageParts → Question → Bool
+abbrev pub package_says : JoinedPackage → Question → Bool
 package_says p whether_known = true
 package_says p (whether_entry_point t) = list_any (is_text t) p.entry_points.items
 package_says p (whether_dependency nv) = list_any (is_package nv) p.dependencies.items
 package_says p (whether_refused t) = false
 package_says p (about t q) = modules_say p.modules.entries t q
 
-abbrev pub packages_say : List (PackageNv × PackageParts) → Nv → Question → Bool
+abbrev pub packages_say : List (PackageNv × JoinedPackage) → Nv → Question → Bool
 packages_say packages nv q = where_found (λ p. package_says p q) (lookup_package nv packages)
 
 -- what was found of a module by itself
-abbrev pub found_module_says : Text → ModuleQuestion → Parts × ModuleParts → Bool
+abbrev pub found_module_says : Text → ModuleQuestion → Parts × JoinedModule → Bool
 found_module_says t q found = is_text t found.0 && module_says found.1 q
 
 abbrev pub found_says : FoundPackage → Question → Bool

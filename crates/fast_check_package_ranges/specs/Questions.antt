@@ -5,15 +5,15 @@ use Rattle.std.specs.Str.{bytes_eq}
 use Rattle.fast_check_syntax.specs.declared.source.SourceRange.{SourceRange}
 use Rattle.fast_check_packages.specs.Package.{Nv}
 use Rattle.fast_check_diagnostics.specs.PublicRanges.{same_range}
-use Rattle.fast_check_findings.specs.faults.Reports.{Report}
-use Rattle.fast_check_told_faults.specs.Once.{same_report}
+use Rattle.fast_check_findings.specs.Faults.{PlacedFault}
+use Rattle.fast_check_findings.specs.Diagnostics.{same_fault}
 use Rattle.fast_check_worklists.specs.Demands.{Text, same_nv}
 use Rattle.fast_check_findings.specs.Yields.{ModuleFault, missing_entry, untyped_entry, untyped_module, of_demand}
 use Rattle.fast_check_findings.specs.Yields.{Yield, known_package, entry_point, refused_export, dependency, recorded, public, implementing, faulty}
 
 -- About a module: whether it is recorded; whether a range is public, or one of an implementation of overloads; whether it is an entry point that is
--- not found, one whose types are not known, or another module whose types are not known; whether a fault of a demand that passes a test is told;
--- and whether anything is told but that its types are not known.
+-- not found, one whose types are not known, or another module whose types are not known; whether a fault of a demand that passes a test is there;
+-- and whether anything is wrong but that its types are not known.
 pub data ModuleQuestion : Type 0 where
   whether_recorded : ModuleQuestion
   whether_public : SourceRange → ModuleQuestion
@@ -21,7 +21,7 @@ pub data ModuleQuestion : Type 0 where
   whether_missing : ModuleQuestion
   whether_untyped_entry : ModuleQuestion
   whether_untyped : ModuleQuestion
-  whether_told : (Report → Bool) → ModuleQuestion
+  whether_faulty : (PlacedFault → Bool) → ModuleQuestion
   whether_otherwise_faulty : ModuleQuestion
 
 -- About a package: whether it stands in the answer; whether a module is an entry point; whether it depends on another; whether an export text
@@ -40,7 +40,7 @@ fault_says missing_entry whether_otherwise_faulty = true
 fault_says untyped_entry whether_untyped_entry = true
 fault_says untyped_entry whether_otherwise_faulty = true
 fault_says untyped_module whether_untyped = true
-fault_says (of_demand r) (whether_told test) = test r
+fault_says (of_demand r) (whether_faulty test) = test r
 fault_says (of_demand r) whether_otherwise_faulty = true
 fault_says _ _ = false
 
@@ -113,12 +113,12 @@ is_said yields nv (about t whether_untyped) = yields_say yields nv (about t whet
 is_said yields nv q = yields_say yields nv q
 
 -- reports that are one, and have one source text
-abbrev pub is_report : Report → Report → Bool
-is_report a b = same_report a b && bytes_eq a.text b.text
+abbrev pub is_fault : PlacedFault → PlacedFault → Bool
+is_fault a b = same_fault a b && bytes_eq a.text b.text
 
 -- reports that are one answer the question alike
 abbrev pub IsTextlessAbout : ModuleQuestion → Type 0
-IsTextlessAbout (whether_told test) = (a b : Report) → same_report a b ≡ true → test a ≡ test b
+IsTextlessAbout (whether_faulty test) = (a b : PlacedFault) → same_fault a b ≡ true → test a ≡ test b
 IsTextlessAbout _ = ⊤
 
 abbrev pub IsTextless : Question → Type 0

@@ -1,3 +1,5 @@
+//! What the findings of each package come to.
+
 ghost use Rattle.std.specs.Prelude.{◌≡◌, [], ◌∷◌, ◌&&◌, ◌||◌, OnOk, IfOk};
 ghost use Rattle.std.specs.List.{list_any};
 ghost use Rattle.fast_check_packages.specs.Package.{Nv, nv_of};
@@ -9,38 +11,34 @@ ghost use Rattle.fast_check_package_ranges.specs.Questions.{ModuleQuestion, Ques
 ghost use Rattle.fast_check_package_ranges.specs.Parts.{is_text, module_says, packages_say, found_module_says, found_says};
 ghost use Rattle.fast_check_package_ranges.specs.Parts.{package_found, finding_says, finding_says_of, findings_say};
 
-use crate::parts::{FoundPackage, ModuleParts, PackageParts, add_package};
+use crate::parts::{FoundPackage, JoinedModule, JoinedPackage, add_package};
 use fast_check_findings::{
-    EnteredPackage, EntryFault, Finding, FollowedModule, PackageNv, UntypedModule,
+    EnteredPackage, EntryFault, Finding, FollowedModule, FoundModule, PackageNv, UntypedModule,
 };
 use std::alloc::{AllocError, Global};
 use std::collections::BTreeMap;
 use url::Url;
 
-fn untyped_parts(alloc: Global) -> ModuleParts
+fn untyped_parts(alloc: Global) -> JoinedModule
     ensures { (q : ModuleQuestion) → module_says result q ≡ (is_recorded q || fault_says untyped_module q) }
 {
-    ModuleParts {
-        ranges: Vec::new(alloc),
-        implementations: Vec::new(alloc),
-        diagnostics: Vec::new(alloc),
+    JoinedModule {
+        found: FoundModule::new(alloc),
         is_missing: false,
         is_untyped_entry: false,
         is_untyped: true,
     }
 }
 
-fn entry_parts(alloc: Global, fault: EntryFault) -> ModuleParts
+fn entry_parts(alloc: Global, fault: EntryFault) -> JoinedModule
     ensures { (q : ModuleQuestion) → module_says result q ≡ (is_recorded q || fault_says (entry_fault fault) q) }
 {
     let (is_missing, is_untyped_entry) = match fault {
         EntryFault::NotFound => (true, false),
         EntryFault::Untyped => (false, true),
     };
-    ModuleParts {
-        ranges: Vec::new(alloc),
-        implementations: Vec::new(alloc),
-        diagnostics: Vec::new(alloc),
+    JoinedModule {
+        found: FoundModule::new(alloc),
         is_missing,
         is_untyped_entry,
         is_untyped: false,
@@ -50,7 +48,7 @@ fn entry_parts(alloc: Global, fault: EntryFault) -> ModuleParts
 fn faulty_entries(
     alloc: Global,
     faults: Vec<(Url, EntryFault)>,
-) -> Result<Vec<(Url, ModuleParts)>, AllocError>
+) -> Result<Vec<(Url, JoinedModule)>, AllocError>
     ensures { IfOk result (λ modules. (t : Text) (q : ModuleQuestion) → list_any (found_module_says t q) modules.items
         ≡ list_any (λ f. is_text t f.0 && (is_recorded q || fault_says (entry_fault f.1) q)) faults.items) }
 {
@@ -94,23 +92,17 @@ fn found_followed(
     let FollowedModule {
         package,
         specifier,
-        mut ranges,
-        implementations,
-        mut re_export_ranges,
-        diagnostics,
+        found,
         dependencies,
     } = followed;
-    re_export_ranges.append(&mut ranges)?;
-    let parts = ModuleParts {
-        ranges: re_export_ranges,
-        implementations,
-        diagnostics,
+    let parts = JoinedModule {
+        found,
         is_missing: false,
         is_untyped_entry: false,
         is_untyped: false,
     };
-    let found = one_module(alloc, specifier, parts, dependencies)?;
-    Ok((package, found))
+    let of_package = one_module(alloc, specifier, parts, dependencies)?;
+    Ok((package, of_package))
 }
 
 fn found_untyped(
@@ -129,7 +121,7 @@ fn found_untyped(
 fn one_module(
     alloc: Global,
     specifier: Url,
-    parts: ModuleParts,
+    parts: JoinedModule,
     dependencies: Vec<PackageNv>,
 ) -> Result<FoundPackage, AllocError>
     ensures entry_points { IfOk result (λ found. found.entry_points.items ≡ []) }
@@ -158,7 +150,7 @@ fn found_package(alloc: Global, finding: Finding) -> Result<(PackageNv, FoundPac
 
 fn add_finding(
     alloc: Global,
-    packages: &mut BTreeMap<PackageNv, PackageParts>,
+    packages: &mut BTreeMap<PackageNv, JoinedPackage>,
     finding: Finding,
 ) -> Result<(), AllocError>
     ensures { OnOk result ((nv : Nv) (q : Question) →
@@ -172,7 +164,7 @@ fn add_finding(
 pub fn packages_found(
     alloc: Global,
     findings: Vec<Finding>,
-) -> Result<BTreeMap<PackageNv, PackageParts>, AllocError>
+) -> Result<BTreeMap<PackageNv, JoinedPackage>, AllocError>
     ensures { IfOk result (λ packages. (nv : Nv) (q : Question) → packages_say packages.entries nv q ≡ findings_say findings.items nv q) }
 {
     let mut packages = BTreeMap::new(alloc);

@@ -1,3 +1,5 @@
+//! What was found of modules and packages, joined over the turns.
+
 ghost use Rattle.std.specs.Prelude.{◌≡◌, [], ◌&&◌, ◌||◌, OnOk, IfOk};
 ghost use Rattle.std.specs.List.{list_any};
 ghost use Rattle.url.specs.Parts.{serialize};
@@ -6,21 +8,17 @@ ghost use Rattle.fast_check_worklists.specs.Demands.{Text, same_nv};
 ghost use Rattle.fast_check_package_ranges.specs.Questions.{ModuleQuestion, Question};
 ghost use Rattle.fast_check_package_ranges.specs.Parts.{is_text, module_says, modules_say, package_says, packages_say, found_module_says, found_says};
 
-use fast_check_diagnostics::FastCheckDiagnostic;
+use fast_check_findings::FoundModule;
 use fast_check_packages::PackageNv;
-use fast_check_syntax::SourceRange;
 use std::alloc::{AllocError, Global};
 use std::collections::BTreeMap;
 use url::Url;
 
 /// What was found of a module.
 #[derive(Drop)]
-pub struct ModuleParts {
-    pub ranges: Vec<SourceRange>,
-    /// The ranges of public implementations of overloads.
-    pub implementations: Vec<SourceRange>,
-    /// What is wrong with what was demanded, perhaps told more than once.
-    pub diagnostics: Vec<FastCheckDiagnostic>,
+pub struct JoinedModule {
+    /// What following it found, each perhaps more than once.
+    pub found: FoundModule,
     /// Whether it is an entry point that the graph does not have.
     pub is_missing: bool,
     /// Whether it is an entry point whose types are not known.
@@ -36,22 +34,18 @@ pub fn either(a: bool, b: bool) -> bool
     a || b
 }
 
-impl ModuleParts {
+impl JoinedModule {
     /// Adds what was found in another turn.
-    pub fn join(&mut self, found: ModuleParts) -> Result<(), AllocError>
+    pub fn join(&mut self, found: JoinedModule) -> Result<(), AllocError>
         ensures { OnOk result ((q : ModuleQuestion) → module_says self.new q ≡ (module_says self.old q || module_says found q)) }
     {
-        let ModuleParts {
-            mut ranges,
-            mut implementations,
-            mut diagnostics,
+        let JoinedModule {
+            found,
             is_missing,
             is_untyped_entry,
             is_untyped,
         } = found;
-        self.ranges.append(&mut ranges)?;
-        self.implementations.append(&mut implementations)?;
-        self.diagnostics.append(&mut diagnostics)?;
+        self.found.append(found)?;
         self.is_missing = either(self.is_missing, is_missing);
         self.is_untyped_entry = either(self.is_untyped_entry, is_untyped_entry);
         self.is_untyped = either(self.is_untyped, is_untyped);
@@ -61,9 +55,9 @@ impl ModuleParts {
 
 /// What was found of a package.
 #[derive(Drop)]
-pub struct PackageParts {
+pub struct JoinedPackage {
     pub entry_points: Vec<Url>,
-    pub modules: BTreeMap<Url, ModuleParts>,
+    pub modules: BTreeMap<Url, JoinedModule>,
     /// The packages that it depends on, perhaps more than once.
     pub dependencies: Vec<PackageNv>,
 }
@@ -72,15 +66,15 @@ pub struct PackageParts {
 #[derive(Drop)]
 pub struct FoundPackage {
     pub entry_points: Vec<Url>,
-    pub modules: Vec<(Url, ModuleParts)>,
+    pub modules: Vec<(Url, JoinedModule)>,
     pub dependencies: Vec<PackageNv>,
 }
 
 /// Adds what was found of a module.
 fn add_module(
-    modules: &mut BTreeMap<Url, ModuleParts>,
+    modules: &mut BTreeMap<Url, JoinedModule>,
     specifier: Url,
-    found: ModuleParts,
+    found: JoinedModule,
 ) -> Result<(), AllocError>
     ensures { OnOk result ((t : Text) (q : ModuleQuestion) →
         modules_say modules.new.entries t q ≡ (modules_say modules.old.entries t q || found_module_says t q (specifier, found))) }
@@ -98,8 +92,8 @@ fn add_module(
 }
 
 fn add_modules(
-    modules: &mut BTreeMap<Url, ModuleParts>,
-    found: Vec<(Url, ModuleParts)>,
+    modules: &mut BTreeMap<Url, JoinedModule>,
+    found: Vec<(Url, JoinedModule)>,
 ) -> Result<(), AllocError>
     ensures { OnOk result ((t : Text) (q : ModuleQuestion) →
         modules_say modules.new.entries t q ≡ (modules_say modules.old.entries t q || list_any (found_module_says t q) found.items)) }
@@ -110,14 +104,14 @@ fn add_modules(
     Ok(())
 }
 
-impl PackageParts {
+impl JoinedPackage {
     /// Nothing. It takes no memory.
-    fn new(alloc: Global) -> PackageParts
+    fn new(alloc: Global) -> JoinedPackage
         ensures entry_points { result.entry_points.items ≡ [] }
         ensures modules { result.modules.entries ≡ [] }
         ensures dependencies { result.dependencies.items ≡ [] }
     {
-        PackageParts {
+        JoinedPackage {
             entry_points: Vec::new(alloc),
             modules: BTreeMap::new(alloc),
             dependencies: Vec::new(alloc),
@@ -139,10 +133,10 @@ impl PackageParts {
     }
 
     /// What was found in one turn.
-    fn of(alloc: Global, found: FoundPackage) -> Result<PackageParts, AllocError>
+    fn of(alloc: Global, found: FoundPackage) -> Result<JoinedPackage, AllocError>
         ensures { IfOk result (λ parts. (q : Question) → package_says parts q ≡ found_says found q) }
     {
-        let mut parts = PackageParts::new(alloc);
+        let mut parts = JoinedPackage::new(alloc);
         parts.join(found)?;
         Ok(parts)
     }
@@ -151,7 +145,7 @@ impl PackageParts {
 /// Adds what was found of a package.
 pub fn add_package(
     alloc: Global,
-    packages: &mut BTreeMap<PackageNv, PackageParts>,
+    packages: &mut BTreeMap<PackageNv, JoinedPackage>,
     package: PackageNv,
     found: FoundPackage,
 ) -> Result<(), AllocError>
@@ -160,7 +154,7 @@ pub fn add_package(
 {
     match packages.remove(&package) {
         None => {
-            let parts = PackageParts::of(alloc, found)?;
+            let parts = JoinedPackage::of(alloc, found)?;
             packages.insert(package, parts)?;
         }
         Some(mut parts) => {

@@ -1,3 +1,5 @@
+//! What is answered of each package.
+
 ghost use Rattle.std.specs.Prelude.{◌≡◌, ◌++◌, ◌&&◌, ◌||◌, not, OnOk, IfOk};
 ghost use Rattle.std.specs.List.{list_any, flat_map};
 ghost use Rattle.url.specs.Parts.{serialize};
@@ -6,19 +8,19 @@ ghost use Rattle.fast_check_diagnostics.specs.declared.diagnostics.FastCheckDiag
 ghost use Rattle.fast_check_diagnostics.specs.declared.diagnostics.FastCheckDiagnostic.TheVariants.{UnsupportedNestedJavaScript};
 ghost use Rattle.fast_check_worklists.specs.Demands.{Text};
 ghost use Rattle.fast_check_findings.specs.Findings.{yields_of};
-ghost use Rattle.fast_check_told_faults.specs.Once.{any_report, tells};
+ghost use Rattle.fast_check_findings.specs.Diagnostics.{any_fault, passes};
 ghost use Rattle.fast_check_package_ranges.specs.Parts.{is_text, is_package, lookup_text, lookup_package};
 ghost use Rattle.fast_check_package_ranges.specs.Answers.{AreAnswers};
 ghost use Rattle.fast_check_package_ranges.specs.Made.{told_if, whole_diagnostics, IsModuleAnswer, AreModuleAnswers, IsPackageAnswer, ArePackageAnswers};
 
 use crate::found::packages_found;
-use crate::parts::{ModuleParts, PackageParts, either};
+use crate::parts::{JoinedModule, JoinedPackage, either};
 use fast_check_cache::PackagePublicRanges;
 use fast_check_diagnostics::{FastCheckDiagnostic, ModulePublicRanges};
-use fast_check_findings::{Finding, PackageNv};
-use fast_check_told_faults::{each_once, is_told};
+use fast_check_findings::{DemandFault, Finding, FoundModule, PackageNv, diagnostics_of};
 use std::alloc::{AllocError, Global};
 use std::collections::{BTreeMap, BTreeSet};
+use std::rc::RcStr;
 use url::Url;
 
 fn push_missing(
@@ -83,23 +85,26 @@ fn whole_diagnostics(
     Ok(out)
 }
 
-/// Whether any diagnostic is of a fault of a demand.
-fn any_told(diagnostics: &[FastCheckDiagnostic]) -> bool
-    ensures { result ≡ list_any (tells any_report) diagnostics.now }
+/// Whether there is any fault of a demand.
+fn is_faulty(faults: &[(DemandFault, RcStr)]) -> bool
+    ensures { result ≡ list_any (passes any_fault) faults.now }
 {
-    diagnostics.iter().any(|diagnostic| is_told(diagnostic))
+    match faults.split_first() {
+        None => false,
+        Some(_) => true,
+    }
 }
 
-/// Whether anything is told of a module but that its types are not known.
+/// Whether anything is wrong with a module but that its types are not known.
 fn is_otherwise_faulty(
     is_missing: bool,
     is_untyped_entry: bool,
-    diagnostics: &[FastCheckDiagnostic],
+    faults: &[(DemandFault, RcStr)],
 ) -> bool
-    ensures { result ≡ (is_missing || (is_untyped_entry || list_any (tells any_report) diagnostics.now)) }
+    ensures { result ≡ (is_missing || (is_untyped_entry || list_any (passes any_fault) faults.now)) }
 {
-    let is_told = any_told(diagnostics);
-    either(is_missing, either(is_untyped_entry, is_told))
+    let is_faulty = is_faulty(faults);
+    either(is_missing, either(is_untyped_entry, is_faulty))
 }
 
 /// Whether the first is so and the second is not.
@@ -113,22 +118,25 @@ fn only_first(a: bool, b: bool) -> bool
 fn module_ranges(
     alloc: Global,
     specifier: &Url,
-    parts: ModuleParts,
+    parts: JoinedModule,
 ) -> Result<ModulePublicRanges, AllocError>
     ensures { IfOk result (IsModuleAnswer (serialize specifier.now) parts) }
 {
-    let ModuleParts {
-        ranges,
-        implementations,
-        diagnostics,
+    let JoinedModule {
+        found,
         is_missing,
         is_untyped_entry,
         is_untyped,
     } = parts;
-    let is_faulty = is_otherwise_faulty(is_missing, is_untyped_entry, diagnostics.as_slice());
+    let FoundModule {
+        ranges,
+        implementations,
+        faults,
+    } = found;
+    let is_faulty = is_otherwise_faulty(is_missing, is_untyped_entry, faults.as_slice());
     let is_untyped = only_first(is_untyped, is_faulty);
     let mut out = whole_diagnostics(alloc, specifier, is_missing, is_untyped_entry, is_untyped)?;
-    let mut told = each_once(alloc, diagnostics)?;
+    let mut told = diagnostics_of(alloc, faults)?;
     out.append(&mut told)?;
     let made = ModulePublicRanges::from_parts(alloc, ranges, implementations, out)?;
     Ok(made)
@@ -136,7 +144,7 @@ fn module_ranges(
 
 fn all_module_ranges(
     alloc: Global,
-    modules: BTreeMap<Url, ModuleParts>,
+    modules: BTreeMap<Url, JoinedModule>,
 ) -> Result<BTreeMap<Url, ModulePublicRanges>, AllocError>
     ensures { IfOk result (λ made. (t : Text) → AreModuleAnswers t (lookup_text t modules.entries) (lookup_text t made.entries)) }
 {
@@ -163,10 +171,10 @@ fn dependency_set(
     packages.into_iter().collect(alloc)
 }
 
-fn ranges_of(alloc: Global, parts: PackageParts) -> Result<PackagePublicRanges, AllocError>
+fn ranges_of(alloc: Global, parts: JoinedPackage) -> Result<PackagePublicRanges, AllocError>
     ensures { IfOk result (IsPackageAnswer parts) }
 {
-    let PackageParts {
+    let JoinedPackage {
         entry_points,
         modules,
         dependencies,
@@ -184,7 +192,7 @@ fn ranges_of(alloc: Global, parts: PackageParts) -> Result<PackagePublicRanges, 
 
 fn all_ranges(
     alloc: Global,
-    packages: BTreeMap<PackageNv, PackageParts>,
+    packages: BTreeMap<PackageNv, JoinedPackage>,
 ) -> Result<BTreeMap<PackageNv, PackagePublicRanges>, AllocError>
     ensures { IfOk result (λ made. (nv : Nv) → ArePackageAnswers (lookup_package nv packages.entries) (lookup_package nv made.entries)) }
 {

@@ -6,4 +6,4 @@ mod sources;
 mod steps;
 
 pub use sources::{Sources, info_of, is_untyped};
-pub use steps::steps_of;
+pub use steps::{Asker, steps_of};

@@ -1,3 +1,5 @@
+//! The steps from a module that is followed to other modules and to packages.
+
 ghost use Rattle.std.specs.Prelude.{◌≡◌, ◌++◌, map, option_map, OnOk, IfOk};
 ghost use Rattle.std.specs.Option.{option_copied};
 ghost use Rattle.std.specs.List.{flat_map};
@@ -20,6 +22,14 @@ use fast_check_traces::{ModuleWant, ModuleWants, TracedModule};
 use fast_check_worklists::{Step, is_same};
 use std::alloc::{AllocError, Global};
 use url::Url;
+
+/// Who asks: a module that is followed for a package, with what is known of others.
+#[derive(Clone, Copy)]
+pub struct Asker<'a> {
+    pub sources: Sources<'a>,
+    pub package: &'a PackageNv,
+    pub traced: TracedModule<'a>,
+}
 
 /// Adds what is asked of a file with this owner: names of it in the same package, and else the package alone.
 fn push_file_at(
@@ -73,39 +83,37 @@ fn push_behind(
 /// Adds what is asked of the file at a URL.
 fn push_target(
     alloc: Global,
-    sources: Sources<'_>,
+    asker: Asker<'_>,
     provider: &dyn JsrUrlProvider,
-    nv: &PackageNv,
     target: &Url,
     names: WantedNames<'_>,
     out: &mut Vec<Step>,
 ) -> Result<(), AllocError>
     ensures { OnOk result (map want_of out.new.items
-        ≡ map want_of out.old.items ++ file_at (nv_of nv.now) (serialize target.now) (asked_by (names_of names.entry))
-        (owner_by sources.entry.workspace_members.now (nv_at provider.now) (serialize target.now))) }
+        ≡ map want_of out.old.items ++ file_at (nv_of asker.entry.package.now) (serialize target.now) (asked_by (names_of names.entry))
+        (owner_by asker.entry.sources.workspace_members.now (nv_at provider.now) (serialize target.now))) }
 {
     let exports = exports_of(alloc, names)?;
-    let owner = owner_of(alloc, sources.workspace_members, provider, target)?;
-    push_file_at(nv, target, exports, owner, out)
+    let owner = owner_of(alloc, asker.sources.workspace_members, provider, target)?;
+    push_file_at(asker.package, target, exports, owner, out)
 }
 
 /// Adds what is asked of the module at a URL, behind a re-export of all.
 fn push_left(
     alloc: Global,
-    sources: Sources<'_>,
+    asker: Asker<'_>,
     provider: &dyn JsrUrlProvider,
-    nv: &PackageNv,
     target: &Url,
     names: WantedNames<'_>,
     out: &mut Vec<Step>,
 ) -> Result<(), AllocError>
     ensures { OnOk result (map want_of out.new.items
-        ≡ map want_of out.old.items ++ behind (nv_of nv.now) (serialize target.now) (asked_by (names_of names.entry))
-        (owner_by sources.entry.workspace_members.now (nv_at provider.now) (serialize target.now))) }
+        ≡ map want_of out.old.items ++ behind (nv_of asker.entry.package.now) (serialize target.now) (asked_by (names_of names.entry))
+        (owner_by asker.entry.sources.workspace_members.now (nv_at provider.now) (serialize target.now))) }
 {
     let exports = exports_of(alloc, names)?;
-    let owner = owner_of(alloc, sources.workspace_members, provider, target)?;
-    push_behind(nv, target, exports, owner, out)
+    let owner = owner_of(alloc, asker.sources.workspace_members, provider, target)?;
+    push_behind(asker.package, target, exports, owner, out)
 }
 
 /// What a text in a module resolves to.
@@ -120,69 +128,61 @@ fn resolved<'a>(traced: TracedModule<'a>, text: &str) -> Option<&'a Url>
 /// Adds what is asked of a file, by the text that names it.
 fn push_file(
     alloc: Global,
-    sources: Sources<'_>,
+    asker: Asker<'_>,
     provider: &dyn JsrUrlProvider,
-    nv: &PackageNv,
-    traced: TracedModule<'_>,
     file: FileWant<'_>,
     out: &mut Vec<Step>,
 ) -> Result<(), AllocError>
-    ensures { OnOk result (map want_of out.new.items
-        ≡ map want_of out.old.items ++ file_wants (known sources.entry (url_of provider.now) (nv_at provider.now)) (nv_of nv.now) traced.entry
+    ensures { let k = known asker.entry.sources (url_of provider.now) (nv_at provider.now) in
+        OnOk result (map want_of out.new.items
+        ≡ map want_of out.old.items ++ file_wants k (nv_of asker.entry.package.now) asker.entry.traced
         (file_demand_of file.entry)) }
 {
-    match resolved(traced, file.specifier) {
+    match resolved(asker.traced, file.specifier) {
         None => Ok(()),
-        Some(target) => push_target(alloc, sources, provider, nv, target, file.names, out),
+        Some(target) => push_target(alloc, asker, provider, target, file.names, out),
     }
 }
 
 /// Adds what a re-export of all asks of the module that its text names.
 fn push_again(
     alloc: Global,
-    sources: Sources<'_>,
+    asker: Asker<'_>,
     provider: &dyn JsrUrlProvider,
-    nv: &PackageNv,
-    traced: TracedModule<'_>,
     text: &str,
     out: &mut Vec<Step>,
 ) -> Result<(), AllocError>
-    ensures { OnOk result (map want_of out.new.items
-        ≡ map want_of out.old.items ++ left_wants (known sources.entry (url_of provider.now) (nv_at provider.now)) (nv_of nv.now) traced.entry
+    ensures { let k = known asker.entry.sources (url_of provider.now) (nv_at provider.now) in
+        OnOk result (map want_of out.new.items
+        ≡ map want_of out.old.items ++ left_wants k (nv_of asker.entry.package.now) asker.entry.traced
         (re_exported text.now)) }
 {
-    match resolved(traced, text) {
+    match resolved(asker.traced, text) {
         None => Ok(()),
-        Some(target) => push_left(
-            alloc,
-            sources,
-            provider,
-            nv,
-            target,
-            WantedNames::AllButDefault,
-            out,
-        ),
+        Some(target) => {
+            let names = WantedNames::AllButDefault;
+            push_left(alloc, asker, provider, target, names, out)
+        }
     }
 }
 
 /// Adds what is asked of another module by what the module exports again.
 fn push_want(
     alloc: Global,
-    sources: Sources<'_>,
+    asker: Asker<'_>,
     provider: &dyn JsrUrlProvider,
-    nv: &PackageNv,
-    traced: TracedModule<'_>,
     want: ModuleWant<'_>,
     out: &mut Vec<Step>,
 ) -> Result<(), AllocError>
-    ensures { OnOk result (map want_of out.new.items
-        ≡ map want_of out.old.items ++ left_wants (known sources.entry (url_of provider.now) (nv_at provider.now)) (nv_of nv.now) traced.entry
+    ensures { let k = known asker.entry.sources (url_of provider.now) (nv_at provider.now) in
+        OnOk result (map want_of out.new.items
+        ≡ map want_of out.old.items ++ left_wants k (nv_of asker.entry.package.now) asker.entry.traced
         (want_seen want.entry)) }
 {
     match want {
-        ModuleWant::ReExported(text) => push_again(alloc, sources, provider, nv, traced, text, out),
+        ModuleWant::ReExported(text) => push_again(alloc, asker, provider, text, out),
         ModuleWant::Answered(target, names) => {
-            push_left(alloc, sources, provider, nv, target, names, out)
+            push_left(alloc, asker, provider, target, names, out)
         }
     }
 }
@@ -190,19 +190,18 @@ fn push_want(
 /// What is asked of files.
 fn push_files(
     alloc: Global,
-    sources: Sources<'_>,
+    asker: Asker<'_>,
     provider: &dyn JsrUrlProvider,
-    nv: &PackageNv,
-    traced: TracedModule<'_>,
     files: &[FileWant<'_>],
     out: &mut Vec<Step>,
 ) -> Result<(), AllocError>
-    ensures { OnOk result (map want_of out.new.items
-        ≡ map want_of out.old.items ++ flat_map (file_wants (known sources.entry (url_of provider.now) (nv_at provider.now)) (nv_of nv.now) traced.entry)
+    ensures { let k = known asker.entry.sources (url_of provider.now) (nv_at provider.now) in
+        OnOk result (map want_of out.new.items
+        ≡ map want_of out.old.items ++ flat_map (file_wants k (nv_of asker.entry.package.now) asker.entry.traced)
         (map file_demand_of files.now)) }
 {
     for file in files {
-        push_file(alloc, sources, provider, nv, traced, *file, out)?;
+        push_file(alloc, asker, provider, *file, out)?;
     }
     Ok(())
 }
@@ -210,19 +209,18 @@ fn push_files(
 /// What is asked of other modules by what a module exports again.
 fn push_wants(
     alloc: Global,
-    sources: Sources<'_>,
+    asker: Asker<'_>,
     provider: &dyn JsrUrlProvider,
-    nv: &PackageNv,
-    traced: TracedModule<'_>,
     wants: &[ModuleWant<'_>],
     out: &mut Vec<Step>,
 ) -> Result<(), AllocError>
-    ensures { OnOk result (map want_of out.new.items
-        ≡ map want_of out.old.items ++ flat_map (left_wants (known sources.entry (url_of provider.now) (nv_at provider.now)) (nv_of nv.now) traced.entry)
+    ensures { let k = known asker.entry.sources (url_of provider.now) (nv_at provider.now) in
+        OnOk result (map want_of out.new.items
+        ≡ map want_of out.old.items ++ flat_map (left_wants k (nv_of asker.entry.package.now) asker.entry.traced)
         (map want_seen wants.now)) }
 {
     for want in wants {
-        push_want(alloc, sources, provider, nv, traced, *want, out)?;
+        push_want(alloc, asker, provider, *want, out)?;
     }
     Ok(())
 }
@@ -230,35 +228,18 @@ fn push_wants(
 /// What a module asks of other modules and of packages: by what its symbols ask of files, and by what it exports again.
 pub fn steps_of(
     alloc: Global,
-    sources: Sources<'_>,
+    asker: Asker<'_>,
     provider: &dyn JsrUrlProvider,
-    nv: &PackageNv,
-    traced: TracedModule<'_>,
     files: &FileWants<'_>,
     wants: &ModuleWants<'_>,
 ) -> Result<Vec<Step>, AllocError>
-    ensures { let k = known sources.entry (url_of provider.now) (nv_at provider.now) in
+    ensures { let k = known asker.entry.sources (url_of provider.now) (nv_at provider.now) in
+        let nv = nv_of asker.entry.package.now in
         IfOk result (λ out. map want_of out.items
-        ≡ flat_map (file_wants k (nv_of nv.now) traced.entry) files.now ++ flat_map (left_wants k (nv_of nv.now) traced.entry) wants.now) }
+        ≡ flat_map (file_wants k nv asker.entry.traced) files.now ++ flat_map (left_wants k nv asker.entry.traced) wants.now) }
 {
     let mut out = Vec::new(alloc);
-    push_files(
-        alloc,
-        sources,
-        provider,
-        nv,
-        traced,
-        files.as_slice(),
-        &mut out,
-    )?;
-    push_wants(
-        alloc,
-        sources,
-        provider,
-        nv,
-        traced,
-        wants.as_slice(),
-        &mut out,
-    )?;
+    push_files(alloc, asker, provider, files.as_slice(), &mut out)?;
+    push_wants(alloc, asker, provider, wants.as_slice(), &mut out)?;
     Ok(out)
 }

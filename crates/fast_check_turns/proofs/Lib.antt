@@ -1,6 +1,9 @@
 pub use Rattle.fast_check_entries.proofs as entry_proofs
 pub mod Lists
-mod Analyzed
-pub mod Reported
+mod TracedWith
+mod Placed
 mod Entered
 pub mod OwnYields
+pub mod Owned
+mod Followed
+pub mod Turns

@@ -1,6 +1,6 @@
 -- What a demand makes public in a module is declared in it.
 use Rattle.std.proofs.Common.{◌≡◌, sym, refl, subst, Bool, true, false, cond, List, [], ◌∷◌, ◌++◌, map, Option, Some, None}
-use Rattle.std.specs.Prelude.{option_map}
+use Rattle.std.specs.Prelude.{option_map, option_to_list}
 use Rattle.std.specs.List.{Contains, flat_map}
 use Rattle.std.specs.Map.{lookup}
 use Rattle.std.specs.Option.{option_and_then, option_or}
@@ -17,7 +17,7 @@ use Rattle.fast_check_graph.specs.Root.{specifier_of, module_named, AreFoundByOw
 use Rattle.fast_check_demands.specs.Demands.{Demand as SymbolDemand}
 use Rattle.fast_check_demands.specs.Rules.{each_of}
 use Rattle.fast_check_demands.specs.Yields.{ranges, implementations, Fault, faults}
-use Rattle.fast_check_faults.specs.Reports.{Report, report}
+use Rattle.fast_check_entries.specs.findings.Faults.{PlacedFault, placed}
 use Rattle.fast_check_search.specs.Turn.{AreTableRanges}
 use Rattle.fast_check_search.proofs.Each.{Contains_first, Contains_later, Each, each_nil, each_one, each_append, each_cons, each_map, each_flat, each_cond, each_each_of}
 use Rattle.fast_check_search.proofs.Own.{own_ranges, own_implementations}
@@ -27,11 +27,11 @@ use Rattle.fast_check_traces.specs.Wants.{re_export_ranges}
 use Rattle.fast_check_traces.proofs.OwnRanges.{own_demand}
 use Rattle.fast_check_worklists.specs.Demands.{Text, Want, to_package, to_module, to_symbol, Demand, of_package, of_module, of_symbol}
 use Rattle.fast_check_entries.specs.findings.Yields.{Yield, known_package, entry_point, refused_export, dependency, public, implementing, ModuleFault, recorded, faulty, untyped_module, of_demand}
-use Rattle.fast_check_entries.specs.findings.Findings.{faulty_module, entry_fault, told_at}
+use Rattle.fast_check_entries.specs.findings.Findings.{faulty_module, entry_fault, placed_yield, placed_yields}
 use Rattle.fast_check_entries.specs.Entries.{Entrance, passed_over, refused, entered, all_faults}
 use Rattle.fast_check_steps.specs.Sources.{Known, is_text, node_at, named_at, traced_as, typed_info, info_at, module_at, untyped_at}
 use Rattle.fast_check_turns.specs.Rules.{names_wants, symbol_wants, entrance_at}
-use Rattle.fast_check_turns.specs.Yields.{own_text, dependency_of, dependencies, public_at, implementing_at, names_yields, reported_as, faults_at, fault_yields}
+use Rattle.fast_check_turns.specs.Yields.{own_text, dependency_of, dependencies, public_at, implementing_at, names_yields, source_in, faults_at, fault_yields}
 use Rattle.fast_check_turns.specs.Yields.{symbol_yields, untyped_yields, entry_fault_yields, entry_yields, gives}
 use Rattle.fast_check_turns.specs.Own.{IsOwnRange, IsOwnYield}
 
@@ -123,12 +123,11 @@ module _ (k : Known) (found : AreFoundByOwnNames k.root_symbol) where
   all_dependencies : (nv : Nv) (wants : List Want) → Each Q (dependencies nv wants)
   all_dependencies nv wants = each_flat Q (dependency_of nv) wants (λ w _. one_dependency nv w)
 
-  one_told : (nv : Nv) (t : Text) (o : Option Report) → Each Q (told_at nv t o)
-  one_told nv t None = each_nil Q
-  one_told nv t (Some r) = each_one Q (faulty nv t (of_demand r)) tt
+  all_placed : (nv : Nv) (t : Text) (fs : List PlacedFault) → Each Q (placed_yields nv t fs)
+  all_placed nv t fs = each_map Q (placed_yield nv t) fs (λ f c. tt)
 
-  all_faults_told : (nv : Nv) (m : TracedModule) (fs : List Fault) → Each Q (faults_at nv m fs)
-  all_faults_told nv m fs = each_flat Q (fault_yields nv m) fs (λ f _. one_told nv (own_text m) (report (reported_as m) f))
+  all_faults_placed : (nv : Nv) (m : TracedModule) (fs : List Fault) → Each Q (faults_at nv m fs)
+  all_faults_placed nv m fs = each_flat Q (fault_yields nv m) fs (λ f _. all_placed nv (own_text m) (option_to_list (placed (source_in m) f)))
 
   one_faulty : (nv : Nv) (t : Text) (f : ModuleFault) → Each Q (faulty_module nv t f)
   one_faulty nv t f = each_cons Q (recorded nv t) (faulty nv t f ∷ []) tt (each_one Q (faulty nv t f) tt)
@@ -150,7 +149,7 @@ module _ (k : Known) (found : AreFoundByOwnNames k.root_symbol) where
       (publics nv m h (ranges (own_tables m) s) (own_ranges (own_tables m) s))
       (each_append Q implementing_of (faults_of ++ depends)
       (implementings nv m h (implementations (own_tables m) s) (own_implementations (own_tables m) s))
-      (each_append Q faults_of depends (all_faults_told nv m (faults (own_tables m) s)) (all_dependencies nv (symbol_wants k nv t s m))))
+      (each_append Q faults_of depends (all_faults_placed nv m (faults (own_tables m) s)) (all_dependencies nv (symbol_wants k nv t s m))))
 
   of_entrance : (nv : Nv) (e : Entrance) → Each Q (entry_yields k.graph nv e)
   of_entrance nv passed_over = each_nil Q

@@ -3,6 +3,6 @@ pub use Rattle.fast_check_steps.specs as steps
 pub use Rattle.fast_check_entries.specs as entries
 pub mod Rules
 pub mod Yields
-pub mod Analysis
+pub mod Traced
 pub mod Own
 pub mod Turns

@@ -1,5 +1,5 @@
 -- What a demand gives.
-use Rattle.std.specs.Prelude.{ℕ, cond, List, [], ◌∷◌, ◌++◌, map}
+use Rattle.std.specs.Prelude.{ℕ, cond, List, [], ◌∷◌, ◌++◌, map, option_to_list}
 use Rattle.std.specs.List.{flat_map}
 use Rattle.std.specs.Rc.{rc_str_bytes}
 use Rattle.url.specs.Parts.{Parts, serialize}
@@ -13,14 +13,14 @@ use Rattle.fast_check_graph.specs.Root.{specifier_of}
 use Rattle.fast_check_demands.specs.Demands.{Demand as SymbolDemand}
 use Rattle.fast_check_demands.specs.Rules.{each_of}
 use Rattle.fast_check_demands.specs.Yields.{ranges, implementations, Fault, faults}
-use Rattle.fast_check_faults.specs.Reports.{ReportedModule, report}
+use Rattle.fast_check_entries.specs.findings.Faults.{FaultSource, placed}
 use Rattle.fast_check_traces.specs.declared.modules.TracedModule.{TracedModule}
 use Rattle.fast_check_traces.specs.Modules.{own_tables}
 use Rattle.fast_check_traces.specs.Wants.{re_export_ranges}
 use Rattle.fast_check_worklists.specs.Demands.{Text, Want, to_package, to_module, to_symbol, Demand, of_package, of_module, of_symbol}
 use Rattle.fast_check_entries.specs.findings.declared.finding.EntryFault.{EntryFault}
 use Rattle.fast_check_entries.specs.findings.Yields.{Yield, known_package, entry_point, refused_export, dependency, recorded, public, implementing, untyped_module}
-use Rattle.fast_check_entries.specs.findings.Findings.{faulty_module, entry_fault, told_at}
+use Rattle.fast_check_entries.specs.findings.Findings.{faulty_module, entry_fault, placed_yields}
 use Rattle.fast_check_entries.specs.Entries.{Entrance, passed_over, refused, entered, all_faults}
 use Rattle.fast_check_steps.specs.Sources.{Known, module_at, untyped_at}
 use Rattle.fast_check_turns.specs.Rules.{names_wants, symbol_wants, entrance_at}
@@ -52,15 +52,15 @@ abbrev pub text_of : ModuleInfo → List ℕ
 text_of (Esm info) = rc_str_bytes info.source.text
 text_of (Json info) = []
 
-abbrev pub reported_with : TracedModule → List ℕ → ReportedModule
-reported_with m text = record { specifier = specifier_of m.info.now; text = text; symbols = (own_tables m).symbols }
+abbrev pub source_with : TracedModule → List ℕ → FaultSource
+source_with m text = record { specifier = specifier_of m.info.now; text = text; symbols = (own_tables m).symbols }
 
-abbrev pub reported_as : TracedModule → ReportedModule
-reported_as m = reported_with m (text_of m.info.now)
+abbrev pub source_in : TracedModule → FaultSource
+source_in m = source_with m (text_of m.info.now)
 
--- what is told of a fault of a demand
+-- a fault of a demand at its place, if its symbol has one
 abbrev pub fault_yields : Nv → TracedModule → Fault → List Yield
-fault_yields nv m f = told_at nv (own_text m) (report (reported_as m) f)
+fault_yields nv m f = placed_yields nv (own_text m) (option_to_list (placed (source_in m) f))
 
 abbrev pub faults_at : Nv → TracedModule → List Fault → List Yield
 faults_at nv m found = flat_map (fault_yields nv m) found
@@ -72,7 +72,7 @@ symbol_yields k nv t s m =
     ++ (faults_at nv m (faults (own_tables m) s)
     ++ dependencies nv (symbol_wants k nv t s m)))
 
--- an untyped module is told under the name by which it was asked for
+-- an untyped module is recorded under the name by which it was asked for
 abbrev pub untyped_yields : ModuleGraph → Nv → Text → List Yield
 untyped_yields g nv t = cond (untyped_at g t) (faulty_module nv t untyped_module) []
 

@@ -1,3 +1,5 @@
+//! The list of what was found.
+
 ghost use Rattle.std.specs.Prelude.{◌≡◌, ◌++◌, OnOk};
 ghost use Rattle.std.specs.List.{flat_map};
 ghost use Rattle.fast_check_entries.specs.findings.Findings.{yields_of};

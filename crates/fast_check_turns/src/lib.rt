@@ -1,13 +1,13 @@
 //! What one turn of the search asks and gives: a package that is entered, or a module that is followed.
 #![tactic(auto)]
 
-mod analysis;
 mod findings;
 mod modules;
 mod packages;
+mod traced;
 
 pub use fast_check_entries::findings::{
-    EnteredPackage, EntryFault, Finding, FollowedModule, UntypedModule,
+    EnteredPackage, EntryFault, Finding, FollowedModule, FoundModule, UntypedModule,
 };
 pub use fast_check_steps::Sources;
 pub use modules::follow;

@@ -1,98 +1,80 @@
+//! A module that is followed.
+
 ghost use Rattle.std.specs.Prelude.{◌≡◌, ◌++◌, map, OnOk, IfOk};
 ghost use Rattle.std.specs.List.{flat_map};
 ghost use Rattle.url.specs.Parts.{serialize};
 ghost use Rattle.fast_check_packages.specs.Package.{nv_of};
-ghost use Rattle.fast_check_worklists.specs.State.{want_of, state_of, trace_of};
-ghost use Rattle.fast_check_entries.specs.findings.Findings.{yields_of};
-ghost use Rattle.fast_check_steps.specs.Sources.{known, info_at};
-ghost use Rattle.fast_check_turns.specs.Yields.{dependencies, untyped_yields};
-ghost use Rattle.fast_check_turns.specs.Turns.{given_at, FollowsIn, FollowsAt};
+ghost use Rattle.fast_check_graph.specs.Root.{specifier_of};
+ghost use Rattle.fast_check_worklists.specs.State.{want_of, state_of, trace_of, IsFollowed};
+ghost use Rattle.fast_check_entries.specs.findings.Findings.{module_yields, yields_of};
+ghost use Rattle.fast_check_steps.specs.Sources.{known, traced_as};
+ghost use Rattle.fast_check_turns.specs.Rules.{world};
+ghost use Rattle.fast_check_turns.specs.Traced.{IsTracedFor};
+ghost use Rattle.fast_check_turns.specs.Yields.{dependencies, untyped_yields, gives};
 
-use crate::analysis::{Analysis, analyze_exports, dependencies_of};
 use crate::findings::push_finding;
-use fast_check_diagnostics::FastCheckDiagnostic;
-use fast_check_entries::findings::{Finding, FollowedModule, UntypedModule};
+use crate::traced::{dependencies_of, traced_module};
+use fast_check_entries::findings::{Finding, FollowedModule, FoundModule, UntypedModule};
 use fast_check_graph::{ModuleGraph, ModuleInfo};
+use fast_check_name_demands::{name_demands, wanted_names};
 use fast_check_packages::PackageNv;
 use fast_check_provider::JsrUrlProvider;
-use fast_check_steps::{Sources, info_of, is_untyped};
-use fast_check_syntax::SourceRange;
+use fast_check_steps::{Asker, Sources, info_of, is_untyped};
+use fast_check_traces::TracedModule;
 use fast_check_worklists::{Asked, PendingTrace, Step};
 use std::alloc::{AllocError, Global};
-use url::Url;
 
-/// What is answered of a module that was followed for a package.
+/// What is found of a module that is followed for a package, with the packages that it asks for.
 fn followed_module(
     alloc: Global,
     package: PackageNv,
-    specifier: &Url,
+    info: &ModuleInfo,
     steps: &[Step],
-    ranges: Vec<SourceRange>,
-    implementations: Vec<SourceRange>,
-    re_export_ranges: Vec<SourceRange>,
-    diagnostics: Vec<FastCheckDiagnostic>,
+    found: FoundModule,
 ) -> Result<Finding, AllocError>
     ensures { IfOk result (λ finding. yields_of finding
-        ≡ given_at (nv_of «package») (serialize specifier.now) (dependencies (nv_of «package») (map want_of steps.now))
-        ranges.items implementations.items re_export_ranges.items diagnostics.items) }
+        ≡ module_yields (nv_of «package») (serialize (specifier_of info.now)) found (dependencies (nv_of «package») (map want_of steps.now))) }
 {
     let dependencies = dependencies_of(alloc, &package, steps)?;
-    let specifier = specifier.clone()?;
+    let specifier = info.specifier().clone()?;
     Ok(Finding::Followed(FollowedModule {
         package,
         specifier,
-        ranges,
-        implementations,
-        re_export_ranges,
-        diagnostics,
+        found,
         dependencies,
     }))
 }
 
-/// Follows names of a module with tables.
-fn follow_in<'a>(
+/// Follows names of a module with tables, for a package: the steps to others, and what is found of the module.
+fn follow_in(
     alloc: Global,
-    sources: Sources<'a>,
+    sources: Sources<'_>,
     provider: &dyn JsrUrlProvider,
-    info: &'a ModuleInfo,
+    info: &ModuleInfo,
     trace: PendingTrace,
-    asked: &mut Asked,
-    found: &mut Vec<Finding>,
-) -> Result<(), AllocError>
-    ensures { OnOk result (FollowsIn (known sources.entry (url_of provider.now) (nv_at provider.now)) info.now (trace_of trace)
-        (state_of asked.old) (state_of asked.new) (flat_map yields_of found.old.items) (flat_map yields_of found.new.items)) }
+) -> Result<(Vec<Step>, Finding), AllocError>
+    ensures { let k = known sources.entry (url_of provider.now) (nv_at provider.now) in
+        IfOk result (λ r. IsTracedFor k (traced_as k info.now) (trace_of trace) (map want_of r.0.items) (yields_of r.1)) }
 {
     let PendingTrace {
         package_nv,
         exports_to_trace,
         ..
     } = trace;
-    let Analysis {
-        steps,
-        ranges,
-        implementations,
-        re_export_ranges,
-        diagnostics,
-    } = analyze_exports(
-        alloc,
+    let demands = name_demands(alloc, exports_to_trace)?;
+    let names = wanted_names(alloc, demands.as_slice())?;
+    let asker = Asker {
         sources,
-        provider,
-        &package_nv,
-        info,
-        exports_to_trace,
-    )?;
-    let finding = followed_module(
-        alloc,
-        package_nv,
-        info.specifier(),
-        steps.as_slice(),
-        ranges,
-        implementations,
-        re_export_ranges,
-        diagnostics,
-    )?;
-    push_finding(found, finding)?;
-    asked.ask_all(alloc, steps)
+        package: &package_nv,
+        traced: TracedModule {
+            graph: sources.graph,
+            root_symbol: sources.root_symbol,
+            info,
+        },
+    };
+    let (steps, found) = traced_module(alloc, asker, provider, names.as_slice())?;
+    let finding = followed_module(alloc, package_nv, info, steps.as_slice(), found)?;
+    Ok((steps, finding))
 }
 
 /// Tells a module whose types are not known, under the name by which it was asked for.
@@ -119,7 +101,7 @@ fn leave_out(
     push_finding(found, Finding::Untyped(module))
 }
 
-/// Follows names of a module, if it is one that is followed.
+/// Follows names of a module, if it is one that is followed: asks for what follows from them, and adds what is found.
 pub fn follow(
     alloc: Global,
     sources: Sources<'_>,
@@ -128,12 +110,20 @@ pub fn follow(
     asked: &mut Asked,
     found: &mut Vec<Finding>,
 ) -> Result<(), AllocError>
-    ensures { OnOk result (FollowsAt (known sources.entry (url_of provider.now) (nv_at provider.now))
-        (info_at sources.entry.graph.now sources.entry.root_symbol.now (serialize trace.specifier)) (trace_of trace)
-        (state_of asked.old) (state_of asked.new) (flat_map yields_of found.old.items) (flat_map yields_of found.new.items)) }
+    ensures { let k = known sources.entry (url_of provider.now) (nv_at provider.now) in
+        OnOk result (IsFollowed (world k) (gives k) (trace_of trace) (state_of asked.old) (state_of asked.new)
+        (flat_map yields_of found.old.items) (flat_map yields_of found.new.items)) }
 {
     match info_of(sources.graph, sources.root_symbol, &trace.specifier) {
-        None => leave_out(sources.graph, trace, found),
-        Some(info) => follow_in(alloc, sources, provider, info, trace, asked, found),
+        None => {
+            leave_out(sources.graph, trace, found)?;
+            Ok(())
+        }
+        Some(info) => {
+            let (steps, finding) = follow_in(alloc, sources, provider, info, trace)?;
+            push_finding(found, finding)?;
+            asked.ask_all(alloc, steps)?;
+            Ok(())
+        }
     }
 }

@@ -1,3 +1,5 @@
+//! A package that is entered.
+
 ghost use Rattle.std.specs.Prelude.{◌≡◌, ◌++◌, ◌∷◌, [], map, OnOk, IfOk, IfErr};
 ghost use Rattle.std.specs.List.{flat_map};
 ghost use Rattle.url.specs.Parts.{serialize};
@@ -5,10 +7,10 @@ ghost use Rattle.fast_check_packages.specs.Package.{nv_of};
 ghost use Rattle.fast_check_entries.specs.findings.Yields.{known_package, entry_point};
 ghost use Rattle.fast_check_entries.specs.findings.Findings.{yields_of};
 ghost use Rattle.fast_check_entries.specs.Entries.{entered, entrance_seen, TellsRefused};
-ghost use Rattle.fast_check_worklists.specs.State.{want_of, state_of};
+ghost use Rattle.fast_check_worklists.specs.State.{want_of, state_of, IsEntered};
 ghost use Rattle.fast_check_steps.specs.Sources.{known};
-ghost use Rattle.fast_check_turns.specs.Rules.{entry_want, unless_faulty, entrance_at};
-ghost use Rattle.fast_check_turns.specs.Yields.{entry_fault_yields};
+ghost use Rattle.fast_check_turns.specs.Rules.{entry_want, unless_faulty, entrance_at, world};
+ghost use Rattle.fast_check_turns.specs.Yields.{entry_fault_yields, gives};
 ghost use Rattle.fast_check_turns.specs.Turns.{Enters};
 
 use crate::findings::push_finding;
@@ -123,9 +125,9 @@ pub fn enter(
     asked: &mut Asked,
     found: &mut Vec<Finding>,
 ) -> Result<(), BuildFault>
-    ensures entered { OnOk result (Enters sources.entry.graph.now (nv_of nv.now)
-        (entrance_at (known sources.entry (url_of provider.now) (nv_at provider.now)) (nv_of nv.now))
-        (state_of asked.old) (state_of asked.new) (flat_map yields_of found.old.items) (flat_map yields_of found.new.items)) }
+    ensures entered { let k = known sources.entry (url_of provider.now) (nv_at provider.now) in
+        OnOk result (IsEntered (world k) (gives k) (nv_of nv.now) (state_of asked.old) (state_of asked.new)
+        (flat_map yields_of found.old.items) (flat_map yields_of found.new.items)) }
     ensures refused { IfErr result (TellsRefused (nv_of nv.now)
         (entrance_at (known sources.entry (url_of provider.now) (nv_at provider.now)) (nv_of nv.now))) }
 {

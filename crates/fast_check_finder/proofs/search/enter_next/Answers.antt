@@ -1,16 +1,12 @@
 use Rattle.std.proofs.Common.{◌∙◌, sym, ap, refl, inr, map, arith}
-use Rattle.std.specs.List.{flat_map}
 use Rattle.std.proofs.lemmas.List.{length-map, get_or-map}
 use Rattle.std.proofs.lemmas.Option.{get_or_from_slice_get}
 use Rattle.fast_check_packages.specs.Package.{nv_of}
-use Rattle.fast_check_worklists.specs.State.{state_of}
 use Rattle.fast_check_worklists.specs.Turn.{waiting_trace}
 use Rattle.fast_check_turns.specs.steps.Sources.{known}
-use Rattle.fast_check_findings.specs.Findings.{yields_of}
 use Rattle.fast_check_turns.proofs.entry_proofs.Passed.{passed_on}
 use Rattle.fast_check_finder.specs.Refusals.{IsRefusedOf}
 use Rattle.fast_check_finder.proofs.Refused.{refused_of}
-use Rattle.fast_check_finder.proofs.Turns.{entered_at}
 use Rattle.fast_check_finder.proofs.search.enter_next.Goals as goal
 
 pub returns-clause-turned : goal.returns-clause-turned
@@ -24,9 +20,7 @@ returns-clause-turned g c =
           (omega (arith, c.if-next-len.false, c.len.ensures)) ∙
           (ap nv_of (get_or_from_slice_get c.args.asked.now.packages.keys c.args.next c.index.result.now c.index.result.now c.index.ensures)
           ∙ sym c.in_ok-nv.ensures);
-      entered = entered_at (known c.args.sources (m.url_of c.args.provider.now.1) (m.nv_at c.args.provider.now.1)) (nv_of c.in_ok-nv.nv)
-          (state_of c.args.asked.now) (state_of c.enter.new.asked)
-          (flat_map yields_of c.args.found.now.items) (flat_map yields_of c.enter.new.found.items) c.in_ok-enter.ensures.entered;
+      entered = c.in_ok-enter.ensures.entered;
       next_is = refl;
     })
 

@@ -8,7 +8,7 @@ use Rattle.fast_check_turns.specs.Rules.{world}
 use Rattle.fast_check_turns.specs.Yields.{gives}
 use Rattle.fast_check_findings.specs.Findings.{yields_of}
 use Rattle.fast_check_finder.specs.Reach.{reach}
-use Rattle.fast_check_finder.proofs.Owned.{orderly}
+use Rattle.fast_check_turns.proofs.Owned.{orderly}
 use Rattle.fast_check_finder.proofs.Reach.{universe}
 use Rattle.fast_check_turns.proofs.entry_proofs.Passed.{passed_on}
 use Rattle.fast_check_finder.specs.Refusals.{IsRefusal}

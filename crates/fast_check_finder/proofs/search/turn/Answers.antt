@@ -1,4 +1,4 @@
-use Rattle.std.proofs.Common.{map}
+use Rattle.std.proofs.Common.{map, refl, Some}
 use Rattle.std.specs.List.{flat_map}
 use Rattle.fast_check_packages.specs.Package.{nv_of}
 use Rattle.fast_check_traced_modules.specs.Traces.{handled, pending}
@@ -19,10 +19,10 @@ returns-in_ok-after-in-None-clause-turned g c =
     (pending c.pop.new.self) (state_of c.enter_next.new.asked) (flat_map yields_of c.args.found.now.items) (flat_map yields_of c.enter_next.new.found.items)
     c.in_ok-after-in-None.after c.in-None.ensures.taken c.in_ok-after-in-None.ensures.turned
 
-pub returns-in_ok-after-in-Some-clause-turned : goal.returns-in_ok-after-in-Some-clause-turned
-returns-in_ok-after-in-Some-clause-turned g c =
+pub returns-in_ok-follow-in-Some-clause-turned : goal.returns-in_ok-follow-in-Some-clause-turned
+returns-in_ok-follow-in-Some-clause-turned g c =
     let m = goal.JsrUrlProvider-dyn g c.args.provider.now in
     traced_turn (known c.args.sources (m.url_of c.args.provider.now.1) (m.nv_at c.args.provider.now.1)) c.args.next (handled c.args.asked.now.handled)
     (map nv_of c.args.asked.now.packages.keys) (pending c.args.asked.now.waiting) (pending c.pop.new.self) c.in-Some.trace
-    (state_of c.follow_next.new.asked) (flat_map yields_of c.args.found.now.items) (flat_map yields_of c.follow_next.new.found.items)
-    c.in_ok-after-in-Some.after c.in-Some.ensures.taken c.in_ok-after-in-Some.ensures.followed c.in_ok-after-in-Some.ensures.next
+    (state_of c.follow.new.asked) (flat_map yields_of c.args.found.now.items) (flat_map yields_of c.follow.new.found.items)
+    (Some c.args.next) c.in-Some.ensures.taken c.in_ok-follow-in-Some.ensures refl

@@ -5,7 +5,7 @@ use Rattle.fast_check_findings.specs.Findings.{entry_fault}
 use Rattle.fast_check_findings.specs.declared.finding.EntryFault.{EntryFault}
 use Rattle.fast_check_package_ranges.specs.Questions.{is_recorded, fault_says}
 use Rattle.fast_check_package_ranges.specs.Parts.{is_text, found_module_says}
-use Rattle.fast_check_told_faults.proofs.Lists.{any_push}
+use Rattle.fast_check_findings.proofs.Lists.{any_push}
 use Rattle.fast_check_package_ranges.proofs.found.faulty_entries.Goals as goal
 
 pub loop-specifier-preserved : goal.loop-specifier-preserved

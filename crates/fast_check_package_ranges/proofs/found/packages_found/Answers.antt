@@ -1,6 +1,6 @@
 use Rattle.std.proofs.Common.{◌∙◌, sym, ap, ◌||◌}
 use Rattle.fast_check_package_ranges.specs.Parts.{finding_says_of}
-use Rattle.fast_check_told_faults.proofs.Lists.{any_push}
+use Rattle.fast_check_findings.proofs.Lists.{any_push}
 use Rattle.fast_check_package_ranges.proofs.found.packages_found.Goals as goal
 
 pub loop-finding-preserved : goal.loop-finding-preserved

@@ -1,5 +1,5 @@
 use Rattle.std.proofs.Common.{◌∙◌, sym, ap, ◌||◌}
-use Rattle.fast_check_told_faults.specs.Once.{where_found}
+use Rattle.fast_check_findings.specs.Diagnostics.{where_found}
 use Rattle.fast_check_package_ranges.specs.Parts.{is_text, module_says}
 use Rattle.fast_check_package_ranges.proofs.Maps.{text_one, text_total, lookup_put, says_after}
 use Rattle.fast_check_package_ranges.proofs.parts.add_module.Goals as goal

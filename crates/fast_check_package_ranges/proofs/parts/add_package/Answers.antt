@@ -1,5 +1,5 @@
 use Rattle.std.proofs.Common.{◌∙◌, sym, ap, ◌||◌}
-use Rattle.fast_check_told_faults.specs.Once.{where_found}
+use Rattle.fast_check_findings.specs.Diagnostics.{where_found}
 use Rattle.fast_check_package_ranges.specs.Parts.{is_package, package_says, found_says}
 use Rattle.fast_check_package_ranges.proofs.Maps.{package_one, package_total, lookup_put, says_after}
 use Rattle.fast_check_package_ranges.proofs.parts.add_package.Goals as goal

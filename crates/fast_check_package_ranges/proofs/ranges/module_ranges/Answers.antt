@@ -1,7 +1,7 @@
 use Rattle.std.proofs.Common.{◌∙◌, ap, ◌&&◌, ◌||◌, ◌++◌}
 use Rattle.std.specs.Prelude.{not}
 use Rattle.std.specs.List.{list_any}
-use Rattle.fast_check_told_faults.specs.Once.{any_report, tells}
+use Rattle.fast_check_findings.specs.Diagnostics.{any_fault, passes}
 use Rattle.fast_check_package_ranges.specs.Made.{whole_diagnostics}
 use Rattle.fast_check_package_ranges.proofs.Told.{module_made}
 use Rattle.fast_check_package_ranges.proofs.ranges.module_ranges.Goals as goal
@@ -16,7 +16,7 @@ returns c =
       out_is = c.in_ok-made.ensures.diagnostics ∙ (c.in_ok-append.ensures.items ∙ ap (λ ds. ds ++ told)
           (c.in_ok-out.ensures ∙ ap (λ u. whole_diagnostics s parts.is_missing parts.is_untyped_entry u)
           (c.only_first-is_untyped.ensures ∙ ap (λ o. parts.is_untyped && not o) (c.is_otherwise_faulty-is_faulty.ensures ∙
-          ap (λ ds. parts.is_missing || (parts.is_untyped_entry || list_any (tells any_report) ds)) c.as_slice.ensures.value))));
+          ap (λ ds. parts.is_missing || (parts.is_untyped_entry || list_any (passes any_fault) ds)) c.as_slice.ensures.value))));
       same = c.in_ok-told.ensures.same;
       exact = c.in_ok-told.ensures.exact;
       only = c.in_ok-told.ensures.only;

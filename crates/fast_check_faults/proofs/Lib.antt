@@ -1,2 +1,0 @@
-pub mod SameFaults
-pub mod EachOnce

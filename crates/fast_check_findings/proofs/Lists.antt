@@ -1,0 +1,47 @@
+-- Tests of lists.
+use Rattle.std.proofs.Common.{◌≡◌, ◌∙◌, refl, sym, ap, Bool, true, false, ◌&&◌, ◌||◌, List, [], ◌∷◌, ◌++◌, map, Option, Some, None}
+use Rattle.std.specs.List.{list_any, flat_map}
+use Rattle.std.specs.Option.{is_some}
+use Rattle.std.proofs.lemmas.Bool.{false≢true}
+use Rattle.std.proofs.lemmas.List.Folds.{list_any-append}
+use Rattle.fast_check_findings.specs.Diagnostics.{where_found}
+use Rattle.fast_check_findings.proofs.Bools.{or_none}
+
+pub any_map : {X Y : Type 0} (test : Y → Bool) (f : X → Y) (xs : List X) → list_any test (map f xs) ≡ list_any (λ x. test (f x)) xs
+any_map test f [] = refl
+any_map test f (x ∷ xs) = ap (λ b. test (f x) || b) (any_map test f xs)
+
+pub any_flat : {X Y : Type 0} (test : Y → Bool) (f : X → List Y) (xs : List X) → list_any test (flat_map f xs) ≡ list_any (λ x. list_any test (f x)) xs
+any_flat test f [] = refl
+any_flat test f (x ∷ xs) = list_any-append test (f x) (flat_map f xs) ∙ ap (λ b. list_any test (f x) || b) (any_flat test f xs)
+
+pub any_alike : {X : Type 0} (f g : X → Bool) → ((x : X) → f x ≡ g x) → (xs : List X) → list_any f xs ≡ list_any g xs
+any_alike f g h [] = refl
+any_alike f g h (x ∷ xs) = ap (λ b. b || list_any f xs) (h x) ∙ ap (λ b. g x || b) (any_alike f g h xs)
+
+pub any_false : {X : Type 0} (xs : List X) → list_any (λ (x : X). false) xs ≡ false
+any_false [] = refl
+any_false (x ∷ xs) = any_false xs
+
+pub any_none : {X : Type 0} (test : X → Bool) → ((x : X) → test x ≡ false) → (xs : List X) → list_any test xs ≡ false
+any_none test h xs = any_alike test (λ x. false) h xs ∙ any_false xs
+
+pub any_and : {X : Type 0} (b : Bool) (test : X → Bool) (xs : List X) → list_any (λ x. b && test x) xs ≡ (b && list_any test xs)
+any_and true test xs = refl
+any_and false test xs = any_false xs
+
+pub found_none : {X : Type 0} (test : X → Bool) → ((x : X) → test x ≡ false) → (o : Option X) → where_found test o ≡ false
+found_none test h None = refl
+found_none test h (Some x) = h x
+
+pub any_push : {X : Type 0} (test : X → Bool) (xs : List X) (x : X) → list_any test (xs ++ x ∷ []) ≡ (list_any test xs || test x)
+any_push test xs x = list_any-append test xs (x ∷ []) ∙ ap (λ b. list_any test xs || b) (or_none (test x))
+
+pub or_weaker : (a b c : Bool) → (a ≡ true → b ≡ true) → (a || c) ≡ true → (b || c) ≡ true
+or_weaker true b c h e = ap (λ d. d || c) (h refl)
+or_weaker false true c h e = refl
+or_weaker false false c h e = e
+
+pub none_found : {X : Type 0} (o : Option X) → is_some o ≡ false → o ≡ None
+none_found None h = refl
+none_found (Some x) h = absurd (false≢true (sym h))

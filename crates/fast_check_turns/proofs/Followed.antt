@@ -1,0 +1,416 @@
+-- What came of a trace is what its demands name and give.
+use Rattle.std.proofs.Common.{◌≡◌, ◌∙◌, sym, ap, refl, subst, true, List, [], ◌∷◌, ◌++◌, Option, Some, map, ⊎_elim, ◌⊎◌}
+use Rattle.std.proofs.Common.{inl, inr}
+use Rattle.std.specs.List.{Contains, flat_map}
+use Rattle.std.proofs.lemmas.Bool.{false≢true}
+use Rattle.std.proofs.lemmas.List.Elements.{Contains-append_cases, Contains-append_left, Contains-append_right}
+use Rattle.fast_check_syntax.specs.declared.source.SourceRange.{SourceRange}
+use Rattle.fast_check_packages.specs.Package.{Nv}
+use Rattle.fast_check_names.specs.declared.lattice.imported_exports.ImportedExports.{ImportedExports}
+use Rattle.fast_check_names.specs.declared.lattice.imported_exports.ImportedExports.TheVariants.{Star, StarWithDefault, Subset}
+use Rattle.fast_check_names.specs.Imports.{NameDemand, names_but_default, each_name, subset_at, whole_at, demands}
+use Rattle.fast_check_demands.specs.Demands.{Demand as SymbolDemand}
+use Rattle.fast_check_demands.specs.Account.{Chained, root as symbol_root, step as symbol_step, IsCovered as IsSymbolCovered}
+use Rattle.fast_check_demands.specs.Rules.{each_of, names}
+use Rattle.fast_check_demands.specs.Yields.{ranges, implementations, faults}
+use Rattle.fast_check_entries.specs.findings.declared.finding.FoundModule.{FoundModule}
+use Rattle.fast_check_entries.specs.findings.Faults.{placed_in}
+use Rattle.fast_check_files.specs.Files.{files}
+use Rattle.fast_check_traces.specs.declared.modules.TracedModule.{TracedModule}
+use Rattle.fast_check_traces.specs.Modules.{own_tables}
+use Rattle.fast_check_traces.specs.Roots.{roots}
+use Rattle.fast_check_traces.specs.Wants.{re_export_ranges, module_wants}
+use Rattle.fast_check_search.proofs.Each.{Contains_none, Contains_first, Contains_later, Contains_cases, contains_map, contains_flat_map, Each}
+use Rattle.fast_check_search.proofs.Each.{each_append, each_map, each_flat}
+use Rattle.fast_check_worklists.proofs.Waiting.{map_contains}
+use Rattle.fast_check_worklists.proofs.Asking.{asked_some}
+use Rattle.fast_check_worklists.specs.Demands.{Text, asked, Want, to_package, to_module, to_symbol, Demand, of_package, of_module, of_symbol}
+use Rattle.fast_check_worklists.specs.Account.{Followed, HasIn, IsSymbolMet}
+use Rattle.fast_check_worklists.specs.declared.asked.Step.{Step}
+use Rattle.fast_check_worklists.specs.State.{State, want_of, AsksAll, Reached, root, step, IsSearched, IsOuter, AreWants, AreGiven, IsFollowed}
+use Rattle.fast_check_name_demands.specs.NameDemands.{AreDemands, IsEmpty}
+use Rattle.fast_check_steps.specs.Sources.{Known, module_at}
+use Rattle.fast_check_steps.specs.Wants.{file_wants, left_wants}
+use Rattle.fast_check_turns.specs.Rules.{names_wants, symbol_wants, world}
+use Rattle.fast_check_entries.specs.findings.Yields.{Yield, recorded, public, implementing}
+use Rattle.fast_check_entries.specs.findings.Findings.{placed_yields, module_yields}
+use Rattle.fast_check_turns.specs.Yields.{own_text, dependency_of, dependencies, public_at, implementing_at, source_in, fault_yields, faults_at}
+use Rattle.fast_check_turns.specs.Yields.{names_yields, symbol_yields, untyped_yields, gives}
+use Rattle.fast_check_turns.specs.Traced.{IsTraced}
+use Rattle.fast_check_turns.proofs.Lists.{flat_contains}
+use Rattle.fast_check_turns.proofs.Placed.{placed_flat}
+use Rattle.fast_check_turns.proofs.Owned.{IsOwned, owned_files, owned_left}
+
+-- what is listed is asked
+empty_asked : (x : ImportedExports) → IsEmpty x → asked x (subset_at []) ≡ true
+empty_asked Star e = absurd (false≢true (sym (e names_but_default)))
+empty_asked StarWithDefault e = absurd (false≢true (sym (e each_name)))
+empty_asked (Subset s) e = refl
+
+demanded_asked : (x : ImportedExports) (d : NameDemand) → demands x d ≡ true → asked x d ≡ true
+demanded_asked Star names_but_default h = refl
+demanded_asked Star each_name h = absurd (false≢true h)
+demanded_asked Star (subset_at p) h = absurd (false≢true h)
+demanded_asked Star (whole_at p) h = absurd (false≢true h)
+demanded_asked StarWithDefault names_but_default h = absurd (false≢true h)
+demanded_asked StarWithDefault each_name h = refl
+demanded_asked StarWithDefault (subset_at p) h = absurd (false≢true h)
+demanded_asked StarWithDefault (whole_at p) h = absurd (false≢true h)
+demanded_asked (Subset s) names_but_default h = absurd (false≢true h)
+demanded_asked (Subset s) each_name h = absurd (false≢true h)
+demanded_asked (Subset s) (subset_at []) h = refl
+demanded_asked (Subset s) (subset_at (n ∷ p)) h = h
+demanded_asked (Subset s) (whole_at p) h = h
+
+-- what is asked is listed, or is the empty path, of which nothing follows
+asked_demanded : (x : ImportedExports) (d : NameDemand) → asked x d ≡ true → (demands x d ≡ true) ⊎ (d ≡ subset_at [])
+asked_demanded Star names_but_default h = inl refl
+asked_demanded Star each_name h = absurd (false≢true h)
+asked_demanded Star (subset_at p) h = absurd (false≢true h)
+asked_demanded Star (whole_at p) h = absurd (false≢true h)
+asked_demanded StarWithDefault names_but_default h = absurd (false≢true h)
+asked_demanded StarWithDefault each_name h = inl refl
+asked_demanded StarWithDefault (subset_at p) h = absurd (false≢true h)
+asked_demanded StarWithDefault (whole_at p) h = absurd (false≢true h)
+asked_demanded (Subset s) names_but_default h = absurd (false≢true h)
+asked_demanded (Subset s) each_name h = absurd (false≢true h)
+asked_demanded (Subset s) (subset_at []) h = inr refl
+asked_demanded (Subset s) (subset_at (n ∷ p)) h = inl h
+asked_demanded (Subset s) (whole_at p) h = inl h
+
+module _ (k : Known) (nv : Nv) (t : Text) (m : TracedModule) (here : module_at k t ≡ Some m) (typed : untyped_yields k.graph nv t ≡ [])
+    (x : ImportedExports) (listed : List NameDemand) (are : AreDemands x listed) (wants : List Want) (found : FoundModule)
+    (a : IsTraced k nv m listed wants found) where
+  abbrev new : Followed
+  new = record { trace = record { nv = nv; specifier = t; exports = x }; symbols = a.symbols }
+
+  listed_asked : (d : NameDemand) → Contains listed d → asked x d ≡ true
+  listed_asked d c =
+      ⊎_elim (λ h. demanded_asked x d h) (λ e. subst (λ (y : NameDemand). asked x y ≡ true) (sym e.1) (empty_asked x e.0)) ((are d).0 c)
+
+  asked_listed : (d : NameDemand) → asked x d ≡ true → Contains listed d ⊎ (d ≡ subset_at [])
+  asked_listed d h = ⊎_elim (λ e. inl ((are d).1 (inl e))) (λ e. inr e) (asked_demanded x d h)
+
+  -- by the two kinds of demands of a trace
+  by_kind : (P : Demand → Type 0) → ((d : NameDemand) → asked x d ≡ true → P (of_module nv t d)) →
+      ((s : SymbolDemand) → Contains a.symbols s → P (of_symbol nv t s)) → (d : Demand) → HasIn new d → P d
+  by_kind P f g (of_package p) h = absurd h
+  by_kind P f g (of_module q u d) h =
+      subst (λ (r : Nv). P (of_module r u d)) h.0 (subst (λ (v : Text). P (of_module nv v d)) h.1 (f d h.2))
+  by_kind P f g (of_symbol q u s) h =
+      subst (λ (r : Nv). P (of_symbol r u s)) h.0 (subst (λ (v : Text). P (of_symbol nv v s)) h.1 (g s h.2))
+
+  names_world : (d : NameDemand) → world k (of_module nv t d) ≡ names_wants k nv t d m
+  names_world d = ap (each_of (names_wants k nv t d)) here
+
+  symbols_world : (s : SymbolDemand) → world k (of_symbol nv t s) ≡ symbol_wants k nv t s m
+  symbols_world s = ap (each_of (symbol_wants k nv t s)) here
+
+  in_names : (d : NameDemand) (w : Want) → Contains (names_wants k nv t d m) w → Contains (world k (of_module nv t d)) w
+  in_names d w c = subst (λ (ws : List Want). Contains ws w) (sym (names_world d)) c
+
+  in_symbols : (s : SymbolDemand) (w : Want) → Contains (symbol_wants k nv t s m) w → Contains (world k (of_symbol nv t s)) w
+  in_symbols s w c = subst (λ (ws : List Want). Contains ws w) (sym (symbols_world s)) c
+
+  -- symbols
+
+  reached : (s : SymbolDemand) → Chained (own_tables m) (flat_map (roots (own_tables m)) listed) s → Reached (world k) new.trace s
+  reached s (symbol_root c) =
+      let f = flat_contains (roots (own_tables m)) listed s c in
+      root f.0 s (listed_asked f.0 f.1)
+      (in_names f.0 (to_symbol nv t s)
+      (Contains-append_left (map (to_symbol nv t) (roots (own_tables m) f.0)) (flat_map (left_wants k nv m) (module_wants m f.0)) (to_symbol nv t s)
+      (contains_map (to_symbol nv t) (roots (own_tables m) f.0) s f.2)))
+  reached s (symbol_step {d = d} h c) =
+      step d s (reached d h)
+      (in_symbols d (to_symbol nv t s)
+      (Contains-append_left (map (to_symbol nv t) (names (own_tables m) d)) (flat_map (file_wants k nv m) (files (own_tables m) d)) (to_symbol nv t s)
+      (contains_map (to_symbol nv t) (names (own_tables m) d) s c)))
+
+  abbrev Met : Want → Type 0
+  Met (to_package p) = Unit {0}
+  Met (to_module p u w) = Unit {0}
+  Met (to_symbol p u s) = IsSymbolMet p u s new
+
+  outer_met : (w : Want) → IsOwned k w → Met w
+  outer_met (to_package p) h = tt
+  outer_met (to_module p u w) h = tt
+  outer_met (to_symbol p u s) h = absurd h
+
+  roots_met : (d : NameDemand) → asked x d ≡ true → (s : SymbolDemand) → Contains (roots (own_tables m) d) s → IsSymbolCovered a.symbols s
+  roots_met d h s c =
+      ⊎_elim (λ l. a.account.has_roots s (contains_flat_map (roots (own_tables m)) listed d s l c))
+      (λ e. absurd (Contains_none s (subst (λ (y : NameDemand). Contains (roots (own_tables m) y) s) e c)))
+      (asked_listed d h)
+
+  names_met : (d : NameDemand) → asked x d ≡ true → Each Met (world k (of_module nv t d))
+  names_met d h = subst (Each Met) (sym (names_world d))
+      (each_append Met (map (to_symbol nv t) (roots (own_tables m) d)) (flat_map (left_wants k nv m) (module_wants m d))
+      (each_map Met (to_symbol nv t) (roots (own_tables m) d) (λ s c. (refl, refl, roots_met d h s c)))
+      (each_flat Met (left_wants k nv m) (module_wants m d) (λ v c w e. outer_met w (owned_left k nv m v w e))))
+
+  symbols_met : (s : SymbolDemand) → Contains a.symbols s → Each Met (world k (of_symbol nv t s))
+  symbols_met s h = subst (Each Met) (sym (symbols_world s))
+      (each_append Met (map (to_symbol nv t) (names (own_tables m) s)) (flat_map (file_wants k nv m) (files (own_tables m) s))
+      (each_map Met (to_symbol nv t) (names (own_tables m) s) (λ e c. (refl, refl, a.account.closed s e h c)))
+      (each_flat Met (file_wants k nv m) (files (own_tables m) s) (λ f c w e. outer_met w (owned_files k nv m f w e))))
+
+  searched : IsSearched (world k) new
+  searched = record {
+    reached = λ s c. reached s (a.account.chained s c);
+    closed = λ d h p u s c. by_kind (λ e. Each Met (world k e)) names_met symbols_met d h (to_symbol p u s) c;
+  }
+
+  -- wants
+
+  abbrev Source : Want → Type 0
+  Source w = (d : Demand) × HasIn new d × Contains (world k d) w
+
+  wants_sound : (w : Want) → Contains wants w → Source w
+  wants_sound w c =
+      ⊎_elim
+      (λ l.
+      let f = flat_contains (file_wants k nv m) a.asked_files w l in
+      let s = a.found_files.sound f.0 f.1 in (
+        of_symbol nv t s.0,
+        (refl, refl, s.1),
+        in_symbols s.0 w (Contains-append_right (map (to_symbol nv t) (names (own_tables m) s.0))
+            (flat_map (file_wants k nv m) (files (own_tables m) s.0)) w
+            (contains_flat_map (file_wants k nv m) (files (own_tables m) s.0) f.0 w s.2 f.2)),
+      ))
+      (λ r.
+      let v = flat_contains (left_wants k nv m) (flat_map (module_wants m) listed) w r in
+      let d = flat_contains (module_wants m) listed v.0 v.1 in (
+        of_module nv t d.0,
+        (refl, refl, listed_asked d.0 d.1),
+        in_names d.0 w (Contains-append_right (map (to_symbol nv t) (roots (own_tables m) d.0))
+            (flat_map (left_wants k nv m) (module_wants m d.0)) w
+            (contains_flat_map (left_wants k nv m) (module_wants m d.0) v.0 w d.2 v.2)),
+      ))
+      (Contains-append_cases (flat_map (file_wants k nv m) a.asked_files) (flat_map (left_wants k nv m) (flat_map (module_wants m) listed)) w
+      (subst (λ (ws : List Want). Contains ws w) a.wants_are c))
+
+  not_symbol : (ss : List SymbolDemand) (w : Want) → Contains (map (to_symbol nv t) ss) w → IsOuter w → ⊥
+  not_symbol ss w c o = let s = map_contains (to_symbol nv t) ss w c in subst (λ (v : Want). IsOuter v → ⊥) s.2 (λ z. z) o
+
+  in_wants : (w : Want) → Contains (flat_map (file_wants k nv m) a.asked_files ++ flat_map (left_wants k nv m) (flat_map (module_wants m) listed)) w →
+      Contains wants w
+  in_wants w c = subst (λ (ws : List Want). Contains ws w) (sym a.wants_are) c
+
+  names_complete : (d : NameDemand) → asked x d ≡ true → (w : Want) → Contains (names_wants k nv t d m) w → IsOuter w → Contains wants w
+  names_complete d h w c o =
+      ⊎_elim (λ l. absurd (not_symbol (roots (own_tables m) d) w l o))
+      (λ r.
+      let v = flat_contains (left_wants k nv m) (module_wants m d) w r in
+      ⊎_elim
+      (λ i. in_wants w (Contains-append_right (flat_map (file_wants k nv m) a.asked_files) (flat_map (left_wants k nv m) (flat_map (module_wants m) listed)) w
+      (contains_flat_map (left_wants k nv m) (flat_map (module_wants m) listed) v.0 w (contains_flat_map (module_wants m) listed d v.0 i v.1) v.2)))
+      (λ e. absurd (Contains_none v.0 (subst (λ (y : NameDemand). Contains (module_wants m y) v.0) e v.1)))
+      (asked_listed d h))
+      (Contains-append_cases (map (to_symbol nv t) (roots (own_tables m) d)) (flat_map (left_wants k nv m) (module_wants m d)) w c)
+
+  symbols_complete : (s : SymbolDemand) → Contains a.symbols s → (w : Want) → Contains (symbol_wants k nv t s m) w → IsOuter w → Contains wants w
+  symbols_complete s h w c o =
+      ⊎_elim (λ l. absurd (not_symbol (names (own_tables m) s) w l o))
+      (λ r.
+      let f = flat_contains (file_wants k nv m) (files (own_tables m) s) w r in
+      in_wants w (Contains-append_left (flat_map (file_wants k nv m) a.asked_files) (flat_map (left_wants k nv m) (flat_map (module_wants m) listed)) w
+      (contains_flat_map (file_wants k nv m) a.asked_files f.0 w (a.found_files.complete s f.0 h f.1) f.2)))
+      (Contains-append_cases (map (to_symbol nv t) (names (own_tables m) s)) (flat_map (file_wants k nv m) (files (own_tables m) s)) w c)
+
+  are_wants : AreWants (world k) new wants
+  are_wants = record {
+    sound = wants_sound;
+    complete = λ d w h c o.
+        by_kind (λ e. Contains (world k e) w → Contains wants w) (λ e i j. names_complete e i w (subst (λ (ws : List Want). Contains ws w) (names_world e) j) o)
+        (λ s i j. symbols_complete s i w (subst (λ (ws : List Want). Contains ws w) (symbols_world s) j) o) d h c;
+  }
+
+  -- what is given
+
+  abbrev shown : List SourceRange
+  shown = found.ranges.items
+
+  abbrev given : List Yield
+  given = module_yields nv (own_text m) found (dependencies nv wants)
+
+  abbrev wrong : List Yield
+  wrong = placed_yields nv (own_text m) (map placed_in found.faults.items)
+
+  abbrev Gift : Yield → Type 0
+  Gift y = (d : Demand) × HasIn new d × Contains (gives k d) y
+
+  names_gift : (d : NameDemand) (y : Yield) → asked x d ≡ true → Contains (names_yields k nv t d m) y → Gift y
+  names_gift d y h c = (
+    of_module nv t d,
+    (refl, refl, h),
+    Contains-append_left (each_of (names_yields k nv t d) (module_at k t)) (untyped_yields k.graph nv t) y
+        (subst (λ (o : Option TracedModule). Contains (each_of (names_yields k nv t d) o) y) (sym here) c),
+  )
+
+  symbol_gift : (s : SymbolDemand) (y : Yield) → Contains a.symbols s → Contains (symbol_yields k nv t s m) y → Gift y
+  symbol_gift s y h c = (of_symbol nv t s, (refl, refl, h), subst (λ (o : Option TracedModule). Contains (each_of (symbol_yields k nv t s) o) y) (sym here) c)
+
+  recorded_gift : Gift (recorded nv (own_text m))
+  recorded_gift = let d = asked_some x in names_gift d.0 (recorded nv (own_text m)) d.1 (Contains_first (recorded nv (own_text m)) _)
+
+  again_gift : (r : SourceRange) → Contains (flat_map (re_export_ranges m) listed) r → Gift (public nv (own_text m) r)
+  again_gift r c =
+      let d = flat_contains (re_export_ranges m) listed r c in
+      let y = public nv (own_text m) r in
+      names_gift d.0 y (listed_asked d.0 d.1)
+      (Contains_later (recorded nv (own_text m)) _ y
+      (Contains-append_left (public_at nv m (re_export_ranges m d.0)) (dependencies nv (names_wants k nv t d.0 m)) y
+      (contains_map (public nv (own_text m)) (re_export_ranges m d.0) r d.2)))
+
+  public_gift : (r : SourceRange) → Contains a.declared r → Gift (public nv (own_text m) r)
+  public_gift r c =
+      let s = a.found_ranges.sound r c in
+      let y = public nv (own_text m) r in
+      symbol_gift s.0 y s.1
+      (Contains-append_left (public_at nv m (ranges (own_tables m) s.0)) _ y (contains_map (public nv (own_text m)) (ranges (own_tables m) s.0) r s.2))
+
+  implementing_gift : (r : SourceRange) → Contains found.implementations.items r → Gift (implementing nv (own_text m) r)
+  implementing_gift r c =
+      let s = a.found_implementations.sound r c in
+      let y = implementing nv (own_text m) r in
+      symbol_gift s.0 y s.1
+      (Contains-append_right (public_at nv m (ranges (own_tables m) s.0)) _ y
+      (Contains-append_left (implementing_at nv m (implementations (own_tables m) s.0)) _ y
+      (contains_map (implementing nv (own_text m)) (implementations (own_tables m) s.0) r s.2)))
+
+  wrong_is : wrong ≡ faults_at nv m a.faulty
+  wrong_is = ap (placed_yields nv (own_text m)) a.faults_are ∙ placed_flat nv (own_text m) (source_in m) a.faulty
+
+  wrong_gift : (y : Yield) → Contains wrong y → Gift y
+  wrong_gift y c =
+      let f = flat_contains (fault_yields nv m) a.faulty y (subst (λ (ys : List Yield). Contains ys y) wrong_is c) in
+      let s = a.found_faults.sound f.0 f.1 in
+      symbol_gift s.0 y s.1
+      (Contains-append_right (public_at nv m (ranges (own_tables m) s.0)) _ y
+      (Contains-append_right (implementing_at nv m (implementations (own_tables m) s.0)) _ y
+      (Contains-append_left (faults_at nv m (faults (own_tables m) s.0)) _ y
+      (contains_flat_map (fault_yields nv m) (faults (own_tables m) s.0) f.0 y s.2 f.2))))
+
+  dependency_gift : (y : Yield) → Contains (dependencies nv wants) y → Gift y
+  dependency_gift y c =
+      let f = flat_contains (dependency_of nv) wants y c in
+      let s = wants_sound f.0 f.1 in
+      by_kind (λ d. Contains (world k d) f.0 → Gift y)
+      (λ d i j. names_gift d y i
+      (Contains_later (recorded nv (own_text m)) _ y
+      (Contains-append_right (public_at nv m (re_export_ranges m d)) (dependencies nv (names_wants k nv t d m)) y
+      (contains_flat_map (dependency_of nv) (names_wants k nv t d m) f.0 y (subst (λ (ws : List Want). Contains ws f.0) (names_world d) j) f.2))))
+      (λ e i j. symbol_gift e y i
+      (Contains-append_right (public_at nv m (ranges (own_tables m) e)) _ y
+      (Contains-append_right (implementing_at nv m (implementations (own_tables m) e)) _ y
+      (Contains-append_right (faults_at nv m (faults (own_tables m) e)) (dependencies nv (symbol_wants k nv t e m)) y
+      (contains_flat_map (dependency_of nv) (symbol_wants k nv t e m) f.0 y (subst (λ (ws : List Want). Contains ws f.0) (symbols_world e) j) f.2)))))
+      s.0 s.1 s.2
+
+  shown_gift : (r : SourceRange) → Contains shown r → Gift (public nv (own_text m) r)
+  shown_gift r c = ⊎_elim (λ l. public_gift r l) (λ i. again_gift r i)
+      (Contains-append_cases a.declared (flat_map (re_export_ranges m) listed) r (subst (λ (rs : List SourceRange). Contains rs r) a.ranges_are c))
+
+  given_sound : Each Gift given
+  given_sound y c =
+      ⊎_elim (λ e. subst Gift e recorded_gift)
+      (λ r. each_append Gift (public_at nv m shown) _ (each_map Gift (public nv (own_text m)) shown shown_gift)
+      (each_append Gift (implementing_at nv m found.implementations.items) _
+      (each_map Gift (implementing nv (own_text m)) found.implementations.items implementing_gift)
+      (each_append Gift wrong (dependencies nv wants) wrong_gift dependency_gift)) y r)
+      (Contains_cases (recorded nv (own_text m)) _ y c)
+
+  abbrev IsGiven : Yield → Type 0
+  IsGiven y = Contains given y
+
+  among : (r : SourceRange) → Contains (a.declared ++ flat_map (re_export_ranges m) listed) r → Contains shown r
+  among r c = subst (λ (rs : List SourceRange). Contains rs r) (sym a.ranges_are) c
+
+  in_shown : (r : SourceRange) → Contains shown r → IsGiven (public nv (own_text m) r)
+  in_shown r c =
+      let y = public nv (own_text m) r in
+      Contains_later (recorded nv (own_text m)) _ y
+      (Contains-append_left (public_at nv m shown) _ y (contains_map (public nv (own_text m)) shown r c))
+
+  in_implementing : Each IsGiven (implementing_at nv m found.implementations.items)
+  in_implementing y c = Contains_later (recorded nv (own_text m)) _ y
+      (Contains-append_right (public_at nv m shown) _ y
+      (Contains-append_left (implementing_at nv m found.implementations.items) _ y c))
+
+  in_wrong : Each IsGiven (faults_at nv m a.faulty)
+  in_wrong y c = Contains_later (recorded nv (own_text m)) _ y
+      (Contains-append_right (public_at nv m shown) _ y
+      (Contains-append_right (implementing_at nv m found.implementations.items) _ y
+      (Contains-append_left wrong _ y (subst (λ (ys : List Yield). Contains ys y) (sym wrong_is) c))))
+
+  in_dependencies : Each IsGiven (dependencies nv wants)
+  in_dependencies y c = Contains_later (recorded nv (own_text m)) _ y
+      (Contains-append_right (public_at nv m shown) _ y
+      (Contains-append_right (implementing_at nv m found.implementations.items) _ y
+      (Contains-append_right wrong (dependencies nv wants) y c)))
+
+  -- what is asked of packages alone makes dependencies
+  dependency_outer : (w : Want) (y : Yield) → Contains (dependency_of nv w) y → IsOuter w
+  dependency_outer (to_package p) y c = tt
+  dependency_outer (to_module p u v) y c = tt
+  dependency_outer (to_symbol p u s) y c = absurd (Contains_none y c)
+
+  names_given : (d : NameDemand) → asked x d ≡ true → Each IsGiven (names_yields k nv t d m)
+  names_given d h y c =
+      ⊎_elim (λ e. subst IsGiven e (Contains_first (recorded nv (own_text m)) _))
+      (λ r. each_append IsGiven (public_at nv m (re_export_ranges m d)) (dependencies nv (names_wants k nv t d m))
+      (each_map IsGiven (public nv (own_text m)) (re_export_ranges m d) again_in)
+      (λ z i. let f = flat_contains (dependency_of nv) (names_wants k nv t d m) z i in
+      in_dependencies z (contains_flat_map (dependency_of nv) wants f.0 z (names_complete d h f.0 f.1 (dependency_outer f.0 z f.2)) f.2)) y r)
+      (Contains_cases (recorded nv (own_text m)) _ y c)
+    where
+      again_in : (r : SourceRange) → Contains (re_export_ranges m d) r → IsGiven (public nv (own_text m) r)
+      again_in r i =
+          ⊎_elim
+          (λ l. in_shown r (among r (Contains-append_right a.declared (flat_map (re_export_ranges m) listed) r
+          (contains_flat_map (re_export_ranges m) listed d r l i))))
+          (λ e. absurd (Contains_none r (subst (λ (z : NameDemand). Contains (re_export_ranges m z) r) e i)))
+          (asked_listed d h)
+
+  symbols_given : (s : SymbolDemand) → Contains a.symbols s → Each IsGiven (symbol_yields k nv t s m)
+  symbols_given s h =
+      each_append IsGiven (public_at nv m (ranges (own_tables m) s)) _
+      (each_map IsGiven (public nv (own_text m)) (ranges (own_tables m) s)
+      (λ r i. in_shown r (among r (Contains-append_left a.declared (flat_map (re_export_ranges m) listed) r (a.found_ranges.complete s r h i)))))
+      (each_append IsGiven (implementing_at nv m (implementations (own_tables m) s)) _
+      (each_map IsGiven (implementing nv (own_text m)) (implementations (own_tables m) s)
+      (λ r i. in_implementing (implementing nv (own_text m) r) (contains_map (implementing nv (own_text m)) found.implementations.items r
+      (a.found_implementations.complete s r h i))))
+      (each_append IsGiven (faults_at nv m (faults (own_tables m) s)) (dependencies nv (symbol_wants k nv t s m))
+      (λ z i. let f = flat_contains (fault_yields nv m) (faults (own_tables m) s) z i in
+      in_wrong z (contains_flat_map (fault_yields nv m) a.faulty f.0 z (a.found_faults.complete s f.0 h f.1) f.2))
+      (λ z i. let f = flat_contains (dependency_of nv) (symbol_wants k nv t s m) z i in
+      in_dependencies z (contains_flat_map (dependency_of nv) wants f.0 z (symbols_complete s h f.0 f.1 (dependency_outer f.0 z f.2)) f.2))))
+
+  names_only : (d : NameDemand) (y : Yield) → Contains (gives k (of_module nv t d)) y → Contains (each_of (names_yields k nv t d) (module_at k t)) y
+  names_only d y c =
+      ⊎_elim (λ l. l) (λ r. absurd (Contains_none y (subst (λ (ys : List Yield). Contains ys y) typed r)))
+      (Contains-append_cases (each_of (names_yields k nv t d) (module_at k t)) (untyped_yields k.graph nv t) y c)
+
+  are_given : AreGiven (gives k) new given
+  are_given = record {
+    sound = given_sound;
+    complete = λ d y h c.
+        by_kind (λ e. Contains (gives k e) y → IsGiven y)
+        (λ e i j. names_given e i y (subst (λ (o : Option TracedModule). Contains (each_of (names_yields k nv t e) o) y) here (names_only e y j)))
+        (λ s i j. symbols_given s i y (subst (λ (o : Option TracedModule). Contains (each_of (symbol_yields k nv t s) o) y) here j)) d h c;
+  }
+
+  pub followed_there : (steps : List Step) (before after : State) (old new_found : List Yield) → wants ≡ map want_of steps → AsksAll steps before after →
+      new_found ≡ old ++ given → IsFollowed (world k) (gives k) new.trace before after old new_found
+  followed_there steps before after old new_found e asks is = record {
+    symbols = a.symbols;
+    steps = steps;
+    given = given;
+    searched = searched;
+    wants = subst (λ (ws : List Want). AreWants (world k) new ws) e are_wants;
+    yields = are_given;
+    asks = asks;
+    new_is = is;
+  }

@@ -1,0 +1,52 @@
+-- A module that was followed, from what the search of it answers.
+use Rattle.std.proofs.Common.{◌≡◌, ◌∙◌, sym, ap, subst, List, ◌++◌, map, option_to_list}
+use Rattle.std.specs.List.{flat_map}
+use Rattle.fast_check_syntax.specs.declared.source.SourceRange.{SourceRange}
+use Rattle.fast_check_packages.specs.Package.{Nv}
+use Rattle.fast_check_names.specs.Imports.{NameDemand}
+use Rattle.fast_check_demands.specs.Demands.{Demand as SymbolDemand}
+use Rattle.fast_check_demands.specs.Account.{IsAccount as IsSymbolAccount}
+use Rattle.fast_check_demands.specs.Yields.{fault_seen}
+use Rattle.fast_check_entries.specs.findings.declared.finding.FoundModule.{FoundModule}
+use Rattle.fast_check_entries.specs.findings.Faults.{placed, placed_in}
+use Rattle.fast_check_files.specs.declared.want.WantedNames.{WantedNames}
+use Rattle.fast_check_files.specs.Files.{names_of}
+use Rattle.fast_check_search.specs.declared.turns.Found.{Found}
+use Rattle.fast_check_search.specs.Turn.{IsFound}
+use Rattle.fast_check_traces.specs.declared.modules.TracedModule.{TracedModule}
+use Rattle.fast_check_traces.specs.Modules.{own_tables}
+use Rattle.fast_check_traces.specs.Roots.{roots}
+use Rattle.fast_check_traces.specs.Wants.{Want as ModuleWant, re_export_ranges, module_wants}
+use Rattle.fast_check_worklists.specs.Demands.{Want}
+use Rattle.fast_check_steps.specs.Sources.{Known}
+use Rattle.fast_check_steps.specs.Wants.{file_wants, left_wants}
+use Rattle.fast_check_turns.specs.Yields.{source_in}
+use Rattle.fast_check_turns.specs.Traced.{IsTraced}
+use Rattle.fast_check_turns.proofs.Lists.{flat_mapped}
+
+module _ (k : Known) (nv : Nv) (m : TracedModule) (names : List WantedNames) where
+  mapped : {Y : Type 0} (f : NameDemand → List Y) → flat_map (λ w. f (names_of w)) names ≡ flat_map f (map names_of names)
+  mapped f = sym (flat_mapped f names_of names)
+
+  pub traced_with : (wants : List Want) (found : Found) (again : List SourceRange) (left : List ModuleWant) (of : FoundModule) →
+      ((account : List SymbolDemand) × IsSymbolAccount (own_tables m) (flat_map (λ w. roots (own_tables m) (names_of w)) names) account
+      × IsFound (own_tables m) account found) →
+      again ≡ flat_map (λ w. re_export_ranges m (names_of w)) names → left ≡ flat_map (λ w. module_wants m (names_of w)) names →
+      wants ≡ flat_map (file_wants k nv m) found.files ++ flat_map (left_wants k nv m) left →
+      of.ranges.items ≡ found.ranges.items ++ again → of.implementations.items ≡ found.implementations.items →
+      map placed_in of.faults.items ≡ flat_map (λ f. option_to_list (placed (source_in m) f)) (map fault_seen found.faults.items) →
+      IsTraced k nv m (map names_of names) wants of
+  traced_with wants found again left of a e f w r i p = record {
+    symbols = a.0;
+    account = subst (λ (rs : List SymbolDemand). IsSymbolAccount (own_tables m) rs a.0) (mapped (roots (own_tables m))) a.1;
+    asked_files = found.files;
+    found_files = a.2.outside;
+    wants_are = w ∙ ap (λ (vs : List ModuleWant). flat_map (file_wants k nv m) found.files ++ flat_map (left_wants k nv m) vs) (f ∙ mapped (module_wants m));
+    declared = found.ranges.items;
+    found_ranges = a.2.public;
+    ranges_are = r ∙ ap (λ (rs : List SourceRange). found.ranges.items ++ rs) (e ∙ mapped (re_export_ranges m));
+    found_implementations = rw i a.2.implementing;
+    faulty = map fault_seen found.faults.items;
+    found_faults = a.2.faulty;
+    faults_are = p;
+  }

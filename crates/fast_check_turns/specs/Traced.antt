@@ -1,0 +1,47 @@
+-- A module that was followed, by what the search of it answers. Inner: what a turn does is said by the account (`IsFollowed`).
+use Rattle.std.specs.Prelude.{◌≡◌, List, ◌++◌, map, option_to_list}
+use Rattle.std.specs.List.{flat_map}
+use Rattle.fast_check_syntax.specs.declared.source.SourceRange.{SourceRange}
+use Rattle.fast_check_packages.specs.Package.{Nv}
+use Rattle.fast_check_names.specs.Imports.{NameDemand}
+use Rattle.fast_check_name_demands.specs.NameDemands.{AreDemands}
+use Rattle.fast_check_demands.specs.Demands.{Demand as SymbolDemand}
+use Rattle.fast_check_demands.specs.Account.{IsAccount as IsSymbolAccount, IsYield as IsSymbolYield}
+use Rattle.fast_check_demands.specs.Yields.{ranges, implementations, Fault, faults}
+use Rattle.fast_check_entries.specs.findings.declared.finding.FoundModule.{FoundModule}
+use Rattle.fast_check_entries.specs.findings.Faults.{placed, placed_in}
+use Rattle.fast_check_entries.specs.findings.Yields.{Yield}
+use Rattle.fast_check_entries.specs.findings.Findings.{module_yields}
+use Rattle.fast_check_files.specs.Files.{FileDemand, files}
+use Rattle.fast_check_traces.specs.declared.modules.TracedModule.{TracedModule}
+use Rattle.fast_check_traces.specs.Modules.{own_tables}
+use Rattle.fast_check_traces.specs.Roots.{roots}
+use Rattle.fast_check_traces.specs.Wants.{re_export_ranges, module_wants}
+use Rattle.fast_check_worklists.specs.Demands.{Want}
+use Rattle.fast_check_worklists.specs.Account.{Trace}
+use Rattle.fast_check_steps.specs.Sources.{Known}
+use Rattle.fast_check_steps.specs.Wants.{file_wants, left_wants}
+use Rattle.fast_check_turns.specs.Yields.{own_text, source_in, dependencies}
+
+-- an account of demands of symbols, what these ask of files, what names of the module ask of others, and what is found
+pub record IsTraced (k : Known) (nv : Nv) (m : TracedModule) (names : List NameDemand) (wants : List Want) (found : FoundModule) : Type 0 where
+  pub symbols : List SymbolDemand
+  pub account : IsSymbolAccount (own_tables m) (flat_map (roots (own_tables m)) names) symbols
+  pub asked_files : List FileDemand
+  pub found_files : IsSymbolYield (files (own_tables m)) symbols asked_files
+  pub wants_are : wants ≡ flat_map (file_wants k nv m) asked_files ++ flat_map (left_wants k nv m) (flat_map (module_wants m) names)
+  pub declared : List SourceRange
+  pub found_ranges : IsSymbolYield (ranges (own_tables m)) symbols declared
+  pub ranges_are : found.ranges.items ≡ declared ++ flat_map (re_export_ranges m) names
+  pub found_implementations : IsSymbolYield (implementations (own_tables m)) symbols found.implementations.items
+  pub faulty : List Fault
+  pub found_faults : IsSymbolYield (faults (own_tables m)) symbols faulty
+  pub faults_are : map placed_in found.faults.items ≡ flat_map (λ f. option_to_list (placed (source_in m) f)) faulty
+
+-- the same for the names of a trace, with what is given
+pub record IsTracedFor (k : Known) (m : TracedModule) (x : Trace) (wants : List Want) (given : List Yield) : Type 0 where
+  pub names : List NameDemand
+  pub are_names : AreDemands x.exports names
+  pub found : FoundModule
+  pub traced : IsTraced k x.nv m names wants found
+  pub given_is : given ≡ module_yields x.nv (own_text m) found (dependencies x.nv wants)

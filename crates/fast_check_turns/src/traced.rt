@@ -1,0 +1,130 @@
+//! What a module that is followed asks, and what is found of it.
+
+ghost use Rattle.std.specs.Prelude.{◌≡◌, ◌++◌, map, option_to_list, OnOk, IfOk};
+ghost use Rattle.std.specs.List.{flat_map};
+ghost use Rattle.std.specs.Rc.{rc_str_bytes};
+ghost use Rattle.fast_check_packages.specs.Package.{nv_of};
+ghost use Rattle.fast_check_demands.specs.Yields.{fault_seen};
+ghost use Rattle.fast_check_files.specs.Files.{names_of};
+ghost use Rattle.fast_check_worklists.specs.State.{want_of};
+ghost use Rattle.fast_check_entries.specs.findings.Faults.{placed_in, placed};
+ghost use Rattle.fast_check_entries.specs.findings.Yields.{dependency};
+ghost use Rattle.fast_check_steps.specs.Sources.{known};
+ghost use Rattle.fast_check_turns.specs.Traced.{IsTraced};
+ghost use Rattle.fast_check_turns.specs.Yields.{text_of, source_with, source_in, dependency_of, dependencies};
+
+use fast_check_demands::SymbolFault;
+use fast_check_entries::findings::{DemandFault, FaultyModule, FoundModule, faults_in};
+use fast_check_graph::ModuleInfo;
+use fast_check_packages::PackageNv;
+use fast_check_provider::JsrUrlProvider;
+use fast_check_search::Found;
+use fast_check_steps::{Asker, steps_of};
+use fast_check_traces::{Traced, TracedModule, WantedNames, tables_of, trace};
+use fast_check_worklists::Step;
+use std::alloc::{AllocError, Global};
+use std::rc::RcStr;
+
+/// The source text of a module; one of JSON has none.
+fn text_of(alloc: Global, info: &ModuleInfo) -> Result<RcStr, AllocError>
+    ensures { IfOk result (λ text. rc_str_bytes text ≡ text_of info.now) }
+{
+    match info {
+        ModuleInfo::Esm(module) => module.source().text.clone(),
+        ModuleInfo::Json(_) => RcStr::from_str(alloc, ""),
+    }
+}
+
+/// These faults at their places in a module with this text.
+fn faults_with(
+    alloc: Global,
+    traced: TracedModule<'_>,
+    text: &RcStr,
+    faults: &[SymbolFault<'_>],
+) -> Result<Vec<(DemandFault, RcStr)>, AllocError>
+    ensures { IfOk result (λ out. map placed_in out.items
+        ≡ flat_map (λ f. option_to_list (placed (source_with traced.entry (rc_str_bytes text.now)) f)) (map fault_seen faults.now)) }
+{
+    let faulty = FaultyModule {
+        specifier: traced.info.specifier(),
+        text,
+        tables: tables_of(traced.info),
+    };
+    let placed = faults_in(alloc, faulty, faults)?;
+    Ok(placed)
+}
+
+/// These faults at their places in a module.
+fn faults_of(
+    alloc: Global,
+    traced: TracedModule<'_>,
+    faults: &[SymbolFault<'_>],
+) -> Result<Vec<(DemandFault, RcStr)>, AllocError>
+    ensures { IfOk result (λ out. map placed_in out.items
+        ≡ flat_map (λ f. option_to_list (placed (source_in traced.entry) f)) (map fault_seen faults.now)) }
+{
+    let text = text_of(alloc, traced.info)?;
+    let placed = faults_with(alloc, traced, &text, faults)?;
+    Ok(placed)
+}
+
+/// Follows these single demands of a module, for a package: the steps to others, and what is found of the module.
+pub fn traced_module(
+    alloc: Global,
+    asker: Asker<'_>,
+    provider: &dyn JsrUrlProvider,
+    names: &[WantedNames<'_>],
+) -> Result<(Vec<Step>, FoundModule), AllocError>
+    ensures { let k = known asker.entry.sources (url_of provider.now) (nv_at provider.now) in
+        IfOk result (λ r. IsTraced k (nv_of asker.entry.package.now) asker.entry.traced (map names_of names.now) (map want_of r.0.items) r.1) }
+{
+    let Traced {
+        found,
+        mut re_export_ranges,
+        wants,
+    } = trace(alloc, asker.traced, names)?;
+    let Found {
+        mut ranges,
+        implementations,
+        faults,
+        files,
+    } = found;
+    ranges.append(&mut re_export_ranges)?;
+    let steps = steps_of(alloc, asker, provider, &files, &wants)?;
+    let placed = faults_of(alloc, asker.traced, faults.as_slice())?;
+    let found = FoundModule {
+        ranges,
+        implementations,
+        faults: placed,
+    };
+    Ok((steps, found))
+}
+
+/// Adds the package that a step asks for, if it asks for one.
+fn push_dependency(nv: &PackageNv, step: &Step, out: &mut Vec<PackageNv>) -> Result<(), AllocError>
+    ensures { OnOk result (map (λ p. dependency (nv_of nv.now) (nv_of p)) out.new.items
+        ≡ map (λ p. dependency (nv_of nv.now) (nv_of p)) out.old.items ++ dependency_of (nv_of nv.now) (want_of step.now)) }
+{
+    match step {
+        Step::Package(on) => {
+            out.push(on.clone()?)?;
+            Ok(())
+        }
+        Step::Module(_, _, _) => Ok(()),
+    }
+}
+
+/// The packages that are asked for.
+pub fn dependencies_of(
+    alloc: Global,
+    nv: &PackageNv,
+    steps: &[Step],
+) -> Result<Vec<PackageNv>, AllocError>
+    ensures { IfOk result (λ out. map (λ p. dependency (nv_of nv.now) (nv_of p)) out.items ≡ dependencies (nv_of nv.now) (map want_of steps.now)) }
+{
+    let mut out = Vec::new(alloc);
+    for step in steps {
+        push_dependency(nv, step, &mut out)?;
+    }
+    Ok(out)
+}
