@@ -27,11 +27,14 @@ CHAPTERS = {
         "fast_check_graph": None, "fast_check_comments": None, "fast_check_syntax": None, "fast_check_helpers": None,
     },
     "json": {
-        "fast_check_read": None, "fast_check_print": None, "fast_check_read_tables": None, "fast_check_schema": None, "fast_check_places": None,
+        "fast_check_read": None, "fast_check_print": None, "fast_check_read_graph": None, "fast_check_read_tables": None, "fast_check_schema": None,
+        "fast_check_places": None,
     },
     "program": {"fast_check_commands": None},
     "forms": {"fast_check_forms": None, "fast_check_ranges": None},
 }
+# what is tested by its output alone
+CASES = re.compile("_cases$|_said$|_example$|_vectors$")
 HEAD = re.compile(r"^(?:(?:abbrev|unfoldable|pub|record|data|partial)\s+)*(?:record\s+|data\s+)?([^\s:({]+)\s*(?:[:({]|$)")
 STARTS = re.compile(r":|\brecord\b|\bdata\b")
 WORD = re.compile(r"[^\s(){}\[\],.;]+")
@@ -143,7 +146,7 @@ def contracts(crate, names):
     for file in sorted((CRATES / crate / "src").rglob("*.rt")):
         text = file.read_text()
         imports = imported(text)
-        for found in re.finditer(r"^([ ]*)(?:pub )?(?:const )?fn (\w+)(.*?)(?:^\1\{$|;$|\{$)", text, re.M | re.S):
+        for found in re.finditer(r"^([ ]*)(?:pub )?(?:const )?fn (\w+)(.*?)(?:^\1\{\}?$|;$|\{$)", text, re.M | re.S):
             if (names is None or found[2] in names) and ("pub fn" in found[0] or found[1]):
                 yield found[3], imports
         if names is None:
@@ -217,7 +220,9 @@ def page(every):
 
 
 def every_file():
-    return [it for it in sorted(CRATES.glob("*/specs/**/*.antt")) if it.name != "Lib.antt" and "out" not in it.parts]
+    """The files of definitions, but for lists of files and what is written from the table of forms."""
+    found = [it for it in sorted(CRATES.glob("*/specs/**/*.antt")) if it.name != "Lib.antt" and "out" not in it.parts]
+    return [it for it in found if not it.read_text().startswith("-- Written by forms/write.py") and not CASES.search(it.parts[len(CRATES.parts)])]
 
 
 def main(words):
@@ -227,8 +232,9 @@ def main(words):
     if not words:
         for chapter, found in every.items():
             print(f"{chapter:10} {len({f for f, _ in found}):4} files {len(found):5} definitions {size(found):6} lines")
-        whole = sum(len(it.read_text().splitlines()) for it in public)
-        print(f"{len(public)} files of {len(every_file())} are reached, {whole} lines by whole files; {len(inner)} are inner")
+        read = [it for it in every_file() if it in public]
+        whole = sum(len(it.read_text().splitlines()) for it in read)
+        print(f"{len(read)} of {len(every_file())} files that are not written from the table of forms are reached, {whole} lines by whole files")
     elif words[0] == "page":
         page(every)
     elif words[0] == "read" and words[1:] and words[1] in every:

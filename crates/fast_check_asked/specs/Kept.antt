@@ -1,3 +1,4 @@
+-- Inner: no contract of a public call cites what stands here.
 -- What stays of an item: one at most.
 use Rattle.std.specs.Prelude.{Option, Some, None, List, [], ◌∷◌}
 use Rattle.fast_check_syntax.specs.declared.tree.Tree.{Tree}

@@ -1,3 +1,4 @@
+-- Inner: no contract of a public call cites what stands here.
 -- The row of an expression that stays slot by slot.
 use Rattle.std.specs.Prelude.{Bool, Option, Some, None, List}
 use Rattle.fast_check_syntax.specs.declared.kind.Kind.{Kind}

@@ -1,3 +1,4 @@
+//! The skeletons of packages, or what is wrong with them: `build_fast_check_type_graph`.
 ghost use Rattle.std.specs.Prelude.{◌≡◌, false, map, is_some, IfOk, IfErr};
 ghost use Rattle.fast_check_packages.specs.Package.{nv_of};
 ghost use Rattle.fast_check_finder.specs.Refusals.{IsRefusal};

@@ -1,3 +1,4 @@
+-- Inner: no contract of a public call cites what stands here.
 -- The heads of properties that are made.
 use Rattle.fast_check_signatures.specs.Seen.{PropertyHead}
 use Rattle.fast_check_class_nodes.specs.declared.properties.PropertyHead.{PropertyHead as MadeHead}

@@ -1,3 +1,4 @@
+-- Inner: no contract of a public call cites what stands here.
 -- What the members of a class so far tell of the next.
 use Rattle.std.specs.Prelude.{◌≡◌, ℕ, Bool, not, ◌&&◌, List, ◌∷◌}
 use Rattle.std.specs.List.{list_any}

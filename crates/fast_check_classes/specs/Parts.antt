@@ -1,3 +1,4 @@
+-- Inner: no contract of a public call cites what stands here.
 -- The parts of classes: what is answered to properties and accessors, and the nodes of members.
 use Rattle.std.specs.Prelude.{Bool, false, Option, Some, None, List, [], ◌∷◌, map, option_map, if◌then◌else◌}
 use Rattle.std.specs.List.{filter}

@@ -1,3 +1,4 @@
+-- Inner: no contract of a public call cites what stands here.
 -- The answers to what is seen of classes and of default exports.
 use Rattle.std.specs.Prelude.{Bool, Option, List, [], ◌∷◌}
 use Rattle.fast_check_syntax.specs.declared.kind.Kind.TheVariants.{ExportDefaultDecl}

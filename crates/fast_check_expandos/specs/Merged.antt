@@ -1,3 +1,4 @@
+-- Inner: no contract of a public call cites what stands here.
 -- What stands in a namespace, by the properties of its object.
 use Rattle.std.specs.Prelude.{◌≡◌, ◌||◌, List, [], ◌∷◌, ◌++◌, map, if◌then◌else◌}
 use Rattle.std.specs.List.{flat_map, list_any}

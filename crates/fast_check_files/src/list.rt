@@ -1,3 +1,4 @@
+//! A list of what is asked of other files.
 ghost use Rattle.std.specs.Prelude.{◌≡◌, [], ◌∷◌, ◌++◌, map, OnOk};
 ghost use Rattle.fast_check_files.specs.Files.{file_demand_of};
 

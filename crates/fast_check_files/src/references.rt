@@ -1,3 +1,4 @@
+//! What a demand of a module asks of other files: by file references, import types and aliases.
 ghost use Rattle.std.specs.Prelude.{◌≡◌, ◌++◌, OnOk};
 ghost use Rattle.std.specs.List.{flat_map};
 ghost use Rattle.fast_check_names.specs.Names.{path_of};

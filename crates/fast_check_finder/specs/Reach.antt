@@ -1,3 +1,4 @@
+-- Inner: no contract of a public call cites what stands here.
 -- All that can be demanded.
 use Rattle.std.specs.Prelude.{ℕ, zero, suc, List, [], ◌∷◌, ◌++◌, map, length, Some, None, option_to_list, string_bytes}
 use Rattle.std.specs.List.{flat_map}

@@ -1,3 +1,4 @@
+-- Inner: no contract of a public call cites what stands here.
 -- The return class of what was met so far, after one more return statement.
 use Rattle.std.specs.Prelude.{Bool, true, false}
 use Rattle.fast_check_helpers.specs.declared.return_class.ReturnStatementAnalysis.{ReturnStatementAnalysis}

@@ -1,3 +1,4 @@
+-- Inner: no contract of a public call cites what stands here.
 -- The answers to what is seen of imports and exports.
 use Rattle.std.specs.Prelude.{List}
 use Rattle.fast_check_syntax.specs.declared.tree.Tree.{Tree}

@@ -1,3 +1,4 @@
+-- Inner: no contract of a public call cites what stands here.
 -- The answers to what is seen of the items of a module, and of a namespace.
 use Rattle.std.specs.Prelude.{List, [], ◌∷◌}
 use Rattle.std.specs.List.{flat_map}

@@ -1,3 +1,4 @@
+-- Inner: no contract of a public call cites what stands here.
 -- The single things that a value of demanded names stands for.
 use Rattle.std.specs.Prelude.{◌≡◌, ◌↔◌, ◌⊎◌, Bool, false, List, [], ◌++◌, IsTrue}
 use Rattle.std.specs.List.{Contains}

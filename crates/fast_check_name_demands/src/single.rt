@@ -1,3 +1,4 @@
+//! The single names that a value of demanded names stands for.
 ghost use Rattle.std.specs.Prelude.{◌≡◌, [], ◌∷◌, ◌++◌, map, OnOk, IfOk, string_bytes};
 ghost use Rattle.fast_check_names.specs.Names.{path_of, paths, paths_below};
 ghost use Rattle.fast_check_files.specs.Files.{names_of};

@@ -1,3 +1,4 @@
+-- Inner: no contract of a public call cites what stands here.
 -- Types that are written, or shown by a value.
 use Rattle.std.specs.Prelude.{Option, Some, option_map, if◌then◌else◌}
 use Rattle.fast_check_syntax.specs.declared.source.SyntaxContext.{SyntaxContext}

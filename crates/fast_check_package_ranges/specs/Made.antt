@@ -1,3 +1,4 @@
+-- Inner: no contract of a public call cites what stands here.
 -- How answers stand for what is known of modules and packages.
 use Rattle.std.specs.Prelude.{◌≡◌, ⊤, Bool, true, false, ◌&&◌, ◌||◌, not, cond, List, [], ◌∷◌, ◌++◌, Option, Some, None}
 use Rattle.std.specs.List.{list_any, IsDistinct}

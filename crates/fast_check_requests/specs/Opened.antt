@@ -1,3 +1,4 @@
+-- Inner: no contract of a public call cites what stands here.
 -- What was asked of the system.
 use Rattle.std.specs.Prelude.{Option, Some, None, Result, Ok, Err}
 use Rattle.std.specs.declared.io.Error.{Error}

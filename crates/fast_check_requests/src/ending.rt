@@ -1,3 +1,4 @@
+//! How a run of the program ends.
 /// How a run of the program ended.
 #[derive(Clone, Copy, Debug, PartialEq, Eq)]
 pub struct Ending {

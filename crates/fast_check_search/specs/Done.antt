@@ -1,3 +1,4 @@
+-- Inner: no contract of a public call cites what stands here.
 -- A demand as a set has it.
 use Rattle.std.specs.Prelude.{ℕ, length}
 use Rattle.fast_check_files.specs.demands.symbol_demands.declared.demand.SymbolDemand.{SymbolDemand}

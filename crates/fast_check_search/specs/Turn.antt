@@ -1,3 +1,4 @@
+-- Inner: no contract of a public call cites what stands here.
 -- What holds between two turns of the search.
 use Rattle.std.specs.Prelude.{◌≡◌, ℕ, ◌≤◌, List, ◌++◌, length, take, map}
 use Rattle.std.specs.List.{Contains}

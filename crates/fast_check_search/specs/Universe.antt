@@ -1,3 +1,4 @@
+-- Inner: no contract of a public call cites what stands here.
 -- All demands that a search may come to: of an id that the tables or the first demands mention, by such an id, and for what is
 -- left of one of their paths, or one name of it.
 use Rattle.std.specs.Prelude.{ℕ, List, [], ◌∷◌, ◌++◌, map, length, Some, None, ⊤}

@@ -1,3 +1,4 @@
+-- Inner: no contract of a public call cites what stands here.
 -- What a list of demands gains, and how it is kept.
 use Rattle.std.specs.Prelude.{◌≡◌, List, ◌++◌, map}
 use Rattle.std.specs.List.{list_any, Contains, IsDistinct}

@@ -1,3 +1,4 @@
+-- Inner: no contract of a public call cites what stands here.
 -- The answers to assignments that are statements.
 use Rattle.std.specs.Prelude.{Option, Some, None, List, []}
 use Rattle.fast_check_syntax.specs.declared.source.SourceRange.{SourceRange}

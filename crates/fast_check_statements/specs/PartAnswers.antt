@@ -1,3 +1,4 @@
+-- Inner: no contract of a public call cites what stands here.
 -- The answers to what is seen of statements: variables, `using`, functions and what stands as it is written.
 use Rattle.std.specs.Prelude.{Option, Some, None, List, if◌then◌else◌}
 use Rattle.std.specs.List.{flat_map}

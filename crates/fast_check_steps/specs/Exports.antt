@@ -1,3 +1,4 @@
+-- Inner: no contract of a public call cites what stands here.
 -- What is asked below a name where a path goes on there.
 use Rattle.std.specs.Prelude.{◌&&◌}
 use Rattle.fast_check_names.specs.Names.{Path, NameSet, is_touched}

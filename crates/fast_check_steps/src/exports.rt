@@ -1,3 +1,4 @@
+//! What of a module's names is asked of another by a re-export.
 ghost use Rattle.std.specs.Prelude.{◌≡◌, ◌∷◌, [], IfOk};
 ghost use Rattle.fast_check_names.specs.Names.{path_of, paths, paths_below, named, IsSame};
 ghost use Rattle.fast_check_names.specs.Imports.{subset_at, whole_at};

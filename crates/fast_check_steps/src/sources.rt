@@ -1,3 +1,4 @@
+//! What is known of modules and packages beside the tables of a module.
 ghost use Rattle.std.specs.Prelude.{◌≡◌, nat_eq, option_map, IfOk};
 ghost use Rattle.std.specs.Option.{option_copied};
 ghost use Rattle.std.specs.List.{starts_with};

@@ -1,3 +1,4 @@
+-- Inner: no contract of a public call cites what stands here.
 -- A program of the one command.
 use Rattle.std.specs.Prelude.{ℕ, List, codes, if◌then◌else◌, Option, Some, None}
 use Rattle.std.specs.Str.{bytes_eq}

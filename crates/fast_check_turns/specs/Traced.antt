@@ -1,4 +1,5 @@
--- A module that was followed, by what the search of it answers. Inner: what a turn does is said by the account (`IsFollowed`).
+-- Inner: no contract of a public call cites what stands here.
+-- A module that was followed, by what the search of it answers. What a turn does is said by the account (`IsFollowed`).
 use Rattle.std.specs.Prelude.{◌≡◌, List, ◌++◌, map, option_to_list}
 use Rattle.std.specs.List.{flat_map}
 use Rattle.fast_check_syntax.specs.declared.source.SourceRange.{SourceRange}

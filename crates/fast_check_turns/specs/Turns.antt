@@ -1,4 +1,5 @@
--- A package that is entered. Inner: what a turn does is said by the account (`IsEntered`).
+-- Inner: no contract of a public call cites what stands here.
+-- A package that is entered. What a turn does is said by the account (`IsEntered`).
 use Rattle.std.specs.Prelude.{◌≡◌, List, ◌++◌, map}
 use Rattle.fast_check_packages.specs.Package.{Nv}
 use Rattle.fast_check_graph.specs.declared.graph.ModuleGraph.{ModuleGraph}

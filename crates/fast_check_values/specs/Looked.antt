@@ -1,3 +1,4 @@
+-- Inner: no contract of a public call cites what stands here.
 -- Lists of parameters, and the return type of an arrow where it is known.
 use Rattle.std.specs.Prelude.{◌≡◌, ℕ, ◌<◌, drop, length, Option, Some, None, List, map, option_map, if◌then◌else◌}
 use Rattle.std.specs.List.{list_all}

@@ -1,3 +1,4 @@
+-- Inner: no contract of a public call cites what stands here.
 -- How much can still be asked.
 use Rattle.std.specs.Prelude.{ℕ, ◌+◌, ◌-◌, Bool, cond, IsTrue, List, [], ◌∷◌, Option, Some, None, length}
 use Rattle.std.specs.List.{Contains, IsDistinct}

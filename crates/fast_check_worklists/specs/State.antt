@@ -1,3 +1,4 @@
+-- Inner: no contract of a public call cites what stands here.
 -- What is asked in one turn of the search.
 use Rattle.std.specs.Prelude.{◌≡◌, ◌++◌, cond, List, [], ◌∷◌, Option, Some, None, map, IsTrue}
 use Rattle.std.specs.List.{list_any, Contains}

@@ -1,3 +1,4 @@
+-- Inner: no contract of a public call cites what stands here.
 -- What holds between two turns of the search.
 use Rattle.std.specs.Prelude.{◌≡◌, ◌⊎◌, ℕ, ◌≤◌, ◌<◌, ◌+◌, List, [], ◌∷◌, ◌++◌, Option, Some, None, slice_index_or, length, take, map, IsTrue}
 use Rattle.std.specs.List.{Contains, list_any, IsDistinct}

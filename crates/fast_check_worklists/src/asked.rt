@@ -1,3 +1,4 @@
+//! What was asked for of packages and modules, and what of it waits.
 ghost use Rattle.std.specs.Prelude.{◌≡◌, map, OnOk, IfOk};
 ghost use Rattle.fast_check_packages.specs.Package.{nv_of};
 ghost use Rattle.fast_check_worklists.specs.Demands.{same_nv};
