@@ -11,6 +11,7 @@ import re
 import sys
 from functools import cache
 from pathlib import Path
+from textwrap import fill
 
 TOP = Path(__file__).resolve().parents[2]
 CRATES = TOP / "crates"
@@ -203,12 +204,11 @@ def chapters():
 
 def page(every):
     """The chapters in words: the files that each adds, in an order in which they can be read, with the lines that are reached."""
-    for chapter, found in every.items():
+    for chapter, found in list(every.items())[:-1]:
         forms, rows = [], []
         for file in in_order(found):
             lines = size([it for it in found if it[0] == file])
-            if chapter != "in all":
-                (forms if "forms/forms.txt" in file.read_text()[:400] else rows).append((file, lines))
+            (forms if "forms/forms.txt" in file.read_text()[:400] else rows).append((file, lines))
         crates = dict.fromkeys(file.parts[len(CRATES.parts)] for file, _ in rows)
         words = [
             f"`{crate}`: " + ", ".join(f"{file.stem} {lines}" for file, lines in rows if file.parts[len(CRATES.parts)] == crate)
@@ -216,7 +216,7 @@ def page(every):
         ]
         if forms:
             words.append(f"{sum(it[1] for it in forms)} lines in {len(forms)} files of forms, written from one table")
-        print(f"- **{chapter}**, {size(found)} lines. " + "; ".join(words) + ".")
+        print(fill(f"- **{chapter}**, {size(found)} lines. " + "; ".join(words) + ".", 160, subsequent_indent="  ", break_on_hyphens=False))
 
 
 def every_file():
