@@ -7,7 +7,7 @@ from class_skeletons import is_hash_named
 from expando_cases import put
 from module_trees import export_all, import_, interface, named_export, named_import, namespace, property_signature
 from nodes import variant
-from skeletons import return_class, shown
+from skeletons import names_type, return_class, shown, single_return_arg
 from trees import (
     FREE, array_pattern, block, class_stmt, declarator, decorator, empty_member, exported, fn_stmt, form, hash_method, hash_prop, lit, name,
     named, object_pattern, paren, ref, returned, run, static_block, stmt, thrown, unexported, var_stmt,
@@ -23,6 +23,12 @@ def new_nodes(tree):
     if isinstance(tree, dict):
         return {name: new_nodes(inside) for name, inside in tree.items() if name != "#"}
     return [new_nodes(each) for each in tree] if isinstance(tree, list) else tree
+
+
+def naming_arg(body, is_generator):
+    """The value by which a body names its return type, None where it names none."""
+    arg = None if is_generator else single_return_arg(body)
+    return arg if arg is not None and names_type(arg) and shown(False, arg, FREE) is not None else None
 
 
 class Edits:
@@ -165,11 +171,16 @@ class Edits:
 
     # -- functions
 
-    def body_like(self, old, is_any):
-        """Another body: any, or one that returns as the old one does."""
+    def body_like(self, old, is_any, is_generator):
+        """Another body: any, or one that returns as the old one does. Where the old one names its return type its statements stay, and what it returns shows
+        the same type; where it names none the new one names none."""
+        if not is_any and naming_arg(old, is_generator) is not None:
+            last = old["stmts"][-1]["Return"]
+            last["arg"] = self.shown_alike(last["arg"], False)
+            return old
         for _ in range(20):
             made = block(*self.writer.body(2))
-            if is_any or return_class(made) == return_class(old):
+            if is_any or return_class(made) == return_class(old) and naming_arg(made, is_generator) is None:
                 return made
         return old
 
@@ -179,14 +190,15 @@ class Edits:
         kind, body = variant(node["body"])
         if kind == "BlockStmt":
             if self.chance("body"):
-                node["body"] = {kind: self.body_like(body, node["return_type"] is not None)}
+                node["body"] = {kind: self.body_like(body, node["return_type"] is not None, node["is_generator"])}
         elif node["return_type"] is None:
             node["body"] = {kind: self.shown_alike(body, False)}
 
     def function(self, node, is_implementation, how):
         """A function; `how` is the kind of a method, or None for an expression."""
         if node["body"] is not None and self.chance("body"):
-            node["body"] = self.body_like(node["body"], node["return_type"] is not None or how == "Setter" or is_implementation)
+            is_any = node["return_type"] is not None or how == "Setter" or is_implementation
+            node["body"] = self.body_like(node["body"], is_any, node["is_generator"])
         if is_implementation:
             if self.chance("parameters of an implementation"):
                 node["params"] = [self.param_like(param) for param in node["params"]]
