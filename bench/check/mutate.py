@@ -1,5 +1,5 @@
 #!/usr/bin/env python3
-"""Mutated inputs of both commands through the program: whatever the bytes are, a run ends by one line with a status of docs/FORMATS.md.
+"""Mutated inputs of all commands through the program: whatever the bytes are, a run ends by one line with a status of docs/FORMATS.md.
 
 Each input is one of the stored runs or examples with some of it changed: as text (bytes turned, cut out, doubled, put in), or as JSON (a value replaced
 by another one of the same input or by an extreme one, a member or an item taken away, doubled or renamed). A run breaches where it ends by a
@@ -29,13 +29,13 @@ SECONDS, FREE, PER_BYTE = 10, 16_000_000, 100
 
 
 def stored_inputs():
-    """The files of both commands, with the command of each."""
+    """The files of all commands, with the command of each."""
     with open(os.path.join(DATA, "cases")) as file:
         runs = [line.split() for line in file if line.startswith(("transform ", "build "))]
     found = {(command, os.path.join(DATA, rest[0])) for command, *rest in runs if len(rest) == 1 and rest[0].endswith(".json")}
     for path in glob.glob(os.path.join(TOP, "examples/*.json")):
         if not path.endswith(".answer.json"):
-            found.add(("build" if "build_" in path else "transform", path))
+            found.add(("build" if "build_" in path else "pair" if "pair" in os.path.basename(path) else "transform", path))
     return sorted((command, path) for command, path in found if os.path.isfile(path) and os.path.getsize(path) < 200_000)
 
 

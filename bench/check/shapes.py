@@ -273,6 +273,9 @@ def main(words):
     if not words or any(word not in SHAPES for word in words[1:]):
         print(__doc__ + "\nShapes: " + " ".join(SHAPES))
         return 2
+    if not os.access(words[0], os.X_OK):
+        print(f"no program: {words[0]}", file=sys.stderr)
+        return 2
     print(f"{'shape':28} {'largest':>8} {'MB':>8} {'status':>6} {'seconds':>8} {'twice':>8} {'4 times':>8} {'held':>8} {'exponent':>8}")
     good = [measure(os.path.abspath(words[0]), name) for name in words[1:] or SHAPES]
     print(f"shapes={len(good)} above={good.count(False)}")
