@@ -20,12 +20,26 @@ function joined(skeletons) {
   return skeletons.map(({ name, text }) => `// ${name}\n${text.replace(/\n*$/, '\n')}`).join('\n');
 }
 
+/**
+ * Makes a folder and those above it. Node's own recursive call does not come back where a file system lets nothing be made, as `/proc`.
+ */
+function makeFolder(folder) {
+  try {
+    fs.mkdirSync(folder);
+  } catch (error) {
+    if (error.code === 'EEXIST' && fs.statSync(folder).isDirectory()) return;
+    if (error.code !== 'ENOENT' || path.dirname(folder) === folder) throw error;
+    makeFolder(path.dirname(folder));
+    fs.mkdirSync(folder);
+  }
+}
+
 /** Writes the skeletons to a folder, which is made if it is not there. A name that leads out of it is an error. */
 function write(folder, skeletons) {
   for (const { name, text } of skeletons) {
     const file = path.join(folder, name);
     if (path.relative(folder, file).startsWith('..')) throw new Error(`${name} lies outside of the package, and is not written`);
-    fs.mkdirSync(path.dirname(file), { recursive: true });
+    makeFolder(path.dirname(file));
     fs.writeFileSync(file, text);
   }
 }

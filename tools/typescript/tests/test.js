@@ -237,7 +237,16 @@ async function commandLine() {
     same(fs.readdirSync(out).join(' '), 'mod.ts shapes.ts');
     const { status, err } = await run(['check', out]);
     same(status, 0, `the status of the skeletons' own check (${err})`);
+    same((await run(['skeleton', 're-exports', out])).status, 0, 'the status where the folder has them already');
+    same((await run(['skeleton', 're-exports', path.join(out, 'a', 'b')])).status, 0, 'the status where folders above are made');
   }));
+  for (const out of ['/proc/nowhere/out', '/dev/null']) {
+    await test(`skeletons that cannot be written to ${out}`, async () => {
+      const { status, err } = await run(['skeleton', 're-exports', out]);
+      same(status, 2, 'the status');
+      holds(err.includes(path.dirname(out)), err);
+    });
+  }
 }
 
 /** Programs in the place of fast check that fail in their ways. */
