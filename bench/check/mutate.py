@@ -20,6 +20,8 @@ import sys
 import tempfile
 import time
 
+# some inputs are nested deeper than a reader takes
+sys.setrecursionlimit(20_000)
 TOP = os.path.dirname(os.path.dirname(os.path.dirname(os.path.abspath(__file__))))
 DATA = os.path.join(TOP, "crates/fast_check_vectors/data")
 LINES = re.compile(rb"error: input refused: (unreadable|not-json|bad-form|table-fault [1-4]|ranges-not-admitted|invalid-export)\n")
