@@ -20,8 +20,6 @@ import sys
 import tempfile
 import time
 
-# some inputs are nested deeper than a reader takes
-sys.setrecursionlimit(20_000)
 TOP = os.path.dirname(os.path.dirname(os.path.dirname(os.path.abspath(__file__))))
 DATA = os.path.join(TOP, "crates/fast_check_vectors/data")
 LINES = re.compile(rb"error: input refused: (unreadable|not-json|bad-form|table-fault [1-4]|ranges-not-admitted|invalid-export)\n")
@@ -100,11 +98,12 @@ def mutated(chance, text):
         return turn_bytes(chance, text)
     try:
         value = json.loads(text)
-    except ValueError:
+        for _ in range(chance.choice([1, 1, 1, 2, 3, 8])):
+            turn_value(chance, value)
+        return json.dumps(value, separators=(",", ":"), ensure_ascii=chance.random() < 0.5).encode("utf-8", "surrogatepass")
+    except (ValueError, RecursionError):
+        # no JSON, or nested deeper than Python walks, as where a value was put into itself several times
         return turn_bytes(chance, text)
-    for _ in range(chance.choice([1, 1, 1, 2, 3, 8])):
-        turn_value(chance, value)
-    return json.dumps(value, separators=(",", ":"), ensure_ascii=chance.random() < 0.5).encode("utf-8", "surrogatepass")
 
 
 def run(program, command, path):
