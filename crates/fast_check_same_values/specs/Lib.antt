@@ -1,2 +1,3 @@
 pub mod SameValues
 pub mod SameClasses
+pub mod HiddenChanges

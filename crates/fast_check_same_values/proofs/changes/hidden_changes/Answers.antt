@@ -1,0 +1,5 @@
+use Rattle.fast_check_same_values.proofs.HiddenChanges.{hides_changes}
+use Rattle.fast_check_same_values.proofs.changes.hidden_changes.Goals as goal
+
+pub returns : goal.returns
+returns c = record { law = hides_changes }
