@@ -1,15 +1,14 @@
 -- All is written over a subset that lists no other, and its node is taken out.
-use Rattle.std.proofs.Common.{◌≡◌, ◌∙◌, sym, ap, refl, subst, ⊎_elim, ℕ, zero, suc, ◌+◌, ◌-◌, ◌<◌, ◌≤◌, Bool, true, false, ◌&&◌, ◌||◌, cond, eqb, not, [], ◌∷◌}
-use Rattle.std.proofs.Common.{List, Option, Some, None, arith, get_or, length, map}
+use Rattle.std.proofs.Common.{◌≡◌, ◌∙◌, sym, ap, refl, subst, ⊎_elim, ℕ, zero, suc, ◌+◌, ◌-◌, ◌<◌, ◌≤◌, Bool, true, ◌&&◌, cond, eqb, not, [], ◌∷◌}
+use Rattle.std.proofs.Common.{List, Some, None, arith, get_or, length, map}
 use Rattle.std.specs.List.{remove}
 use Rattle.std.specs.Str.{bytes_eq}
 use Rattle.std.proofs.lemmas.Bool.{false≢true, ne_eqb, eq-eqb, cases_order, cases_lt}
-use Rattle.std.proofs.lemmas.Bool.Decides.{eqb_tells}
 use Rattle.fast_check_names.specs.declared.lattice.node.NodeNo.{NodeNo}
 use Rattle.fast_check_names.specs.declared.lattice.node.Below.{Below}
 use Rattle.fast_check_names.specs.declared.lattice.node.Below.TheVariants.{All, Subset}
-use Rattle.fast_check_names.specs.Order.{Name, Entry, found}
-use Rattle.fast_check_names.specs.Graph.{Graph, Part, Path, NameSet, reach, rooted, IsTree, IsWritten, IsTakenOut, ListsNoSubset, listings, entry, lower, lower_entries, raise, moved, moved_below}
+use Rattle.fast_check_names.specs.Order.{Name, found}
+use Rattle.fast_check_names.specs.Graph.{Graph, IsTree, IsWritten, IsTakenOut, ListsNoSubset, listings, entry, lower, lower_entries, raise, moved, moved_below}
 use Rattle.fast_check_names.specs.declared.lattice.node.Node.{Node}
 use Rattle.fast_check_names.specs.Names.{whole_below, everything, IsAdded}
 use Rattle.fast_check_names.proofs.Lists.{mapped_at, mapped_found}

@@ -1,5 +1,5 @@
 -- What a set gains at one node.
-use Rattle.std.proofs.Common.{◌≡◌, ◌∙◌, sym, ap, refl, subst, ⊎_elim, ℕ, ◌+◌, ◌-◌, ◌<◌, ◌≤◌, Bool, true, false, ◌&&◌, ◌||◌, cond, List, [], ◌∷◌, ◌++◌}
+use Rattle.std.proofs.Common.{◌≡◌, ◌∙◌, sym, ap, refl, subst, ⊎_elim, ℕ, ◌+◌, ◌<◌, ◌≤◌, Bool, true, false, ◌&&◌, ◌||◌, cond, List, [], ◌∷◌, ◌++◌}
 use Rattle.std.proofs.Common.{Option, Some, None, arith, map, take, length, get_or, string_bytes}
 use Rattle.std.specs.Option.{is_some, IfSome}
 use Rattle.std.specs.Prelude.{Vec, vec_len}
@@ -17,7 +17,7 @@ use Rattle.fast_check_names.specs.declared.lattice.node.Below.TheVariants.{Subse
 use Rattle.fast_check_names.specs.declared.lattice.named_subset.NamedSubset.{NamedSubset}
 use Rattle.fast_check_names.specs.Tree.{IsTree-prop}
 use Rattle.fast_check_names.specs.Order.{Name, Entry, found, name_at, IsRising}
-use Rattle.fast_check_names.specs.Graph.{Graph, Part, Touched, Path, NameSet, entry, reach, below_node, rooted, subset_of, is_touched, IsTree, AreApart, LacksNames, HasRoom, either_of}
+use Rattle.fast_check_names.specs.Graph.{Graph, Part, Touched, Path, NameSet, entry, reach, below_node, rooted, subset_of, IsTree, AreApart, LacksNames, HasRoom, either_of}
 use Rattle.fast_check_names.specs.Names.{IsAdded, IsJoint, IsJoin, IsNameSet, IsLeastDifference, IsSame, nothing}
 use Rattle.fast_check_names.proofs.Walks.{name_tells, descends, or_false}
 use Rattle.fast_check_names.proofs.Places.{some_entry, found_first, rising_before}

@@ -1,17 +1,17 @@
 -- A tree is merged into a node: the names of its root stand there too, and its other nodes behind.
-use Rattle.std.proofs.Common.{◌≡◌, ◌∙◌, sym, ap, refl, subst, ⊎_elim, inl, inr, ◌⊎◌, ℕ, zero, suc, ◌+◌, ◌-◌, ◌<◌, ◌≤◌, Bool, true, false, ◌||◌, cond, eqb, [], ◌∷◌}
+use Rattle.std.proofs.Common.{◌≡◌, ◌∙◌, sym, ap, refl, subst, ⊎_elim, inl, inr, ◌⊎◌, ℕ, zero, suc, ◌+◌, ◌-◌, ◌<◌, ◌≤◌, true, false, ◌||◌, cond, eqb, [], ◌∷◌}
 use Rattle.std.proofs.Common.{Option, Some, None, arith}
 use Rattle.std.specs.Option.{is_some}
-use Rattle.std.proofs.lemmas.Bool.{false≢true, cases_lt, cases_Bool, eq-eqb, ne_eqb}
+use Rattle.std.proofs.lemmas.Bool.{cases_lt, eq-eqb, ne_eqb}
 use Rattle.std.proofs.lemmas.Bool.Decides.{eqb_tells}
 use Rattle.fast_check_names.specs.declared.lattice.node.NodeNo.{NodeNo}
 use Rattle.fast_check_names.specs.declared.lattice.node.Below.{Below}
 use Rattle.fast_check_names.specs.declared.lattice.node.Below.TheVariants.{All, Subset}
 use Rattle.fast_check_names.specs.Order.{Name}
-use Rattle.fast_check_names.specs.Graph.{Path, Part, NameSet, Graph, reach, subset_of, IsTree, IsAfter, IsMerge, LacksNames, either_of, shift}
+use Rattle.fast_check_names.specs.Graph.{Path, Part, NameSet, Graph, reach, IsTree, IsAfter, IsMerge, LacksNames, either_of, shift}
 use Rattle.fast_check_names.specs.Names.{IsAdded}
 use Rattle.fast_check_names.proofs.Walks.{grown_by, after, is_after, or_false}
-use Rattle.fast_check_names.proofs.Grafts.{shift_back, shift_ends, none_no_subset}
+use Rattle.fast_check_names.proofs.Grafts.{shift_back, shift_ends}
 use Rattle.fast_check_names.proofs.Puts.{none_is}
 
 no_is : (i j : NodeNo) → i.0 ≡ j.0 → i ≡ j
@@ -111,7 +111,7 @@ module _ (g s w : Graph) (size count at : ℕ) (tree : IsTree g size) (sub : IsT
       let p = sub.parent (j - (size - 1)) (omega (arith, h, within)) (omega (arith, h, b, within)) in (
         (lifts p.0.0, p.0.1),
         comes p.0.0 p.0.1 (Subset (record { 0 = j - (size - 1) })) p.1 ∙
-        ap (λ i. Some (Subset (record { 0 = i }))) (let back : (size - 1) + (j - (size - 1)) ≡ j = omega (arith, h) in back),
+            ap (λ i. Some (Subset (record { 0 = i }))) (let back : (size - 1) + (j - (size - 1)) ≡ j = omega (arith, h) in back),
       ))
       (cases_lt j size)
 

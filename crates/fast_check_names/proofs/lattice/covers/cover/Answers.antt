@@ -1,4 +1,4 @@
-use Rattle.std.proofs.Common.{arith, ap, ◌∙◌, ◌≡◌, ◌<◌, ◌≤◌, ◌-◌, refl, length, is_some}
+use Rattle.std.proofs.Common.{arith, ap, ◌-◌, refl, is_some}
 use Rattle.fast_check_names.specs.declared.lattice.node.NodeNo.{NodeNo}
 use Rattle.fast_check_names.specs.Graph.{entry}
 use Rattle.fast_check_names.proofs.Copies.{past_none}

@@ -1,4 +1,4 @@
-use Rattle.std.proofs.Common.{rules, arith, ap, ◌∙◌, ◌≡◌, ◌<◌, sym, length, get_or, Some, None}
+use Rattle.std.proofs.Common.{arith, ap, ◌∙◌, ◌<◌, sym, length, Some}
 use Rattle.fast_check_names.specs.declared.lattice.node.Below.TheVariants.{All}
 use Rattle.fast_check_names.specs.Order.{found}
 use Rattle.fast_check_names.proofs.Places.{rising_set, read_name, found_set, found_none, rising_before, gap_absent}

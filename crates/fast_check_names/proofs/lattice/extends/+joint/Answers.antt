@@ -1,8 +1,8 @@
-use Rattle.std.proofs.Common.{rules, arith, refl, sym, ap, ◌∙◌, ◌≡◌, ◌<◌, ℕ, length, get_or, cond, string_bytes, Some, None, List}
+use Rattle.std.proofs.Common.{rules, arith, refl, sym, ap, ◌∙◌, ◌≡◌, ◌<◌, length, cond, string_bytes, Some, None, List}
 use Rattle.std.specs.Str.{bytes_eq}
 use Rattle.fast_check_names.specs.declared.lattice.node.Below.{Below}
 use Rattle.fast_check_names.specs.declared.lattice.node.Below.TheVariants.{Subset}
-use Rattle.fast_check_names.specs.Order.{Name, Entry, found}
+use Rattle.fast_check_names.specs.Order.{Entry, found}
 use Rattle.fast_check_names.specs.Graph.{entry}
 use Rattle.fast_check_names.proofs.Copies.{looked}
 use Rattle.fast_check_names.proofs.Extends.{itself, found_alone, joint_down, if_some_from}

@@ -1,7 +1,7 @@
-use Rattle.std.proofs.Common.{arith, ap, ◌∙◌, ◌≡◌, ◌<◌, ◌+◌, ◌-◌, ◌++◌, ℕ, suc, length, get_or, true, is_ok, List}
+use Rattle.std.proofs.Common.{arith, ap, ◌∙◌, ◌≡◌, ◌<◌, ◌+◌, ◌-◌, ◌++◌, ℕ, suc, length, true, is_ok, List}
 use Rattle.std.specs.List.{remove}
 use Rattle.fast_check_names.specs.declared.lattice.node.Node.{Node}
-use Rattle.fast_check_names.specs.Graph.{entry, listings, shift}
+use Rattle.fast_check_names.specs.Graph.{entry, shift}
 use Rattle.fast_check_names.proofs.Lists.{root_found, root_count, root_behind}
 use Rattle.fast_check_names.proofs.lattice.extends.append_below.Goals as goal
 
@@ -34,10 +34,13 @@ returns-clause-behind c =
     let same : length shifted ≡ length tree = omega (arith, c.shift_nodes.ensures.len, c.args.tree.ok.0, c.shift_nodes.new.nodes.ok.0) in
     let ok : is_ok c.append.result ≡ true = c.append.ensures.succeeds (omega (arith, c.requires.room, c.remove-root.ensures.len, c.shift_nodes.ensures.len)) in
     let items : c.append.new.self.items ≡ c.args.nodes.now.items ++ remove shifted 0 =
-    rw (c.append.ensures.items, ok) (ap (λ (ns : List Node). c.args.nodes.now.items ++ ns) c.remove-root.ensures.items) in
-    (remove shifted 0, items, λ k n.
-    root_behind (c.len.result - 1) tree shifted c.remove-root.result some same c.shift_nodes.ensures.shifted c.remove-root.ensures.value k n ∙
-    ap (λ (m : ℕ). shift (m - 1) (entry tree (suc k) n)) (c.len.ensures ∙ c.args.nodes.now.ok.0))
+    rw (c.append.ensures.items, ok) (ap (λ (ns : List Node). c.args.nodes.now.items ++ ns) c.remove-root.ensures.items) in (
+      remove shifted 0,
+      items,
+      λ k n.
+          root_behind (c.len.result - 1) tree shifted c.remove-root.result some same c.shift_nodes.ensures.shifted c.remove-root.ensures.value k n ∙
+          ap (λ (m : ℕ). shift (m - 1) (entry tree (suc k) n)) (c.len.ensures ∙ c.args.nodes.now.ok.0),
+    )
 
 pub returns-clause-len : goal.returns-clause-len
 returns-clause-len c =

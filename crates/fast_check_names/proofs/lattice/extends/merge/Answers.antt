@@ -1,4 +1,4 @@
-use Rattle.std.proofs.Common.{rules, arith, ap, ◌∙◌, ◌≡◌, ◌<◌, ◌+◌, ◌-◌, ◌++◌, sym, subst, refl, ℕ, suc, length, get_or, List, []}
+use Rattle.std.proofs.Common.{arith, ap, ◌∙◌, ◌≡◌, ◌<◌, ◌+◌, ◌-◌, ◌++◌, sym, subst, refl, ℕ, suc, length, get_or, List, []}
 use Rattle.fast_check_names.specs.declared.lattice.node.Node.{Node}
 use Rattle.fast_check_names.specs.Graph.{entry, listings, shift, either_of, HasRoom}
 use Rattle.fast_check_names.specs.Order.{Entry, found}
@@ -39,9 +39,16 @@ put_names-requires-clause-room c =
     ap (λ (ns : List Node). get_or ns c.args.at x) (b.1 ∙ ap (λ (ns : List Node). ns ++ b.0) c.move_into.ensures.items)) c.index.ensures in
     let some : 0 < length c.args.tree.items = omega (arith, c.requires.some, c.args.tree.ok.0) in
     let count : length root.names.items ≡ length (get_or (listings c.args.tree.items) 0 []) = ap length (items_at c.args.tree.items 0 root some c.index-2.ensures) in
-    omega (arith, c.move_into-2.ensures.room c.len.result
-    (subst (λ (z : Node). HasRoom z.names c.len.result c.in_ok-names_room.names_room) (sym same) c.in_ok-names_room.ensures),
-    c.move_into-2.ensures.len, c.append_below-names.ensures.count, count, c.len.ensures, root.names.ok.0)
+    omega (
+      arith,
+      c.move_into-2.ensures.room c.len.result
+          (subst (λ (z : Node). HasRoom z.names c.len.result c.in_ok-names_room.names_room) (sym same) c.in_ok-names_room.ensures),
+      c.move_into-2.ensures.len,
+      c.append_below-names.ensures.count,
+      count,
+      c.len.ensures,
+      root.names.ok.0,
+    )
 
 pub returns-clause-merge : goal.returns-clause-merge
 returns-clause-merge c =

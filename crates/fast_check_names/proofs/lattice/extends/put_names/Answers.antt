@@ -1,4 +1,4 @@
-use Rattle.std.proofs.Common.{rules, arith, refl, sym, ap, subst, ◌∙◌, ◌≡◌, ◌+◌, ◌-◌, ◌<◌, ℕ, length, get_or, take, string_bytes, List, Some}
+use Rattle.std.proofs.Common.{arith, refl, sym, subst, ◌≡◌, ◌+◌, ◌-◌, ◌<◌, ℕ, length, get_or, List}
 use Rattle.fast_check_names.specs.Order.{Entry}
 use Rattle.fast_check_names.proofs.Extends.{IsPutting, putting_more, free, entry_same}
 use Rattle.fast_check_names.proofs.lattice.extends.put_names.Goals as goal

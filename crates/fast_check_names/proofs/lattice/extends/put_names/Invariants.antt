@@ -1,4 +1,4 @@
-use Rattle.std.proofs.Common.{◌≡◌, ◌+◌, ◌≤◌, vec_len, vec_capacity}
+use Rattle.std.proofs.Common.{◌+◌, ◌≤◌, vec_len, vec_capacity}
 use Rattle.fast_check_names.proofs.Extends.{IsPutting}
 use Rattle.fast_check_names.proofs.lattice.extends.put_names.Given as goal
 

@@ -1,4 +1,4 @@
-use Rattle.std.proofs.Common.{arith, ap, ◌∙◌, ◌≡◌, string_bytes}
+use Rattle.std.proofs.Common.{ap, ◌∙◌, ◌≡◌, string_bytes}
 use Rattle.std.specs.List.{insert}
 use Rattle.fast_check_names.specs.Order.{found}
 use Rattle.fast_check_names.proofs.Places.{rising_insert, found_insert, gap_before}

@@ -1,7 +1,6 @@
-use Rattle.std.proofs.Common.{◌≡◌, ◌∙◌, sym, ◌∷◌, arith}
-use Rattle.fast_check_names.specs.declared.lattice.named_subset.NamedSubset.{NamedSubset}
+use Rattle.std.proofs.Common.{◌≡◌, ◌∙◌, sym, ◌∷◌}
 use Rattle.fast_check_names.specs.Graph.{entry, rooted, below_node, subset_of, IsMerge}
-use Rattle.fast_check_names.specs.Names.{paths, IsSame}
+use Rattle.fast_check_names.specs.Names.{IsSame}
 use Rattle.fast_check_names.proofs.Puts.{on_ok_from, on_err_from, rooted_same}
 use Rattle.fast_check_names.proofs.Merges.{merged}
 use Rattle.fast_check_names.proofs.Extends.{root_gains, names_lacked, same_set}
