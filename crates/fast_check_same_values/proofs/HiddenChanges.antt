@@ -41,59 +41,59 @@ use Rattle.fast_check_same_values.proofs.AlikeTrees.{new_alike}
 
 -- ---- what is read of leaves
 
-context_read : (c : SyntaxContext) → context_of (tree.Context c) ≡ c
+pub context_read : (c : SyntaxContext) → context_of (tree.Context c) ≡ c
 unfolding roll-Tree denote.Hole.Carrier.roll
 context_read c = ap context_at (out-roll-Tree (Tree-F.Context c))
 
-private_read : has_word words.Private (tree.Word words.Private) ≡ word_is_at words.Private (Tree-F.Word words.Private)
+pub private_read : has_word words.Private (tree.Word words.Private) ≡ word_is_at words.Private (Tree-F.Word words.Private)
 unfolding roll-Tree denote.Hole.Carrier.roll
 private_read = ap (word_is_at words.Private) (out-roll-Tree (Tree-F.Word words.Private))
 
 module _ (r : Renaming) (ok : IsRenaming r) where
-  abbrev Same : Tree → Tree → Type 0
+  abbrev pub Same : Tree → Tree → Type 0
   Same = SameTree r
 
   -- new nodes agree with themselves, and so do their places and scopes
-  new_same : (t : Tree) → ((m : Moves) → Keeps m → moved m t ≡ t) → Same t t
+  pub new_same : (t : Tree) → ((m : Moves) → Keeps m → moved m t ≡ t) → Same t t
   new_same t stays = tree_from r ok t t (new_alike r ok t stays)
 
-  no_place : SameRange r none_range none_range
+  pub no_place : SameRange r none_range none_range
   no_place = record { start = ok.starts.zero; end = ok.ends.zero }
 
-  at_places : (a b : SourceRange) → a ≡ none_range → b ≡ none_range → SameRange r a b
+  pub at_places : (a b : SourceRange) → a ≡ none_range → b ≡ none_range → SameRange r a b
   at_places a b e f = subst₂ (SameRange r) (sym e) (sym f) no_place
 
-  in_scopes : (a b : SyntaxContext) → a ≡ no_scope → b ≡ no_scope → IsPair r.scopes a.0 b.0
+  pub in_scopes : (a b : SyntaxContext) → a ≡ no_scope → b ≡ no_scope → IsPair r.scopes a.0 b.0
   in_scopes a b e f = subst₂ (λ x y. IsPair r.scopes x.0 y.0) (sym e) (sym f) ok.scopes.zero
 
-  are_same : (t u x : Tree) → t ≡ x → u ≡ x → Same x x → Same t u
+  pub are_same : (t u x : Tree) → t ≡ x → u ≡ x → Same x x → Same t u
   are_same t u x e f same = subst₂ Same (sym e) (sym f) same
 
-  same_absent : Same Absent Absent
+  pub same_absent : Same Absent Absent
   same_absent = new_same Absent (λ m keeps. absent_moved m)
 
   same_none : Same (list []) (list [])
   same_none = new_same (list []) (λ m keeps. node_moved m kinds.List [])
 
-  same_private : Same (tree.Word words.Private) (tree.Word words.Private)
+  pub same_private : Same (tree.Word words.Private) (tree.Word words.Private)
   same_private = new_same (tree.Word words.Private) (λ m keeps. word_moved m words.Private)
 
-  same_name : (text : List ℕ) → Same (ident_name none_range text) (ident_name none_range text)
+  pub same_name : (text : List ℕ) → Same (ident_name none_range text) (ident_name none_range text)
   same_name text = new_same (ident_name none_range text) (λ m keeps. simp (node_moved, range_moved, none_moved m keeps, text_moved))
 
-  abbrev void_type : Tree
+  abbrev pub void_type : Tree
   void_type = type_ann (ts_keyword_type words.TsVoidKeyword)
 
-  same_void : Same void_type void_type
+  pub same_void : Same void_type void_type
   same_void = new_same void_type (λ m keeps. simp (node_moved, range_moved, none_moved m keeps, word_moved))
 
-  same_number : Same number_type number_type
+  pub same_number : Same number_type number_type
   same_number = new_same number_type (λ m keeps. simp (node_moved, range_moved, none_moved m keeps, word_moved))
 
-  abbrev numbers_type : Tree
+  abbrev pub numbers_type : Tree
   numbers_type = type_ann (ts_array_type none_range number_type)
 
-  same_numbers : Same numbers_type numbers_type
+  pub same_numbers : Same numbers_type numbers_type
   same_numbers = new_same numbers_type (λ m keeps. simp (node_moved, range_moved, none_moved m keeps, word_moved))
 
   same_typed : (name : List ℕ) →

@@ -9,3 +9,4 @@ pub mod AlikePresent
 pub mod AlikeProperties
 pub mod AlikeClasses
 pub mod HiddenChanges
+pub mod HiddenRules
