@@ -5,6 +5,7 @@ ghost use Rattle.fast_check_packages.specs.Package.{nv_of};
 ghost use Rattle.fast_check_cache.specs.Cache.{IsSeed};
 ghost use Rattle.fast_check_cached_packages.specs.CachedPackages.{used_item};
 ghost use Rattle.fast_check_finder.specs.turns.steps.Sources.{with_used};
+ghost use Rattle.fast_check_finder.specs.turns.Lent.{used_of};
 ghost use Rattle.fast_check_finder.specs.Refusals.{IsRefusal};
 ghost use Rattle.fast_check_build.specs.Found.{known_of, IsFound, WithSeed};
 
@@ -25,6 +26,43 @@ fn seed_of(cache: Option<&dyn FastCheckCache>) -> &'static str
         Some(cache) => cache.hash_seed(),
         None => "",
     }
+}
+
+/// What is public in these packages, and in all that follow from them, by the items of a cache under keys of this seed.
+fn find_seeded(
+    alloc: Global,
+    cache: Option<&dyn FastCheckCache>,
+    seed: &str,
+    jsr_url_provider: &dyn JsrUrlProvider,
+    graph: &ModuleGraph,
+    root_symbol: &RootSymbol,
+    workspace_members: &[WorkspaceMember],
+    pending_nvs: VecDeque<PackageNv>,
+) -> Result<BTreeMap<PackageNv, PackagePublicRanges>, BuildFault>
+    ensures found { let used = used_of cache.entry (λ c. used_item (hash_of c.now seed.now) (stored c.now) graph.now) in
+        let k = known_of graph.now root_symbol.now workspace_members.now (url_of jsr_url_provider.now) (nv_at jsr_url_provider.now) in
+        IfOk result (IsFound (with_used used k) (map nv_of pending_nvs.items)) }
+    ensures refused { let used = used_of cache.entry (λ c. used_item (hash_of c.now seed.now) (stored c.now) graph.now) in
+        let k = known_of graph.now root_symbol.now workspace_members.now (url_of jsr_url_provider.now) (nv_at jsr_url_provider.now) in
+        IfErr result (IsRefusal (with_used used k) (map nv_of pending_nvs.items)) }
+{
+    let sources = Sources {
+        graph,
+        root_symbol,
+        workspace_members,
+    };
+    root_symbol.own_names_find();
+    let roots = pending_nvs.into_vec();
+    let found = find_all(
+        alloc,
+        sources,
+        jsr_url_provider,
+        cache,
+        seed,
+        roots.as_slice(),
+    )?;
+    let answers = package_ranges(alloc, found)?;
+    Ok(answers)
 }
 
 /// What is public in these packages, and in all that follow from them. A package that is handed in twice is followed once.
@@ -49,24 +87,17 @@ pub fn find_public_ranges(
         IfErr result (λ fault. MatchOption cache.entry (IsRefusal k (map nv_of pending_nvs.items) fault) (λ c. WithSeed (seed_text c.now) (λ seed.
         IsRefusal (with_used (used_item (hash_of c.now seed) (stored c.now) graph.now) k) (map nv_of pending_nvs.items) fault))) }
 {
-    let sources = Sources {
+    let seed = seed_of(cache);
+    find_seeded(
+        alloc,
+        cache,
+        seed,
+        jsr_url_provider,
         graph,
         root_symbol,
         workspace_members,
-    };
-    root_symbol.own_names_find();
-    let seed = seed_of(cache);
-    let roots = pending_nvs.into_vec();
-    let found = find_all(
-        alloc,
-        sources,
-        jsr_url_provider,
-        cache,
-        seed,
-        roots.as_slice(),
-    )?;
-    let answers = package_ranges(alloc, found)?;
-    Ok(answers)
+        pending_nvs,
+    )
 }
 
 /// Finds what is public in the packages that are handed in.

@@ -1,5 +1,5 @@
 -- What follows from what can be demanded can be demanded.
-use Rattle.std.proofs.Common.{◌≡◌, ◌∙◌, sym, ap, refl, subst, ℕ, suc, ◌≤◌, Bool, true, false, cond, ◌&&◌, ◌||◌, not, List, [], ◌∷◌, map}
+use Rattle.std.proofs.Common.{◌≡◌, ◌∙◌, sym, ap, refl, subst, ℕ, suc, ◌≤◌, Bool, true, false, cond, ◌&&◌, ◌||◌, not, List, [], ◌∷◌, ◌++◌, map}
 use Rattle.std.proofs.Common.{length, Option, Some, None, option_map, option_to_list, ⊎_elim, ◌⊎◌, inl, inr, arith, is_some}
 use Rattle.std.proofs.Common.{string_bytes}
 use Rattle.std.specs.List.{Contains, flat_map, find}

@@ -1,9 +1,9 @@
 -- A cache has finitely many items, so those that are used depend on finitely many packages.
-use Rattle.std.proofs.Common.{◌≡◌, ◌∙◌, sym, ap, refl, subst, ℕ, ◌^◌, map, zero, suc, ◌<◌, Bool, true, false, List, Option, Some, None, ⊎_elim, ◌⊎◌, inl, inr, arith}
+use Rattle.std.proofs.Common.{◌≡◌, ◌∙◌, sym, ap, refl, subst, ℕ, ◌^◌, map, zero, suc, ◌<◌, ◌≤◌, Bool, true, false, List, Option, Some, None, ⊎_elim, ◌⊎◌, inl, inr, arith}
 use Rattle.std.specs.Prelude.{nat_lt, if◌then◌else◌}
 use Rattle.std.specs.List.{Contains}
 use Rattle.std.proofs.lemmas.List.Elements.{Contains-append_left, Contains-append_right}
-use Rattle.std.proofs.lemmas.Bool.{ltb-true}
+use Rattle.std.proofs.lemmas.Bool.{cases_Bool, ltb-true, ltb-false}
 use Rattle.url.specs.Parts.{Parts, serialize}
 use Rattle.fast_check_packages.specs.Package.{Nv}
 use Rattle.fast_check_cache.specs.Cache.{ItemView}
@@ -28,8 +28,11 @@ below stored (suc n) key item lt e p c = ⊎_elim
     (λ lower. Contains-append_right (dependencies_in (stored n)) (dependencies_below stored n) p (below stored n key item lower e p c))
     (last key n lt)
   where
+    same : (a b : ℕ) → a < suc b → b ≤ a → a ≡ b
+    same a b h k = omega (arith, h, k)
+
     last : (a b : ℕ) → a < suc b → (a ≡ b) ⊎ (a < b)
-    last a b h = omega (arith, h)
+    last a b h = ⊎_elim (λ t. inr (ltb-true a b t)) (λ f. inl (same a b h (ltb-false a b f))) (cases_Bool (nat_lt a b))
 
 under_key : (stored : ℕ → Option ItemView) (n key : ℕ) (item : ItemView) → (if nat_lt key n then stored key else None) ≡ Some item →
     (p : Nv) → Contains item.0 p → Contains (dependencies_below stored n) p
