@@ -9,7 +9,6 @@ cd "$(dirname "$(readlink -f "${BASH_SOURCE[0]}")")/../.."
 case $1 in
   demands) below="anyhow fast_check_syntax fast_check_symbols fast_check_modules fast_check_demands fast_check_search url" ;;
   names) below="fast_check_said fast_check_names" ;;
-  refused) below="fast_check_names fast_check_packages fast_check_traced_modules semver url" ;;
   *) echo "no driver: $1" >&2; exit 2 ;;
 esac
 

@@ -1,7 +1,6 @@
 #!/usr/bin/env bash
-# Grows two sets of names to 25,000, 100,000 and 400,000 names, in paths of 1, 3 and 10,000 names, and extends one by the other.
+# Grows two sets of names to 25,000, 50,000 and 100,000 names and extends one by the other.
 # For each size: the time to grow both, the time with `extend`, and the most memory that the run held.
-# Then one set whose names come in no order, one that is extended by one name at a time, and one whose subsets are covered one by one.
 set -eu
 program=$(mktemp)
 trap 'rm -f "$program"' EXIT
@@ -24,14 +23,9 @@ def run(program, command, count):
             sys.exit(f"{command} {count} ended with {status}")
         return time.monotonic() - start, usage.ru_maxrss / 1024
 
-print("names   depth  grow s  extend s  memory MB")
-for count in (25_000, 100_000, 400_000):
-    for depth in (1, 3, 10_000):
-        grow, _ = run(sys.argv[1], f"grow {count}", depth)
-        both, memory = run(sys.argv[1], f"extend_grown {count}", depth)
-        print(f"{count:6}  {depth:6}  {grow:6.3f}  {both - grow:8.3f}  {memory:9.1f}")
-for command, counts in (("grow_mixed", (10_000, 100_000)), ("one_by_one", (1_000, 10_000, 100_000)), ("cover", (3_000, 30_000))):
-    for count in counts:
-        time_of, memory = run(sys.argv[1], command, count)
-        print(f"{command:10}  {count:6}  {time_of:6.3f} s  {memory:9.1f} MB")
+print("names   grow s  extend s  memory MB")
+for count in (25_000, 50_000, 100_000):
+    grow, _ = run(sys.argv[1], "grow", count)
+    both, memory = run(sys.argv[1], "extend_grown", count)
+    print(f"{count:6}  {grow:6.3f}  {both - grow:8.3f}  {memory:9.1f}")
 PY
