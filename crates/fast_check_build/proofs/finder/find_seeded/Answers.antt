@@ -4,11 +4,8 @@ use Rattle.fast_check_packages.specs.declared.package.PackageNv.{PackageNv}
 use Rattle.fast_check_cached_packages.specs.CachedPackages.{used_item}
 use Rattle.fast_check_finder.specs.turns.Lent.{used_of}
 use Rattle.fast_check_finder.specs.turns.steps.Sources.{with_used}
-<<<<<<< HEAD
-=======
 use Rattle.fast_check_finder.specs.Refusals.{IsRefusal}
 use Rattle.fast_check_finder.proofs.turn_proofs.entry_proofs.Passed.{passed_on}
->>>>>>> ac15154a4d254aca4aa55f64e9bd0eeddd473107
 use Rattle.fast_check_build.specs.Found.{known_of, IsFound}
 use Rattle.fast_check_build.proofs.Said.{found_public}
 use Rattle.fast_check_build.proofs.finder.find_seeded.Goals as goal
@@ -23,8 +20,6 @@ returns-clause-found g c =
     subst (λ (ps : List PackageNv). IsFound k (map nv_of ps) c.in_ok-answers.answers) (c.as_slice.ensures.value ∙ c.into_vec-roots.ensures.items)
     (found_public k (map nv_of c.as_slice.result.now) c.in_ok-found.found.items c.in_ok-answers.answers c.in_ok-found.ensures.found c.in_ok-answers.ensures
     c.own_names_find.ensures)
-<<<<<<< HEAD
-=======
 
 pub returns-in_err-found-clause-refused : goal.returns-in_err-found-clause-refused
 returns-in_err-found-clause-refused g c =
@@ -37,4 +32,3 @@ returns-in_err-found-clause-refused g c =
     passed_on c.from_residual.result f (IsRefusal k (map nv_of c.args.pending_nvs.items)) c.from_residual.ensures.1
     (subst (λ (ps : List PackageNv). IsRefusal k (map nv_of ps) f) (c.as_slice.ensures.value ∙ c.into_vec-roots.ensures.items)
     c.in_err-found.ensures.refused)
->>>>>>> ac15154a4d254aca4aa55f64e9bd0eeddd473107
