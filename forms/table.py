@@ -41,6 +41,13 @@ class Choice:
         self.chapter, self.file = chapter, file
 
 
+class Row:
+    """What is seen of each field of an expression that stays by its parts, and the forms that stay by it, each with its rule's name."""
+
+    def __init__(self, name, slots, doc):
+        self.name, self.slots, self.doc, self.forms = name, slots, doc, []
+
+
 class Chapter:
     def __init__(self, name, title, doc):
         self.name, self.title, self.doc = name, title, doc
@@ -57,7 +64,7 @@ class File:
 class Table:
     def __init__(self, text):
         self.fields, self.chapters, self.forms, self.choices = {}, [], {}, {}
-        self.words, self.crates, self.files = {}, {}, {}
+        self.words, self.crates, self.files, self.rows = {}, {}, {}, []
         self.section, self.file, self.last = None, None, None
         for number, line in logical_lines(text):
             try:
@@ -68,7 +75,7 @@ class Table:
 
     def read(self, line):
         word, _, rest = line.strip().partition(" ")
-        if line in ("fields", "files"):
+        if line in ("fields", "files", "rows"):
             self.section = line
         elif word == "chapter":
             self.section = "forms"
@@ -78,6 +85,8 @@ class Table:
             self.read_field_rule(line)
         elif self.section == "files":
             self.read_file(line, word, rest)
+        elif self.section == "rows":
+            self.read_row(line)
         elif line.startswith(" "):
             self.read_note(line)
         elif word == "in":
@@ -152,6 +161,16 @@ class Table:
             self.last.within = rest.split(", ")
         else:
             raise TableError("what is " + word + "?")
+
+    def read_row(self, line):
+        if not line.startswith(" "):
+            name, slots, doc = parts(r"(\w+) = ([\w, ]+) -- (.*)", line)
+            self.rows.append(Row(name, slots.split(", "), doc))
+            return
+        form, rule = parts(r" +(\w+) by (\w+)", line)
+        if form not in self.forms or len(self.forms[form].fields) != len(self.rows[-1].slots):
+            raise TableError(f"{form} has no field for each slot of {self.rows[-1].name}")
+        self.rows[-1].forms.append((form, rule))
 
     def complete(self):
         """Sees that all that is named is there, and gives fields the comments that follow from their types."""

@@ -14,6 +14,7 @@ sys.dont_write_bytecode = True
 from choices import write_choices
 from form_crates import write_form_crates
 from places import write_names, write_page, write_places
+from rows import write_proofs, write_rules
 from schema import write_schema
 from table import Table
 
@@ -35,20 +36,35 @@ class Output:
         self.files[path] = "\n".join(lines) + "\n"
         self.counts[path] = len(lines)
 
-    def between(self, path, first, last, lines):
-        """The lines behind the line `first`, up to the next line `last`, or to the end of the file where it is none."""
+    def lines_of(self, path):
         text = self.files.get(path)
         if text is None:
             text = (ROOT / path).read_text()
-        old = text.split("\n")
-        if old.count(first) != 1:
-            raise SystemExit(f"{path}: the line '{first}' has to stand there once")
+        return text.split("\n")
+
+    def between(self, path, first, last, lines):
+        """As `as_it_stands`, with a comment that says where the lines come from, where the file is one of code."""
+        self.as_it_stands(path, first, last, written_above(lines) if path.endswith(".rt") else lines)
+
+    def as_it_stands(self, path, first, last, lines):
+        """The lines behind the line `first`, up to the next line `last`, or to the end of the file where it is none."""
+        old = self.lines_of(path)
+        if old.count(first) != 1 or last is not None and last not in old:
+            raise SystemExit(f"{path}: the lines '{first}' and '{last}' have to stand there, the first of them once")
         start = old.index(first) + 1
         end = old.index(last, start) if last is not None else len(old) - 1
-        if path.endswith(".rt"):
-            lines = written_above(lines)
         self.files[path] = "\n".join(old[:start] + lines + old[end:])
         self.counts[path] = self.counts.get(path, 0) + len(lines)
+
+    def line(self, path, head, tail):
+        """The one line that begins with `head`: what stands behind it there."""
+        old = self.lines_of(path)
+        found = [place for place, line in enumerate(old) if line.startswith(head)]
+        if len(found) != 1:
+            raise SystemExit(f"{path}: one line has to begin with '{head}'")
+        old[found[0]] = head + tail
+        self.files[path] = "\n".join(old)
+        self.counts[path] = self.counts.get(path, 0) + 1
 
 
 def written_above(lines):
@@ -61,7 +77,7 @@ def written_above(lines):
 
 def write_all(table):
     out = Output()
-    for part in (write_form_crates, write_choices, write_schema, write_places, write_names, write_page):
+    for part in (write_form_crates, write_choices, write_schema, write_places, write_names, write_page, write_rules, write_proofs):
         part(table, out)
     return out
 

@@ -89,6 +89,7 @@ def worlds():
             raise SystemExit(f"{world['name']}: the stated answer is that of no account: {said}")
     requests = [{key: part for key, part in world.items() if key != "answer"} for world in WORLDS]
     lines = [line for world, request in zip(WORLDS, requests) for line in (world.get("answer") or packages.answered(request))]
+    lines.append(f"worlds with calls that were refused: {sum(map(packages.asks_provider, requests))}")
     return {"worlds": "".join(json.dumps(packages.request_of(request)) + "\n" for request in requests)}, "".join(line + "\n" for line in lines)
 
 

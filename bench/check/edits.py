@@ -1,5 +1,6 @@
 #!/usr/bin/env python3
-"""Says which edits that must fail no longer apply: an edit names a file of its crate, and each text that it replaces has to stand there once.
+"""Says which edits that must fail no longer apply: an edit names files of its crate, and each text that it replaces has to
+stand once in the file named last.
 
 usage: edits.py [CRATE..]    status 1 if any does not apply; without a name: all edits of the gate and of mutants/
 """
@@ -11,22 +12,22 @@ TOP = Path(__file__).resolve().parents[2]
 
 def wrong(edit, crate):
     """What is wrong with an edit, None if it applies."""
-    lines = edit.read_text().splitlines()
-    files = [it.removeprefix("file: ") for it in lines if it.startswith("file: ")]
-    if len(files) != 1:
-        return "names no file, or more than one"
-    file = TOP / "crates" / crate / files[0].strip()
-    if not file.is_file():
-        return f"there is no {files[0].strip()}"
-    text, old = file.read_text(), None
-    for line in lines:
-        if line.startswith("old: "):
+    texts, file, old = {}, None, None
+    for line in edit.read_text().splitlines():
+        if line.startswith("file: "):
+            file = TOP / "crates" / crate / line.removeprefix("file: ").strip()
+            if not file.is_file():
+                return f"there is no {file.relative_to(TOP / 'crates' / crate)}"
+            texts.setdefault(file, file.read_text())
+        elif line.startswith("old: "):
             old = line.removeprefix("old: ")
-            if text.count(old) != 1:
-                return f"stands {text.count(old)} times: {old}"
+            if file is None:
+                return "names no file"
+            if texts[file].count(old) != 1:
+                return f"stands {texts[file].count(old)} times: {old}"
         elif line.startswith("new:") and old is not None:
-            text, old = text.replace(old, line.removeprefix("new:").removeprefix(" ")), None
-    return None
+            texts[file], old = texts[file].replace(old, line.removeprefix("new:").removeprefix(" ")), None
+    return None if texts else "names no file"
 
 
 def main(crates):

@@ -4,18 +4,21 @@
 Each input is one of the stored runs or examples with some of it changed: as text (bytes turned, cut out, doubled, put in), or as JSON (a value replaced
 by another one of the same input or by an extreme one, a member or an item taken away, doubled or renamed). A run breaches where it ends by a
 signal or another status, where it does not write exactly one line to the stream of its status and nothing to the other, where it takes more than
-10 seconds, or where 16 MB of address space and 100 bytes for each byte of its input do not suffice (`prlimit`): it ends with status 3 then. The input of a breach is written to a file, whose name is printed.
+10 seconds, or where 16 MB of address space and 100 bytes for each byte of its input do not suffice (`prlimit`): it ends with status 3 then. The input of
+a breach is written to a file, whose name is printed. An input goes by the seed and its number alone, however many are tried side by side.
 
-Usage: bench/check/mutate.py PROGRAM [COUNT [SEED]]
+Usage: bench/check/mutate.py PROGRAM [COUNT [SEED [SIDE_BY_SIDE [FIRST]]]]
+       (1000 inputs of some seed, as many side by side as there are processors, from number 0 on)
 """
 import collections
 import copy
 import glob
 import json
+import multiprocessing
 import os
 import random
 import re
-import subprocess
+import shutil
 import sys
 import tempfile
 import time
@@ -26,12 +29,14 @@ LINES = re.compile(rb"error: input refused: (unreadable|not-json|bad-form|table-
 EXTREMES = [None, True, False, 0, 1, -1, 2**31, 2**32 - 1, 2**32, 2**64 - 1, 2**64, 0.5, "", "\0", "a" * 1000, "\ud7ff\ue000", "__proto__", "http://[",
             "file:///", "default", "prototype", [], {}, [[]], [0, 0], [5, 3], [2**32 - 1, 0]]
 SECONDS, FREE, PER_BYTE = 10, 16_000_000, 100
+# Inputs that are handed to a worker at once.
+PART = 200
 
 
 def stored_inputs():
     """The files of all commands, with the command of each."""
     with open(os.path.join(DATA, "cases")) as file:
-        runs = [line.split() for line in file if line.startswith(("transform ", "build "))]
+        runs = [line.split() for line in file if line.startswith(("transform ", "build ", "pair "))]
     found = {(command, os.path.join(DATA, rest[0])) for command, *rest in runs if len(rest) == 1 and rest[0].endswith(".json")}
     for path in glob.glob(os.path.join(TOP, "examples/*.json")):
         if not path.endswith(".answer.json"):
@@ -106,17 +111,31 @@ def mutated(chance, text):
         return turn_bytes(chance, text)
 
 
-def run(program, command, path):
-    """The status of a run, what it wrote to both streams, and its seconds."""
-    space = FREE + PER_BYTE * os.path.getsize(path)
-    words = ["prlimit", f"--as={space}", "timeout", "-s", "KILL", str(SECONDS), program, command, path]
-    with tempfile.TemporaryFile() as out, tempfile.TemporaryFile() as err:
+class Runner:
+    """Runs a program on one input after another: by the file of this runner, and with streams into memory."""
+
+    def __init__(self, program, folder):
+        self.limits, self.program = shutil.which("prlimit"), program
+        self.path = os.path.join(folder, f"{os.getpid()}.json")
+        self.streams = [os.memfd_create(name) for name in ("out", "err")]
+        self.input = os.open(os.devnull, os.O_RDONLY)
+
+    def run(self, command, text):
+        """The status of a run, what it wrote to both streams, and its seconds."""
+        with open(self.path, "wb") as file:
+            file.write(text)
+        for stream in self.streams:
+            os.ftruncate(stream, 0)
+            os.lseek(stream, 0, os.SEEK_SET)
+        words = ["prlimit", f"--as={FREE + PER_BYTE * len(text)}", f"--cpu={SECONDS}", self.program, command, self.path]
+        actions = [(os.POSIX_SPAWN_DUP2, stream, number) for number, stream in enumerate([self.input, *self.streams])]
         began = time.monotonic()
-        status = subprocess.run(words, stdin=subprocess.DEVNULL, stdout=out, stderr=err).returncode
-        seconds = time.monotonic() - began
-        out.seek(0)
-        err.seek(0)
-        return status, out.read(), err.read(), seconds
+        child = os.posix_spawn(self.limits, words, os.environ, file_actions=actions)
+        status = os.waitstatus_to_exitcode(os.waitpid(child, 0)[1])
+        return status, *(self.written(stream) for stream in self.streams), time.monotonic() - began
+
+    def written(self, stream):
+        return os.pread(stream, os.fstat(stream).st_size, 0)
 
 
 def breach(ran):
@@ -133,35 +152,61 @@ def breach(ran):
     return None
 
 
+def try_some(program, folder, inputs, seed, numbers):
+    """Runs the inputs of these numbers: how often each end came, the lines of the breaches, and the seconds of the slowest run."""
+    runner, texts, ends, breaches, slowest = Runner(program, folder), {}, collections.Counter(), [], 0.0
+    for number in numbers:
+        chance = random.Random(f"{seed} {number}")
+        command, path = chance.choice(inputs)
+        if path not in texts:
+            with open(path, "rb") as file:
+                texts[path] = file.read()
+        text = mutated(chance, texts[path])
+        ran = runner.run(command, text)
+        slowest = max(slowest, ran[3])
+        ends[ran[0], ran[2].decode(errors="replace").strip().removeprefix("error: input refused: ")] += 1
+        wrong = breach(ran)
+        if wrong:
+            kept = os.path.join(tempfile.gettempdir(), f"breach-{seed}-{number}.json")
+            with open(kept, "wb") as file:
+                file.write(text)
+            breaches.append(f"{command} {kept}: {wrong}")
+    return ends, breaches, slowest
+
+
+def try_all(program, count, seed, beside, first):
+    """The same of this many inputs from a number on, so many side by side, in parts of which each is told."""
+    inputs, ends, breaches, slowest, done = stored_inputs(), collections.Counter(), 0, 0.0, 0
+    with tempfile.TemporaryDirectory() as folder, multiprocessing.Pool(beside) as pool:
+        numbers = [range(at, min(first + count, at + PART)) for at in range(first, first + count, PART)]
+        told = [(part, pool.apply_async(try_some, (program, folder, inputs, seed, part))) for part in numbers]
+        for part, answer in told:
+            part_ends, lines, seconds = answer.get()
+            ends, breaches, slowest, done = ends + part_ends, breaches + len(lines), max(slowest, seconds), done + len(part)
+            for line in lines:
+                print(line, flush=True)
+            if done % 10_000 < PART:
+                print(f"{done} done, the last of them {part[-1]}, breaches={breaches}", file=sys.stderr, flush=True)
+    return ends, breaches, slowest
+
+
 def main(words):
     if not words:
         print(__doc__)
         return 2
     program, count = os.path.abspath(words[0]), int(words[1]) if len(words) > 1 else 1000
     seed = int(words[2]) if len(words) > 2 else random.randrange(2**32)
+    beside = int(words[3]) if len(words) > 3 else os.cpu_count()
+    first = int(words[4]) if len(words) > 4 else 0
+    if not os.access(program, os.X_OK):
+        print(f"no program: {words[0]}", file=sys.stderr)
+        return 2
     print(f"seed={seed}", flush=True)
-    chance, inputs, ends, breaches, slowest = random.Random(seed), stored_inputs(), collections.Counter(), 0, 0.0
-    with tempfile.TemporaryDirectory() as folder:
-        for number in range(count):
-            command, path = chance.choice(inputs)
-            with open(path, "rb") as file:
-                text = mutated(chance, file.read())
-            path = os.path.join(folder, "input.json")
-            with open(path, "wb") as file:
-                file.write(text)
-            ran = run(program, command, path)
-            slowest = max(slowest, ran[3])
-            ends[ran[0], ran[2].decode(errors="replace").strip().removeprefix("error: input refused: ")] += 1
-            wrong = breach(ran)
-            if wrong:
-                breaches += 1
-                kept = os.path.join(tempfile.gettempdir(), f"breach-{seed}-{number}.json")
-                with open(kept, "wb") as file:
-                    file.write(text)
-                print(f"{command} {kept}: {wrong}", flush=True)
+    began = time.monotonic()
+    ends, breaches, slowest = try_all(program, count, seed, beside, first)
     for (status, line), times in sorted(ends.items()):
         print(f"status {status} {line or 'and an answer'}: {times}")
-    print(f"inputs={count} breaches={breaches} seed={seed} slowest={slowest:.2f}")
+    print(f"inputs={count} breaches={breaches} seed={seed} slowest={slowest:.2f} seconds={time.monotonic() - began:.0f}")
     return 1 if breaches else 0
 
 

@@ -142,7 +142,16 @@ def judged(parts, lines):
     return mismatch(world, closure, set(found), packages), set(found) == without_nested(closure.yielded())
 
 
+def asks_provider(parts):
+    """Whether the provider of a world is asked."""
+    world = World(parts)
+    Closure(world)
+    return world.asks_provider
+
+
 def compare(worlds, printed):
+    # The line behind all worlds tells how many of their providers refused a call.
+    printed = printed.rsplit('\nworlds with calls', 1)[0]
     chunks = [chunk.splitlines() for chunk in ('\n' + printed).split('\nworld ')[1:]]
     whole, wrong = 0, 0
     for parts, lines in zip(worlds, chunks):

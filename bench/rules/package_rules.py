@@ -102,6 +102,8 @@ class World:
         self.tables = {module['specifier']: Module(module) for module in parts.get('modules', [])}
         self.aliases, self.pending = dict(parts.get('aliases', [])), parts['pending']
         self.members, self.provider = parts.get('workspace_members', []), parts['provider']
+        # whether the provider was asked for a URL or for a package
+        self.asks_provider = False
 
     # ---- modules
 
@@ -135,6 +137,7 @@ class World:
         member = self.member_of(nv)
         if member:
             return member['base']
+        self.asks_provider = True
         listed = [base for listed, base in self.provider['packages'] if listed == nv]
         return ([self.provider['fallback']] + listed)[-1]
 
@@ -150,6 +153,7 @@ class World:
         if url.startswith('file:'):
             member = next((m for m in self.members if url.startswith(m['base'])), None)
             return member and '%s@%s' % (member['name'], member.get('version') or '0.0.0')
+        self.asks_provider = True
         return next((nv for nv, base in self.provider['packages'] if url.startswith(base)), None)
 
     # ---- what leaves a module
@@ -193,7 +197,8 @@ class World:
         texts = self.exports_of(nv)
         if texts is None:
             return [], []
-        refused = [text for text in texts if join(self.base_of(nv), text) is None]
+        base = self.base_of(nv)
+        refused = [text for text in texts if join(base, text) is None]
         if refused:
             return [], [('refused', nv, refused[0])]
         urls = self.entry_points(nv)

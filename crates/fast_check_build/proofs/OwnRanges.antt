@@ -14,7 +14,7 @@ use Rattle.fast_check_graph.specs.Root.{AreFoundByOwnNames}
 use Rattle.fast_check_worklists.specs.Demands.{Text, same_nv}
 use Rattle.fast_check_worklists.specs.Account.{Account, IsYield}
 use Rattle.fast_check_package_ranges.specs.findings.Yields.{ModuleFault, missing_entry, untyped_entry, untyped_module, of_demand}
-use Rattle.fast_check_package_ranges.specs.findings.Yields.{Yield, known_package, entry_point, refused_export, dependency, recorded, public, implementing, faulty}
+use Rattle.fast_check_package_ranges.specs.findings.Yields.{Yield, known_package, entry_point, refused_export, dependency, recorded, public, implementing, faulty, kept}
 use Rattle.fast_check_package_ranges.specs.Questions.{ModuleQuestion, whether_public, whether_implementing, about, fault_says, is_recorded}
 use Rattle.fast_check_package_ranges.specs.Questions.{range_says, implementation_says, package_of, yield_says, yields_say}
 use Rattle.fast_check_finder.specs.turns.steps.Sources.{Known, named_at}
@@ -44,6 +44,7 @@ module _ (root : RootSymbol) (t : Text) (r : SourceRange) (q : ModuleQuestion) (
   from_yield (implementing nv u x) h e =
       at_module u x (and_left (bytes_eq t u) (implementation_says x q) e) (of_implementing x (and_right (bytes_eq t u) (implementation_says x q) e)) h
   from_yield (faulty nv u f) h e = absurd (never (fault_says f q) (no_fault f) (and_right (bytes_eq t u) (fault_says f q) e))
+  from_yield (kept nv es item) h e = absurd (false≢true e)
 
   from_yields : (yields : List Yield) (nv : Nv) → ((y : Yield) → Contains yields y → IsOwnYield root y) → yields_say yields nv (about t q) ≡ true →
       IsOwnRange (named_at root t) r

@@ -1,5 +1,5 @@
 -- What is found of packages that are handed in.
-use Rattle.std.specs.Prelude.{◌≡◌, true, List, Option}
+use Rattle.std.specs.Prelude.{◌≡◌, ℕ, true, List, Option}
 use Rattle.std.specs.BTreeMap.{BTreeMap}
 use Rattle.fast_check_syntax.specs.declared.source.SourceRange.{SourceRange}
 use Rattle.fast_check_packages.specs.Package.{Nv}
@@ -8,19 +8,20 @@ use Rattle.url.specs.Parts.{Parts}
 use Rattle.fast_check_packages.specs.declared.package.WorkspaceMember.{WorkspaceMember}
 use Rattle.fast_check_graph.specs.declared.graph.ModuleGraph.{ModuleGraph}
 use Rattle.fast_check_graph.specs.declared.root_symbol.RootSymbol.{RootSymbol}
+use Rattle.fast_check_cache.specs.Cache.{IsSeed}
 use Rattle.fast_check_cache.specs.declared.package_ranges.PackagePublicRanges.{PackagePublicRanges}
 use Rattle.fast_check_worklists.specs.Demands.{Text}
 use Rattle.fast_check_worklists.specs.Account.{Account, IsAccount, IsYield}
 use Rattle.fast_check_package_ranges.specs.findings.Yields.{Yield}
 use Rattle.fast_check_package_ranges.specs.Questions.{about, whether_public, whether_implementing}
 use Rattle.fast_check_package_ranges.specs.Answers.{answer, AreAnswers}
-use Rattle.fast_check_finder.specs.turns.steps.Sources.{Known, owner_by, named_at}
+use Rattle.fast_check_finder.specs.turns.steps.Sources.{none_used, Known, owner_by, named_at}
 use Rattle.fast_check_finder.specs.turns.Rules.{world}
 use Rattle.fast_check_finder.specs.turns.Yields.{gives}
 use Rattle.fast_check_finder.specs.turns.Own.{IsOwnRange}
 use Rattle.fast_check_finder.specs.Refusals.{JoinAll}
 
--- what is known of modules and packages, where a provider is lent
+-- what is known of modules and packages, where a provider is lent, and no cache
 abbrev pub known_of : ModuleGraph → RootSymbol → List WorkspaceMember → (Nv → Parts) → (Text → Option Nv) → Known
 known_of graph root_symbol members url_of nv_at = record {
   graph = graph;
@@ -28,10 +29,12 @@ known_of graph root_symbol members url_of nv_at = record {
   workspace_members = members;
   url_of = url_of;
   owner = owner_by members nv_at;
+  used = none_used;
 }
 
 -- There is an account of demands, from the packages that are handed in, whose export texts all join; and the answers say what its demands give,
--- and nothing else. What is public in a module is declared in it, so that the module admits it.
+-- and nothing else. A package whose item is used demands what the item depends on, and gives the item. What is public in a module is declared in it,
+-- so that the module admits it.
 pub record IsFound (k : Known) (roots : List Nv) (answers : BTreeMap PackageNv PackagePublicRanges) : Type 0 where
   pub account : Account
   pub yields : List Yield
@@ -42,3 +45,7 @@ pub record IsFound (k : Known) (roots : List Nv) (answers : BTreeMap PackageNv P
   pub own : (nv : Nv) (t : Text) (r : SourceRange) → answer answers nv (about t (whether_public r)) ≡ true → IsOwnRange (named_at k.root_symbol t) r
   pub own_implementations : (nv : Nv) (t : Text) (r : SourceRange) → answer answers nv (about t (whether_implementing r)) ≡ true →
       IsOwnRange (named_at k.root_symbol t) r
+
+-- it is so for one seed, that of the rules or the cache's own
+abbrev pub WithSeed : List ℕ → (List ℕ → Type 0) → Type 0
+WithSeed own so = (seed : List ℕ) × IsSeed own seed × so seed

@@ -1,9 +1,13 @@
 //! What is public in packages.
 
-ghost use Rattle.std.specs.Prelude.{◌≡◌, false, map, is_some, IfOk, IfErr};
+ghost use Rattle.std.specs.Prelude.{◌≡◌, ⊤, map, MatchOption, IfOk, IfErr};
 ghost use Rattle.fast_check_packages.specs.Package.{nv_of};
+ghost use Rattle.fast_check_cache.specs.Cache.{IsSeed};
+ghost use Rattle.fast_check_cached_packages.specs.CachedPackages.{used_item};
+ghost use Rattle.fast_check_finder.specs.turns.steps.Sources.{with_used};
+ghost use Rattle.fast_check_finder.specs.turns.Lent.{used_of};
 ghost use Rattle.fast_check_finder.specs.Refusals.{IsRefusal};
-ghost use Rattle.fast_check_build.specs.Found.{known_of, IsFound};
+ghost use Rattle.fast_check_build.specs.Found.{known_of, IsFound, WithSeed};
 
 use fast_check_cache::{FastCheckCache, PackagePublicRanges};
 use fast_check_finder::{Sources, find_all};
@@ -14,10 +18,59 @@ use fast_check_provider::{BuildFault, JsrUrlProvider};
 use std::alloc::Global;
 use std::collections::{BTreeMap, VecDeque};
 
+/// The seed of the keys, where a cache is lent. It is asked once.
+fn seed_of(cache: Option<&dyn FastCheckCache>) -> &'static str
+    ensures { MatchOption cache.entry ⊤ (λ c. IsSeed (seed_text c.now) result.now) }
+{
+    match cache {
+        Some(cache) => cache.hash_seed(),
+        None => "",
+    }
+}
+
+/// What is public in these packages, and in all that follow from them, by the items of a cache under keys of this seed.
+fn find_seeded(
+    alloc: Global,
+    cache: Option<&dyn FastCheckCache>,
+    seed: &str,
+    jsr_url_provider: &dyn JsrUrlProvider,
+    graph: &ModuleGraph,
+    root_symbol: &RootSymbol,
+    workspace_members: &[WorkspaceMember],
+    pending_nvs: VecDeque<PackageNv>,
+) -> Result<BTreeMap<PackageNv, PackagePublicRanges>, BuildFault>
+    ensures found { let used = used_of cache.entry (λ c. used_item (hash_of c.now seed.now) (stored c.now) graph.now) in
+        let k = known_of graph.now root_symbol.now workspace_members.now (url_of jsr_url_provider.now) (nv_at jsr_url_provider.now) in
+        IfOk result (IsFound (with_used used k) (map nv_of pending_nvs.items)) }
+    ensures refused { let used = used_of cache.entry (λ c. used_item (hash_of c.now seed.now) (stored c.now) graph.now) in
+        let k = known_of graph.now root_symbol.now workspace_members.now (url_of jsr_url_provider.now) (nv_at jsr_url_provider.now) in
+        IfErr result (IsRefusal (with_used used k) (map nv_of pending_nvs.items)) }
+{
+    let sources = Sources {
+        graph,
+        root_symbol,
+        workspace_members,
+    };
+    root_symbol.own_names_find();
+    let roots = pending_nvs.into_vec();
+    let found = find_all(
+        alloc,
+        sources,
+        jsr_url_provider,
+        cache,
+        seed,
+        roots.as_slice(),
+    )?;
+    let answers = package_ranges(alloc, found)?;
+    Ok(answers)
+}
+
 /// What is public in these packages, and in all that follow from them. A package that is handed in twice is followed once.
 ///
-/// No cache can be handed in yet. `InvalidExport` has the first export text of a package that does not join to the package's URL. `OutOfMemory`
-/// where memory is wanting, or a URL comes to 4 GB.
+/// The cache is asked once for each package that is followed and has exports. Where it has an item under the package's key, each module of which
+/// has the source that it was kept with, that item is answered in place of what would be found, and the packages that the item depends on are
+/// followed. `InvalidExport` has the first export text of a package that does not join to the package's URL. `OutOfMemory` where memory is wanting,
+/// or a URL comes to 4 GB.
 pub fn find_public_ranges(
     alloc: Global,
     cache: Option<&dyn FastCheckCache>,
@@ -27,22 +80,24 @@ pub fn find_public_ranges(
     workspace_members: &[WorkspaceMember],
     pending_nvs: VecDeque<PackageNv>,
 ) -> Result<BTreeMap<PackageNv, PackagePublicRanges>, BuildFault>
-    requires { is_some cache ≡ false }
     ensures found { let k = known_of graph.now root_symbol.now workspace_members.now (url_of jsr_url_provider.now) (nv_at jsr_url_provider.now) in
-        IfOk result (IsFound k (map nv_of pending_nvs.items)) }
+        IfOk result (λ answers. MatchOption cache.entry (IsFound k (map nv_of pending_nvs.items) answers) (λ c. WithSeed (seed_text c.now) (λ seed.
+        IsFound (with_used (used_item (hash_of c.now seed) (stored c.now) graph.now) k) (map nv_of pending_nvs.items) answers))) }
     ensures refused { let k = known_of graph.now root_symbol.now workspace_members.now (url_of jsr_url_provider.now) (nv_at jsr_url_provider.now) in
-        IfErr result (IsRefusal k (map nv_of pending_nvs.items)) }
+        IfErr result (λ fault. MatchOption cache.entry (IsRefusal k (map nv_of pending_nvs.items) fault) (λ c. WithSeed (seed_text c.now) (λ seed.
+        IsRefusal (with_used (used_item (hash_of c.now seed) (stored c.now) graph.now) k) (map nv_of pending_nvs.items) fault))) }
 {
-    let sources = Sources {
+    let seed = seed_of(cache);
+    find_seeded(
+        alloc,
+        cache,
+        seed,
+        jsr_url_provider,
         graph,
         root_symbol,
         workspace_members,
-    };
-    root_symbol.own_names_find();
-    let roots = pending_nvs.into_vec();
-    let found = find_all(alloc, sources, jsr_url_provider, roots.as_slice())?;
-    let answers = package_ranges(alloc, found)?;
-    Ok(answers)
+        pending_nvs,
+    )
 }
 
 /// Finds what is public in the packages that are handed in.
@@ -84,13 +139,14 @@ impl<'a> PublicRangeFinder<'a> {
         cache: Option<&dyn FastCheckCache>,
         jsr_url_provider: &dyn JsrUrlProvider,
     ) -> Result<BTreeMap<PackageNv, PackagePublicRanges>, BuildFault>
-        requires { is_some cache ≡ false }
         ensures found { let f = finder_of self.entry in
             let k = known_of f.graph f.root_symbol f.workspace_members (url_of jsr_url_provider.now) (nv_at jsr_url_provider.now) in
-            IfOk result (IsFound k (map nv_of f.pending_nvs)) }
+            IfOk result (λ answers. MatchOption cache.entry (IsFound k (map nv_of f.pending_nvs) answers) (λ c. WithSeed (seed_text c.now) (λ seed.
+            IsFound (with_used (used_item (hash_of c.now seed) (stored c.now) f.graph) k) (map nv_of f.pending_nvs) answers))) }
         ensures refused { let f = finder_of self.entry in
             let k = known_of f.graph f.root_symbol f.workspace_members (url_of jsr_url_provider.now) (nv_at jsr_url_provider.now) in
-            IfErr result (IsRefusal k (map nv_of f.pending_nvs)) }
+            IfErr result (λ fault. MatchOption cache.entry (IsRefusal k (map nv_of f.pending_nvs) fault) (λ c. WithSeed (seed_text c.now) (λ seed.
+            IsRefusal (with_used (used_item (hash_of c.now seed) (stored c.now) f.graph) k) (map nv_of f.pending_nvs) fault))) }
     {
         let PublicRangeFinder {
             graph,

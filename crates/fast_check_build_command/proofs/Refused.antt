@@ -1,6 +1,7 @@
 -- Bytes without a request are refused, and so are those whose request is.
-use Rattle.std.proofs.Common.{ℕ, ◌<◌, Bool, true, false, if◌then◌else◌, List, subst, sym, lit<}
+use Rattle.std.proofs.Common.{◌≡◌, ℕ, ◌<◌, Bool, true, false, if◌then◌else◌, List, subst, sym, lit<}
 use Rattle.std.specs.List.{list_any}
+use Rattle.fast_check_provider.specs.declared.listed.ListedPackages.{ListedPackages}
 use Rattle.fast_check_graph.specs.declared.root_symbol.RootSymbol.{RootSymbol}
 use Rattle.fast_check_requests.specs.declared.refusal.Refusal.{Refusal}
 use Rattle.fast_check_requests.specs.declared.refusal.Refusal.TheVariants as refusals
@@ -8,7 +9,7 @@ use Rattle.fast_check_build_tables.specs.build_requests.declared.request.BuildRe
 use Rattle.fast_check_requests.specs.Run.{IsOfBytes}
 use Rattle.fast_check_build_tables.specs.build_requests.Input.{HoldsBuild, LacksBuild}
 use Rattle.fast_check_build_command.specs.Line.{has_diagnostics}
-use Rattle.fast_check_build_command.specs.Build.{known_in, roots_in, IsRootIn, IsExportRefusal, AnswersBuild}
+use Rattle.fast_check_build_command.specs.Build.{known_by, known_in, roots_in, IsRootIn, IsExportRefusal, AnswersBuild}
 use Rattle.fast_check_build_command.specs.Build.{RefusesBuild, RefusesBytes}
 
 pub refused : (refusal : Refusal) (bytes : List ℕ) → LacksBuild bytes refusal → RefusesBytes refusal bytes
@@ -46,6 +47,14 @@ export_refused (refusals.TableFault fault) asked root is refuses = absurd refuse
 export_refused refusals.RangesNotAdmitted asked root is refuses = absurd refuses
 export_refused refusals.InvalidExport asked root is refuses = record { root = root; is_root = is; invalid = refuses }
 export_refused refusals.Unwritable asked root is refuses = absurd refuses
+
+-- the same where the packages are listed as they are asked
+pub export_refused_of : (refusal : Refusal) (asked : BuildRequest) (root : RootSymbol) (listed : ListedPackages) → listed ≡ asked.provider
+    → IsRootIn asked root → IsExportRefusal (known_by asked.graph root asked.workspace_members.items listed) (roots_in asked) refusal
+    → RefusesBuild asked refusal
+export_refused_of refusal asked root listed same is refuses =
+    export_refused refusal asked root is
+    (subst (λ (l : ListedPackages). IsExportRefusal (known_by asked.graph root asked.workspace_members.items l) (roots_in asked) refusal) same refuses)
 
 one_or_none : (b : Bool) → (if b then 1 else 0) < 2
 one_or_none true = lit< tt

@@ -12,8 +12,9 @@ use fast_check_build_tables::build_requests::BuildRequest;
 use fast_check_build_tables::root_symbol_of;
 use fast_check_graph::{ModuleGraph, RootSymbol};
 use fast_check_module_transform::TransformOptions;
+use fast_check_package_index::IndexedPackages;
 use fast_check_packages::PackageNv;
-use fast_check_provider::{BuildFault, ListedPackages};
+use fast_check_provider::BuildFault;
 use fast_check_requests::{Answer, Refusal};
 use std::alloc::Global;
 use std::collections::VecDeque;
@@ -21,7 +22,7 @@ use std::collections::VecDeque;
 /// The answers of the packages that are handed in, and of all that follow from them, or why they are refused.
 fn build_answers(
     alloc: Global,
-    provider: &ListedPackages,
+    provider: &IndexedPackages,
     graph: &ModuleGraph,
     root_symbol: &RootSymbol,
     pending: Vec<PackageNv>,
@@ -64,6 +65,7 @@ fn request_answers(alloc: Global, request: BuildRequest) -> Result<Vec<ModuleAns
         should_error_on_first_diagnostic,
     } = request;
     let root_symbol = root_symbol_of(alloc, modules, aliases)?;
+    let provider = IndexedPackages::new(alloc, provider)?;
     let options = TransformOptions {
         workspace_members,
         should_error_on_first_diagnostic,

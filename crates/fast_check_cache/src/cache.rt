@@ -1,6 +1,6 @@
 //! A cache as a caller lends it: its keys and the trait `FastCheckCache`.
-ghost use Rattle.std.specs.Prelude.{◌≡◌, ℕ, List, Option, option_map, codes, IfOk, OnOk, OnErr};
-ghost use Rattle.url.specs.Parts.{Parts};
+ghost use Rattle.std.specs.Prelude.{◌≡◌, ℕ, List, map, Option, option_map, codes, IfOk, OnOk, OnErr};
+ghost use Rattle.url.specs.Parts.{serialize};
 ghost use Rattle.fast_check_packages.specs.Package.{Nv, nv_of};
 ghost use Rattle.fast_check_cache.specs.Cache.{ItemView, IsSeed, item_of, with_item};
 
@@ -55,8 +55,8 @@ pub trait FastCheckCache {
     /// A seed of its own.
     ghost seed_text: { Self → List ℕ };
 
-    /// The hash of a seed, a package and its entry points.
-    ghost hash_of: { Self → List ℕ → Nv → List Parts → ℕ };
+    /// The hash of a seed, a package and the texts of its entry points, in order and each once.
+    ghost hash_of: { Self → List ℕ → Nv → List (List ℕ) → ℕ };
 
     /// What hashes start from: a text that changes with the rules of fast check.
     fn hash_seed(&self) -> &'static str
@@ -67,7 +67,7 @@ pub trait FastCheckCache {
 
     /// The hash that the item of a package is kept under.
     fn key_hash(&self, seed: &str, package_nv: &PackageNv, entrypoints: &BTreeSet<Url>) -> u64
-        ensures { result ≡ hash_of self.now seed.now (nv_of package_nv.now) entrypoints.now.keys };
+        ensures { result ≡ hash_of self.now seed.now (nv_of package_nv.now) (map serialize entrypoints.now.keys) };
 
     /// The item under a key, None where there is none. `AllocError` where memory is wanting.
     fn get(&self, key: FastCheckCacheKey) -> Result<Option<FastCheckCacheItem>, AllocError>

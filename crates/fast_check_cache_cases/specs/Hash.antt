@@ -1,6 +1,5 @@
 -- The hash that the caches of the example keep the item of a package under.
 use Rattle.std.specs.Prelude.{ℕ, List, ◌+◌, ◌*◌, ◌%◌, ◌^◌, fold}
-use Rattle.url.specs.Parts.{Parts, serialize}
 use Rattle.fast_check_packages.specs.Package.{Nv, VersionParts}
 
 -- a hash with one number more
@@ -15,11 +14,7 @@ hash_text hash text = hash_more (fold hash_more hash text) 255
 abbrev pub hash_version : ℕ → VersionParts → ℕ
 hash_version hash v = hash_text (hash_text (hash_more (hash_more (hash_more hash v.0) v.1) v.2) v.3) v.4
 
--- a hash with URLs more
-abbrev pub hash_urls : ℕ → List Parts → ℕ
-hash_urls hash urls = fold (λ h url. hash_text h (serialize url)) hash urls
-
--- the hash of a seed, a package and its entry points
-abbrev pub hash_package : List ℕ → Nv → List Parts → ℕ
+-- the hash of a seed, a package and the texts of its entry points
+abbrev pub hash_package : List ℕ → Nv → List (List ℕ) → ℕ
 hash_package seed nv entrypoints =
-    hash_urls (hash_version (hash_text (hash_text 14695981039346656037 seed) nv.0) nv.1) entrypoints
+    fold hash_text (hash_version (hash_text (hash_text 14695981039346656037 seed) nv.0) nv.1) entrypoints

@@ -1,5 +1,7 @@
 //! Under which keys caches are asked, and what they answer.
 
+ghost use Rattle.std.specs.Prelude.{map};
+ghost use Rattle.url.specs.Parts.{serialize};
 ghost use Rattle.fast_check_packages.specs.Package.{nv_of};
 ghost use Rattle.fast_check_cache_cases.specs.Memory.{IsKey};
 
@@ -24,7 +26,7 @@ fn key_of(
     package_nv: &PackageNv,
     entrypoints: &BTreeSet<Url>,
 ) -> FastCheckCacheKey
-    ensures { IsKey (seed_text cache.now) (hash_of cache.now) (nv_of package_nv.now) entrypoints.now.keys result }
+    ensures { IsKey (seed_text cache.now) (hash_of cache.now) (nv_of package_nv.now) (map serialize entrypoints.now.keys) result }
 {
     let seed = cache.hash_seed();
     FastCheckCacheKey::build(cache.key_hash(seed, package_nv, entrypoints))

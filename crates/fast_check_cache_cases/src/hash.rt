@@ -1,8 +1,9 @@
 //! The hash that the example's caches keep the item of a package under. It takes no memory.
 
-ghost use Rattle.std.specs.Prelude.{◌≡◌, fold};
+ghost use Rattle.std.specs.Prelude.{◌≡◌, fold, map};
+ghost use Rattle.url.specs.Parts.{serialize};
 ghost use Rattle.fast_check_packages.specs.Package.{nv_of};
-ghost use Rattle.fast_check_cache_cases.specs.Hash.{hash_more, hash_text, hash_urls, hash_package};
+ghost use Rattle.fast_check_cache_cases.specs.Hash.{hash_more, hash_text, hash_package};
 
 use fast_check_packages::PackageNv;
 use std::collections::BTreeSet;
@@ -28,7 +29,7 @@ fn text(hash: u64, text: &str) -> u64
 
 /// The hash of a seed, a package and its entry points.
 pub fn package_hash(seed: &str, package_nv: &PackageNv, entrypoints: &BTreeSet<Url>) -> u64
-    ensures { result ≡ hash_package seed.now (nv_of package_nv.now) entrypoints.now.keys }
+    ensures { result ≡ hash_package seed.now (nv_of package_nv.now) (map serialize entrypoints.now.keys) }
 {
     let version = &package_nv.version;
     let named = text(

@@ -1,17 +1,19 @@
 -- The entry points of a package, and what is wrong with them.
-use Rattle.std.specs.Prelude.{◌≡◌, ℕ, Bool, true, ◌&&◌, cond, List, map, Option, Some, None, option_map, is_none, option_to_list}
+use Rattle.std.specs.Prelude.{◌≡◌, ℕ, Bool, true, ◌&&◌, cond, List, [], map, fold, Option, Some, None, option_map, is_none, option_to_list}
 use Rattle.std.specs.Prelude.{String, string_bytes}
 use Rattle.std.specs.List.{find, flat_map}
 use Rattle.std.specs.Map.{values_of}
 use Rattle.std.specs.Option.{option_or}
 use Rattle.std.specs.Result.{result_ok}
-use Rattle.std.specs.Ordering.{is_eq}
+use Rattle.std.specs.Ordering.{is_eq, nat_cmp}
+use Rattle.std.specs.Cmp.Lexicographic.{slice_cmp}
+use Rattle.std.specs.BTreeSet.{insert_key}
 use Rattle.std.specs.Str.{bytes_eq}
 use Rattle.std.specs.declared.alloc.Global.{Global}
 use Rattle.std.specs.declared.vec.Vec.{Vec}
 use Rattle.semver.specs.Identifiers.{parts_of}
 use Rattle.semver.specs.declared.Version.{Version}
-use Rattle.url.specs.Parts.{Parts}
+use Rattle.url.specs.Parts.{Parts, serialize}
 use Rattle.url.specs.Parser.{parse_url}
 use Rattle.fast_check_packages.specs.Package.{Nv, VersionParts, nv_of, version_cmp}
 use Rattle.fast_check_packages.specs.declared.package.WorkspaceMember.{WorkspaceMember}
@@ -88,6 +90,10 @@ entrance_as g member url_of nv = entrance_by (base_or (url_of nv) member) (expor
 
 abbrev pub entrance_of : ModuleGraph → List WorkspaceMember → (Nv → Parts) → Nv → Entrance
 entrance_of g members url_of nv = entrance_as g (member_named members nv) url_of nv
+
+-- in the order of their texts, each once
+abbrev pub in_order : List Parts → List Parts
+in_order urls = fold (insert_key (λ a b. slice_cmp nat_cmp (serialize a) (serialize b))) [] urls
 
 -- what is answered
 

@@ -4,7 +4,9 @@
 mod exports;
 mod faults;
 mod joined;
+mod sets;
 
 pub use fast_check_findings as findings;
 pub use faults::entry_faults;
 pub use joined::entry_points;
+pub use sets::entry_point_set;

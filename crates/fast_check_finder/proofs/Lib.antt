@@ -3,3 +3,4 @@ mod Paths
 mod Reach
 mod Turns
 mod Refused
+mod Stored

@@ -1,5 +1,5 @@
 -- What follows from what can be demanded can be demanded.
-use Rattle.std.proofs.Common.{◌≡◌, ◌∙◌, sym, ap, refl, subst, ℕ, suc, ◌≤◌, Bool, true, false, cond, ◌&&◌, ◌||◌, not, List, [], ◌∷◌, map}
+use Rattle.std.proofs.Common.{◌≡◌, ◌∙◌, sym, ap, refl, subst, ℕ, suc, ◌≤◌, Bool, true, false, cond, ◌&&◌, ◌||◌, not, List, [], ◌∷◌, ◌++◌, map}
 use Rattle.std.proofs.Common.{length, Option, Some, None, option_map, option_to_list, ⊎_elim, ◌⊎◌, inl, inr, arith, is_some}
 use Rattle.std.proofs.Common.{string_bytes}
 use Rattle.std.specs.List.{Contains, flat_map, find}
@@ -10,6 +10,7 @@ use Rattle.std.proofs.lemmas.Bool.{cases_Bool}
 use Rattle.std.proofs.lemmas.List.Elements.{Contains-append_left, Contains-append_right}
 use Rattle.url.specs.Parts.{Parts, serialize}
 use Rattle.fast_check_packages.specs.Package.{Nv}
+use Rattle.fast_check_cache.specs.Cache.{ItemView}
 use Rattle.fast_check_names.specs.Names.{Name, Path, path_of}
 use Rattle.fast_check_names.specs.Imports.{default_name, NameDemand, names_but_default, each_name, subset_at, whole_at}
 use Rattle.fast_check_symbols.specs.declared.file_dep_name.FileDepName.TheVariants.{Star, Name as Named}
@@ -51,10 +52,10 @@ use Rattle.fast_check_worklists.specs.Demands.{Text, same_nv, asked_by, Want, to
 use Rattle.fast_check_worklists.specs.Demands.{of_symbol}
 use Rattle.fast_check_worklists.specs.Measure.{IsWithin, IsPathWithin, IsInside, IsWantInside, IsUniverse}
 use Rattle.fast_check_findings.specs.declared.finding.EntryFault.{EntryFault}
-use Rattle.fast_check_turns.specs.entries.Entries.{Entrance, passed_over, refused, entered, all_faults}
-use Rattle.fast_check_turns.specs.steps.Sources.{Known, is_text, node_at, named_at, typed_info, info_at, traced_as, module_at}
+use Rattle.fast_check_turns.specs.entries.Entries.{Entrance, passed_over, refused, entered, all_faults, in_order}
+use Rattle.fast_check_turns.specs.steps.Sources.{Used, Known, is_text, node_at, named_at, typed_info, info_at, traced_as, module_at}
 use Rattle.fast_check_turns.specs.steps.Wants.{file_at, behind, resolved, file_wants, left_wants}
-use Rattle.fast_check_turns.specs.Rules.{names_wants, symbol_wants, entry_want, unless_faulty, entrance_at, entry_wants, world}
+use Rattle.fast_check_turns.specs.Rules.{names_wants, symbol_wants, entry_want, unless_faulty, entrance_at, entered_wants, entry_wants, world}
 use Rattle.fast_check_finder.specs.Reach.{dep_names, kind_names, symbol_names, table_names, all_names, paths_up_to, targets, answers, entry_texts}
 use Rattle.fast_check_finder.specs.Reach.{outer_texts, all_packages, urls_in, reach}
 use Rattle.fast_check_turns.proofs.Lists.{flat_contains}
@@ -76,6 +77,10 @@ or_some : {X : Type 0} (o p : Option X) (x : X) → option_or o p ≡ Some x →
 or_some None p x e = inr e
 or_some (Some y) p x e = inl e
 
+-- what a used item depends on
+abbrev pub HasDependencies : Used → List Nv → Type 0
+HasDependencies used stored = (nv : Nv) (urls : List Parts) (item : ItemView) → used nv urls ≡ Some item → (p : Nv) → Contains item.0 p → Contains stored p
+
 find_in : {X : Type 0} (test : X → Bool) (xs : List X) (x : X) → find test xs ≡ Some x → Contains xs x
 find_in test [] x e = absurd (none_some x e)
 find_in {X} test (y ∷ ys) x e =
@@ -84,7 +89,7 @@ find_in {X} test (y ∷ ys) x e =
     (λ f. Contains_later y ys x (find_in test ys x (sym (ap (λ (b : Bool). cond b (Some y) (find test ys)) f) ∙ e)))
     (cases_Bool (test y))
 
-module _ (k : Known) (roots_in : List Nv) where
+module _ (k : Known) (stored roots_in : List Nv) (has_all : HasDependencies k.used stored) where
   abbrev A : List Name
   A = all_names k
 
@@ -92,7 +97,7 @@ module _ (k : Known) (roots_in : List Nv) where
   L = length (all_names k)
 
   abbrev In : Want → Type 0
-  In = IsWantInside (reach k roots_in)
+  In = IsWantInside (reach k stored roots_in)
 
   abbrev IsInfo : ModuleInfo → Type 0
   IsInfo info = (key : Parts) × Contains k.root_symbol.modules.entries (key, info)
@@ -124,13 +129,16 @@ module _ (k : Known) (roots_in : List Nv) where
 
   -- packages and texts
 
-  package_in : (t : Text) (p : Nv) → Contains (outer_texts k) t → k.owner t ≡ Some p → Contains (reach k roots_in).packages p
-  package_in t p c e = Contains-append_right roots_in (flat_map (λ t. option_to_list (k.owner t)) (outer_texts k)) p
-      (contains_flat_map (λ (u : Text). option_to_list (k.owner u)) (outer_texts k) t p c
-      (subst (λ (o : Option Nv). Contains (option_to_list o) p) (sym e) (Contains_first p [])))
+  abbrev owners : List Nv
+  owners = flat_map (λ t. option_to_list (k.owner t)) (outer_texts k)
 
-  text_in : (t : Text) → Contains (outer_texts k) t → Contains (reach k roots_in).texts t
-  text_in t c = Contains-append_left (outer_texts k) (entry_texts k (all_packages k roots_in)) t c
+  package_in : (t : Text) (p : Nv) → Contains (outer_texts k) t → k.owner t ≡ Some p → Contains (reach k stored roots_in).packages p
+  package_in t p c e = Contains-append_right roots_in (owners ++ stored) p (Contains-append_left owners stored p
+      (contains_flat_map (λ (u : Text). option_to_list (k.owner u)) (outer_texts k) t p c
+      (subst (λ (o : Option Nv). Contains (option_to_list o) p) (sym e) (Contains_first p []))))
+
+  text_in : (t : Text) → Contains (outer_texts k) t → Contains (reach k stored roots_in).texts t
+  text_in t c = Contains-append_left (outer_texts k) (entry_texts k (all_packages k stored roots_in)) t c
 
   abbrev Within : NameDemand → Type 0
   Within = IsWithin (paths_up_to (suc L) A)
@@ -407,16 +415,16 @@ module _ (k : Known) (roots_in : List Nv) where
         each_each_of In (λ url. file_at nv (serialize url) (asked_by f.names) (k.owner (serialize url))) (resolved m f.text)
         (λ url e. in_file nv (serialize url) f.names (k.owner (serialize url)) refl (target_in info f.text url e) (files_within s h f c))))
 
-  entry_in : (nv : Nv) → Contains (all_packages k roots_in) nv → (urls : List Parts) → entrance_at k nv ≡ entered urls → (url : Parts) → Contains urls url →
+  entry_in : (nv : Nv) → Contains (all_packages k stored roots_in) nv → (urls : List Parts) → entrance_at k nv ≡ entered urls → (url : Parts) → Contains urls url →
       In (entry_want nv url)
   entry_in nv i urls e url c = (
-    Contains-append_right (outer_texts k) (entry_texts k (all_packages k roots_in)) (serialize url)
-        (contains_flat_map (λ (p : Nv). map serialize (urls_in (entrance_at k p))) (all_packages k roots_in) nv (serialize url) i
+    Contains-append_right (outer_texts k) (entry_texts k (all_packages k stored roots_in)) (serialize url)
+        (contains_flat_map (λ (p : Nv). map serialize (urls_in (entrance_at k p))) (all_packages k stored roots_in) nv (serialize url) i
         (subst (λ (x : Entrance). Contains (map serialize (urls_in x)) (serialize url)) (sym e) (contains_map serialize urls url c))),
     all_within A (suc L),
   )
 
-  entries_in : (nv : Nv) → Contains (all_packages k roots_in) nv → Each In (world k (of_package nv))
+  entries_in : (nv : Nv) → Contains (all_packages k stored roots_in) nv → Each In (world k (of_package nv))
   entries_in nv i = go (entrance_at k nv) refl
     where
       sound : (urls : List Parts) → entrance_at k nv ≡ entered urls → (faults : List (Parts × EntryFault)) →
@@ -424,17 +432,23 @@ module _ (k : Known) (roots_in : List Nv) where
       sound urls e [] = each_map In (entry_want nv) urls (λ url c. entry_in nv i urls e url c)
       sound urls e (f ∷ faults) = each_nil In
 
-      go : (entrance : Entrance) → entrance_at k nv ≡ entrance → Each In (entry_wants k.graph nv entrance)
+      by_item : (urls : List Parts) → entrance_at k nv ≡ entered urls → (item : Option ItemView) → k.used nv (in_order urls) ≡ item →
+          Each In (entered_wants k.graph nv urls item)
+      by_item urls e None h = sound urls e (all_faults k.graph urls)
+      by_item urls e (Some item) h = each_map In to_package item.0
+          (λ p c. Contains-append_right roots_in (owners ++ stored) p (Contains-append_right owners stored p (has_all nv (in_order urls) item h p c)))
+
+      go : (entrance : Entrance) → entrance_at k nv ≡ entrance → Each In (entry_wants k.graph k.used nv entrance)
       go passed_over e = each_nil In
       go (refused text) e = each_nil In
-      go (entered urls) e = sound urls e (all_faults k.graph urls)
+      go (entered urls) e = by_item urls e (k.used nv (in_order urls)) refl
 
-  closed : (d : Demand) → IsInside (reach k roots_in) d → Each In (world k d)
+  closed : (d : Demand) → IsInside (reach k stored roots_in) d → Each In (world k d)
   closed (of_package nv) i = entries_in nv i
   closed (of_module nv t d) i = each_traced In (names_wants k nv t d) t (λ info is. in_names info is nv t d i.1)
   closed (of_symbol nv t s) i = each_traced In (symbol_wants k nv t s) t (λ info is. in_symbols info is nv t s i)
 
-  pub universe : IsUniverse (world k) roots_in (reach k roots_in)
+  pub universe : IsUniverse (world k) roots_in (reach k stored roots_in)
   universe = record {
     has_roots = λ p c. Contains-append_left roots_in _ p c;
     default = fits_in A (suc L) (default_name ∷ []) (fits_more A default_name L [] (Contains_first default_name _) (fits_empty A L));

@@ -10,9 +10,10 @@ use Rattle.fast_check_provider.specs.declared.fault.BuildFault.{BuildFault}
 use Rattle.fast_check_provider.specs.declared.fault.BuildFault.TheVariants.{InvalidExport, OutOfMemory}
 use Rattle.fast_check_findings.specs.Faults.{placed_in}
 use Rattle.fast_check_findings.specs.declared.finding.Finding.{Finding}
-use Rattle.fast_check_findings.specs.declared.finding.Finding.TheVariants.{Entered, Followed, Untyped}
+use Rattle.fast_check_findings.specs.declared.finding.Finding.TheVariants.{Entered, Followed, Untyped, Kept}
 use Rattle.fast_check_findings.specs.Yields.{ModuleFault, Yield, known_package, entry_point, refused_export, dependency, recorded, public, implementing, faulty}
-use Rattle.fast_check_findings.specs.Yields.{untyped_module}
+use Rattle.fast_check_findings.specs.Yields.{untyped_module, kept}
+use Rattle.fast_check_cache.specs.Cache.{item_of}
 use Rattle.fast_check_findings.specs.Findings.{faulty_module, entry_fault, placed_yield, placed_yields, yields_of}
 use Rattle.fast_check_turns.specs.entries.Entries.{Entrance, passed_over, refused, entered, TellsRefused}
 use Rattle.fast_check_search.proofs.Each.{Contains_first, Each, each_nil, each_one, each_cons, each_append, each_map, each_flat}
@@ -34,6 +35,7 @@ Joins (recorded p t) = Unit {0}
 Joins (public p t r) = Unit {0}
 Joins (implementing p t r) = Unit {0}
 Joins (faulty p t f) = Unit {0}
+Joins (kept p es item) = Unit {0}
 
 faulty_joins : (p : Nv) (t : Text) (f : ModuleFault) → Each Joins (faulty_module p t f)
 faulty_joins p t f = each_cons Joins (recorded p t) (faulty p t f ∷ []) tt (each_one Joins (faulty p t f) tt)
@@ -57,6 +59,7 @@ finding_joins (Followed f) =
     (each_map Joins (placed_yield p t) (map placed_in f.found.faults.items) (λ x c. tt))
     (each_map Joins (λ q. dependency p (nv_of q)) f.dependencies.items (λ q c. tt)))))
 finding_joins (Untyped u) = faulty_joins (nv_of u.package) (serialize u.specifier) untyped_module
+finding_joins (Kept k) = each_one Joins (kept (nv_of k.package) k.entry_points.keys (item_of k.item)) tt
 
 pub all_join : (k : Known) (account : Account) (found : List Finding) → IsYield (gives k) account (flat_map yields_of found) → JoinAll k account
 all_join k account found y nv c = go (entrance_at k nv) refl
@@ -67,7 +70,7 @@ all_join k account found y nv c = go (entrance_at k nv) refl
     go (refused text) e =
         each_flat Joins yields_of found (λ f i. finding_joins f) (refused_export nv text)
         (y.complete (of_package nv) (refused_export nv text) c
-        (subst (λ (x : Entrance). Contains (entry_yields k.graph nv x) (refused_export nv text)) (sym e) (Contains_first (refused_export nv text) [])))
+        (subst (λ (x : Entrance). Contains (entry_yields k.graph k.used nv x) (refused_export nv text)) (sym e) (Contains_first (refused_export nv text) [])))
 
 -- the package that stops the search is one of those that were asked for
 pub refused_of : (k : Known) (packages : List PackageNv) (i : ℕ) (p : PackageNv) (nv : Nv) → i < length packages → p ≡ get_or packages i p →

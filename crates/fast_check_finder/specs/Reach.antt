@@ -1,9 +1,10 @@
 -- Inner: no contract of a public call cites what stands here.
 -- All that can be demanded.
-use Rattle.std.specs.Prelude.{ℕ, zero, suc, List, [], ◌∷◌, ◌++◌, map, length, Some, None, option_to_list, string_bytes}
+use Rattle.std.specs.Prelude.{ℕ, zero, suc, ◌^◌, List, [], ◌∷◌, ◌++◌, map, length, Option, Some, None, option_to_list, string_bytes}
 use Rattle.std.specs.List.{flat_map}
 use Rattle.url.specs.Parts.{Parts, serialize}
 use Rattle.fast_check_packages.specs.Package.{Nv}
+use Rattle.fast_check_cache.specs.Cache.{ItemView}
 use Rattle.fast_check_names.specs.Names.{Name, Path, path_of}
 use Rattle.fast_check_names.specs.Imports.{default_name}
 use Rattle.fast_check_symbols.specs.declared.file_dep_name.FileDepName.{FileDepName}
@@ -63,9 +64,22 @@ answers k = flat_map (λ e. map (λ x. serialize x.1) (tables_in e.1).resolved) 
 abbrev pub outer_texts : Known → List Text
 outer_texts k = targets k ++ answers k
 
--- the packages that are handed in, and those that the others belong to
-abbrev pub all_packages : Known → List Nv → List Nv
-all_packages k roots = roots ++ flat_map (λ t. option_to_list (k.owner t)) (outer_texts k)
+-- the dependencies of the items under all keys below a number, and so of all that a cache has
+abbrev pub dependencies_in : Option ItemView → List Nv
+dependencies_in None = []
+dependencies_in (Some item) = item.0
+
+unfoldable pub dependencies_below : (ℕ → Option ItemView) → ℕ → List Nv
+dependencies_below stored zero = []
+dependencies_below stored (suc n) = dependencies_in (stored n) ++ dependencies_below stored n
+
+abbrev pub lent_dependencies : {C : Type 0} → Option C → (C → ℕ → Option ItemView) → List Nv
+lent_dependencies None stored = []
+lent_dependencies (Some c) stored = dependencies_below (stored c) (2 ^ 64)
+
+-- the packages that are handed in, those that the modules of others belong to, and those on which items of a cache depend
+abbrev pub all_packages : Known → List Nv → List Nv → List Nv
+all_packages k stored roots = roots ++ (flat_map (λ t. option_to_list (k.owner t)) (outer_texts k) ++ stored)
 
 abbrev pub urls_in : Entrance → List Parts
 urls_in passed_over = []
@@ -75,10 +89,10 @@ urls_in (entered urls) = urls
 abbrev pub entry_texts : Known → List Nv → List Text
 entry_texts k packages = flat_map (λ p. map serialize (urls_in (entrance_at k p))) packages
 
-abbrev pub reach : Known → List Nv → Universe
-reach k roots = record {
-  packages = all_packages k roots;
-  texts = outer_texts k ++ entry_texts k (all_packages k roots);
+abbrev pub reach : Known → List Nv → List Nv → Universe
+reach k stored roots = record {
+  packages = all_packages k stored roots;
+  texts = outer_texts k ++ entry_texts k (all_packages k stored roots);
   paths = paths_up_to (suc (length (all_names k))) (all_names k);
   below = paths_up_to (length (all_names k)) (all_names k);
 }

@@ -6,6 +6,7 @@ mod search;
 pub use fast_check_packages::{PackageNv, WorkspaceMember};
 pub use fast_check_provider::BuildFault;
 pub use fast_check_turns::{
-    EnteredPackage, EntryFault, Finding, FollowedModule, FoundModule, Sources, UntypedModule,
+    EnteredPackage, EntryFault, Finding, FollowedModule, FoundModule, KeptPackage, Sources,
+    UntypedModule,
 };
 pub use search::find_all;

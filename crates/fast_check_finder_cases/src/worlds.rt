@@ -1,73 +1,66 @@
-//! Follows the packages of each world of the file `worlds`, and prints what is found of each package.
+//! Follows the packages of each world of the file `worlds`, and prints what is found of each package. Then each is followed again, with the calls of its
+//! provider refused from the first on, from the second on, and so forth.
 //!
 //! A world is a line of JSON: the input of `build`, with the two members `name` and `ranges`. The ranges are asked for in each module.
+mod provider;
+mod refused;
 mod world;
 
-use crate::said_packages::tell_packages;
+use crate::worlds::refused::{find, refuse_calls, tell_found};
 use crate::worlds::world::{World, world_of};
-use fast_check_build::PublicRangeFinder;
 use fast_check_build_requests::{BuildRequest, read_build_request};
 use fast_check_modules::TableFault;
 use fast_check_packages::PackageNv;
-use fast_check_provider::BuildFault;
 use fast_check_read::{ReadError, read_text};
 use fast_check_read_tables::read_list;
 use fast_check_said::Said;
 use fast_check_syntax::SourceRange;
 use serde_json::Value;
 use std::alloc::Global;
-use std::collections::VecDeque;
 use std::{fs, io};
 
-fn tell_fault(alloc: Global, fault: BuildFault, said: &mut Said) {
-    match fault {
-        BuildFault::InvalidExport { package, export } => {
-            said.tell_made(format!(in alloc; "\n  invalid export {export} of {package}"))
-        }
-        BuildFault::OutOfMemory => said.lack(),
-    }
-}
-
-/// Follows the packages that are handed in.
-fn tell_found(
+/// Tells what is found of the packages that are handed in, also with calls of the provider refused. Answers whether a call was.
+fn tell_packages_of(
     alloc: Global,
     world: &World,
-    pending_nvs: VecDeque<PackageNv>,
+    pending: &[PackageNv],
     ranges: &[SourceRange],
     said: &mut Said,
-) {
-    let finder = PublicRangeFinder::new(
-        &world.graph,
-        &world.root_symbol,
-        world.workspace_members.as_slice(),
-        pending_nvs,
-    );
-    match finder.find(alloc, None, &world.provider) {
-        Ok(found) => tell_packages(alloc, ranges, found, said),
-        Err(fault) => tell_fault(alloc, fault, said),
+) -> bool {
+    let mut told = Said::new(alloc);
+    tell_found(alloc, find(alloc, world, pending), ranges, &mut told);
+    match told.text() {
+        Some(text) => said.tell(text),
+        None => said.lack(),
     }
+    refuse_calls(alloc, world, pending, ranges, &told, said)
 }
 
-fn tell_request(alloc: Global, request: BuildRequest, ranges: &[SourceRange], said: &mut Said) {
+fn tell_request(
+    alloc: Global,
+    request: BuildRequest,
+    ranges: &[SourceRange],
+    said: &mut Said,
+) -> bool {
     match world_of(alloc, request) {
-        Ok((world, pending_nvs)) => tell_found(alloc, &world, pending_nvs, ranges, said),
+        Ok((world, pending)) => {
+            return tell_packages_of(alloc, &world, pending.as_slice(), ranges, said);
+        }
         Err(TableFault::OutOfMemory) => said.lack(),
         Err(_) => said.tell("\n  bad tables"),
     }
+    false
 }
 
-/// Tells what is found in a world.
-fn tell_world(alloc: Global, value: &Value, said: &mut Said) -> Result<(), ReadError> {
+/// Tells what is found in a world. Answers whether a call of its provider was refused.
+fn tell_world(alloc: Global, value: &Value, said: &mut Said) -> Result<bool, ReadError> {
     let ranges: Vec<SourceRange> = read_list(alloc, value, "ranges")?;
-    match read_build_request(alloc, value) {
-        Ok(request) => tell_request(alloc, request, ranges.as_slice(), said),
-        Err(error) => tell_refused(error, said),
-    }
-    Ok(())
+    let request = read_build_request(alloc, value)?;
+    Ok(tell_request(alloc, request, ranges.as_slice(), said))
 }
 
-/// Tells the name of a world, and what is found in it.
-fn tell_line(alloc: Global, value: &Value, said: &mut Said) -> Result<(), ReadError> {
+/// Tells the name of a world, and what is found in it. Answers whether a call of its provider was refused.
+fn tell_line(alloc: Global, value: &Value, said: &mut Said) -> Result<bool, ReadError> {
     let name = read_text(value.get("name").ok_or(ReadError::BadForm)?)?;
     said.tell_path("world ", name, "");
     tell_world(alloc, value, said)
@@ -80,28 +73,33 @@ fn tell_refused(error: ReadError, said: &mut Said) {
     }
 }
 
-fn tell_text(alloc: Global, line: &str, said: &mut Said) {
+fn tell_text(alloc: Global, line: &str, said: &mut Said) -> bool {
     match Value::from_str(alloc, line) {
-        Ok(value) => {
-            if let Err(error) = tell_line(alloc, &value, said) {
-                tell_refused(error, said);
-            }
-        }
+        Ok(value) => match tell_line(alloc, &value, said) {
+            Ok(has_refused) => return has_refused,
+            Err(error) => tell_refused(error, said),
+        },
         Err(_) => said.tell("no JSON"),
     }
+    false
 }
 
-fn run_line(rt: &HostRuntime, line: &str) -> io::Result<()> {
+/// Runs the world of a line. Answers whether a call of its provider was refused.
+fn run_line(rt: &HostRuntime, line: &str) -> io::Result<bool> {
     let mut said = Said::new(rt.alloc());
-    tell_text(rt.alloc(), line, &mut said);
-    println!(rt; "{}", said.text().unwrap_or("out of memory"))
+    let has_refused = tell_text(rt.alloc(), line, &mut said);
+    println!(rt; "{}", said.text().unwrap_or("out of memory"))?;
+    Ok(has_refused)
 }
 
-/// Runs the worlds of the file `worlds`.
+/// Runs the worlds of the file `worlds`, and prints how many of them have a provider that was asked, and so refused.
 pub fn run_finder_cases(rt: &HostRuntime) -> io::Result<()> {
     let worlds = fs::read_to_string(rt, "worlds")?;
+    let mut refused: u64 = 0;
     for line in worlds.as_str().lines() {
-        run_line(rt, line)?;
+        if run_line(rt, line)? {
+            refused = refused.saturating_add(1);
+        }
     }
-    Ok(())
+    println!(rt; "worlds with calls that were refused: {refused}")
 }

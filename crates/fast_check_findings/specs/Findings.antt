@@ -3,6 +3,7 @@ use Rattle.std.specs.Prelude.{List, [], ◌∷◌, ◌++◌, map, Option, Some, 
 use Rattle.std.specs.List.{flat_map}
 use Rattle.url.specs.Parts.{serialize}
 use Rattle.fast_check_packages.specs.Package.{Nv, nv_of}
+use Rattle.fast_check_cache.specs.Cache.{item_of}
 use Rattle.fast_check_findings.specs.Faults.{PlacedFault, placed_in}
 use Rattle.fast_check_worklists.specs.Demands.{Text}
 use Rattle.fast_check_findings.specs.declared.finding.EntryFault.{EntryFault}
@@ -10,10 +11,11 @@ use Rattle.fast_check_findings.specs.declared.finding.EntryFault.TheVariants.{No
 use Rattle.fast_check_findings.specs.declared.finding.EnteredPackage.{EnteredPackage}
 use Rattle.fast_check_findings.specs.declared.finding.FoundModule.{FoundModule}
 use Rattle.fast_check_findings.specs.declared.finding.FollowedModule.{FollowedModule}
+use Rattle.fast_check_findings.specs.declared.finding.KeptPackage.{KeptPackage}
 use Rattle.fast_check_findings.specs.declared.finding.Finding.{Finding}
-use Rattle.fast_check_findings.specs.declared.finding.Finding.TheVariants.{Entered, Followed, Untyped}
+use Rattle.fast_check_findings.specs.declared.finding.Finding.TheVariants.{Entered, Followed, Untyped, Kept}
 use Rattle.fast_check_findings.specs.Yields.{ModuleFault, missing_entry, untyped_entry, untyped_module, of_demand}
-use Rattle.fast_check_findings.specs.Yields.{Yield, known_package, entry_point, dependency, recorded, public, implementing, faulty}
+use Rattle.fast_check_findings.specs.Yields.{Yield, known_package, entry_point, dependency, recorded, public, implementing, faulty, kept}
 
 -- a module is recorded with what is wrong with it as a whole
 abbrev pub faulty_module : Nv → Text → ModuleFault → List Yield
@@ -50,8 +52,13 @@ abbrev pub followed_yields : FollowedModule → List Yield
 followed_yields f = module_yields (nv_of f.package) (serialize f.specifier) f.found
     (map (λ p. dependency (nv_of f.package) (nv_of p)) f.dependencies.items)
 
+-- a package whose item is used
+abbrev pub kept_yields : KeptPackage → List Yield
+kept_yields k = kept (nv_of k.package) k.entry_points.keys (item_of k.item) ∷ []
+
 -- what a finding says
 abbrev pub yields_of : Finding → List Yield
 yields_of (Entered e) = entered_yields e
 yields_of (Followed f) = followed_yields f
 yields_of (Untyped u) = faulty_module (nv_of u.package) (serialize u.specifier) untyped_module
+yields_of (Kept k) = kept_yields k

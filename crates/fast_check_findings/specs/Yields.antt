@@ -1,6 +1,9 @@
 -- What a demand gives.
+use Rattle.std.specs.Prelude.{List}
+use Rattle.url.specs.Parts.{Parts}
 use Rattle.fast_check_syntax.specs.declared.source.SourceRange.{SourceRange}
 use Rattle.fast_check_packages.specs.Package.{Nv}
+use Rattle.fast_check_cache.specs.Cache.{ItemView}
 use Rattle.fast_check_findings.specs.Faults.{PlacedFault}
 use Rattle.fast_check_worklists.specs.Demands.{Text}
 
@@ -14,7 +17,7 @@ pub data ModuleFault : Type 0 where
 
 -- A package whose exports are known; an entry point of a package; an export text of a package that cannot be joined to its URL; a package on which
 -- another depends; and by package and module: that the module is recorded, a public range, a public range of an implementation of overloads, and
--- what is wrong.
+-- what is wrong. Of a package whose item in a cache is used: its entry points, in order and each once, and the item.
 pub data Yield : Type 0 where
   known_package : Nv → Yield
   entry_point : Nv → Text → Yield
@@ -24,3 +27,4 @@ pub data Yield : Type 0 where
   public : Nv → Text → SourceRange → Yield
   implementing : Nv → Text → SourceRange → Yield
   faulty : Nv → Text → ModuleFault → Yield
+  kept : Nv → List Parts → ItemView → Yield

@@ -3,9 +3,11 @@
 ghost use Rattle.std.specs.Prelude.{◌≡◌, ◌++◌, [], OnOk};
 
 use crate::demand_fault::DemandFault;
+use fast_check_cache::FastCheckCacheItem;
 use fast_check_packages::PackageNv;
 use fast_check_syntax::SourceRange;
 use std::alloc::{AllocError, Global};
+use std::collections::BTreeSet;
 use std::rc::RcStr;
 use url::Url;
 
@@ -89,10 +91,20 @@ pub struct UntypedModule {
     pub specifier: Url,
 }
 
+/// A package whose item in a cache is used, with the modules that its exports name.
+#[derive(Drop)]
+pub struct KeptPackage {
+    pub package: PackageNv,
+    pub entry_points: BTreeSet<Url>,
+    /// What the cache keeps of it, in place of all that would be found.
+    pub item: FastCheckCacheItem,
+}
+
 /// What was found in a turn.
 #[derive(Drop)]
 pub enum Finding {
     Entered(EnteredPackage),
     Followed(FollowedModule),
     Untyped(UntypedModule),
+    Kept(KeptPackage),
 }

@@ -9,5 +9,5 @@ pub use demand_fault::{DemandFault, FaultyModule, faults_in};
 pub use diagnostics::diagnostics_of;
 pub use fast_check_packages::PackageNv;
 pub use finding::{
-    EnteredPackage, EntryFault, Finding, FollowedModule, FoundModule, UntypedModule,
+    EnteredPackage, EntryFault, Finding, FollowedModule, FoundModule, KeptPackage, UntypedModule,
 };

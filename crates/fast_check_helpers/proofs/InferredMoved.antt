@@ -2,35 +2,34 @@
 use Rattle.std.proofs.Common.{◌≡◌, ℕ, Bool, true, false, Option, Some, None, List, [], ◌∷◌, map, refl, ap, ap₂, ◌∙◌, sym}
 use Rattle.std.specs.Prelude.{if◌then◌else◌}
 use Rattle.std.specs.Option.{option_map}
-use Rattle.fast_check_syntax.specs.declared.kind.Kind.TheVariants.{Str, Bool as BoolKind, Number, BigInt, Null, Regex, TsAsExpr, TsTypeAssertion, CallExpr}
-use Rattle.fast_check_syntax.specs.declared.kind.Kind.TheVariants.{Tpl, ParenExpr, TsSatisfiesExpr}
+use Rattle.fast_check_syntax.specs.declared.kind.Kind.{Kind}
+use Rattle.fast_check_syntax.specs.declared.kind.Kind.TheVariants as kinds
 use Rattle.fast_check_syntax.specs.declared.kind.Word.{Word}
 use Rattle.fast_check_syntax.specs.declared.kind.Word.TheVariants as words
 use Rattle.fast_check_syntax.specs.declared.source.SyntaxContext.{SyntaxContext}
 use Rattle.fast_check_syntax.specs.declared.tree.Tree.{Tree, Absent}
-use Rattle.fast_check_syntax.specs.Shape.{◌is◌, kind_of, none_range, part, parts, text_of, is_absent}
+use Rattle.fast_check_syntax.specs.Shape.{kind_of, none_range, parts, text_of, is_absent}
 use Rattle.fast_check_syntax.specs.Moves.{Moves, Keeps, moved}
 use Rattle.fast_check_syntax.proofs.Moved.{node_moved, range_moved, text_moved, absent_moved, none_moved, kind_of_moved, part_moved, parts_moved}
 use Rattle.fast_check_syntax.proofs.Moved.{is_absent_moved, text_of_moved}
-use Rattle.fast_check_syntax.proofs.Induction.{tree_ind, at_part}
 use Rattle.fast_check_program_forms.specs.Literals.{str}
 use Rattle.fast_check_expression_forms.specs.Templates.{Tpl-exprs}
 use Rattle.fast_check_expression_forms.specs.Assertions.{TsAsExpr-type_ann, TsTypeAssertion-type_ann}
 use Rattle.fast_check_expression_forms.specs.Calls.{CallExpr-args, CallExpr-callee}
-use Rattle.fast_check_helpers.specs.Places.{at-CallExpr-args, at-CallExpr-callee, at-ParenExpr-expr, at-Tpl-exprs, at-TsAsExpr-type_ann}
-use Rattle.fast_check_helpers.specs.Places.{at-TsSatisfiesExpr-expr, at-TsTypeAssertion-type_ann}
+use Rattle.fast_check_helpers.specs.Places.{at-CallExpr-args, at-CallExpr-callee, at-Tpl-exprs, at-TsAsExpr-type_ann, at-TsTypeAssertion-type_ann}
 use Rattle.fast_check_helpers.specs.declared.literal_type.DeclMutabilityKind.{DeclMutabilityKind}
 use Rattle.fast_check_helpers.specs.declared.literal_type.DeclMutabilityKind.TheVariants.{Const, Mutable}
-use Rattle.fast_check_helpers.specs.Builders.{ts_keyword_type, regex_type, unique_symbol}
+use Rattle.fast_check_helpers.specs.Builders.{unique_symbol}
 use Rattle.fast_check_helpers.specs.GlobalCalls.{is_symbol_call}
-use Rattle.fast_check_helpers.specs.LiteralType.{literal_or_keyword, type_of_literal}
+use Rattle.fast_check_helpers.specs.LiteralType.{literal_or_keyword, literal_by_kind, type_of_literal}
 use Rattle.fast_check_helpers.specs.TemplateType.{cooked_text, text_or_string, text_without, type_of_template}
 use Rattle.fast_check_helpers.specs.SimpleType.{is_simple_type}
-use Rattle.fast_check_helpers.specs.InferredType.{asserted_type, symbol_type, inferred_form, inferred_type}
+use Rattle.fast_check_helpers.specs.InferredType.{asserted_type, symbol_type, inferred_by_kind, inferred_form, inferred_type}
 use Rattle.fast_check_helpers.proofs.BuildersMoved.{ts_keyword_type_moved, ts_lit_type_moved, regex_type_moved, unique_symbol_moved}
 use Rattle.fast_check_helpers.proofs.GlobalCallsMoved.{moved_scope, is_symbol_call_moved}
 use Rattle.fast_check_helpers.proofs.SimpleTypesMoved.{is_simple_type_moved}
 use Rattle.fast_check_helpers.proofs.InferredTypes.{inferred_out, inferred_absent}
+use Rattle.fast_check_helpers.proofs.Levels.{moved_along}
 
 pub chosen : (m : Moves) (b : Bool) (x x' y y' : Option Tree) → x ≡ option_map (moved m) x' → y ≡ option_map (moved m) y' →
     (if b then x else y) ≡ option_map (moved m) (if b then x' else y')
@@ -43,23 +42,20 @@ module _ (m : Moves) (ok : Keeps m) where
   literal_or_keyword_moved Const w t = sym (ts_lit_type_moved m ok t)
   literal_or_keyword_moved Mutable w t = sym (ts_keyword_type_moved m ok w)
 
+  literal_by_kind_moved : (k : Kind) (mutability : DeclMutabilityKind) (t : Tree) →
+      literal_by_kind k mutability (moved m t) ≡ option_map (moved m) (literal_by_kind k mutability t)
+  literal_by_kind_moved kinds.Str mutability t = ap Some (literal_or_keyword_moved mutability words.TsStringKeyword t)
+  literal_by_kind_moved kinds.Bool mutability t = ap Some (literal_or_keyword_moved mutability words.TsBooleanKeyword t)
+  literal_by_kind_moved kinds.Number mutability t = ap Some (literal_or_keyword_moved mutability words.TsNumberKeyword t)
+  literal_by_kind_moved kinds.BigInt mutability t = ap Some (literal_or_keyword_moved mutability words.TsBigIntKeyword t)
+  literal_by_kind_moved kinds.Null mutability t = ap Some (sym (ts_keyword_type_moved m ok words.TsNullKeyword))
+  literal_by_kind_moved kinds.Regex mutability t = ap Some (sym (regex_type_moved m ok))
+  literal_by_kind_moved _ mutability t = refl
+
   pub type_of_literal_moved : (mutability : DeclMutabilityKind) (t : Tree) →
       type_of_literal mutability (moved m t) ≡ option_map (moved m) (type_of_literal mutability t)
   type_of_literal_moved mutability t =
-      ap (λ k.
-      if k is Str then Some (literal_or_keyword mutability words.TsStringKeyword (moved m t))
-      else (if k is BoolKind then Some (literal_or_keyword mutability words.TsBooleanKeyword (moved m t))
-      else (if k is Number then Some (literal_or_keyword mutability words.TsNumberKeyword (moved m t))
-      else (if k is BigInt then Some (literal_or_keyword mutability words.TsBigIntKeyword (moved m t))
-      else (if k is Null then Some (ts_keyword_type words.TsNullKeyword)
-      else (if k is Regex then Some regex_type
-      else None)))))) (kind_of_moved m t) ∙
-      chosen m (kind_of t is Str) _ _ _ _ (ap Some (literal_or_keyword_moved mutability words.TsStringKeyword t))
-      (chosen m (kind_of t is BoolKind) _ _ _ _ (ap Some (literal_or_keyword_moved mutability words.TsBooleanKeyword t))
-      (chosen m (kind_of t is Number) _ _ _ _ (ap Some (literal_or_keyword_moved mutability words.TsNumberKeyword t))
-      (chosen m (kind_of t is BigInt) _ _ _ _ (ap Some (literal_or_keyword_moved mutability words.TsBigIntKeyword t))
-      (chosen m (kind_of t is Null) _ _ _ _ (ap Some (sym (ts_keyword_type_moved m ok words.TsNullKeyword)))
-      (chosen m (kind_of t is Regex) _ _ _ _ (ap Some (sym (regex_type_moved m ok))) refl)))))
+      ap (λ k. literal_by_kind k mutability (moved m t)) (kind_of_moved m t) ∙ literal_by_kind_moved (kind_of t) mutability t
 
   text_type_moved : (text : List ℕ) → moved m (str none_range text Absent) ≡ str none_range text Absent
   text_type_moved text = simp (node_moved, range_moved, none_moved m ok, text_moved, absent_moved)
@@ -97,43 +93,25 @@ module _ (m : Moves) (ok : Keeps m) where
       ∙ chosen m (is_symbol_call u callee args) _ _ _ _ (ap Some (sym (unique_symbol_moved m ok))) refl
 
   module _ (mutability : DeclMutabilityKind) (u : SyntaxContext) where
-    form_moved : (t : Tree) (f' f : ℕ → Option Tree) (es' es : List (Option Tree)) → ((i : ℕ) → f' i ≡ option_map (moved m) (f i)) →
-        inferred_form mutability (moved_scope m u) (moved m t) f' es' ≡ option_map (moved m) (inferred_form mutability u t f es)
-    form_moved t f' f es' es at =
-        ap (λ k.
-        if k is TsAsExpr then asserted_type (TsAsExpr-type_ann (moved m t))
-        else (if k is TsTypeAssertion then asserted_type (TsTypeAssertion-type_ann (moved m t))
-        else (if k is CallExpr then symbol_type (moved_scope m u) (CallExpr-callee (moved m t)) (CallExpr-args (moved m t))
-        else (if k is Tpl then Some (type_of_template mutability (moved m t))
-        else (if k is ParenExpr then f' at-ParenExpr-expr.place
-        else (if k is TsSatisfiesExpr then f' at-TsSatisfiesExpr-expr.place
-        else type_of_literal mutability (moved m t))))))) (kind_of_moved m t) ∙
-        chosen m (kind_of t is TsAsExpr) _ _ _ _
-        (ap asserted_type (part_moved m at-TsAsExpr-type_ann.place t) ∙ asserted_type_moved (TsAsExpr-type_ann t))
-        (chosen m (kind_of t is TsTypeAssertion) _ _ _ _
-        (ap asserted_type (part_moved m at-TsTypeAssertion-type_ann.place t) ∙ asserted_type_moved (TsTypeAssertion-type_ann t))
-        (chosen m (kind_of t is CallExpr) _ _ _ _
-        (ap₂ (symbol_type (moved_scope m u)) (part_moved m at-CallExpr-callee.place t) (part_moved m at-CallExpr-args.place t)
-        ∙ symbol_type_moved u (CallExpr-callee t) (CallExpr-args t))
-        (chosen m (kind_of t is Tpl) _ _ _ _ (ap Some (type_of_template_moved mutability t))
-        (chosen m (kind_of t is ParenExpr) _ _ _ _ (at at-ParenExpr-expr.place)
-        (chosen m (kind_of t is TsSatisfiesExpr) _ _ _ _ (at at-TsSatisfiesExpr-expr.place) (type_of_literal_moved mutability t))))))
-
-    abbrev Moves-with : Tree → Type 0
-    Moves-with t = inferred_type mutability (moved_scope m u) (moved m t) ≡ option_map (moved m) (inferred_type mutability u t)
-
-    moves_with : (t : Tree) → ((i : ℕ) → Moves-with (part i t)) → Moves-with t
-    moves_with t h =
-        inferred_out mutability (moved_scope m u) (moved m t)
-        ∙ (form_moved t (λ i. inferred_type mutability (moved_scope m u) (part i (moved m t))) (λ i. inferred_type mutability u (part i t))
-        (map (inferred_type mutability (moved_scope m u)) (parts (moved m t))) (map (inferred_type mutability u) (parts t))
-        (λ i. ap (inferred_type mutability (moved_scope m u)) (part_moved m i t) ∙ h i)
-        ∙ ap (option_map (moved m)) (sym (inferred_out mutability u t)))
-
-    absent_moves_with : Moves-with Absent
-    absent_moves_with =
-        ap (inferred_type mutability (moved_scope m u)) (absent_moved m)
-        ∙ (inferred_absent mutability (moved_scope m u) ∙ ap (option_map (moved m)) (sym (inferred_absent mutability u)))
+    by_kind_moved : (k : Kind) (t : Tree) (inside : ℕ → Option Tree) →
+        inferred_by_kind k mutability (moved_scope m u) (moved m t) (λ i. option_map (moved m) (inside i))
+        ≡ option_map (moved m) (inferred_by_kind k mutability u t inside)
+    by_kind_moved kinds.TsAsExpr t inside =
+        ap asserted_type (part_moved m at-TsAsExpr-type_ann.place t) ∙ asserted_type_moved (TsAsExpr-type_ann t)
+    by_kind_moved kinds.TsTypeAssertion t inside =
+        ap asserted_type (part_moved m at-TsTypeAssertion-type_ann.place t) ∙ asserted_type_moved (TsTypeAssertion-type_ann t)
+    by_kind_moved kinds.CallExpr t inside =
+        ap₂ (symbol_type (moved_scope m u)) (part_moved m at-CallExpr-callee.place t) (part_moved m at-CallExpr-args.place t)
+        ∙ symbol_type_moved u (CallExpr-callee t) (CallExpr-args t)
+    by_kind_moved kinds.Tpl t inside = ap Some (type_of_template_moved mutability t)
+    by_kind_moved kinds.ParenExpr t inside = refl
+    by_kind_moved kinds.TsSatisfiesExpr t inside = refl
+    by_kind_moved _ t inside = type_of_literal_moved mutability t
 
     pub inferred_type_moved : (t : Tree) → inferred_type mutability (moved_scope m u) (moved m t) ≡ option_map (moved m) (inferred_type mutability u t)
-    inferred_type_moved = tree_ind Moves-with absent_moves_with (λ t n h. moves_with t (at_part Moves-with absent_moves_with (parts t) h))
+    inferred_type_moved = moved_along m (option_map (moved m)) (inferred_type mutability (moved_scope m u)) (inferred_type mutability u)
+        (inferred_form mutability (moved_scope m u)) (inferred_form mutability u)
+        (inferred_out mutability (moved_scope m u)) (inferred_out mutability u)
+        (inferred_absent mutability (moved_scope m u) ∙ ap (option_map (moved m)) (sym (inferred_absent mutability u)))
+        (λ t inside each. ap (λ k. inferred_by_kind k mutability (moved_scope m u) (moved m t) (λ i. option_map (moved m) (inside i))) (kind_of_moved m t)
+        ∙ by_kind_moved (kind_of t) t inside)

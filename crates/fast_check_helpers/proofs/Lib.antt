@@ -1,5 +1,6 @@
 mod Literals
 mod Lower
+mod Levels
 pub mod SimpleTypes
 pub mod InferredTypes
 pub mod Returns

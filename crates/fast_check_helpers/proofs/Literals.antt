@@ -1,27 +1,17 @@
 -- What is no literal shows no type.
-use Rattle.std.proofs.Common.{◌≡◌, None}
+use Rattle.std.proofs.Common.{◌≡◌, None, refl}
 use Rattle.fast_check_syntax.specs.declared.kind.Kind.{Kind}
-use Rattle.fast_check_syntax.specs.declared.kind.Kind.TheVariants.{Str, Bool, Number, BigInt, Null, Regex}
+use Rattle.fast_check_syntax.specs.declared.kind.Kind.TheVariants as kinds
 use Rattle.fast_check_syntax.specs.declared.tree.Tree.{Tree}
-use Rattle.fast_check_syntax.specs.Shape.{differs, kind_of}
 use Rattle.fast_check_helpers.specs.declared.literal_type.DeclMutabilityKind.{DeclMutabilityKind}
-use Rattle.fast_check_helpers.specs.LiteralType.{type_of_literal}
+use Rattle.fast_check_helpers.specs.LiteralType.{literal_by_kind}
 
-pub record IsNoLiteral (k : Kind) : Type 0 where
-  pub not-Str : k ≡ Str → ⊥
-  pub not-Bool : k ≡ Bool → ⊥
-  pub not-Number : k ≡ Number → ⊥
-  pub not-BigInt : k ≡ BigInt → ⊥
-  pub not-Null : k ≡ Null → ⊥
-  pub not-Regex : k ≡ Regex → ⊥
-
-pub no_literal : (mutability : DeclMutabilityKind) (t : Tree) → IsNoLiteral (kind_of t) → None ≡ type_of_literal mutability t
-no_literal mutability t n =
-    simp (
-      differs (kind_of t) Str n.not-Str,
-      differs (kind_of t) Bool n.not-Bool,
-      differs (kind_of t) Number n.not-Number,
-      differs (kind_of t) BigInt n.not-BigInt,
-      differs (kind_of t) Null n.not-Null,
-      differs (kind_of t) Regex n.not-Regex,
-    )
+pub no_literal : (k : Kind) (mutability : DeclMutabilityKind) (t : Tree) → (k ≡ kinds.Str → ⊥) → (k ≡ kinds.Bool → ⊥) → (k ≡ kinds.Number → ⊥) →
+    (k ≡ kinds.BigInt → ⊥) → (k ≡ kinds.Null → ⊥) → (k ≡ kinds.Regex → ⊥) → None ≡ literal_by_kind k mutability t
+no_literal kinds.Str m t a b c d e f = absurd (a refl)
+no_literal kinds.Bool m t a b c d e f = absurd (b refl)
+no_literal kinds.Number m t a b c d e f = absurd (c refl)
+no_literal kinds.BigInt m t a b c d e f = absurd (d refl)
+no_literal kinds.Null m t a b c d e f = absurd (e refl)
+no_literal kinds.Regex m t a b c d e f = absurd (f refl)
+no_literal _ m t a b c d e f = refl

@@ -17,9 +17,15 @@ pub lower_odd : (t : Tree) (i : ℕ) {u : Tree} {k : Kind} {n : ℕ} →
     2 * height t + 1 ≡ n → k ≡ kind_of t → u ≡ part i t → k is Leaf ≡ false → 2 * height u + 1 < n
 lower_odd t i m e p l = omega (arith, m, lower t i e p l)
 
-pub lower_than : (t : Tree) (i : ℕ) {u : Tree} {k : Kind} {n : ℕ} →
-    height t ≡ n → k ≡ kind_of t → u ≡ part i t → k is Leaf ≡ false → height u < n
-lower_than t i m e p l = omega (arith, m, lower t i e p l)
+-- of a part of what is known to be no leaf, as the measures of a node with a list beside it count, and of a node alone
+pub lower_part : (t : Tree) (i : ℕ) {u : Tree} {n : ℕ} → 2 * height t + 1 ≡ n → (kind_of t ≡ Leaf → ⊥) → u ≡ part i t → 2 * height u + 1 < n
+lower_part t i m n p = rw p (omega (arith, m, height_part t i n))
+
+pub lower_even : (t : Tree) (i : ℕ) {u : Tree} {n : ℕ} → 2 * height t ≡ n → (kind_of t ≡ Leaf → ⊥) → u ≡ part i t → 2 * height u + 1 < n
+lower_even t i m n p = rw p (omega (arith, m, height_part t i n))
+
+pub lower_than : (t : Tree) (i : ℕ) {u : Tree} {n : ℕ} → height t ≡ n → (kind_of t ≡ Leaf → ⊥) → u ≡ part i t → height u < n
+lower_than t i m n p = rw p (omega (arith, m, height_part t i n))
 
 -- a list of items, where the measure is that of a node, and an item that is read of it
 pub lower_list : (t : Tree) {n : ℕ} → 2 * height t + 1 ≡ n → 2 * height t < n

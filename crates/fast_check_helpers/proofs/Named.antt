@@ -1,72 +1,45 @@
--- The equations of `names_type`, form by form, and statements that return nowhere.
-use Rattle.std.proofs.Common.{◌≡◌, ℕ, Bool, true, false, List, [], ◌∷◌, map, refl, ap, is_some, ◌∙◌, sym}
+-- The equation of `names_type`, and statements that return nowhere.
+use Rattle.std.proofs.Common.{◌≡◌, ℕ, Bool, true, false, Option, List, [], ◌∷◌, map, refl, ap, is_some, ◌∙◌, sym}
+use Rattle.std.specs.Prelude.{unwrap_or}
+use Rattle.std.specs.Option.{option_map}
 use Rattle.std.specs.List.{fold}
 use Rattle.fast_check_syntax.specs.declared.kind.Kind.{Kind}
-use Rattle.fast_check_syntax.specs.declared.kind.Kind.TheVariants.{Leaf, TsAsExpr, TsTypeAssertion, Tpl, ParenExpr, TsSatisfiesExpr}
+use Rattle.fast_check_syntax.specs.declared.kind.Kind.TheVariants as kinds
 use Rattle.fast_check_syntax.specs.declared.tree.Tree.{Tree}
-use Rattle.fast_check_syntax.specs.Shape.{differs, kind_of, part, parts, is_absent}
-use Rattle.fast_check_syntax.specs.Recursion.{by_form_is, by_form_is_absent}
-use Rattle.fast_check_syntax.proofs.Leaves.{leaf_of_absent}
-use Rattle.fast_check_expression_forms.specs.Assertions.{TsSatisfiesExpr-expr}
-use Rattle.fast_check_expression_forms.specs.Expressions.{ParenExpr-expr}
+use Rattle.fast_check_syntax.specs.Shape.{kind_of, part, parts}
 use Rattle.fast_check_helpers.specs.declared.literal_type.DeclMutabilityKind.TheVariants.{Mutable}
 use Rattle.fast_check_helpers.specs.declared.return_class.ReturnStatementAnalysis.{ReturnStatementAnalysis}
 use Rattle.fast_check_helpers.specs.declared.return_class.ReturnStatementAnalysis.TheVariants as class
-use Rattle.fast_check_helpers.specs.LiteralType.{type_of_literal}
-use Rattle.fast_check_helpers.specs.NamedBodies.{is_empty, names_form, names_type}
+use Rattle.fast_check_helpers.specs.InferredType.{value_in}
+use Rattle.fast_check_helpers.specs.LiteralType.{literal_by_kind, type_of_literal}
+use Rattle.fast_check_helpers.specs.NamedBodies.{is_empty, names_by_kind, names_form, names_type}
 use Rattle.fast_check_helpers.specs.ReturnStep.{after_return}
+use Rattle.fast_check_helpers.proofs.Levels.{by_form_out}
 use Rattle.fast_check_helpers.proofs.Returns.{from_multiple}
 
-module _ (t : Tree) where
-  leaf_form : (inside : ℕ → Bool) (each : List Bool) → kind_of t ≡ Leaf → names_form t inside each ≡ false
-  leaf_form inside each e = rw e refl
+pub names_out : (t : Tree) → names_type t ≡ names_form t (λ i. names_type (part i t)) (map names_type (parts t))
+unfolding names_type
+names_out = by_form_out false names_form (λ t inside each e.
+    ap (λ k. names_by_kind k t inside) e ∙ ap (λ k. is_some (literal_by_kind k Mutable t)) e)
 
-  pub names_out : names_type t ≡ names_form t (λ i. names_type (part i t)) (map names_type (parts t))
-  unfolding names_type
-  names_out = go (is_absent t) refl
-    where
-      go : (b : Bool) → is_absent t ≡ b → names_type t ≡ names_form t (λ i. names_type (part i t)) (map names_type (parts t))
-      go true e =
-          by_form_is_absent false names_form t e
-          ∙ sym (leaf_form (λ i. names_type (part i t)) (map names_type (parts t)) (leaf_of_absent t e))
-      go false e = by_form_is false names_form t e
+pub names_at : (t : Tree) (k : Kind) → kind_of t ≡ k → names_type t ≡ names_by_kind k t (λ i. names_type (part i t))
+names_at t k e = names_out t ∙ ap (λ k. names_by_kind k t (λ i. names_type (part i t))) e
 
-  pub names_TsAsExpr : kind_of t ≡ TsAsExpr → names_type t ≡ true
-  names_TsAsExpr e = names_out ∙ rw e refl
+by_value : (k : Kind) (t : Tree) (inside : ℕ → Bool) → (k ≡ kinds.TsAsExpr → ⊥) → (k ≡ kinds.TsTypeAssertion → ⊥) → (k ≡ kinds.Tpl → ⊥) →
+    names_by_kind k t inside ≡ unwrap_or (option_map inside (value_in k)) (is_some (type_of_literal Mutable t))
+by_value kinds.TsAsExpr t inside a b c = absurd (a refl)
+by_value kinds.TsTypeAssertion t inside a b c = absurd (b refl)
+by_value kinds.Tpl t inside a b c = absurd (c refl)
+by_value _ t inside a b c = refl
 
-  pub names_TsTypeAssertion : kind_of t ≡ TsTypeAssertion → names_type t ≡ true
-  names_TsTypeAssertion e = names_out ∙ rw e refl
-
-  pub names_Tpl : kind_of t ≡ Tpl → names_type t ≡ true
-  names_Tpl e = names_out ∙ rw e refl
-
-  pub names_ParenExpr : kind_of t ≡ ParenExpr → names_type t ≡ names_type (ParenExpr-expr t)
-  names_ParenExpr e = names_out ∙ rw e refl
-
-  pub names_TsSatisfiesExpr : kind_of t ≡ TsSatisfiesExpr → names_type t ≡ names_type (TsSatisfiesExpr-expr t)
-  names_TsSatisfiesExpr e = names_out ∙ rw e refl
-
--- a form of another kind
-pub record IsOtherArg (k : Kind) : Type 0 where
-  pub not-TsAsExpr : k ≡ TsAsExpr → ⊥
-  pub not-TsTypeAssertion : k ≡ TsTypeAssertion → ⊥
-  pub not-Tpl : k ≡ Tpl → ⊥
-  pub not-ParenExpr : k ≡ ParenExpr → ⊥
-  pub not-TsSatisfiesExpr : k ≡ TsSatisfiesExpr → ⊥
-
-other_form : (t : Tree) (inside : ℕ → Bool) (each : List Bool) → IsOtherArg (kind_of t) →
-    names_form t inside each ≡ is_some (type_of_literal Mutable t)
-other_form t inside each o =
-    simp (
-      differs (kind_of t) TsAsExpr o.not-TsAsExpr,
-      differs (kind_of t) TsTypeAssertion o.not-TsTypeAssertion,
-      differs (kind_of t) Tpl o.not-Tpl,
-      differs (kind_of t) ParenExpr o.not-ParenExpr,
-      differs (kind_of t) TsSatisfiesExpr o.not-TsSatisfiesExpr,
-    )
-
-pub names_other : (t : Tree) → IsOtherArg (kind_of t) → names_type t ≡ is_some (type_of_literal Mutable t)
-names_other t o = names_out t ∙ other_form t (λ i. names_type (part i t)) (map names_type (parts t)) o
+-- what is no assertion and no template names what the value inside of it names, or is a literal
+pub names_value : (t : Tree) (k : Kind) {field : Option ℕ} → kind_of t ≡ k → (k ≡ kinds.TsAsExpr → ⊥) → (k ≡ kinds.TsTypeAssertion → ⊥) →
+    (k ≡ kinds.Tpl → ⊥) → field ≡ value_in k →
+    names_type t ≡ unwrap_or (option_map (λ i. names_type (part i t)) field) (is_some (type_of_literal Mutable t))
+names_value t k e a b c f =
+    names_at t k e
+    ∙ (by_value k t (λ i. names_type (part i t)) a b c
+    ∙ ap (λ field. unwrap_or (option_map (λ i. names_type (part i t)) field) (is_some (type_of_literal Mutable t))) (sym f))
 
 -- ---- statements that return nowhere
 

@@ -1,21 +1,23 @@
 -- The type that a moved body names is the one that the body names, moved.
-use Rattle.std.proofs.Common.{◌≡◌, ℕ, Bool, true, Option, Some, None, List, [], ◌∷◌, map, refl, ap, ap₂, is_some, if◌then◌else◌, ◌∙◌, sym}
+use Rattle.std.proofs.Common.{◌≡◌, ℕ, Bool, Option, Some, None, List, [], ◌∷◌, map, refl, ap, ap₂, is_some, if◌then◌else◌, ◌∙◌}
 use Rattle.std.specs.Option.{option_map}
-use Rattle.fast_check_syntax.specs.declared.kind.Kind.TheVariants.{ReturnStmt, TsAsExpr, TsTypeAssertion, Tpl, ParenExpr, TsSatisfiesExpr}
+use Rattle.fast_check_syntax.specs.declared.kind.Kind.{Kind}
+use Rattle.fast_check_syntax.specs.declared.kind.Kind.TheVariants.{ReturnStmt}
+use Rattle.fast_check_syntax.specs.declared.kind.Kind.TheVariants as kinds
 use Rattle.fast_check_syntax.specs.declared.source.SyntaxContext.{SyntaxContext}
 use Rattle.fast_check_syntax.specs.declared.tree.Tree.{Tree}
-use Rattle.fast_check_syntax.specs.Shape.{◌is◌, kind_of, part, parts, is_absent, OfAll}
+use Rattle.fast_check_syntax.specs.Shape.{◌is◌, kind_of, parts, is_absent}
 use Rattle.fast_check_syntax.specs.Moves.{Moves, Keeps, moved}
-use Rattle.fast_check_syntax.proofs.Moved.{kind_of_moved, part_moved, parts_moved, is_absent_moved, absent_moved}
-use Rattle.fast_check_syntax.proofs.Induction.{tree_ind, at_part}
+use Rattle.fast_check_syntax.proofs.Moved.{kind_of_moved, part_moved, parts_moved, is_absent_moved}
 use Rattle.fast_check_statement_forms.specs.Statements.{ReturnStmt-arg, BlockStmt-stmts}
-use Rattle.fast_check_helpers.specs.Places.{at-BlockStmt-stmts, at-ParenExpr-expr, at-TsSatisfiesExpr-expr}
+use Rattle.fast_check_helpers.specs.Places.{at-BlockStmt-stmts}
 use Rattle.fast_check_helpers.specs.declared.literal_type.DeclMutabilityKind.TheVariants.{Mutable}
 use Rattle.fast_check_helpers.specs.LiteralType.{type_of_literal}
-use Rattle.fast_check_helpers.specs.NamedBodies.{return_arg, returns_nowhere, is_empty, arg_of_last, single_return_arg, names_form, names_type, named_by}
-use Rattle.fast_check_helpers.specs.NamedBodies.{named_return}
+use Rattle.fast_check_helpers.specs.NamedBodies.{return_arg, returns_nowhere, is_empty, arg_of_last, single_return_arg, names_by_kind, names_form, names_type}
+use Rattle.fast_check_helpers.specs.NamedBodies.{named_by, named_return}
 use Rattle.fast_check_helpers.proofs.GlobalCallsMoved.{moved_scope}
 use Rattle.fast_check_helpers.proofs.InferredMoved.{chosen, type_of_literal_moved, inferred_type_moved}
+use Rattle.fast_check_helpers.proofs.Levels.{moved_stays}
 use Rattle.fast_check_helpers.proofs.Named.{names_out}
 use Rattle.fast_check_helpers.proofs.ReturnsMoved.{returns_moved}
 
@@ -27,28 +29,17 @@ module _ (m : Moves) (ok : Keeps m) where
   literal_moved : (t : Tree) → is_some (type_of_literal Mutable (moved m t)) ≡ is_some (type_of_literal Mutable t)
   literal_moved t = ap is_some (type_of_literal_moved m ok Mutable t) ∙ is_some_moved m (type_of_literal Mutable t)
 
-  form_moved : (t : Tree) (f' f : ℕ → Bool) (es' es : List Bool) → ((i : ℕ) → f' i ≡ f i) → names_form (moved m t) f' es' ≡ names_form t f es
-  form_moved t f' f es' es at = λ i.
-      let k = kind_of_moved m t i in
-      if k is TsAsExpr then true
-      else (if k is TsTypeAssertion then true
-      else (if k is Tpl then true
-      else (if k is ParenExpr then at at-ParenExpr-expr.place i
-      else (if k is TsSatisfiesExpr then at at-TsSatisfiesExpr-expr.place i
-      else literal_moved t i))))
-
-  abbrev Stays : Tree → Type 0
-  Stays t = names_type (moved m t) ≡ names_type t
-
-  stays : (t : Tree) → OfAll Stays (parts t) → Stays t
-  stays t h =
-      names_out (moved m t)
-      ∙ (form_moved t (λ i. names_type (part i (moved m t))) (λ i. names_type (part i t)) (map names_type (parts (moved m t))) (map names_type (parts t))
-      (λ i. ap names_type (part_moved m i t) ∙ at_part Stays (ap names_type (absent_moved m)) (parts t) h i)
-      ∙ sym (names_out t))
+  by_kind_moved : (k : Kind) (t : Tree) (inside : ℕ → Bool) → names_by_kind k (moved m t) inside ≡ names_by_kind k t inside
+  by_kind_moved kinds.TsAsExpr t inside = refl
+  by_kind_moved kinds.TsTypeAssertion t inside = refl
+  by_kind_moved kinds.Tpl t inside = refl
+  by_kind_moved kinds.ParenExpr t inside = refl
+  by_kind_moved kinds.TsSatisfiesExpr t inside = refl
+  by_kind_moved _ t inside = literal_moved t
 
   pub names_type_moved : (t : Tree) → names_type (moved m t) ≡ names_type t
-  names_type_moved = tree_ind Stays (ap names_type (absent_moved m)) (λ t n h. stays t h)
+  names_type_moved = moved_stays m names_type names_form names_out
+      (λ t inside each. ap (λ k. names_by_kind k (moved m t) inside) (kind_of_moved m t) ∙ by_kind_moved (kind_of t) t inside)
 
   arg_moved : (t : Tree) → ReturnStmt-arg (moved m t) ≡ moved m (ReturnStmt-arg t)
   arg_moved t = part_moved m _ t

@@ -1,125 +1,57 @@
--- The equations of `is_simple_type`, form by form.
-use Rattle.std.proofs.Common.{◌≡◌, ℕ, ◌+◌, ◌<◌, ◌≤◌, Bool, true, false, ◌||◌, ◌&&◌, not, List, map, length, get_or, take, refl, ap, subst, ◌∙◌, sym}
+-- The equation of `is_simple_type`, and lists of simple types.
+use Rattle.std.proofs.Common.{◌≡◌, ℕ, ◌+◌, ◌<◌, ◌≤◌, Bool, true, false, ◌&&◌, List, map, length, get_or, take, refl, ap, subst, ◌∙◌, sym}
+use Rattle.std.specs.Prelude.{Option, Some, unwrap_or}
+use Rattle.std.specs.Option.{option_map}
 use Rattle.std.proofs.lemmas.List.{take_all}
 use Rattle.std.specs.List.{list_all}
 use Rattle.fast_check_syntax.specs.declared.kind.Kind.{Kind}
-use Rattle.fast_check_syntax.specs.declared.kind.Kind.TheVariants.{Leaf, TsKeywordType, TsThisType, TsTypeLit, TsLitType, TsTplLitType, TsTypeRef}
-use Rattle.fast_check_syntax.specs.declared.kind.Kind.TheVariants.{TsTypeParamInstantiation, TsTupleType, TsTupleElement, TsArrayType, TsOptionalType}
-use Rattle.fast_check_syntax.specs.declared.kind.Kind.TheVariants.{TsRestType, TsUnionType, TsIntersectionType, TsParenthesizedType, TsTypeOperator}
 use Rattle.fast_check_syntax.specs.declared.kind.Kind.TheVariants as kinds
 use Rattle.fast_check_syntax.specs.declared.tree.Tree.{Tree}
-use Rattle.fast_check_syntax.specs.Shape.{◌is◌, differs, kind_of, part, parts, is_absent}
-use Rattle.fast_check_syntax.specs.Recursion.{by_form_is, by_form_is_absent}
-use Rattle.fast_check_type_forms.specs.TypeOperators.{TsTypeOperator-type_ann}
-use Rattle.fast_check_type_forms.specs.TypeParams.{TsTypeParamInstantiation-params}
-use Rattle.fast_check_type_forms.specs.Types.{TsLitType-lit, TsTypeRef-type_params, TsTupleType-elem_types, TsTupleElement-ty, TsArrayType-elem_type}
-use Rattle.fast_check_type_forms.specs.Types.{TsOptionalType-type_ann, TsRestType-type_ann, TsUnionType-types, TsIntersectionType-types}
-use Rattle.fast_check_type_forms.specs.Types.{TsParenthesizedType-type_ann}
+use Rattle.fast_check_syntax.specs.Shape.{kind_of, part, parts}
 use Rattle.std.proofs.lemmas.List.Folds.{list_all-map, list_all_more, list_all_at}
-use Rattle.fast_check_syntax.proofs.Leaves.{leaf_of_absent}
-use Rattle.fast_check_helpers.specs.SimpleType.{is_simple_type, simple_form}
-
-leaf_form : (t : Tree) (inside : ℕ → Bool) (each : List Bool) → kind_of t ≡ Leaf → simple_form t inside each ≡ false
-leaf_form t inside each e = rw e refl
+use Rattle.fast_check_helpers.specs.SimpleType.{is_simple_type, simple_form, simple_by_kind, types_in}
+use Rattle.fast_check_helpers.proofs.Levels.{by_form_out}
 
 pub simple_out : (t : Tree) → is_simple_type t ≡ simple_form t (λ i. is_simple_type (part i t)) (map is_simple_type (parts t))
 unfolding is_simple_type
-simple_out t = go (is_absent t) refl
-  where
-    go : (b : Bool) → is_absent t ≡ b → is_simple_type t ≡ simple_form t (λ i. is_simple_type (part i t)) (map is_simple_type (parts t))
-    go true e = by_form_is_absent false simple_form t e ∙ sym (leaf_form t (λ i. is_simple_type (part i t)) (map is_simple_type (parts t)) (leaf_of_absent t e))
-    go false e = by_form_is false simple_form t e
+simple_out = by_form_out false simple_form (λ t inside each e. ap (λ k. simple_by_kind k t inside each) e)
 
-pub simple_TsKeywordType : (t : Tree) → kind_of t ≡ TsKeywordType → is_simple_type t ≡ true
-simple_TsKeywordType t e = simple_out t ∙ rw e refl
+pub simple_at : (t : Tree) (k : Kind) → kind_of t ≡ k → is_simple_type t ≡ simple_by_kind k t (λ i. is_simple_type (part i t)) (map is_simple_type (parts t))
+simple_at t k e = simple_out t ∙ ap (λ k. simple_by_kind k t (λ i. is_simple_type (part i t)) (map is_simple_type (parts t))) e
 
-pub simple_TsThisType : (t : Tree) → kind_of t ≡ TsThisType → is_simple_type t ≡ true
-simple_TsThisType t e = simple_out t ∙ rw e refl
+pub simple_each : (t : Tree) → kind_of t ≡ kinds.List → is_simple_type t ≡ list_all is_simple_type (parts t)
+simple_each t e = simple_at t kinds.List e ∙ list_all-map (λ b. b) is_simple_type (parts t)
 
-pub simple_TsTypeLit : (t : Tree) → kind_of t ≡ TsTypeLit → is_simple_type t ≡ true
-simple_TsTypeLit t e = simple_out t ∙ rw e refl
+-- a kind that is none of those that are simple or not without a look at one field
+pub record HasTypes (k : Kind) : Type 0 where
+  pub keyword : k ≡ kinds.TsKeywordType → ⊥
+  pub this : k ≡ kinds.TsThisType → ⊥
+  pub literal : k ≡ kinds.TsTypeLit → ⊥
+  pub lit : k ≡ kinds.TsLitType → ⊥
+  pub reference : k ≡ kinds.TsTypeRef → ⊥
+  pub list : k ≡ kinds.List → ⊥
 
-pub simple_TsLitType : (t : Tree) → kind_of t ≡ TsLitType → is_simple_type t ≡ not (kind_of (TsLitType-lit t) is TsTplLitType)
-simple_TsLitType t e = simple_out t ∙ rw e refl
+by_types : (k : Kind) (t : Tree) (inside : ℕ → Bool) (each : List Bool) → HasTypes k →
+    simple_by_kind k t inside each ≡ unwrap_or (option_map inside (types_in k)) false
+by_types kinds.TsKeywordType t inside each o = absurd (o.keyword refl)
+by_types kinds.TsThisType t inside each o = absurd (o.this refl)
+by_types kinds.TsTypeLit t inside each o = absurd (o.literal refl)
+by_types kinds.TsLitType t inside each o = absurd (o.lit refl)
+by_types kinds.TsTypeRef t inside each o = absurd (o.reference refl)
+by_types kinds.List t inside each o = absurd (o.list refl)
+by_types _ t inside each o = refl
 
-pub simple_TsTypeRef : (t : Tree) → kind_of t ≡ TsTypeRef → is_simple_type t ≡ (is_absent (TsTypeRef-type_params t) || is_simple_type (TsTypeRef-type_params t))
-simple_TsTypeRef t e = simple_out t ∙ rw e refl
+-- a type is as simple as what it holds, if it holds any
+pub simple_types : (t : Tree) (k : Kind) {field : Option ℕ} → kind_of t ≡ k → HasTypes k → field ≡ types_in k →
+    is_simple_type t ≡ unwrap_or (option_map (λ i. is_simple_type (part i t)) field) false
+simple_types t k e o f =
+    simple_at t k e
+    ∙ (by_types k t (λ i. is_simple_type (part i t)) (map is_simple_type (parts t)) o
+    ∙ ap (λ field. unwrap_or (option_map (λ i. is_simple_type (part i t)) field) false) (sym f))
 
-pub simple_TsTypeParamInstantiation : (t : Tree) → kind_of t ≡ TsTypeParamInstantiation → is_simple_type t ≡ is_simple_type (TsTypeParamInstantiation-params t)
-simple_TsTypeParamInstantiation t e = simple_out t ∙ rw e refl
-
-pub simple_TsTupleType : (t : Tree) → kind_of t ≡ TsTupleType → is_simple_type t ≡ is_simple_type (TsTupleType-elem_types t)
-simple_TsTupleType t e = simple_out t ∙ rw e refl
-
-pub simple_TsTupleElement : (t : Tree) → kind_of t ≡ TsTupleElement → is_simple_type t ≡ is_simple_type (TsTupleElement-ty t)
-simple_TsTupleElement t e = simple_out t ∙ rw e refl
-
-pub simple_TsArrayType : (t : Tree) → kind_of t ≡ TsArrayType → is_simple_type t ≡ is_simple_type (TsArrayType-elem_type t)
-simple_TsArrayType t e = simple_out t ∙ rw e refl
-
-pub simple_TsOptionalType : (t : Tree) → kind_of t ≡ TsOptionalType → is_simple_type t ≡ is_simple_type (TsOptionalType-type_ann t)
-simple_TsOptionalType t e = simple_out t ∙ rw e refl
-
-pub simple_TsRestType : (t : Tree) → kind_of t ≡ TsRestType → is_simple_type t ≡ is_simple_type (TsRestType-type_ann t)
-simple_TsRestType t e = simple_out t ∙ rw e refl
-
-pub simple_TsUnionType : (t : Tree) → kind_of t ≡ TsUnionType → is_simple_type t ≡ is_simple_type (TsUnionType-types t)
-simple_TsUnionType t e = simple_out t ∙ rw e refl
-
-pub simple_TsIntersectionType : (t : Tree) → kind_of t ≡ TsIntersectionType → is_simple_type t ≡ is_simple_type (TsIntersectionType-types t)
-simple_TsIntersectionType t e = simple_out t ∙ rw e refl
-
-pub simple_TsParenthesizedType : (t : Tree) → kind_of t ≡ TsParenthesizedType → is_simple_type t ≡ is_simple_type (TsParenthesizedType-type_ann t)
-simple_TsParenthesizedType t e = simple_out t ∙ rw e refl
-
-pub simple_TsTypeOperator : (t : Tree) → kind_of t ≡ TsTypeOperator → is_simple_type t ≡ is_simple_type (TsTypeOperator-type_ann t)
-simple_TsTypeOperator t e = simple_out t ∙ rw e refl
-
-pub simple_List : (t : Tree) → kind_of t ≡ kinds.List → is_simple_type t ≡ list_all is_simple_type (parts t)
-simple_List t e = simple_out t ∙ (rw e (list_all-map (λ b. b) is_simple_type (parts t)))
-
--- a form of another kind
-pub record IsOtherKind (k : Kind) : Type 0 where
-  pub not-TsKeywordType : k ≡ TsKeywordType → ⊥
-  pub not-TsThisType : k ≡ TsThisType → ⊥
-  pub not-TsTypeLit : k ≡ TsTypeLit → ⊥
-  pub not-TsLitType : k ≡ TsLitType → ⊥
-  pub not-TsTypeRef : k ≡ TsTypeRef → ⊥
-  pub not-TsTypeParamInstantiation : k ≡ TsTypeParamInstantiation → ⊥
-  pub not-TsTupleType : k ≡ TsTupleType → ⊥
-  pub not-TsTupleElement : k ≡ TsTupleElement → ⊥
-  pub not-TsArrayType : k ≡ TsArrayType → ⊥
-  pub not-TsOptionalType : k ≡ TsOptionalType → ⊥
-  pub not-TsRestType : k ≡ TsRestType → ⊥
-  pub not-TsUnionType : k ≡ TsUnionType → ⊥
-  pub not-TsIntersectionType : k ≡ TsIntersectionType → ⊥
-  pub not-TsParenthesizedType : k ≡ TsParenthesizedType → ⊥
-  pub not-TsTypeOperator : k ≡ TsTypeOperator → ⊥
-  pub not-List : k ≡ kinds.List → ⊥
-
-other_form : (t : Tree) (inside : ℕ → Bool) (each : List Bool) → IsOtherKind (kind_of t) → simple_form t inside each ≡ false
-other_form t inside each o =
-    simp (
-      differs (kind_of t) TsKeywordType o.not-TsKeywordType,
-      differs (kind_of t) TsThisType o.not-TsThisType,
-      differs (kind_of t) TsTypeLit o.not-TsTypeLit,
-      differs (kind_of t) TsLitType o.not-TsLitType,
-      differs (kind_of t) TsTypeRef o.not-TsTypeRef,
-      differs (kind_of t) TsTypeParamInstantiation o.not-TsTypeParamInstantiation,
-      differs (kind_of t) TsTupleType o.not-TsTupleType,
-      differs (kind_of t) TsTupleElement o.not-TsTupleElement,
-      differs (kind_of t) TsArrayType o.not-TsArrayType,
-      differs (kind_of t) TsOptionalType o.not-TsOptionalType,
-      differs (kind_of t) TsRestType o.not-TsRestType,
-      differs (kind_of t) TsUnionType o.not-TsUnionType,
-      differs (kind_of t) TsIntersectionType o.not-TsIntersectionType,
-      differs (kind_of t) TsParenthesizedType o.not-TsParenthesizedType,
-      differs (kind_of t) TsTypeOperator o.not-TsTypeOperator,
-      differs (kind_of t) kinds.List o.not-List,
-    )
-
-pub simple_other : (t : Tree) → IsOtherKind (kind_of t) → is_simple_type t ≡ false
-simple_other t o = simple_out t ∙ other_form t (λ i. is_simple_type (part i t)) (map is_simple_type (parts t)) o
+-- no leaf holds any
+pub holds : (k : Kind) (i : ℕ) → Some i ≡ types_in k → k ≡ kinds.Leaf → ⊥
+holds k i e leaf = cc (e ∙ ap types_in leaf)
 
 -- the first items of a list are simple: one that is not, one more that is, and all of them
 pub one_fails : (items all : List Tree) (i : ℕ) (item : Tree) {u : Tree} {b : Bool} → items ≡ all → i < length items → item ≡ get_or items i item → u ≡ item →

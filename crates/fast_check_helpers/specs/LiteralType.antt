@@ -1,10 +1,11 @@
 -- The type that a literal shows by itself.
-use Rattle.std.specs.Prelude.{Option, Some, None, if◌then◌else◌}
-use Rattle.fast_check_syntax.specs.declared.kind.Kind.TheVariants.{Str, Bool, Number, BigInt, Null, Regex}
+use Rattle.std.specs.Prelude.{Option, Some, None}
+use Rattle.fast_check_syntax.specs.declared.kind.Kind.{Kind}
+use Rattle.fast_check_syntax.specs.declared.kind.Kind.TheVariants as kinds
 use Rattle.fast_check_syntax.specs.declared.kind.Word.{Word}
 use Rattle.fast_check_syntax.specs.declared.kind.Word.TheVariants.{TsStringKeyword, TsBooleanKeyword, TsNumberKeyword, TsBigIntKeyword, TsNullKeyword}
 use Rattle.fast_check_syntax.specs.declared.tree.Tree.{Tree}
-use Rattle.fast_check_syntax.specs.Shape.{◌is◌, kind_of}
+use Rattle.fast_check_syntax.specs.Shape.{kind_of}
 use Rattle.fast_check_helpers.specs.declared.literal_type.DeclMutabilityKind.{DeclMutabilityKind}
 use Rattle.fast_check_helpers.specs.declared.literal_type.DeclMutabilityKind.TheVariants.{Const, Mutable}
 use Rattle.fast_check_helpers.specs.Builders.{ts_keyword_type, ts_lit_type, regex_type}
@@ -15,12 +16,14 @@ literal_or_keyword Const keyword literal = ts_lit_type literal
 literal_or_keyword Mutable keyword literal = ts_keyword_type keyword
 
 -- a JSX text shows no type, nor does what is no literal
+abbrev pub literal_by_kind : Kind → DeclMutabilityKind → Tree → Option Tree
+literal_by_kind kinds.Str mutability literal = Some (literal_or_keyword mutability TsStringKeyword literal)
+literal_by_kind kinds.Bool mutability literal = Some (literal_or_keyword mutability TsBooleanKeyword literal)
+literal_by_kind kinds.Number mutability literal = Some (literal_or_keyword mutability TsNumberKeyword literal)
+literal_by_kind kinds.BigInt mutability literal = Some (literal_or_keyword mutability TsBigIntKeyword literal)
+literal_by_kind kinds.Null mutability literal = Some (ts_keyword_type TsNullKeyword)
+literal_by_kind kinds.Regex mutability literal = Some regex_type
+literal_by_kind _ mutability literal = None
+
 abbrev pub type_of_literal : DeclMutabilityKind → Tree → Option Tree
-type_of_literal mutability literal =
-    if kind_of literal is Str then Some (literal_or_keyword mutability TsStringKeyword literal)
-    else (if kind_of literal is Bool then Some (literal_or_keyword mutability TsBooleanKeyword literal)
-    else (if kind_of literal is Number then Some (literal_or_keyword mutability TsNumberKeyword literal)
-    else (if kind_of literal is BigInt then Some (literal_or_keyword mutability TsBigIntKeyword literal)
-    else (if kind_of literal is Null then Some (ts_keyword_type TsNullKeyword)
-    else (if kind_of literal is Regex then Some regex_type
-    else None)))))
+type_of_literal mutability literal = literal_by_kind (kind_of literal) mutability literal

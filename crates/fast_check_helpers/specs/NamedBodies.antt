@@ -1,15 +1,17 @@
 -- Bodies that name their return type: the last statement returns a value that shows its type, and no other statement returns.
-use Rattle.std.specs.Prelude.{ℕ, Bool, true, false, is_some, Option, Some, None, List, [], ◌∷◌, if◌then◌else◌}
-use Rattle.fast_check_syntax.specs.declared.kind.Kind.TheVariants.{ReturnStmt, TsAsExpr, TsTypeAssertion, Tpl, ParenExpr, TsSatisfiesExpr}
+use Rattle.std.specs.Prelude.{ℕ, Bool, true, false, is_some, Option, Some, None, List, [], ◌∷◌, if◌then◌else◌, unwrap_or}
+use Rattle.std.specs.Option.{option_map}
+use Rattle.fast_check_syntax.specs.declared.kind.Kind.{Kind}
+use Rattle.fast_check_syntax.specs.declared.kind.Kind.TheVariants.{ReturnStmt}
+use Rattle.fast_check_syntax.specs.declared.kind.Kind.TheVariants as kinds
 use Rattle.fast_check_syntax.specs.declared.source.SyntaxContext.{SyntaxContext}
 use Rattle.fast_check_syntax.specs.declared.tree.Tree.{Tree}
 use Rattle.fast_check_syntax.specs.Shape.{◌is◌, kind_of, parts, is_absent}
 use Rattle.fast_check_syntax.specs.Recursion.{by_form}
 use Rattle.fast_check_statement_forms.specs.Statements.{ReturnStmt-arg, BlockStmt-stmts}
 use Rattle.fast_check_helpers.specs.declared.literal_type.DeclMutabilityKind.TheVariants.{Mutable}
-use Rattle.fast_check_helpers.specs.InferredType.{inferred_type}
+use Rattle.fast_check_helpers.specs.InferredType.{inferred_type, value_in}
 use Rattle.fast_check_helpers.specs.LiteralType.{type_of_literal}
-use Rattle.fast_check_helpers.specs.Places.{at-ParenExpr-expr, at-TsSatisfiesExpr-expr}
 use Rattle.fast_check_helpers.specs.ReturnClass.{returns}
 
 -- the argument of a return statement that has one
@@ -35,17 +37,16 @@ arg_of_last (stmt ∷ next ∷ rest) = if returns_nowhere stmt then arg_of_last 
 abbrev pub single_return_arg : Tree → Option Tree
 single_return_arg body = arg_of_last (parts (BlockStmt-stmts body))
 
--- A literal that shows its type, a template without a tag, `value as type` or `<type>value`; in parentheses and before `satisfies` too, where `inside` has
--- the answer of the part at a place. The call that makes a symbol is none of these.
+-- A literal that shows its type, a template without a tag, `value as type` or `<type>value`; in parentheses and before
+-- `satisfies` too, where `inside` has the answer of the part at a place. The call that makes a symbol is none of these.
+abbrev pub names_by_kind : Kind → Tree → (ℕ → Bool) → Bool
+names_by_kind kinds.TsAsExpr value inside = true
+names_by_kind kinds.TsTypeAssertion value inside = true
+names_by_kind kinds.Tpl value inside = true
+names_by_kind kind value inside = unwrap_or (option_map inside (value_in kind)) (is_some (type_of_literal Mutable value))
+
 abbrev pub names_form : Tree → (ℕ → Bool) → List Bool → Bool
-names_form value inside each =
-    let kind = kind_of value in
-    if kind is TsAsExpr then true
-    else (if kind is TsTypeAssertion then true
-    else (if kind is Tpl then true
-    else (if kind is ParenExpr then inside at-ParenExpr-expr.place
-    else (if kind is TsSatisfiesExpr then inside at-TsSatisfiesExpr-expr.place
-    else is_some (type_of_literal Mutable value)))))
+names_form value inside each = names_by_kind (kind_of value) value inside
 
 unfoldable pub names_type : Tree → Bool
 names_type = by_form false names_form

@@ -5,16 +5,15 @@ ghost use Rattle.fast_check_syntax.specs.Part.{seen};
 ghost use Rattle.fast_check_helpers.specs.LiteralType.{type_of_literal};
 ghost use Rattle.fast_check_helpers.specs.declared.literal_type.DeclMutabilityKind.TheVariants.{Mutable};
 ghost use Rattle.fast_check_helpers.specs.SimpleType.{is_simple_type};
-ghost use Rattle.fast_check_helpers.specs.InferredType.{inferred_type, shows_type, asserted_type, symbol_type, Asserts};
+ghost use Rattle.fast_check_helpers.specs.InferredType.{inferred_type, value_in, shows_type, asserted_type, symbol_type, Asserts};
 
 use crate::builders::unique_symbol;
+use crate::fields::SECOND;
 use crate::global_calls::is_symbol_call;
 use crate::literal_type::{DeclMutabilityKind, maybe_lit_to_ts_type};
 use crate::simple_type::is_simple_type;
 use crate::template_type::tpl_to_ts_type;
-use fast_check_expression_forms::{
-    CallExpr, ParenExpr, TsAsExpr, TsSatisfiesExpr, TsTypeAssertion,
-};
+use fast_check_expression_forms::{CallExpr, TsAsExpr, TsTypeAssertion};
 use fast_check_syntax::{Kind, Part, SyntaxContext, Tree};
 use std::alloc::{AllocError, Global};
 
@@ -44,6 +43,16 @@ fn symbol_type(
     }
 }
 
+/// The field with the value in parentheses, or before `satisfies`; none of another kind.
+pub(crate) fn value_in(kind: Kind) -> Option<usize>
+    ensures { result ≡ value_in kind }
+{
+    match kind {
+        Kind::ParenExpr | Kind::TsSatisfiesExpr => Some(SECOND),
+        _ => None,
+    }
+}
+
 /// The type that a value shows by itself, with no checking of types; `None` where it shows none. `unresolved` is the
 /// scope number of the names that nothing in the module binds. An assertion to a simple type shows that type itself.
 pub fn maybe_infer_type(
@@ -55,23 +64,18 @@ pub fn maybe_infer_type(
     ensures inferred { IfOk result (λ found. found ≡ inferred_type mutability unresolved (seen value.entry)) }
     ensures asserted { (type : Tree) → Asserts type (seen value.entry) → IsTrue (is_simple_type type) → IfOk result (λ found. found ≡ Some type) }
 {
-    match value.kind() {
+    let kind = value.kind();
+    match kind {
         Kind::TsAsExpr => asserted_type(alloc, TsAsExpr::of(value).type_ann),
         Kind::TsTypeAssertion => asserted_type(alloc, TsTypeAssertion::of(value).type_ann),
         Kind::CallExpr => symbol_type(alloc, &CallExpr::of(value), unresolved),
         Kind::Tpl => Ok(Some(tpl_to_ts_type(alloc, value, mutability)?)),
-        Kind::ParenExpr => {
-            maybe_infer_type(alloc, ParenExpr::of(value).expr, mutability, unresolved)
+        _ => {
+            match value_in(kind) {
+                Some(place) => maybe_infer_type(alloc, value.part(place), mutability, unresolved),
+                None => maybe_lit_to_ts_type(alloc, value, mutability),
+            }
         }
-        Kind::TsSatisfiesExpr => {
-            maybe_infer_type(
-                alloc,
-                TsSatisfiesExpr::of(value).expr,
-                mutability,
-                unresolved,
-            )
-        }
-        _ => maybe_lit_to_ts_type(alloc, value, mutability),
     }
 }
 
@@ -94,13 +98,17 @@ pub(crate) fn is_typed_literal(lit: Part<'_>) -> bool
 pub fn shows_type(value: Part<'_>, unresolved: SyntaxContext) -> bool
     ensures { result ≡ shows_type unresolved (seen value.entry) }
 {
-    match value.kind() {
+    let kind = value.kind();
+    match kind {
         Kind::TsAsExpr => is_simple_type(TsAsExpr::of(value).type_ann),
         Kind::TsTypeAssertion => is_simple_type(TsTypeAssertion::of(value).type_ann),
         Kind::CallExpr => is_symbol_call(&CallExpr::of(value), unresolved),
         Kind::Tpl => true,
-        Kind::ParenExpr => shows_type(ParenExpr::of(value).expr, unresolved),
-        Kind::TsSatisfiesExpr => shows_type(TsSatisfiesExpr::of(value).expr, unresolved),
-        _ => is_typed_literal(value),
+        _ => {
+            match value_in(kind) {
+                Some(place) => shows_type(value.part(place), unresolved),
+                None => is_typed_literal(value),
+            }
+        }
     }
 }

@@ -2,6 +2,7 @@
 #![tactic(auto)]
 
 mod builders;
+mod fields;
 mod global_calls;
 mod infer_type;
 mod keywords;

@@ -3,10 +3,9 @@ ghost use Rattle.std.specs.Option.{option_map};
 ghost use Rattle.fast_check_syntax.specs.Part.{seen};
 ghost use Rattle.fast_check_helpers.specs.NamedBodies as named;
 
-use crate::infer_type::{is_typed_literal, maybe_infer_type};
+use crate::infer_type::{is_typed_literal, maybe_infer_type, value_in};
 use crate::literal_type::DeclMutabilityKind;
 use crate::return_class::{ReturnStatementAnalysis, analyze_return_stmts};
-use fast_check_expression_forms::{ParenExpr, TsSatisfiesExpr};
 use fast_check_statement_forms::{BlockStmt, ReturnStmt};
 use fast_check_syntax::{Kind, Part, SyntaxContext, Tree};
 use std::alloc::{AllocError, Global};
@@ -54,13 +53,17 @@ pub fn single_return_arg<'a>(body: Part<'a>) -> Option<Part<'a>>
 fn names_type(value: Part<'_>) -> bool
     ensures { result ≡ named.names_type (seen value.entry) }
 {
-    match value.kind() {
+    let kind = value.kind();
+    match kind {
         Kind::TsAsExpr => true,
         Kind::TsTypeAssertion => true,
         Kind::Tpl => true,
-        Kind::ParenExpr => names_type(ParenExpr::of(value).expr),
-        Kind::TsSatisfiesExpr => names_type(TsSatisfiesExpr::of(value).expr),
-        _ => is_typed_literal(value),
+        _ => {
+            match value_in(kind) {
+                Some(place) => names_type(value.part(place)),
+                None => is_typed_literal(value),
+            }
+        }
     }
 }
 

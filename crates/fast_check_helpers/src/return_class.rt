@@ -1,14 +1,12 @@
 //! How a body returns: not at all, with nothing, once, or more than once with a value.
 ghost use Rattle.std.specs.Prelude.{◌≡◌, fold, flat_map};
 ghost use Rattle.fast_check_syntax.specs.Part.{seen};
-ghost use Rattle.fast_check_syntax.specs.Shape.{parts};
-ghost use Rattle.fast_check_helpers.specs.ReturnClass.{returns, return_class};
+ghost use Rattle.fast_check_syntax.specs.Shape.{kind_of, part, parts};
+ghost use Rattle.fast_check_helpers.specs.ReturnClass.{entered, returns, return_class};
 ghost use Rattle.fast_check_helpers.specs.ReturnStep.{after_return};
 
-use fast_check_statement_forms::{
-    BlockStmt, CatchClause, DoWhileStmt, ForInStmt, ForOfStmt, ForStmt, IfStmt, LabeledStmt,
-    ReturnStmt, SwitchCase, SwitchStmt, TryStmt, WhileStmt, WithStmt,
-};
+use crate::fields::{FIFTH, FOURTH, SECOND, THIRD};
+use fast_check_statement_forms::{BlockStmt, ReturnStmt};
 use fast_check_syntax::{Kind, Part};
 
 /// How the body of a function returns.
@@ -42,6 +40,22 @@ fn after_return(analysis: ReturnStatementAnalysis, has_argument: bool) -> Return
     }
 }
 
+/// The fields of a statement in which further statements stand, in text order.
+fn entered(kind: Kind) -> &'static [usize]
+    ensures { result.now ≡ entered kind }
+{
+    match kind {
+        Kind::TryStmt => &[SECOND, THIRD, FOURTH],
+        Kind::IfStmt => &[THIRD, FOURTH],
+        Kind::BlockStmt | Kind::WithStmt | Kind::LabeledStmt | Kind::CatchClause => &[THIRD],
+        Kind::SwitchStmt | Kind::SwitchCase => &[THIRD],
+        Kind::WhileStmt | Kind::DoWhileStmt => &[THIRD],
+        Kind::ForInStmt => &[FOURTH],
+        Kind::ForStmt | Kind::ForOfStmt => &[FIFTH],
+        _ => &[],
+    }
+}
+
 /// The class after the return statements reached from a statement.
 #[cycle(returns)]
 pub(crate) fn analyze_return_stmts(
@@ -52,31 +66,22 @@ pub(crate) fn analyze_return_stmts(
 {
     match stmt.kind() {
         Kind::ReturnStmt => after_return(analysis, !ReturnStmt::of(stmt).arg.is_absent()),
-        Kind::BlockStmt => analyze_return_stmts(BlockStmt::of(stmt).stmts, analysis),
-        Kind::WithStmt => analyze_return_stmts(WithStmt::of(stmt).body, analysis),
-        Kind::LabeledStmt => analyze_return_stmts(LabeledStmt::of(stmt).body, analysis),
-        Kind::IfStmt => {
-            let branches = IfStmt::of(stmt);
-            let analysis = analyze_return_stmts(branches.cons, analysis);
-            analyze_return_stmts(branches.alt, analysis)
-        }
-        Kind::SwitchStmt => analyze_return_stmts(SwitchStmt::of(stmt).cases, analysis),
-        Kind::SwitchCase => analyze_return_stmts(SwitchCase::of(stmt).cons, analysis),
-        Kind::TryStmt => {
-            let parts = TryStmt::of(stmt);
-            let analysis = analyze_return_stmts(parts.block, analysis);
-            let analysis = analyze_return_stmts(parts.handler, analysis);
-            analyze_return_stmts(parts.finalizer, analysis)
-        }
-        Kind::CatchClause => analyze_return_stmts(CatchClause::of(stmt).body, analysis),
-        Kind::WhileStmt => analyze_return_stmts(WhileStmt::of(stmt).body, analysis),
-        Kind::DoWhileStmt => analyze_return_stmts(DoWhileStmt::of(stmt).body, analysis),
-        Kind::ForStmt => analyze_return_stmts(ForStmt::of(stmt).body, analysis),
-        Kind::ForInStmt => analyze_return_stmts(ForInStmt::of(stmt).body, analysis),
-        Kind::ForOfStmt => analyze_return_stmts(ForOfStmt::of(stmt).body, analysis),
         Kind::List => analyze_each(stmt, analysis),
-        _ => analysis,
+        _ => analyze_fields(stmt, analysis),
     }
+}
+
+/// The class after the return statements reached from the fields of a statement that are entered.
+#[cycle(returns)]
+fn analyze_fields(stmt: Part<'_>, analysis: ReturnStatementAnalysis) -> ReturnStatementAnalysis
+    ensures { result ≡ fold after_return analysis
+        (flat_map (λ place. returns (part place (seen stmt.entry))) (entered (kind_of (seen stmt.entry)))) }
+{
+    let mut analysis = analysis;
+    for place in entered(stmt.kind()) {
+        analysis = analyze_return_stmts(stmt.part(*place), analysis);
+    }
+    analysis
 }
 
 /// The class after the return statements reached from each of a list of statements.

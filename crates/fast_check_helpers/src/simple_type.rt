@@ -3,13 +3,25 @@ ghost use Rattle.std.specs.Prelude.{◌≡◌};
 ghost use Rattle.std.specs.List.{list_all};
 ghost use Rattle.fast_check_syntax.specs.Part.{seen};
 ghost use Rattle.fast_check_syntax.specs.Shape.{parts};
-ghost use Rattle.fast_check_helpers.specs.SimpleType.{is_simple_type};
+ghost use Rattle.fast_check_helpers.specs.SimpleType.{is_simple_type, types_in};
 
+use crate::fields::{SECOND, THIRD};
 use fast_check_syntax::{Kind, Part};
-use fast_check_type_forms::{
-    TsArrayType, TsIntersectionType, TsLitType, TsOptionalType, TsParenthesizedType, TsRestType,
-    TsTupleElement, TsTupleType, TsTypeOperator, TsTypeParamInstantiation, TsTypeRef, TsUnionType,
-};
+use fast_check_type_forms::{TsLitType, TsTypeRef};
+
+/// The field with the type, or the list of types, that a type holds; none of another kind.
+fn types_in(kind: Kind) -> Option<usize>
+    ensures { result ≡ types_in kind }
+{
+    match kind {
+        Kind::TsArrayType | Kind::TsTupleType | Kind::TsUnionType => Some(SECOND),
+        Kind::TsIntersectionType | Kind::TsParenthesizedType => Some(SECOND),
+        Kind::TsOptionalType | Kind::TsRestType => Some(SECOND),
+        Kind::TsTypeParamInstantiation => Some(SECOND),
+        Kind::TsTupleElement | Kind::TsTypeOperator => Some(THIRD),
+        _ => None,
+    }
+}
 
 /// Whether an assertion to a type shows that type as it is written: a keyword, `this`, a type literal, a literal but a
 /// template, and references to types, tuples, arrays, optional, rest, union, intersection and parenthesised types and
@@ -18,7 +30,8 @@ use fast_check_type_forms::{
 pub fn is_simple_type(ty: Part<'_>) -> bool
     ensures { result ≡ is_simple_type (seen ty.entry) }
 {
-    match ty.kind() {
+    let kind = ty.kind();
+    match kind {
         Kind::TsKeywordType => true,
         Kind::TsThisType => true,
         Kind::TsTypeLit => true,
@@ -27,18 +40,13 @@ pub fn is_simple_type(ty: Part<'_>) -> bool
             let type_params = TsTypeRef::of(ty).type_params;
             type_params.is_absent() || is_simple_type(type_params)
         }
-        Kind::TsTypeParamInstantiation => is_simple_type(TsTypeParamInstantiation::of(ty).params),
-        Kind::TsTupleType => is_simple_type(TsTupleType::of(ty).elem_types),
-        Kind::TsTupleElement => is_simple_type(TsTupleElement::of(ty).ty),
-        Kind::TsArrayType => is_simple_type(TsArrayType::of(ty).elem_type),
-        Kind::TsOptionalType => is_simple_type(TsOptionalType::of(ty).type_ann),
-        Kind::TsRestType => is_simple_type(TsRestType::of(ty).type_ann),
-        Kind::TsUnionType => is_simple_type(TsUnionType::of(ty).types),
-        Kind::TsIntersectionType => is_simple_type(TsIntersectionType::of(ty).types),
-        Kind::TsParenthesizedType => is_simple_type(TsParenthesizedType::of(ty).type_ann),
-        Kind::TsTypeOperator => is_simple_type(TsTypeOperator::of(ty).type_ann),
         Kind::List => are_simple_types(ty),
-        _ => false,
+        _ => {
+            match types_in(kind) {
+                Some(place) => is_simple_type(ty.part(place)),
+                None => false,
+            }
+        }
     }
 }
 

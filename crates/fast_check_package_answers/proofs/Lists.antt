@@ -1,5 +1,8 @@
 -- The first list that has anything, and lists that go together.
-use Rattle.std.specs.Prelude.{◌≡◌, ◌≢◌, List, [], ◌∷◌, ◌++◌, refl}
+use Rattle.std.specs.Prelude.{◌≡◌, ◌≢◌, ℕ, ◌==◌, Bool, true, false, List, [], ◌∷◌, ◌++◌, take, length, refl}
+use Rattle.std.proofs.Common.{◌∙◌, sym, ap, eq-eqb, eqb-true}
+use Rattle.std.proofs.lemmas.List.{append-nil, nil_from_length}
+use Rattle.std.proofs.Math.Seq.{take-append_seam}
 use Rattle.std.specs.List.{AllZip, AllByRecursion}
 use Rattle.fast_check_package_answers.specs.Reasons.{Reason, first_list}
 
@@ -46,3 +49,24 @@ all_front P (x ∷ xs) ys h = (h.0, all_front P xs ys h.1)
 pub all_back : {A : Type 0} (P : A → Type 0) (xs ys : List A) → AllByRecursion P (xs ++ ys) → AllByRecursion P ys
 all_back P [] ys h = h
 all_back P (x ∷ xs) ys h = all_back P xs ys h.1
+
+-- what was there stays where one more is pushed, or none
+pub stays_pushed : {A : Type 0} (old new : List A) (x : A) → new ≡ old ++ x ∷ [] → take (length old) new ≡ old
+stays_pushed old new x e = ap (take (length old)) e ∙ take-append_seam old (x ∷ [])
+
+pub stays_same : {A : Type 0} (old : List A) → take (length old) old ≡ old
+stays_same old = ap (take (length old)) (sym (append-nil old)) ∙ take-append_seam old []
+
+-- whether a list is empty
+pub empty_test : {A : Type 0} (xs : List A) → xs ≡ [] → (length xs == 0) ≡ true
+empty_test xs e = eq-eqb (length xs) 0 (ap {B = ℕ} length e)
+
+pub test_empty : {A : Type 0} (xs : List A) → (length xs == 0) ≡ true → xs ≡ []
+test_empty xs e = nil_from_length xs (eqb-true (length xs) 0 e)
+
+test_full : {A : Type 0} (xs : List A) (b : Bool) → (length xs == 0) ≡ b → xs ≢ [] → (length xs == 0) ≡ false
+test_full xs true e some = absurd (some (test_empty xs e))
+test_full xs false e some = e
+
+pub full_test : {A : Type 0} (xs : List A) → xs ≢ [] → (length xs == 0) ≡ false
+full_test xs some = test_full xs (length xs == 0) refl some

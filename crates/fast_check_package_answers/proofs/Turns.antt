@@ -1,5 +1,5 @@
 -- One module more of a package.
-use Rattle.std.specs.Prelude.{◌≡◌, ◌≢◌, ℕ, ◌==◌, Bool, true, false, not, ◌&&◌, List, [], ◌∷◌, ◌++◌, length, map, Option, Some, refl}
+use Rattle.std.specs.Prelude.{◌≡◌, ◌≢◌, ℕ, ◌==◌, Bool, true, false, not, ◌&&◌, List, [], ◌∷◌, ◌++◌, length, take, map, Option, Some, refl}
 use Rattle.std.specs.Prelude.{Result, Ok, Err, IfOk, IfErr, Vec, vec_len}
 use Rattle.std.specs.List.{AllZip, AllByRecursion, flat_map}
 use Rattle.std.specs.declared.alloc.Global.{Global}
@@ -25,11 +25,12 @@ use Rattle.fast_check_cache.specs.declared.package_ranges.PackagePublicRanges.{P
 use Rattle.fast_check_module_transform.specs.Transform.{skeleton, sources, comments}
 use Rattle.fast_check_transform_faults.specs.Diagnostics.{AreDiagnosticsOf, told}
 use Rattle.fast_check_package_answers.specs.Reasons.{PublicModule, Reason, met, found, Tells, found_or, reasons_in_tree, first_list, module_reasons}
-use Rattle.fast_check_package_answers.specs.Reasons.{package_reasons}
+use Rattle.fast_check_package_answers.specs.Reasons.{package_reasons, sound_front}
 use Rattle.fast_check_package_answers.specs.PackageAnswer.{Answer, TreeModule, IsShown, ShowsMore, with_tree, tree_modules}
-use Rattle.fast_check_package_answers.specs.PackageAnswer.{IsSkeletonOf, IsPackageAnswer, OwnsPublic, OwnsModule, OwnsAll}
-use Rattle.fast_check_package_answers.proofs.Lists.{first_last, first_front, both_append, left_empty, right_empty, front_empty, back_empty}
+use Rattle.fast_check_package_answers.specs.PackageAnswer.{IsSkeletonOf, IsRefused, IsFoundAnswer, IsUsedAnswer, IsPackageAnswer, OwnsPublic, OwnsModule, OwnsAll}
+use Rattle.fast_check_package_answers.proofs.Lists.{first_last, first_front, both_append, left_empty, right_empty}
 use Rattle.fast_check_package_answers.proofs.Lists.{all_front, all_back}
+use Rattle.fast_check_package_answers.proofs.Soundness.{front_all, front_more, front_last, front_stop}
 
 abbrev Diagnostics : Type 0
 Diagnostics = Vec FastCheckDiagnostic Global
@@ -42,13 +43,21 @@ Made = Result FastCheckModule Diagnostics
 
 -- ---- vectors that are empty, or not
 
-pub empty_vec : (v : Diagnostics) (b : Bool) → b ≡ (vec_len v == 0) → b ≡ true → v.items ≡ []
+pub empty_vec : {X : Type 0} (v : Vec X Global) (b : Bool) → b ≡ (vec_len v == 0) → b ≡ true → v.items ≡ []
 empty_vec v b is e = nil_from_length v.items (sym v.ok.0 ∙ eqb-true (vec_len v) 0 (sym is ∙ e))
 
-pub full_vec : (v : Diagnostics) (b : Bool) → b ≡ (vec_len v == 0) → b ≡ false → v.items ≡ [] → ⊥
+pub full_vec : {X : Type 0} (v : Vec X Global) (b : Bool) → b ≡ (vec_len v == 0) → b ≡ false → v.items ≡ [] → ⊥
 full_vec v b is e none =
     let zero : vec_len v ≡ 0 = v.ok.0 ∙ ap {B = ℕ} length none in
     false≢true (sym e ∙ (is ∙ eq-eqb (vec_len v) 0 zero))
+
+pub empty_slice : {X : Type 0} (xs : List X) (b : Bool) → b ≡ (length xs == 0) → b ≡ true → xs ≡ []
+empty_slice xs b is e = nil_from_length xs (eqb-true (length xs) 0 (sym is ∙ e))
+
+pub full_slice : {X : Type 0} (xs : List X) (b : Bool) → b ≡ (length xs == 0) → b ≡ false → xs ≡ [] → ⊥
+full_slice xs b is e none =
+    let zero : length xs ≡ 0 = ap {B = ℕ} length none in
+    false≢true (sym e ∙ (is ∙ eq-eqb (length xs) 0 zero))
 
 not_true : (x : Bool) → not x ≡ true → x ≡ true → ⊥
 not_true true p q = cc
@@ -233,26 +242,91 @@ shows_more graph root ms m first middle last h k modules shown =
     let joined = append_assoc modules t more ∙ sym (ap (λ ts. modules ++ ts) (trees_more root ms m)) in
     subst (λ ts. AllZip (IsShown graph) ts last) joined (k (modules ++ t) (h modules shown))
 
--- where nothing is wrong with one module more, its answer is kept
-pub shows_turn : (graph : ModuleGraph) (root : RootSymbol) (ms : List PublicModule) (m : PublicModule) (first before after kept : List Answer)
-    (old more new : List FastCheckDiagnostic) → new ≡ old ++ more → (new ≡ [] → kept ≡ after) →
-    (old ≡ [] → ShowsMore graph (tree_modules root ms) first before) →
-    (more ≡ [] → ShowsMore graph (with_tree m (found_module root m.0)) before after) → new ≡ [] →
-    ShowsMore graph (tree_modules root (ms ++ m ∷ [])) first kept
-shows_turn graph root ms m first before after kept old more new is same h k none =
-    let both = sym is ∙ none in
-    let last = shows_more graph root ms m first before after (h (front_empty old more both)) (k (back_empty old more both)) in
-    λ modules shown. subst (AllZip (IsShown graph) _) (sym (same none)) (last modules shown)
+full_list : {A : Type 0} (x : A) (xs : List A) → x ∷ xs ≡ [] → ⊥
+full_list x xs e = cc
+
+-- where something is wrong, the answers that were there stay
+shows_cut : (graph : ModuleGraph) (root : RootSymbol) (front front_after : List PublicModule) (begin before after kept : List Answer) (answered : ℕ) →
+    front_after ≡ front → kept ≡ take answered after → answered ≡ length before → take (length before) after ≡ before →
+    ShowsMore graph (tree_modules root front) begin before → ShowsMore graph (tree_modules root front_after) begin kept
+shows_cut graph root front front_after begin before after kept answered same cut at stay shown =
+    let is : kept ≡ before = cut ∙ (ap (λ n. take n after) at ∙ stay) in
+    subst (λ (answers : List Answer). ShowsMore graph (tree_modules root front_after) begin answers) (sym is)
+    (subst (λ xs. ShowsMore graph (tree_modules root xs) begin before) (sym same) shown)
+
+-- where nothing was answered before, the answers show just the modules
+pub all_shown : (graph : ModuleGraph) (modules : List TreeModule) (begin answers : List Answer) → begin ≡ [] → ShowsMore graph modules begin answers →
+    AllZip (IsShown graph) modules answers
+all_shown graph modules begin answers start shows = shows [] (subst (AllZip (IsShown graph) []) (sym start) tt)
+
+-- the modules before the first with something wrong, after one module more
+pub shows_turn : (first : Bool) (graph : ModuleGraph) (root : RootSymbol) (ms : List PublicModule) (m : PublicModule)
+    (begin before after kept : List Answer) (answered : ℕ) (old more new : List FastCheckDiagnostic) →
+    AllZip Tells (package_reasons first graph root ms) old → AllZip Tells (module_reasons first graph root m) more → new ≡ old ++ more →
+    (new ≡ [] → kept ≡ after) → (new ≢ [] → kept ≡ take answered after) → answered ≡ length before → take (length before) after ≡ before →
+    ShowsMore graph (tree_modules root (sound_front first graph root ms)) begin before →
+    (more ≡ [] → ShowsMore graph (with_tree m (found_module root m.0)) before after) →
+    ShowsMore graph (tree_modules root (sound_front first graph root (ms ++ m ∷ []))) begin kept
+shows_turn first graph root ms m begin before after kept answered [] [] new h k is same cut at stay shown one =
+    let none = left_empty Tells _ [] h refl in
+    let front = front_more first graph root ms m none (left_empty Tells _ [] k refl) in
+    let all = shows_more graph root ms m begin before after
+    (subst (λ xs. ShowsMore graph (tree_modules root xs) begin before) (front_all first graph root ms none) shown) (one refl) in
+    subst (λ (answers : List Answer). ShowsMore graph (tree_modules root (sound_front first graph root (ms ++ m ∷ []))) begin answers) (sym (same is))
+    (subst (λ xs. ShowsMore graph (tree_modules root xs) begin after) (sym front) all)
+shows_turn first graph root ms m begin before after kept answered [] (d ∷ ds) new h k is same cut at stay shown one =
+    let none = left_empty Tells _ [] h refl in
+    let some : module_reasons first graph root m ≢ [] = λ e. full_list d ds (right_empty Tells _ (d ∷ ds) k e) in
+    let front = front_last first graph root ms m none some ∙ sym (front_all first graph root ms none) in
+    shows_cut graph root _ _ begin before after kept answered front (cut (λ e. full_list d ds (sym is ∙ e))) at stay shown
+shows_turn first graph root ms m begin before after kept answered (o ∷ os) more new h k is same cut at stay shown one =
+    let some : package_reasons first graph root ms ≢ [] = λ e. full_list o os (right_empty Tells _ (o ∷ os) h e) in
+    shows_cut graph root _ _ begin before after kept answered (front_stop first graph root ms (m ∷ []) some)
+    (cut (λ e. full_list o (os ++ more) (sym is ∙ e))) at stay shown
+
+-- once something is wrong, the modules that follow play no part
+pub shows_all : (first : Bool) (graph : ModuleGraph) (root : RootSymbol) (ms more all : List PublicModule) (begin kept : List Answer)
+    (wrong : List FastCheckDiagnostic) → wrong ≢ [] → ms ++ more ≡ all → AllZip Tells (package_reasons first graph root ms) wrong →
+    ShowsMore graph (tree_modules root (sound_front first graph root ms)) begin kept →
+    ShowsMore graph (tree_modules root (sound_front first graph root all)) begin kept
+shows_all first graph root ms more all begin kept wrong some e h shown =
+    let stop = front_stop first graph root ms more (λ n. some (right_empty Tells _ wrong h n)) in
+    subst (λ xs. ShowsMore graph (tree_modules root xs) begin kept) (sym stop ∙ ap (sound_front first graph root) e) shown
 
 -- ---- a package
 
-pub package_shown : (graph : ModuleGraph) (root : RootSymbol) (ranges : PackagePublicRanges) (first : Bool) (before after : List Answer)
-    (wrong : List FastCheckDiagnostic) → before ≡ [] → wrong ≡ [] →
+pub package_found : (graph : ModuleGraph) (root : RootSymbol) (ranges : PackagePublicRanges) (first : Bool) (begin skeletons answers : List Answer)
+    (wrong told_of : List FastCheckDiagnostic) → begin ≡ [] → told_of ≡ wrong →
     AllZip Tells (package_reasons first graph root ranges.module_ranges.entries) wrong →
-    (wrong ≡ [] → ShowsMore graph (tree_modules root ranges.module_ranges.entries) before after) → IsPackageAnswer graph root ranges first after
-package_shown graph root ranges first before after wrong begin none tells shows = record {
-  shown = λ e. shows none [] (subst (AllZip (IsShown graph) []) (sym begin) tt);
-  refused = λ some. absurd (some (left_empty Tells _ wrong tells none));
+    ShowsMore graph (tree_modules root (sound_front first graph root ranges.module_ranges.entries)) begin skeletons →
+    (told_of ≡ [] → answers ≡ skeletons) → (told_of ≢ [] → AllZip (IsRefused told_of) ranges.entrypoints.keys answers) →
+    IsFoundAnswer graph root ranges first answers
+package_found graph root ranges first begin skeletons answers wrong told_of start is tells shows same refused =
+    let ms = ranges.module_ranges.entries in record {
+      shown = λ e. subst (AllZip (IsShown graph) (tree_modules root ms)) (sym (same (is ∙ right_empty Tells _ wrong tells e)))
+          (subst (λ xs. AllZip (IsShown graph) (tree_modules root xs) skeletons) (front_all first graph root ms e)
+          (all_shown graph _ begin skeletons start shows));
+      refused = λ some. record {
+        list = told_of;
+        tells = subst (AllZip Tells (package_reasons first graph root ms)) (sym is) tells;
+        each = refused (λ e. some (left_empty Tells _ wrong tells (sym is ∙ e)));
+      };
+    }
+
+-- a package is answered by what is found, where no module of it is kept, and else by these
+pub by_found : (graph : ModuleGraph) (root : RootSymbol) (ranges : PackagePublicRanges) (first : Bool) (answers : List Answer) (b : Bool) →
+    b ≡ (vec_len ranges.cache_items == 0) → b ≡ true → IsFoundAnswer graph root ranges first answers → IsPackageAnswer graph root ranges first answers
+by_found graph root ranges first answers b is e h = record {
+  used = λ some. absurd (some (empty_vec ranges.cache_items b is e));
+  found = λ _. h;
+}
+
+pub by_used : (graph : ModuleGraph) (root : RootSymbol) (ranges : PackagePublicRanges) (first : Bool) (answers : List Answer) (b : Bool) →
+    b ≡ (vec_len ranges.cache_items == 0) → b ≡ false → AllZip IsUsedAnswer ranges.cache_items.items answers →
+    IsPackageAnswer graph root ranges first answers
+by_used graph root ranges first answers b is e h = record {
+  used = λ _. h;
+  found = λ none. absurd (full_vec ranges.cache_items b is e none);
 }
 
 -- ---- what is public is declared

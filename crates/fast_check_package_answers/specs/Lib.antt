@@ -1,2 +1,6 @@
 pub mod Reasons
 pub mod PackageAnswer
+pub mod Kept
+pub mod KeptAnswers
+pub mod Answered
+pub mod Owned

@@ -7,6 +7,7 @@ use Rattle.fast_check_parsed_source.specs.MediaType.{is_declaration}
 use Rattle.fast_check_modules.specs.diagnostics.PublicRanges.{PublicRanges}
 use Rattle.fast_check_modules.specs.diagnostics.DiagnosticCopy.{IsDiagnosticCopy}
 use Rattle.fast_check_modules.specs.diagnostics.declared.diagnostics.FastCheckDiagnostic.{FastCheckDiagnostic}
+use Rattle.fast_check_modules.specs.diagnostics.declared.diagnostics.FastCheckDiagnostic.TheVariants.{Cached}
 use Rattle.fast_check_parsed_source.specs.declared.tables.fast_check_module.FastCheckModule.{FastCheckModule}
 use Rattle.fast_check_modules.specs.EsModule.{EsModule, AreOwnRanges}
 use Rattle.fast_check_module_transform.specs.skeleton.Grammar.{IsSkeleton}
@@ -17,6 +18,8 @@ use Rattle.fast_check_graph.specs.declared.root_symbol.ModuleInfo.{ModuleInfo}
 use Rattle.fast_check_graph.specs.declared.root_symbol.ModuleInfo.TheVariants.{Esm, Json}
 use Rattle.fast_check_graph.specs.declared.root_symbol.RootSymbol.{RootSymbol}
 use Rattle.fast_check_cache.specs.declared.package_ranges.PackagePublicRanges.{PackagePublicRanges}
+use Rattle.fast_check_cache.specs.declared.item.FastCheckCacheModuleItem.{FastCheckCacheModuleItem}
+use Rattle.fast_check_cache.specs.declared.item.FastCheckCacheModuleItem.TheVariants.{Info, Diagnostic}
 use Rattle.fast_check_module_transform.specs.Transform.{skeleton, sources, comments}
 use Rattle.fast_check_package_answers.specs.Reasons.{PublicModule, Reason, Tells, package_reasons}
 
@@ -74,14 +77,28 @@ pub record AreRefused (reasons : List Reason) (entry_points : List Parts) (answe
   pub tells : AllZip Tells reasons list
   pub each : AllZip (IsRefused list) entry_points answers
 
+-- ---- a package that a cache answers
+
+-- a module is answered by the skeleton that is kept of it, and else by `Cached` alone
+abbrev pub IsUsedAnswer : Parts × FastCheckCacheModuleItem → Answer → Type 0
+IsUsedAnswer (kept, Info info) (specifier, Ok made) = (specifier ≡ kept) × ((made.program ≡ info.program) ×
+    ((made.comments ≡ info.comments) × (made.module_info.sources.items ≡ info.module_info.sources.items)))
+IsUsedAnswer (kept, Diagnostic _) (specifier, Err diagnostics) = (specifier ≡ kept) × (diagnostics.items ≡ Cached kept ∷ [])
+IsUsedAnswer _ _ = ⊥
+
 -- ---- a package
 
 -- where nothing is wrong, each module with a tree is answered by its skeleton, and else each entry point by what is wrong
-pub record IsPackageAnswer (graph : ModuleGraph) (root : RootSymbol) (ranges : PackagePublicRanges) (first : Bool) (answers : List Answer) : Type 0 where
+pub record IsFoundAnswer (graph : ModuleGraph) (root : RootSymbol) (ranges : PackagePublicRanges) (first : Bool) (answers : List Answer) : Type 0 where
   pub shown : package_reasons first graph root ranges.module_ranges.entries ≡ []
       → AllZip (IsShown graph) (tree_modules root ranges.module_ranges.entries) answers
   pub refused : package_reasons first graph root ranges.module_ranges.entries ≢ []
       → AreRefused (package_reasons first graph root ranges.module_ranges.entries) ranges.entrypoints.keys answers
+
+-- by what a cache keeps of its modules, if anything, and else by what is found
+pub record IsPackageAnswer (graph : ModuleGraph) (root : RootSymbol) (ranges : PackagePublicRanges) (first : Bool) (answers : List Answer) : Type 0 where
+  pub used : ranges.cache_items.items ≢ [] → AllZip IsUsedAnswer ranges.cache_items.items answers
+  pub found : ranges.cache_items.items ≡ [] → IsFoundAnswer graph root ranges first answers
 
 -- what is public in each module with a tree is declared in it
 abbrev pub OwnsPublic : TreeModule → Type 0

@@ -1,9 +1,10 @@
 -- What speaks against a package: the reasons for which its modules have no skeletons.
-use Rattle.std.specs.Prelude.{◌≡◌, Bool, true, false, List, [], ◌∷◌, map, Option, Some, None}
-use Rattle.std.specs.List.{flat_map}
+use Rattle.std.specs.Prelude.{◌≡◌, ◌==◌, Bool, true, false, List, [], ◌∷◌, length, map, Option, Some, None}
+use Rattle.std.specs.List.{flat_map, take_while}
 use Rattle.url.specs.Parts.{Parts}
 use Rattle.fast_check_signatures.specs.declared.fault.Fault.{Fault}
 use Rattle.fast_check_modules.specs.diagnostics.PublicRanges.{PublicRanges}
+use Rattle.fast_check_modules.specs.diagnostics.Diagnostic.{specifier_of}
 use Rattle.fast_check_modules.specs.diagnostics.declared.diagnostics.FastCheckDiagnostic.{FastCheckDiagnostic}
 use Rattle.fast_check_modules.specs.EsModule.{EsModule}
 use Rattle.fast_check_graph.specs.Root.{found_module}
@@ -53,3 +54,16 @@ first_list ((r ∷ rs) ∷ lists) = r ∷ rs
 abbrev pub package_reasons : Bool → ModuleGraph → RootSymbol → List PublicModule → List Reason
 package_reasons false graph root modules = flat_map (module_reasons false graph root) modules
 package_reasons true graph root modules = first_list (map (module_reasons true graph root) modules)
+
+-- nothing is wrong with a module
+abbrev pub is_sound : Bool → ModuleGraph → RootSymbol → PublicModule → Bool
+is_sound first graph root m = length (module_reasons first graph root m) == 0
+
+-- the modules before the first with something wrong
+abbrev pub sound_front : Bool → ModuleGraph → RootSymbol → List PublicModule → List PublicModule
+sound_front first graph root modules = take_while (is_sound first graph root) modules
+
+-- the module that a reason speaks of
+abbrev pub subject : Reason → Parts
+subject (found d) = specifier_of d
+subject (met info _) = info.specifier

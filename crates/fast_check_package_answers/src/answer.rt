@@ -1,12 +1,13 @@
 //! A package of which it is known what is public, answered by skeletons or by what is wrong.
-ghost use Rattle.std.specs.Prelude.{◌≡◌, ◌==◌, ◌&&◌, not, [], ◌∷◌, ◌++◌, length, IfOk, OnOk};
+ghost use Rattle.std.specs.Prelude.{◌≡◌, ◌≢◌, ◌==◌, ◌&&◌, not, [], ◌∷◌, ◌++◌, length, take, IfOk, OnOk};
 ghost use Rattle.std.specs.List.{AllZip};
 ghost use Rattle.fast_check_modules.specs.EsModule.{AreOwnRanges};
 ghost use Rattle.fast_check_graph.specs.Root.{found_module};
-ghost use Rattle.fast_check_package_answers.specs.Reasons.{Tells, reasons_in_tree, module_reasons, package_reasons};
+ghost use Rattle.fast_check_package_answers.specs.Reasons.{Tells, reasons_in_tree, module_reasons, package_reasons, sound_front};
 ghost use Rattle.fast_check_package_answers.specs.PackageAnswer.{ShowsMore, with_tree, tree_modules, OwnsModule, OwnsAll};
-ghost use Rattle.fast_check_package_answers.specs.PackageAnswer.{IsRefused, IsPackageAnswer};
+ghost use Rattle.fast_check_package_answers.specs.PackageAnswer.{IsRefused, IsFoundAnswer, IsPackageAnswer};
 
+use crate::used::used_answers;
 use fast_check_cache::PackagePublicRanges;
 use fast_check_graph::{ModuleGraph, ModuleInfo, RootSymbol};
 use fast_check_module_transform::{TransformOptions, transform};
@@ -24,6 +25,7 @@ pub type ModuleAnswer = (
 );
 
 /// What the transform finds wrong with a module. Where that is nothing, its skeleton goes to the answers.
+#[tactic(auto, using(crate::proofs::Lists::stays_pushed, crate::proofs::Lists::stays_same))]
 fn answer_tree(
     alloc: Global,
     graph: &ModuleGraph,
@@ -39,6 +41,7 @@ fn answer_tree(
         wrong.items) }
     ensures shown { IfOk result (λ wrong. wrong.items ≡ [] → ShowsMore graph.now
         (with_tree (specifier, public_ranges.now) (Some (ModuleInfo.Esm es_module_info.now))) answers.old.items answers.new.items) }
+    ensures stay { OnOk result (take (length answers.old.items) answers.new.items ≡ answers.old.items) }
 {
     // Ranges of the module's own tables are admitted.
     let _ = es_module_info.admits(public_ranges);
@@ -52,6 +55,7 @@ fn answer_tree(
 }
 
 /// The same of a module that may have no syntax tree: without one, nothing is wrong, and nothing goes to the answers.
+#[tactic(auto, using(crate::proofs::Lists::stays_pushed, crate::proofs::Lists::stays_same))]
 fn answer_if_tree(
     alloc: Global,
     graph: &ModuleGraph,
@@ -67,6 +71,7 @@ fn answer_if_tree(
         wrong.items) }
     ensures shown { IfOk result (λ wrong. wrong.items ≡ [] → ShowsMore graph.now
         (with_tree (specifier, public_ranges.now) (found_module root_symbol.now specifier)) answers.old.items answers.new.items) }
+    ensures stay { OnOk result (take (length answers.old.items) answers.new.items ≡ answers.old.items) }
 {
     match root_symbol.module_from_specifier(&specifier) {
         Some(ModuleInfo::Esm(info)) => answer_tree(
@@ -84,6 +89,7 @@ fn answer_if_tree(
 
 /// What is wrong with a module: what the finder found, or else what the transform finds. Where that is nothing, the skeleton of a module
 /// with a syntax tree goes to the answers.
+#[tactic(auto, using(crate::proofs::Lists::stays_pushed, crate::proofs::Lists::stays_same))]
 fn answer_module(
     alloc: Global,
     graph: &ModuleGraph,
@@ -98,6 +104,7 @@ fn answer_module(
         (module_reasons options.now.should_error_on_first_diagnostic graph.now root_symbol.now (specifier, public_ranges)) wrong.items) }
     ensures shown { IfOk result (λ wrong. wrong.items ≡ [] → ShowsMore graph.now
         (with_tree (specifier, public_ranges) (found_module root_symbol.now specifier)) answers.old.items answers.new.items) }
+    ensures stay { OnOk result (take (length answers.old.items) answers.new.items ≡ answers.old.items) }
 {
     let found = public_ranges.take_diagnostics();
     if found.is_empty() {
@@ -114,18 +121,21 @@ fn answer_module(
     Ok(found)
 }
 
-/// Adds what is wrong with one module more. Where anything is wrong, no tree is answered, and those that are there are dropped.
+/// Adds what is wrong with one module more. Where anything is wrong, its skeleton goes, if it has one; so those stay that stand before the
+/// first module with something wrong.
 fn add_wrong(
     mut more: Vec<FastCheckDiagnostic>,
     wrong: &mut Vec<FastCheckDiagnostic>,
+    answered: usize,
     answers: &mut Vec<ModuleAnswer>,
 ) -> Result<(), AllocError>
     ensures added { OnOk result (wrong.new.items ≡ wrong.old.items ++ more.items) }
     ensures kept { OnOk result (wrong.new.items ≡ [] → answers.new.items ≡ answers.old.items) }
+    ensures cut { OnOk result (wrong.new.items ≢ [] → answers.new.items ≡ take answered answers.old.items) }
 {
     wrong.append(&mut more)?;
     if !wrong.is_empty() {
-        answers.clear();
+        answers.truncate(answered);
     }
     Ok(())
 }
@@ -137,9 +147,9 @@ fn ends_early(options: &TransformOptions, wrong: &[FastCheckDiagnostic]) -> bool
     options.should_error_on_first_diagnostic && !wrong.is_empty()
 }
 
-/// What is wrong with the modules of a package, or under the option with the first that has something wrong. Where that is nothing, the
-/// skeletons of those with a syntax tree go to the answers, in order.
-fn answer_modules(
+/// What is wrong with the modules of a package, or under the option with the first that has something wrong. The skeletons of the modules before
+/// that one, or of all where nothing is wrong, go to the answers, in order.
+pub(crate) fn answer_modules(
     alloc: Global,
     graph: &ModuleGraph,
     root_symbol: &RootSymbol,
@@ -150,11 +160,13 @@ fn answer_modules(
     requires { OwnsAll root_symbol.now module_ranges.entries }
     ensures reasons { IfOk result (λ wrong. AllZip Tells
         (package_reasons options.now.should_error_on_first_diagnostic graph.now root_symbol.now module_ranges.entries) wrong.items) }
-    ensures shown { IfOk result (λ wrong. wrong.items ≡ [] → ShowsMore graph.now
-        (tree_modules root_symbol.now module_ranges.entries) answers.old.items answers.new.items) }
+    ensures shown { OnOk result (ShowsMore graph.now
+        (tree_modules root_symbol.now (sound_front options.now.should_error_on_first_diagnostic graph.now root_symbol.now module_ranges.entries))
+        answers.old.items answers.new.items) }
 {
     let mut wrong = Vec::new(alloc);
     for (specifier, public_ranges) in module_ranges {
+        let answered = answers.len();
         let more = answer_module(
             alloc,
             graph,
@@ -164,7 +176,7 @@ fn answer_modules(
             options,
             answers,
         )?;
-        add_wrong(more, &mut wrong, answers)?;
+        add_wrong(more, &mut wrong, answered, answers)?;
         if ends_early(options, &wrong) {
             return Ok(wrong);
         }
@@ -198,13 +210,63 @@ fn refuse(
     Ok(answers)
 }
 
-/// The answer of a package, of which it is known what is public. Where nothing is wrong with it, each module with a syntax tree is answered
-/// by its skeleton, in the order of the specifiers. Else each entry point, in order, is answered by all that is wrong with the modules, and
-/// no module by a skeleton; with `should_error_on_first_diagnostic` by what the finder found wrong with the first faulty module, or by
-/// its first fault.
+/// What answers a package: the skeletons of its modules where nothing is wrong, and else each entry point by what is wrong.
+pub(crate) fn skeletons_or_wrong(
+    alloc: Global,
+    entrypoints: BTreeSet<Url>,
+    skeletons: Vec<ModuleAnswer>,
+    wrong: &[FastCheckDiagnostic],
+) -> Result<Vec<ModuleAnswer>, AllocError>
+    ensures skeletons { IfOk result (λ answers. wrong.now ≡ [] → answers.items ≡ skeletons.items) }
+    ensures wrong { IfOk result (λ answers. wrong.now ≢ [] → AllZip (IsRefused wrong.now) entrypoints.keys answers.items) }
+{
+    if wrong.is_empty() {
+        return Ok(skeletons);
+    }
+    let answers = refuse(alloc, entrypoints, wrong)?;
+    Ok(answers)
+}
+
+/// The answer of a package that no cache answers.
+fn answer_found(
+    alloc: Global,
+    graph: &ModuleGraph,
+    root_symbol: &RootSymbol,
+    package_ranges: PackagePublicRanges,
+    options: &TransformOptions,
+) -> Result<Vec<ModuleAnswer>, AllocError>
+    requires own { OwnsAll root_symbol.now package_ranges.module_ranges.entries }
+    ensures { IfOk result (λ answers.
+        IsFoundAnswer graph.now root_symbol.now package_ranges options.now.should_error_on_first_diagnostic answers.items) }
+{
+    let PackagePublicRanges {
+        entrypoints,
+        module_ranges,
+        cache_items: _,
+        dependencies: _,
+    } = package_ranges;
+    let mut skeletons = Vec::new(alloc);
+    let wrong = answer_modules(
+        alloc,
+        graph,
+        root_symbol,
+        module_ranges,
+        options,
+        &mut skeletons,
+    )?;
+    let answers = skeletons_or_wrong(alloc, entrypoints, skeletons, &wrong)?;
+    Ok(answers)
+}
+
+/// The answer of a package, of which it is known what is public, or what a cache keeps of it. In the second case each module that is kept is
+/// answered by the skeleton that is kept of it, or else by `Cached`, in their order, and nothing goes to the entry points. In the first, where
+/// nothing is wrong with it, each module with a syntax tree is answered by its skeleton, in the order of the specifiers. Else each entry point, in
+/// order, is answered by all that is wrong with the modules, and no module by a skeleton; with `should_error_on_first_diagnostic` by what the
+/// finder found wrong with the first faulty module, or by its first fault.
 ///
-/// This is what `build_fast_check_type_graph` of deno_graph does with each package that no cache answers: what a cache keeps of it
-/// is not read. What is public in a module with a syntax tree has to be declared in it, as it is where it was found. An `Err` is want of memory.
+/// This is what `build_fast_check_type_graph` of deno_graph does with each package where no cache is lent. What is public in a module with a syntax
+/// tree has to be declared in it, as it is where it was found. An `Err` is want of memory.
+#[tactic(auto, using(crate::proofs::Turns::by_found, crate::proofs::Turns::by_used))]
 pub fn answer_package(
     alloc: Global,
     graph: &ModuleGraph,
@@ -216,23 +278,10 @@ pub fn answer_package(
     ensures { IfOk result (λ answers.
         IsPackageAnswer graph.now root_symbol.now package_ranges options.now.should_error_on_first_diagnostic answers.items) }
 {
-    let PackagePublicRanges {
-        entrypoints,
-        module_ranges,
-        cache_items: _,
-        dependencies: _,
-    } = package_ranges;
-    let mut answers = Vec::new(alloc);
-    let wrong = answer_modules(
-        alloc,
-        graph,
-        root_symbol,
-        module_ranges,
-        options,
-        &mut answers,
-    )?;
-    if wrong.is_empty() {
+    if package_ranges.cache_items.is_empty() {
+        let answers = answer_found(alloc, graph, root_symbol, package_ranges, options)?;
         return Ok(answers);
     }
-    refuse(alloc, entrypoints, &wrong)
+    let answers = used_answers(alloc, package_ranges.cache_items)?;
+    Ok(answers)
 }

@@ -1,9 +1,15 @@
-//! How a package is answered, once it is known what is public in it: by the skeletons of its modules, or by what is wrong with them.
+//! How a package is answered, once it is known what is public in it: by the skeletons of its modules, or by what is wrong with them; or by what a
+//! cache keeps of it.
 #![tactic(auto)]
 
 mod answer;
+mod cached;
+mod kept;
 mod law;
+mod packages;
+mod used;
 
 pub use answer::{ModuleAnswer, answer_package};
 pub use fast_check_module_transform as transform;
 pub use law::first_alone;
+pub use packages::{answer_all, answer_and_set_all};

@@ -14,7 +14,7 @@ use Rattle.fast_check_worklists.specs.Demands.{same_nv}
 use Rattle.fast_check_findings.specs.declared.finding.EnteredPackage.{EnteredPackage}
 use Rattle.fast_check_findings.specs.declared.finding.FollowedModule.{FollowedModule}
 use Rattle.fast_check_findings.specs.declared.finding.Finding.{Finding}
-use Rattle.fast_check_findings.specs.declared.finding.Finding.TheVariants.{Entered, Followed, Untyped}
+use Rattle.fast_check_findings.specs.declared.finding.Finding.TheVariants.{Entered, Followed, Untyped, Kept}
 use Rattle.fast_check_findings.specs.Yields.{ModuleFault, untyped_module}
 use Rattle.fast_check_findings.specs.Yields.{Yield, known_package, entry_point, dependency, recorded, public, implementing, faulty}
 use Rattle.fast_check_findings.specs.Findings.{entry_fault, faulty_module, entered_yields, placed_yield, placed_yields, followed_yields, yields_of}
@@ -23,15 +23,16 @@ use Rattle.fast_check_package_ranges.specs.declared.parts.JoinedPackage.{JoinedP
 use Rattle.fast_check_package_ranges.specs.Questions.{ModuleQuestion, whether_recorded, whether_public, whether_implementing}
 use Rattle.fast_check_package_ranges.specs.Questions.{whether_missing, whether_untyped_entry, whether_untyped, whether_faulty, whether_otherwise_faulty}
 use Rattle.fast_check_package_ranges.specs.Questions.{Question, whether_known, whether_entry_point, whether_dependency, whether_refused, about}
-use Rattle.fast_check_package_ranges.specs.Questions.{package_of, yield_says, yields_say, is_said, IsTextless, IsTextlessAbout}
+use Rattle.fast_check_package_ranges.specs.Questions.{package_of, yield_says, yields_say, is_kept, is_said, IsTextless, IsTextlessAbout}
 use Rattle.fast_check_findings.specs.Diagnostics.{where_found}
 use Rattle.fast_check_package_ranges.specs.Parts.{module_says, package_says, packages_say, lookup_text, lookup_package}
-use Rattle.fast_check_package_ranges.specs.Parts.{package_found, findings_say}
-use Rattle.fast_check_package_ranges.specs.Answers.{module_answer, package_answer, answer, AreAnswers}
+use Rattle.fast_check_package_ranges.specs.Parts.{package_found, followed_in, findings_say}
+use Rattle.fast_check_package_ranges.specs.Answers.{module_answer, package_answer, answer}
 use Rattle.fast_check_package_ranges.specs.Made.{module_is_said, AreModuleAnswers, IsPackageAnswer, ArePackageAnswers}
 use Rattle.fast_check_findings.proofs.Bools.{or_none, and_or, and_none}
 use Rattle.fast_check_findings.proofs.Lists.{any_map, any_flat, any_alike, any_and}
 use Rattle.fast_check_package_ranges.proofs.Only.{only, once, uncached}
+use Rattle.fast_check_package_ranges.proofs.KeptSays.{IsSaidAt, not_kept_says}
 
 -- all these yields are of one package
 abbrev Owned : Nv → Nv → List Yield → Type 0
@@ -84,17 +85,18 @@ own_followed nv f =
     (own_both nv n faults asked (own_map nv n (placed_yield n t) (λ x. refl) (map placed_in f.found.faults.items))
     (own_map nv n (λ p. dependency n (nv_of p)) (λ p. refl) f.dependencies.items))))
 
-own_finding : (nv : Nv) (f : Finding) → Owned nv (package_found f) (yields_of f)
+own_finding : (nv : Nv) (f : Finding) → Owned nv (package_found f) (followed_in f)
 own_finding nv (Entered e) = own_entered nv e
 own_finding nv (Followed f) = own_followed nv f
 own_finding nv (Untyped u) = own_faulty nv (nv_of u.package) (serialize u.specifier) untyped_module
+own_finding nv (Kept k) = own_none nv (nv_of k.package)
 
 -- findings say what their yields say
 all_yields : (found : List Finding) (nv : Nv) (q : Question) →
-    list_any (λ f. same_nv nv (package_found f) && list_any (λ y. yield_says y q) (yields_of f)) found ≡ yields_say (flat_map yields_of found) nv q
-all_yields found nv q = sym (any_flat (λ y. same_nv nv (package_of y) && yield_says y q) yields_of found ∙
-    any_alike (λ f. list_any (λ y. same_nv nv (package_of y) && yield_says y q) (yields_of f))
-    (λ f. same_nv nv (package_found f) && list_any (λ y. yield_says y q) (yields_of f)) (λ f. own_finding nv f (λ y. yield_says y q)) found)
+    list_any (λ f. same_nv nv (package_found f) && list_any (λ y. yield_says y q) (followed_in f)) found ≡ yields_say (flat_map followed_in found) nv q
+all_yields found nv q = sym (any_flat (λ y. same_nv nv (package_of y) && yield_says y q) followed_in found ∙
+    any_alike (λ f. list_any (λ y. same_nv nv (package_of y) && yield_says y q) (followed_in f))
+    (λ f. same_nv nv (package_found f) && list_any (λ y. yield_says y q) (followed_in f)) (λ f. own_finding nv f (λ y. yield_says y q)) found)
 
 -- the answer about a module, by what is known of it
 module_one : (t : List ℕ) (q : ModuleQuestion) → IsTextlessAbout q → (parts : Option JoinedModule) (m : Option PublicRanges) → AreModuleAnswers t parts m →
@@ -151,39 +153,41 @@ hidden t (Some p) = hidden_module (lookup_text t p.modules.entries)
 
 module _ (found : List Finding) (packages : List (PackageNv × JoinedPackage)) (answers : BTreeMap PackageNv PackagePublicRanges)
     (joined : (nv : Nv) (q : Question) → packages_say packages nv q ≡ findings_say found nv q)
-    (made : (nv : Nv) → ArePackageAnswers (lookup_package nv packages) (lookup_package nv answers.entries)) where
-  first : (nv : Nv) (q : Question) → IsTextless q → answer answers nv q ≡ where_found (λ x. package_is_said x q) (lookup_package nv packages)
-  first nv q fair = packages_one q fair (lookup_package nv packages) (lookup_package nv answers.entries) (made nv)
+    (made : (nv : Nv) → ArePackageAnswers (lookup_package nv packages) (lookup_package nv answers.entries))
+    (nv : Nv) (not_kept : is_kept (flat_map yields_of found) nv ≡ false) where
+  first : (q : Question) → IsTextless q → answer answers nv q ≡ where_found (λ x. package_is_said x q) (lookup_package nv packages)
+  first q fair = packages_one q fair (lookup_package nv packages) (lookup_package nv answers.entries) (made nv)
 
-  says_so : (nv : Nv) (q : Question) → packages_say packages nv q ≡ yields_say (flat_map yields_of found) nv q
-  says_so nv q = joined nv q ∙ all_yields found nv q
+  says_so : (q : Question) → packages_say packages nv q ≡ yields_say (flat_map yields_of found) nv q
+  says_so q = joined nv q ∙ (all_yields found nv q ∙ not_kept_says nv q found not_kept)
 
-  pub said : (nv : Nv) (q : Question) → IsTextless q → answer answers nv q ≡ is_said (flat_map yields_of found) nv q
-  said nv whether_known fair = first nv whether_known fair ∙ says_so nv whether_known
-  said nv (whether_entry_point t) fair = first nv (whether_entry_point t) fair ∙ says_so nv (whether_entry_point t)
-  said nv (whether_dependency d) fair = first nv (whether_dependency d) fair ∙ says_so nv (whether_dependency d)
-  said nv (whether_refused t) fair = first nv (whether_refused t) fair ∙ says_so nv (whether_refused t)
-  said nv (about t whether_untyped) fair = first nv (about t whether_untyped) fair ∙ (hidden t (lookup_package nv packages) ∙
-      (ap (λ b. b && not (packages_say packages nv (about t whether_otherwise_faulty))) (says_so nv (about t whether_untyped)) ∙
-      ap (λ b. yields_say (flat_map yields_of found) nv (about t whether_untyped) && not b) (says_so nv (about t whether_otherwise_faulty))))
-  said nv (about t whether_recorded) fair = first nv (about t whether_recorded) fair ∙ says_so nv (about t whether_recorded)
-  said nv (about t (whether_public r)) fair = first nv (about t (whether_public r)) fair ∙ says_so nv (about t (whether_public r))
-  said nv (about t (whether_implementing r)) fair = first nv (about t (whether_implementing r)) fair ∙ says_so nv (about t (whether_implementing r))
-  said nv (about t whether_missing) fair = first nv (about t whether_missing) fair ∙ says_so nv (about t whether_missing)
-  said nv (about t whether_untyped_entry) fair = first nv (about t whether_untyped_entry) fair ∙ says_so nv (about t whether_untyped_entry)
-  said nv (about t (whether_faulty test)) fair = first nv (about t (whether_faulty test)) fair ∙ says_so nv (about t (whether_faulty test))
-  said nv (about t whether_otherwise_faulty) fair = first nv (about t whether_otherwise_faulty) fair ∙ says_so nv (about t whether_otherwise_faulty)
+  said : (q : Question) → IsTextless q → answer answers nv q ≡ is_said (flat_map yields_of found) nv q
+  said whether_known fair = first whether_known fair ∙ says_so whether_known
+  said (whether_entry_point t) fair = first (whether_entry_point t) fair ∙ says_so (whether_entry_point t)
+  said (whether_dependency d) fair = first (whether_dependency d) fair ∙ says_so (whether_dependency d)
+  said (whether_refused t) fair = first (whether_refused t) fair ∙ says_so (whether_refused t)
+  said (about t whether_untyped) fair = first (about t whether_untyped) fair ∙ (hidden t (lookup_package nv packages) ∙
+      (ap (λ b. b && not (packages_say packages nv (about t whether_otherwise_faulty))) (says_so (about t whether_untyped)) ∙
+      ap (λ b. yields_say (flat_map yields_of found) nv (about t whether_untyped) && not b) (says_so (about t whether_otherwise_faulty))))
+  said (about t whether_recorded) fair = first (about t whether_recorded) fair ∙ says_so (about t whether_recorded)
+  said (about t (whether_public r)) fair = first (about t (whether_public r)) fair ∙ says_so (about t (whether_public r))
+  said (about t (whether_implementing r)) fair = first (about t (whether_implementing r)) fair ∙ says_so (about t (whether_implementing r))
+  said (about t whether_missing) fair = first (about t whether_missing) fair ∙ says_so (about t whether_missing)
+  said (about t whether_untyped_entry) fair = first (about t whether_untyped_entry) fair ∙ says_so (about t whether_untyped_entry)
+  said (about t (whether_faulty test)) fair = first (about t (whether_faulty test)) fair ∙ says_so (about t (whether_faulty test))
+  said (about t whether_otherwise_faulty) fair = first (about t whether_otherwise_faulty) fair ∙ says_so (about t whether_otherwise_faulty)
 
-  exact : (nv : Nv) (t : List ℕ) (test : PlacedFault → Bool) → answer answers nv (about t (whether_faulty test)) ≡ true →
+  exact : (t : List ℕ) (test : PlacedFault → Bool) → answer answers nv (about t (whether_faulty test)) ≡ true →
       is_said (flat_map yields_of found) nv (about t (whether_faulty test)) ≡ true
-  exact nv t test e = sym (says_so nv (about t (whether_faulty test))) ∙
+  exact t test e = sym (says_so (about t (whether_faulty test))) ∙
       packages_exact t test (lookup_package nv packages) (lookup_package nv answers.entries) (made nv) e
 
-  pub are_answers : AreAnswers (flat_map yields_of found) answers
-  are_answers = record {
+  -- of a package whose item is not used
+  pub joined_at : IsSaidAt (flat_map yields_of found) nv (lookup_package nv answers.entries)
+  joined_at = record {
     said = said;
     exact = exact;
-    only = only packages answers made (flat_map yields_of found) said exact;
-    once = once packages answers made;
-    uncached = uncached packages answers made;
+    only = only packages answers made (flat_map yields_of found) nv said exact;
+    once = once packages answers made nv;
+    uncached = uncached packages answers made nv;
   }

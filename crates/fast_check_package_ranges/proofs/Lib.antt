@@ -5,4 +5,7 @@ pub mod Joined
 pub mod FoundSays
 pub mod Told
 pub mod Only
+pub mod KeptSays
 pub mod Answered
+pub mod Put
+pub mod Stand

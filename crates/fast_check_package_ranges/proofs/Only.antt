@@ -1,4 +1,4 @@
--- Every diagnostic of a module is one that its yields say, no two tell the same, and nothing comes from a cache.
+-- Every diagnostic of a module is one that its yields say, no two tell the same, and nothing comes from a cache, but for packages whose items are used.
 use Rattle.std.proofs.Common.{◌≡◌, ◌∙◌, refl, sym, ap, ℕ, zero, suc, Bool, true, false, not, ◌&&◌, ◌||◌, List, [], ◌∷◌, Option, Some, None, ⊎_elim}
 use Rattle.std.proofs.Common.{arith}
 use Rattle.std.specs.List.{list_any, Contains, IsDistinct}
@@ -77,7 +77,7 @@ foreign t (Some x) None h = absurd h
 foreign t (Some x) (Some p) h = foreign_in t (lookup_text t x.modules.entries) (lookup_text t p.module_ranges.entries) (h.modules t)
 
 -- no two tell the same
-none_alike : (t : List ℕ) → IsDistinct (tell_alike t) []
+pub none_alike : (t : List ℕ) → IsDistinct (tell_alike t) []
 unfolding IsDistinct
 none_alike t = tt
 
@@ -108,25 +108,25 @@ module _ (packages : List (PackageNv × JoinedPackage)) (answers : BTreeMap Pack
   pub uncached : (nv : Nv) → cached_of (lookup_package nv answers.entries) ≡ []
   uncached nv = uncached_of (lookup_package nv packages) (lookup_package nv answers.entries) (made nv)
 
-  module _ (yields : List Yield) (said : (nv : Nv) (q : Question) → IsTextless q → answer answers nv q ≡ is_said yields nv q)
-      (exact : (nv : Nv) (t : List ℕ) (test : PlacedFault → Bool) → answer answers nv (about t (whether_faulty test)) ≡ true →
+  module _ (yields : List Yield) (nv : Nv) (said : (q : Question) → IsTextless q → answer answers nv q ≡ is_said yields nv q)
+      (exact : (t : List ℕ) (test : PlacedFault → Bool) → answer answers nv (about t (whether_faulty test)) ≡ true →
       is_said yields nv (about t (whether_faulty test)) ≡ true) where
     -- what a diagnostic tells is answered
-    answered : (nv : Nv) (t : List ℕ) (f : FastCheckDiagnostic → Bool) (q : ModuleQuestion) →
+    answered : (t : List ℕ) (f : FastCheckDiagnostic → Bool) (q : ModuleQuestion) →
         ((m : PublicRanges) → module_answer t q m ≡ list_any f m.diagnostics) → (d : FastCheckDiagnostic) → Contains (diagnostics_of answers nv t) d →
         f d ≡ true → answer answers nv (about t q) ≡ true
-    answered nv t f q h d c y = asked_of t f q h (lookup_package nv answers.entries) ∙ present f (diagnostics_of answers nv t) d c y
+    answered t f q h d c y = asked_of t f q h (lookup_package nv answers.entries) ∙ present f (diagnostics_of answers nv t) d c y
 
-    of_fault : (nv : Nv) (t : List ℕ) (d : FastCheckDiagnostic) → Contains (diagnostics_of answers nv t) d → (o : Option PlacedFault) → demand_fault d ≡ o →
+    of_fault : (t : List ℕ) (d : FastCheckDiagnostic) → Contains (diagnostics_of answers nv t) d → (o : Option PlacedFault) → demand_fault d ≡ o →
         where_found any_fault o ≡ true → where_found (λ r. is_said yields nv (about t (whether_faulty (is_fault r)))) o ≡ true
-    of_fault nv t d c None e h = absurd (false≢true h)
-    of_fault nv t d c (Some r) e h = exact nv t (is_fault r)
-        (answered nv t (tells (is_fault r)) (whether_faulty (is_fault r)) (λ m. refl) d c (ap (where_found (is_fault r)) e ∙ fault_itself r))
+    of_fault t d c None e h = absurd (false≢true h)
+    of_fault t d c (Some r) e h = exact t (is_fault r)
+        (answered t (tells (is_fault r)) (whether_faulty (is_fault r)) (λ m. refl) d c (ap (where_found (is_fault r)) e ∙ fault_itself r))
 
-    pub only : (nv : Nv) (t : List ℕ) (d : FastCheckDiagnostic) → Contains (diagnostics_of answers nv t) d → is_so yields nv t d ≡ true
-    only nv t d c = one_of (tells_missing t d) (tells_untyped_entry t d) (tells_untyped t d) (tells any_fault d) _ _ _ _
-        (λ y. sym (said nv (about t whether_missing) tt) ∙ answered nv t (tells_missing t) whether_missing (λ m. refl) d c y)
-        (λ y. sym (said nv (about t whether_untyped_entry) tt) ∙ answered nv t (tells_untyped_entry t) whether_untyped_entry (λ m. refl) d c y)
-        (λ y. sym (said nv (about t whether_untyped) tt) ∙ answered nv t (tells_untyped t) whether_untyped (λ m. refl) d c y)
-        (of_fault nv t d c (demand_fault d) refl)
+    pub only : (t : List ℕ) (d : FastCheckDiagnostic) → Contains (diagnostics_of answers nv t) d → is_so yields nv t d ≡ true
+    only t d c = one_of (tells_missing t d) (tells_untyped_entry t d) (tells_untyped t d) (tells any_fault d) _ _ _ _
+        (λ y. sym (said (about t whether_missing) tt) ∙ answered t (tells_missing t) whether_missing (λ m. refl) d c y)
+        (λ y. sym (said (about t whether_untyped_entry) tt) ∙ answered t (tells_untyped_entry t) whether_untyped_entry (λ m. refl) d c y)
+        (λ y. sym (said (about t whether_untyped) tt) ∙ answered t (tells_untyped t) whether_untyped (λ m. refl) d c y)
+        (of_fault t d c (demand_fault d) refl)
         (passes_not (is_foreign t) (diagnostics_of answers nv t) d c (foreign t (lookup_package nv packages) (lookup_package nv answers.entries) (made nv)))

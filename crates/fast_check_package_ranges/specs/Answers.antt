@@ -1,10 +1,11 @@
 -- What answers by package say.
-use Rattle.std.specs.Prelude.{◌≡◌, Bool, true, false, ◌&&◌, ◌||◌, List, [], Option, Some, None}
+use Rattle.std.specs.Prelude.{◌≡◌, Bool, true, false, ◌&&◌, ◌||◌, List, [], map, Option, Some, None}
 use Rattle.std.specs.List.{list_any, Contains, IsDistinct}
 use Rattle.std.specs.BTreeMap.{BTreeMap}
-use Rattle.fast_check_packages.specs.Package.{Nv}
+use Rattle.fast_check_packages.specs.Package.{Nv, nv_of}
 use Rattle.fast_check_packages.specs.declared.package.PackageNv.{PackageNv}
 use Rattle.url.specs.Parts.{Parts}
+use Rattle.fast_check_cache.specs.Cache.{ItemView, module_of}
 use Rattle.fast_check_cache.specs.declared.item.FastCheckCacheModuleItem.{FastCheckCacheModuleItem}
 use Rattle.fast_check_cache.specs.declared.package_ranges.PackagePublicRanges.{PackagePublicRanges}
 use Rattle.fast_check_diagnostics.specs.PublicRanges.{PublicRanges, is_public, is_implementation}
@@ -12,13 +13,13 @@ use Rattle.fast_check_diagnostics.specs.declared.diagnostics.FastCheckDiagnostic
 use Rattle.fast_check_diagnostics.specs.declared.diagnostics.FastCheckDiagnostic.TheVariants.{ExportNotFound}
 use Rattle.fast_check_diagnostics.specs.declared.diagnostics.FastCheckDiagnostic.TheVariants.{UnsupportedJavaScriptEntrypoint}
 use Rattle.fast_check_diagnostics.specs.declared.diagnostics.FastCheckDiagnostic.TheVariants.{UnsupportedNestedJavaScript}
-use Rattle.fast_check_worklists.specs.Demands.{Text}
+use Rattle.fast_check_worklists.specs.Demands.{Text, same_nv}
 use Rattle.fast_check_findings.specs.Faults.{PlacedFault, demand_fault}
-use Rattle.fast_check_findings.specs.Yields.{Yield}
+use Rattle.fast_check_findings.specs.Yields.{Yield, kept}
 use Rattle.fast_check_package_ranges.specs.Questions.{ModuleQuestion, whether_recorded, whether_public, whether_implementing}
 use Rattle.fast_check_package_ranges.specs.Questions.{whether_missing, whether_untyped_entry, whether_untyped, whether_faulty, whether_otherwise_faulty}
 use Rattle.fast_check_package_ranges.specs.Questions.{Question, whether_known, whether_entry_point, whether_dependency, whether_refused, about}
-use Rattle.fast_check_package_ranges.specs.Questions.{is_fault, is_said, IsTextless}
+use Rattle.fast_check_package_ranges.specs.Questions.{is_fault, is_kept, is_said, IsTextless}
 use Rattle.fast_check_findings.specs.Diagnostics.{any_fault, tells, where_found, tell_one_fault}
 use Rattle.fast_check_package_ranges.specs.Parts.{is_text, is_package, lookup_text, lookup_package}
 
@@ -90,12 +91,27 @@ abbrev pub cached_of : Option PackagePublicRanges → List (Parts × FastCheckCa
 cached_of None = []
 cached_of (Some p) = p.cache_items.items
 
+-- the answer of a package whose item is used: its entry points, and the dependencies and modules of the item, in their order
+pub record IsKeptAnswer (entry_points : List Parts) (item : ItemView) (p : PackagePublicRanges) : Type 0 where
+  pub entry_points_are : p.entrypoints.keys ≡ entry_points
+  pub dependencies_are : map nv_of p.dependencies.keys ≡ item.0
+  pub modules_are : map (λ e. (e.0, module_of e.1)) p.cache_items.items ≡ item.1
+  pub nothing_else : p.module_ranges.entries ≡ []
+
+-- and that of some yield of the package
+abbrev pub IsKeptIn : List Yield → Nv → Option PackagePublicRanges → Type 0
+IsKeptIn yields nv None = ⊥
+IsKeptIn yields nv (Some p) = (q : Nv) × (entry_points : List Parts) × (item : ItemView) × Contains yields (kept q entry_points item)
+    × (same_nv nv q ≡ true) × IsKeptAnswer entry_points item p
+
 -- The answers say what the yields say, and nothing else. What is told of a fault is, with its source text, what some yield tells; every diagnostic of
--- a module tells what its yields say, and no two tell the same; and nothing comes from a cache.
+-- a module tells what its yields say, and no two tell the same; and nothing comes from a cache. But the item of a package that is used is answered
+-- in place of all that the yields say of it.
 pub record AreAnswers (yields : List Yield) (answers : BTreeMap PackageNv PackagePublicRanges) : Type 0 where
-  pub said : (nv : Nv) (q : Question) → IsTextless q → answer answers nv q ≡ is_said yields nv q
+  pub said : (nv : Nv) (q : Question) → is_kept yields nv ≡ false → IsTextless q → answer answers nv q ≡ is_said yields nv q
   pub exact : (nv : Nv) (t : Text) (test : PlacedFault → Bool) → answer answers nv (about t (whether_faulty test)) ≡ true →
       is_said yields nv (about t (whether_faulty test)) ≡ true
   pub only : (nv : Nv) (t : Text) (d : FastCheckDiagnostic) → Contains (diagnostics_of answers nv t) d → is_so yields nv t d ≡ true
   pub once : (nv : Nv) (t : Text) → IsDistinct (tell_alike t) (diagnostics_of answers nv t)
-  pub uncached : (nv : Nv) → cached_of (lookup_package nv answers.entries) ≡ []
+  pub uncached : (nv : Nv) → is_kept yields nv ≡ false → cached_of (lookup_package nv answers.entries) ≡ []
+  pub cached : (nv : Nv) → is_kept yields nv ≡ true → IsKeptIn yields nv (lookup_package nv answers.entries)

@@ -1,7 +1,7 @@
 -- Inner: no contract of a public call cites what stands here.
 -- How answers stand for what is known of modules and packages.
 use Rattle.std.specs.Prelude.{◌≡◌, ⊤, Bool, true, false, ◌&&◌, ◌||◌, not, cond, List, [], ◌∷◌, ◌++◌, Option, Some, None}
-use Rattle.std.specs.List.{list_any, IsDistinct}
+use Rattle.std.specs.List.{list_any, Contains, IsDistinct}
 use Rattle.url.specs.Parts.{Parts}
 use Rattle.fast_check_packages.specs.Package.{Nv}
 use Rattle.fast_check_diagnostics.specs.PublicRanges.{PublicRanges}
@@ -10,13 +10,15 @@ use Rattle.fast_check_diagnostics.specs.declared.diagnostics.FastCheckDiagnostic
 use Rattle.fast_check_diagnostics.specs.declared.diagnostics.FastCheckDiagnostic.TheVariants.{UnsupportedJavaScriptEntrypoint}
 use Rattle.fast_check_diagnostics.specs.declared.diagnostics.FastCheckDiagnostic.TheVariants.{UnsupportedNestedJavaScript}
 use Rattle.fast_check_cache.specs.declared.package_ranges.PackagePublicRanges.{PackagePublicRanges}
+use Rattle.fast_check_cache.specs.Cache.{item_of}
 use Rattle.fast_check_worklists.specs.Demands.{Text}
+use Rattle.fast_check_findings.specs.declared.finding.KeptPackage.{KeptPackage}
 use Rattle.fast_check_findings.specs.Faults.{PlacedFault}
 use Rattle.fast_check_package_ranges.specs.declared.parts.JoinedModule.{JoinedModule}
 use Rattle.fast_check_package_ranges.specs.declared.parts.JoinedPackage.{JoinedPackage}
 use Rattle.fast_check_package_ranges.specs.Questions.{ModuleQuestion, whether_untyped, whether_faulty, whether_otherwise_faulty, IsTextlessAbout}
 use Rattle.fast_check_package_ranges.specs.Parts.{is_text, is_package, module_says, lookup_text}
-use Rattle.fast_check_package_ranges.specs.Answers.{tells_untyped, tells_otherwise, tell_alike, module_answer}
+use Rattle.fast_check_package_ranges.specs.Answers.{tells_untyped, tells_otherwise, tell_alike, module_answer, IsKeptAnswer}
 
 -- a diagnostic that is there, or is not
 abbrev pub told_if : Bool → FastCheckDiagnostic → List FastCheckDiagnostic
@@ -57,3 +59,20 @@ abbrev pub ArePackageAnswers : Option JoinedPackage → Option PackagePublicRang
 ArePackageAnswers None None = ⊤
 ArePackageAnswers (Some parts) (Some p) = IsPackageAnswer parts p
 ArePackageAnswers _ _ = ⊥
+
+-- the answer of a package whose item is used
+abbrev pub IsKept : KeptPackage → PackagePublicRanges → Type 0
+IsKept k p = IsKeptAnswer k.entry_points.keys (item_of k.item) p
+
+abbrev pub is_of : Nv → KeptPackage → Bool
+is_of nv k = is_package nv k.package
+
+-- one of these packages
+abbrev pub IsKeptAmong : Nv → List KeptPackage → Option PackagePublicRanges → Type 0
+IsKeptAmong nv kept None = ⊥
+IsKeptAmong nv kept (Some p) = (k : KeptPackage) × Contains kept k × (is_of nv k ≡ true) × IsKept k p
+
+-- the answer of one of these packages was put in place of what was there, and others stay
+pub record IsPut (nv : Nv) (kept : List KeptPackage) (old new : Option PackagePublicRanges) : Type 0 where
+  pub stays : list_any (is_of nv) kept ≡ false → new ≡ old
+  pub put : list_any (is_of nv) kept ≡ true → IsKeptAmong nv kept new

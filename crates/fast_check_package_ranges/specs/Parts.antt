@@ -1,5 +1,5 @@
 -- What is known of packages while their findings are joined.
-use Rattle.std.specs.Prelude.{Bool, true, false, ◌&&◌, ◌||◌, List, Option}
+use Rattle.std.specs.Prelude.{Bool, true, false, ◌&&◌, ◌||◌, List, [], ◌∷◌, Option}
 use Rattle.std.specs.List.{list_any}
 use Rattle.std.specs.Map.{lookup}
 use Rattle.std.specs.Str.{bytes_eq}
@@ -10,7 +10,9 @@ use Rattle.fast_check_diagnostics.specs.PublicRanges.{same_range}
 use Rattle.fast_check_findings.specs.Diagnostics.{where_found, passes, any_fault}
 use Rattle.fast_check_worklists.specs.Demands.{Text, same_nv}
 use Rattle.fast_check_findings.specs.declared.finding.Finding.{Finding}
-use Rattle.fast_check_findings.specs.declared.finding.Finding.TheVariants.{Entered, Followed, Untyped}
+use Rattle.fast_check_findings.specs.declared.finding.Finding.TheVariants.{Entered, Followed, Untyped, Kept}
+use Rattle.fast_check_findings.specs.declared.finding.KeptPackage.{KeptPackage}
+use Rattle.fast_check_findings.specs.Yields.{Yield}
 use Rattle.fast_check_findings.specs.Findings.{yields_of}
 use Rattle.fast_check_package_ranges.specs.declared.parts.JoinedModule.{JoinedModule}
 use Rattle.fast_check_package_ranges.specs.declared.parts.JoinedPackage.{JoinedPackage}
@@ -71,10 +73,21 @@ abbrev pub package_found : Finding → Nv
 package_found (Entered e) = nv_of e.package
 package_found (Followed f) = nv_of f.package
 package_found (Untyped u) = nv_of u.package
+package_found (Kept k) = nv_of k.package
 
--- what a finding says of its package
+-- the packages whose items are used
+abbrev pub kept_in : Finding → List KeptPackage
+kept_in (Kept k) = k ∷ []
+kept_in _ = []
+
+-- what is said by findings but those
+abbrev pub followed_in : Finding → List Yield
+followed_in (Kept k) = []
+followed_in f = yields_of f
+
+-- what a finding says of its package, if it is none of an item that is used
 abbrev pub finding_says : Finding → Question → Bool
-finding_says f q = list_any (λ y. yield_says y q) (yields_of f)
+finding_says f q = list_any (λ y. yield_says y q) (followed_in f)
 
 abbrev pub finding_says_of : Nv → Question → Finding → Bool
 finding_says_of nv q f = same_nv nv (package_found f) && finding_says f q

@@ -9,7 +9,7 @@ use Rattle.fast_check_findings.specs.Faults.{PlacedFault}
 use Rattle.fast_check_findings.specs.Diagnostics.{same_fault}
 use Rattle.fast_check_worklists.specs.Demands.{Text, same_nv}
 use Rattle.fast_check_findings.specs.Yields.{ModuleFault, missing_entry, untyped_entry, untyped_module, of_demand}
-use Rattle.fast_check_findings.specs.Yields.{Yield, known_package, entry_point, refused_export, dependency, recorded, public, implementing, faulty}
+use Rattle.fast_check_findings.specs.Yields.{Yield, known_package, entry_point, refused_export, dependency, recorded, public, implementing, faulty, kept}
 
 -- About a module: whether it is recorded; whether a range is public, or one of an implementation of overloads; whether it is an entry point that is
 -- not found, one whose types are not known, or another module whose types are not known; whether a fault of a demand that passes a test is there;
@@ -91,6 +91,7 @@ package_of (recorded nv t) = nv
 package_of (public nv t r) = nv
 package_of (implementing nv t r) = nv
 package_of (faulty nv t f) = nv
+package_of (kept nv entry_points item) = nv
 
 -- what a yield says of its package
 abbrev pub yield_says : Yield → Question → Bool
@@ -102,6 +103,15 @@ yield_says (recorded nv t) = asks_module t is_recorded
 yield_says (public nv t r) = asks_module t (range_says r)
 yield_says (implementing nv t r) = asks_module t (implementation_says r)
 yield_says (faulty nv t f) = asks_module t (fault_says f)
+yield_says (kept nv entry_points item) = asks_known
+
+-- the item of the package is used
+abbrev pub keeps : Nv → Yield → Bool
+keeps nv (kept p entry_points item) = same_nv nv p
+keeps nv _ = false
+
+abbrev pub is_kept : List Yield → Nv → Bool
+is_kept yields nv = list_any (keeps nv) yields
 
 -- some of the yields say that it is so
 abbrev pub yields_say : List Yield → Nv → Question → Bool

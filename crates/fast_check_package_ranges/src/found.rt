@@ -1,7 +1,7 @@
 //! What the findings of each package come to.
 
-ghost use Rattle.std.specs.Prelude.{◌≡◌, [], ◌∷◌, ◌&&◌, ◌||◌, OnOk, IfOk};
-ghost use Rattle.std.specs.List.{list_any};
+ghost use Rattle.std.specs.Prelude.{◌≡◌, [], ◌∷◌, ◌++◌, ◌&&◌, ◌||◌, OnOk, IfOk};
+ghost use Rattle.std.specs.List.{list_any, flat_map};
 ghost use Rattle.fast_check_packages.specs.Package.{Nv, nv_of};
 ghost use Rattle.fast_check_findings.specs.declared.finding.Finding.TheVariants.{Entered, Followed, Untyped};
 ghost use Rattle.fast_check_findings.specs.Yields.{untyped_module};
@@ -9,11 +9,12 @@ ghost use Rattle.fast_check_worklists.specs.Demands.{Text};
 ghost use Rattle.fast_check_findings.specs.Findings.{entry_fault};
 ghost use Rattle.fast_check_package_ranges.specs.Questions.{ModuleQuestion, Question, is_recorded, fault_says};
 ghost use Rattle.fast_check_package_ranges.specs.Parts.{is_text, module_says, packages_say, found_module_says, found_says};
-ghost use Rattle.fast_check_package_ranges.specs.Parts.{package_found, finding_says, finding_says_of, findings_say};
+ghost use Rattle.fast_check_package_ranges.specs.Parts.{package_found, kept_in, finding_says, finding_says_of, findings_say};
 
 use crate::parts::{FoundPackage, JoinedModule, JoinedPackage, add_package};
 use fast_check_findings::{
-    EnteredPackage, EntryFault, Finding, FollowedModule, FoundModule, PackageNv, UntypedModule,
+    EnteredPackage, EntryFault, Finding, FollowedModule, FoundModule, KeptPackage, PackageNv,
+    UntypedModule,
 };
 use std::alloc::{AllocError, Global};
 use std::collections::BTreeMap;
@@ -137,39 +138,55 @@ fn one_module(
     })
 }
 
-fn found_package(alloc: Global, finding: Finding) -> Result<(PackageNv, FoundPackage), AllocError>
-    ensures nv { IfOk result (λ r. nv_of r.0 ≡ package_found finding) }
-    ensures says { IfOk result (λ r. (q : Question) → found_says r.1 q ≡ finding_says finding q) }
-{
-    match finding {
-        Finding::Entered(entered) => found_entered(alloc, entered),
-        Finding::Followed(followed) => found_followed(alloc, followed),
-        Finding::Untyped(untyped) => found_untyped(alloc, untyped),
-    }
-}
-
+/// Adds what was found of a package in a turn.
 fn add_finding(
     alloc: Global,
     packages: &mut BTreeMap<PackageNv, JoinedPackage>,
+    kept: &mut Vec<KeptPackage>,
     finding: Finding,
 ) -> Result<(), AllocError>
-    ensures { OnOk result ((nv : Nv) (q : Question) →
+    ensures says { OnOk result ((nv : Nv) (q : Question) →
         packages_say packages.new.entries nv q ≡ (packages_say packages.old.entries nv q || finding_says_of nv q finding)) }
+    ensures kept { OnOk result (kept.new.items ≡ kept.old.items ++ kept_in finding) }
 {
-    let (package, found) = found_package(alloc, finding)?;
-    add_package(alloc, packages, package, found)
+    match finding {
+        Finding::Entered(entered) => {
+            let (package, found) = found_entered(alloc, entered)?;
+            add_package(alloc, packages, package, found)
+        }
+        Finding::Followed(followed) => {
+            let (package, found) = found_followed(alloc, followed)?;
+            add_package(alloc, packages, package, found)
+        }
+        Finding::Untyped(untyped) => {
+            let (package, found) = found_untyped(alloc, untyped)?;
+            add_package(alloc, packages, package, found)
+        }
+        Finding::Kept(package) => {
+            kept.push(package)?;
+            Ok(())
+        }
+    }
 }
 
-/// What was found of each package.
-pub fn packages_found(
-    alloc: Global,
-    findings: Vec<Finding>,
-) -> Result<BTreeMap<PackageNv, JoinedPackage>, AllocError>
-    ensures { IfOk result (λ packages. (nv : Nv) (q : Question) → packages_say packages.entries nv q ≡ findings_say findings.items nv q) }
+/// What was found of packages.
+#[derive(Drop)]
+pub struct FoundPackages {
+    /// What was found of each, joined.
+    pub joined: BTreeMap<PackageNv, JoinedPackage>,
+    /// Those whose items are used.
+    pub kept: Vec<KeptPackage>,
+}
+
+/// What was found of each package, and the packages whose items are used.
+pub fn packages_found(alloc: Global, findings: Vec<Finding>) -> Result<FoundPackages, AllocError>
+    ensures says { IfOk result (λ found. (nv : Nv) (q : Question) → packages_say found.joined.entries nv q ≡ findings_say findings.items nv q) }
+    ensures kept { IfOk result (λ found. found.kept.items ≡ flat_map kept_in findings.items) }
 {
-    let mut packages = BTreeMap::new(alloc);
+    let mut joined = BTreeMap::new(alloc);
+    let mut kept = Vec::new(alloc);
     for finding in findings {
-        add_finding(alloc, &mut packages, finding)?;
+        add_finding(alloc, &mut joined, &mut kept, finding)?;
     }
-    Ok(packages)
+    Ok(FoundPackages { joined, kept })
 }

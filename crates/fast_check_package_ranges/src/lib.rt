@@ -2,6 +2,7 @@
 #![tactic(auto)]
 
 mod found;
+mod kept;
 mod parts;
 mod ranges;
 

@@ -13,7 +13,8 @@ ghost use Rattle.fast_check_package_ranges.specs.Parts.{is_text, is_package, loo
 ghost use Rattle.fast_check_package_ranges.specs.Answers.{AreAnswers};
 ghost use Rattle.fast_check_package_ranges.specs.Made.{told_if, whole_diagnostics, IsModuleAnswer, AreModuleAnswers, IsPackageAnswer, ArePackageAnswers};
 
-use crate::found::packages_found;
+use crate::found::{FoundPackages, packages_found};
+use crate::kept::put_kept;
 use crate::parts::{JoinedModule, JoinedPackage, either};
 use fast_check_cache::PackagePublicRanges;
 use fast_check_diagnostics::{FastCheckDiagnostic, ModulePublicRanges};
@@ -204,10 +205,11 @@ fn all_ranges(
     Ok(made)
 }
 
-/// What was found, by package and module. A package is there exactly if it was entered, or if anything was found of it.
+/// What was found, by package and module. A package is there exactly if it was entered, or if anything was found of it. One whose item is used is
+/// answered by its entry points and the item alone: what other packages ask of its modules goes, as the item stands in place of what was found.
 ///
 /// No diagnostic is told twice of a module. Those of the module as a whole come first, and then the faults of demands by their places in the text.
-/// That the types of a module are not known is told where nothing else is told of it. Nothing comes from a cache.
+/// That the types of a module are not known is told where nothing else is told of it.
 pub fn package_ranges(
     alloc: Global,
     found: Vec<Finding>,
@@ -215,6 +217,8 @@ pub fn package_ranges(
     ensures { IfOk result (AreAnswers (flat_map yields_of found.items)) }
 {
     let packages = packages_found(alloc, found)?;
-    let answers = all_ranges(alloc, packages)?;
+    let FoundPackages { joined, kept } = packages;
+    let mut answers = all_ranges(alloc, joined)?;
+    put_kept(alloc, &mut answers, kept)?;
     Ok(answers)
 }

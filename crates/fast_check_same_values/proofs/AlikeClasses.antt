@@ -1,5 +1,5 @@
 -- Classes that agree but for what is hidden are seen alike.
-use Rattle.std.specs.Prelude.{◌≡◌, Bool, true, false, not, ◌&&◌, ◌||◌, Option, Some, None, unwrap_or, option_map, List, [], ◌∷◌, ◌++◌, map, flat_map, refl, if◌then◌else◌}
+use Rattle.std.specs.Prelude.{◌≡◌, Bool, true, false, ◌&&◌, Option, Some, None, unwrap_or, option_map, List, [], ◌∷◌, ◌++◌, map, flat_map, refl, if◌then◌else◌}
 use Rattle.std.specs.List.{list_any, filter}
 use Rattle.std.proofs.Common.{ap, ap₂, ◌∙◌, sym, subst, subst₂, true≢false}
 use Rattle.std.proofs.lemmas.List.{map-append}
@@ -9,26 +9,23 @@ use Rattle.fast_check_syntax.specs.declared.kind.Word.TheVariants as words
 use Rattle.fast_check_syntax.specs.declared.source.SourceRange.{SourceRange}
 use Rattle.fast_check_syntax.specs.declared.source.SyntaxContext.{SyntaxContext}
 use Rattle.fast_check_syntax.specs.declared.tree.Tree.{Tree, Absent}
-use Rattle.fast_check_syntax.specs.Shape.{◌is◌, kind_of, parts, is_absent, has_word, none_range, list}
-use Rattle.fast_check_syntax.specs.Moves.{Moves, Keeps, Renaming, IsRenaming, partners, twice, moved}
-use Rattle.fast_check_syntax.specs.Same.{SameTree, SameRange, Each}
+use Rattle.fast_check_syntax.specs.Shape.{◌is◌, kind_of, parts, is_absent, has_word}
+use Rattle.fast_check_syntax.specs.Moves.{Moves, Renaming, IsRenaming, partners, twice, moved}
+use Rattle.fast_check_syntax.specs.Same.{SameTree, Each}
 use Rattle.fast_check_syntax.proofs.Moved.{node_moved, range_moved, text_moved, kind_of_moved, part_moved, range_of_moved, text_of_moved, flag_of_moved, has_word_moved}
 use Rattle.fast_check_syntax.proofs.Partners.{partners-keep as partners_keep, twice-keeps as twice_keeps}
 use Rattle.fast_check_syntax.proofs.Same.{tree_to, range_to}
 use Rattle.fast_check_ranges.specs.Ranges.{range_of_node}
-use Rattle.fast_check_class_forms.specs.Classes.{Class-span, Class-ctxt, Class-body, Class-super_class}
 use Rattle.fast_check_class_forms.specs.Classes.{Constructor-span, Constructor-ctxt, Constructor-key, Constructor-body, Constructor-accessibility}
 use Rattle.fast_check_class_forms.specs.Classes.{Constructor-is_optional}
-use Rattle.fast_check_class_forms.specs.Classes.{TsParamProp-span, TsParamProp-accessibility, TsParamProp-readonly, TsParamProp-param}
+use Rattle.fast_check_class_forms.specs.Classes.{TsParamProp-accessibility, TsParamProp-readonly, TsParamProp-param}
 use Rattle.fast_check_class_forms.specs.Fields.{ClassProp-key, ClassProp-accessibility, AutoAccessor-key, AutoAccessor-accessibility}
-use Rattle.fast_check_class_forms.specs.Functions.{Function-params, Param-pat}
 use Rattle.fast_check_class_forms.specs.Methods.{ClassMethod-span, ClassMethod-key, ClassMethod-function, ClassMethod-kind, ClassMethod-is_static}
 use Rattle.fast_check_class_forms.specs.Methods.{ClassMethod-accessibility, ClassMethod-is_abstract, ClassMethod-is_optional, ClassMethod-is_override}
-use Rattle.fast_check_expression_forms.specs.Calls.{CallExpr-span, CallExpr-ctxt, CallExpr-args}
 use Rattle.fast_check_expression_forms.specs.Expressions.{ExprOrSpread-spread}
 use Rattle.fast_check_expression_forms.specs.Patterns.{AssignPat-right}
-use Rattle.fast_check_program_forms.specs.Names.{Ident-span, Ident-sym, Ident-optional, BindingIdent-id, BindingIdent-type_ann}
-use Rattle.fast_check_statement_forms.specs.Statements.{BlockStmt-stmts, ExprStmt-span, ExprStmt-expr}
+use Rattle.fast_check_program_forms.specs.Names.{Ident-span, Ident-sym, Ident-optional, BindingIdent-type_ann}
+use Rattle.fast_check_statement_forms.specs.Statements.{BlockStmt-stmts}
 use Rattle.fast_check_helpers.specs.declared.literal_type.DeclMutabilityKind.{DeclMutabilityKind}
 use Rattle.fast_check_helpers.specs.Builders.{any_type_ann, never_value}
 use Rattle.fast_check_helpers.specs.InferredType.{inferred_type}
@@ -40,18 +37,17 @@ use Rattle.fast_check_signatures.specs.declared.function_kind.FunctionKind.TheVa
 use Rattle.fast_check_signatures.specs.Seen.{Seen, written, range, scope, flag, listed, class, faulty, seens}
 use Rattle.fast_check_signatures.specs.NewNodes.{never_array_in_parens, ident_name, new_block, hash_private}
 use Rattle.fast_check_signatures.specs.Expressions.{expr_seen}
-use Rattle.fast_check_signatures.specs.Functions.{params_seen, any_params_from, function_seen, implementation_seen, signature_seen, return_type_seen}
-use Rattle.fast_check_signatures.specs.Parameters.{pats_seen}
+use Rattle.fast_check_signatures.specs.Functions.{any_params_from, function_seen, implementation_seen}
 use Rattle.fast_check_signatures.specs.Members.{is_private, is_computed, is_hash_named, hash_mark, stays_behind, each_behind, if_kept, is_private_computed_kind}
 use Rattle.fast_check_signatures.specs.Members.{is_private_computed, ambient_members}
-use Rattle.fast_check_signatures.specs.Classes.{is_reference, superclass_seen, typed_property, mutability_of_property, private_method_head, is_param_property}
-use Rattle.fast_check_signatures.specs.Classes.{param_target, takes_apart, param_properties, patterns_among, unless_any, shown_accessibility}
+use Rattle.fast_check_signatures.specs.Classes.{is_reference, superclass_seen, mutability_of_property, private_method_head}
+use Rattle.fast_check_signatures.specs.Classes.{param_target, takes_apart, param_properties, patterns_among, unless_any}
 use Rattle.fast_check_signatures.specs.Classes.{param_property_head, type_or_none, is_super_call, never_argument, super_call, constructor_body, constructor_of}
-use Rattle.fast_check_signatures.specs.Classes.{unless_taken_apart, method_kind, method_of, class_head, method_function_seen, method_seen, plain_params_seen}
+use Rattle.fast_check_signatures.specs.Classes.{unless_taken_apart, method_kind, class_head, method_function_seen, plain_params_seen}
 use Rattle.fast_check_signatures.specs.Classes.{constructor_params_seen, constructor_seen, member_of_kind, member_seen, default_type, param_property_type}
 use Rattle.fast_check_signatures.specs.Classes.{param_property, declared_by_params, members_seen, plain_class_seen, ambient_class}
 use Rattle.fast_check_signatures.proofs.NewNodesMoved.{never_array_in_parens_moved, new_block_moved, hash_private_moved}
-use Rattle.fast_check_signatures.proofs.MovedParts.{moved_seen, moved_class, field_moved}
+use Rattle.fast_check_signatures.proofs.MovedParts.{moved_class, field_moved}
 use Rattle.fast_check_signatures.proofs.References.{is_reference_moved}
 use Rattle.fast_check_same_values.specs.SameValues.{SameBindings, Both}
 use Rattle.fast_check_same_values.specs.SameClasses.{SameParamType, SameParamProperty, SameSuperCall, SameSuperCalls, SameConstructorHead, SameConstructed}
@@ -59,13 +55,13 @@ use Rattle.fast_check_same_values.specs.SameClasses.{plain_params, SameConstruct
 use Rattle.fast_check_same_values.specs.SameClasses.{SameClass}
 use Rattle.fast_check_same_values.specs.SameClasses.{SameAmbientMembers, SameAmbientClass}
 use Rattle.fast_check_same_values.specs.SameClasses as s
-use Rattle.fast_check_same_values.proofs.AlikeTrees.{TreeAlike, RangeAlike, scope_to, image_alike, same_read, new_alike, absent_alike, range_leaf_alike}
+use Rattle.fast_check_same_values.proofs.AlikeTrees.{TreeAlike, scope_to, image_alike, same_read, new_alike, absent_alike, range_leaf_alike}
 use Rattle.fast_check_same_values.proofs.AlikeTrees.{scope_leaf_alike, flag_leaf_alike, node_alike}
 use Rattle.fast_check_same_values.proofs.AlikeSeen.{Alike, AllAlike, written_alike, same_written, range_alike, scope_alike, flag_alike, faulty_alike, alike_if}
 use Rattle.fast_check_same_values.proofs.AlikeSeen.{append_alike, seens_alike, round_alike, listed_alike}
 use Rattle.fast_check_same_values.proofs.AlikeFunctions.{any_params_alike, implementation_alike, signature_of_alike}
 use Rattle.fast_check_same_values.proofs.Alike.{function_alike, params_alike}
-use Rattle.fast_check_same_values.proofs.AlikeMembers.{silent, SameTaken, taken_left, taken_right, taken_next, private_alike, StaysAlike, stays_alike}
+use Rattle.fast_check_same_values.proofs.AlikeMembers.{silent, SameTaken, taken_left, taken_right, taken_next, private_alike, stays_alike}
 use Rattle.fast_check_same_values.proofs.AlikeProperties.{nothing_alike, HeadAlike, declared_alike, any_alike, ann_alike, place_alike, by_privacy}
 use Rattle.fast_check_same_values.proofs.AlikeProperties.{property_alike, accessor_alike}
 

@@ -1,16 +1,16 @@
 -- Which members stay of two classes that agree: those that are silent go, and of two that agree both stay or both go.
-use Rattle.std.specs.Prelude.{◌≡◌, ℕ, Bool, true, false, not, ◌&&◌, ◌||◌, List, [], ◌∷◌, refl, if◌then◌else◌}
+use Rattle.std.specs.Prelude.{◌≡◌, ℕ, Bool, true, false, not, ◌&&◌, ◌||◌, List, ◌∷◌, refl, if◌then◌else◌}
 use Rattle.std.specs.List.{list_any}
 use Rattle.std.specs.Str.{bytes_eq}
-use Rattle.std.proofs.Common.{ap, ap₂, ◌∙◌, sym, subst}
+use Rattle.std.proofs.Common.{ap, ap₂, ◌∙◌, sym}
 use Rattle.std.proofs.lemmas.Slice.Eq.{bytes_eq-Decides}
 use Rattle.fast_check_syntax.specs.declared.kind.Kind.{Kind}
 use Rattle.fast_check_syntax.specs.declared.kind.Kind.TheVariants as kinds
 use Rattle.fast_check_syntax.specs.declared.kind.Word.TheVariants.{Private}
 use Rattle.fast_check_syntax.specs.declared.source.SourceRange.{SourceRange}
 use Rattle.fast_check_syntax.specs.declared.tree.Tree.{Tree}
-use Rattle.fast_check_syntax.specs.Shape.{◌is◌, is_kind, kind_of, is_absent, text_of, has_word}
-use Rattle.fast_check_syntax.specs.Moves.{Moves, Keeps, Renaming, IsRenaming, moved}
+use Rattle.fast_check_syntax.specs.Shape.{◌is◌, is_kind, kind_of, is_absent, text_of}
+use Rattle.fast_check_syntax.specs.Moves.{Moves, Renaming, IsRenaming, moved}
 use Rattle.fast_check_syntax.specs.Same.{SameTree}
 use Rattle.fast_check_syntax.proofs.Moved.{kind_of_moved, part_moved, text_of_moved, has_word_moved}
 use Rattle.fast_check_syntax.proofs.Same.{tree_to}
@@ -18,9 +18,9 @@ use Rattle.fast_check_class_forms.specs.Classes.{Constructor-body, Constructor-a
 use Rattle.fast_check_class_forms.specs.Fields.{ClassProp-key, ClassProp-accessibility, AutoAccessor-key, AutoAccessor-accessibility}
 use Rattle.fast_check_class_forms.specs.Methods.{ClassMethod-key, ClassMethod-accessibility}
 use Rattle.fast_check_signatures.specs.Bindings.{Bindings}
-use Rattle.fast_check_signatures.specs.Members.{is_private, is_computed, text_of_key_kind, key_text, is_hash_named_kind, is_hash_named, is_private_method_of}
+use Rattle.fast_check_signatures.specs.Members.{is_private, is_computed, text_of_key_kind, key_text, is_hash_named_kind, is_private_method_of}
 use Rattle.fast_check_signatures.specs.Members.{is_private_implementation, is_first_of_name, is_first_implementation, stays_by_kind, stays_behind}
-use Rattle.fast_check_signatures.specs.Members.{is_private_computed_kind, is_private_computed}
+use Rattle.fast_check_signatures.specs.Members.{is_private_computed_kind}
 use Rattle.fast_check_signatures.proofs.Choices.{both_true}
 use Rattle.fast_check_same_values.specs.SameValues.{Both}
 use Rattle.fast_check_same_values.specs.SameClasses.{IsSilentMember, SamePropertyHead, SameMember}

@@ -1,6 +1,6 @@
 -- Properties and accessors that agree but for what is hidden are seen alike.
 use Rattle.std.specs.Prelude.{◌≡◌, Bool, true, false, Option, Some, None, unwrap_or, option_map, [], ◌∷◌, refl, if◌then◌else◌}
-use Rattle.std.proofs.Common.{ap, ◌∙◌, sym, subst, subst₂}
+use Rattle.std.proofs.Common.{ap, ◌∙◌, sym, subst₂}
 use Rattle.fast_check_syntax.specs.declared.kind.Kind.TheVariants as kinds
 use Rattle.fast_check_syntax.specs.declared.source.SourceRange.{SourceRange}
 use Rattle.fast_check_syntax.specs.declared.tree.Tree.{Tree, Absent}

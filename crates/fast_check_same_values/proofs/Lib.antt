@@ -8,3 +8,5 @@ pub mod Alike
 pub mod AlikePresent
 pub mod AlikeProperties
 pub mod AlikeClasses
+pub mod HiddenChanges
+pub mod HiddenRules

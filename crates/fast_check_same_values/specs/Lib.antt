@@ -1,2 +1,4 @@
 pub mod SameValues
 pub mod SameClasses
+pub mod HiddenChanges
+pub mod HiddenRules

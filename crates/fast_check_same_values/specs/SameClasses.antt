@@ -2,7 +2,7 @@
 use Rattle.std.specs.Prelude.{◌≡◌, ℕ, Bool, true, false, Some, None, List, [], ◌∷◌, map}
 use Rattle.std.specs.List.{list_any}
 use Rattle.fast_check_syntax.specs.declared.kind.Kind.TheVariants.{Constructor, ClassMethod, ClassProp, TsIndexSignature, AutoAccessor, StaticBlock, EmptyStmt}
-use Rattle.fast_check_syntax.specs.declared.kind.Kind.TheVariants.{PrivateName, BindingIdent, AssignPat, RestPat}
+use Rattle.fast_check_syntax.specs.declared.kind.Kind.TheVariants.{BindingIdent, AssignPat, RestPat}
 use Rattle.fast_check_syntax.specs.declared.kind.Word.TheVariants.{Setter}
 use Rattle.fast_check_syntax.specs.declared.source.SourceRange.{SourceRange}
 use Rattle.fast_check_syntax.specs.declared.tree.Tree.{Tree}
@@ -15,9 +15,9 @@ use Rattle.fast_check_class_forms.specs.Classes.{Class-super_type_params, Class-
 use Rattle.fast_check_class_forms.specs.Classes.{Constructor-params, Constructor-body, Constructor-accessibility, Constructor-is_optional}
 use Rattle.fast_check_class_forms.specs.Classes.{TsParamProp-span, TsParamProp-accessibility, TsParamProp-readonly, TsParamProp-param}
 use Rattle.fast_check_class_forms.specs.Fields.{ClassProp-accessibility, ClassProp-readonly, ClassProp-is_override, ClassProp-type_ann, ClassProp-value}
-use Rattle.fast_check_class_forms.specs.Fields.{AutoAccessor-key, AutoAccessor-accessibility, AutoAccessor-type_ann, AutoAccessor-value}
+use Rattle.fast_check_class_forms.specs.Fields.{AutoAccessor-accessibility, AutoAccessor-type_ann, AutoAccessor-value}
 use Rattle.fast_check_class_forms.specs.Functions.{Function-params, Param-pat}
-use Rattle.fast_check_class_forms.specs.Methods.{ClassMethod-span, ClassMethod-key, ClassMethod-function, ClassMethod-kind, ClassMethod-accessibility}
+use Rattle.fast_check_class_forms.specs.Methods.{ClassMethod-span, ClassMethod-function, ClassMethod-kind, ClassMethod-accessibility}
 use Rattle.fast_check_class_forms.specs.Methods.{ClassMethod-is_override}
 use Rattle.fast_check_expression_forms.specs.Calls.{CallExpr-span, CallExpr-ctxt, CallExpr-callee, CallExpr-args, CallExpr-type_args}
 use Rattle.fast_check_expression_forms.specs.Expressions.{ExprOrSpread-spread}
@@ -29,7 +29,7 @@ use Rattle.fast_check_helpers.specs.declared.literal_type.DeclMutabilityKind.The
 use Rattle.fast_check_helpers.specs.InferredType.{inferred_type}
 use Rattle.fast_check_signatures.specs.Bindings.{Bindings}
 use Rattle.fast_check_signatures.specs.Seen.{PropertyHead}
-use Rattle.fast_check_signatures.specs.Members.{is_private, is_computed, is_hash_named, is_private_method_of, is_private_implementation, is_private_computed}
+use Rattle.fast_check_signatures.specs.Members.{is_private, is_hash_named, is_private_method_of, is_private_implementation, is_private_computed}
 use Rattle.fast_check_signatures.specs.Classes.{mutability_of_property, property_head, accessor_head, private_method_head, plain_param, param_target}
 use Rattle.fast_check_signatures.specs.Classes.{param_properties, patterns_among, is_super_call, is_reference}
 use Rattle.fast_check_same_values.specs.SameValues.{Both, Neither, SameExpr, SameFunction, SameFunctionHead, SameReturn, SameParams, SameImplementation}

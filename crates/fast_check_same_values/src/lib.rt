@@ -1,3 +1,7 @@
 //! When two values, functions or parameters agree but for what a skeleton hides of them, and the proofs that such are seen
-//! alike. There is no code here: the definitions are for the law of `fast_check_skeleton`.
+//! alike. The definitions are for the law of `fast_check_skeleton`; the one function here is a law too.
 #![tactic(auto)]
+
+mod changes;
+
+pub use changes::hidden_changes;

@@ -8,6 +8,7 @@ use Rattle.std.specs.Borrow.{Bor}
 use Rattle.url.specs.Parts.{Parts, serialize}
 use Rattle.fast_check_packages.specs.Package.{Nv, version_or_zero}
 use Rattle.fast_check_packages.specs.declared.package.WorkspaceMember.{WorkspaceMember}
+use Rattle.fast_check_cache.specs.Cache.{ItemView}
 use Rattle.fast_check_graph.specs.declared.graph.ModuleGraph.{ModuleGraph}
 use Rattle.fast_check_graph.specs.declared.module.Module.{Module}
 use Rattle.fast_check_graph.specs.declared.root_symbol.ModuleInfo.{ModuleInfo}
@@ -21,13 +22,23 @@ use Rattle.fast_check_steps.specs.declared.sources.Sources.{Sources}
 abbrev pub member_nv : WorkspaceMember → Nv
 member_nv m = (string_bytes m.name, version_or_zero m.version)
 
--- the graph, the tables of modules by name, the members of the workspace, the URLs of packages, and the package that a specifier belongs to
+-- the item of a package with these entry points (in order, each once) that is used in place of what would be found
+abbrev pub Used : Type 0
+Used = Nv → List Parts → Option ItemView
+
+-- without a cache no item is used
+abbrev pub none_used : Used
+none_used nv entry_points = None
+
+-- the graph, the tables of modules by name, the members of the workspace, the URLs of packages, the package that a specifier belongs to, and the
+-- items that are used
 pub record Known : Type 0 where
   pub graph : ModuleGraph
   pub root_symbol : RootSymbol
   pub workspace_members : List WorkspaceMember
   pub url_of : Nv → Parts
   pub owner : Text → Option Nv
+  pub used : Used
 
 -- the first member whose base begins the text
 abbrev pub member_of : List WorkspaceMember → Text → Option WorkspaceMember
@@ -44,6 +55,18 @@ known s url_of nv_at = record {
   workspace_members = s.workspace_members.now;
   url_of = url_of;
   owner = owner_by s.workspace_members.now nv_at;
+  used = none_used;
+}
+
+-- the same, with items that are used
+abbrev pub with_used : Used → Known → Known
+with_used used k = record {
+  graph = k.graph;
+  root_symbol = k.root_symbol;
+  workspace_members = k.workspace_members;
+  url_of = k.url_of;
+  owner = k.owner;
+  used = used;
 }
 
 abbrev pub is_text : Text → Parts → Bool

@@ -2,3 +2,6 @@ pub mod SameSources
 pub mod SameTold
 pub mod Pairs
 pub mod Apart
+pub mod ExampleItems
+pub mod ExampleModules
+pub mod Examples

@@ -1,8 +1,7 @@
 -- Of two modules that agree but for what is hidden, what `transform` answers is the same.
-use Rattle.std.specs.Prelude.{◌≡◌, Bool, [], Ok, Err, refl}
+use Rattle.std.specs.Prelude.{◌≡◌, Bool, Ok, Err, refl}
 use Rattle.std.proofs.Common.{sym, subst, true≢false}
 use Rattle.fast_check_asked.specs.Asked.{surroundings_of}
-use Rattle.fast_check_comments.specs.declared.comments.Comments.{Comments}
 use Rattle.fast_check_graph.specs.declared.graph.ModuleGraph.{ModuleGraph}
 use Rattle.fast_check_module_transform.specs.Transform.{faults}
 use Rattle.fast_check_modules.specs.EsModule.{EsModule}
@@ -10,12 +9,11 @@ use Rattle.fast_check_modules.specs.diagnostics.PublicRanges.{PublicRanges}
 use Rattle.fast_check_skeleton.specs.SameComments.{SameComments}
 use Rattle.fast_check_skeleton.specs.Worlds.{SameSkeleton, SameFault, SameAnswers}
 use Rattle.fast_check_skeleton.proofs.CommentsAlike.{two_worlds}
-use Rattle.fast_check_syntax.specs.declared.tree.Tree.{Tree}
 use Rattle.fast_check_syntax.specs.Moves.{Renaming, IsRenaming}
 use Rattle.fast_check_syntax.specs.Same.{Each}
 use Rattle.fast_check_transform_pair.specs.Transformed.{ModuleAnswer, IsTransformed}
 use Rattle.fast_check_transform_pair.specs.Compared.{SameStaticSource}
-use Rattle.fast_check_transform_pair.specs.Worlds.{AgreePair, SameAnswer, KeepsHidden}
+use Rattle.fast_check_transform_pair.specs.Worlds.{SameAnswer, KeepsHidden}
 use Rattle.fast_check_transform_pair.proofs.SameSources.{sources_same}
 use Rattle.fast_check_transform_pair.proofs.SameTold.{each_empty, told_same}
 

@@ -3,13 +3,11 @@ use Rattle.std.specs.Prelude.{◌≡◌, ℕ, Bool, true, false, List, [], ◌�
 use Rattle.std.proofs.Common.{ap, ◌∙◌, sym, subst, true≢false}
 use Rattle.fast_check_links.specs.StaticSources.{source_of, source_by_kind, item_source, static_sources}
 use Rattle.fast_check_parsed_source.specs.declared.tables.fast_check_module.StaticSource.{StaticSource}
-use Rattle.fast_check_program_forms.specs.Literals.{Str-span, Str-value}
-use Rattle.fast_check_program_forms.specs.ModuleDecls.{ImportDecl-src, ImportDecl-type_only, NamedExport-src, NamedExport-type_only}
-use Rattle.fast_check_program_forms.specs.ModuleDecls.{ExportAll-src, ExportAll-type_only}
+use Rattle.fast_check_program_forms.specs.ModuleDecls.{ImportDecl-src, NamedExport-src}
+use Rattle.fast_check_program_forms.specs.ModuleDecls.{ExportAll-src}
 use Rattle.fast_check_skeleton.specs.Worlds.{SameSkeleton}
 use Rattle.fast_check_syntax.specs.declared.kind.Kind.{Kind}
 use Rattle.fast_check_syntax.specs.declared.kind.Kind.TheVariants as kinds
-use Rattle.fast_check_syntax.specs.declared.source.SourceRange.{SourceRange}
 use Rattle.fast_check_syntax.specs.declared.tree.Tree.{Tree}
 use Rattle.fast_check_syntax.specs.Moves.{Renaming, IsRenaming, partners, twice}
 use Rattle.fast_check_syntax.specs.Same.{SameTree, SameTrees, SameRange, Each}

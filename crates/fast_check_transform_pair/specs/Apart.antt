@@ -9,7 +9,7 @@ use Rattle.fast_check_parsed_source.specs.declared.tables.fast_check_module.Fast
 use Rattle.fast_check_parsed_source.specs.declared.tables.fast_check_module.StaticSource.{StaticSource}
 use Rattle.fast_check_syntax.specs.Moves.{Renaming}
 use Rattle.fast_check_syntax.specs.Same.{SameRange, Each}
-use Rattle.fast_check_transform_pair.specs.Compared.{SameStaticSource, SamePlace, SameDiagnostic}
+use Rattle.fast_check_transform_pair.specs.Compared.{SameStaticSource, SameDiagnostic}
 use Rattle.fast_check_transform_pair.specs.Worlds.{SameAnswer}
 
 -- under a renaming

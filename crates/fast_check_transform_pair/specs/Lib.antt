@@ -2,3 +2,4 @@ pub mod Transformed
 pub mod Compared
 pub mod Worlds
 pub mod Apart
+pub mod Examples

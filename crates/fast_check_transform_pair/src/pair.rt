@@ -3,6 +3,7 @@ ghost use Rattle.fast_check_modules.specs.EsModule.{Admits};
 ghost use Rattle.fast_check_transform_pair.specs.Transformed.{IsTransformed};
 ghost use Rattle.fast_check_transform_pair.specs.Worlds.{KeepsHidden};
 ghost use Rattle.fast_check_transform_pair.specs.Apart.{Compares};
+ghost use Rattle.fast_check_transform_pair.specs.Examples.{PrivateClasses, SilentAssignments, AllChanges};
 
 use fast_check_graph::ModuleGraph;
 use fast_check_module_transform::{FastCheckModule, TransformOptions, transform};
@@ -20,6 +21,9 @@ type ModuleAnswer = Result<FastCheckModule, Vec<FastCheckDiagnostic>>;
 /// skeletons of the same items, but for the module's own span, with the same comments at renamed positions and the same sources, or as many
 /// diagnostics, one by one of the same kind, flags and names, at renamed ranges of modules of one name. The source text that a diagnostic carries is not
 /// compared. Which renaming that is, is not looked for: what is said holds of each.
+///
+/// There are such modules: one with a class that is not public and one without it, which agree as long as the class is not public; the same with
+/// an assignment; and two that differ by hidden changes of all kinds.
 pub fn transform_pair(
     alloc: Global,
     graph: &ModuleGraph,
@@ -35,6 +39,9 @@ pub fn transform_pair(
     ensures second { IfOk result (λ answers. IsTransformed graph.now b.now ranges_b.now options.now.should_error_on_first_diagnostic answers.1) }
     ensures two_worlds { IfOk result (λ answers. KeepsHidden graph.now a.now ranges_a.now b.now ranges_b.now answers.0 answers.1) }
     ensures compared { Compares }
+    ensures of_private_classes { PrivateClasses }
+    ensures of_silent_assignments { SilentAssignments }
+    ensures of_all_changes { AllChanges }
 {
     let first = transform(alloc, graph, a, ranges_a, options)?;
     let second = transform(alloc, graph, b, ranges_b, options)?;

@@ -1,24 +1,30 @@
 -- A package that is entered.
-use Rattle.std.proofs.Common.{◌≡◌, ◌∙◌, sym, ap, List, [], ◌∷◌, ◌++◌, map, append-nil, Option, None}
+use Rattle.std.proofs.Common.{◌≡◌, ◌∙◌, sym, ap, subst, List, [], ◌∷◌, ◌++◌, map, append-nil, Option, Some, None, option_map}
 use Rattle.std.specs.declared.alloc.Global.{Global}
 use Rattle.std.specs.declared.vec.Vec.{Vec}
+use Rattle.std.specs.Prelude.{MatchOption}
 use Rattle.std.specs.List.{flat_map}
 use Rattle.url.specs.Parts.{Parts, serialize}
 use Rattle.fast_check_packages.specs.Package.{Nv}
+use Rattle.fast_check_cache.specs.Cache.{ItemView, item_of}
+use Rattle.fast_check_cache.specs.declared.item.FastCheckCacheItem.{FastCheckCacheItem}
 use Rattle.fast_check_graph.specs.declared.graph.ModuleGraph.{ModuleGraph}
 use Rattle.fast_check_entries.specs.findings.declared.finding.EntryFault.{EntryFault}
-use Rattle.fast_check_entries.specs.findings.Yields.{Yield, known_package, entry_point}
-use Rattle.fast_check_entries.specs.Entries.{entered, all_faults, entrance_seen}
+use Rattle.fast_check_entries.specs.findings.Yields.{Yield, known_package, entry_point, kept}
+use Rattle.fast_check_entries.specs.Entries.{all_faults, entrance_seen, in_order}
+use Rattle.fast_check_worklists.specs.Demands.{to_package}
 use Rattle.fast_check_worklists.specs.declared.asked.Step.{Step}
 use Rattle.fast_check_worklists.specs.State.{want_of, State, AsksAll}
+use Rattle.fast_check_steps.specs.Sources.{Used}
 use Rattle.fast_check_turns.specs.Rules.{entry_want, unless_faulty, entry_wants}
 use Rattle.fast_check_turns.specs.Yields.{entry_fault_yields, entry_yields}
-use Rattle.fast_check_turns.specs.Turns.{Enters}
+use Rattle.fast_check_turns.specs.Turns.{AsksAndTells, EntersAt, Enters}
+use Rattle.fast_check_turns.specs.Lent.{used_of}
 
 pub entered_with : (g : ModuleGraph) (nv : Nv) (urls seen asked : List Parts) (faults found : List (Parts × EntryFault)) → seen ≡ urls → asked ≡ urls →
     found ≡ faults → faults ≡ all_faults g seen → (steps : List Step) → map want_of steps ≡ unless_faulty found (map (entry_want nv) asked) →
     (told : List Yield) → told ≡ known_package nv ∷ (map (λ url. entry_point nv (serialize url)) urls ++ flat_map (entry_fault_yields nv) faults) →
-    (a b : State) → AsksAll steps a b → (old new : List Yield) → new ≡ old ++ told → Enters g nv (entered urls) a b old new
+    (a b : State) → AsksAll steps a b → (old new : List Yield) → new ≡ old ++ told → EntersAt g nv urls None a b old new
 entered_with g nv urls seen asked faults found s t u f steps w told y a b asks old new n =
     let all : faults ≡ all_faults g urls = f ∙ ap (all_faults g) s in (
       steps,
@@ -31,11 +37,25 @@ entered_with g nv urls seen asked faults found s t u f steps w told y a b asks o
     )
 
 -- a package that is passed over
-pub entered_nowhere : (g : ModuleGraph) (nv : Nv) (urls : Option (Vec Parts Global)) → urls ≡ None → (a b : State) → b ≡ a → (old new : List Yield) →
-    new ≡ old → Enters g nv (entrance_seen urls) a b old new
-entered_nowhere g nv urls none a b same old new still = (
+pub entered_nowhere : (g : ModuleGraph) (used : Used) (nv : Nv) (urls : Option (Vec Parts Global)) → urls ≡ None → (a b : State) → b ≡ a →
+    (old new : List Yield) → new ≡ old → Enters g used nv (entrance_seen urls) a b old new
+entered_nowhere g used nv urls none a b same old new still = (
   [],
-  ap (λ (o : Option (Vec Parts Global)). entry_wants g nv (entrance_seen o)) (sym none),
+  ap (λ (o : Option (Vec Parts Global)). entry_wants g used nv (entrance_seen o)) (sym none),
   same,
-  still ∙ (sym (append-nil old) ∙ ap (λ (o : Option (Vec Parts Global)). old ++ entry_yields g nv (entrance_seen o)) (sym none)),
+  still ∙ (sym (append-nil old) ∙ ap (λ (o : Option (Vec Parts Global)). old ++ entry_yields g used nv (entrance_seen o)) (sym none)),
 )
+
+-- one whose item is used
+pub entered_kept : (g : ModuleGraph) (nv : Nv) (urls set : List Parts) → set ≡ in_order urls → (found : Option FastCheckCacheItem)
+    (item : FastCheckCacheItem) → found ≡ Some item → (a b : State) (old new : List Yield) →
+    AsksAndTells (map to_package (item_of item).0) (kept nv set (item_of item) ∷ []) a b old new → EntersAt g nv urls (option_map item_of found) a b old new
+entered_kept g nv urls set ordered found item is a b old new h =
+    subst (λ (o : Option FastCheckCacheItem). EntersAt g nv urls (option_map item_of o) a b old new) (sym is)
+    (subst (λ (ps : List Parts). AsksAndTells (map to_package (item_of item).0) (kept nv ps (item_of item) ∷ []) a b old new) ordered h)
+
+-- what a look-up answers is what is used
+pub looked_up : {C : Type 0} (lent : Option C) (by : C → Used) (nv : Nv) (set ps : List Parts) (found : Option ItemView) → set ≡ ps →
+    MatchOption lent (found ≡ None) (λ c. found ≡ by c nv set) → found ≡ used_of lent by nv ps
+looked_up None by nv set ps found e h = h
+looked_up (Some c) by nv set ps found e h = h ∙ ap (by c nv) e

@@ -3,6 +3,7 @@ use Rattle.std.proofs.Common.{◌≡◌, refl, true, List, [], ◌∷◌, Option
 use Rattle.std.specs.List.{flat_map}
 use Rattle.url.specs.Parts.{Parts, serialize}
 use Rattle.fast_check_packages.specs.Package.{Nv}
+use Rattle.fast_check_cache.specs.Cache.{ItemView}
 use Rattle.fast_check_names.specs.Imports.{NameDemand, names_but_default, each_name}
 use Rattle.fast_check_demands.specs.Demands.{Demand as SymbolDemand}
 use Rattle.fast_check_demands.specs.Rules.{names}
@@ -17,10 +18,10 @@ use Rattle.fast_check_worklists.specs.Demands.{of_symbol}
 use Rattle.fast_check_worklists.specs.State.{IsOuter}
 use Rattle.fast_check_worklists.specs.Turn.{IsOrderly}
 use Rattle.fast_check_entries.specs.findings.declared.finding.EntryFault.{EntryFault}
-use Rattle.fast_check_entries.specs.Entries.{Entrance, passed_over, refused, entered, all_faults}
+use Rattle.fast_check_entries.specs.Entries.{Entrance, passed_over, refused, entered, all_faults, in_order}
 use Rattle.fast_check_steps.specs.Sources.{Known, module_at}
 use Rattle.fast_check_steps.specs.Wants.{file_at, behind, resolved, file_wants, left_wants}
-use Rattle.fast_check_turns.specs.Rules.{names_wants, symbol_wants, entry_want, unless_faulty, entrance_at, entry_wants, world}
+use Rattle.fast_check_turns.specs.Rules.{names_wants, symbol_wants, entry_want, unless_faulty, entrance_at, entered_wants, entry_wants, world}
 
 module _ (k : Known) where
   -- asked for from outside, under its own package
@@ -93,10 +94,14 @@ module _ (k : Known) where
       sound urls [] = each_map IsEntry (entry_want nv) urls (λ url c. refl)
       sound urls (f ∷ faults) = each_nil IsEntry
 
-      go : (entrance : Entrance) → Each IsEntry (entry_wants k.graph nv entrance)
+      by_item : (urls : List Parts) (item : Option ItemView) → Each IsEntry (entered_wants k.graph nv urls item)
+      by_item urls (Some item) = each_map IsEntry to_package item.0 (λ p c. tt)
+      by_item urls None = sound urls (all_faults k.graph urls)
+
+      go : (entrance : Entrance) → Each IsEntry (entry_wants k.graph k.used nv entrance)
       go passed_over = each_nil IsEntry
       go (refused text) = each_nil IsEntry
-      go (entered urls) = sound urls (all_faults k.graph urls)
+      go (entered urls) = by_item urls (k.used nv (in_order urls))
 
   pub orderly : IsOrderly (world k) k.owner
   orderly = record {

@@ -91,7 +91,7 @@ module _ (k : Known) (x : Trace) (a b : State) (old new : List Yield) (none : in
     new_is = more;
   }
 
-pub entered_at : (k : Known) (nv : Nv) (a b : State) (old new : List Yield) → Enters k.graph nv (entrance_at k nv) a b old new →
+pub entered_at : (k : Known) (nv : Nv) (a b : State) (old new : List Yield) → Enters k.graph k.used nv (entrance_at k nv) a b old new →
     IsEntered (world k) (gives k) nv a b old new
 entered_at k nv a b old new h = record { steps = h.0; wants = h.1; asks = h.2; new_is = h.3 }
 

@@ -6,3 +6,4 @@ pub mod Yields
 pub mod Traced
 pub mod Own
 pub mod Turns
+pub mod Lent

@@ -1,8 +1,9 @@
 -- What a demand names: demands of symbols, and of packages and modules.
-use Rattle.std.specs.Prelude.{List, [], ◌∷◌, ◌++◌, map}
+use Rattle.std.specs.Prelude.{List, [], ◌∷◌, ◌++◌, map, Option, Some, None}
 use Rattle.std.specs.List.{flat_map}
 use Rattle.url.specs.Parts.{Parts, serialize}
 use Rattle.fast_check_packages.specs.Package.{Nv}
+use Rattle.fast_check_cache.specs.Cache.{ItemView}
 use Rattle.fast_check_names.specs.Imports.{NameDemand, each_name}
 use Rattle.fast_check_graph.specs.declared.graph.ModuleGraph.{ModuleGraph}
 use Rattle.fast_check_demands.specs.Demands.{Demand as SymbolDemand}
@@ -13,9 +14,9 @@ use Rattle.fast_check_traces.specs.Modules.{own_tables}
 use Rattle.fast_check_traces.specs.Roots.{roots}
 use Rattle.fast_check_traces.specs.Wants.{module_wants}
 use Rattle.fast_check_entries.specs.findings.declared.finding.EntryFault.{EntryFault}
-use Rattle.fast_check_entries.specs.Entries.{Entrance, passed_over, refused, entered, all_faults, entrance_of}
-use Rattle.fast_check_worklists.specs.Demands.{Text, asked_by, Want, to_module, to_symbol, of_package, of_module, of_symbol, World}
-use Rattle.fast_check_steps.specs.Sources.{Known, module_at}
+use Rattle.fast_check_entries.specs.Entries.{Entrance, passed_over, refused, entered, all_faults, entrance_of, in_order}
+use Rattle.fast_check_worklists.specs.Demands.{Text, asked_by, Want, to_package, to_module, to_symbol, of_package, of_module, of_symbol, World}
+use Rattle.fast_check_steps.specs.Sources.{Used, Known, module_at}
 use Rattle.fast_check_steps.specs.Wants.{file_wants, left_wants}
 
 -- names of a module, for a package
@@ -38,13 +39,17 @@ unless_faulty (f ∷ faults) wants = []
 abbrev pub entrance_at : Known → Nv → Entrance
 entrance_at k nv = entrance_of k.graph k.workspace_members k.url_of nv
 
--- a package is asked for its entry points, unless something is wrong with one of them
-abbrev pub entry_wants : ModuleGraph → Nv → Entrance → List Want
-entry_wants g nv passed_over = []
-entry_wants g nv (refused text) = []
-entry_wants g nv (entered urls) = unless_faulty (all_faults g urls) (map (entry_want nv) urls)
+-- a package whose item is used asks for its dependencies; another for its entry points, unless something is wrong with one of them
+abbrev pub entered_wants : ModuleGraph → Nv → List Parts → Option ItemView → List Want
+entered_wants g nv urls (Some item) = map to_package item.0
+entered_wants g nv urls None = unless_faulty (all_faults g urls) (map (entry_want nv) urls)
+
+abbrev pub entry_wants : ModuleGraph → Used → Nv → Entrance → List Want
+entry_wants g used nv passed_over = []
+entry_wants g used nv (refused text) = []
+entry_wants g used nv (entered urls) = entered_wants g nv urls (used nv (in_order urls))
 
 abbrev pub world : Known → World
-world k (of_package nv) = entry_wants k.graph nv (entrance_at k nv)
+world k (of_package nv) = entry_wants k.graph k.used nv (entrance_at k nv)
 world k (of_module nv t d) = each_of (names_wants k nv t d) (module_at k t)
 world k (of_symbol nv t s) = each_of (symbol_wants k nv t s) (module_at k t)

@@ -1,16 +1,26 @@
 -- Inner: no contract of a public call cites what stands here.
 -- A package that is entered. What a turn does is said by the account (`IsEntered`).
-use Rattle.std.specs.Prelude.{◌≡◌, List, ◌++◌, map}
+use Rattle.std.specs.Prelude.{◌≡◌, List, ◌++◌, map, Option}
+use Rattle.url.specs.Parts.{Parts}
 use Rattle.fast_check_packages.specs.Package.{Nv}
+use Rattle.fast_check_cache.specs.Cache.{ItemView}
 use Rattle.fast_check_graph.specs.declared.graph.ModuleGraph.{ModuleGraph}
+use Rattle.fast_check_worklists.specs.Demands.{Want}
 use Rattle.fast_check_worklists.specs.declared.asked.Step.{Step}
 use Rattle.fast_check_worklists.specs.State.{want_of, State, AsksAll}
 use Rattle.fast_check_entries.specs.findings.Yields.{Yield}
 use Rattle.fast_check_entries.specs.Entries.{Entrance}
-use Rattle.fast_check_turns.specs.Rules.{entry_wants}
-use Rattle.fast_check_turns.specs.Yields.{entry_yields}
+use Rattle.fast_check_steps.specs.Sources.{Used}
+use Rattle.fast_check_turns.specs.Rules.{entered_wants, entry_wants}
+use Rattle.fast_check_turns.specs.Yields.{entered_yields, entry_yields}
 
--- what a package asks for was asked for, and what it gives was told
-abbrev pub Enters : ModuleGraph → Nv → Entrance → State → State → List Yield → List Yield → Type 0
-Enters g nv entrance a b old new =
-    (steps : List Step) × (map want_of steps ≡ entry_wants g nv entrance) × AsksAll steps a b × (new ≡ old ++ entry_yields g nv entrance)
+-- these wants were asked for, and these yields were told
+abbrev pub AsksAndTells : List Want → List Yield → State → State → List Yield → List Yield → Type 0
+AsksAndTells wants told a b old new = (steps : List Step) × (map want_of steps ≡ wants) × AsksAll steps a b × (new ≡ old ++ told)
+
+-- what a package with these entry points asks for was asked for, and what it gives was told
+abbrev pub EntersAt : ModuleGraph → Nv → List Parts → Option ItemView → State → State → List Yield → List Yield → Type 0
+EntersAt g nv urls item = AsksAndTells (entered_wants g nv urls item) (entered_yields g nv urls item)
+
+abbrev pub Enters : ModuleGraph → Used → Nv → Entrance → State → State → List Yield → List Yield → Type 0
+Enters g used nv entrance = AsksAndTells (entry_wants g used nv entrance) (entry_yields g used nv entrance)

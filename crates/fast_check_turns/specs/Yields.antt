@@ -1,10 +1,11 @@
 -- What a demand gives.
-use Rattle.std.specs.Prelude.{ℕ, cond, List, [], ◌∷◌, ◌++◌, map, option_to_list}
+use Rattle.std.specs.Prelude.{ℕ, cond, List, [], ◌∷◌, ◌++◌, map, Option, Some, None, option_to_list}
 use Rattle.std.specs.List.{flat_map}
 use Rattle.std.specs.Rc.{rc_str_bytes}
 use Rattle.url.specs.Parts.{Parts, serialize}
 use Rattle.fast_check_syntax.specs.declared.source.SourceRange.{SourceRange}
 use Rattle.fast_check_packages.specs.Package.{Nv}
+use Rattle.fast_check_cache.specs.Cache.{ItemView}
 use Rattle.fast_check_names.specs.Imports.{NameDemand}
 use Rattle.fast_check_graph.specs.declared.graph.ModuleGraph.{ModuleGraph}
 use Rattle.fast_check_graph.specs.declared.root_symbol.ModuleInfo.{ModuleInfo}
@@ -20,9 +21,10 @@ use Rattle.fast_check_traces.specs.Wants.{re_export_ranges}
 use Rattle.fast_check_worklists.specs.Demands.{Text, Want, to_package, to_module, to_symbol, Demand, of_package, of_module, of_symbol}
 use Rattle.fast_check_entries.specs.findings.declared.finding.EntryFault.{EntryFault}
 use Rattle.fast_check_entries.specs.findings.Yields.{Yield, known_package, entry_point, refused_export, dependency, recorded, public, implementing, untyped_module}
+use Rattle.fast_check_entries.specs.findings.Yields.{kept}
 use Rattle.fast_check_entries.specs.findings.Findings.{faulty_module, entry_fault, placed_yields}
-use Rattle.fast_check_entries.specs.Entries.{Entrance, passed_over, refused, entered, all_faults}
-use Rattle.fast_check_steps.specs.Sources.{Known, module_at, untyped_at}
+use Rattle.fast_check_entries.specs.Entries.{Entrance, passed_over, refused, entered, all_faults, in_order}
+use Rattle.fast_check_steps.specs.Sources.{Used, Known, module_at, untyped_at}
 use Rattle.fast_check_turns.specs.Rules.{names_wants, symbol_wants, entrance_at}
 
 -- the module's own name
@@ -79,13 +81,18 @@ untyped_yields g nv t = cond (untyped_at g t) (faulty_module nv t untyped_module
 abbrev pub entry_fault_yields : Nv → Parts × EntryFault → List Yield
 entry_fault_yields nv f = faulty_module nv (serialize f.0) (entry_fault f.1)
 
-abbrev pub entry_yields : ModuleGraph → Nv → Entrance → List Yield
-entry_yields g nv passed_over = []
-entry_yields g nv (refused text) = refused_export nv text ∷ []
-entry_yields g nv (entered urls) =
+-- a package whose item is used gives the item, and nothing of its entry points
+abbrev pub entered_yields : ModuleGraph → Nv → List Parts → Option ItemView → List Yield
+entered_yields g nv urls (Some item) = kept nv (in_order urls) item ∷ []
+entered_yields g nv urls None =
     known_package nv ∷ (map (λ url. entry_point nv (serialize url)) urls ++ flat_map (entry_fault_yields nv) (all_faults g urls))
 
+abbrev pub entry_yields : ModuleGraph → Used → Nv → Entrance → List Yield
+entry_yields g used nv passed_over = []
+entry_yields g used nv (refused text) = refused_export nv text ∷ []
+entry_yields g used nv (entered urls) = entered_yields g nv urls (used nv (in_order urls))
+
 abbrev pub gives : Known → Demand → List Yield
-gives k (of_package nv) = entry_yields k.graph nv (entrance_at k nv)
+gives k (of_package nv) = entry_yields k.graph k.used nv (entrance_at k nv)
 gives k (of_module nv t d) = each_of (names_yields k nv t d) (module_at k t) ++ untyped_yields k.graph nv t
 gives k (of_symbol nv t s) = each_of (symbol_yields k nv t s) (module_at k t)

@@ -7,7 +7,7 @@ mod packages;
 mod traced;
 
 pub use fast_check_entries::findings::{
-    EnteredPackage, EntryFault, Finding, FollowedModule, FoundModule, UntypedModule,
+    EnteredPackage, EntryFault, Finding, FollowedModule, FoundModule, KeptPackage, UntypedModule,
 };
 pub use fast_check_steps::Sources;
 pub use modules::follow;

@@ -7,7 +7,7 @@ ghost use Rattle.fast_check_packages.specs.Package.{nv_of};
 ghost use Rattle.fast_check_graph.specs.Root.{specifier_of};
 ghost use Rattle.fast_check_worklists.specs.State.{want_of, state_of, trace_of, IsFollowed};
 ghost use Rattle.fast_check_entries.specs.findings.Findings.{module_yields, yields_of};
-ghost use Rattle.fast_check_steps.specs.Sources.{known, traced_as};
+ghost use Rattle.fast_check_steps.specs.Sources.{Used, known, with_used, traced_as};
 ghost use Rattle.fast_check_turns.specs.Rules.{world};
 ghost use Rattle.fast_check_turns.specs.Traced.{IsTracedFor};
 ghost use Rattle.fast_check_turns.specs.Yields.{dependencies, untyped_yields, gives};
@@ -53,8 +53,9 @@ fn follow_in(
     info: &ModuleInfo,
     trace: PendingTrace,
 ) -> Result<(Vec<Step>, Finding), AllocError>
-    ensures { let k = known sources.entry (url_of provider.now) (nv_at provider.now) in
-        IfOk result (λ r. IsTracedFor k (traced_as k info.now) (trace_of trace) (map want_of r.0.items) (yields_of r.1)) }
+    ensures { let without = known sources.entry (url_of provider.now) (nv_at provider.now) in
+        IfOk result (λ r. (used : Used) → let k = with_used used without in
+        IsTracedFor k (traced_as k info.now) (trace_of trace) (map want_of r.0.items) (yields_of r.1)) }
 {
     let PendingTrace {
         package_nv,
@@ -101,7 +102,8 @@ fn leave_out(
     push_finding(found, Finding::Untyped(module))
 }
 
-/// Follows names of a module, if it is one that is followed: asks for what follows from them, and adds what is found.
+/// Follows names of a module, if it is one that is followed: asks for what follows from them, and adds what is found. It is the same whatever
+/// items are used.
 pub fn follow(
     alloc: Global,
     sources: Sources<'_>,
@@ -110,8 +112,9 @@ pub fn follow(
     asked: &mut Asked,
     found: &mut Vec<Finding>,
 ) -> Result<(), AllocError>
-    ensures { let k = known sources.entry (url_of provider.now) (nv_at provider.now) in
-        OnOk result (IsFollowed (world k) (gives k) (trace_of trace) (state_of asked.old) (state_of asked.new)
+    ensures { let without = known sources.entry (url_of provider.now) (nv_at provider.now) in
+        OnOk result ((used : Used) → let k = with_used used without in
+        IsFollowed (world k) (gives k) (trace_of trace) (state_of asked.old) (state_of asked.new)
         (flat_map yields_of found.old.items) (flat_map yields_of found.new.items)) }
 {
     match info_of(sources.graph, sources.root_symbol, &trace.specifier) {

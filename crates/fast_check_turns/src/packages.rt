@@ -1,21 +1,27 @@
 //! A package that is entered.
 
-ghost use Rattle.std.specs.Prelude.{◌≡◌, ◌++◌, ◌∷◌, [], map, OnOk, IfOk, IfErr};
+ghost use Rattle.std.specs.Prelude.{◌≡◌, ◌++◌, ◌∷◌, [], None, map, option_map, OnOk, IfOk, IfErr};
 ghost use Rattle.std.specs.List.{flat_map};
 ghost use Rattle.url.specs.Parts.{serialize};
 ghost use Rattle.fast_check_packages.specs.Package.{nv_of};
-ghost use Rattle.fast_check_entries.specs.findings.Yields.{known_package, entry_point};
+ghost use Rattle.fast_check_cache.specs.Cache.{item_of};
+ghost use Rattle.fast_check_cached_packages.specs.CachedPackages.{used_item};
+ghost use Rattle.fast_check_entries.specs.findings.Yields.{known_package, entry_point, kept};
 ghost use Rattle.fast_check_entries.specs.findings.Findings.{yields_of};
-ghost use Rattle.fast_check_entries.specs.Entries.{entered, entrance_seen, TellsRefused};
+ghost use Rattle.fast_check_entries.specs.Entries.{entrance_seen, in_order, TellsRefused};
+ghost use Rattle.fast_check_worklists.specs.Demands.{to_package};
 ghost use Rattle.fast_check_worklists.specs.State.{want_of, state_of, IsEntered};
-ghost use Rattle.fast_check_steps.specs.Sources.{known};
+ghost use Rattle.fast_check_steps.specs.Sources.{known, with_used};
 ghost use Rattle.fast_check_turns.specs.Rules.{entry_want, unless_faulty, entrance_at, world};
 ghost use Rattle.fast_check_turns.specs.Yields.{entry_fault_yields, gives};
-ghost use Rattle.fast_check_turns.specs.Turns.{Enters};
+ghost use Rattle.fast_check_turns.specs.Turns.{AsksAndTells, EntersAt, Enters};
+ghost use Rattle.fast_check_turns.specs.Lent.{used_of};
 
 use crate::findings::push_finding;
-use fast_check_entries::findings::{EnteredPackage, EntryFault, Finding};
-use fast_check_entries::{entry_faults, entry_points};
+use fast_check_cache::{FastCheckCache, FastCheckCacheItem};
+use fast_check_cached_packages::look_up;
+use fast_check_entries::findings::{EnteredPackage, EntryFault, Finding, KeptPackage};
+use fast_check_entries::{entry_faults, entry_point_set, entry_points};
 use fast_check_graph::ModuleGraph;
 use fast_check_names::ImportedExports;
 use fast_check_packages::PackageNv;
@@ -23,6 +29,7 @@ use fast_check_provider::{BuildFault, JsrUrlProvider};
 use fast_check_steps::Sources;
 use fast_check_worklists::{Asked, Step, copy_of};
 use std::alloc::{AllocError, Global};
+use std::collections::BTreeSet;
 use url::Url;
 
 /// Adds that all names of an entry point are asked for.
@@ -87,7 +94,7 @@ fn enter_at(
     asked: &mut Asked,
     found: &mut Vec<Finding>,
 ) -> Result<(), AllocError>
-    ensures { OnOk result (Enters graph.now (nv_of nv.now) (entered entry_points.items)
+    ensures { OnOk result (EntersAt graph.now (nv_of nv.now) entry_points.items None
         (state_of asked.old) (state_of asked.new) (flat_map yields_of found.old.items) (flat_map yields_of found.new.items)) }
 {
     let faults = entry_faults(alloc, graph, entry_points.as_slice())?;
@@ -98,41 +105,142 @@ fn enter_at(
     Ok(())
 }
 
-/// Asks for the entry points of a package, if they are known.
+/// Adds that a package is asked for.
+fn push_package(nv: &PackageNv, out: &mut Vec<Step>) -> Result<(), AllocError>
+    ensures { OnOk result (map want_of out.new.items ≡ map want_of out.old.items ++ to_package (nv_of nv.now) ∷ []) }
+{
+    out.push(Step::Package(copy_of(nv)?))?;
+    Ok(())
+}
+
+/// What a package whose item is used asks for: its dependencies.
+fn kept_steps(alloc: Global, item: &FastCheckCacheItem) -> Result<Vec<Step>, AllocError>
+    ensures { IfOk result (λ out. map want_of out.items ≡ map to_package (item_of item.now).0) }
+{
+    let mut out = Vec::new(alloc);
+    for nv in &item.dependencies {
+        push_package(nv, &mut out)?;
+    }
+    Ok(out)
+}
+
+/// Asks for the dependencies of a package whose item is used, and tells the item in place of what would be found.
+fn enter_kept(
+    alloc: Global,
+    nv: &PackageNv,
+    entry_points: BTreeSet<Url>,
+    item: FastCheckCacheItem,
+    asked: &mut Asked,
+    found: &mut Vec<Finding>,
+) -> Result<(), AllocError>
+    ensures { OnOk result (AsksAndTells (map to_package (item_of item).0) (kept (nv_of nv.now) entry_points.keys (item_of item) ∷ [])
+        (state_of asked.old) (state_of asked.new) (flat_map yields_of found.old.items) (flat_map yields_of found.new.items)) }
+{
+    let steps = kept_steps(alloc, &item)?;
+    let package = copy_of(nv)?;
+    let kept = KeptPackage {
+        package,
+        entry_points,
+        item,
+    };
+    push_finding(found, Finding::Kept(kept))?;
+    asked.ask_all(alloc, steps)?;
+    Ok(())
+}
+
+/// Enters a package with these entry points, by its item where that is used.
+fn enter_with(
+    alloc: Global,
+    graph: &ModuleGraph,
+    nv: &PackageNv,
+    entry_points: Vec<Url>,
+    sorted: BTreeSet<Url>,
+    item: Option<FastCheckCacheItem>,
+    asked: &mut Asked,
+    found: &mut Vec<Finding>,
+) -> Result<(), AllocError>
+    requires { sorted.keys ≡ in_order entry_points.items }
+    ensures { OnOk result (EntersAt graph.now (nv_of nv.now) entry_points.items (option_map item_of item)
+        (state_of asked.old) (state_of asked.new) (flat_map yields_of found.old.items) (flat_map yields_of found.new.items)) }
+{
+    match item {
+        None => enter_at(alloc, graph, nv, entry_points, asked, found),
+        Some(item) => enter_kept(alloc, nv, sorted, item, asked, found),
+    }
+}
+
+/// Asks the cache for a package with these entry points, and enters it.
+fn enter_known(
+    alloc: Global,
+    graph: &ModuleGraph,
+    cache: Option<&dyn FastCheckCache>,
+    seed: &str,
+    nv: &PackageNv,
+    entry_points: Vec<Url>,
+    asked: &mut Asked,
+    found: &mut Vec<Finding>,
+) -> Result<(), AllocError>
+    ensures { let used = used_of cache.entry (λ c. used_item (hash_of c.now seed.now) (stored c.now) graph.now) in
+        OnOk result (EntersAt graph.now (nv_of nv.now) entry_points.items (used (nv_of nv.now) (in_order entry_points.items))
+        (state_of asked.old) (state_of asked.new) (flat_map yields_of found.old.items) (flat_map yields_of found.new.items)) }
+{
+    let sorted = entry_point_set(alloc, entry_points.as_slice())?;
+    let item = look_up(cache, seed, graph, nv, &sorted)?;
+    enter_with(alloc, graph, nv, entry_points, sorted, item, asked, found)
+}
+
+/// Enters a package, if its entry points are known.
 fn enter_some(
     alloc: Global,
     graph: &ModuleGraph,
+    cache: Option<&dyn FastCheckCache>,
+    seed: &str,
     nv: &PackageNv,
     entry_points: Option<Vec<Url>>,
     asked: &mut Asked,
     found: &mut Vec<Finding>,
 ) -> Result<(), AllocError>
-    ensures { OnOk result (Enters graph.now (nv_of nv.now) (entrance_seen entry_points)
+    ensures { let used = used_of cache.entry (λ c. used_item (hash_of c.now seed.now) (stored c.now) graph.now) in
+        OnOk result (Enters graph.now used (nv_of nv.now) (entrance_seen entry_points)
         (state_of asked.old) (state_of asked.new) (flat_map yields_of found.old.items) (flat_map yields_of found.new.items)) }
 {
     match entry_points {
         None => Ok(()),
-        Some(entry_points) => enter_at(alloc, graph, nv, entry_points, asked, found),
+        Some(entry_points) => enter_known(
+            alloc,
+            graph,
+            cache,
+            seed,
+            nv,
+            entry_points,
+            asked,
+            found,
+        ),
     }
 }
 
-/// Enters a package: asks for its entry points. It is refused for the first export text that does not join.
+/// Enters a package: asks for its entry points, or for what its item in the cache depends on, where that is used. It is refused for the first
+/// export text that does not join, before the cache is asked.
 pub fn enter(
     alloc: Global,
     sources: Sources<'_>,
     provider: &dyn JsrUrlProvider,
+    cache: Option<&dyn FastCheckCache>,
+    seed: &str,
     nv: &PackageNv,
     asked: &mut Asked,
     found: &mut Vec<Finding>,
 ) -> Result<(), BuildFault>
-    ensures entered { let k = known sources.entry (url_of provider.now) (nv_at provider.now) in
+    ensures entered { let used = used_of cache.entry (λ c. used_item (hash_of c.now seed.now) (stored c.now) sources.entry.graph.now) in
+        let k = with_used used (known sources.entry (url_of provider.now) (nv_at provider.now)) in
         OnOk result (IsEntered (world k) (gives k) (nv_of nv.now) (state_of asked.old) (state_of asked.new)
         (flat_map yields_of found.old.items) (flat_map yields_of found.new.items)) }
     ensures refused { IfErr result (TellsRefused (nv_of nv.now)
         (entrance_at (known sources.entry (url_of provider.now) (nv_at provider.now)) (nv_of nv.now))) }
 {
     let members = sources.workspace_members;
-    let entry_points = entry_points(alloc, sources.graph, members, provider, nv)?;
-    enter_some(alloc, sources.graph, nv, entry_points, asked, found)?;
+    let graph = sources.graph;
+    let entry_points = entry_points(alloc, graph, members, provider, nv)?;
+    enter_some(alloc, graph, cache, seed, nv, entry_points, asked, found)?;
     Ok(())
 }

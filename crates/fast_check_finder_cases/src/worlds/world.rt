@@ -1,13 +1,12 @@
 //! A world: the input of `build`, with the modules by their names.
 
+use crate::worlds::provider::RefusingProvider;
 use fast_check_build_requests::BuildRequest;
 use fast_check_build_tables::root_symbol_of;
 use fast_check_graph::{ModuleGraph, RootSymbol};
 use fast_check_modules::TableFault;
 use fast_check_packages::{PackageNv, WorkspaceMember};
-use fast_check_provider::ListedPackages;
 use std::alloc::Global;
-use std::collections::VecDeque;
 
 /// What is followed: the modules in their graph, members of the workspace, and where packages stand.
 #[derive(Drop)]
@@ -15,14 +14,14 @@ pub struct World {
     pub graph: ModuleGraph,
     pub root_symbol: RootSymbol,
     pub workspace_members: Vec<WorkspaceMember>,
-    pub provider: ListedPackages,
+    pub provider: RefusingProvider,
 }
 
 /// The world of a request, and the packages that are handed in.
 pub fn world_of(
     alloc: Global,
     request: BuildRequest,
-) -> Result<(World, VecDeque<PackageNv>), TableFault> {
+) -> Result<(World, Vec<PackageNv>), TableFault> {
     let BuildRequest {
         graph,
         modules,
@@ -38,9 +37,9 @@ pub fn world_of(
                 graph,
                 root_symbol,
                 workspace_members,
-                provider,
+                provider: RefusingProvider::new(provider),
             };
-            Ok((world, VecDeque::from(pending)))
+            Ok((world, pending))
         }
         Err(fault) => Err(fault),
     }

@@ -164,6 +164,7 @@ pub fn call_on_set(
         }
         "contains_name" => said.tell_flag(set.contains_name(name_and_rest(words).0)),
         "is_empty" => said.tell_flag(set.is_empty()),
+        "node_count" => said.tell_made(format!(in alloc; "{}", set.node_count())),
         _ => {
             if !change(alloc, set, command, words, said) {
                 return false;

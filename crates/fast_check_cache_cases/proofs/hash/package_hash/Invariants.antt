@@ -1,6 +1,7 @@
-use Rattle.std.proofs.Common.{◌≡◌}
-use Rattle.fast_check_cache_cases.specs.Hash.{hash_urls}
+use Rattle.std.proofs.Common.{◌≡◌, fold, map}
+use Rattle.url.specs.Parts.{serialize}
+use Rattle.fast_check_cache_cases.specs.Hash.{hash_text}
 use Rattle.fast_check_cache_cases.proofs.hash.package_hash.Given as goal
 
 abbrev pub invariant-loop-url : goal.invariant-loop-url
-invariant-loop-url l = hash_urls l.hash l.url-iterator ≡ hash_urls l.initial.hash l.entrypoints.keys
+invariant-loop-url l = fold hash_text l.hash (map serialize l.url-iterator) ≡ fold hash_text l.initial.hash (map serialize l.entrypoints.keys)

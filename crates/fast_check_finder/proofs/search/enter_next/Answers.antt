@@ -3,7 +3,9 @@ use Rattle.std.proofs.lemmas.List.{length-map, get_or-map}
 use Rattle.std.proofs.lemmas.Option.{get_or_from_slice_get}
 use Rattle.fast_check_packages.specs.Package.{nv_of}
 use Rattle.fast_check_worklists.specs.Turn.{waiting_trace}
-use Rattle.fast_check_turns.specs.steps.Sources.{known}
+use Rattle.fast_check_cached_packages.specs.CachedPackages.{used_item}
+use Rattle.fast_check_turns.specs.Lent.{used_of}
+use Rattle.fast_check_turns.specs.steps.Sources.{known, with_used}
 use Rattle.fast_check_turns.proofs.entry_proofs.Passed.{passed_on}
 use Rattle.fast_check_finder.specs.Refusals.{IsRefusedOf}
 use Rattle.fast_check_finder.proofs.Refused.{refused_of}
@@ -27,7 +29,9 @@ returns-clause-turned g c =
 pub returns-in_err-enter-clause-refused : goal.returns-in_err-enter-clause-refused
 returns-in_err-enter-clause-refused g c =
     let m = goal.JsrUrlProvider-dyn g c.args.provider.now in
-    let k = known c.args.sources (m.url_of c.args.provider.now.1) (m.nv_at c.args.provider.now.1) in
+    let used = used_of c.args.cache (λ x. let n = goal.FastCheckCache-dyn g x.now in
+    used_item (n.hash_of x.now.1 c.args.seed.now) (n.stored x.now.1) c.args.sources.graph.now) in
+    let k = with_used used (known c.args.sources (m.url_of c.args.provider.now.1) (m.nv_at c.args.provider.now.1)) in
     let f = c.in_err-enter.field-0.0 in
     passed_on c.from_residual-in_err-enter.result f (IsRefusedOf k (map nv_of c.args.asked.now.packages.keys)) c.from_residual-in_err-enter.ensures.1
     (refused_of k c.args.asked.now.packages.keys c.args.next c.index.result.now (nv_of c.in_ok-nv.nv)

@@ -5,17 +5,21 @@ use Rattle.fast_check_worklists.specs.Account.{Followed}
 use Rattle.fast_check_worklists.specs.State.{state_of}
 use Rattle.fast_check_worklists.specs.Turn.{IsOnTheWay}
 use Rattle.fast_check_worklists.specs.Measure.{IsBounded, left}
-use Rattle.fast_check_turns.specs.steps.Sources.{known}
+use Rattle.fast_check_cached_packages.specs.CachedPackages.{used_item}
+use Rattle.fast_check_turns.specs.Lent.{used_of}
+use Rattle.fast_check_turns.specs.steps.Sources.{known, with_used}
 use Rattle.fast_check_turns.specs.Rules.{world}
 use Rattle.fast_check_turns.specs.Yields.{gives}
 use Rattle.fast_check_findings.specs.Findings.{yields_of}
-use Rattle.fast_check_finder.specs.Reach.{reach}
+use Rattle.fast_check_finder.specs.Reach.{lent_dependencies, reach}
 use Rattle.fast_check_finder.proofs.search.find_all.Given as goal
 
 abbrev pub invariant-turns : goal.invariant-turns
 invariant-turns g l =
     let m = goal.JsrUrlProvider-dyn g l.provider.now in
-    let k = known l.sources (m.url_of l.provider.now.1) (m.nv_at l.provider.now.1) in
+    let used = used_of l.cache (λ x. let n = goal.FastCheckCache-dyn g x.now in
+    used_item (n.hash_of x.now.1 l.seed) (n.stored x.now.1) l.sources.graph.now) in
+    let k = with_used used (known l.sources (m.url_of l.provider.now.1) (m.nv_at l.provider.now.1)) in
     record {
       way : (done : List Followed)
           × IsOnTheWay (world k) (gives k) k.owner (map nv_of l.roots) done l.next (state_of l.asked) (flat_map yields_of l.found.items);
@@ -25,4 +29,8 @@ invariant-turns g l =
 abbrev pub decreases-turns : goal.decreases-turns
 decreases-turns g l =
     let m = goal.JsrUrlProvider-dyn g l.provider.now in
-    left (reach (known l.sources (m.url_of l.provider.now.1) (m.nv_at l.provider.now.1)) (map nv_of l.roots)) (state_of l.asked) l.next
+    let used = used_of l.cache (λ x. let n = goal.FastCheckCache-dyn g x.now in
+    used_item (n.hash_of x.now.1 l.seed) (n.stored x.now.1) l.sources.graph.now) in
+    let k = with_used used (known l.sources (m.url_of l.provider.now.1) (m.nv_at l.provider.now.1)) in
+    let ds = lent_dependencies l.cache (λ x. (goal.FastCheckCache-dyn g x.now).stored x.now.1) in
+    left (reach k ds (map nv_of l.roots)) (state_of l.asked) l.next

@@ -1,6 +1,7 @@
-use Rattle.std.proofs.Common.{rules, subst}
+use Rattle.std.proofs.Common.{rules, ap, ◌∙◌}
 use Rattle.fast_check_syntax.specs.Part.{seen}
-use Rattle.fast_check_helpers.proofs.Literals.{IsNoLiteral, no_literal}
+use Rattle.fast_check_helpers.specs.LiteralType.{literal_by_kind}
+use Rattle.fast_check_helpers.proofs.Literals.{no_literal}
 use Rattle.fast_check_helpers.proofs.literal_type.maybe_lit_to_ts_type.Goals as goal
 
 pub returns-in_err-into_tree-in-Null : goal.returns-in_err-into_tree-in-Null
@@ -24,11 +25,5 @@ returns c = search rules
 pub returns-in_default : goal.returns-in_default
 returns-in_default c =
     let d = c.in_default in
-    no_literal c.args.mutability (seen c.args.lit) (subst IsNoLiteral c.kind.ensures (record {
-      not-Str = d.not-Str;
-      not-Bool = d.not-Bool;
-      not-Number = d.not-Number;
-      not-BigInt = d.not-BigInt;
-      not-Null = d.not-Null;
-      not-Regex = d.not-Regex;
-    }))
+    no_literal c.kind.result c.args.mutability (seen c.args.lit) d.not-Str d.not-Bool d.not-Number d.not-BigInt d.not-Null d.not-Regex
+    ∙ ap (λ k. literal_by_kind k c.args.mutability (seen c.args.lit)) c.kind.ensures

@@ -1,42 +1,33 @@
-use Rattle.std.proofs.Common.{ap, refl, subst, sym, ◌∙◌}
+use Rattle.std.proofs.Common.{ap, sym, ◌∙◌}
+use Rattle.fast_check_syntax.specs.declared.kind.Kind.TheVariants as kinds
 use Rattle.fast_check_syntax.specs.Part.{seen}
 use Rattle.fast_check_helpers.specs.NamedBodies.{names_type}
-use Rattle.fast_check_helpers.specs.Places.{at-ParenExpr-expr, at-TsSatisfiesExpr-expr}
-use Rattle.fast_check_helpers.proofs.Named.{IsOtherArg, names_other, names_TsAsExpr, names_TsTypeAssertion, names_Tpl, names_ParenExpr, names_TsSatisfiesExpr}
+use Rattle.fast_check_helpers.proofs.InferredTypes.{passes}
+use Rattle.fast_check_helpers.proofs.Named.{names_at, names_value}
 use Rattle.fast_check_helpers.proofs.Lower.{lower_than}
 use Rattle.fast_check_helpers.proofs.named_bodies.+names_type.Goals as goal
 
 pub returns-in-TsAsExpr : goal.returns-in-TsAsExpr
-returns-in-TsAsExpr t c = sym (names_TsAsExpr (seen c.args.value) (sym c.in-TsAsExpr.ensures))
+returns-in-TsAsExpr t c = sym (names_at (seen c.args.value) kinds.TsAsExpr (sym c.kind-kind.ensures ∙ c.in-TsAsExpr.is))
 
 pub returns-in-TsTypeAssertion : goal.returns-in-TsTypeAssertion
-returns-in-TsTypeAssertion t c = sym (names_TsTypeAssertion (seen c.args.value) (sym c.in-TsTypeAssertion.ensures))
+returns-in-TsTypeAssertion t c = sym (names_at (seen c.args.value) kinds.TsTypeAssertion (sym c.kind-kind.ensures ∙ c.in-TsTypeAssertion.is))
 
 pub returns-in-Tpl : goal.returns-in-Tpl
-returns-in-Tpl t c = sym (names_Tpl (seen c.args.value) (sym c.in-Tpl.ensures))
+returns-in-Tpl t c = sym (names_at (seen c.args.value) kinds.Tpl (sym c.kind-kind.ensures ∙ c.in-Tpl.is))
 
 pub names_type-requires : goal.names_type-requires
-names_type-requires t c = (lower_than (seen c.args.value) at-ParenExpr-expr.place c.decreases c.in-ParenExpr.ensures c.of.ensures.expr refl, tt)
+names_type-requires t c =
+    (lower_than (seen c.args.value) _ c.decreases (λ leaf. passes c.kind-kind.result _ (sym c.in-Some.is ∙ c.value_in.ensures) (c.kind-kind.ensures ∙ leaf)) c.part.ensures, tt)
 
-pub returns-in-ParenExpr : goal.returns-in-ParenExpr
-returns-in-ParenExpr t c = c.names_type.ensures ∙ (ap names_type c.of.ensures.expr ∙ sym (names_ParenExpr (seen c.args.value) (sym c.in-ParenExpr.ensures)))
-
-pub names_type-requires-in-TsSatisfiesExpr : goal.names_type-requires-in-TsSatisfiesExpr
-names_type-requires-in-TsSatisfiesExpr t c =
-    (lower_than (seen c.args.value) at-TsSatisfiesExpr-expr.place c.decreases c.in-TsSatisfiesExpr.ensures c.of-in-TsSatisfiesExpr.ensures.expr refl, tt)
-
-pub returns-in-TsSatisfiesExpr : goal.returns-in-TsSatisfiesExpr
-returns-in-TsSatisfiesExpr t c =
-    c.names_type-in-TsSatisfiesExpr.ensures ∙ (ap names_type c.of-in-TsSatisfiesExpr.ensures.expr
-    ∙ sym (names_TsSatisfiesExpr (seen c.args.value) (sym c.in-TsSatisfiesExpr.ensures)))
-
-pub returns-in_default : goal.returns-in_default
-returns-in_default t c =
+pub returns-in-Some : goal.returns-in-Some
+returns-in-Some t c =
     let d = c.in_default in
-    c.is_typed_literal.ensures ∙ sym (names_other (seen c.args.value) (subst IsOtherArg c.kind.ensures (record {
-      not-TsAsExpr = d.not-TsAsExpr;
-      not-TsTypeAssertion = d.not-TsTypeAssertion;
-      not-Tpl = d.not-Tpl;
-      not-ParenExpr = d.not-ParenExpr;
-      not-TsSatisfiesExpr = d.not-TsSatisfiesExpr;
-    })))
+    c.names_type.ensures ∙ (ap names_type c.part.ensures ∙ sym (names_value (seen c.args.value) c.kind-kind.result (sym c.kind-kind.ensures)
+    d.not-TsAsExpr d.not-TsTypeAssertion d.not-Tpl (sym c.in-Some.is ∙ c.value_in.ensures)))
+
+pub returns-in-None : goal.returns-in-None
+returns-in-None t c =
+    let d = c.in_default in
+    c.is_typed_literal.ensures ∙ sym (names_value (seen c.args.value) c.kind-kind.result (sym c.kind-kind.ensures)
+    d.not-TsAsExpr d.not-TsTypeAssertion d.not-Tpl (sym c.in-None.is ∙ c.value_in.ensures))

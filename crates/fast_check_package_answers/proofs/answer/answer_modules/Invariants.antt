@@ -1,6 +1,6 @@
 use Rattle.std.proofs.Common.{◌≡◌, true, [], ◌++◌}
 use Rattle.std.specs.List.{AllZip}
-use Rattle.fast_check_package_answers.specs.Reasons.{Tells, package_reasons}
+use Rattle.fast_check_package_answers.specs.Reasons.{Tells, package_reasons, sound_front}
 use Rattle.fast_check_package_answers.specs.PackageAnswer.{ShowsMore, tree_modules}
 use Rattle.fast_check_package_answers.proofs.answer.answer_modules.Given as goal
 
@@ -8,6 +8,7 @@ abbrev pub invariant-loop-specifier : goal.invariant-loop-specifier
 invariant-loop-specifier l = record {
   all : l.yielded ++ l.specifier-iterator ≡ l.fn.module_ranges.entries;
   reasons : AllZip Tells (package_reasons l.options.should_error_on_first_diagnostic l.graph l.root_symbol l.yielded) l.wrong.items;
-  shown : l.wrong.items ≡ [] → ShowsMore l.graph (tree_modules l.root_symbol l.yielded) l.initial.answers.items l.answers.items;
+  shown : ShowsMore l.graph (tree_modules l.root_symbol (sound_front l.options.should_error_on_first_diagnostic l.graph l.root_symbol l.yielded))
+      l.initial.answers.items l.answers.items;
   goes_on : l.options.should_error_on_first_diagnostic ≡ true → l.wrong.items ≡ [];
 }

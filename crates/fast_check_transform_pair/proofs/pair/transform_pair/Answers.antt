@@ -1,4 +1,5 @@
 use Rattle.fast_check_transform_pair.proofs.Apart.{compares}
+use Rattle.fast_check_transform_pair.proofs.Examples.{private_classes, silent_assignments, all_changes}
 use Rattle.fast_check_transform_pair.proofs.Pairs.{keeps_hidden}
 use Rattle.fast_check_transform_pair.proofs.pair.transform_pair.Goals as goal
 
@@ -28,3 +29,30 @@ returns-clause-two_worlds c =
 
 pub returns-clause-compared : goal.returns-clause-compared
 returns-clause-compared c = compares
+
+pub returns-clause-of_private_classes : goal.returns-clause-of_private_classes
+returns-clause-of_private_classes c = private_classes
+
+pub returns-clause-of_silent_assignments : goal.returns-clause-of_silent_assignments
+returns-clause-of_silent_assignments c = silent_assignments
+
+pub returns-clause-of_all_changes : goal.returns-clause-of_all_changes
+returns-clause-of_all_changes c = all_changes
+
+pub returns-in_err-first-clause-of_private_classes : goal.returns-in_err-first-clause-of_private_classes
+returns-in_err-first-clause-of_private_classes c = private_classes
+
+pub returns-in_err-first-clause-of_silent_assignments : goal.returns-in_err-first-clause-of_silent_assignments
+returns-in_err-first-clause-of_silent_assignments c = silent_assignments
+
+pub returns-in_err-first-clause-of_all_changes : goal.returns-in_err-first-clause-of_all_changes
+returns-in_err-first-clause-of_all_changes c = all_changes
+
+pub returns-in_err-second-clause-of_private_classes : goal.returns-in_err-second-clause-of_private_classes
+returns-in_err-second-clause-of_private_classes c = private_classes
+
+pub returns-in_err-second-clause-of_silent_assignments : goal.returns-in_err-second-clause-of_silent_assignments
+returns-in_err-second-clause-of_silent_assignments c = silent_assignments
+
+pub returns-in_err-second-clause-of_all_changes : goal.returns-in_err-second-clause-of_all_changes
+returns-in_err-second-clause-of_all_changes c = all_changes

@@ -6,7 +6,7 @@ use Rattle.fast_check_turns.proofs.modules.follow_in.Goals as goal
 
 -- the module is lent anew, so what was traced of it is said again
 pub returns : goal.returns
-returns g c =
+returns g c used =
     let t = c.in_ok-steps.ensures in
     record {
       names = map names_of c.as_slice-2.result.now;

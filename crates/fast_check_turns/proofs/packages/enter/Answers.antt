@@ -1,20 +1,24 @@
 use Rattle.std.proofs.Common.{sym, subst}
 use Rattle.std.specs.List.{flat_map}
 use Rattle.fast_check_packages.specs.Package.{nv_of}
+use Rattle.fast_check_cached_packages.specs.CachedPackages.{used_item}
 use Rattle.fast_check_entries.specs.Entries.{Entrance}
 use Rattle.fast_check_entries.specs.findings.Findings.{yields_of}
 use Rattle.fast_check_worklists.specs.State.{state_of}
-use Rattle.fast_check_steps.specs.Sources.{known}
+use Rattle.fast_check_steps.specs.Sources.{known, with_used}
 use Rattle.fast_check_turns.specs.Turns.{Enters}
+use Rattle.fast_check_turns.specs.Lent.{used_of}
 use Rattle.fast_check_turns.proofs.Turns.{entered_at}
 use Rattle.fast_check_turns.proofs.packages.enter.Goals as goal
 
 pub returns-clause-entered : goal.returns-clause-entered
 returns-clause-entered g c =
     let m = goal.JsrUrlProvider-dyn g c.args.provider.now in
-    let k = known c.args.sources (m.url_of c.args.provider.now.1) (m.nv_at c.args.provider.now.1) in
+    let used = used_of c.args.cache (λ x. let n = goal.FastCheckCache-dyn g x.now in
+    used_item (n.hash_of x.now.1 c.args.seed.now) (n.stored x.now.1) c.args.sources.graph.now) in
+    let k = with_used used (known c.args.sources (m.url_of c.args.provider.now.1) (m.nv_at c.args.provider.now.1)) in
     let old = flat_map yields_of c.args.found.now.items in
     let new = flat_map yields_of c.enter_some.new.found.items in
     entered_at k (nv_of c.args.nv.now) (state_of c.args.asked.now) (state_of c.enter_some.new.asked) old new
-    (subst (λ (e : Entrance). Enters k.graph (nv_of c.args.nv.now) e (state_of c.args.asked.now) (state_of c.enter_some.new.asked) old new)
+    (subst (λ (e : Entrance). Enters k.graph used (nv_of c.args.nv.now) e (state_of c.args.asked.now) (state_of c.enter_some.new.asked) old new)
     (sym c.in_ok-entry_points.ensures.entered) c.in_ok-enter_some.ensures)

@@ -1,0 +1,28 @@
+use Rattle.std.proofs.Common.{rules, arith, ap, ◌∙◌, ◌≡◌, ◌<◌, ◌++◌, length, get_or, set, take, drop, map, List, []}
+use Rattle.std.proofs.lemmas.List.{length-map}
+use Rattle.fast_check_names.specs.declared.lattice.node.Node.{Node}
+use Rattle.fast_check_names.specs.Order.{Entry}
+use Rattle.fast_check_names.specs.Graph.{lower, moved_below, lower_entries, listings}
+use Rattle.fast_check_names.proofs.Lists.{still, one_more, items_at, listings_set, mapped_rising, rising_along}
+use Rattle.fast_check_names.proofs.lattice.covers.lower_nodes.Goals as goal
+
+pub invariant_of-node : goal.invariant_of-node
+invariant_of-node c = record {
+  rising = rising_along c.lower_names.new.names.items (lower_entries c.args.gone c.index_mut-node.result.now.names.items) c.lower_names.ensures
+      (mapped_rising (moved_below (lower c.args.gone)) c.index_mut-node.result.now.names.items c.index_mut-node.result.now.rising);
+}
+
+pub loop-i-preserved : goal.loop-i-preserved
+loop-i-preserved c =
+    let ls = listings c.args.nodes.now.items in
+    let node = c.index_mut-node.result.now in
+    let i = c.loop-i.i in
+    let here : i < length c.loop-i.nodes.items = search rules in
+    let long = length-map c.args.nodes.now.items (λ (x : Node). x.names.items) in
+    let within : i < length ls = omega (arith, c.args.nodes.now.ok.0, c.len-i-end.ensures, long) in
+    let held : node.names.items ≡ get_or ls i [] = items_at c.loop-i.nodes.items i node here c.index_mut-node.ensures.value ∙
+    (ap (λ (xs : List (List Entry)). get_or xs i []) c.loop-i.invariant ∙ still (lower_entries c.args.gone) ls i [] within) in
+    listings_set c.loop-i.nodes.items i _ ∙
+    (ap (λ (xs : List (List Entry)). set xs i c.lower_names.new.names.items) c.loop-i.invariant ∙
+    (ap (λ (es : List Entry). set (map (lower_entries c.args.gone) (take i ls) ++ drop i ls) i es) (c.lower_names.ensures ∙ ap (lower_entries c.args.gone) held) ∙
+    one_more (lower_entries c.args.gone) ls i [] within))

@@ -1,0 +1,178 @@
+//! What a set gains at one node is written in place: all growth comes first, and then nothing can fail.
+
+ghost use Rattle.std.specs.Prelude.{◌≡◌, ℕ, ◌+◌, ◌-◌, ◌<◌, ◌≤◌, length, cond, OnOk, OnErr, IfOk, IfSome, IsTrue, Some, None, string_bytes, vec_len, vec_capacity, get_or, []};
+ghost use Rattle.std.specs.Str.{bytes_eq};
+ghost use Rattle.fast_check_names.specs.Order.{Name, found, IsRising};
+ghost use Rattle.fast_check_names.specs.Graph.{entry, listings, shift, either_of, IsTree, IsMerge, IsBehind, HasRoom, AreApart, LacksNames};
+ghost use Rattle.fast_check_names.specs.Names.{IsJoint};
+
+use crate::lattice::calls::names_of;
+use crate::lattice::node::{Below, Node};
+use crate::lattice::nodes::{find_at, place_of, shift_nodes};
+use std::alloc::{AllocError, Global};
+
+/// As many names are written in place at most. More of them are joined in a copy, which takes each old name once.
+const FEW: usize = 64;
+
+/// Room for the elements of a vector and `more`: None where they fit, else a vector without elements to which they can move.
+fn room_for<T: Drop>(
+    alloc: Global,
+    items: &Vec<T>,
+    more: usize,
+) -> Result<Option<Vec<T>>, AllocError>
+    ensures { IfOk result (HasRoom items.now more) }
+{
+    let Some(enough) = items.len().checked_add(more) else {
+        return Err(AllocError);
+    };
+    if enough <= items.capacity() {
+        return Ok(None);
+    }
+    let twice = items.len().saturating_mul(2);
+    let room = Vec::with_capacity(alloc, enough.max(twice))?;
+    Ok(Some(room))
+}
+
+/// Moves the elements of a vector into the room, where there is one.
+fn move_into<T: Drop>(items: &mut Vec<T>, room: Option<Vec<T>>)
+    requires { HasRoom items.old 0 room }
+    ensures items { items.new.items ≡ items.old.items }
+    ensures len { vec_len items.new ≡ vec_len items.old }
+    ensures room { (more : ℕ) → HasRoom items.old more room → vec_len items.old + more ≤ vec_capacity items.new }
+{
+    let Some(mut wider) = room else {
+        return;
+    };
+    let _ = wider.append(items);
+    *items = wider;
+}
+
+/// Lists a name that is not listed, where there is room for it.
+fn put_within(listed: &mut Vec<(String, Below)>, name: String, below: Below)
+    requires rising { IsRising listed.old.items }
+    requires free { found listed.old.items (string_bytes name) ≡ None }
+    requires room { vec_len listed.old < vec_capacity listed.old }
+    ensures rising { IsRising listed.new.items }
+    ensures found { (n : Name) → found listed.new.items n ≡ cond (bytes_eq (string_bytes name) n) (Some below) (found listed.old.items n) }
+    ensures len { vec_len listed.new ≡ vec_len listed.old + 1 }
+    ensures capacity { vec_capacity listed.old ≤ vec_capacity listed.new }
+{
+    match place_of(listed.as_slice(), name.as_str()) {
+        Ok(_) => {}
+        Err(place) => {
+            let _ = listed.insert(place, (name, below));
+        }
+    }
+}
+
+/// Lists names that are not listed, where there is room for them.
+fn put_names(listed: &mut Vec<(String, Below)>, mut names: Vec<(String, Below)>)
+    requires rising { IsRising listed.old.items }
+    requires names_rising { IsRising names.items }
+    requires apart { AreApart listed.old.items names.items }
+    requires room { vec_len listed.old + vec_len names ≤ vec_capacity listed.old }
+    ensures rising { IsRising listed.new.items }
+    ensures found { (n : Name) → found listed.new.items n ≡ either_of (found listed.old.items n) (found names.items n) }
+{
+    'names: while let Some((name, below)) = names.pop() {
+        put_within(listed, name, below);
+    }
+}
+
+/// Puts the nodes of a tree but its root behind the others, where there is room for them, and answers the names of the root.
+fn append_below(nodes: &mut Vec<Node>, mut tree: Vec<Node>) -> Vec<(String, Below)>
+    requires some { 0 < vec_len nodes.old }
+    requires tree { IsTree (entry tree.items) (vec_len tree) }
+    requires tree_some { 0 < vec_len tree }
+    requires room { vec_len nodes.old + vec_len tree ≤ vec_capacity nodes.old }
+    ensures rising { IsRising result.items }
+    ensures names { (n : Name) → found result.items n ≡ shift (vec_len nodes.old - 1) (entry tree.items 0 n) }
+    ensures count { vec_len result ≡ length (get_or (listings tree.items) 0 []) }
+    ensures behind { IsBehind nodes.old.items (entry tree.items) nodes.new.items }
+    ensures len { vec_len nodes.new + 1 ≡ vec_len nodes.old + vec_len tree }
+{
+    let _room = nodes.capacity();
+    shift_nodes(&mut tree, nodes.len() - 1);
+    let root = tree.remove(0);
+    let _ = nodes.append(&mut tree);
+    root.names
+}
+
+/// Merges a tree into node `at`, which lists none of the names of the tree's root.
+pub fn merge(
+    nodes: &mut Vec<Node>,
+    alloc: Global,
+    at: usize,
+    tree: Vec<Node>,
+) -> Result<(), AllocError>
+    requires within { at < vec_len nodes.old }
+    requires old_tree { IsTree (entry nodes.old.items) (vec_len nodes.old) }
+    requires tree { IsTree (entry tree.items) (vec_len tree) }
+    requires some { 0 < vec_len tree }
+    requires apart { LacksNames (entry nodes.old.items at) (entry tree.items 0) }
+    ensures tree { IsTree (entry nodes.new.items) (vec_len nodes.new) }
+    ensures merge { OnOk result (IsMerge (entry nodes.old.items) (vec_len nodes.old) at (entry tree.items) (entry nodes.new.items)) }
+    ensures err { OnErr result (nodes.new ≡ nodes.old) }
+{
+    let names_room = room_for(alloc, &nodes[at].names, tree[0].names.len())?;
+    let nodes_room = room_for(alloc, nodes, tree.len())?;
+    move_into(nodes, nodes_room);
+    let names = append_below(nodes, tree);
+    let node = &mut nodes[at];
+    move_into(&mut node.names, names_room);
+    put_names(&mut node.names, names);
+    Ok(())
+}
+
+/// Whether node `at` lists none of these names.
+fn lists_none(nodes: &[Node], at: usize, names: &[(String, Below)]) -> bool
+    requires { IsRising names.now }
+    ensures { IsTrue result → LacksNames (entry nodes.now at) (found names.now) }
+{
+    for (name, _) in names {
+        if find_at(nodes, at, name.as_str()).is_some() {
+            return false;
+        }
+    }
+    true
+}
+
+/// The node at which all that another set adds can be put, and the other set's node that lists it: None where there is no such node, and where
+/// it would gain many names.
+fn joint(nodes: &[Node], at: usize, others: &[Node], other: usize) -> Option<(usize, usize)>
+    requires within { at < length nodes.now }
+    requires tree { IsTree (entry nodes.now) (length nodes.now) }
+    requires other_tree { IsTree (entry others.now) (length others.now) }
+    ensures { IfSome result (IsJoint (entry nodes.now) (length nodes.now) at (entry others.now) other) }
+{
+    let names = names_of(others, other);
+    if lists_none(nodes, at, names) {
+        if FEW < names.len() {
+            return None;
+        }
+        return Some((at, other));
+    }
+    if names.len() != 1 {
+        return None;
+    }
+    let (name, below) = &names[0];
+    let Below::Subset(next) = *below else {
+        return None;
+    };
+    let Some(Below::Subset(no)) = find_at(nodes, at, name.as_str()) else {
+        return None;
+    };
+    joint(nodes, no.0, others, next.0)
+}
+
+/// The same of two roots, of which the first may not be there yet.
+pub fn joint_of_roots(nodes: &[Node], others: &[Node]) -> Option<(usize, usize)>
+    requires tree { IsTree (entry nodes.now) (length nodes.now) }
+    requires other_tree { IsTree (entry others.now) (length others.now) }
+    ensures { IfSome result (IsJoint (entry nodes.now) (length nodes.now) 0 (entry others.now) 0) }
+{
+    if nodes.is_empty() {
+        return None;
+    }
+    joint(nodes, 0, others, 0)
+}

@@ -1,0 +1,16 @@
+use Rattle.std.proofs.Common.{◌≡◌, ◌++◌}
+use Rattle.fast_check_package_answers.specs.Answered.{AreAnswered, sets}
+use Rattle.fast_check_package_answers.proofs.packages.answer_and_set_all.Given as goal
+
+abbrev pub invariant-loop-nv : goal.invariant-loop-nv
+invariant-loop-nv g l =
+    let m = goal.FastCheckCache-dyn g l.cache.now in
+    let n = goal.FastCheckCache-dyn g l.initial.cache.now in
+    let now = l.cache.now.1 in
+    let old = l.initial.cache.now.1 in
+    let first = l.options.should_error_on_first_diagnostic in record {
+      all : l.yielded ++ l.nv-iterator ≡ l.fn.ranges.entries;
+      answered : AreAnswered l.graph l.root_symbol first l.yielded l.answers.items;
+      set : m.stored now ≡ sets (n.hash_of old l.seed) first l.graph l.root_symbol l.yielded (n.stored old);
+      hash : m.hash_of now ≡ n.hash_of old;
+    }
