@@ -1,5 +1,5 @@
--- What is public in modules is declared in them, and packages are answered one after the other.
-use Rattle.std.proofs.Common.{◌≡◌, ◌∙◌, sym, ap, refl, subst, Bool, true, List, [], ◌∷◌, ◌++◌, append-nil, append_assoc, Option, Some, None}
+-- What is public in the modules of packages is declared in them.
+use Rattle.std.proofs.Common.{◌≡◌, ◌∙◌, ap, refl, subst, Bool, true, List, [], ◌∷◌, ◌++◌, Option, Some, None}
 use Rattle.std.specs.List.{Contains, AllByRecursion}
 use Rattle.std.specs.Map.{lookup, IsKeyTest}
 use Rattle.std.specs.BTreeMap.{BTreeMap, keys, IsOrdered}
@@ -15,7 +15,6 @@ use Rattle.fast_check_packages.specs.Package.{Nv, nv_of}
 use Rattle.fast_check_packages.specs.PackageOrder.{nv_total}
 use Rattle.fast_check_packages.specs.declared.package.PackageNv.{PackageNv}
 use Rattle.fast_check_modules.specs.diagnostics.PublicRanges.{PublicRanges, is_public}
-use Rattle.fast_check_graph.specs.declared.graph.ModuleGraph.{ModuleGraph}
 use Rattle.fast_check_graph.specs.declared.root_symbol.ModuleInfo.{ModuleInfo}
 use Rattle.fast_check_graph.specs.declared.root_symbol.ModuleInfo.TheVariants.{Esm, Json}
 use Rattle.fast_check_graph.specs.declared.root_symbol.RootSymbol.{RootSymbol}
@@ -28,13 +27,12 @@ use Rattle.fast_check_package_ranges.specs.Answers.{module_answer, package_answe
 use Rattle.fast_check_package_ranges.proofs.Maps.{lookup_key, text_one, text_total, package_one, package_total}
 use Rattle.fast_check_package_ranges.specs.findings.Diagnostics.{where_found}
 use Rattle.fast_check_package_answers.specs.Reasons.{PublicModule}
-use Rattle.fast_check_package_answers.specs.PackageAnswer.{Answer, TreeModule, with_tree, tree_modules, OwnsPublic, OwnsModule, OwnsAll}
-use Rattle.fast_check_package_answers.proofs.Lists.{all_back}
+use Rattle.fast_check_package_answers.specs.PackageAnswer.{TreeModule, with_tree, tree_modules, OwnsPublic, OwnsModule, OwnsAll}
+use Rattle.fast_check_package_answers.specs.Answered.{by_text, by_nv}
+use Rattle.fast_check_package_answers.specs.Owned.{IsOwned, AreOwned}
 use Rattle.fast_check_finder.specs.turns.steps.Sources.{Known}
 use Rattle.fast_check_finder.specs.turns.Own.{IsOwnRange}
 use Rattle.fast_check_build.specs.Found.{IsFound}
-use Rattle.fast_check_build.specs.Build.{by_text, by_nv, IsAnswered, AreAnswered}
-use Rattle.fast_check_build.specs.Owned.{IsOwned, AreOwned}
 
 -- an entry of a map is found by its own key
 found_entry : {K X : Type 0} {cmp : K → K → Ordering} (o : IsTotalOrder cmp) (test : K → Bool) → IsKeyTest (eq_by_cmp cmp) test → (m : BTreeMap K X) →
@@ -92,32 +90,3 @@ module _ (k : Known) (roots : List Nv) (ranges : BTreeMap PackageNv PackagePubli
   pub all_owned : AreOwned k.root_symbol ranges.entries
   all_owned = owned_packages ranges.entries
       (λ p c in_order. all_trees k.root_symbol p.1.module_ranges.entries (λ m d. owned_module p c in_order m d))
-
--- the next package is owned
-pub owned_next : (root : RootSymbol) (ps : List (PackageNv × PackagePublicRanges)) (p : PackageNv × PackagePublicRanges)
-    (rest all : List (PackageNv × PackagePublicRanges)) → ps ++ p ∷ rest ≡ all → AreOwned root all → IsOwned root p.1
-owned_next root ps p rest all e h = (all_back (λ (x : PackageNv × PackagePublicRanges). IsOwned root x.1) ps (p ∷ rest)
-    (subst (λ (xs : List (PackageNv × PackagePublicRanges)). AreOwned root xs) (sym e) h)).0
-
--- one package more is answered
-pub answered_more : (graph : ModuleGraph) (root : RootSymbol) (first : Bool) (ps : List (PackageNv × PackagePublicRanges))
-    (p : PackageNv × PackagePublicRanges) (done part : List Answer) → AreAnswered graph root first ps done → IsAnswered graph root first p.1 part →
-    AreAnswered graph root first (ps ++ p ∷ []) (done ++ part)
-answered_more graph root first [] p done part e h = (part, [], ap (λ (xs : List Answer). xs ++ part) e ∙ sym (append-nil part), h, refl)
-answered_more graph root first (q ∷ ps) p done part k h = (
-  k.0,
-  k.1 ++ part,
-  ap (λ (xs : List Answer). xs ++ part) k.2 ∙ append_assoc k.0 k.1 part,
-  k.3,
-  answered_more graph root first ps p k.1 part k.4 h,
-)
-
--- one turn more: the packages that are answered, and their answers
-pub turned : (graph : ModuleGraph) (root : RootSymbol) (first : Bool) (ps : List (PackageNv × PackagePublicRanges)) (p : PackageNv × PackagePublicRanges)
-    (left rest all : List (PackageNv × PackagePublicRanges)) (done part answers : List Answer) → ps ++ left ≡ all → left ≡ p ∷ rest →
-    AreAnswered graph root first ps done → IsAnswered graph root first p.1 part → answers ≡ done ++ part →
-    ((ps ++ p ∷ []) ++ rest ≡ all) × AreAnswered graph root first (ps ++ p ∷ []) answers
-turned graph root first ps p left rest all done part answers e step h k is = (
-  append_assoc ps (p ∷ []) rest ∙ (sym (ap (λ (es : List (PackageNv × PackagePublicRanges)). ps ++ es) step) ∙ e),
-  subst (λ (xs : List Answer). AreAnswered graph root first (ps ++ p ∷ []) xs) (sym is) (answered_more graph root first ps p done part h k),
-)

@@ -1,3 +1,4 @@
 mod OwnRanges
 pub mod Built
 pub mod Said
+pub mod LentBack

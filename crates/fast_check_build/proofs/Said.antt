@@ -1,5 +1,5 @@
 -- What findings say is what their yields say.
-use Rattle.std.proofs.Common.{◌≡◌, ◌∙◌, sym, true, false, List, Option, Some, None, ⊎_elim}
+use Rattle.std.proofs.Common.{◌≡◌, ◌∙◌, sym, true, List, Option, Some, None, ⊎_elim}
 use Rattle.std.specs.Prelude.{⊤, ℕ, MatchOption}
 use Rattle.std.specs.List.{flat_map}
 use Rattle.std.specs.BTreeMap.{BTreeMap}
@@ -11,7 +11,7 @@ use Rattle.fast_check_cache.specs.declared.package_ranges.PackagePublicRanges.{P
 use Rattle.fast_check_worklists.specs.Account.{Account, IsAccount, IsYield}
 use Rattle.fast_check_package_ranges.specs.findings.Findings.{yields_of}
 use Rattle.fast_check_package_ranges.specs.findings.declared.finding.Finding.{Finding}
-use Rattle.fast_check_package_ranges.specs.Questions.{Question, ModuleQuestion, about, whether_public, whether_implementing, IsTextless, is_kept, is_said}
+use Rattle.fast_check_package_ranges.specs.Questions.{ModuleQuestion, about, whether_public, whether_implementing, IsTextless, is_kept, is_said}
 use Rattle.fast_check_package_ranges.specs.Parts.{lookup_package}
 use Rattle.fast_check_package_ranges.specs.Answers.{answer, AreAnswers}
 use Rattle.fast_check_package_ranges.proofs.KeptSays.{kept_silent}

@@ -2,5 +2,5 @@ pub use Rattle.fast_check_finder.specs as finder
 pub use Rattle.fast_check_package_answers.specs as package_answers
 pub mod Found
 pub mod Build
-pub mod Owned
+pub mod Lent
 pub mod Finder

@@ -29,7 +29,7 @@ fn seed_of(cache: Option<&dyn FastCheckCache>) -> &'static str
 }
 
 /// What is public in these packages, and in all that follow from them, by the items of a cache under keys of this seed.
-fn find_seeded(
+pub(crate) fn find_seeded(
     alloc: Global,
     cache: Option<&dyn FastCheckCache>,
     seed: &str,

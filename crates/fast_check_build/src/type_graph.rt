@@ -1,57 +1,87 @@
 //! The skeletons of packages, or what is wrong with them: `build_fast_check_type_graph`.
-ghost use Rattle.std.specs.Prelude.{◌≡◌, false, map, is_some, IfOk, IfErr};
+ghost use Rattle.std.specs.Prelude.{⊤, map, MatchOption, IfOk, IfErr};
 ghost use Rattle.fast_check_packages.specs.Package.{nv_of};
+ghost use Rattle.fast_check_cached_packages.specs.CachedPackages.{used_item};
+ghost use Rattle.fast_check_finder.specs.turns.steps.Sources.{with_used};
 ghost use Rattle.fast_check_finder.specs.Refusals.{IsRefusal};
-ghost use Rattle.fast_check_build.specs.Found.{known_of};
-ghost use Rattle.fast_check_build.specs.Build.{IsAnswered, AreAnswered, IsBuilt};
-ghost use Rattle.fast_check_build.specs.Owned.{IsOwned, AreOwned};
+ghost use Rattle.fast_check_build.specs.Found.{known_of, WithSeed};
+ghost use Rattle.fast_check_build.specs.Build.{IsBuilt, IsBuiltWith, IsStopped};
+ghost use Rattle.fast_check_build.specs.Lent.{OldNew};
 
-use crate::finder::find_public_ranges;
-use fast_check_cache::{FastCheckCache, PackagePublicRanges};
+use crate::finder::{find_public_ranges, find_seeded};
+use fast_check_cache::FastCheckCache;
 use fast_check_graph::{ModuleGraph, RootSymbol};
 use fast_check_package_answers::transform::TransformOptions;
-use fast_check_package_answers::{ModuleAnswer, answer_package};
+use fast_check_package_answers::{ModuleAnswer, answer_all, answer_and_set_all};
 use fast_check_packages::PackageNv;
 use fast_check_provider::{BuildFault, JsrUrlProvider};
-use std::alloc::{AllocError, Global};
-use std::collections::{BTreeMap, VecDeque};
+use std::alloc::Global;
+use std::collections::VecDeque;
 
-/// The answer of a package, of which it is known what is public.
-fn answer_one(
+/// The build where a cache is lent. Its seed is asked once, and all its items are looked up before the first is set.
+fn build_with(
     alloc: Global,
+    cache: &mut dyn FastCheckCache,
+    jsr_url_provider: &dyn JsrUrlProvider,
     graph: &ModuleGraph,
     root_symbol: &RootSymbol,
-    package_ranges: PackagePublicRanges,
+    pending_nvs: VecDeque<PackageNv>,
     options: &TransformOptions,
-) -> Result<Vec<ModuleAnswer>, AllocError>
-    requires { IsOwned root_symbol.now package_ranges }
-    ensures { IfOk result (λ answers.
-        IsAnswered graph.now root_symbol.now options.now.should_error_on_first_diagnostic package_ranges answers.items) }
+) -> Result<Vec<ModuleAnswer>, BuildFault>
+    ensures built { let k = known_of graph.now root_symbol.now options.now.workspace_members.items (url_of jsr_url_provider.now) (nv_at jsr_url_provider.now) in
+        IfOk result (λ answers. WithSeed (seed_text cache.old) (λ seed.
+        IsBuiltWith (with_used (used_item (hash_of cache.old seed) (stored cache.old) graph.now) k) (map nv_of pending_nvs.items)
+        options.now.should_error_on_first_diagnostic (hash_of cache.old seed) (stored cache.old) (stored cache.new) answers.items)) }
+    ensures stopped { let k = known_of graph.now root_symbol.now options.now.workspace_members.items (url_of jsr_url_provider.now) (nv_at jsr_url_provider.now) in
+        IfErr result (λ fault. WithSeed (seed_text cache.old) (λ seed.
+        IsStopped (with_used (used_item (hash_of cache.old seed) (stored cache.old) graph.now) k) (map nv_of pending_nvs.items)
+        options.now.should_error_on_first_diagnostic (hash_of cache.old seed) (stored cache.old) (stored cache.new) fault)) }
 {
-    // Maps and sets are in order.
-    let _ = package_ranges.module_ranges.len();
-    let _ = package_ranges.entrypoints.len();
-    let answers = answer_package(alloc, graph, root_symbol, package_ranges, options)?;
+    let seed = cache.hash_seed();
+    let ranges = find_seeded(
+        alloc,
+        Some(&*cache),
+        seed,
+        jsr_url_provider,
+        graph,
+        root_symbol,
+        options.workspace_members.as_slice(),
+        pending_nvs,
+    )?;
+    // The map is in order.
+    let _ = ranges.len();
+    let answers = answer_and_set_all(alloc, cache, seed, graph, root_symbol, ranges, options)?;
     Ok(answers)
 }
 
-/// The answers of packages, one after the other.
-fn answer_all(
+/// The build where no cache is lent.
+fn build_without(
     alloc: Global,
+    jsr_url_provider: &dyn JsrUrlProvider,
     graph: &ModuleGraph,
     root_symbol: &RootSymbol,
-    ranges: BTreeMap<PackageNv, PackagePublicRanges>,
+    pending_nvs: VecDeque<PackageNv>,
     options: &TransformOptions,
-) -> Result<Vec<ModuleAnswer>, AllocError>
-    requires { AreOwned root_symbol.now ranges.entries }
-    ensures { IfOk result (λ answers.
-        AreAnswered graph.now root_symbol.now options.now.should_error_on_first_diagnostic ranges.entries answers.items) }
+) -> Result<Vec<ModuleAnswer>, BuildFault>
+    ensures built { let k = known_of graph.now root_symbol.now options.now.workspace_members.items (url_of jsr_url_provider.now) (nv_at jsr_url_provider.now) in
+        IfOk result (λ answers. IsBuilt k (map nv_of pending_nvs.items) options.now.should_error_on_first_diagnostic answers.items) }
+    ensures refused { let k = known_of graph.now root_symbol.now options.now.workspace_members.items (url_of jsr_url_provider.now)
+        (nv_at jsr_url_provider.now) in
+        IfErr result (IsRefusal k (map nv_of pending_nvs.items)) }
 {
-    let mut answers = Vec::new(alloc);
-    for (_, package_ranges) in ranges {
-        let mut more = answer_one(alloc, graph, root_symbol, package_ranges, options)?;
-        answers.append(&mut more)?;
-    }
+    let members = options.workspace_members.as_slice();
+    let ranges = find_public_ranges(
+        alloc,
+        None,
+        jsr_url_provider,
+        graph,
+        root_symbol,
+        members,
+        pending_nvs,
+    )?;
+    // The map is in order.
+    let _ = ranges.len();
+    let answers = answer_all(alloc, graph, root_symbol, ranges, options)?;
     Ok(answers)
 }
 
@@ -63,8 +93,9 @@ fn answer_all(
 /// module by a skeleton; with `should_error_on_first_diagnostic` by what the finder found wrong with the first faulty module, or by the first
 /// fault of its transform.
 ///
-/// No cache can be handed in yet. `InvalidExport` has the first export text of a package that does not join to the package's URL. `OutOfMemory`
-/// where memory is wanting, or a URL comes to 4 GB.
+/// Where a cache is lent, a package is answered by its item, if the cache has one and each module of the item has the source that it was kept with;
+/// the item of each other package is set, when all items have been looked up. `InvalidExport` has the first export text of a package that does not
+/// join to the package's URL; nothing is set then. `OutOfMemory` where memory is wanting, or a URL comes to 4 GB; what was set before stays.
 pub fn build_fast_check_type_graph(
     alloc: Global,
     cache: Option<&mut dyn FastCheckCache>,
@@ -74,25 +105,38 @@ pub fn build_fast_check_type_graph(
     pending_nvs: VecDeque<PackageNv>,
     options: &TransformOptions,
 ) -> Result<Vec<ModuleAnswer>, BuildFault>
-    requires { is_some cache ≡ false }
     ensures built { let k = known_of graph.now root_symbol.now options.now.workspace_members.items (url_of jsr_url_provider.now) (nv_at jsr_url_provider.now) in
-        IfOk result (λ answers. IsBuilt k (map nv_of pending_nvs.items) options.now.should_error_on_first_diagnostic answers.items) }
+        MatchOption cache.entry (IfOk result (λ answers.
+        IsBuilt k (map nv_of pending_nvs.items) options.now.should_error_on_first_diagnostic answers.items)) (λ _. ⊤) }
     ensures refused { let k = known_of graph.now root_symbol.now options.now.workspace_members.items (url_of jsr_url_provider.now)
         (nv_at jsr_url_provider.now) in
-        IfErr result (IsRefusal k (map nv_of pending_nvs.items)) }
+        MatchOption cache.entry (IfErr result (IsRefusal k (map nv_of pending_nvs.items))) (λ _. ⊤) }
+    ensures built_with { let k = known_of graph.now root_symbol.now options.now.workspace_members.items (url_of jsr_url_provider.now) (nv_at jsr_url_provider.now) in
+        OldNew (λ old new. IfOk result (λ answers. WithSeed (seed_text old) (λ seed.
+        IsBuiltWith (with_used (used_item (hash_of old seed) (stored old) graph.now) k) (map nv_of pending_nvs.items)
+        options.now.should_error_on_first_diagnostic (hash_of old seed) (stored old) (stored new) answers.items))) cache.entry cache.exit }
+    ensures stopped { let k = known_of graph.now root_symbol.now options.now.workspace_members.items (url_of jsr_url_provider.now) (nv_at jsr_url_provider.now) in
+        OldNew (λ old new. IfErr result (λ fault. WithSeed (seed_text old) (λ seed.
+        IsStopped (with_used (used_item (hash_of old seed) (stored old) graph.now) k) (map nv_of pending_nvs.items)
+        options.now.should_error_on_first_diagnostic (hash_of old seed) (stored old) (stored new) fault))) cache.entry cache.exit }
 {
-    let _ = cache;
-    let members = options.workspace_members.as_slice();
-    let ranges = find_public_ranges(
-        alloc,
-        None,
-        jsr_url_provider,
-        graph,
-        root_symbol,
-        members,
-        pending_nvs,
-    )?;
-    let _ = ranges.len();
-    let answers = answer_all(alloc, graph, root_symbol, ranges, options)?;
-    Ok(answers)
+    match cache {
+        Some(cache) => build_with(
+            alloc,
+            cache,
+            jsr_url_provider,
+            graph,
+            root_symbol,
+            pending_nvs,
+            options,
+        ),
+        None => build_without(
+            alloc,
+            jsr_url_provider,
+            graph,
+            root_symbol,
+            pending_nvs,
+            options,
+        ),
+    }
 }

@@ -1,12 +1,16 @@
-use Rattle.std.proofs.Common.{map}
-use Rattle.fast_check_packages.specs.Package.{nv_of}
-use Rattle.fast_check_build.specs.Found.{known_of}
-use Rattle.fast_check_build.proofs.Built.{all_owned}
+use Rattle.std.proofs.Common.{refl}
+use borrow.Pointer.MutKind.{last_is}
+use Rattle.fast_check_build.proofs.LentBack.{at_exit, at_none}
 use Rattle.fast_check_build.proofs.type_graph.build_fast_check_type_graph.Goals as goal
 
-pub answer_all-requires : goal.answer_all-requires
-answer_all-requires g c =
-    let m = goal.JsrUrlProvider-dyn g c.args.jsr_url_provider.now in
-    all_owned (known_of c.args.graph.now c.args.root_symbol.now c.args.options.now.workspace_members.items (m.url_of c.args.jsr_url_provider.now.1)
-    (m.nv_at c.args.jsr_url_provider.now.1)) (map nv_of c.args.pending_nvs.items) c.in_ok-ranges.ranges
-    (rw c.as_slice-members.ensures.value at c.in_ok-ranges.ensures.found) c.len.ensures.ordered
+pub returns-in-Some-clause-built_with : goal.returns-in-Some-clause-built_with
+returns-in-Some-clause-built_with g c = rw c.in-Some.is (at_exit _ _ _ _ (last_is _ _ _ refl) c.build_with.ensures.built)
+
+pub returns-in-Some-clause-stopped : goal.returns-in-Some-clause-stopped
+returns-in-Some-clause-stopped g c = rw c.in-Some.is (at_exit _ _ _ _ (last_is _ _ _ refl) c.build_with.ensures.stopped)
+
+pub returns-in-None-clause-built_with : goal.returns-in-None-clause-built_with
+returns-in-None-clause-built_with g c = rw c.in-None.is (at_none _ _)
+
+pub returns-in-None-clause-stopped : goal.returns-in-None-clause-stopped
+returns-in-None-clause-stopped g c = rw c.in-None.is (at_none _ _)

@@ -1,9 +1,0 @@
-use Rattle.std.proofs.Common.{◌≡◌, ◌++◌}
-use Rattle.fast_check_build.specs.Build.{AreAnswered}
-use Rattle.fast_check_build.proofs.type_graph.answer_all.Given as goal
-
-abbrev pub invariant-loop-package_ranges : goal.invariant-loop-package_ranges
-invariant-loop-package_ranges l = record {
-  all : l.yielded ++ l.package_ranges-iterator ≡ l.fn.ranges.entries;
-  answered : AreAnswered l.graph l.root_symbol l.options.should_error_on_first_diagnostic l.yielded l.answers.items;
-}
