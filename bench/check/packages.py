@@ -98,7 +98,8 @@ def read_shown(lines):
     found, packages, nv, url = [], [], None, None
     for at, line in enumerate(lines):
         words = line.split()
-        if line.startswith('      '):
+        # The driver's last line counts the worlds that it followed again with refused calls.
+        if line.startswith(('      ', 'worlds with calls that were refused')):
             continue
         if line.startswith('  invalid export '):
             found.append(('refused', words[4], words[2]))
