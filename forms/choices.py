@@ -1,5 +1,5 @@
 """The choices between forms (fast_check_forms)."""
-from layout import camel, ghost_use, indented, snake
+from layout import WIDTH, camel, ghost_use, indented, snake
 
 
 def nested(table, choice):
@@ -110,7 +110,7 @@ def choice_definition(table, choice):
         steps = tests[:1] + ["(" + test for test in tests[1:]]
         steps[-1] += f" {name}.Other" + ")" * (len(steps) - 1)
         line = f"{call}_of kind = " + " ".join(steps)
-        lines += [line] if len(line) <= 150 else [f"{call}_of kind ="] + indented(steps, 4)
+        lines += [line] if len(line) <= WIDTH else [f"{call}_of kind ="] + indented(steps, 4)
     if is_asked(table, name):
         lines += [
             "",

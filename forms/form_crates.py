@@ -1,5 +1,5 @@
 """The five crates of forms: code, definitions, and the proofs that are found by a search."""
-from layout import brackets, camel, fill, ghost_use, indented, snake, use_list
+from layout import WIDTH, brackets, camel, fill, ghost_use, indented, snake, use_list
 from table import LEAVES
 
 TAKES = {"flag": "bool", "scope": "SyntaxContext", "text": "T", "range": "SourceRange", None: "N"}
@@ -113,8 +113,10 @@ PRELUDE_TYPES = {"Bool"}
 def form_definitions(table, file):
     """`specs/FILE.antt` of a crate of forms."""
     forms = table.forms_of(file)
-    lines = [f"-- {file.doc}", "-- Each form has its fields by their names, and what it holds once it reads a node"]
-    lines[-1] += "; where it is made, the node of its fields." if any(form.made for form in forms) else "."
+    lines = [f"-- {file.doc}", "-- Each form has its fields by their names, and what it holds once it reads a node."]
+    if any(form.made for form in forms):
+        lines[-1] = lines[-1][:-1] + ";"
+        lines.append("-- where it is made, the node of its fields.")
     lines += form_imports(file, forms)
     for form in forms:
         lines += [""] + form_definition(form)
@@ -167,10 +169,11 @@ def form_node(form):
     head = " ".join([maker(form)] + [field.name for field in form.fields]) + " ="
     parts = [NODES[field.leaf] + field.name + " ∷" for field in form.fields] + ["[]"]
     parts[0] = f"node kinds.{form.name} (" + parts[0]
-    types = " → ".join([GIVES[field.leaf] for field in form.fields] + ["Tree"])
-    lines = [f"abbrev pub {maker(form)} : {types}"]
+    types = [GIVES[field.leaf] + " →" for field in form.fields] + ["Tree"]
+    lines = fill([f"abbrev pub {maker(form)} :"] + types, 0, WIDTH)
+    lines[1:] = indented(lines[1:], 4)
     line = " ".join([head] + parts) + ")"
-    if len(line) <= 120:
+    if len(line) <= WIDTH:
         return lines + [line]
     lines += [head] + fill(parts, 4, 105, first=109)
     lines[-1] += ")"

@@ -1,6 +1,9 @@
 """Names as code writes them, and lines as `rt fmt` lays them out."""
 import re
 
+# how wide a line of definitions is at most
+WIDTH = 120
+
 
 def snake(name):
     """`TsTplLitType` as `ts_tpl_lit_type`."""

@@ -1,5 +1,5 @@
 """The law of the places, the forms by their names, and the page."""
-from layout import camel, fill
+from layout import WIDTH, camel, fill
 from schema import LEAF_FORMS, no_forms
 from table import LEAVES
 
@@ -32,7 +32,7 @@ def places_of(form):
     read = [f'{field.leaf or "tree"} "{field.name}" {form.file}.{form.name}-{field.name}' for field in form.fields]
     parts = [part + " ∷" for part in read] + ["[]"]
     line = " ".join([head] + parts)
-    return [line] if len(line) <= 150 else [head] + fill(parts, 4, 150)
+    return [line] if len(line) <= WIDTH else [head] + fill(parts, 4, WIDTH)
 
 
 def write_places(table, out):

@@ -1,6 +1,7 @@
 -- Written by forms/write.py from forms/forms.txt.
 -- Properties and accessors of a class.
--- Each form has its fields by their names, and what it holds once it reads a node; where it is made, the node of its fields.
+-- Each form has its fields by their names, and what it holds once it reads a node;
+-- where it is made, the node of its fields.
 use Rattle.std.specs.Prelude.{◌≡◌, Bool, [], ◌∷◌}
 use Rattle.fast_check_syntax.specs.declared.kind.Kind.TheVariants as kinds
 use Rattle.fast_check_syntax.specs.declared.part.Part.{Part}
@@ -68,7 +69,8 @@ pub record ReadsClassProp (form : ClassProp Part) (t : Tree) : Type 0 where
   pub declare : form.declare ≡ ClassProp-declare t
   pub definite : form.definite ≡ ClassProp-definite t
 
-abbrev pub class_prop : SourceRange → Tree → Tree → Tree → Bool → Tree → Tree → Bool → Bool → Bool → Bool → Bool → Bool → Tree
+abbrev pub class_prop : SourceRange → Tree → Tree → Tree → Bool → Tree → Tree → Bool → Bool → Bool → Bool → Bool →
+    Bool → Tree
 class_prop span key value type_ann is_static decorators accessibility is_abstract is_optional is_override readonly declare definite =
     node kinds.ClassProp (Range span ∷ key ∷ value ∷ type_ann ∷ Flag is_static ∷ decorators ∷ accessibility ∷
     Flag is_abstract ∷ Flag is_optional ∷ Flag is_override ∷ Flag readonly ∷ Flag declare ∷
@@ -125,7 +127,8 @@ pub record ReadsPrivateProp (form : PrivateProp Part) (t : Tree) : Type 0 where
   pub readonly : form.readonly ≡ PrivateProp-readonly t
   pub definite : form.definite ≡ PrivateProp-definite t
 
-abbrev pub private_prop : SourceRange → SyntaxContext → Tree → Tree → Tree → Bool → Tree → Tree → Bool → Bool → Bool → Bool → Tree
+abbrev pub private_prop : SourceRange → SyntaxContext → Tree → Tree → Tree → Bool → Tree → Tree → Bool → Bool → Bool →
+    Bool → Tree
 private_prop span ctxt key value type_ann is_static decorators accessibility is_optional is_override readonly definite =
     node kinds.PrivateProp (Range span ∷ Context ctxt ∷ key ∷ value ∷ type_ann ∷ Flag is_static ∷
     decorators ∷ accessibility ∷ Flag is_optional ∷ Flag is_override ∷ Flag readonly ∷ Flag definite ∷ [])

@@ -1,6 +1,7 @@
 -- Written by forms/write.py from forms/forms.txt.
 -- TypeScript's own expressions.
--- Each form has its fields by their names, and what it holds once it reads a node; where it is made, the node of its fields.
+-- Each form has its fields by their names, and what it holds once it reads a node;
+-- where it is made, the node of its fields.
 use Rattle.std.specs.Prelude.{◌≡◌, [], ◌∷◌}
 use Rattle.fast_check_syntax.specs.declared.kind.Kind.TheVariants as kinds
 use Rattle.fast_check_syntax.specs.declared.part.Part.{Part}

@@ -39,7 +39,9 @@ if_module_decl _ one other = one
 
 -- What stands at the top of a module.
 abbrev pub module_item_of : Kind → ModuleItem
-module_item_of kind = if_module_decl (module_decl_of kind) ModuleItem.ModuleDecl (if_stmt (stmt_of kind) ModuleItem.Stmt ModuleItem.Other)
+module_item_of kind =
+    if_module_decl (module_decl_of kind) ModuleItem.ModuleDecl
+    (if_stmt (stmt_of kind) ModuleItem.Stmt ModuleItem.Other)
 
 -- A name that an import brings.
 abbrev pub import_specifier_of : Kind → ImportSpecifier

@@ -72,7 +72,8 @@ if_ts_entity_name _ one other = one
 -- What a type query asks of.
 abbrev pub ts_type_query_expr_of : Kind → TsTypeQueryExpr
 ts_type_query_expr_of kinds.TsImportType = TsTypeQueryExpr.Import
-ts_type_query_expr_of kind = if_ts_entity_name (ts_entity_name_of kind) TsTypeQueryExpr.TsEntityName TsTypeQueryExpr.Other
+ts_type_query_expr_of kind =
+    if_ts_entity_name (ts_entity_name_of kind) TsTypeQueryExpr.TsEntityName TsTypeQueryExpr.Other
 
 -- The literal of a literal type.
 abbrev pub ts_lit_of : Kind → TsLit
