@@ -1,4 +1,3 @@
--- Inner: no contract of a public call cites what stands here.
 -- What is public in the modules of packages is declared in them.
 use Rattle.std.specs.Prelude.{List}
 use Rattle.std.specs.List.{AllByRecursion}

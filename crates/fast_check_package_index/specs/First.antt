@@ -1,3 +1,4 @@
+-- Inner: no contract of a public call cites what stands here.
 -- Places of items in a list.
 use Rattle.std.specs.Prelude.{ℕ, suc, Bool, cond, min, List, [], ◌∷◌, Option, Some, None, option_map}
 

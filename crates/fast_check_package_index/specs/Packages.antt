@@ -1,3 +1,4 @@
+-- Inner: no contract of a public call cites what stands here.
 -- Indexes of packages that are listed with their URLs.
 use Rattle.std.specs.Prelude.{◌≡◌, ◌<◌, ℕ, List, length, map, slice_get}
 use Rattle.std.specs.BTreeMap.{BTreeMap, get}

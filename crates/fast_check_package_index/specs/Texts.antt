@@ -1,3 +1,4 @@
+-- Inner: no contract of a public call cites what stands here.
 -- An index of texts: the first place of each, and their lengths.
 use Rattle.std.specs.Prelude.{◌≡◌, ℕ, true, List, length, Option}
 use Rattle.std.specs.List.{All}

@@ -1,3 +1,4 @@
+-- Inner: no contract of a public call cites what stands here.
 -- The items that are used where a cache may be lent.
 use Rattle.std.specs.Prelude.{Option, Some, None}
 use Rattle.fast_check_steps.specs.Sources.{Used, none_used}
