@@ -21,7 +21,7 @@ use std::{fs, io};
 
 /// What is built.
 #[derive(Drop)]
-struct World {
+struct Workspace {
     graph: ModuleGraph,
     root_symbol: RootSymbol,
     provider: ListedPackages,
@@ -30,7 +30,7 @@ struct World {
 }
 
 /// What a request asks to be built, None where its tables are bad or memory is wanting.
-fn world_of(alloc: Global, request: BuildRequest) -> Option<World> {
+fn workspace_of(alloc: Global, request: BuildRequest) -> Option<Workspace> {
     let BuildRequest {
         graph,
         modules,
@@ -45,7 +45,7 @@ fn world_of(alloc: Global, request: BuildRequest) -> Option<World> {
         should_error_on_first_diagnostic,
     };
     let root_symbol = root_symbol_of(alloc, modules, aliases).ok()?;
-    Some(World {
+    Some(Workspace {
         graph,
         root_symbol,
         provider,
@@ -54,33 +54,19 @@ fn world_of(alloc: Global, request: BuildRequest) -> Option<World> {
     })
 }
 
-/// What is answered without a cache.
-fn build_plain(alloc: Global, world: &World) -> Result<Vec<ModuleAnswer>, BuildFault> {
-    build_fast_check_type_graph(
-        alloc,
-        None,
-        &world.provider,
-        &world.graph,
-        &world.root_symbol,
-        VecDeque::from(world.pending.clone()?),
-        &world.options,
-    )
-}
-
-/// What is answered with a cache.
-fn build_cached(
+fn build(
     alloc: Global,
-    cache: &mut RunCache,
-    world: &World,
+    cache: Option<&mut dyn FastCheckCache>,
+    workspace: &Workspace,
 ) -> Result<Vec<ModuleAnswer>, BuildFault> {
     build_fast_check_type_graph(
         alloc,
-        Some(cache),
-        &world.provider,
-        &world.graph,
-        &world.root_symbol,
-        VecDeque::from(world.pending.clone()?),
-        &world.options,
+        cache,
+        &workspace.provider,
+        &workspace.graph,
+        &workspace.root_symbol,
+        VecDeque::from(workspace.pending.clone()?),
+        &workspace.options,
     )
 }
 
@@ -89,30 +75,30 @@ fn tell_fault(alloc: Global, fault: BuildFault, said: &mut Said) {
 }
 
 /// Tells what is answered with a cache beside what is answered without, and what was set.
-fn tell_built(alloc: Global, world: &World, cache: &mut RunCache, said: &mut Said) {
-    let plain = build_plain(alloc, world).unwrap_or(Vec::new(alloc));
-    match build_cached(alloc, cache, world) {
+fn tell_built(alloc: Global, workspace: &Workspace, cache: &mut RunCache, said: &mut Said) {
+    let plain = build(alloc, None, workspace).unwrap_or(Vec::new(alloc));
+    match build(alloc, Some(cache), workspace) {
         Ok(answers) => tell_answers(&answers, &plain, said),
         Err(fault) => tell_fault(alloc, fault, said),
     }
     tell_items(alloc, &cache.take_log(alloc), said);
 }
 
-/// Builds a world so many times, or tells that its tables are bad.
-fn tell_world(
+/// Builds a workspace so many times, or tells that its tables are bad.
+fn tell_workspace(
     alloc: Global,
-    world: Option<World>,
+    workspace: Option<Workspace>,
     times: u64,
     cache: &mut RunCache,
     said: &mut Said,
 ) {
-    let Some(world) = world else {
+    let Some(workspace) = workspace else {
         said.tell("\n  bad tables");
         return;
     };
     for _ in 0..times {
         said.tell("\n  build");
-        tell_built(alloc, &world, cache, said);
+        tell_built(alloc, &workspace, cache, said);
     }
 }
 
@@ -124,7 +110,7 @@ fn tell_run(alloc: Global, run: Run, said: &mut Said) {
         times,
     } = run;
     for request in requests {
-        tell_world(alloc, world_of(alloc, request), times, &mut cache, said);
+        tell_workspace(alloc, workspace_of(alloc, request), times, &mut cache, said);
     }
 }
 
