@@ -54,14 +54,28 @@ fn workspace_of(alloc: Global, request: BuildRequest) -> Option<Workspace> {
     })
 }
 
-fn build(
+/// What is answered without a cache.
+fn build_plain(alloc: Global, workspace: &Workspace) -> Result<Vec<ModuleAnswer>, BuildFault> {
+    build_fast_check_type_graph(
+        alloc,
+        None,
+        &workspace.provider,
+        &workspace.graph,
+        &workspace.root_symbol,
+        VecDeque::from(workspace.pending.clone()?),
+        &workspace.options,
+    )
+}
+
+/// What is answered with a cache.
+fn build_cached(
     alloc: Global,
-    cache: Option<&mut dyn FastCheckCache>,
+    cache: &mut RunCache,
     workspace: &Workspace,
 ) -> Result<Vec<ModuleAnswer>, BuildFault> {
     build_fast_check_type_graph(
         alloc,
-        cache,
+        Some(cache),
         &workspace.provider,
         &workspace.graph,
         &workspace.root_symbol,
@@ -76,8 +90,8 @@ fn tell_fault(alloc: Global, fault: BuildFault, said: &mut Said) {
 
 /// Tells what is answered with a cache beside what is answered without, and what was set.
 fn tell_built(alloc: Global, workspace: &Workspace, cache: &mut RunCache, said: &mut Said) {
-    let plain = build(alloc, None, workspace).unwrap_or(Vec::new(alloc));
-    match build(alloc, Some(cache), workspace) {
+    let plain = build_plain(alloc, workspace).unwrap_or(Vec::new(alloc));
+    match build_cached(alloc, cache, workspace) {
         Ok(answers) => tell_answers(&answers, &plain, said),
         Err(fault) => tell_fault(alloc, fault, said),
     }
