@@ -1,12 +1,14 @@
 """The parts of `fast_check_vectors` that are single calls: for each what it reads, by the names of files, and what it must print.
 
-The worlds are answered by `package_rules`, forms by `forms`, caches by `cache_cases`, and the calls of a transformer by the answers of the runs of
-the same requests, which `vectors` makes. What the others print is stated by hand in the files of `stated/`; those of names and places repeat the lines that they read.
+The worlds are answered by `package_rules`, forms by `forms`, caches by `cache_cases`, builds with caches by `cached_builds`, and the calls of a
+transformer by the answers of the runs of the same requests, which `vectors` makes. What the others print is stated by hand in the files of
+`stated/`; those of names and places repeat the lines that they read.
 """
 import json
 import os
 
 import cache_cases
+import cached_builds
 import forms
 import packages
 import search_cases  # which adds to the worlds, as reference_cases does
@@ -96,5 +98,5 @@ def worlds():
 def parts(runs):
     """For each part, in order, its files and what it prints."""
     made, printed = forms.part()
-    return [({}, stated("example")), cache_cases.part(), ({"forms": made}, printed), repeated("names"), repeated("places"), ({}, stated("unfound")),
-            ({}, stated("faults")), worlds(), transformers(runs)]
+    return [({}, stated("example")), cache_cases.part(), cached_builds.part(), ({"forms": made}, printed), repeated("names"), repeated("places"),
+            ({}, stated("unfound")), ({}, stated("faults")), worlds(), transformers(runs)]

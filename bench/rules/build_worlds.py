@@ -336,9 +336,8 @@ class World:
         return [pair for nv in sorted({it[1] for it in yields}, key=order_of)
                 for pair in self.package([(it[0], *it[2:]) for it in yields if it[1] == nv], pages)]
 
-    def package(self, yields, pages):
-        entry_points = sorted({it[1] for it in yields if it[0] == "entry"})
-        shown, lists = [], []
+    def tried(self, yields, pages):
+        """The modules of a package, in order: each URL with its skeleton, if it has a tree, and what is wrong with it."""
         for url in sorted({it[1] for it in yields if it[0] == "module"}):
             of = lambda kind: sorted(it[2:] for it in yields if it[:2] == (kind, url))
             faults = self.found_faults(url, of("fault"), pages)
@@ -346,10 +345,17 @@ class World:
             made = module and module.skeleton([list(it[0]) for it in of("range")], [list(it[0]) for it in of("implementation")])
             if not faults and made:
                 faults = [diagnostic(fault, url, pages) for fault in (made.faults[:1] if self.first else made.faults)]
+            yield url, made and (module, made), faults
+
+    def package(self, yields, pages):
+        entry_points = sorted({it[1] for it in yields if it[0] == "entry"})
+        shown, lists = [], []
+        for url, made, faults in self.tried(yields, pages):
             lists.append(faults)
             if made:
+                module, skeleton = made
                 comments = {"leading": [], "trailing": []}
-                answer = {"module_info": {"sources": sources_of(made.items)}, "program": module.program(made.items), "comments": comments}
+                answer = {"module_info": {"sources": sources_of(skeleton.items)}, "program": module.program(skeleton.items), "comments": comments}
                 shown.append([url, {"Ok": answer}])
         if not any(lists):
             return shown

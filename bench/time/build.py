@@ -10,7 +10,11 @@ The program has to be built: run `./fast-check build examples/build_hello.json` 
     faults     packages as above, each with a module that has faults
     hidden     packages as above, of whose modules the entry points ask for two names alone, so that two modules are answered beside each entry point
 
+The program lends no cache. With a driver that does (`bench/time/driver.sh builds DRIVER`) it prints the seconds of a build without a cache, of one that fills
+an empty cache, and of one with the filled cache, all without reading and printing.
+
 Usage: bench/time/build.py [SHAPE ..] [PACKAGES ..] [modules=N] [PROGRAM]        (all shapes, 10 100 1000 and three modules a package where nothing is given)
+       bench/time/build.py cached=DRIVER [SHAPE ..] [PACKAGES ..] [modules=N]    (the shape `packages`, and 10 100 1000)
 """
 import json
 import os
@@ -134,9 +138,25 @@ def measure(program, shape, packages, modules):
               f"{seconds / library:7.2f}", flush=True)
 
 
+def measure_cached(driver, shape, packages, modules):
+    with tempfile.TemporaryDirectory() as room:
+        with open(os.path.join(room, "cases"), "w") as file:
+            json.dump(workspace(shape, packages, modules), file)
+        told = [line.split() for line in subprocess.run([driver], cwd=room, stdout=subprocess.PIPE, text=True, check=True).stdout.splitlines()]
+    plain, empty, filled = (min(int(micros) for word, _, micros in told if word == wanted) / 1e6 for wanted in ("plain", "empty", "filled"))
+    print(f"{shape:9} {packages:8} {packages * modules:8} {plain:9.3f} {empty:9.3f} {filled:9.3f}", flush=True)
+
+
 def main(words):
     shapes, sizes = [word for word in words if word in SHAPES], [int(word) for word in words if word.isdigit()]
     modules = [int(word.removeprefix("modules=")) for word in words if word.startswith("modules=")]
+    drivers = [os.path.abspath(word.removeprefix("cached=")) for word in words if word.startswith("cached=")]
+    if drivers:
+        print("shape     packages  modules   without     empty    filled")
+        for shape in shapes or ["packages"]:
+            for packages in sizes or [10, 100, 1000]:
+                measure_cached(drivers[0], shape, packages, (modules + [3])[0])
+        return
     others = [word for word in words if word not in SHAPES and not word.isdigit() and not word.startswith("modules=")]
     program = os.path.abspath((others + [PROGRAM])[0])
     print(f"shape     packages  modules  answered    MB in   seconds   MB peak   {NAME} load+dump   ratio")

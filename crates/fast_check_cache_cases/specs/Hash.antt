@@ -1,5 +1,5 @@
 -- The hash that the caches of the example keep the item of a package under.
-use Rattle.std.specs.Prelude.{ℕ, List, ◌+◌, ◌*◌, ◌%◌, ◌^◌, fold}
+use Rattle.std.specs.Prelude.{ℕ, Bool, true, false, List, ◌+◌, ◌*◌, ◌%◌, ◌^◌, fold}
 use Rattle.fast_check_packages.specs.Package.{Nv, VersionParts}
 
 -- a hash with one number more
@@ -18,3 +18,8 @@ hash_version hash v = hash_text (hash_text (hash_more (hash_more (hash_more hash
 abbrev pub hash_package : List ℕ → Nv → List (List ℕ) → ℕ
 hash_package seed nv entrypoints =
     fold hash_text (hash_version (hash_text (hash_text 14695981039346656037 seed) nv.0) nv.1) entrypoints
+
+-- one key for all packages, or that of the package
+abbrev pub hash_in : Bool → List ℕ → Nv → List (List ℕ) → ℕ
+hash_in true _ _ _ = 7
+hash_in false seed nv entrypoints = hash_package seed nv entrypoints

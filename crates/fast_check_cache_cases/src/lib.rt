@@ -1,9 +1,15 @@
-//! Calls on caches in memory. `fast_check_vectors` runs them.
+//! Calls on caches in memory, and builds with them. `fast_check_vectors` runs both.
 #![tactic(auto)]
 
-mod cases;
+mod builds;
+mod calls;
 mod hash;
 mod items;
 mod memory;
+mod read;
+mod run_cache;
+mod told;
 
-pub use cases::run_cache_cases;
+pub use builds::run_cached_builds;
+pub use calls::run_cache_cases;
+pub use memory::MemoryCache;

@@ -7,7 +7,7 @@ mod streams;
 
 use crate::streams::{Input, Output};
 use anyhow::{Result, bail};
-use fast_check_cache_cases::run_cache_cases;
+use fast_check_cache_cases::{run_cache_cases, run_cached_builds};
 use fast_check_commands::{Ending, run};
 use fast_check_example::run_example;
 use fast_check_finder_cases::{
@@ -21,10 +21,11 @@ use std::io::Write;
 use std::{env, fs, io};
 
 /// All parts.
-const PARTS: [&str; 10] = [
+const PARTS: [&str; 11] = [
     "runs",
     "example",
     "caches",
+    "cached_builds",
     "forms",
     "names",
     "places",
@@ -60,6 +61,7 @@ fn run_part(rt: &HostRuntime, part: &str) -> Result<()> {
         "runs" => Ok(run_vectors(rt)?),
         "example" => run_example(rt),
         "caches" => run_cache_cases(rt),
+        "cached_builds" => Ok(run_cached_builds(rt)?),
         "forms" => Ok(run_form_cases(rt)?),
         "names" => Ok(run_name_cases(rt)?),
         "places" => run_place_cases(rt),

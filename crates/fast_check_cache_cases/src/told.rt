@@ -1,0 +1,66 @@
+//! What a build answers, and what it sets, as text.
+
+use fast_check_build::package_answers::ModuleAnswer;
+use fast_check_cache::{FastCheckCacheItem, FastCheckCacheModuleItem};
+use fast_check_diagnostics::{Diagnostic, FastCheckDiagnostic};
+use fast_check_parsed_source::FastCheckModule;
+use fast_check_said::Said;
+use std::alloc::Global;
+use url::Url;
+
+fn tell_codes(diagnostics: &[FastCheckDiagnostic], said: &mut Said) {
+    for diagnostic in diagnostics {
+        said.tell_path(" ", diagnostic.code(), " of ");
+        said.tell(diagnostic.specifier().as_str());
+    }
+}
+
+/// Whether a module is answered by this skeleton.
+fn is_answered(answers: &[ModuleAnswer], specifier: &Url, made: &FastCheckModule) -> bool {
+    answers.iter().any(|(url, answer)| match answer {
+        Ok(module) => url == specifier && module == made,
+        Err(_) => false,
+    })
+}
+
+fn tell_answer(answer: &ModuleAnswer, plain: &[ModuleAnswer], said: &mut Said) {
+    let (specifier, made) = answer;
+    said.tell_path("\n    answers ", specifier.as_str(), ":");
+    match made {
+        Ok(made) if is_answered(plain, specifier, made) => said.tell(" the skeleton"),
+        Ok(_) => said.tell(" another skeleton"),
+        Err(diagnostics) => tell_codes(diagnostics.as_slice(), said),
+    }
+}
+
+/// Tells what is answered, and whether each skeleton is that of a build without a cache.
+pub fn tell_answers(answers: &[ModuleAnswer], plain: &[ModuleAnswer], said: &mut Said) {
+    for answer in answers {
+        tell_answer(answer, plain, said);
+    }
+}
+
+fn tell_item(alloc: Global, key: u64, item: &FastCheckCacheItem, said: &mut Said) {
+    said.tell_made(format!(in alloc; "\n    sets {key}:"));
+    for dependency in &item.dependencies {
+        said.tell_made(format!(in alloc; " needs {dependency}"));
+    }
+    for (specifier, module) in item.modules.as_slice() {
+        let kind = match module {
+            FastCheckCacheModuleItem::Info(_) => "skeleton",
+            FastCheckCacheModuleItem::Diagnostic(_) => "diagnostic",
+        };
+        said.tell_made(format!(in alloc;
+            " {kind} {} of {}",
+            module.source_hash(),
+            specifier.as_str()
+        ));
+    }
+}
+
+/// Tells which items were set.
+pub fn tell_items(alloc: Global, items: &[(u64, FastCheckCacheItem)], said: &mut Said) {
+    for (key, item) in items {
+        tell_item(alloc, *key, item, said);
+    }
+}
