@@ -1,95 +1,75 @@
 -- What a set gains at one node.
-use Rattle.std.proofs.Common.{◌≡◌, ◌∙◌, sym, ap, refl, subst, ⊎_elim, ℕ, ◌+◌, ◌<◌, ◌≤◌, Bool, true, false, ◌&&◌, ◌||◌, cond, List, [], ◌∷◌, ◌++◌}
-use Rattle.std.proofs.Common.{Option, Some, None, arith, map, take, length, get_or, string_bytes}
+use Rattle.std.proofs.Common.{◌≡◌, ◌∙◌, sym, ap, refl, subst, ⊎_elim, ℕ, suc, ◌+◌, ◌<◌, ◌≤◌, Bool, true, false, ◌&&◌, ◌||◌, cond, List, [], ◌∷◌, ◌++◌}
+use Rattle.std.proofs.Common.{Option, Some, None, arith, length, get_or, string_bytes, append_assoc}
 use Rattle.std.specs.Option.{is_some, IfSome}
 use Rattle.std.specs.Prelude.{Vec, vec_len}
 use Rattle.std.specs.declared.alloc.Global.{Global}
 use Rattle.std.specs.Str.{bytes_eq}
-use Rattle.std.specs.Cmp.Lexicographic.{slice_cmp}
-use Rattle.std.specs.Ordering.{nat_cmp}
-use Rattle.std.specs.declared.cmp.Ordering.TheVariants.{Less}
 use Rattle.std.proofs.lemmas.Bool.{false≢true, or_right, cases_lt}
-use Rattle.std.proofs.lemmas.List.{take_all, take-map, get_or-take, length-take-le, get_or_append_left, get_or_default}
+use Rattle.std.proofs.lemmas.List.{append-nil, get_or_append_left, get_or_default}
 use Rattle.fast_check_names.specs.declared.lattice.node.Node.{Node}
 use Rattle.fast_check_names.specs.declared.lattice.node.NodeNo.{NodeNo}
-use Rattle.fast_check_names.specs.declared.lattice.node.Below.{Below}
 use Rattle.fast_check_names.specs.declared.lattice.node.Below.TheVariants.{Subset}
 use Rattle.fast_check_names.specs.declared.lattice.named_subset.NamedSubset.{NamedSubset}
 use Rattle.fast_check_names.specs.Tree.{IsTree-prop}
-use Rattle.fast_check_names.specs.Order.{Name, Entry, found, name_at, IsRising}
+use Rattle.fast_check_names.specs.Order.{Name, Entry, found, name_at, IsOnce}
 use Rattle.fast_check_names.specs.Graph.{Graph, Part, Touched, Path, NameSet, entry, reach, below_node, rooted, subset_of, IsTree, AreApart, LacksNames, HasRoom, either_of}
 use Rattle.fast_check_names.specs.Names.{IsAdded, IsJoint, IsJoin, IsNameSet, IsLeastDifference, IsSame, nothing}
 use Rattle.fast_check_names.proofs.Walks.{name_tells, descends, or_false}
-use Rattle.fast_check_names.proofs.Places.{some_entry, found_first, rising_before}
-use Rattle.fast_check_names.proofs.Built.{one_more, new_name}
+use Rattle.fast_check_names.proofs.Places.{some_entry, found_first, found_none, once_before, once_push}
 use Rattle.fast_check_names.proofs.Puts.{none_is}
 use Rattle.fast_check_names.proofs.Alike.{touched_some}
 use Rattle.fast_check_names.proofs.Copies.{subset_reach, past_nothing}
 
-pub rising_take : (es : List Entry) (i : ℕ) → i ≤ length es → IsRising es → IsRising (take i es)
-rising_take es i within rising j k l w =
-    let f : Entry → Name = λ x. string_bytes x.0 in
-    let long = length-take-le i es within in
-    let at_j : get_or (map f (take i es)) j [] ≡ get_or (map f es) j [] =
-    ap (λ ns. get_or ns j []) (sym (take-map f i es)) ∙ get_or-take i (map f es) j [] (omega (arith, l, w, long)) in
-    let at_k : get_or (map f (take i es)) k [] ≡ get_or (map f es) k [] =
-    ap (λ ns. get_or ns k []) (sym (take-map f i es)) ∙ get_or-take i (map f es) k [] (omega (arith, w, long)) in
-    subst (λ (n : Name). slice_cmp nat_cmp n (get_or (map f (take i es)) k []) ≡ Less) (sym at_j)
-    (subst (λ (n : Name). slice_cmp nat_cmp (get_or (map f es) j []) n ≡ Less) (sym at_k) (rising j k l (omega (arith, w, long, within))))
-
--- while names are put: those that are listed, and those that are left
-pub record IsPutting (es fs now rest : List Entry) : Type 0 where
-  pub rising : IsRising now
-  pub rest_rising : IsRising rest
-  pub apart : AreApart now rest
-  pub all : (n : Name) → either_of (found now n) (found rest n) ≡ either_of (found es n) (found fs n)
-
 pub itself : (n : Name) → bytes_eq n n ≡ true
 itself n = ⊎_elim (λ (t : (bytes_eq n n ≡ true) × (n ≡ n)). t.0) (λ (t : (bytes_eq n n ≡ false) × (n ≡ n → ⊥)). absurd (t.1 refl)) (name_tells n n)
 
--- the last name that is left is put
-module _ (es fs now rest : List Entry) (putting : IsPutting es fs now rest) (i : ℕ) (e : Entry) (last : length rest ≡ i + 1) (is : e ≡ get_or rest i e) where
-  within : i < length rest
-  within = omega (arith, last)
+-- a name that stands at a place is found
+pub no_place : (es : List Entry) → IsOnce es → (n : Name) (i : ℕ) → i < length es → name_at es i ≡ n → found es n ≡ None → ⊥
+no_place es once n i within at none =
+    let d = some_entry es i within in
+    let e : None ≡ Some (get_or es i d).1 = sym none ∙ found_first es n i d within at (once_before es once n i within at) in cc
 
-  left : (n : Name) → found rest n ≡ cond (bytes_eq (string_bytes e.0) n) (Some e.1) (found (take i rest) n)
-  left n = ap (λ xs. found xs n) (sym (take_all (i + 1) rest (let w : length rest ≤ i + 1 = omega (arith, last) in w))) ∙
-      one_more rest putting.rest_rising i e within is n
+-- the first name does not stand behind
+behind_first : (f : Entry) (fs : List Entry) → IsOnce (f ∷ fs) → found fs (string_bytes f.0) ≡ None
+behind_first f fs once = found_none fs (string_bytes f.0) (λ k w same. once 0 (suc k) (omega arith) (omega (arith, w)) (sym same))
 
-  pub free : found now (string_bytes e.0) ≡ None
-  free = putting.apart (string_bytes e.0) (ap is_some (left (string_bytes e.0) ∙ ap (λ b. cond b (Some e.1) (found (take i rest) (string_bytes e.0))) (itself (string_bytes e.0))))
+-- what stands in one list or another, stands in both one after another
+pub found_append : (es fs : List Entry) (n : Name) → found (es ++ fs) n ≡ either_of (found es n) (found fs n)
+found_append [] fs n = refl
+found_append (e ∷ es) fs n =
+    elim (bytes_eq (string_bytes e.0) n) as (λ b. cond b (Some e.1) (found (es ++ fs) n) ≡ either_of (cond b (Some e.1) (found es n)) (found fs n))
+    [ true ↦ refl | false ↦ found_append es fs n ]
 
-  module _ (next : List Entry) (rising : IsRising next) (put : (n : Name) → found next n ≡ cond (bytes_eq (string_bytes e.0) n) (Some e.1) (found now n)) where
-    pub putting_more : IsPutting es fs next (take i rest)
-    putting_more = record {
-      rising = rising;
-      rest_rising = rising_take rest i (omega (arith, last)) putting.rest_rising;
-      apart = λ n some. ⊎_elim
-          (λ (t : (bytes_eq (string_bytes e.0) n ≡ true) × (string_bytes e.0 ≡ n)).
-          let none : found (take i rest) n ≡ None = subst (λ (m : Name). found (take i rest) m ≡ None) t.1 (new_name rest putting.rest_rising i e within is) in
-          absurd (false≢true (sym (ap is_some none) ∙ some)))
-          (λ (t : (bytes_eq (string_bytes e.0) n ≡ false) × (string_bytes e.0 ≡ n → ⊥)).
-          put n ∙ (ap (λ b. cond b (Some e.1) (found now n)) t.0 ∙
-          putting.apart n (ap is_some (left n ∙ ap (λ b. cond b (Some e.1) (found (take i rest) n)) t.0) ∙ some)))
-          (name_tells (string_bytes e.0) n);
-      all = λ n. ⊎_elim
-          (λ (t : (bytes_eq (string_bytes e.0) n ≡ true) × (string_bytes e.0 ≡ n)).
-          ap (λ o. either_of o (found (take i rest) n)) (put n ∙ ap (λ b. cond b (Some e.1) (found now n)) t.0) ∙
-          (ap (λ o. either_of o (Some e.1)) (sym (subst (λ (m : Name). found now m ≡ None) t.1 free)) ∙
-          (ap (either_of (found now n)) (sym (left n ∙ ap (λ b. cond b (Some e.1) (found (take i rest) n)) t.0)) ∙ putting.all n)))
-          (λ (t : (bytes_eq (string_bytes e.0) n ≡ false) × (string_bytes e.0 ≡ n → ⊥)).
-          ap (λ o. either_of o (found (take i rest) n)) (put n ∙ ap (λ b. cond b (Some e.1) (found now n)) t.0) ∙
-          (ap (either_of (found now n)) (sym (left n ∙ ap (λ b. cond b (Some e.1) (found (take i rest) n)) t.0)) ∙ putting.all n))
-          (name_tells (string_bytes e.0) n);
-    }
+-- two lists that have no name in common
+pub once_append : (es fs : List Entry) → IsOnce es → IsOnce fs → AreApart es fs → IsOnce (es ++ fs)
+once_append es [] e_once f_once apart = let P : List Entry → Type 0 = IsOnce in subst P (sym (append-nil es)) e_once
+once_append es (f ∷ fs) e_once f_once apart =
+    let P : List Entry → Type 0 = IsOnce in
+    subst P (append_assoc es (f ∷ []) fs) (once_append (es ++ f ∷ []) fs
+    (once_push es f e_once (λ k w same. not_there k w same))
+    (λ i j l w same. f_once (suc i) (suc j) (omega (arith, l)) (omega (arith, w)) same)
+    next)
+  where
+    listed : found (f ∷ fs) (string_bytes f.0) ≡ Some f.1
+    listed = ap (λ b. cond b (Some f.1) (found fs (string_bytes f.0))) (itself (string_bytes f.0))
 
-either_none : (o : Option Below) → either_of o None ≡ o
-either_none None = refl
-either_none (Some b) = refl
+    free : found es (string_bytes f.0) ≡ None
+    free = apart (string_bytes f.0) (ap is_some listed)
 
--- nothing is left
-pub put_all_names : (es fs now rest : List Entry) → IsPutting es fs now rest → rest ≡ [] → (n : Name) → found now n ≡ either_of (found es n) (found fs n)
-put_all_names es fs now rest putting none n = sym (ap (λ xs. either_of (found now n) (found xs n)) none ∙ either_none (found now n)) ∙ putting.all n
+    not_there : (k : ℕ) → k < length es → name_at es k ≡ string_bytes f.0 → ⊥
+    not_there k w same = no_place es e_once (string_bytes f.0) k w same free
+
+    next : AreApart (es ++ f ∷ []) fs
+    next n some =
+        let other : bytes_eq (string_bytes f.0) n ≡ false = ⊎_elim
+        (λ (t : (bytes_eq (string_bytes f.0) n ≡ true) × (string_bytes f.0 ≡ n)).
+        absurd (false≢true (sym (ap is_some (subst (λ (m : Name). found fs m ≡ None) t.1 (behind_first f fs f_once))) ∙ some)))
+        (λ (t : (bytes_eq (string_bytes f.0) n ≡ false) × (string_bytes f.0 ≡ n → ⊥)). t.0)
+        (name_tells (string_bytes f.0) n) in
+        found_append es (f ∷ []) n ∙
+        (ap (λ o. either_of o (cond (bytes_eq (string_bytes f.0) n) (Some f.1) None)) (apart n (ap is_some (ap (λ b. cond b (Some f.1) (found fs n)) other) ∙ some)) ∙
+        ap (λ b. cond b (Some f.1) None) other)
 
 -- a list of one name
 pub found_alone : (es : List Entry) (d : Entry) → length es ≡ 1 → d ≡ get_or es 0 d → (n : Name) → found es n ≡ cond (bytes_eq (string_bytes d.0) n) (Some d.1) None
@@ -134,12 +114,6 @@ joined_by_rest old new rest joined new_set rest_set least join part p = join par
     either_way (old part p) (rest part p) (new part p)
     (λ t. (least rest rest_set).0 (λ s q u. u) part p t)
     (λ t. (least new new_set).1 (λ s q u. or_right (old s q) (new s q) u) part p t)
-
--- a name that stands at a place is found
-pub no_place : (es : List Entry) → IsRising es → (n : Name) (i : ℕ) → i < length es → name_at es i ≡ n → found es n ≡ None → ⊥
-no_place es rising n i within at none =
-    let d = some_entry es i within in
-    let e : None ≡ Some (get_or es i d).1 = sym none ∙ found_first es n i d within at (rising_before es rising n i within at) in cc
 
 -- where nothing is lacking, what was there is all
 pub joined_with_nothing : (old rest : NameSet) → IsSame rest nothing → IsJoin old rest old

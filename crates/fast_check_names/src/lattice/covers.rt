@@ -1,9 +1,8 @@
 //! A name that comes to stand whole takes the place of a subset, whose node goes. Nothing of this takes memory.
 
-ghost use Rattle.std.specs.Prelude.{◌≡◌, ◌<◌, ◌+◌, IsTrue, Some, ◌∷◌, [], vec_len, length, is_some, map};
+ghost use Rattle.std.specs.Prelude.{◌≡◌, ◌<◌, ◌+◌, IsTrue, Some, ◌∷◌, [], vec_len, is_some, map};
 ghost use Rattle.std.specs.Bool.{OnTrue, OnFalse};
 ghost use Rattle.fast_check_names.specs.declared.lattice.node.NodeNo.{NodeNo};
-ghost use Rattle.fast_check_names.specs.Order.{Name};
 ghost use Rattle.fast_check_names.specs.Graph.{entry, listings, lower, moved_below, lower_entries, IsTree, IsWritten, IsTakenOut, ListsNoSubset};
 ghost use Rattle.fast_check_names.specs.Names.{whole_below, IsAdded};
 
@@ -76,9 +75,9 @@ fn write_all(nodes: &mut Vec<Node>, at: usize, name: &str)
     ensures written { IsWritten (entry nodes.old.items) at name.now (Some Below.All) (entry nodes.new.items) }
 {
     let node = &mut nodes[at];
-    match place_of(node.names.as_slice(), name) {
-        Ok(place) => node.names[place].1 = Below::All,
-        Err(_) => {}
+    match place_of(node, name) {
+        Some(place) => node.names[place].1 = Below::All,
+        None => {}
     }
 }
 

@@ -1,18 +1,15 @@
 //! What a set gains at one node is written in place: all growth comes first, and then nothing can fail.
 
-ghost use Rattle.std.specs.Prelude.{◌≡◌, ℕ, ◌+◌, ◌-◌, ◌<◌, ◌≤◌, length, cond, OnOk, OnErr, IfOk, IfSome, IsTrue, Some, None, string_bytes, vec_len, vec_capacity, get_or, []};
-ghost use Rattle.std.specs.Str.{bytes_eq};
-ghost use Rattle.fast_check_names.specs.Order.{Name, found, IsRising};
+ghost use Rattle.std.specs.Prelude.{◌≡◌, ℕ, ◌+◌, ◌-◌, ◌<◌, ◌≤◌, length, OnOk, OnErr, IfOk, IfSome, IsTrue, Some, None, vec_len, vec_capacity, get_or, []};
+ghost use Rattle.fast_check_names.specs.Order.{Name, found, lists, IsOnce};
 ghost use Rattle.fast_check_names.specs.Graph.{entry, listings, shift, either_of, IsTree, IsMerge, IsBehind, HasRoom, AreApart, LacksNames};
 ghost use Rattle.fast_check_names.specs.Names.{IsJoint};
 
 use crate::lattice::calls::names_of;
 use crate::lattice::node::{Below, Node};
-use crate::lattice::nodes::{find_at, place_of, shift_nodes};
+use crate::lattice::nodes::{find_at, shift_nodes};
+use crate::lattice::order::sort_from;
 use std::alloc::{AllocError, Global};
-
-/// As many names are written in place at most. More of them are joined in a copy, which takes each old name once.
-const FEW: usize = 64;
 
 /// Room for the elements of a vector and `more`: None where they fit, else a vector without elements to which they can move.
 fn room_for<T: Drop>(
@@ -47,36 +44,16 @@ fn move_into<T: Drop>(items: &mut Vec<T>, room: Option<Vec<T>>)
     *items = wider;
 }
 
-/// Lists a name that is not listed, where there is room for it.
-fn put_within(listed: &mut Vec<(String, Below)>, name: String, below: Below)
-    requires rising { IsRising listed.old.items }
-    requires free { found listed.old.items (string_bytes name) ≡ None }
-    requires room { vec_len listed.old < vec_capacity listed.old }
-    ensures rising { IsRising listed.new.items }
-    ensures found { (n : Name) → found listed.new.items n ≡ cond (bytes_eq (string_bytes name) n) (Some below) (found listed.old.items n) }
-    ensures len { vec_len listed.new ≡ vec_len listed.old + 1 }
-    ensures capacity { vec_capacity listed.old ≤ vec_capacity listed.new }
-{
-    match place_of(listed.as_slice(), name.as_str()) {
-        Ok(_) => {}
-        Err(place) => {
-            let _ = listed.insert(place, (name, below));
-        }
-    }
-}
-
 /// Lists names that are not listed, where there is room for them.
-fn put_names(listed: &mut Vec<(String, Below)>, mut names: Vec<(String, Below)>)
-    requires rising { IsRising listed.old.items }
-    requires names_rising { IsRising names.items }
-    requires apart { AreApart listed.old.items names.items }
-    requires room { vec_len listed.old + vec_len names ≤ vec_capacity listed.old }
-    ensures rising { IsRising listed.new.items }
-    ensures found { (n : Name) → found listed.new.items n ≡ either_of (found listed.old.items n) (found names.items n) }
+fn put_names(node: &mut Node, mut names: Vec<(String, Below)>)
+    requires once { IsOnce names.items }
+    requires apart { AreApart node.old.names.items names.items }
+    requires room { vec_len node.old.names + vec_len names ≤ vec_capacity node.old.names }
+    ensures found { (n : Name) → found node.new.names.items n ≡ either_of (found node.old.names.items n) (found names.items n) }
 {
-    'names: while let Some((name, below)) = names.pop() {
-        put_within(listed, name, below);
-    }
+    let alloc = *names.allocator();
+    let _ = node.names.append(&mut names);
+    node.sorted = sort_from(node.names.as_slice(), &mut node.runs, alloc, node.sorted);
 }
 
 /// Puts the nodes of a tree but its root behind the others, where there is room for them, and answers the names of the root.
@@ -85,7 +62,7 @@ fn append_below(nodes: &mut Vec<Node>, mut tree: Vec<Node>) -> Vec<(String, Belo
     requires tree { IsTree (entry tree.items) (vec_len tree) }
     requires tree_some { 0 < vec_len tree }
     requires room { vec_len nodes.old + vec_len tree ≤ vec_capacity nodes.old }
-    ensures rising { IsRising result.items }
+    ensures once { IsOnce result.items }
     ensures names { (n : Name) → found result.items n ≡ shift (vec_len nodes.old - 1) (entry tree.items 0 n) }
     ensures count { vec_len result ≡ length (get_or (listings tree.items) 0 []) }
     ensures behind { IsBehind nodes.old.items (entry tree.items) nodes.new.items }
@@ -120,13 +97,13 @@ pub fn merge(
     let names = append_below(nodes, tree);
     let node = &mut nodes[at];
     move_into(&mut node.names, names_room);
-    put_names(&mut node.names, names);
+    put_names(node, names);
     Ok(())
 }
 
 /// Whether node `at` lists none of these names.
 fn lists_none(nodes: &[Node], at: usize, names: &[(String, Below)]) -> bool
-    requires { IsRising names.now }
+    requires { IsOnce names.now }
     ensures { IsTrue result → LacksNames (entry nodes.now at) (found names.now) }
 {
     for (name, _) in names {
@@ -137,8 +114,7 @@ fn lists_none(nodes: &[Node], at: usize, names: &[(String, Below)]) -> bool
     true
 }
 
-/// The node at which all that another set adds can be put, and the other set's node that lists it: None where there is no such node, and where
-/// it would gain many names.
+/// The node at which all that another set adds can be put, and the other set's node that lists it: None where there is no such node.
 fn joint(nodes: &[Node], at: usize, others: &[Node], other: usize) -> Option<(usize, usize)>
     requires within { at < length nodes.now }
     requires tree { IsTree (entry nodes.now) (length nodes.now) }
@@ -147,9 +123,6 @@ fn joint(nodes: &[Node], at: usize, others: &[Node], other: usize) -> Option<(us
 {
     let names = names_of(others, other);
     if lists_none(nodes, at, names) {
-        if FEW < names.len() {
-            return None;
-        }
         return Some((at, other));
     }
     if names.len() != 1 {

@@ -10,7 +10,7 @@ pub loop-below-preserved : goal.loop-below-preserved
 loop-below-preserved c =
     let es = c.names_of-below-items.result.now in
     let d : Entry = c.loop-below-item.result in
-    kept_more PlainP es c.names_of-below-items.ensures.rising c.loop-below.below-index d c.loop-below-test.true c.loop-below-item.is c.loop-below.invariant
+    kept_more PlainP es c.names_of-below-items.ensures.once c.loop-below.below-index d c.loop-below-test.true c.loop-below-item.is c.loop-below.invariant
     (subst (λ (b : Below). PlainP (string_bytes d.0) b) (sym c.in-All.is) tt)
 
 pub returns : goal.returns

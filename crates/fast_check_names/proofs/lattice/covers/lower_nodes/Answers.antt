@@ -1,16 +1,22 @@
 use Rattle.std.proofs.Common.{rules, arith, ap, ◌∙◌, ◌≡◌, ◌<◌, ◌++◌, length, get_or, set, take, drop, map, List, []}
 use Rattle.std.proofs.lemmas.List.{length-map}
 use Rattle.fast_check_names.specs.declared.lattice.node.Node.{Node}
-use Rattle.fast_check_names.specs.Order.{Entry}
+use Rattle.fast_check_names.specs.Order.{Entry, names_in, lists}
 use Rattle.fast_check_names.specs.Graph.{lower, moved_below, lower_entries, listings}
-use Rattle.fast_check_names.proofs.Lists.{still, one_more, items_at, listings_set, mapped_rising, rising_along}
+use Rattle.fast_check_names.proofs.Lists.{still, one_more, items_at, listings_set, mapped_names}
+use Rattle.fast_check_names.proofs.Places.{once_along}
+use Rattle.fast_check_names.proofs.Sorted.{order_along}
 use Rattle.fast_check_names.proofs.lattice.covers.lower_nodes.Goals as goal
 
 pub invariant_of-node : goal.invariant_of-node
-invariant_of-node c = record {
-  rising = rising_along c.lower_names.new.names.items (lower_entries c.args.gone c.index_mut-node.result.now.names.items) c.lower_names.ensures
-      (mapped_rising (moved_below (lower c.args.gone)) c.index_mut-node.result.now.names.items c.index_mut-node.result.now.rising);
-}
+invariant_of-node c =
+    let node = c.index_mut-node.result.now in
+    let same : names_in c.lower_names.new.names.items ≡ names_in node.names.items =
+    ap names_in c.lower_names.ensures ∙ mapped_names (moved_below (lower c.args.gone)) node.names.items in
+    record {
+      once = once_along c.lower_names.new.names.items node.names.items same node.once;
+      order = order_along (names_in c.lower_names.new.names.items) (names_in node.names.items) (lists node.runs.items) node.sorted same node.order;
+    }
 
 pub loop-i-preserved : goal.loop-i-preserved
 loop-i-preserved c =

@@ -1,7 +1,8 @@
 use Rattle.std.proofs.Common.{arith, ap, ◌∙◌, ◌<◌, sym, length, Some}
 use Rattle.fast_check_names.specs.declared.lattice.node.Below.TheVariants.{All}
-use Rattle.fast_check_names.specs.Order.{found}
-use Rattle.fast_check_names.proofs.Places.{rising_set, read_name, found_set, found_none, rising_before, gap_absent}
+use Rattle.fast_check_names.specs.Order.{found, names_in, lists}
+use Rattle.fast_check_names.proofs.Places.{once_set, names_set, read_name, found_set, found_none, once_before}
+use Rattle.fast_check_names.proofs.Sorted.{order_along}
 use Rattle.fast_check_names.proofs.Lists.{written_by, items_at}
 use Rattle.fast_check_names.proofs.Puts.{not_none}
 use Rattle.fast_check_names.proofs.lattice.covers.write_all.Goals as goal
@@ -9,28 +10,29 @@ use Rattle.fast_check_names.proofs.lattice.covers.write_all.Goals as goal
 pub invariant_of-node : goal.invariant_of-node
 invariant_of-node c =
     let node = c.index_mut-node.result.now in
-    let place = rw c.as_slice.ensures.value at c.in-Ok.ensures in
+    let es = node.names.items in
+    let place = c.in-Some.ensures in
+    let name = read_name es c.in-Some.place c.index_mut.result.now place.0 c.index_mut.ensures.value in
     record {
-      rising = rising_set node.names.items c.in-Ok.place (c.index_mut.result.now.0, All) node.rising
-          (read_name node.names.items c.in-Ok.place c.index_mut.result.now place.0 c.index_mut.ensures.value);
+      once = once_set es c.in-Some.place (c.index_mut.result.now.0, All) node.once name;
+      order = order_along _ (names_in es) (lists node.runs.items) node.sorted (names_set es c.in-Some.place (c.index_mut.result.now.0, All) name) node.order;
     }
 
-pub returns-in-Ok-clause-written : goal.returns-in-Ok-clause-written
-returns-in-Ok-clause-written c =
+pub returns-in-Some-clause-written : goal.returns-in-Some-clause-written
+returns-in-Some-clause-written c =
     let node = c.index_mut-node.result.now in
-    let place = rw c.as_slice.ensures.value at c.in-Ok.ensures in
+    let place = c.in-Some.ensures in
     written_by c.args.nodes.now.items c.args.at node _ c.args.name.now (Some All) (omega (arith, c.args.nodes.now.ok.0, c.requires.within))
     c.index_mut-node.ensures.value
-    (λ m. found_set node.names.items c.args.name.now c.in-Ok.place c.index_mut.result.now.0 All m place.0 place.1
-    (read_name node.names.items c.in-Ok.place c.index_mut.result.now place.0 c.index_mut.ensures.value ∙ place.1)
-    (rising_before node.names.items node.rising c.args.name.now c.in-Ok.place place.0 place.1))
+    (λ m. found_set node.names.items c.args.name.now c.in-Some.place c.index_mut.result.now.0 All m place.0 place.1
+    (read_name node.names.items c.in-Some.place c.index_mut.result.now place.0 c.index_mut.ensures.value ∙ place.1)
+    (once_before node.names.items node.once c.args.name.now c.in-Some.place place.0 place.1))
 
-pub returns-in-Err-clause-written : goal.returns-in-Err-clause-written
-returns-in-Err-clause-written c =
+pub returns-in-None-clause-written : goal.returns-in-None-clause-written
+returns-in-None-clause-written c =
     let nodes = c.args.nodes.now.items in
     let node = c.index_mut-node.result.now in
-    let gap = rw c.as_slice.ensures.value at c.in-Err.ensures in
     let within : c.args.at < length nodes = omega (arith, c.args.nodes.now.ok.0, c.requires.within) in
     absurd (not_none _ c.requires.listed
     (ap (λ es. found es c.args.name.now) (sym (items_at nodes c.args.at node within c.index_mut-node.ensures.value)) ∙
-    found_none node.names.items c.args.name.now (gap_absent node.names.items c.args.name.now c.in-Err.field-0 gap)))
+    found_none node.names.items c.args.name.now c.in-None.ensures))

@@ -5,8 +5,8 @@ use Rattle.fast_check_names.specs.Graph.{entry, shift}
 use Rattle.fast_check_names.proofs.Lists.{root_found, root_count, root_behind}
 use Rattle.fast_check_names.proofs.lattice.extends.append_below.Goals as goal
 
-pub returns-clause-rising : goal.returns-clause-rising
-returns-clause-rising c = c.remove-root.result.rising
+pub returns-clause-once : goal.returns-clause-once
+returns-clause-once c = c.remove-root.result.once
 
 pub returns-clause-names : goal.returns-clause-names
 returns-clause-names c = λ n.

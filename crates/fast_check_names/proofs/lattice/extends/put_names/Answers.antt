@@ -1,34 +1,47 @@
-use Rattle.std.proofs.Common.{arith, refl, sym, subst, ◌≡◌, ◌+◌, ◌-◌, ◌<◌, ℕ, length, get_or, List}
-use Rattle.fast_check_names.specs.Order.{Entry}
-use Rattle.fast_check_names.proofs.Extends.{IsPutting, putting_more, free, entry_same}
+use Rattle.std.proofs.Common.{arith, ap, ◌∙◌, ◌≡◌, ◌++◌, true, is_ok, string_bytes}
+use Rattle.std.proofs.lemmas.List.{map-append}
+use Rattle.fast_check_names.specs.Order.{Entry, names_in, lists, found}
+use Rattle.fast_check_names.proofs.Places.{once_along}
+use Rattle.fast_check_names.proofs.Sorted.{order_more, order_along}
+use Rattle.fast_check_names.proofs.Extends.{once_append, found_append}
 use Rattle.fast_check_names.proofs.lattice.extends.put_names.Goals as goal
 
-pub names-init : goal.names-init
-names-init c = (
-  record { rising = c.requires.rising; rest_rising = c.requires.names_rising; apart = c.requires.apart; all = λ n. refl },
-  c.requires.room,
-)
+pub sort_from-node-requires-clause-order : goal.sort_from-node-requires-clause-order
+sort_from-node-requires-clause-order c =
+    let node = c.args.node.now in
+    let es = node.names.items in
+    let fs = c.args.names.items in
+    let ok : is_ok c.append.result ≡ true = c.append.ensures.succeeds c.requires.room in
+    let items : c.append.new.self.items ≡ es ++ fs = rw (c.append.ensures.items, ok) in
+    order_along (names_in c.as_slice.result.now) (names_in es ++ names_in fs) (lists node.runs.items) node.sorted
+    (ap names_in (c.as_slice.ensures.value ∙ items) ∙ map-append (λ (e : Entry). string_bytes e.0) es fs)
+    (order_more (names_in es) (names_in fs) (lists node.runs.items) node.sorted node.order)
 
-pub put_within-requires-clause-free : goal.put_within-requires-clause-free
-put_within-requires-clause-free c =
-    let rest = c.names.names.items in
-    let e : Entry = (c.in-Some.name, c.in-Some.below) in
-    let some : 0 < c.names.names.len = c.in-Some.ensures.variant.0 refl in
-    let i : ℕ = c.names.names.len - 1 in
-    let last : length rest ≡ i + 1 = omega (arith, some, c.names.names.ok.0) in
-    let is : e ≡ get_or rest i e = entry_same e (get_or rest i e) (c.in-Some.ensures.value e some) in
-    free c.args.listed.now.items c.args.names.items c.names.listed.items rest c.names.invariant.0 i e last is
+pub sort_from-node-requires-clause-once : goal.sort_from-node-requires-clause-once
+sort_from-node-requires-clause-once c =
+    let node = c.args.node.now in
+    let es = node.names.items in
+    let fs = c.args.names.items in
+    let ok : is_ok c.append.result ≡ true = c.append.ensures.succeeds c.requires.room in
+    let items : c.append.new.self.items ≡ es ++ fs = rw (c.append.ensures.items, ok) in
+    once_along c.as_slice.result.now (es ++ fs) (ap names_in (c.as_slice.ensures.value ∙ items)) (once_append es fs node.once c.requires.once c.requires.apart)
 
-pub names-preserved : goal.names-preserved
-names-preserved c =
-    let rest = c.names.names.items in
-    let e : Entry = (c.in-Some.name, c.in-Some.below) in
-    let some : 0 < c.names.names.len = c.in-Some.ensures.variant.0 refl in
-    let i : ℕ = c.names.names.len - 1 in
-    let last : length rest ≡ i + 1 = omega (arith, some, c.names.names.ok.0) in
-    let is : e ≡ get_or rest i e = entry_same e (get_or rest i e) (c.in-Some.ensures.value e some) in (
-      subst (λ (xs : List Entry). IsPutting c.args.listed.now.items c.args.names.items c.put_within.new.listed.items xs) (sym c.in-Some.ensures.rest)
-          (putting_more c.args.listed.now.items c.args.names.items c.names.listed.items rest c.names.invariant.0 i e last is c.put_within.new.listed.items
-          c.put_within.ensures.rising c.put_within.ensures.found),
-      omega (arith, c.put_within.ensures.len, c.put_within.ensures.capacity, c.in-Some.ensures.cases, c.names.invariant.1),
-    )
+pub invariant_of-node : goal.invariant_of-node
+invariant_of-node c =
+    let node = c.args.node.now in
+    let es = node.names.items in
+    let fs = c.args.names.items in
+    let ok : is_ok c.append.result ≡ true = c.append.ensures.succeeds c.requires.room in
+    let items : c.append.new.self.items ≡ es ++ fs = rw (c.append.ensures.items, ok) in
+    record {
+      once = once_along c.append.new.self.items (es ++ fs) (ap names_in items) (once_append es fs node.once c.requires.once c.requires.apart);
+      order = rw c.as_slice.ensures.value at c.sort_from-node.ensures;
+    }
+
+pub returns : goal.returns
+returns c =
+    let es = c.args.node.now.names.items in
+    let fs = c.args.names.items in
+    let ok : is_ok c.append.result ≡ true = c.append.ensures.succeeds c.requires.room in
+    let items : c.append.new.self.items ≡ es ++ fs = rw (c.append.ensures.items, ok) in
+    record { found = λ n. ap (λ xs. found xs n) items ∙ found_append es fs n }

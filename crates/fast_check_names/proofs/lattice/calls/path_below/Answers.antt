@@ -1,0 +1,11 @@
+use Rattle.std.proofs.Common.{rules, ◌≡◌, length, [], string_bytes, List, String}
+use Rattle.std.specs.declared.alloc.Global.{Global}
+use Rattle.fast_check_names.specs.Names.{paths, path_of}
+use Rattle.fast_check_names.proofs.Lines.{subset_whole, all_whole}
+use Rattle.fast_check_names.proofs.lattice.calls.path_below.Goals as goal
+
+pub returns-then-is_empty : goal.returns-then-is_empty
+returns-then-is_empty c = let none : length c.args.parts.now ≡ 0 = search rules in all_whole c.args.parts.now none
+
+pub returns : goal.returns
+returns c = let some : length c.args.parts.now ≡ 0 → ⊥ = search rules in subset_whole (paths c.in_ok-names.names) c.args.parts.now some c.in_ok-names.ensures
