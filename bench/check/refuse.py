@@ -28,6 +28,8 @@ import subprocess
 import sys
 import tempfile
 
+from fork_server import compile_library
+
 SHIM = r"""
 #define _GNU_SOURCE
 #include <dlfcn.h>
@@ -92,13 +94,6 @@ int posix_memalign(void **made, size_t align, size_t size) {
 WANT = (3, b"", b"error: out of memory\n")
 PASSED_OVER = "the answer is as if nothing had been refused"
 MODES = {"alone": {}, "and all from there on": {"REFUSE_BEHIND": "1"}}
-
-
-def compile_shim(folder):
-    shim = os.path.join(folder, "refuse.so")
-    words = ["cc", "-shared", "-fPIC", "-O1", "-fno-builtin", "-fno-omit-frame-pointer", "-o", shim, "-x", "c", "-"]
-    subprocess.run(words, input=SHIM, text=True, check=True)
-    return shim
 
 
 def run(shim, words, number, **more):
@@ -179,7 +174,7 @@ def main():
         print(__doc__)
         return 2
     with tempfile.TemporaryDirectory() as folder:
-        shim = compile_shim(folder)
+        shim = compile_library(SHIM, folder, "refuse")
         if where is not None:
             tell_where(shim, words, where)
             return 0
