@@ -24,7 +24,7 @@ import sys
 import tempfile
 import time
 
-from fork_server import LIBRARY, ForkServer, compile_library
+from fork_server import ForkServer, compile_library
 
 TOP = os.path.dirname(os.path.dirname(os.path.dirname(os.path.abspath(__file__))))
 DATA = os.path.join(TOP, "crates/fast_check_vectors/data")
@@ -118,7 +118,7 @@ def mutated(chance, text):
 
 def breach(ran):
     """What is wrong with a run, or None."""
-    status, out, err, seconds, _ = ran
+    status, out, err, seconds, *_ = ran
     if seconds > SECONDS:
         return f"{seconds:.1f} seconds"
     if status not in (0, 1, 2):
@@ -193,7 +193,7 @@ def try_all(program, count, seed, beside, first):
     """The same of this many inputs from a number on, so many side by side, in parts of which each is told."""
     tally, done = Tally(), 0
     with tempfile.TemporaryDirectory() as folder:
-        library = compile_library(LIBRARY, folder, "serve")
+        library = compile_library(folder)
         with multiprocessing.Pool(beside, begin, (program, library, seed)) as pool:
             numbers = [range(at, min(first + count, at + PART)) for at in range(first, first + count, PART)]
             for part, told in zip(numbers, pool.imap(try_some, numbers)):
