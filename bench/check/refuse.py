@@ -16,7 +16,7 @@ run differs, and where no request was counted: then the program has an allocator
 `--ahead` counts the runs that answer as if nothing had been refused where one request alone is, and does not take them for wrong: lists and maps ask
 for room ahead, and go on where that is refused. Each other run has to end as above.
 
-`--stored COUNT` takes so many of the stored runs of a command, evenly spread, and goes on ahead; a line for all of them stands below.
+`--stored COUNT` takes so many of the stored runs of a command on less than 20 KB, evenly spread, and goes on ahead; a line for all of them stands below.
 
 `--where NUMBER` refuses this request alone, and tells which calls it came from, by the names that the program has kept (`nm`).
 
@@ -34,6 +34,8 @@ from fork_server import ForkServer, compile_library
 WANT = (3, b"", b"error: out of memory\n")
 PASSED_OVER = "the answer is as if nothing had been refused"
 DATA = os.path.join(os.path.dirname(os.path.abspath(__file__)), "../../crates/fast_check_vectors/data")
+# Of inputs of so many bytes a run has so many requests that to refuse each takes too long.
+LARGE = 20_000
 TOTAL = collections.Counter()
 MODES = {"alone": False, "and all from there on": True}
 
@@ -112,8 +114,9 @@ def stored_runs(command, count):
     """So many of the inputs of the stored runs of a command, evenly spread."""
     with open(os.path.join(DATA, "cases")) as file:
         words = [line.split() for line in file if line.startswith(command + " ")]
-    names = sorted({line[1] for line in words if len(line) == 2 and os.path.isfile(os.path.join(DATA, line[1]))})
-    return [os.path.join(DATA, names[place * len(names) // count]) for place in range(min(count, len(names)))]
+    paths = sorted({os.path.join(DATA, line[1]) for line in words if len(line) == 2})
+    paths = [path for path in paths if os.path.isfile(path) and os.path.getsize(path) < LARGE]
+    return [paths[place * len(paths) // count] for place in range(min(count, len(paths)))]
 
 
 def main():
