@@ -10,9 +10,10 @@ The last line has the processor seconds of the slowest run, and of the runs on 3
 no bytes, for each byte of its input.
 
 Usage: bench/check/mutate.py PROGRAM [COUNT [SEED [SIDE_BY_SIDE [FIRST]]]]
-       (1000 inputs of some seed, as many side by side as there are processors, from number 0 on)
+       (1000 inputs of some seed, as many side by side as there are processors, from number 0 on; an interrupt ends it with what was tried so far)
 """
 import collections
+import contextlib
 import copy
 import glob
 import json
@@ -20,6 +21,7 @@ import multiprocessing
 import os
 import random
 import re
+import signal
 import sys
 import tempfile
 import time
@@ -176,8 +178,9 @@ class Worker:
 
 
 def begin(*words):
-    """Makes the worker of this process."""
+    """Makes the worker of this process, which goes on where the script is interrupted."""
     global worker
+    signal.signal(signal.SIGINT, signal.SIG_IGN)
     worker = Worker(*words)
 
 
@@ -190,20 +193,21 @@ def try_some(numbers):
 
 
 def try_all(program, count, seed, beside, first):
-    """The same of this many inputs from a number on, so many side by side, in parts of which each is told."""
+    """The same of this many inputs from a number on, so many side by side, in parts of which each is told, and of how many: an interrupt ends them."""
     tally, done = Tally(), 0
     with tempfile.TemporaryDirectory() as folder:
         library = compile_library(folder)
         with multiprocessing.Pool(beside, begin, (program, library, seed)) as pool:
             numbers = [range(at, min(first + count, at + PART)) for at in range(first, first + count, PART)]
-            for part, told in zip(numbers, pool.imap(try_some, numbers)):
-                tally.join(told)
-                done += len(part)
-                for line in told.breaches:
-                    print(line, flush=True)
-                if done % 10_000 < PART:
-                    print(f"{done} done, the last of them {part[-1]}, breaches={len(tally.breaches)}", file=sys.stderr, flush=True)
-    return tally
+            with contextlib.suppress(KeyboardInterrupt):
+                for part, told in zip(numbers, pool.imap(try_some, numbers)):
+                    tally.join(told)
+                    done += len(part)
+                    for line in told.breaches:
+                        print(line, flush=True)
+                    if done % 10_000 < PART:
+                        print(f"{done} done, the last of them {part[-1]}, breaches={len(tally.breaches)}", file=sys.stderr, flush=True)
+    return tally, done
 
 
 def main(words):
@@ -219,11 +223,11 @@ def main(words):
         return 2
     print(f"seed={seed}", flush=True)
     began = time.monotonic()
-    tally = try_all(program, count, seed, beside, first)
+    tally, done = try_all(program, count, seed, beside, first)
     for (status, line), times in sorted(tally.ends.items()):
         print(f"status {status} {line or 'and an answer'}: {times}")
     took = f"slowest={tally.seconds:.3f} held={tally.held:.0f} seconds={time.monotonic() - began:.0f}"
-    print(f"inputs={count} breaches={len(tally.breaches)} seed={seed} {took}")
+    print(f"inputs={done} breaches={len(tally.breaches)} seed={seed} {took}")
     return 1 if tally.breaches else 0
 
 
