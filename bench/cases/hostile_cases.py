@@ -34,7 +34,8 @@ def slashes_at_the_end():
     """Three modules whose URLs differ in slashes at the end, of which each exports all of the next."""
     urls = [shapes.url(0) + "/" * place for place in range(3)]
     own = [shapes.symbol(1, shapes.definition())]
-    return shapes.request(shapes.module(urls[0], [], [], again=urls[1:2]), shapes.module(urls[1], [], [], again=urls[2:]), shapes.module(urls[2], own, [["s1", 1]])), urls
+    first, second = (shapes.module(urls[place], [], [], again=[urls[place + 1]]) for place in (0, 1))
+    return shapes.request(first, second, shapes.module(urls[2], own, [["s1", 1]])), urls
 
 
 def keys_with_other_values():

@@ -1,8 +1,8 @@
 #!/usr/bin/env python3
 """Hostile shapes of tables and requests through the program, in three sizes each: does its time grow with the input, or faster?
 
-A line for each shape: the largest number, its megabytes, the status, the processor seconds of the three sizes (each twice the one before; of three runs the quickest), the
-bytes held a byte of the largest, and the exponent by which seconds grow with bytes, fitted to the three. The first size is doubled until a run takes
+A line for each shape: the largest number, its megabytes, the status, the processor seconds of the three sizes (each twice the one before; of three runs
+the quickest), the bytes held a byte of the largest, and the exponent by which seconds grow with bytes, fitted to the three. The first size is doubled until a run takes
 a tenth of a second, or the input has 4 MB. An exponent above 1.2 is told, and so is a run that ends by a signal; then the status is 1.
 
 Usage: bench/check/shapes.py PROGRAM [SHAPE ..]
