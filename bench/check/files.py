@@ -12,10 +12,12 @@ import tempfile
 TOP = os.path.dirname(os.path.dirname(os.path.dirname(os.path.abspath(__file__))))
 COMMANDS = {"transform": "examples/first.json", "build": "examples/build_hello.json"}
 UNREADABLE, NOT_JSON = b"error: input refused: unreadable\n", b"error: input refused: not-json\n"
+NO_MEMORY = b"error: out of memory\n"
 REFUSED, USAGE = b"error: output refused\n", b"usage: fast-check (build|transform|pair) FILE\n"
 WAITS = "waits until it is ended from outside"
 # Seconds after which a program counts as one that waits.
 PATIENCE = 3
+GIGABYTE = 1 << 30
 
 
 def run(words, **streams):
@@ -62,6 +64,14 @@ def with_a_limit(words):
         _, err = child.communicate()
         out.seek(0)
         return child.returncode, out.read(), err
+
+
+def with_a_limit_of_memory(words):
+    """With 1 GB of address space."""
+    child = subprocess.Popen(words, stdin=subprocess.DEVNULL, stdout=subprocess.PIPE, stderr=subprocess.PIPE,
+                             preexec_fn=lambda: resource.setrlimit(resource.RLIMIT_AS, (GIGABYTE, GIGABYTE)))
+    out, err = child.communicate()
+    return child.returncode, out, err
 
 
 def inputs(text):
@@ -121,6 +131,9 @@ def check_command(check, program, command, folder):
     places = {"a folder": folder, "no file": folder + "/none", "a file below a file": path + "/x", "a read that fails": "/proc/self/mem", "": ""}
     for what, place in places.items():
         check.that(name(what or "an empty name"), run([*words, place]), (2, b"", UNREADABLE))
+    with open(made, "wb") as file:
+        file.truncate(GIGABYTE)
+    check.that(name("a file of 1 GB, with as much address space"), with_a_limit_of_memory([*words, made]), (3, b"", NO_MEMORY))
     check.that(name("/dev/null"), run([*words, "/dev/null"]), (2, b"", NOT_JSON))
     fifo = os.path.join(folder, command)
     os.mkfifo(fifo)

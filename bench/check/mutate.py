@@ -4,13 +4,16 @@
 Each input is one of the stored runs or examples with some of it changed: as text (bytes turned, cut out, doubled, put in), or as JSON (a value replaced
 by another one of the same input or by an extreme one, a member or an item taken away, doubled or renamed). A run breaches where it ends by a
 signal or another status, where it does not write exactly one line to the stream of its status and nothing to the other, where it takes more than
-10 seconds, or where 16 MB of address space and 100 bytes for each byte of its input do not suffice (`prlimit`): it ends with status 3 then. The input of
-a breach is written to a file, whose name is printed. An input goes by the seed and its number alone, however many are tried side by side.
+10 processor seconds, or where 16 MB of address space and 100 bytes for each byte of its input do not suffice: it ends with status 3 then. The input
+of a breach is written to a file, whose name is printed. An input goes by the seed and its number alone, however many are tried side by side.
+The last line has the processor seconds of the slowest run, and of the runs on 30 KB and more the most bytes that one held at once, beside those of a run on
+no bytes, for each byte of its input.
 
 Usage: bench/check/mutate.py PROGRAM [COUNT [SEED [SIDE_BY_SIDE [FIRST]]]]
-       (1000 inputs of some seed, as many side by side as there are processors, from number 0 on)
+       (1000 inputs of some seed, as many side by side as there are processors, from number 0 on; an interrupt ends it with what was tried so far)
 """
 import collections
+import contextlib
 import copy
 import glob
 import json
@@ -18,10 +21,12 @@ import multiprocessing
 import os
 import random
 import re
-import shutil
+import signal
 import sys
 import tempfile
 import time
+
+from fork_server import ForkServer, compile_library
 
 TOP = os.path.dirname(os.path.dirname(os.path.dirname(os.path.abspath(__file__))))
 DATA = os.path.join(TOP, "crates/fast_check_vectors/data")
@@ -29,6 +34,8 @@ LINES = re.compile(rb"error: input refused: (unreadable|not-json|bad-form|table-
 EXTREMES = [None, True, False, 0, 1, -1, 2**31, 2**32 - 1, 2**32, 2**64 - 1, 2**64, 0.5, "", "\0", "a" * 1000, "\ud7ff\ue000", "__proto__", "http://[",
             "file:///", "default", "prototype", [], {}, [[]], [0, 0], [5, 3], [2**32 - 1, 0]]
 SECONDS, FREE, PER_BYTE = 10, 16_000_000, 100
+# From how many bytes on it is told what a run held for each: those of the program and its pages count for less there.
+LARGE = 30_000
 # Inputs that are handed to a worker at once.
 PART = 200
 
@@ -111,36 +118,9 @@ def mutated(chance, text):
         return turn_bytes(chance, text)
 
 
-class Runner:
-    """Runs a program on one input after another: by the file of this runner, and with streams into memory."""
-
-    def __init__(self, program, folder):
-        self.limits, self.program = shutil.which("prlimit"), program
-        self.path = os.path.join(folder, f"{os.getpid()}.json")
-        self.streams = [os.memfd_create(name) for name in ("out", "err")]
-        self.input = os.open(os.devnull, os.O_RDONLY)
-
-    def run(self, command, text):
-        """The status of a run, what it wrote to both streams, and its seconds."""
-        with open(self.path, "wb") as file:
-            file.write(text)
-        for stream in self.streams:
-            os.ftruncate(stream, 0)
-            os.lseek(stream, 0, os.SEEK_SET)
-        words = ["prlimit", f"--as={FREE + PER_BYTE * len(text)}", f"--cpu={SECONDS}", self.program, command, self.path]
-        actions = [(os.POSIX_SPAWN_DUP2, stream, number) for number, stream in enumerate([self.input, *self.streams])]
-        began = time.monotonic()
-        child = os.posix_spawn(self.limits, words, os.environ, file_actions=actions)
-        status = os.waitstatus_to_exitcode(os.waitpid(child, 0)[1])
-        return status, *(self.written(stream) for stream in self.streams), time.monotonic() - began
-
-    def written(self, stream):
-        return os.pread(stream, os.fstat(stream).st_size, 0)
-
-
 def breach(ran):
     """What is wrong with a run, or None."""
-    status, out, err, seconds = ran
+    status, out, err, seconds, *_ = ran
     if seconds > SECONDS:
         return f"{seconds:.1f} seconds"
     if status not in (0, 1, 2):
@@ -152,42 +132,82 @@ def breach(ran):
     return None
 
 
-def try_some(program, folder, inputs, seed, numbers):
-    """Runs the inputs of these numbers: how often each end came, the lines of the breaches, and the seconds of the slowest run."""
-    runner, texts, ends, breaches, slowest = Runner(program, folder), {}, collections.Counter(), [], 0.0
-    for number in numbers:
-        chance = random.Random(f"{seed} {number}")
-        command, path = chance.choice(inputs)
-        if path not in texts:
+class Tally:
+    """How often each end came, how many runs breached, and the most that a run took."""
+
+    def __init__(self):
+        self.ends, self.breaches, self.seconds, self.held = collections.Counter(), [], 0.0, 0.0
+
+    def add(self, ran, held):
+        self.ends[ran.status, ran.err.decode(errors="replace").strip().removeprefix("error: input refused: ")] += 1
+        self.seconds, self.held = max(self.seconds, ran.seconds), max(self.held, held)
+
+    def join(self, other):
+        self.ends, self.breaches = self.ends + other.ends, self.breaches + other.breaches
+        self.seconds, self.held = max(self.seconds, other.seconds), max(self.held, other.held)
+
+
+class Worker:
+    """Tries inputs on a server of its own."""
+
+    def __init__(self, program, library, seed):
+        self.server, self.seed, self.inputs, self.texts = ForkServer(program, library), seed, stored_inputs(), {}
+        self.idle = self.run("transform", b"").held
+
+    def text(self, path):
+        if path not in self.texts:
             with open(path, "rb") as file:
-                texts[path] = file.read()
-        text = mutated(chance, texts[path])
-        ran = runner.run(command, text)
-        slowest = max(slowest, ran[3])
-        ends[ran[0], ran[2].decode(errors="replace").strip().removeprefix("error: input refused: ")] += 1
+                self.texts[path] = file.read()
+        return self.texts[path]
+
+    def run(self, command, text):
+        return self.server.run(command, text, FREE + PER_BYTE * len(text), SECONDS)
+
+    def try_one(self, number, tally):
+        chance = random.Random(f"{self.seed} {number}")
+        command, path = chance.choice(self.inputs)
+        text = mutated(chance, self.text(path))
+        ran = self.run(command, text)
+        tally.add(ran, (ran.held - self.idle) / len(text) if len(text) >= LARGE else 0)
         wrong = breach(ran)
         if wrong:
-            kept = os.path.join(tempfile.gettempdir(), f"breach-{seed}-{number}.json")
+            kept = os.path.join(tempfile.gettempdir(), f"breach-{self.seed}-{number}.json")
             with open(kept, "wb") as file:
                 file.write(text)
-            breaches.append(f"{command} {kept}: {wrong}")
-    return ends, breaches, slowest
+            tally.breaches.append(f"{command} {kept}: {wrong}")
+
+
+def begin(*words):
+    """Makes the worker of this process, which goes on where the script is interrupted."""
+    global worker
+    signal.signal(signal.SIGINT, signal.SIG_IGN)
+    worker = Worker(*words)
+
+
+def try_some(numbers):
+    """Runs the inputs of these numbers."""
+    tally = Tally()
+    for number in numbers:
+        worker.try_one(number, tally)
+    return tally
 
 
 def try_all(program, count, seed, beside, first):
-    """The same of this many inputs from a number on, so many side by side, in parts of which each is told."""
-    inputs, ends, breaches, slowest, done = stored_inputs(), collections.Counter(), 0, 0.0, 0
-    with tempfile.TemporaryDirectory() as folder, multiprocessing.Pool(beside) as pool:
-        numbers = [range(at, min(first + count, at + PART)) for at in range(first, first + count, PART)]
-        told = [(part, pool.apply_async(try_some, (program, folder, inputs, seed, part))) for part in numbers]
-        for part, answer in told:
-            part_ends, lines, seconds = answer.get()
-            ends, breaches, slowest, done = ends + part_ends, breaches + len(lines), max(slowest, seconds), done + len(part)
-            for line in lines:
-                print(line, flush=True)
-            if done % 10_000 < PART:
-                print(f"{done} done, the last of them {part[-1]}, breaches={breaches}", file=sys.stderr, flush=True)
-    return ends, breaches, slowest
+    """The same of this many inputs from a number on, so many side by side, in parts of which each is told, and of how many: an interrupt ends them."""
+    tally, done = Tally(), 0
+    with tempfile.TemporaryDirectory() as folder:
+        library = compile_library(folder)
+        with multiprocessing.Pool(beside, begin, (program, library, seed)) as pool:
+            numbers = [range(at, min(first + count, at + PART)) for at in range(first, first + count, PART)]
+            with contextlib.suppress(KeyboardInterrupt):
+                for part, told in zip(numbers, pool.imap(try_some, numbers)):
+                    tally.join(told)
+                    done += len(part)
+                    for line in told.breaches:
+                        print(line, flush=True)
+                    if done % 10_000 < PART:
+                        print(f"{done} done, the last of them {part[-1]}, breaches={len(tally.breaches)}", file=sys.stderr, flush=True)
+    return tally, done
 
 
 def main(words):
@@ -203,11 +223,12 @@ def main(words):
         return 2
     print(f"seed={seed}", flush=True)
     began = time.monotonic()
-    ends, breaches, slowest = try_all(program, count, seed, beside, first)
-    for (status, line), times in sorted(ends.items()):
+    tally, done = try_all(program, count, seed, beside, first)
+    for (status, line), times in sorted(tally.ends.items()):
         print(f"status {status} {line or 'and an answer'}: {times}")
-    print(f"inputs={count} breaches={breaches} seed={seed} slowest={slowest:.2f} seconds={time.monotonic() - began:.0f}")
-    return 1 if breaches else 0
+    took = f"slowest={tally.seconds:.3f} held={tally.held:.0f} seconds={time.monotonic() - began:.0f}"
+    print(f"inputs={done} breaches={len(tally.breaches)} seed={seed} {took}")
+    return 1 if tally.breaches else 0
 
 
 if __name__ == "__main__":

@@ -4,8 +4,9 @@
     bench/check/refuse.py PROGRAM COMMAND FILE..
     bench/check/refuse.py --ahead PROGRAM COMMAND FILE..
     bench/check/refuse.py --where NUMBER PROGRAM COMMAND FILE
+    bench/check/refuse.py --stored COUNT PROGRAM COMMAND
 
-PROGRAM COMMAND FILE is run with its first request refused, then with its second, and so on, two runs at a time, until a run ends before
+PROGRAM COMMAND FILE is run with its first request refused, then with its second, and so on, until a run ends before
 the request that it was to be refused; each once with this request refused alone, and once with all from there on. Each run has to end with
 status 3, the line `error: out of memory`, and nothing on standard output.
 A line for each file says how many requests there are, how many runs were made, and how many differ; the lines below it say in what.
@@ -15,99 +16,42 @@ run differs, and where no request was counted: then the program has an allocator
 `--ahead` counts the runs that answer as if nothing had been refused where one request alone is, and does not take them for wrong: lists and maps ask
 for room ahead, and go on where that is refused. Each other run has to end as above.
 
+`--stored COUNT` takes so many of the stored runs of a command on less than 20 KB, evenly spread, and goes on ahead; a line for all of them stands below.
+
 `--where NUMBER` refuses this request alone, and tells which calls it came from, by the names that the program has kept (`nm`).
 
-The requests are those that the program makes of the C library: malloc, calloc, realloc, aligned_alloc and posix_memalign. A library
-of a few lines counts them, and stands before the C library; `cc` compiles it.
+The requests are those that the program makes of the C library: malloc, calloc, realloc, aligned_alloc and posix_memalign (`fork_server.py`).
 """
 import collections
-import concurrent.futures as futures
 import itertools
 import os
 import subprocess
 import sys
 import tempfile
 
-SHIM = r"""
-#define _GNU_SOURCE
-#include <dlfcn.h>
-#include <errno.h>
-#include <stddef.h>
-#include <stdio.h>
-#include <stdlib.h>
-#include <unistd.h>
+from fork_server import ForkServer, compile_library
 
-void *__libc_malloc(size_t);
-void *__libc_calloc(size_t, size_t);
-void *__libc_realloc(void *, size_t);
-void *__libc_memalign(size_t, size_t);
-
-static long number, met;
-static int tell = -1, where, behind;
-
-__attribute__((constructor)) static void begin(void) {
-  if (!getenv("REFUSE_NUMBER")) return;
-  tell = atoi(getenv("REFUSE_TELL"));
-  where = getenv("REFUSE_WHERE") != NULL;
-  behind = getenv("REFUSE_BEHIND") != NULL;
-  number = atol(getenv("REFUSE_NUMBER"));
-}
-
-/* The calls that led here, by the frames that each keeps. */
-static void tell_calls(void) {
-  void **frame = __builtin_frame_address(0);
-  for (int depth = 0; frame && depth < 100; depth++) {
-    Dl_info of;
-    if (!dladdr(frame[1], &of)) return;
-    dprintf(tell, "%s %lx\n", of.dli_fname, (unsigned long)((char *)frame[1] - (char *)of.dli_fbase));
-    void **above = frame[0];
-    if (above <= frame || above > frame + 1000000) return;
-    frame = above;
-  }
-}
-
-/* Whether this request is refused. The first that is, is told at once. */
-static int is_refused(void) {
-  if (!number || ++met < number || (met > number && !behind)) return 0;
-  errno = ENOMEM;
-  if (met > number) return 1;
-  ssize_t written = write(tell, "refused\n", 8);
-  (void)written;
-  if (where) tell_calls();
-  errno = ENOMEM;
-  return 1;
-}
-
-void *malloc(size_t size) { return is_refused() ? NULL : __libc_malloc(size); }
-void *calloc(size_t count, size_t size) { return is_refused() ? NULL : __libc_calloc(count, size); }
-void *realloc(void *old, size_t size) { return is_refused() ? NULL : __libc_realloc(old, size); }
-void *aligned_alloc(size_t align, size_t size) { return is_refused() ? NULL : __libc_memalign(align, size); }
-int posix_memalign(void **made, size_t align, size_t size) {
-  void *p = is_refused() ? NULL : __libc_memalign(align, size);
-  if (!p) return ENOMEM;
-  *made = p;
-  return 0;
-}
-"""
 WANT = (3, b"", b"error: out of memory\n")
 PASSED_OVER = "the answer is as if nothing had been refused"
-MODES = {"alone": {}, "and all from there on": {"REFUSE_BEHIND": "1"}}
+DATA = os.path.join(os.path.dirname(os.path.abspath(__file__)), "../../crates/fast_check_vectors/data")
+# Of inputs of so many bytes a run has so many requests that to refuse each takes too long.
+LARGE = 20_000
+TOTAL = collections.Counter()
+MODES = {"alone": False, "and all from there on": True}
 
 
-def compile_shim(folder):
-    shim = os.path.join(folder, "refuse.so")
-    words = ["cc", "-shared", "-fPIC", "-O1", "-fno-builtin", "-fno-omit-frame-pointer", "-o", shim, "-x", "c", "-"]
-    subprocess.run(words, input=SHIM, text=True, check=True)
-    return shim
+class Program:
+    """The program, on one file."""
 
+    def __init__(self, server, command, path):
+        self.server, self.command, self.path = server, command, path
+        with open(path, "rb") as file:
+            self.text = file.read()
 
-def run(shim, words, number, **more):
-    """Runs the program with this request refused. Answers its status, what it wrote, and what the library told."""
-    with tempfile.TemporaryFile() as told:
-        env = {**os.environ, "LD_PRELOAD": shim, "REFUSE_NUMBER": str(number), "REFUSE_TELL": str(told.fileno()), **more}
-        ran = subprocess.run(words, env=env, pass_fds=[told.fileno()], stdin=subprocess.DEVNULL, capture_output=True)
-        told.seek(0)
-        return (ran.returncode, ran.stdout, ran.stderr), told.read().decode()
+    def run(self, number, behind=False, calls=0):
+        """Runs it with this request refused. Answers its status with what it wrote, and how many requests it met."""
+        ran = self.server.run(self.command, self.text, refused=number, behind=behind, calls=calls)
+        return ran[:3], ran.requests
 
 
 def outcome(ended, answer):
@@ -129,47 +73,56 @@ def spans(numbers):
     return ", ".join(found)
 
 
-def each_request(shim, words, **more):
+def each_request(program, behind):
     """How each run ended, by the number of the request that it was refused, until one ends before; that one is told under 0."""
-    numbers = itertools.count(1)
-    with futures.ThreadPoolExecutor(2) as pool:
-        while True:
-            batch = list(itertools.islice(numbers, 64))
-            for number, (ended, told) in zip(batch, pool.map(lambda it: run(shim, words, it, **more), batch)):
-                yield number if told else 0, ended
-                if not told:
-                    return
+    for number in itertools.count(1):
+        ended, met = program.run(number, behind)
+        yield number if met >= number else 0, ended
+        if met < number:
+            return
 
 
-def refuse_each(shim, words, ahead):
+def refuse_each(program, ahead):
     """Refuses each request of a run in turn, and prints what differs. Answers whether none did, but for requests ahead where these may be passed over."""
-    answer, runs, requests, differing = run(shim, words, 0)[0], 1, 0, collections.defaultdict(list)
-    for how, more in MODES.items():
-        for number, ended in each_request(shim, words, **more):
+    answer, runs, requests, differing = program.run(0)[0], 1, 0, collections.defaultdict(list)
+    for how, behind in MODES.items():
+        for number, ended in each_request(program, behind):
             runs, requests = runs + 1, max(requests, number)
             if ended != (WANT if number else answer):
                 differing[how, outcome(ended, answer)].append(number)
-    print(f"{words[-1]}: requests={requests} runs={runs} differing={sum(map(len, differing.values()))}")
+    TOTAL.update(files=1, requests=requests, runs=runs, differing=sum(map(len, differing.values())))
+    print(f"{program.path}: requests={requests} runs={runs} differing={sum(map(len, differing.values()))}")
     for (how, what), found in differing.items():
         print(f"    {how}: {what}: {len(found)} of the requests, {spans(found)}")
     sys.stdout.flush()
     return requests > 0 and all(ahead and (how, what) == ("alone", PASSED_OVER) for how, what in differing)
 
 
-def tell_where(shim, words, number):
+def tell_where(file, program, number, calls):
     """Tells from which calls a request came."""
-    ended, told = run(shim, words, number, REFUSE_WHERE="1")
-    named = subprocess.run(["nm", "--defined-only", "-n", words[0]], capture_output=True, text=True).stdout
+    ended, _ = program.run(number, calls=calls)
+    named = subprocess.run(["nm", "--defined-only", "-n", file], capture_output=True, text=True).stdout
     known = [(int(it.split(maxsplit=2)[0], 16), it.split(maxsplit=2)[2]) for it in named.splitlines()]
-    for line in told.splitlines()[1:]:
-        file, place = line.rsplit(" ", 1)
+    for line in os.pread(calls, os.fstat(calls).st_size, 0).decode().splitlines():
+        library, place = line.rsplit(" ", 1)
         below = [name for start, name in known if start <= int(place, 16)]
-        print(f"  {below[-1]}" if below and os.path.samefile(file, words[0]) else f"  {file}")
-    print(outcome(ended, run(shim, words, 0)[0]) if ended != WANT else "the run ends as a want of memory has to")
+        print(f"  {below[-1]}" if below and os.path.samefile(library, file) else f"  {library}")
+    print(outcome(ended, program.run(0)[0]) if ended != WANT else "the run ends as a want of memory has to")
+
+
+def stored_runs(command, count):
+    """So many of the inputs of the stored runs of a command, evenly spread."""
+    with open(os.path.join(DATA, "cases")) as file:
+        words = [line.split() for line in file if line.startswith(command + " ")]
+    paths = sorted({os.path.join(DATA, line[1]) for line in words if len(line) == 2})
+    paths = [path for path in paths if os.path.isfile(path) and os.path.getsize(path) < LARGE]
+    return [paths[place * len(paths) // count] for place in range(min(count, len(paths)))]
 
 
 def main():
     words, where = sys.argv[1:], None
+    if words[:1] == ["--stored"] and len(words) == 4:
+        words = ["--ahead", *words[2:], *stored_runs(words[3], int(words[1]))]
     ahead = words[:1] == ["--ahead"]
     if ahead:
         words = words[1:]
@@ -178,12 +131,15 @@ def main():
     if len(words) < 3 or words[0].startswith("-") or where is not None and len(words) > 3:
         print(__doc__)
         return 2
+    file, command, *paths = words
+    calls = os.memfd_create("calls")
     with tempfile.TemporaryDirectory() as folder:
-        shim = compile_shim(folder)
+        server = ForkServer(os.path.abspath(file), compile_library(folder), calls)
         if where is not None:
-            tell_where(shim, words, where)
+            tell_where(file, Program(server, command, paths[0]), where, calls)
             return 0
-        refused = [refuse_each(shim, [*words[:2], file], ahead) for file in words[2:]]
+        refused = [refuse_each(Program(server, command, path), ahead) for path in paths]
+        print(" ".join(f"{what}={number}" for what, number in TOTAL.items()))
         return 0 if all(refused) else 1
 
 

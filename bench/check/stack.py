@@ -92,6 +92,7 @@ TABLES = {
     "chain of aliases": (shapes.alias_chain, (10, 1000, 1_000_000)),
     "path of names": (shapes.path_of_names, (10, 1000, 100_000)),
     "own parents": (shapes.own_parents, (10, 1000, 100_000)),
+    "path behind a file": (shapes.path_behind_a_file, (10, 100, 300)),
 }
 
 
