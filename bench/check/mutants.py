@@ -1,0 +1,401 @@
+#!/usr/bin/env python3
+"""Tries edits that the prover has to refuse: those of mutants/CRATE, each of which turns the meaning of a function, a definition or a rule.
+
+usage: mutants.py [CRATE..]            without a name: each crate that has a folder in mutants/
+       mutants.py --changed [COMMIT]   each of these that changed, or whose edits did, since the commit; without one: since the
+                                       one that mutants/TRIED has for it, and each that it has none for
+  --edit NAME       only the edit of this name (may be given several times); then nothing is noted
+  --gate            the edits of crates/CRATE/must-fail too
+  --jobs N          so many checks at once (1)
+  --libraries DIR   the libraries are DIR/NAME.rlib; without it those in crates/NAME/out/rlib, which are built where they lack
+
+A function is proved from its own body and the contracts of others. So edits of the bodies of different functions are tried in one check of these
+functions: an edit is refused if its function is not proved for a reason of its own, and not because it calls another. Every other
+edit, and each that was not refused so, is tried alone, and judged as the kit's gate judges it; what is not refused then either is tried once more from nothing.
+At last the crate itself has to be proved over the work that was kept.
+
+Prints a line for each edit that is not plainly refused (`STANDING`: the crate is still proved; `BY NAME ALONE`: only a proof that names what the
+edit took away fails; `BAD`: it does not apply or cannot be read), and one for each crate. The status is 0 where all were refused. Then
+mutants/TRIED has the present commit for the crate, if nothing of it differs from that commit.
+"""
+import argparse
+import importlib.machinery
+import importlib.util
+import os
+import queue
+import re
+import shutil
+import subprocess
+import sys
+import threading
+import time
+from concurrent.futures import ThreadPoolExecutor
+from dataclasses import dataclass, field
+from pathlib import Path
+
+sys.dont_write_bytecode = True
+TOP = Path(__file__).resolve().parents[2]
+TRIED = TOP / "mutants" / "TRIED"
+REFUSED, BY_NAME, STANDING, BAD = "refused", "BY NAME ALONE", "STANDING", "BAD"
+# Comments, strings, characters and lifetimes, words, and any other mark, as the kit reads a source file.
+TOKEN = re.compile(r"//[^\n]*|/\*.*?\*/|b?\"(?:[^\"\\]|\\.)*\"|'(?:\\.[^']*|[^'\\])'|'\w+|\w+|\s+|.", re.S)
+CLAUSE = re.compile(r"(?:^| )(?:requires|ensures)(?: \*)?(?: \w+)?$|(?:^| )ghost \w+ :$")
+# What a proof file says of a name that an edit took away.
+BY_NAME_LINE = re.compile(r"(\./)?proofs/.*(has no field|is not in scope|has no `|was not admitted)")
+
+
+def kit():
+    """The module of the kit's command, by whose rules the gate judges an edit."""
+    file = os.path.realpath(shutil.which("rt") or sys.exit("there is no rt on the PATH"))
+    loader = importlib.machinery.SourceFileLoader("rt", file)
+    made = importlib.util.module_from_spec(importlib.util.spec_from_loader("rt", loader))
+    loader.exec_module(made)
+    return made
+
+
+RT = kit()
+
+
+@dataclass(frozen=True)
+class Function:
+    """A function of a source file: its name as a check prints it, the cycle of calls that it is in, and where its body begins and ends."""
+
+    name: str
+    cycle: str
+    begin: int
+    end: int
+
+    @property
+    def proved_as(self):
+        """What is proved at once with it."""
+        return self.cycle or self.name
+
+    @property
+    def proofs(self):
+        """A pattern for the folder of its proof."""
+        own = rf"\+{self.cycle}" if self.cycle else re.escape(self.name.split("::", 1)[1].replace("::", "/"))
+        return re.compile(rf"(?:\./)?proofs/(?:.*/)?{own}/")
+
+
+@dataclass
+class Edit:
+    """An edit: its file, the texts that it makes, and, if it changes the body of one function alone, that function and the change."""
+
+    path: Path
+    texts: dict = field(default_factory=dict)
+    bad: str = ""
+    file: str = ""
+    function: Function = None
+    change: tuple = ()
+
+
+def after_brace(text, at):
+    """Where the text goes on behind the block that opens at `at`."""
+    depth = 0
+    for mark in re.finditer(r"[{}]", text[at:]):
+        depth += 1 if mark[0] == "{" else -1
+        if depth == 0:
+            return at + mark.end()
+    return len(text)
+
+
+def without_arguments(words):
+    """The words outside of angle brackets, and all words as one."""
+    depth, outside = 0, []
+    for word in words:
+        depth += {"<": 1, ">": -1}.get(word, 0)
+        if depth == 0 and re.match(r"[A-Za-z_]", word) and word != "where":
+            outside.append(word)
+        if word == "where":
+            break
+    return outside, "".join(it for it in words if re.match(r"[A-Za-z_]", it))
+
+
+def implemented(header):
+    """The name that a check gives an `impl`, of the words of its header: the type, with the trait and its arguments behind it."""
+    words = header[header.index("impl") + 1 :]
+    if words[:1] == ["<"]:
+        depth = 0
+        for place, word in enumerate(words):
+            depth += {"<": 1, ">": -1}.get(word, 0)
+            if depth == 0:
+                words = words[place + 1 :]
+                break
+    if "for" not in words:
+        return (without_arguments(words)[0] or [""])[-1]
+    place = words.index("for")
+    return (without_arguments(words[place + 1 :])[0] or [""])[-1] + without_arguments(words[:place])[1]
+
+
+def functions(text, module):
+    """The functions of a file, which is the module `module`."""
+    found, scopes, header, depth, at = [], [module], [], 0, 0
+    while at < len(text):
+        token = TOKEN.match(text, at)
+        word, at = token[0], token.end()
+        if word.isspace() or word.startswith(("//", "/*")):
+            continue
+        depth += {"(": 1, "[": 1, ")": -1, "]": -1}.get(word, 0)
+        if word == "}":
+            scopes, header = scopes[:-1], []
+        elif word == ";" and depth == 0:
+            header = []
+        elif word != "{":
+            header.append(word)
+        elif CLAUSE.search(" ".join(header)):
+            at = after_brace(text, at - 1)
+            header.append("{}")
+        elif "fn" in header and depth == 0:
+            begin, at = at, after_brace(text, at - 1)
+            cycle = re.search(r"\bcycle \( (\w+) \)", " ".join(header))
+            name = "::".join([*filter(None, scopes), header[header.index("fn") + 1]])
+            found.append(Function(name, cycle[1] if cycle else "", begin, at - 1))
+            header = []
+        elif "impl" in header:
+            scopes, header = [*scopes, implemented(header)], []
+        elif "trait" in header or "mod" in header:
+            scopes, header = [*scopes, header[header.index("trait" if "trait" in header else "mod") + 1]], []
+        else:
+            at, header = after_brace(text, at - 1), []
+    return found
+
+
+def change_between(old, new):
+    """Where two texts differ: begin and end in the old one, and what stands there in the new one."""
+    begin = len(os.path.commonprefix([old, new]))
+    end = len(os.path.commonprefix([old[begin:][::-1], new[begin:][::-1]]))
+    return begin, len(old) - end, new[begin : len(new) - end]
+
+
+def read_edit(path, crate):
+    """An edit of a crate, with the function whose body alone it changes."""
+    edit = Edit(path)
+    edit.texts, edit.bad = RT.read_edit(str(path), crate.folder)
+    if edit.bad or len(edit.texts) != 1:
+        return edit
+    edit.file, new = next(iter(edit.texts.items()))
+    if not edit.file.startswith("src/"):
+        return edit
+    old = Path(crate.folder, edit.file).read_text()
+    parts = [it for it in Path(edit.file).with_suffix("").parts[1:] if it not in ("lib", "main", "mod")]
+    edit.change = change_between(old, new)
+    begin, end, _ = edit.change
+    inside = [it for it in functions(old, "::".join([crate.name, *parts])) if it.begin <= begin and end <= it.end]
+    edit.function = inside[0] if len(inside) == 1 else None
+    return edit
+
+
+def grouped(edits):
+    """The edits in groups that change the body of each function, and of each cycle of calls, once at most."""
+    groups = []
+    for edit in edits:
+        group = next((it for it in groups if all(edit.function.proved_as != other.function.proved_as for other in it)), None)
+        if group is None:
+            groups.append(group := [])
+        group.append(edit)
+    return groups
+
+
+def combined(crate, group):
+    """The texts that all edits of a group make at once."""
+    texts = {}
+    for edit in sorted(group, key=lambda it: it.change, reverse=True):
+        begin, end, new = edit.change
+        old = texts.get(edit.file) or Path(crate.folder, edit.file).read_text()
+        texts[edit.file] = old[:begin] + new + old[end:]
+    return texts
+
+
+def only(group):
+    """The flags of a check of the functions of a group alone."""
+    names = sorted({it.function.name.split("::", 1)[1] for it in group})
+    return ["--jobs", "1", *[word for name in names for word in ("--only", name)]]
+
+
+def verdict_of(edit, lines):
+    """Whether a check of many edits refuses this one: `refused`, by name alone, or None where its lines do not say."""
+    own = re.compile(rf"fn {re.escape(edit.function.name)}(?:::\S+)?: (?:not proved|no proof)(.*)")
+    said = [it for it in map(own.match, lines) if it]
+    if not said:
+        return None
+    if any("did not prove" in it[1] for it in said):
+        return REFUSED
+    errors = [it for it in lines if edit.function.proofs.match(it) and ": error" in it]
+    if any(not BY_NAME_LINE.match(it) for it in errors):
+        return REFUSED
+    return BY_NAME if errors else None
+
+
+class Crate:
+    """A crate whose edits are tried, with the work that its checks keep, a folder for each of `jobs` checks at once."""
+
+    def __init__(self, crate, jobs, note=print):
+        self.crate, self.note, self.found, self.is_whole = crate, note, {}, False
+        self.rooms = queue.Queue()
+        for job in range(jobs):
+            room = f"{crate.folder}/out/edits/{job}"
+            os.makedirs(room, exist_ok=True)
+            self.rooms.put(room)
+
+    def checked(self, texts, flags):
+        """What a check of the crate with these texts says."""
+        room = self.rooms.get()
+        try:
+            return RT.checked(self.crate, texts, flags, room)
+        finally:
+            self.rooms.put(room)
+
+    def settle(self, edit, verdict, why=""):
+        self.found[edit.path] = verdict
+        if verdict != REFUSED:
+            self.note(f"{verdict} {edit.path.relative_to(TOP)}{': ' + why if why else ''}")
+
+    def try_group(self, group):
+        """Tries edits at once. Where they reach no verdict, each half of them; what is not refused, alone."""
+        texts = combined(self.crate, group)
+        ran = self.checked(texts, only(group))
+        lines = ran.stdout.rstrip("\n").split("\n")
+        reached = ran.returncode in (0, 1) and lines[-1].startswith("only=") and not any(RT.unread(it, texts) for it in lines)
+        if not reached and len(group) > 1:
+            self.try_group(group[: len(group) // 2])
+            self.try_group(group[len(group) // 2 :])
+            return
+        for edit in group:
+            verdict = verdict_of(edit, lines) if reached else None
+            if verdict:
+                self.settle(edit, verdict)
+            else:
+                self.try_alone(edit)
+
+    def try_alone(self, edit):
+        """Tries an edit alone over the kept work, and once more from nothing if it is not refused."""
+        self.is_whole = True
+        room = self.rooms.get()
+        try:
+            refused, said = RT.must_fail(self.crate, str(edit.path), ["--jobs", "1"], room)
+        finally:
+            self.rooms.put(room)
+        if "NOT REFUSED" in said:
+            refused, said = RT.must_fail(self.crate, str(edit.path), ["--jobs", "1"])
+        why = said.partition(": ")[2]
+        if refused:
+            self.settle(edit, BY_NAME if "only because a proof file names" in said else REFUSED, why)
+        else:
+            self.settle(edit, STANDING if "NOT REFUSED" in said else BAD, why)
+
+    def try_all(self, paths, pool):
+        """Tries the edits, and answers whether each was refused and the crate itself is proved over the kept work."""
+        edits = [read_edit(it, self.crate) for it in paths]
+        for edit in edits:
+            if edit.bad:
+                self.settle(edit, BAD, edit.bad)
+        in_bodies = [it for it in edits if not it.bad and it.function]
+        alone = [it for it in edits if not it.bad and not it.function]
+        waits = [pool.submit(self.try_group, it) for it in grouped(in_bodies)]
+        waits += [pool.submit(self.try_alone, it) for it in alone]
+        for it in waits:
+            it.result()
+        if in_bodies or alone:
+            flags = ["--jobs", "1"] if self.is_whole else only(in_bodies)
+            if self.checked({}, flags).returncode:
+                self.note(f"{self.crate.name}: NOT PROVED without any edit, so that no refusal counts")
+                return False
+        return all(it == REFUSED for it in self.found.values())
+
+
+def git(*words):
+    return subprocess.run(["git", *words], cwd=TOP, stdout=subprocess.PIPE, text=True)
+
+
+def differs(crate, commit):
+    """Whether what a crate's edits are tried on differs from a commit."""
+    parts = [f"mutants/{crate}", *[f"crates/{crate}/{it}" for it in ("src", "specs", "proofs", "must-fail")]]
+    return git("diff", "--quiet", commit, "--", *parts).returncode != 0
+
+
+def tried():
+    """The commit at which all edits of a crate were refused, by the crate."""
+    return dict(it.split() for it in TRIED.read_text().splitlines()) if TRIED.is_file() else {}
+
+
+NOTING = threading.Lock()
+
+
+def note_tried(crate):
+    """Notes that all edits of a crate were refused, if nothing of it differs from the present commit."""
+    with NOTING:
+        if not differs(crate, "HEAD"):
+            noted = {**tried(), crate: git("rev-parse", "HEAD").stdout.strip()}
+            TRIED.write_text("".join(f"{name} {commit}\n" for name, commit in sorted(noted.items())))
+
+
+def edits_of(crate, words):
+    """The files of the edits that are asked for."""
+    found = sorted((TOP / "mutants" / crate).glob("*.edit"))
+    if words.gate:
+        found += sorted((TOP / "crates" / crate / "must-fail").glob("*.edit"))
+    return [it for it in found if not words.edit or it.stem in words.edit or it.name in words.edit]
+
+
+def over_libraries(crates, folder):
+    """Has each crate take the libraries of the repository from a folder."""
+    for crate in crates:
+        crate.rlib = f"{os.path.abspath(folder)}/{crate.name}.rlib"
+
+
+def read_words(argv):
+    words = argparse.ArgumentParser(description=__doc__, formatter_class=argparse.RawDescriptionHelpFormatter)
+    words.add_argument("crates", nargs="*", metavar="CRATE")
+    words.add_argument("--changed", nargs="?", const="", metavar="COMMIT")
+    words.add_argument("--edit", action="append", metavar="NAME")
+    words.add_argument("--gate", action="store_true")
+    words.add_argument("--jobs", type=int, default=1, metavar="N")
+    words.add_argument("--libraries", metavar="DIR")
+    return words.parse_args(argv)
+
+
+def chosen(words):
+    """The names of the crates that are asked for."""
+    names = words.crates or sorted(it.parent.name for it in TOP.glob("mutants/*/") if it.is_dir())
+    if words.changed is None:
+        return names
+    commits = tried()
+    since = {it: words.changed or commits.get(it) for it in names}
+    return [it for it in names if not since[it] or differs(it, since[it])]
+
+
+def main(argv, prepare=None):
+    """Tries the edits that the words ask for. `prepare`, if given, readies the libraries below a crate, and answers whether it could."""
+    words = read_words(argv)
+    words.crates = words.crates or [it.name for it in sorted(TOP.glob("mutants/*")) if it.is_dir()]
+    os.chdir(TOP)
+    # (the kit sets its signals, which the main thread alone may)
+    RT.rtlib.guarded()
+    known = {it.name: it for it in RT.rtlib.crates_below(str(TOP))}
+    if words.libraries:
+        over_libraries(known.values(), words.libraries)
+    status = 0
+    with ThreadPoolExecutor(words.jobs) as pool:
+        for name in chosen(words):
+            paths, begun = edits_of(name, words), time.monotonic()
+            if name not in known or not paths:
+                print(f"{name}: no such edits", flush=True)
+                continue
+            ready = prepare or (lambda it: bool(words.libraries) or not any(dep.build_rlib(["--jobs", "1"], anew=False) for dep in it.below()))
+            if not ready(known[name]):
+                print(f"{name}: a library below it is not proved", flush=True)
+                status = 1
+                continue
+            crate = Crate(known[name], words.jobs, lambda line: print(line, flush=True))
+            well = crate.try_all(paths, pool)
+            count = lambda verdict: sum(it == verdict for it in crate.found.values())
+            told = ", ".join(f"{count(it)} {it.lower()}" for it in (BY_NAME, STANDING, BAD) if count(it))
+            print(f"{name}: {count(REFUSED)} of {len(paths)} refused{', ' + told if told else ''}, {time.monotonic() - begun:.0f} s", flush=True)
+            if well and not words.edit:
+                note_tried(name)
+            status |= not well
+    return int(status)
+
+
+if __name__ == "__main__":
+    sys.exit(main(sys.argv[1:]))
