@@ -167,6 +167,17 @@ def change_between(old, new):
     return begin, len(old) - end, new[begin : len(new) - end]
 
 
+def module_of(file):
+    """The modules that a file of src/ is, below the crate."""
+    return [it for it in Path(file).with_suffix("").parts if it not in ("src", "lib", "main", "mod")]
+
+
+def functions_of(crate):
+    """The names of all functions of a crate, as the flag `--only` takes them."""
+    files = sorted(Path(crate.folder, "src").rglob("*.rt"))
+    return [it.name for file in files for it in functions(file.read_text(), "::".join(module_of(file.relative_to(crate.folder))))]
+
+
 def read_edit(path, crate):
     """An edit of a crate, with the function whose body alone it changes."""
     edit = Edit(path)
@@ -177,10 +188,9 @@ def read_edit(path, crate):
     if not edit.file.startswith("src/"):
         return edit
     old = Path(crate.folder, edit.file).read_text()
-    parts = [it for it in Path(edit.file).with_suffix("").parts[1:] if it not in ("lib", "main", "mod")]
     edit.change = change_between(old, new)
     begin, end, _ = edit.change
-    inside = [it for it in functions(old, "::".join([crate.name, *parts])) if it.begin <= begin and end <= it.end]
+    inside = [it for it in functions(old, "::".join([crate.name, *module_of(edit.file)])) if it.begin <= begin and end <= it.end]
     edit.function = inside[0] if len(inside) == 1 else None
     return edit
 
@@ -267,8 +277,22 @@ class Crate:
             else:
                 self.try_alone(edit)
 
+    def is_refused_by_functions(self, edit):
+        """Whether the few functions of the crate refuse an edit of its definitions and proofs: a check of them alone leaves out lemmas that they do not cite."""
+        names = functions_of(self.crate)
+        if len(names) > 2 or not any(it.startswith("proofs/") for it in edit.texts):
+            return False
+        ran = self.checked(edit.texts, ["--jobs", "1", *[word for name in names for word in ("--only", name)]])
+        lines = ran.stdout.rstrip("\n").split("\n")
+        errors = [it for it in lines if re.match(r"\S+:\d+:\d+: error", it)]
+        reached = ran.returncode == 1 and lines[-1].startswith("only=") and not any(RT.unread(it, edit.texts) for it in lines)
+        return reached and any(not BY_NAME_LINE.match(it) for it in errors)
+
     def try_alone(self, edit):
         """Tries an edit alone over the kept work, and once more from nothing if it is not refused."""
+        if self.is_refused_by_functions(edit):
+            self.settle(edit, REFUSED)
+            return
         self.is_whole = True
         room = self.rooms.get()
         try:
