@@ -389,6 +389,7 @@ class Crate:
             for edit in refused:
                 self.settle(edit, REFUSED)
             edits = [it for it in edits if it not in refused]
+            self.note(f"{self.crate.name}: {len(refused)} of {len(group)} refused at once, {len(edits)} left")
         for edit in edits:
             self.try_alone(edit)
 
