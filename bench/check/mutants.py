@@ -10,8 +10,11 @@ usage: mutants.py [CRATE..]            without a name: each crate that has a fol
   --libraries DIR   the libraries are DIR/NAME.rlib; without it those in crates/NAME/out/rlib, which are built where they lack
 
 A function is proved from its own body and the contracts of others. So edits of the bodies of different functions are tried in one check of these
-functions: an edit is refused if its function is not proved for a reason of its own, and not because it calls another. Every other
-edit, and each that was not refused so, is tried alone, and judged as the kit's gate judges it; what is not refused then either is tried once more from nothing.
+functions: an edit is refused if its function is not proved for a reason of its own, and not because it calls another. A clause of a proof is
+checked from its own text and the types of what it names. So edits of different rules of relations in specs/, with the proofs that match on
+them, are tried in one check too: an edit is refused if a clause that names its rule, and no other rule that is edited, is wrong; and so with
+fields of records, where the clause uses no tactic that looks for facts by itself. Every other edit, and each that was not refused so, is tried
+alone, and judged as the kit's gate judges it; what is not refused then either is tried once more from nothing.
 Where work was kept from check to check, the crate itself has to be proved over it at last.
 
 Prints a line for each edit that is not plainly refused (`STANDING`: the crate is still proved; `BY NAME ALONE`: only a proof that names what the
@@ -238,7 +241,7 @@ def rule_of(edit, crate):
 
 
 def clause_at(lines, number):
-    """The text of the clause of a proof that a line belongs to; in one that is a record, of the field."""
+    """The text of the clause of a proof that a line belongs to; in one that is a record, of its head and the field."""
     depth = lambda line: len(line) - len(line.lstrip())
     begin = number
     while begin and not (re.search(r"(?:^|\s)=(?:\s|$)", lines[begin]) and is_clause(lines, begin)):
@@ -250,7 +253,7 @@ def clause_at(lines, number):
         fields = [it for it in range(begin + 1, number + 1) if depth(lines[it]) == depth(lines[begin]) + 2]
         after = [it for it in range(number + 1, end) if depth(lines[it]) == depth(lines[begin]) + 2]
         if fields:
-            begin, end = fields[-1], after[0] if after else end
+            return "\n".join([lines[begin], *lines[fields[-1] : after[0] if after else end]])
     return "\n".join(lines[begin:end])
 
 
