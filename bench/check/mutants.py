@@ -457,7 +457,9 @@ class Crate:
         alone = [it for it in edits if not it.bad and not it.function and not it.rule]
         self.keeps = not self.is_proved or len(groups) > 2 or bool(of_rules or alone)
         waits = [pool.submit(self.try_group, it) for it in groups]
-        waits += [pool.submit(self.try_rules, [it for it in of_rules if it.rule[1] == kind]) for kind in LOOKS]
+        # (where lemmas of one file fail, those of files above are not looked at)
+        for alike in sorted({it.rule[:2] for it in of_rules}):
+            waits.append(pool.submit(self.try_rules, [it for it in of_rules if it.rule[:2] == alike]))
         waits += [pool.submit(self.try_alone, it) for it in alone]
         for it in waits:
             it.result()
