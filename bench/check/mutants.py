@@ -40,6 +40,13 @@ REFUSED, BY_NAME, STANDING, BAD = "refused", "BY NAME ALONE", "STANDING", "BAD"
 # Comments, strings, characters and lifetimes, words, and any other mark, as the kit reads a source file.
 TOKEN = re.compile(r"//[^\n]*|/\*.*?\*/|b?\"(?:[^\"\\]|\\.)*\"|'(?:\\.[^']*|[^'\\])'|'\w+|\w+|\s+|.", re.S)
 CLAUSE = re.compile(r"(?:^| )(?:requires|ensures)(?: \*)?(?: \w+)?$|(?:^| )ghost \w+ :$")
+# The head of a declaration of specs/, one of its rules, and a name with what leads to it.
+HEAD = re.compile(r"(\s*)(?:pub )?(data|record|abbrev|module|mutual|unfoldable)\b\s*([^\s:({]*)")
+RULE = re.compile(r"(\s+)(?:pub )?([^\s:(){}]+) : ")
+NAME = re.compile(r"[^\s(){}\[\],;]+")
+ERROR = re.compile(r"(?:\./)?(proofs/\S+?):(\d+):\d+: error: `")
+# A proof that only cites another one which was refused.
+CITES = re.compile(r"depends? on `|is not admitted|was not admitted")
 # What a proof file says of a name that an edit took away.
 BY_NAME_LINE = re.compile(r"(\./)?proofs/.*(has no field|is not in scope|has no `|was not admitted)")
 
@@ -79,7 +86,8 @@ class Function:
 
 @dataclass
 class Edit:
-    """An edit: its file, the texts that it makes, and, if it changes the body of one function alone, that function and the change."""
+    """An edit: its file, the texts that it makes, and, if it changes the body of one function alone, that function and the change; if one
+    rule of a relation, its file, the relation and the rule."""
 
     path: Path
     texts: dict = field(default_factory=dict)
@@ -87,6 +95,7 @@ class Edit:
     file: str = ""
     function: Function = None
     change: tuple = ()
+    rule: tuple = ()
 
 
 def after_brace(text, at):
@@ -167,20 +176,111 @@ def change_between(old, new):
     return begin, len(old) - end, new[begin : len(new) - end]
 
 
+def rule_at(lines, number):
+    """The relation and the rule that a line of a file of specs/ belongs to, None if it belongs to none."""
+    rule = None
+    for line in reversed(lines[: number + 1]):
+        head, begins = HEAD.match(line), RULE.match(line)
+        if head and (rule is None or len(head[1]) < len(rule[1])):
+            return (head[3], rule[2]) if head[2] == "data" and rule else None
+        if rule is None and begins and not line.lstrip().startswith("--"):
+            rule = begins
+    return None
+
+
+def brought_in(proof):
+    """What the `use` lines of a proof file bring in: modules, by the names that they have there, and single names."""
+    modules, names = {}, set()
+    for path, inside, alias in re.findall(r"^use (\S+?)(?:\.\{([^}]*)\})?(?: as (\S+))?$", proof, re.M):
+        if inside:
+            names |= {it.split()[-1] for it in inside.split(",") if it.strip()}
+        else:
+            modules[alias or path.split(".")[-1]] = path.split(".")[-1]
+    return modules, names
+
+
+def names_rule(text, rule, scope):
+    """Whether a text of a proof names a rule: bare, behind its relation, or behind the module of both that the file brings in."""
+    (modules, names), (module, relation, own) = scope, rule
+    for name in NAME.findall(text):
+        parts = name.rstrip(".").split(".")
+        if parts[-1] == own and (own in names if len(parts) == 1 else parts[-2] == relation or modules.get(parts[-2]) == module):
+            return True
+    return False
+
+
+def rule_of(edit, crate):
+    """The rule of a relation that an edit changes, with nothing else but what proofs say of this rule; None if it changes more."""
+    rules = set()
+    for file, new in edit.texts.items():
+        old = Path(crate.folder, file).read_text()
+        begin, end, _ = change_between(old, new)
+        lines, first, last = old.split("\n"), old.count("\n", 0, begin), old.count("\n", 0, max(begin, end - 1))
+        if file.startswith("specs/"):
+            rules |= {it and (Path(file).stem, *it) for it in (rule_at(lines, first), rule_at(lines, last))}
+        elif not file.startswith("proofs/"):
+            return None
+    if len(rules) != 1 or None in rules:
+        return None
+    rule = rules.pop()
+    for file, new in edit.texts.items():
+        before, after = Path(crate.folder, file).read_text().split("\n"), new.split("\n")
+        changed = [old for old, now in zip(before, after) if old != now]
+        if file.startswith("proofs/") and (len(before) != len(after) or not all(names_rule(it, rule, brought_in(new)) for it in changed)):
+            return None
+    return rule
+
+
+def clause_at(lines, number):
+    """The text of the clause of a proof that a line belongs to; in one that is a record, of the field."""
+    depth = lambda line: len(line) - len(line.lstrip())
+    begin = number
+    while begin and not (re.search(r"(?:^|\s)=(?:\s|$)", lines[begin]) and is_clause(lines, begin)):
+        begin -= 1
+    end = begin + 1
+    while end < len(lines) and (not lines[end].strip() or depth(lines[end]) > depth(lines[begin])):
+        end += 1
+    if lines[begin].rstrip().endswith("= record {"):
+        fields = [it for it in range(begin + 1, number + 1) if depth(lines[it]) == depth(lines[begin]) + 2]
+        after = [it for it in range(number + 1, end) if depth(lines[it]) == depth(lines[begin]) + 2]
+        if fields:
+            begin, end = fields[-1], after[0] if after else end
+    return "\n".join(lines[begin:end])
+
+
+def is_clause(lines, number):
+    """Whether a clause of a declaration begins at a line: the declaration's type stands above it at the same depth."""
+    depth, name = re.match(r"(\s*)(?:pub )?(\S+)", lines[number]).groups()
+    return any(re.match(rf"{depth}(?:(?:abbrev|pub) )*{re.escape(name)} :", line) for line in reversed(lines[:number]))
+
+
+def module_of(file):
+    """The modules that a file of src/ is, below the crate."""
+    return [it for it in Path(file).with_suffix("").parts if it not in ("src", "lib", "main", "mod")]
+
+
+def functions_of(crate):
+    """The names of all functions of a crate, as the flag `--only` takes them."""
+    files = sorted(Path(crate.folder, "src").rglob("*.rt"))
+    return [it.name for file in files for it in functions(file.read_text(), "::".join(module_of(file.relative_to(crate.folder))))]
+
+
 def read_edit(path, crate):
     """An edit of a crate, with the function whose body alone it changes."""
     edit = Edit(path)
     edit.texts, edit.bad = RT.read_edit(str(path), crate.folder)
-    if edit.bad or len(edit.texts) != 1:
+    if edit.bad:
+        return edit
+    edit.rule = rule_of(edit, crate)
+    if len(edit.texts) != 1:
         return edit
     edit.file, new = next(iter(edit.texts.items()))
     if not edit.file.startswith("src/"):
         return edit
     old = Path(crate.folder, edit.file).read_text()
-    parts = [it for it in Path(edit.file).with_suffix("").parts[1:] if it not in ("lib", "main", "mod")]
     edit.change = change_between(old, new)
     begin, end, _ = edit.change
-    inside = [it for it in functions(old, "::".join([crate.name, *parts])) if it.begin <= begin and end <= it.end]
+    inside = [it for it in functions(old, "::".join([crate.name, *module_of(edit.file)])) if it.begin <= begin and end <= it.end]
     edit.function = inside[0] if len(inside) == 1 else None
     return edit
 
@@ -267,8 +367,58 @@ class Crate:
             else:
                 self.try_alone(edit)
 
+    def try_rules(self, edits):
+        """Tries edits of different rules at once, again and again, as long as each check refuses some of them; what is left, alone."""
+        while len(edits) > 1:
+            group, text = [], ""
+            for edit in edits:
+                more = f"{text}{edit.path.read_text().rstrip()}\n"
+                if edit.rule not in [it.rule for it in group] and not RT.edited(more, self.crate.folder)[1]:
+                    group, text = [*group, edit], more
+            refused = self.refused_rules(group, RT.edited(text, self.crate.folder)[0])
+            if not refused:
+                break
+            for edit in refused:
+                self.settle(edit, REFUSED)
+            edits = [it for it in edits if it not in refused]
+        for edit in edits:
+            self.try_alone(edit)
+
+    def refused_rules(self, group, texts):
+        """The edits of a group that a check of all of them refuses: a clause that names the edit's rule, and no other of the group, is wrong."""
+        self.is_whole = True
+        ran = self.checked(texts, ["--jobs", "1"])
+        lines = ran.stdout.rstrip("\n").split("\n")
+        if ran.returncode != 1 or not lines[-1].startswith("logic=not-proved") or any(RT.unread(it, texts) and not CITES.search(it) for it in lines):
+            return []
+        refused = []
+        for line in lines:
+            error = ERROR.match(line)
+            if error and not CITES.search(line) and not BY_NAME_LINE.match(line):
+                file = Path(self.crate.folder, error[1])
+                proof = texts.get(error[1]) or file.read_text()
+                clause = clause_at(proof.split("\n"), int(error[2]) - 1)
+                named = [it for it in group if names_rule(clause, it.rule, brought_in(proof))]
+                if len(named) == 1 and named[0] not in refused and not re.search(r"\b(search|grind)\b", clause):
+                    refused += named
+        return refused
+
+    def is_refused_by_functions(self, edit):
+        """Whether the few functions of the crate refuse an edit of its definitions and proofs: a check of them alone leaves out lemmas that they do not cite."""
+        names = functions_of(self.crate)
+        if len(names) > 2 or not any(it.startswith("proofs/") for it in edit.texts):
+            return False
+        ran = self.checked(edit.texts, ["--jobs", "1", *[word for name in names for word in ("--only", name)]])
+        lines = ran.stdout.rstrip("\n").split("\n")
+        errors = [it for it in lines if re.match(r"\S+:\d+:\d+: error", it)]
+        reached = ran.returncode == 1 and lines[-1].startswith("only=") and not any(RT.unread(it, edit.texts) for it in lines)
+        return reached and any(not BY_NAME_LINE.match(it) for it in errors)
+
     def try_alone(self, edit):
         """Tries an edit alone over the kept work, and once more from nothing if it is not refused."""
+        if self.is_refused_by_functions(edit):
+            self.settle(edit, REFUSED)
+            return
         self.is_whole = True
         room = self.rooms.get()
         try:
@@ -290,12 +440,14 @@ class Crate:
             if edit.bad:
                 self.settle(edit, BAD, edit.bad)
         in_bodies = [it for it in edits if not it.bad and it.function]
-        alone = [it for it in edits if not it.bad and not it.function]
+        of_rules = [it for it in edits if not it.bad and it.rule]
+        alone = [it for it in edits if not it.bad and not it.function and not it.rule]
         waits = [pool.submit(self.try_group, it) for it in grouped(in_bodies)]
+        waits += [pool.submit(self.try_rules, of_rules)] if of_rules else []
         waits += [pool.submit(self.try_alone, it) for it in alone]
         for it in waits:
             it.result()
-        if in_bodies or alone:
+        if in_bodies or of_rules or alone:
             flags = ["--jobs", "1"] if self.is_whole else only(in_bodies)
             if self.checked({}, flags).returncode:
                 self.note(f"{self.crate.name}: NOT PROVED without any edit, so that no refusal counts")
