@@ -12,7 +12,7 @@ usage: mutants.py [CRATE..]            without a name: each crate that has a fol
 A function is proved from its own body and the contracts of others. So edits of the bodies of different functions are tried in one check of these
 functions: an edit is refused if its function is not proved for a reason of its own, and not because it calls another. Every other
 edit, and each that was not refused so, is tried alone, and judged as the kit's gate judges it; what is not refused then either is tried once more from nothing.
-At last the crate itself has to be proved over the work that was kept.
+Where work was kept from check to check, the crate itself has to be proved over it at last.
 
 Prints a line for each edit that is not plainly refused (`STANDING`: the crate is still proved; `BY NAME ALONE`: only a proof that names what the
 edit took away fails; `BAD`: it does not apply or cannot be read), and one for each crate. The status is 0 where all were refused. Then
@@ -45,6 +45,8 @@ HEAD = re.compile(r"(\s*)(?:pub )?(data|record|abbrev|module|mutual|unfoldable)\
 RULE = re.compile(r"(\s+)(?:pub )?([^\s:(){}]+) : ")
 NAME = re.compile(r"[^\s(){}\[\],;]+")
 ERROR = re.compile(r"(?:\./)?(proofs/\S+?):(\d+):\d+: error: `")
+# Tactics that look for what they need by themselves, so that a clause may rest on a rule, or on a field, that it does not name.
+LOOKS = {"data": re.compile(r"\b(search|grind)\b"), "record": re.compile(r"\b(search|grind|cc|omega)\b")}
 # A proof that only cites another one which was refused.
 CITES = re.compile(r"depends? on `|is not admitted|was not admitted")
 # What a proof file says of a name that an edit took away.
@@ -177,12 +179,12 @@ def change_between(old, new):
 
 
 def rule_at(lines, number):
-    """The relation and the rule that a line of a file of specs/ belongs to, None if it belongs to none."""
+    """Whether it is of a `data` or a `record`, the relation, and its rule or field, that a line of a file of specs/ belongs to; None if to none."""
     rule = None
     for line in reversed(lines[: number + 1]):
         head, begins = HEAD.match(line), RULE.match(line)
         if head and (rule is None or len(head[1]) < len(rule[1])):
-            return (head[3], rule[2]) if head[2] == "data" and rule else None
+            return (head[2], head[3], rule[2]) if head[2] in ("data", "record") and rule else None
         if rule is None and begins and not line.lstrip().startswith("--"):
             rule = begins
     return None
@@ -200,11 +202,15 @@ def brought_in(proof):
 
 
 def names_rule(text, rule, scope):
-    """Whether a text of a proof names a rule: bare, behind its relation, or behind the module of both that the file brings in."""
-    (modules, names), (module, relation, own) = scope, rule
+    """Whether a text of a proof names a rule: bare, behind its relation, or behind the module of both that the file brings in. A field of a
+    record is named wherever its word stands."""
+    (modules, names), (module, kind, relation, own) = scope, rule
     for name in NAME.findall(text):
         parts = name.rstrip(".").split(".")
-        if parts[-1] == own and (own in names if len(parts) == 1 else parts[-2] == relation or modules.get(parts[-2]) == module):
+        if kind == "record":
+            if own in parts:
+                return True
+        elif parts[-1] == own and (own in names if len(parts) == 1 else parts[-2] == relation or modules.get(parts[-2]) == module):
             return True
     return False
 
@@ -327,10 +333,12 @@ def verdict_of(edit, lines):
 
 
 class Crate:
-    """A crate whose edits are tried, with the work that its checks keep, a folder for each of `jobs` checks at once."""
+    """A crate whose edits are tried, with the work that its checks keep, a folder for each of `jobs` checks at once. `is_proved` says that
+    the crate itself was proved as it stands: then a few checks are made each from nothing, and it is not proved again."""
 
-    def __init__(self, crate, jobs, note=print):
+    def __init__(self, crate, jobs, is_proved, note=print):
         self.crate, self.note, self.found, self.is_whole = crate, note, {}, False
+        self.is_proved, self.keeps = is_proved, True
         self.rooms = queue.Queue()
         for job in range(jobs):
             room = f"{crate.folder}/out/edits/{job}"
@@ -341,7 +349,7 @@ class Crate:
         """What a check of the crate with these texts says."""
         room = self.rooms.get()
         try:
-            return RT.checked(self.crate, texts, flags, room)
+            return RT.checked(self.crate, texts, flags, room if self.keeps else None)
         finally:
             self.rooms.put(room)
 
@@ -368,7 +376,7 @@ class Crate:
                 self.try_alone(edit)
 
     def try_rules(self, edits):
-        """Tries edits of different rules at once, again and again, as long as each check refuses some of them; what is left, alone."""
+        """Tries edits of different rules of relations, or of different fields of records, at once, again and again, as long as each check refuses some of them; what is left, alone."""
         while len(edits) > 1:
             group, text = [], ""
             for edit in edits:
@@ -399,7 +407,7 @@ class Crate:
                 proof = texts.get(error[1]) or file.read_text()
                 clause = clause_at(proof.split("\n"), int(error[2]) - 1)
                 named = [it for it in group if names_rule(clause, it.rule, brought_in(proof))]
-                if len(named) == 1 and named[0] not in refused and not re.search(r"\b(search|grind)\b", clause):
+                if len(named) == 1 and named[0] not in refused and not LOOKS[named[0].rule[1]].search(clause):
                     refused += named
         return refused
 
@@ -440,14 +448,16 @@ class Crate:
             if edit.bad:
                 self.settle(edit, BAD, edit.bad)
         in_bodies = [it for it in edits if not it.bad and it.function]
+        groups = grouped(in_bodies)
         of_rules = [it for it in edits if not it.bad and it.rule]
         alone = [it for it in edits if not it.bad and not it.function and not it.rule]
-        waits = [pool.submit(self.try_group, it) for it in grouped(in_bodies)]
-        waits += [pool.submit(self.try_rules, of_rules)] if of_rules else []
+        self.keeps = not self.is_proved or len(groups) > 2 or bool(of_rules or alone)
+        waits = [pool.submit(self.try_group, it) for it in groups]
+        waits += [pool.submit(self.try_rules, [it for it in of_rules if it.rule[1] == kind]) for kind in LOOKS]
         waits += [pool.submit(self.try_alone, it) for it in alone]
         for it in waits:
             it.result()
-        if in_bodies or of_rules or alone:
+        if self.keeps or self.is_whole:
             flags = ["--jobs", "1"] if self.is_whole else only(in_bodies)
             if self.checked({}, flags).returncode:
                 self.note(f"{self.crate.name}: NOT PROVED without any edit, so that no refusal counts")
@@ -516,8 +526,9 @@ def chosen(words):
     return [it for it in names if not since[it] or differs(it, since[it])]
 
 
-def main(argv, prepare=None):
-    """Tries the edits that the words ask for. `prepare`, if given, readies the libraries below a crate, and answers whether it could."""
+def main(argv, prepare=None, is_proved=lambda crate: not crate.is_program and crate.is_built()):
+    """Tries the edits that the words ask for. `prepare`, if given, readies the libraries below a crate, and answers whether it could;
+    `is_proved` says whether a crate was proved as it stands."""
     words = read_words(argv)
     words.crates = words.crates or [it.name for it in sorted(TOP.glob("mutants/*")) if it.is_dir()]
     os.chdir(TOP)
@@ -538,7 +549,7 @@ def main(argv, prepare=None):
                 print(f"{name}: a library below it is not proved", flush=True)
                 status = 1
                 continue
-            crate = Crate(known[name], words.jobs, lambda line: print(line, flush=True))
+            crate = Crate(known[name], words.jobs, is_proved(known[name]), lambda line: print(line, flush=True))
             well = crate.try_all(paths, pool)
             count = lambda verdict: sum(it == verdict for it in crate.found.values())
             told = ", ".join(f"{count(it)} {it.lower()}" for it in (BY_NAME, STANDING, BAD) if count(it))
