@@ -238,7 +238,7 @@ def rule_of(edit, crate):
 
 
 def clause_at(lines, number):
-    """The text of the clause of a proof that a line belongs to; in one that is a record, of the field."""
+    """The text of the clause of a proof that a line belongs to; in one that is a record, of its head and the field."""
     depth = lambda line: len(line) - len(line.lstrip())
     begin = number
     while begin and not (re.search(r"(?:^|\s)=(?:\s|$)", lines[begin]) and is_clause(lines, begin)):
@@ -250,7 +250,7 @@ def clause_at(lines, number):
         fields = [it for it in range(begin + 1, number + 1) if depth(lines[it]) == depth(lines[begin]) + 2]
         after = [it for it in range(number + 1, end) if depth(lines[it]) == depth(lines[begin]) + 2]
         if fields:
-            begin, end = fields[-1], after[0] if after else end
+            return "\n".join([lines[begin], *lines[fields[-1] : after[0] if after else end]])
     return "\n".join(lines[begin:end])
 
 
@@ -389,6 +389,7 @@ class Crate:
             for edit in refused:
                 self.settle(edit, REFUSED)
             edits = [it for it in edits if it not in refused]
+            self.note(f"{self.crate.name}: {len(refused)} of {len(group)} refused at once, {len(edits)} left")
         for edit in edits:
             self.try_alone(edit)
 

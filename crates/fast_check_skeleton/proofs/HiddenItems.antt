@@ -36,8 +36,8 @@ unseen_items : (r : Renaming) (a b : Surroundings) → UnseenItems r a b
 unseen_items r a b = record {
   left = λ t s alone. h.SameItems.left s alone h.SameItems.end;
   right = λ u s alone. h.SameItems.right s alone h.SameItems.end;
-  left_names = λ p q same t e. links.SamePublic.left e links.SamePublic.end;
-  right_names = λ p q same u e. links.SamePublic.right e links.SamePublic.end;
+  left_names = λ p q t e. links.SamePublic.left e links.SamePublic.end;
+  right_names = λ p q u e. links.SamePublic.right e links.SamePublic.end;
   shown_values = λ mutability t u x y head e n same. h.SameDeclarator.inferred x y head e n same;
 }
 

@@ -74,10 +74,8 @@ pub record UnseenItems (r : Renaming) (a b : Surroundings) : Type 0 where
   pub left : (t : Tree) → IsSilent a t → HasNoPartner r.starts (range_of_node t).start.0 → SameItems r a b (t ∷ []) []
   pub right : (u : Tree) → IsSilent b u → IsNoPartner r.starts (range_of_node u).start.0 → SameItems r a b [] (u ∷ [])
   -- any declarator or specifier that is not public
-  pub left_names : (p q : Tree → Bool) (Same : Tree → Tree → Type 0) (t : Tree) → p t ≡ false →
-      SamePublic p q Same (t ∷ []) []
-  pub right_names : (p q : Tree → Bool) (Same : Tree → Tree → Type 0) (u : Tree) → q u ≡ false →
-      SamePublic p q Same [] (u ∷ [])
+  pub left_names : (p q : Tree → Bool) (t : Tree) → p t ≡ false → SamePublic p q (SameTree r) (t ∷ []) []
+  pub right_names : (p q : Tree → Bool) (u : Tree) → q u ≡ false → SamePublic p q (SameTree r) [] (u ∷ [])
   -- any two values of declarators that show the same type
   pub shown_values : (mutability : DeclMutabilityKind) (t u left right : Tree) → SameHead r a b t u →
       inferred_type mutability a.bindings.unresolved (VarDeclarator-init t) ≡ Some left →
