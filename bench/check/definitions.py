@@ -19,7 +19,7 @@ INNER = "-- Inner: no contract of a public call cites what stands here."
 # The calls whose contracts are the promises, by crate. None: every public function of the crate.
 CHAPTERS = {
     "transform": {"fast_check_module_transform": ["transform"], "fast_check_transformer": None, "fast_check_skeleton": ["hash_mark"]},
-    "law": {"fast_check_same_values": None, "fast_check_skeleton": ["two_worlds"], "fast_check_transform_pair": None},
+    "law": {"fast_check_same_values": None, "fast_check_skeleton": ["two_worlds", "hidden_items"], "fast_check_transform_pair": None},
     "account": {"fast_check_build": ["find_public_ranges", "find", "new"]},
     "build": {"fast_check_build": None, "fast_check_package_answers": None, "fast_check_cache": None, "fast_check_provider": None},
     "tables": {

@@ -1,5 +1,5 @@
 -- Of the other rules that hide something: two parts of modules that differ by it agree.
-use Rattle.std.specs.Prelude.{◌≡◌, ℕ, Bool, true, false, Some, None, List, [], refl}
+use Rattle.std.specs.Prelude.{◌≡◌, ℕ, Bool, true, false, Some, None, List, [], ◌∷◌, refl}
 use Rattle.std.proofs.Common.{ap, ap₂, ◌∙◌, sym, subst₂}
 use Rattle.fast_check_syntax.specs.declared.kind.Kind.TheVariants as kinds
 use Rattle.fast_check_syntax.specs.declared.kind.Word.TheVariants as words
@@ -8,11 +8,11 @@ use Rattle.fast_check_syntax.specs.declared.source.SyntaxContext.{SyntaxContext}
 use Rattle.fast_check_syntax.specs.declared.tree.Tree as tree
 use Rattle.fast_check_syntax.specs.declared.tree.Tree.{Tree, Absent, roll-Tree, out-roll-Tree}
 use Rattle.fast_check_syntax.specs.declared.tree.Tree.TheOpen.{Tree-F}
-use Rattle.fast_check_syntax.specs.Shape.{none_range, parts, has_word, word_is_at, flag_of}
+use Rattle.fast_check_syntax.specs.Shape.{none_range, list, parts, has_word, word_is_at, flag_of}
 use Rattle.fast_check_syntax.specs.Moves.{Renaming, IsRenaming}
 use Rattle.fast_check_syntax.proofs.Made.{kind_of_node, parts_node, part_node, is_absent_node, flag_of_flag, range_of_range}
 use Rattle.fast_check_class_forms.specs.Fields.{ClassProp-value, ClassProp-readonly, AutoAccessor-value}
-use Rattle.fast_check_class_forms.specs.Functions.{Function-params, Function-is_generator, Function-body}
+use Rattle.fast_check_class_forms.specs.Functions.{Function-params, Function-is_generator, Function-body, param}
 use Rattle.fast_check_class_forms.specs.Methods.{ClassMethod-span, ClassMethod-function}
 use Rattle.fast_check_expression_forms.specs.Expressions.{ArrowExpr-params, ArrowExpr-body, ArrowExpr-is_generator}
 use Rattle.fast_check_program_forms.specs.Literals.{number}
@@ -191,6 +191,12 @@ module _ (r : Renaming) (ok : IsRenaming r) (c d : Bindings) where
       (subst₂ (SameEmptied r c d) (sym (part_node _ _ _)) (sym (part_node _ _ _)) (arrays es ds))
       (subst₂ (SameExpr r c d) (sym (part_node _ _ _)) (sym (part_node _ _ _)) same)
 
+  decorated_params : (cs ds : List Tree) (t u : Tree) → SamePat r c d t u →
+      SameParams r c d (param none_range (list cs) t ∷ []) (param none_range (list ds) u ∷ [])
+  decorated_params cs ds t u same = v.SameParams.next_param
+      (at_places r ok _ _ (simp (part_node, range_of_range)) (simp (part_node, range_of_range)))
+      (subst₂ (SamePat r c d) (sym (part_node _ _ _)) (sym (part_node _ _ _)) same) v.SameParams.no_params
+
   all_values : HiddenValues r c d
   all_values = record {
     bodies = bodies;
@@ -203,6 +209,9 @@ module _ (r : Renaming) (ok : IsRenaming r) (c d : Bindings) where
     typed_patterns = typed_patterns;
     kept_patterns = kept_patterns;
     gathered = λ left right another value. v.SameGathered.replaced (simp kind_of_node) (simp kind_of_node);
+    gathered_patterns = λ es ds. v.SameGathered.emptied_gathered (arrays es ds);
+    named_bodies = λ is_generator t u x y e n same. v.SameNamed.both_named x y e n same;
+    decorated_params = decorated_params;
     taken_apart = λ t u e n a. v.SamePat.taken_apart e n a;
     default_taken_apart = λ t u k e n a. v.SamePat.default_taken_apart k e n a;
   }
@@ -294,10 +303,14 @@ module _ (r : Renaming) (ok : IsRenaming r) (c d : Bindings) where
       private_params = λ t u p. s.SameParamType.any p;
       typed_params = λ t u e w. s.SameParamType.typed e w;
       shown_params = λ t u e k x. s.SameParamType.inferred e k x;
+      untyped_params = λ t u e k x. s.SameParamType.untyped e k x;
+      constructed = λ t u calls each. record { super_calls = calls; properties = each };
       implemented_constructors = λ t u x e n i. s.SameConstructor.implementation x e n i;
       private_constructors = λ t u x p. s.SameConstructor.any x p;
       left_statements = λ t e. s.SameSuperCalls.left e s.SameSuperCalls.end;
       right_statements = λ u e. s.SameSuperCalls.right e s.SameSuperCalls.end;
+      left_silent = λ earlier others m silent alone. s.SameMembers.left silent alone s.SameMembers.end;
+      right_silent = λ earlier others m silent alone. s.SameMembers.right silent alone s.SameMembers.end;
       superclasses = λ t u a e n x. s.SameSuperclass.refused a e n x;
       left_members = λ t e. s.SameAmbientMembers.left e s.SameAmbientMembers.end;
       right_members = λ u e. s.SameAmbientMembers.right e s.SameAmbientMembers.end;

@@ -1,20 +1,20 @@
 -- Of the rules of agreement that hide something, beside those of `HiddenChanges`: parts of modules that differ by what
 -- the rule hides, and agree. What is asked of them is no more than what a skeleton shows of them.
-use Rattle.std.specs.Prelude.{◌≡◌, ℕ, Bool, true, false, None, List, [], ◌∷◌}
+use Rattle.std.specs.Prelude.{◌≡◌, ℕ, Bool, true, false, Some, None, List, [], ◌∷◌}
 use Rattle.std.specs.List.{list_any}
 use Rattle.fast_check_syntax.specs.declared.kind.Kind.TheVariants as kinds
 use Rattle.fast_check_syntax.specs.declared.kind.Word.TheVariants as words
 use Rattle.fast_check_syntax.specs.declared.source.SourceRange.{SourceRange}
 use Rattle.fast_check_syntax.specs.declared.tree.Tree as tree
 use Rattle.fast_check_syntax.specs.declared.tree.Tree.{Tree, Absent}
-use Rattle.fast_check_syntax.specs.Shape.{kind_of, is_absent, none_range, node, list}
+use Rattle.fast_check_syntax.specs.Shape.{kind_of, parts, is_absent, none_range, node, list}
 use Rattle.fast_check_syntax.specs.Moves.{Renaming, IsRenaming}
-use Rattle.fast_check_syntax.specs.Same.{SameTree, SameRange}
+use Rattle.fast_check_syntax.specs.Same.{SameTree, SameRange, Each}
 use Rattle.fast_check_ranges.specs.Ranges.{range_of_node}
 use Rattle.fast_check_class_forms.specs.Classes.{Constructor-span, Constructor-accessibility, Constructor-body}
 use Rattle.fast_check_class_forms.specs.Classes.{TsParamProp-accessibility, TsParamProp-readonly, TsParamProp-param}
 use Rattle.fast_check_class_forms.specs.Fields.{class_prop}
-use Rattle.fast_check_class_forms.specs.Functions.{function}
+use Rattle.fast_check_class_forms.specs.Functions.{function, param}
 use Rattle.fast_check_class_forms.specs.Methods.{class_method}
 use Rattle.fast_check_expression_forms.specs.Assertions.{ts_type_assertion}
 use Rattle.fast_check_expression_forms.specs.Expressions.{arrow_expr}
@@ -22,23 +22,24 @@ use Rattle.fast_check_expression_forms.specs.Patterns.{AssignPat-span, AssignPat
 use Rattle.fast_check_expression_forms.specs.Patterns.{assign_pat, object_pat}
 use Rattle.fast_check_program_forms.specs.Literals.{number}
 use Rattle.fast_check_program_forms.specs.Names.{BindingIdent-type_ann}
+use Rattle.fast_check_statement_forms.specs.Statements.{BlockStmt-stmts}
 use Rattle.fast_check_helpers.specs.declared.literal_type.DeclMutabilityKind.TheVariants.{Mutable}
 use Rattle.fast_check_helpers.specs.Builders.{ts_keyword_type, type_ann}
 use Rattle.fast_check_helpers.specs.InferredType.{inferred_type}
 use Rattle.fast_check_helpers.specs.NamedBodies.{named_return}
 use Rattle.fast_check_helpers.specs.ReturnClass.{return_class}
 use Rattle.fast_check_signatures.specs.Bindings.{Bindings}
-use Rattle.fast_check_signatures.specs.Classes.{is_super_call, is_reference, param_target, mutability_of_property}
+use Rattle.fast_check_signatures.specs.Classes.{is_super_call, is_reference, param_target, param_properties, mutability_of_property}
 use Rattle.fast_check_signatures.specs.Members.{is_private, is_hash_named, is_private_method_of}
 use Rattle.fast_check_signatures.specs.Members.{is_private_implementation, is_private_computed}
 use Rattle.fast_check_signatures.specs.NewNodes.{no_scope, new_block, ident_name, ts_array_type}
 use Rattle.fast_check_same_values.specs.SameValues.{SameExpr, SameFunction, SamePat, SameEmptied}
 use Rattle.fast_check_same_values.specs.SameValues.{SameGathered, SameImplementation, rests, is_parameter}
-use Rattle.fast_check_same_values.specs.SameValues.{Both, takes_default}
+use Rattle.fast_check_same_values.specs.SameValues.{Both, SameNamed, SameParams, takes_default}
 use Rattle.fast_check_same_values.specs.SameClasses.{IsSilentMember, SameProperty, SameAccessor, SameParamType}
 use Rattle.fast_check_same_values.specs.SameClasses.{SameConstructed, SameConstructor, SameSuperCalls}
 use Rattle.fast_check_same_values.specs.SameClasses.{SameMethod, SameSuperclass, SameAmbientMembers, rest_params}
-use Rattle.fast_check_same_values.specs.SameClasses.{SameTypeShown}
+use Rattle.fast_check_same_values.specs.SameClasses.{SameTypeShown, NoTypeShown, SameParamProperty, SameMembers, HasNoPartner, IsNoPartner}
 use Rattle.fast_check_same_values.specs.HiddenChanges.{number_type, pattern}
 
 -- `(params): type { stmts }`
@@ -126,6 +127,15 @@ module _ (r : Renaming) (c d : Bindings) where
     -- any defaults that are gathered in a rest
     pub gathered : (left right another value : Tree) →
         SameGathered r c d (assign_pat none_range left right) (assign_pat none_range another value)
+    -- any elements of a pattern that a rest is gathered in
+    pub gathered_patterns : (elements others : List Tree) → SameGathered r c d (pattern elements) (pattern others)
+    -- any bodies that name types which agree
+    pub named_bodies : (is_generator : Bool) (t u left right : Tree) →
+        named_return c.unresolved is_generator t ≡ Some left → named_return d.unresolved is_generator u ≡ Some right →
+        SameTree r left right → SameNamed r c d is_generator t u
+    -- any decorators of a parameter
+    pub decorated_params : (decorators others : List Tree) (t u : Tree) → SamePat r c d t u →
+        SameParams r c d (param none_range (list decorators) t ∷ []) (param none_range (list others) u ∷ [])
     -- any two of which a parameter is taken apart at the same place
     pub taken_apart : (t u : Tree) → is_parameter (kind_of t) ≡ false → is_parameter (kind_of u) ≡ false →
         SameRange r (range_of_node t) (range_of_node u) → SamePat r c d t u
@@ -172,6 +182,16 @@ module _ (r : Renaming) (c d : Bindings) where
           Both kinds.AssignPat (TsParamProp-param t) (TsParamProp-param u) →
           SameTypeShown r c d f g (mutability_of_property (TsParamProp-readonly t))
           (AssignPat-right (TsParamProp-param t)) (AssignPat-right (TsParamProp-param u)) → SameParamType r c d f g t u
+      -- any two defaults of parameter properties that show no type
+      pub untyped_params : (t u : Tree) →
+          SameTree r (BindingIdent-type_ann (param_target t)) (BindingIdent-type_ann (param_target u)) →
+          Both kinds.AssignPat (TsParamProp-param t) (TsParamProp-param u) →
+          NoTypeShown r c d f g (mutability_of_property (TsParamProp-readonly t))
+          (AssignPat-right (TsParamProp-param t)) (AssignPat-right (TsParamProp-param u)) → SameParamType r c d f g t u
+      -- anything in a constructor but its calls of `super` and its parameter properties
+      pub constructed : (t u : Tree) →
+          SameSuperCalls r c d f g (parts (BlockStmt-stmts (Constructor-body t))) (parts (BlockStmt-stmts (Constructor-body u))) →
+          Each (SameParamProperty r c d f g) (param_properties t) (param_properties u) → SameConstructed r c d f g t u
       -- any other parameters of private constructors
       pub private_constructors : (t u : Tree) → SameConstructed r c d f g t u →
           is_private (Constructor-accessibility t) ≡ true → SameConstructor r c d f g t u
@@ -182,6 +202,11 @@ module _ (r : Renaming) (c d : Bindings) where
       -- any statements of a constructor that call no `super`
       pub left_statements : (t : Tree) → is_super_call t ≡ false → SameSuperCalls r c d f g (t ∷ []) []
       pub right_statements : (u : Tree) → is_super_call u ≡ false → SameSuperCalls r c d f g [] (u ∷ [])
+      -- any member that goes without a word and begins at no place of the other class
+      pub left_silent : (earlier others : List Tree) (m : Tree) → IsSilentMember earlier m →
+          HasNoPartner r.starts (range_of_node m).start.0 → SameMembers r c d f g earlier others (m ∷ []) []
+      pub right_silent : (earlier others : List Tree) (m : Tree) → IsSilentMember others m →
+          IsNoPartner r.starts (range_of_node m).start.0 → SameMembers r c d f g earlier others [] (m ∷ [])
       -- any two superclasses at the same place that are refused
       pub superclasses : (t u : Tree) → (is_absent t ≡ false) × (is_absent u ≡ false) → is_reference t ≡ false →
           is_reference u ≡ false → SameRange r (range_of_node t) (range_of_node u) → SameSuperclass r c d f g t u

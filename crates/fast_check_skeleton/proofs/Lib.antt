@@ -19,3 +19,4 @@ pub mod ExpandoExample
 pub mod PrivateClassExample
 pub mod SilentAssignmentExample
 pub mod HiddenChangesExample
+pub mod HiddenItems

@@ -25,3 +25,4 @@ pub mod ExpandoExample
 pub mod PrivateClassExample
 pub mod SilentAssignmentExample
 pub mod HiddenChangesExample
+pub mod HiddenItems

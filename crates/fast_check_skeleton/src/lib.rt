@@ -8,4 +8,4 @@ mod worlds;
 pub use fast_check_expandos as expandos;
 pub use fast_check_typed_grammar::signatures::{Fault, FaultKind, FunctionKind};
 pub use rules::{DeclRule, DefaultRule, ItemRule, LinkRule, decl_rule, item_rule};
-pub use worlds::{hash_mark, two_worlds};
+pub use worlds::{hash_mark, hidden_items, two_worlds};

@@ -7,6 +7,7 @@ ghost use Rattle.fast_check_skeleton.specs.Example.{Example};
 ghost use Rattle.fast_check_skeleton.specs.ExpandoExample.{ExpandoExample};
 ghost use Rattle.fast_check_skeleton.specs.HashMark.{HashMarked};
 ghost use Rattle.fast_check_skeleton.specs.HiddenChangesExample.{HiddenChangesExample};
+ghost use Rattle.fast_check_skeleton.specs.HiddenItems.{HidesItems};
 ghost use Rattle.fast_check_skeleton.specs.ModuleExample.{ModuleExample};
 ghost use Rattle.fast_check_skeleton.specs.NamespaceExample.{NamespaceExample};
 ghost use Rattle.fast_check_skeleton.specs.PrivateClassExample.{PrivateClassExample};
@@ -39,6 +40,13 @@ pub fn two_worlds(first: &Tree, second: &Tree)
     let _ = first;
     let _ = second;
 }
+
+/// The law that agreement asks for nothing that is hidden: each item that is not public goes without a word, whatever stands in it, and
+/// so does each declarator and specifier; two values of declarators that show the same type agree. It holds of the definitions; it
+/// does nothing when it is called.
+pub fn hidden_items()
+    ensures law { HidesItems }
+{}
 
 /// The law on `#private`: in the skeleton of a class that is not ambient `#private!: unknown` stands first exactly if the
 /// class had a method, a property or an accessor with a hash name, and no other member with a hash name stands there. `class`

@@ -1,0 +1,45 @@
+-- Parts of a module that are not public go without a word, whatever stands in them.
+use Rattle.fast_check_syntax.specs.declared.source.SourceRange.{SourceRange}
+use Rattle.fast_check_syntax.specs.declared.tree.Tree.{Tree}
+use Rattle.fast_check_syntax.specs.Moves.{Renaming}
+use Rattle.fast_check_skeleton.specs.Hidden as h
+use Rattle.fast_check_skeleton.specs.SameDefaults as defaults
+use Rattle.fast_check_skeleton.specs.SameLinks as links
+use Rattle.fast_check_skeleton.specs.HiddenItems.{SilentDecls, SilentItems, UnseenItems, HidesItems}
+use Rattle.fast_check_skeleton.specs.Surroundings.{Surroundings}
+
+silent_decls : (around : Surroundings) (place : SourceRange) (t : Tree) → SilentDecls around place t
+silent_decls around place t = record {
+  variables = λ k e. h.IsSilentDecl.variable k e;
+  standing = λ s e. h.IsSilentDecl.standing s e;
+  functions = λ k e. h.IsSilentDecl.function k e;
+  classes = λ k e. h.IsSilentDecl.class k e;
+  namespaces = λ k n e. h.IsSilentDecl.namespace k n e;
+  usings = λ k e. h.IsSilentDecl.using k e;
+}
+
+silent_items : (around : Surroundings) (t : Tree) → SilentItems around t
+silent_items around t = record {
+  decls = λ s. h.IsSilent.decl s;
+  exported = λ k s. h.IsSilent.exported k s;
+  statements = λ s. h.IsSilent.statement s;
+  assignments = λ k n e. h.IsSilent.assigned k n e;
+  imports = λ k e. h.IsSilent.linked (links.IsSilentLink.import k e);
+  exports = λ k e. h.IsSilent.linked (links.IsSilentLink.export k e);
+  stars = λ k e. h.IsSilent.linked (links.IsSilentLink.all k e);
+  aliases = λ k n e. h.IsSilent.linked (links.IsSilentLink.alias k n e);
+  values = λ k e. h.IsSilent.default (defaults.IsSilentDefault.value k e);
+  defaults = λ k d e. h.IsSilent.default (defaults.IsSilentDefault.decl k d e);
+}
+
+unseen_items : (r : Renaming) (a b : Surroundings) → UnseenItems r a b
+unseen_items r a b = record {
+  left = λ t s alone. h.SameItems.left s alone h.SameItems.end;
+  right = λ u s alone. h.SameItems.right s alone h.SameItems.end;
+  left_names = λ p q t e. links.SamePublic.left e links.SamePublic.end;
+  right_names = λ p q u e. links.SamePublic.right e links.SamePublic.end;
+  shown_values = λ mutability t u x y head e n same. h.SameDeclarator.inferred x y head e n same;
+}
+
+pub hides_items : HidesItems
+hides_items r a b = record { decls = silent_decls; items = silent_items; unseen = unseen_items r a b }

@@ -1,0 +1,91 @@
+-- Of the rules by which parts of a module go without a word, or differ unseen: such a part does, whatever stands in it.
+-- What is asked of it is no more than what decides that it is not public.
+use Rattle.std.specs.Prelude.{◌≡◌, Bool, true, false, not, Some, List, [], ◌∷◌}
+use Rattle.std.specs.List.{list_all}
+use Rattle.fast_check_syntax.specs.declared.kind.Kind.TheVariants.{VarDecl, UsingDecl, FnDecl, ClassDecl, ExportDecl}
+use Rattle.fast_check_syntax.specs.declared.kind.Kind.TheVariants.{TsModuleDecl, ExprStmt, AssignExpr, ImportDecl}
+use Rattle.fast_check_syntax.specs.declared.kind.Kind.TheVariants.{NamedExport, ExportAll, TsImportEqualsDecl}
+use Rattle.fast_check_syntax.specs.declared.kind.Kind.TheVariants.{ExportDefaultExpr, ExportDefaultDecl}
+use Rattle.fast_check_syntax.specs.declared.source.SourceRange.{SourceRange}
+use Rattle.fast_check_syntax.specs.declared.tree.Tree.{Tree}
+use Rattle.fast_check_syntax.specs.Shape.{kind_of, parts}
+use Rattle.fast_check_syntax.specs.Moves.{Renaming}
+use Rattle.fast_check_syntax.specs.Same.{SameTree}
+use Rattle.fast_check_helpers.specs.declared.literal_type.DeclMutabilityKind.{DeclMutabilityKind}
+use Rattle.fast_check_helpers.specs.InferredType.{inferred_type}
+use Rattle.fast_check_ranges.specs.Ranges.{range_of_node}
+use Rattle.fast_check_expression_forms.specs.Operators.{AssignExpr-span}
+use Rattle.fast_check_program_forms.specs.ModuleDecls.{ExportDecl-span, ExportDecl-decl, ImportDecl-specifiers}
+use Rattle.fast_check_program_forms.specs.ModuleDecls.{NamedExport-specifiers, ExportAll-span}
+use Rattle.fast_check_program_forms.specs.ModuleDecls.{TsImportEqualsDecl-span, ExportDefaultDecl-span}
+use Rattle.fast_check_program_forms.specs.ModuleDecls.{ExportDefaultDecl-decl}
+use Rattle.fast_check_statement_forms.specs.Declarations.{VarDecl-decls, VarDeclarator-init}
+use Rattle.fast_check_statement_forms.specs.Statements.{ExprStmt-expr}
+use Rattle.fast_check_same_values.specs.SameClasses.{HasNoPartner, IsNoPartner}
+use Rattle.fast_check_skeleton.specs.Defaults.{is_public_value}
+use Rattle.fast_check_skeleton.specs.Kinds.{is_standing, is_default_decl}
+use Rattle.fast_check_skeleton.specs.Links.{public_specifiers}
+use Rattle.fast_check_skeleton.specs.Namespaces.{is_namespace}
+use Rattle.fast_check_skeleton.specs.Rules.{is_require}
+use Rattle.fast_check_skeleton.specs.SameLinks.{SamePublic}
+use Rattle.fast_check_skeleton.specs.Hidden.{is_plain_statement, IsSilentDecl, IsSilent, SameHead, SameDeclarator, SameItems}
+use Rattle.fast_check_skeleton.specs.Surroundings.{Surroundings}
+use Rattle.fast_check_skeleton.specs.Visible.{is_public_declarator, is_public_using}
+
+-- a declaration `t`; `place` is the range of its export, or else its own
+pub record SilentDecls (around : Surroundings) (place : SourceRange) (t : Tree) : Type 0 where
+  -- any variables of which none is public
+  pub variables : kind_of t ≡ VarDecl →
+      list_all (λ d. not (is_public_declarator around d)) (parts (VarDecl-decls t)) ≡ true → IsSilentDecl around place t
+  -- any interface, type alias or enum that is not public
+  pub standing : is_standing (kind_of t) ≡ true → around.is_public place ≡ false → IsSilentDecl around place t
+  -- any function, class and namespace that is not public
+  pub functions : kind_of t ≡ FnDecl → around.is_public place ≡ false → IsSilentDecl around place t
+  pub classes : kind_of t ≡ ClassDecl → around.is_public place ≡ false → IsSilentDecl around place t
+  pub namespaces : kind_of t ≡ TsModuleDecl → is_namespace t ≡ true → around.is_public place ≡ false →
+      IsSilentDecl around place t
+  -- any `using` of which nothing is public
+  pub usings : kind_of t ≡ UsingDecl → is_public_using around place t ≡ false → IsSilentDecl around place t
+
+-- an item `t`
+pub record SilentItems (around : Surroundings) (t : Tree) : Type 0 where
+  pub decls : IsSilentDecl around (range_of_node t) t → IsSilent around t
+  pub exported : kind_of t ≡ ExportDecl → IsSilentDecl around (ExportDecl-span t) (ExportDecl-decl t) → IsSilent around t
+  -- any statement that declares and assigns nothing
+  pub statements : is_plain_statement t ≡ true → IsSilent around t
+  -- any assignment that is not public
+  pub assignments : kind_of t ≡ ExprStmt → kind_of (ExprStmt-expr t) ≡ AssignExpr →
+      around.is_public (AssignExpr-span (ExprStmt-expr t)) ≡ false → IsSilent around t
+  -- any import and export of no public name
+  pub imports : kind_of t ≡ ImportDecl → public_specifiers around (ImportDecl-specifiers t) ≡ [] → IsSilent around t
+  pub exports : kind_of t ≡ NamedExport → public_specifiers around (NamedExport-specifiers t) ≡ [] → IsSilent around t
+  -- any export of all names, and any alias, that is not public
+  pub stars : kind_of t ≡ ExportAll → around.is_public (ExportAll-span t) ≡ false → IsSilent around t
+  pub aliases : kind_of t ≡ TsImportEqualsDecl → is_require t ≡ false →
+      around.is_public (TsImportEqualsDecl-span t) ≡ false → IsSilent around t
+  -- any default export that is not public
+  pub values : kind_of t ≡ ExportDefaultExpr → is_public_value around t ≡ false → IsSilent around t
+  pub defaults : kind_of t ≡ ExportDefaultDecl → is_default_decl (kind_of (ExportDefaultDecl-decl t)) ≡ true →
+      around.is_public (ExportDefaultDecl-span t) ≡ false → IsSilent around t
+
+-- of two modules
+pub record UnseenItems (r : Renaming) (a b : Surroundings) : Type 0 where
+  -- any item that goes without a word, and begins at no place of the other module
+  pub left : (t : Tree) → IsSilent a t → HasNoPartner r.starts (range_of_node t).start.0 → SameItems r a b (t ∷ []) []
+  pub right : (u : Tree) → IsSilent b u → IsNoPartner r.starts (range_of_node u).start.0 → SameItems r a b [] (u ∷ [])
+  -- any declarator or specifier that is not public
+  pub left_names : (p q : Tree → Bool) (t : Tree) → p t ≡ false → SamePublic p q (SameTree r) (t ∷ []) []
+  pub right_names : (p q : Tree → Bool) (u : Tree) → q u ≡ false → SamePublic p q (SameTree r) [] (u ∷ [])
+  -- any two values of declarators that show the same type
+  pub shown_values : (mutability : DeclMutabilityKind) (t u left right : Tree) → SameHead r a b t u →
+      inferred_type mutability a.bindings.unresolved (VarDeclarator-init t) ≡ Some left →
+      inferred_type mutability b.bindings.unresolved (VarDeclarator-init u) ≡ Some right →
+      SameTree r left right → SameDeclarator r a b mutability t u
+
+pub record HiddenItems (r : Renaming) (a b : Surroundings) : Type 0 where
+  pub decls : (around : Surroundings) (place : SourceRange) (t : Tree) → SilentDecls around place t
+  pub items : (around : Surroundings) (t : Tree) → SilentItems around t
+  pub unseen : UnseenItems r a b
+
+abbrev pub HidesItems : Type 0
+HidesItems = (r : Renaming) (a b : Surroundings) → HiddenItems r a b
