@@ -21,6 +21,13 @@ use fast_check_requests::{Answer, EsModuleParts, Refusal};
 use fast_check_transform_pair::transform_pair;
 use std::alloc::{AllocError, Global};
 
+/// A side of a pair whose tables have no fault: the module, and what is public in it.
+#[derive(Clone, Copy)]
+struct CheckedSide<'a> {
+    info: &'a EsModuleInfo,
+    ranges: &'a ModulePublicRanges,
+}
+
 /// The answer to the bytes of a file, or why they are refused. They are dropped when the request is read.
 pub fn answer_pair(alloc: Global, bytes: Vec<u8>) -> Result<Answer, Refusal>
     ensures answer { IfOk result (λ answer. IsAnswerTo bytes.items answer.line.items answer.status) }
@@ -74,51 +81,55 @@ fn answer_request(alloc: Global, request: PairRequest) -> Result<Answer, Refusal
     let info_a = checked_module(alloc, parts_a)?;
     let info_b = checked_module(alloc, parts_b)?;
     let is_first = should_error_on_first_diagnostic;
-    answer_if_admitted(
-        alloc, &graph, &info_a, &ranges_a, &info_b, &ranges_b, is_first,
-    )
+    let first = CheckedSide {
+        info: &info_a,
+        ranges: &ranges_a,
+    };
+    let second = CheckedSide {
+        info: &info_b,
+        ranges: &ranges_b,
+    };
+    answer_if_admitted(alloc, &graph, first, second, is_first)
 }
 
 /// The answer to two modules, or why they are refused: the ranges of both have to be admitted.
 fn answer_if_admitted(
     alloc: Global,
     graph: &ModuleGraph,
-    a: &EsModuleInfo,
-    ranges_a: &ModulePublicRanges,
-    b: &EsModuleInfo,
-    ranges_b: &ModulePublicRanges,
+    a: CheckedSide<'_>,
+    b: CheckedSide<'_>,
     should_error_on_first_diagnostic: bool,
 ) -> Result<Answer, Refusal>
-    ensures answer { IfOk result (λ answer. AnswersModules graph.now a.now ranges_a.now b.now ranges_b.now should_error_on_first_diagnostic
-        answer.line.items answer.status) }
-    ensures refusal { IfErr result (RefusesModules a.now ranges_a.now b.now ranges_b.now) }
+    ensures answer { IfOk result (λ answer. AnswersModules graph.now a.entry.info.now a.entry.ranges.now b.entry.info.now b.entry.ranges.now
+        should_error_on_first_diagnostic answer.line.items answer.status) }
+    ensures refusal { IfErr result (RefusesModules a.entry.info.now a.entry.ranges.now b.entry.info.now b.entry.ranges.now) }
 {
-    if !a.admits(ranges_a) || !b.admits(ranges_b) {
+    if !a.info.admits(a.ranges) || !b.info.admits(b.ranges) {
         return Err(Refusal::RangesNotAdmitted);
     }
     let options = TransformOptions {
         workspace_members: Vec::new(alloc),
         should_error_on_first_diagnostic,
     };
-    Ok(answer_modules(alloc, graph, a, ranges_a, b, ranges_b, &options)?)
+    Ok(answer_modules(alloc, graph, a, b, &options)?)
 }
 
 /// The answer to two modules whose ranges are admitted.
 fn answer_modules(
     alloc: Global,
     graph: &ModuleGraph,
-    a: &EsModuleInfo,
-    ranges_a: &ModulePublicRanges,
-    b: &EsModuleInfo,
-    ranges_b: &ModulePublicRanges,
+    a: CheckedSide<'_>,
+    b: CheckedSide<'_>,
     options: &TransformOptions,
 ) -> Result<Answer, AllocError>
-    requires first_admitted { Admits a.now ranges_a.now }
-    requires second_admitted { Admits b.now ranges_b.now }
-    ensures { IfOk result (λ answer. IsPairAnswer graph.now a.now ranges_a.now b.now ranges_b.now
+    requires first_admitted { Admits a.info.now a.ranges.now }
+    requires second_admitted { Admits b.info.now b.ranges.now }
+    ensures { IfOk result (λ answer. IsPairAnswer graph.now a.entry.info.now a.entry.ranges.now b.entry.info.now b.entry.ranges.now
         options.now.should_error_on_first_diagnostic answer.line.items answer.status) }
 {
-    let (first, second) = transform_pair(alloc, graph, a, ranges_a, b, ranges_b, options)?;
+    let (first, second) = transform_pair(
+        alloc, graph, a.info, a.ranges, b.info, b.ranges, options,
+    )?;
     Ok(Answer {
         status: status_of(&first, &second),
         line: print_answers_line(alloc, &first, &second)?,
