@@ -14,7 +14,7 @@ def places(table):
         "use Rattle.std.specs.Prelude.{List, [], ◌∷◌}",
         "use Rattle.fast_check_syntax.specs.declared.kind.Kind.{Kind}",
         "use Rattle.fast_check_syntax.specs.declared.kind.Kind.TheVariants as kinds",
-        "use Rattle.fast_check_places.specs.Reading.{Field, tree, range, scope, flag, text}",
+        "use Rattle.fast_check_json.specs.Reading.{Field, tree, range, scope, flag, text}",
     ]
     lines += [f"use Rattle.fast_check_{file.crate}.specs.{camel(file.name)} as {file.name}" for file in files]
     lines += [
@@ -36,7 +36,7 @@ def places_of(form):
 
 
 def write_places(table, out):
-    out.whole("crates/fast_check_places/specs/Fields.antt", places(table))
+    out.whole("crates/fast_check_json/specs/Fields.antt", places(table))
 
 
 def write_names(table, out):
@@ -44,7 +44,7 @@ def write_names(table, out):
     names = sorted([form.name for form in table.forms.values()] + list(table.choices) + ["range_of_node"])
     lines = [f"    pub use fast_check_forms::{name};" for name in names]
     out.between("crates/fast_check_tree/src/lib.rt", "pub mod forms {", "}", lines)
-    path = "crates/fast_check_form_cases/src/forms/names.rt"
+    path = "crates/fast_check_cases/src/forms/names.rt"
     kinds = [f"    Kind::{form.name}," for form in table.true_forms()]
     choices = [f"    Choice::{name}," for name in table.choices]
     plain = [f"    {form}," for form in LEAF_FORMS.values()]

@@ -121,16 +121,16 @@ def write_proofs(table, out):
     first = "refused_by : (k : Kind) (known : Bool) → row_of k known ≡ None → (k ≡ kinds.ArrowExpr → ⊥) → other_rule k known ≡ not_at_all"
     refused = [f"refused_by kinds.{form} known e n = cc" for form in forms]
     out.as_it_stands("crates/fast_check_values/proofs/Looked.antt", first, "refused_by kinds.FnExpr known e n = cc", refused)
-    path = "crates/fast_check_same_values/proofs/AlikePresent.antt"
+    path = "crates/fast_check_skeleton/proofs/AlikePresent.antt"
     first = "  expr_absent (v.SameExpr.compound {t = t} {u = u} k d e xs) = both_there k t u d (compound_there k e)"
     last = "  expr_absent (v.SameExpr.frozen {t = t} {u = u} e f x y z w m) = frozen_there c t e ∙ sym (frozen_there d u f)"
     out.as_it_stands(path, first, last, both_present(table))
     out.line(path, KINDS, f"Leaf, CallExpr, NewExpr, {', '.join(forms)}, FnExpr, ArrowExpr}}")
-    path = "crates/fast_check_same_values/proofs/Alike.antt"
+    path = "crates/fast_check_skeleton/proofs/Alike.antt"
     first = "        by_form t u p q (compound_alike r ok c d (expr_seen c) (expr_seen d) t u p q k b e (exprs_alike xs))"
     out.as_it_stands(path, first, "    expr_alike (s.frozen {t = t} {u = u} b b' a n callee x types) p q f =", alike(table))
     out.line(path, ROWS, f"{names}, FN_EXPR}}")
-    path = "crates/fast_check_typed_grammar/proofs/Typed.antt"
+    path = "crates/fast_check_skeleton/proofs/Typed.antt"
     first = "        StaysLeavable (by_rule bindings (other_rule kind b) kind t look place)"
     out.as_it_stands(path, first, "    kind_stays kinds.CallExpr true t place f = slotted_stays FREEZE kinds.CallExpr t place", stays(table))
     out.line(path, ROWS, f"{names}, FN_EXPR, FREEZE, NEW}}")

@@ -1,4 +1,4 @@
-"""The lines of `fast_check_form_cases`, and what each must print: forms that are read and printed, or made, and how bodies return.
+"""The lines of `fast_check_cases`, and what each must print: forms that are read and printed, or made, and how bodies return.
 
 The forms, choices and words are those of the tables of docs/FORMATS.md, and the values and answers are laid out by this
 script alone: the program's own output is nowhere taken for right.

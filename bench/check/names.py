@@ -13,7 +13,7 @@ from pathlib import Path
 
 TOP = Path(__file__).resolve().parents[2]
 ITEM = re.compile(r"^pub (?:const )?(struct|enum|trait|type|fn) (\w+)", re.M)
-CASES = re.compile("_cases$|_said$|_example$|_vectors$")
+CASES = re.compile("_cases$|_example$|_vectors$")
 
 
 def handed_out(root):

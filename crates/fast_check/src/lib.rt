@@ -34,14 +34,14 @@ pub mod range_finder {
     pub use fast_check_build::{PublicRangeFinder, find_public_ranges};
     pub use fast_check_cache::PackagePublicRanges;
     pub use fast_check_modules::diagnostics::ModulePublicRanges;
-    pub use fast_check_provider::BuildFault;
+    pub use fast_check_packages::BuildFault;
 }
 
 /// The skeletons of packages, or what is wrong with them.
 pub mod build {
     pub use fast_check_build::build_fast_check_type_graph;
     pub use fast_check_package_answers::ModuleAnswer;
-    pub use fast_check_provider::BuildFault;
+    pub use fast_check_packages::BuildFault;
 }
 
 /// What is promised beyond the contracts of the calls.

@@ -3,7 +3,7 @@ use Rattle.std.specs.Prelude.{Bool, false, Option, Some, None}
 use Rattle.fast_check_symbols.specs.declared.symbol.Symbol.{Symbol}
 use Rattle.fast_check_symbols.specs.Symbols.{is_plain_class}
 use Rattle.fast_check_modules.specs.EsModule.{EsModule}
-use Rattle.fast_check_modules.specs.symbol_tables.Tables.{symbol_of_swc}
+use Rattle.fast_check_modules.specs.symbols.Tables.{symbol_of_swc}
 use Rattle.fast_check_signatures.specs.Bindings.{Bindings}
 
 -- whether there is a symbol, and a declaration of it is of a class without type parameters

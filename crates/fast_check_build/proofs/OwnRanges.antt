@@ -7,7 +7,7 @@ use Rattle.std.proofs.lemmas.Bool.{false≢true}
 use Rattle.fast_check_syntax.specs.declared.source.SourceRange.{SourceRange}
 use Rattle.fast_check_packages.specs.Package.{Nv}
 use Rattle.fast_check_modules.specs.diagnostics.PublicRanges.{same_range}
-use Rattle.fast_check_modules.proofs.symbol_table_proofs.Witness.{witness, and_left, and_right}
+use Rattle.fast_check_modules.proofs.symbol_proofs.Witness.{witness, and_left, and_right}
 use Rattle.fast_check_modules.proofs.FaultsFound.{exact_range}
 use Rattle.fast_check_graph.specs.declared.root_symbol.RootSymbol.{RootSymbol}
 use Rattle.fast_check_graph.specs.Root.{AreFoundByOwnNames}

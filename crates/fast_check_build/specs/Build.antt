@@ -3,8 +3,8 @@ use Rattle.std.specs.Prelude.{◌≡◌, ◌⊎◌, ℕ, Bool, List, Option, tak
 use Rattle.std.specs.BTreeMap.{BTreeMap, IsOrdered}
 use Rattle.fast_check_packages.specs.Package.{Nv}
 use Rattle.fast_check_packages.specs.declared.package.PackageNv.{PackageNv}
-use Rattle.fast_check_provider.specs.declared.fault.BuildFault.{BuildFault}
-use Rattle.fast_check_provider.specs.declared.fault.BuildFault.TheVariants.{OutOfMemory}
+use Rattle.fast_check_packages.specs.declared.fault.BuildFault.{BuildFault}
+use Rattle.fast_check_packages.specs.declared.fault.BuildFault.TheVariants.{OutOfMemory}
 use Rattle.fast_check_cache.specs.Cache.{ItemView}
 use Rattle.fast_check_cache.specs.declared.package_ranges.PackagePublicRanges.{PackagePublicRanges}
 use Rattle.fast_check_package_answers.specs.PackageAnswer.{Answer}

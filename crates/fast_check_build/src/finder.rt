@@ -3,7 +3,7 @@
 ghost use Rattle.std.specs.Prelude.{◌≡◌, ⊤, map, MatchOption, IfOk, IfErr};
 ghost use Rattle.fast_check_packages.specs.Package.{nv_of};
 ghost use Rattle.fast_check_cache.specs.Cache.{IsSeed};
-ghost use Rattle.fast_check_cached_packages.specs.CachedPackages.{used_item};
+ghost use Rattle.fast_check_cache.specs.CachedPackages.{used_item};
 ghost use Rattle.fast_check_finder.specs.turns.steps.Sources.{with_used};
 ghost use Rattle.fast_check_finder.specs.turns.Lent.{used_of};
 ghost use Rattle.fast_check_finder.specs.Refusals.{IsRefusal};
@@ -13,8 +13,7 @@ use fast_check_cache::{FastCheckCache, PackagePublicRanges};
 use fast_check_finder::{Sources, find_all};
 use fast_check_graph::{ModuleGraph, RootSymbol};
 use fast_check_package_ranges::package_ranges;
-use fast_check_packages::{PackageNv, WorkspaceMember};
-use fast_check_provider::{BuildFault, JsrUrlProvider};
+use fast_check_packages::{BuildFault, JsrUrlProvider, PackageNv, WorkspaceMember};
 use std::alloc::Global;
 use std::collections::{BTreeMap, VecDeque};
 

@@ -1,7 +1,7 @@
 //! The skeletons of packages, or what is wrong with them: `build_fast_check_type_graph`.
 ghost use Rattle.std.specs.Prelude.{⊤, map, MatchOption, IfOk, IfErr};
 ghost use Rattle.fast_check_packages.specs.Package.{nv_of};
-ghost use Rattle.fast_check_cached_packages.specs.CachedPackages.{used_item};
+ghost use Rattle.fast_check_cache.specs.CachedPackages.{used_item};
 ghost use Rattle.fast_check_finder.specs.turns.steps.Sources.{with_used};
 ghost use Rattle.fast_check_finder.specs.Refusals.{IsRefusal};
 ghost use Rattle.fast_check_build.specs.Found.{known_of, WithSeed};
@@ -13,8 +13,7 @@ use fast_check_cache::FastCheckCache;
 use fast_check_graph::{ModuleGraph, RootSymbol};
 use fast_check_package_answers::transform::TransformOptions;
 use fast_check_package_answers::{ModuleAnswer, answer_all, answer_and_set_all};
-use fast_check_packages::PackageNv;
-use fast_check_provider::{BuildFault, JsrUrlProvider};
+use fast_check_packages::{BuildFault, JsrUrlProvider, PackageNv};
 use std::alloc::Global;
 use std::collections::VecDeque;
 

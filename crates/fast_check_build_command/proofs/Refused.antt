@@ -1,13 +1,13 @@
 -- Bytes without a request are refused, and so are those whose request is.
 use Rattle.std.proofs.Common.{◌≡◌, ℕ, ◌<◌, Bool, true, false, if◌then◌else◌, List, subst, sym, lit<}
 use Rattle.std.specs.List.{list_any}
-use Rattle.fast_check_provider.specs.declared.listed.ListedPackages.{ListedPackages}
+use Rattle.fast_check_packages.specs.declared.listed.ListedPackages.{ListedPackages}
 use Rattle.fast_check_graph.specs.declared.root_symbol.RootSymbol.{RootSymbol}
 use Rattle.fast_check_requests.specs.declared.refusal.Refusal.{Refusal}
 use Rattle.fast_check_requests.specs.declared.refusal.Refusal.TheVariants as refusals
-use Rattle.fast_check_build_tables.specs.build_requests.declared.request.BuildRequest.{BuildRequest}
+use Rattle.fast_check_build_requests.specs.declared.request.BuildRequest.{BuildRequest}
 use Rattle.fast_check_requests.specs.Run.{IsOfBytes}
-use Rattle.fast_check_build_tables.specs.build_requests.Input.{HoldsBuild, LacksBuild}
+use Rattle.fast_check_build_requests.specs.Input.{HoldsBuild, LacksBuild}
 use Rattle.fast_check_build_command.specs.Line.{has_diagnostics}
 use Rattle.fast_check_build_command.specs.Build.{known_by, known_in, roots_in, IsRootIn, IsExportRefusal, AnswersBuild}
 use Rattle.fast_check_build_command.specs.Build.{RefusesBuild, RefusesBytes}

@@ -4,9 +4,9 @@ use Rattle.std.specs.declared.alloc.Global.{Global}
 use Rattle.fast_check_packages.specs.Package.{Nv, nv_of}
 use Rattle.fast_check_packages.specs.declared.package.PackageNv.{PackageNv}
 use Rattle.fast_check_packages.specs.declared.package.WorkspaceMember.{WorkspaceMember}
-use Rattle.fast_check_provider.specs.declared.fault.BuildFault.TheVariants as faults
-use Rattle.fast_check_provider.specs.declared.listed.ListedPackages.{ListedPackages}
-use Rattle.fast_check_provider.specs.Listed.{url_in, nv_in, row_of, row_at}
+use Rattle.fast_check_packages.specs.declared.fault.BuildFault.TheVariants as faults
+use Rattle.fast_check_packages.specs.declared.listed.ListedPackages.{ListedPackages}
+use Rattle.fast_check_packages.specs.Listed.{url_in, nv_in, row_of, row_at}
 use Rattle.fast_check_graph.specs.declared.graph.ModuleGraph.{ModuleGraph}
 use Rattle.fast_check_graph.specs.declared.root_symbol.RootSymbol.{RootSymbol}
 use Rattle.fast_check_steps.specs.Sources.{Known}
@@ -17,9 +17,9 @@ use Rattle.fast_check_build.specs.Build.{IsBuilt}
 use Rattle.fast_check_requests.specs.declared.refusal.Refusal.{Refusal}
 use Rattle.fast_check_requests.specs.declared.refusal.Refusal.TheVariants as refusals
 use Rattle.fast_check_requests.specs.Input.{IsNotJson}
-use Rattle.fast_check_build_tables.specs.build_requests.declared.request.BuildRequest.{BuildRequest}
-use Rattle.fast_check_build_tables.specs.build_requests.Input.{HoldsBuild, IsNoBuild}
-use Rattle.fast_check_build_tables.specs.Root.{IsRootOfParts, StandUnderNames, IsBuildFault}
+use Rattle.fast_check_build_requests.specs.declared.request.BuildRequest.{BuildRequest}
+use Rattle.fast_check_build_requests.specs.Input.{HoldsBuild, IsNoBuild}
+use Rattle.fast_check_build_requests.specs.Root.{IsRootOfParts, StandUnderNames, IsBuildFault}
 use Rattle.fast_check_build_command.specs.Line.{IsLineOf}
 
 -- ---- modules and packages

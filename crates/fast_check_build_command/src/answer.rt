@@ -4,8 +4,8 @@ ghost use Rattle.std.specs.Prelude.{◌≡◌, IfOk};
 ghost use Rattle.std.specs.List.{list_any};
 ghost use Rattle.fast_check_build_command.specs.Line.{line_of, status_of, has_diagnostics, IsLineOf};
 
-use fast_check_answers::write_answers;
 use fast_check_build::package_answers::ModuleAnswer;
+use fast_check_print::write_answers;
 use fast_check_requests::Answer;
 use json::Writer;
 use std::alloc::{AllocError, Global};

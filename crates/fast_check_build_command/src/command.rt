@@ -2,11 +2,11 @@
 
 ghost use Rattle.std.specs.Prelude.{◌<◌, IfOk, IfErr};
 ghost use Rattle.fast_check_requests.specs.Run.{IsOfBytes};
-ghost use Rattle.fast_check_build_tables.specs.build_requests.Input.{HoldsBuild, LacksBuild};
+ghost use Rattle.fast_check_build_requests.specs.Input.{HoldsBuild, LacksBuild};
 ghost use Rattle.fast_check_build_command.specs.Build.{IsAnswerTo, RefusesBytes};
 
 use crate::request::answer_request;
-use fast_check_build_tables::build_requests::{BuildRequest, read_build};
+use fast_check_build_requests::{BuildRequest, read_build};
 use fast_check_requests::{Answer, Refusal};
 use std::alloc::Global;
 

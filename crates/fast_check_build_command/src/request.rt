@@ -8,13 +8,10 @@ ghost use Rattle.fast_check_build_command.specs.Build.{known_by, IsExportRefusal
 use crate::answer::tell_answers;
 use fast_check_build::build_fast_check_type_graph;
 use fast_check_build::package_answers::ModuleAnswer;
-use fast_check_build_tables::build_requests::BuildRequest;
-use fast_check_build_tables::root_symbol_of;
+use fast_check_build_requests::{BuildRequest, root_symbol_of};
 use fast_check_graph::{ModuleGraph, RootSymbol};
 use fast_check_module_transform::TransformOptions;
-use fast_check_package_index::IndexedPackages;
-use fast_check_packages::PackageNv;
-use fast_check_provider::BuildFault;
+use fast_check_packages::{BuildFault, IndexedPackages, PackageNv};
 use fast_check_requests::{Answer, Refusal};
 use std::alloc::Global;
 use std::collections::VecDeque;

@@ -1,1 +1,3 @@
 mod Seen
+mod Named
+mod Turns

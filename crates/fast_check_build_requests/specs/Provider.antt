@@ -3,7 +3,7 @@ use Rattle.std.specs.Prelude.{List, codes, Option, option_map, map}
 use Rattle.serde_json.specs.Data.{Data}
 use Rattle.url.specs.Parts.{Parts}
 use Rattle.fast_check_packages.specs.Package.{Nv, nv_of}
-use Rattle.fast_check_provider.specs.declared.listed.ListedPackages.{ListedPackages}
+use Rattle.fast_check_packages.specs.declared.listed.ListedPackages.{ListedPackages}
 use Rattle.fast_check_read_tables.specs.Reads.{given, both_of, needed, listed, url_of}
 use Rattle.fast_check_read_tables.specs.Graph.{package_of}
 

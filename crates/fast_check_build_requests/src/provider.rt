@@ -5,7 +5,7 @@ ghost use Rattle.serde_json.specs.View.{view};
 ghost use Rattle.fast_check_read_tables.specs.Reads.{Reads, needed};
 ghost use Rattle.fast_check_build_requests.specs.Provider.{provider, provider_of};
 
-use fast_check_provider::ListedPackages;
+use fast_check_packages::ListedPackages;
 use fast_check_read::ReadError;
 use fast_check_read_tables::{read_list, read_member};
 use serde_json::Value;

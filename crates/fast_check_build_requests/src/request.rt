@@ -8,8 +8,7 @@ ghost use Rattle.fast_check_build_requests.specs.Request.{build, build_of, membe
 use crate::module_parts::ModuleParts;
 use crate::provider::read_provider;
 use fast_check_graph::ModuleGraph;
-use fast_check_packages::{PackageNv, WorkspaceMember};
-use fast_check_provider::ListedPackages;
+use fast_check_packages::{ListedPackages, PackageNv, WorkspaceMember};
 use fast_check_read::{ReadError, has_float};
 use fast_check_read_tables::{read_flag, read_graph, read_list};
 use serde_json::Value;

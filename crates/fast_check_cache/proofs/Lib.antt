@@ -1,1 +1,2 @@
 mod Copied
+pub mod Usable

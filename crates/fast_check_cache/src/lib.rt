@@ -1,11 +1,13 @@
-//! What a cache keeps of packages, and what is found of those that it does not have.
+//! What a cache keeps of a package, and what of it is still of use: an item under its key, and whether its sources are those of the graph.
 #![tactic(auto)]
 
 mod cache;
+mod cached;
 mod item;
 mod package_ranges;
 
 pub use cache::{FastCheckCache, FastCheckCacheKey};
+pub use cached::{key_of, look_up, source_hash};
 pub use item::{
     FastCheckCacheItem, FastCheckCacheModuleItem, FastCheckCacheModuleItemDiagnostic,
     FastCheckCacheModuleItemInfo,

@@ -2,9 +2,9 @@
 
 use fast_check_build::package_answers::ModuleAnswer;
 use fast_check_cache::{FastCheckCacheItem, FastCheckCacheModuleItem};
+use fast_check_cases::Said;
 use fast_check_diagnostics::{Diagnostic, FastCheckDiagnostic};
 use fast_check_parsed_source::FastCheckModule;
-use fast_check_said::Said;
 use std::alloc::Global;
 use url::Url;
 

@@ -2,3 +2,4 @@ pub mod Lists
 pub mod Kept
 pub mod Telling
 pub mod SuperCalls
+mod References

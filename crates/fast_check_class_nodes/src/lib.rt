@@ -1,5 +1,4 @@
-//! The members of a class that stay, and the new nodes that stand in a class: properties that are declared, parameters without
-//! modifiers, and the calls of the constructor of the superclass.
+//! The nodes of classes: their members as they stand in a skeleton, constructors, and superclasses.
 #![tactic(auto)]
 
 mod constructors;
@@ -7,6 +6,7 @@ mod copies;
 mod earlier;
 mod keys;
 mod properties;
+mod superclasses;
 
 pub use constructors::{constructor_body, plain_params};
 pub use earlier::{Earlier, kept_members};
@@ -15,3 +15,4 @@ pub use properties::{
     PropertyHead, accessor_head, hash_private, mutability_of_property, param_property,
     param_target, private_method_head, property_head, takes_apart,
 };
+pub use superclasses::transform_superclass;

@@ -28,5 +28,5 @@ pub fn run<R: Read + Drop, O: Write, E: Write>(
         × ((RefusesCall (map string_bytes words.now) (option_map R.remaining input) refusal × (out.new ≡ out.old))
         ⊎ ((refusal ≡ Refusal.Unwritable) × HasAnswer (map string_bytes words.now) (option_map R.remaining input))) }
 {
-    fast_check_requests::run::<AnyCommand, R, O, E>(alloc, words, input, out, err)
+    fast_check_requests::run_commands::<AnyCommand, R, O, E>(alloc, words, input, out, err)
 }

@@ -1,2 +1,2 @@
-pub use Rattle.fast_check_asked.specs as asked
+pub use Rattle.fast_check_surroundings.specs as surroundings
 pub mod ClassAnswers

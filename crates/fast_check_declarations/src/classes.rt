@@ -3,16 +3,14 @@ ghost use Rattle.std.specs.Prelude.{◌≡◌, IfOk, Some};
 ghost use Rattle.fast_check_syntax.specs.Part.{seen};
 ghost use Rattle.fast_check_syntax.specs.Shape.{parts};
 ghost use Rattle.fast_check_signatures.specs.Answers.{Adds};
-ghost use Rattle.fast_check_asked.specs.skeleton.KeptComments.{starts_of_removed, starts_in_decl, starts_in_default, starts_inside};
-ghost use Rattle.fast_check_asked.specs.skeleton.KeptComments.{without_all_leading};
-ghost use Rattle.fast_check_asked.specs.skeleton.Rules.{item_rule};
-ghost use Rattle.fast_check_asked.specs.skeleton.Visible.{is_ambient_class};
-ghost use Rattle.fast_check_asked.specs.Asked.{Asked-around};
-ghost use Rattle.fast_check_asked.specs.Kept.{as_list};
+ghost use Rattle.fast_check_surroundings.specs.skeleton.KeptComments.{starts_of_removed, starts_in_decl, starts_in_default, starts_inside};
+ghost use Rattle.fast_check_surroundings.specs.skeleton.KeptComments.{without_all_leading};
+ghost use Rattle.fast_check_surroundings.specs.skeleton.Rules.{item_rule};
+ghost use Rattle.fast_check_surroundings.specs.skeleton.Visible.{is_ambient_class};
+ghost use Rattle.fast_check_surroundings.specs.Surroundings.{seen_around};
+ghost use Rattle.fast_check_surroundings.specs.Kept.{as_list};
 ghost use Rattle.fast_check_declarations.specs.ClassAnswers.{class_in_answer, class_answer, public_class_answer};
 
-use fast_check_asked::Asked;
-use fast_check_asked::skeleton::{DeclRule, DefaultRule, ItemRule, item_rule};
 use fast_check_class_forms::Class;
 use fast_check_classes::class_nodes::Earlier;
 use fast_check_classes::{ambient_class, transform_class};
@@ -22,12 +20,14 @@ use fast_check_program_forms::{ExportDecl, ExportDefaultDecl};
 use fast_check_ranges::range_of_node;
 use fast_check_signatures::Fault;
 use fast_check_statement_forms::{ClassDecl, ExprStmt};
+use fast_check_surroundings::Surroundings;
+use fast_check_surroundings::skeleton::{DeclRule, DefaultRule, ItemRule, item_rule};
 use fast_check_syntax::{Part, SourceRange, Tree};
 use std::alloc::{AllocError, Global};
 
 /// Whether a class is ambient.
-fn is_ambient_class(asked: Asked<'_>, decl: Part<'_>) -> bool
-    ensures { result ≡ is_ambient_class (Asked-around asked.entry) (seen decl.entry) }
+fn is_ambient_class(asked: Surroundings<'_>, decl: Part<'_>) -> bool
+    ensures { result ≡ is_ambient_class (seen_around asked.entry) (seen decl.entry) }
 {
     asked.is_ambient || ClassDecl::of(decl).declare
 }
@@ -35,11 +35,11 @@ fn is_ambient_class(asked: Asked<'_>, decl: Part<'_>) -> bool
 /// The class of a declaration; an ambient one as it is written, but for private members with computed keys.
 fn keep_class_of(
     alloc: Global,
-    asked: Asked<'_>,
+    asked: Surroundings<'_>,
     decl: Part<'_>,
     faults: &mut Vec<Fault>,
 ) -> Result<Tree, AllocError>
-    ensures { IfOk result (λ tree. Adds (class_in_answer (Asked-around asked.entry) (seen decl.entry)) (Some tree) faults.old.items faults.new.items) }
+    ensures { IfOk result (λ tree. Adds (class_in_answer (seen_around asked.entry) (seen decl.entry)) (Some tree) faults.old.items faults.new.items) }
 {
     let class = ClassDecl::of(decl).class;
     if is_ambient_class(asked, decl) {
@@ -57,11 +57,11 @@ fn keep_class_of(
 /// A class declaration.
 fn keep_class(
     alloc: Global,
-    asked: Asked<'_>,
+    asked: Surroundings<'_>,
     decl: Part<'_>,
     faults: &mut Vec<Fault>,
 ) -> Result<Tree, AllocError>
-    ensures { IfOk result (λ tree. Adds (class_answer (Asked-around asked.entry) (seen decl.entry)) (Some tree) faults.old.items faults.new.items) }
+    ensures { IfOk result (λ tree. Adds (class_answer (seen_around asked.entry) (seen decl.entry)) (Some tree) faults.old.items faults.new.items) }
 {
     let ClassDecl { ident, declare, .. } = ClassDecl::of(decl);
     let made = ClassDecl {
@@ -75,13 +75,13 @@ fn keep_class(
 /// A class declaration, which is public by `place`; none where it is not.
 pub fn keep_public_class(
     alloc: Global,
-    asked: Asked<'_>,
+    asked: Surroundings<'_>,
     place: SourceRange,
     decl: Part<'_>,
     faults: &mut Vec<Fault>,
 ) -> Result<Option<Tree>, AllocError>
     ensures { IfOk result (λ tree.
-        Adds (public_class_answer (Asked-around asked.entry) place (seen decl.entry)) (as_list tree) faults.old.items faults.new.items) }
+        Adds (public_class_answer (seen_around asked.entry) place (seen decl.entry)) (as_list tree) faults.old.items faults.new.items) }
 {
     if !asked.public_ranges.contains(&place) {
         return Ok(None);
@@ -111,14 +111,14 @@ fn remove_before_members(
 /// Removes the comments before what goes inside of a declaration that stays and with which this is done.
 fn remove_in_decl(
     alloc: Global,
-    asked: Asked<'_>,
+    asked: Surroundings<'_>,
     place: SourceRange,
     decl: Part<'_>,
     rule: DeclRule,
     comments: &mut CommentsMut,
 ) -> Result<(), AllocError>
     ensures { IfOk result (λ _.
-        comments.new ≡ without_all_leading (starts_in_decl (Asked-around asked.entry) place (seen decl.entry) rule) comments.old) }
+        comments.new ≡ without_all_leading (starts_in_decl (seen_around asked.entry) place (seen decl.entry) rule) comments.old) }
 {
     match rule {
         DeclRule::Class => {
@@ -139,13 +139,13 @@ fn remove_in_decl(
 /// Removes the comments before what goes inside of a default export with which this is done.
 fn remove_in_default(
     alloc: Global,
-    asked: Asked<'_>,
+    asked: Surroundings<'_>,
     item: Part<'_>,
     rule: DefaultRule,
     comments: &mut CommentsMut,
 ) -> Result<(), AllocError>
     ensures { IfOk result (λ _.
-        comments.new ≡ without_all_leading (starts_in_default (Asked-around asked.entry) (seen item.entry) rule) comments.old) }
+        comments.new ≡ without_all_leading (starts_in_default (seen_around asked.entry) (seen item.entry) rule) comments.old) }
 {
     match rule {
         DefaultRule::Class => {
@@ -162,12 +162,12 @@ fn remove_in_default(
 /// Removes the comments before what goes inside of an item.
 pub fn remove_inside(
     alloc: Global,
-    asked: Asked<'_>,
+    asked: Surroundings<'_>,
     item: Part<'_>,
     comments: &mut CommentsMut,
 ) -> Result<(), AllocError>
     ensures { IfOk result (λ _.
-        comments.new ≡ without_all_leading (starts_inside (Asked-around asked.entry) (seen item.entry) (item_rule (seen item.entry))) comments.old) }
+        comments.new ≡ without_all_leading (starts_inside (seen_around asked.entry) (seen item.entry) (item_rule (seen item.entry))) comments.old) }
 {
     match item_rule(item) {
         ItemRule::Declared(rule) => {

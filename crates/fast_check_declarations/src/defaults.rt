@@ -2,14 +2,12 @@
 ghost use Rattle.std.specs.Prelude.{◌≡◌, IfOk, Some};
 ghost use Rattle.fast_check_syntax.specs.Part.{seen};
 ghost use Rattle.fast_check_signatures.specs.Answers.{Adds};
-ghost use Rattle.fast_check_asked.specs.skeleton.Defaults.{default_place, is_public_value};
-ghost use Rattle.fast_check_asked.specs.Asked.{Asked-around};
-ghost use Rattle.fast_check_asked.specs.Kept.{as_list};
+ghost use Rattle.fast_check_surroundings.specs.skeleton.Defaults.{default_place, is_public_value};
+ghost use Rattle.fast_check_surroundings.specs.Surroundings.{seen_around};
+ghost use Rattle.fast_check_surroundings.specs.Kept.{as_list};
 ghost use Rattle.fast_check_declarations.specs.ClassAnswers.{is_public_default, default_value_answer, default_class_answer};
 ghost use Rattle.fast_check_declarations.specs.ClassAnswers.{default_signature_answer, default_function_answer, default_decl_answer, default_answer};
 
-use fast_check_asked::Asked;
-use fast_check_asked::skeleton::DefaultRule;
 use fast_check_class_forms::Function;
 use fast_check_classes::transform_class;
 use fast_check_classes::values::{leave_expr, transform_fn, transform_implementation};
@@ -17,20 +15,22 @@ use fast_check_expression_forms::{ClassExpr, FnExpr};
 use fast_check_program_forms::{ExportDefaultDecl, ExportDefaultExpr, Ident};
 use fast_check_ranges::range_of_node;
 use fast_check_signatures::{Fault, FaultKind, FunctionKind};
+use fast_check_surroundings::Surroundings;
+use fast_check_surroundings::skeleton::DefaultRule;
 use fast_check_syntax::{Part, SourceRange, Tree};
 use std::alloc::{AllocError, Global};
 
 /// Whether the default export of an expression is public: by its own range, or by that of the expression.
-fn is_public_value(asked: Asked<'_>, item: Part<'_>) -> bool
-    ensures { result ≡ is_public_value (Asked-around asked.entry) (seen item.entry) }
+fn is_public_value(asked: Surroundings<'_>, item: Part<'_>) -> bool
+    ensures { result ≡ is_public_value (seen_around asked.entry) (seen item.entry) }
 {
     let ExportDefaultExpr { span, expr } = ExportDefaultExpr::of(item);
     asked.public_ranges.contains(&span) || asked.public_ranges.contains(&range_of_node(expr))
 }
 
 /// Whether a default export with which this is done is public.
-fn is_public_default(asked: Asked<'_>, item: Part<'_>, rule: DefaultRule) -> bool
-    ensures { result ≡ is_public_default (Asked-around asked.entry) (seen item.entry) rule }
+fn is_public_default(asked: Surroundings<'_>, item: Part<'_>, rule: DefaultRule) -> bool
+    ensures { result ≡ is_public_default (seen_around asked.entry) (seen item.entry) rule }
 {
     match rule {
         DefaultRule::Value => is_public_value(asked, item),
@@ -45,11 +45,11 @@ fn is_public_default(asked: Asked<'_>, item: Part<'_>, rule: DefaultRule) -> boo
 /// The default export of an expression. Where the expression may not stay, that is a fault.
 fn keep_value(
     alloc: Global,
-    asked: Asked<'_>,
+    asked: Surroundings<'_>,
     item: Part<'_>,
     faults: &mut Vec<Fault>,
 ) -> Result<Tree, AllocError>
-    ensures { IfOk result (λ tree. Adds (default_value_answer (Asked-around asked.entry) (seen item.entry)) (Some tree) faults.old.items faults.new.items) }
+    ensures { IfOk result (λ tree. Adds (default_value_answer (seen_around asked.entry) (seen item.entry)) (Some tree) faults.old.items faults.new.items) }
 {
     let ExportDefaultExpr { span, expr } = ExportDefaultExpr::of(item);
     match leave_expr(alloc, asked.es_module_info, expr, None, faults)? {
@@ -68,11 +68,11 @@ fn keep_value(
 /// A class that is exported by default. It is never ambient.
 fn keep_class(
     alloc: Global,
-    asked: Asked<'_>,
+    asked: Surroundings<'_>,
     decl: Part<'_>,
     faults: &mut Vec<Fault>,
 ) -> Result<Tree, AllocError>
-    ensures { IfOk result (λ tree. Adds (default_class_answer (Asked-around asked.entry) (seen decl.entry)) (Some tree) faults.old.items faults.new.items) }
+    ensures { IfOk result (λ tree. Adds (default_class_answer (seen_around asked.entry) (seen decl.entry)) (Some tree) faults.old.items faults.new.items) }
 {
     let ClassExpr { ident, class } = ClassExpr::of(decl);
     let made = ClassExpr {
@@ -104,13 +104,13 @@ fn default_place(decl: Part<'_>) -> SourceRange
 /// parameters.
 fn transform_signature(
     alloc: Global,
-    asked: Asked<'_>,
+    asked: Surroundings<'_>,
     place: SourceRange,
     decl: Part<'_>,
     faults: &mut Vec<Fault>,
 ) -> Result<Tree, AllocError>
     ensures { IfOk result (λ tree.
-        Adds (default_signature_answer (Asked-around asked.entry) place (seen decl.entry)) (Some tree) faults.old.items faults.new.items) }
+        Adds (default_signature_answer (seen_around asked.entry) place (seen decl.entry)) (Some tree) faults.old.items faults.new.items) }
 {
     let function = FnExpr::of(decl).function;
     if asked.public_ranges.is_impl_with_overloads(&place) {
@@ -129,13 +129,13 @@ fn transform_signature(
 /// A function that is exported by default, by its signature; where all is ambient as it is written.
 fn keep_function(
     alloc: Global,
-    asked: Asked<'_>,
+    asked: Surroundings<'_>,
     place: SourceRange,
     decl: Part<'_>,
     faults: &mut Vec<Fault>,
 ) -> Result<Tree, AllocError>
     ensures { IfOk result (λ tree.
-        Adds (default_function_answer (Asked-around asked.entry) place (seen decl.entry)) (Some tree) faults.old.items faults.new.items) }
+        Adds (default_function_answer (seen_around asked.entry) place (seen decl.entry)) (Some tree) faults.old.items faults.new.items) }
 {
     if asked.is_ambient {
         return decl.to_tree(alloc);
@@ -151,13 +151,13 @@ fn keep_function(
 /// A public default export with which this is done.
 fn keep_public(
     alloc: Global,
-    asked: Asked<'_>,
+    asked: Surroundings<'_>,
     item: Part<'_>,
     rule: DefaultRule,
     faults: &mut Vec<Fault>,
 ) -> Result<Tree, AllocError>
     ensures { IfOk result (λ tree.
-        Adds (default_decl_answer (Asked-around asked.entry) (seen item.entry) rule) (Some tree) faults.old.items faults.new.items) }
+        Adds (default_decl_answer (seen_around asked.entry) (seen item.entry) rule) (Some tree) faults.old.items faults.new.items) }
 {
     let ExportDefaultDecl { span, decl } = ExportDefaultDecl::of(item);
     match rule {
@@ -180,13 +180,13 @@ fn keep_public(
 /// What is public of a default export with which this is done; none where nothing is.
 pub fn keep_default(
     alloc: Global,
-    asked: Asked<'_>,
+    asked: Surroundings<'_>,
     item: Part<'_>,
     rule: DefaultRule,
     faults: &mut Vec<Fault>,
 ) -> Result<Option<Tree>, AllocError>
     ensures { IfOk result (λ tree.
-        Adds (default_answer (Asked-around asked.entry) (seen item.entry) rule) (as_list tree) faults.old.items faults.new.items) }
+        Adds (default_answer (seen_around asked.entry) (seen item.entry) rule) (as_list tree) faults.old.items faults.new.items) }
 {
     if !is_public_default(asked, item, rule) {
         return Ok(None);

@@ -3,8 +3,8 @@ use Rattle.std.specs.Prelude.{Bool, true, false, ◌&&◌, ◌||◌, List, [], �
 use Rattle.std.specs.List.{list_any, Contains}
 use Rattle.std.specs.Str.{bytes_eq}
 use Rattle.fast_check_names.specs.Names.{Path}
-use Rattle.fast_check_symbol_demands.specs.symbol_tables.Tables.{Tables}
-use Rattle.fast_check_symbol_demands.specs.symbol_tables.symbols.declared.symbol_id.SymbolId.{SymbolId}
+use Rattle.fast_check_symbol_demands.specs.symbols.Tables.{Tables}
+use Rattle.fast_check_symbol_demands.specs.symbols.declared.symbol_id.SymbolId.{SymbolId}
 use Rattle.fast_check_symbol_demands.specs.declared.demand.Namespace.{Namespace}
 use Rattle.fast_check_symbol_demands.specs.declared.demand.Namespace.TheVariants.{Value, Type_}
 use Rattle.fast_check_symbol_demands.specs.declared.demand.Extent.{Extent}

@@ -3,12 +3,12 @@ use Rattle.std.specs.Prelude.{Bool, false, cond, not, ◌&&◌, List, [], ◌∷
 use Rattle.std.specs.List.{flat_map, filter}
 use Rattle.fast_check_names.specs.Names.{Name, Path, path_of}
 use Rattle.fast_check_syntax.specs.declared.source.SourceRange.{SourceRange}
-use Rattle.fast_check_symbol_demands.specs.symbol_tables.symbols.declared.symbol_id.SymbolId.{SymbolId}
-use Rattle.fast_check_symbol_demands.specs.symbol_tables.symbols.declared.symbol.Symbol.{Symbol}
-use Rattle.fast_check_symbol_demands.specs.symbol_tables.symbols.declared.decl.SymbolDecl.{SymbolDecl}
-use Rattle.fast_check_symbol_demands.specs.symbol_tables.symbols.Symbols.{symbol_of}
-use Rattle.fast_check_symbol_demands.specs.symbol_tables.symbols.Exports.{export_named}
-use Rattle.fast_check_symbol_demands.specs.symbol_tables.Tables.{Tables}
+use Rattle.fast_check_symbol_demands.specs.symbols.declared.symbol_id.SymbolId.{SymbolId}
+use Rattle.fast_check_symbol_demands.specs.symbols.declared.symbol.Symbol.{Symbol}
+use Rattle.fast_check_symbol_demands.specs.symbols.declared.decl.SymbolDecl.{SymbolDecl}
+use Rattle.fast_check_symbol_demands.specs.symbols.Symbols.{symbol_of}
+use Rattle.fast_check_symbol_demands.specs.symbols.Exports.{export_named}
+use Rattle.fast_check_symbol_demands.specs.symbols.Tables.{Tables}
 use Rattle.fast_check_symbol_demands.specs.declared.demand.Namespace.{Namespace}
 use Rattle.fast_check_demands.specs.declared.fault.FaultKind.{FaultKind}
 use Rattle.fast_check_demands.specs.declared.fault.FaultKind.TheVariants.{PrivateMember, NotFound, TooComplex}

@@ -2,13 +2,12 @@
 ghost use Rattle.std.specs.Prelude.{◌≡◌, ◌∷◌, [], ◌++◌, OnOk, cond, string_bytes};
 ghost use Rattle.std.specs.List.{flat_map};
 ghost use Rattle.fast_check_names.specs.Names.{path_of};
-ghost use Rattle.fast_check_symbol_demands.specs.symbol_tables.symbols.Symbols.{symbol_of};
+ghost use Rattle.fast_check_symbol_demands.specs.symbols.Symbols.{symbol_of};
 ghost use Rattle.fast_check_symbol_demands.specs.Demands.{demand_of};
 ghost use Rattle.fast_check_symbol_demands.specs.Rules.{each_of, qualified, parts_names, alias_names, member_names, prototype_names, export_names, first_names, path_names};
 
 use crate::names::is_prototype;
-use fast_check_symbol_demands::symbol_tables::CheckedTables;
-use fast_check_symbol_demands::symbol_tables::symbols::{SymbolDecl, SymbolDeclKind, SymbolId};
+use fast_check_symbol_demands::symbols::{CheckedTables, SymbolDecl, SymbolDeclKind, SymbolId};
 use fast_check_symbol_demands::{
     Demands, Extent, SymbolDemand, bound, has_alias, is_closed, push_path, push_references,
 };

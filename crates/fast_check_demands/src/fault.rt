@@ -2,13 +2,12 @@
 ghost use Rattle.std.specs.Prelude.{◌≡◌, option_map};
 ghost use Rattle.std.specs.Option.{option_and_then};
 ghost use Rattle.fast_check_names.specs.Names.{path_of};
-ghost use Rattle.fast_check_symbol_demands.specs.symbol_tables.symbols.Symbols.{symbol_of};
+ghost use Rattle.fast_check_symbol_demands.specs.symbols.Symbols.{symbol_of};
 ghost use Rattle.fast_check_symbol_demands.specs.Demands.{demand_of};
 ghost use Rattle.fast_check_demands.specs.Yields.{fault_seen, fault_at as fault_there, is_parent, private_fault, member_fault, prototype_fault, export_fault, first_fault, path_fault, fault_in};
 
 use crate::names::{is_prototype, start_of};
-use fast_check_symbol_demands::symbol_tables::CheckedTables;
-use fast_check_symbol_demands::symbol_tables::symbols::{Symbol, SymbolId};
+use fast_check_symbol_demands::symbols::{CheckedTables, Symbol, SymbolId};
 use fast_check_symbol_demands::{Ask, SymbolDemand, has_alias, is_closed, is_same};
 
 /// What is wrong with a demand.

@@ -2,10 +2,10 @@
 ghost use Rattle.std.specs.Prelude.{◌≡◌, ◌++◌, IfOk, OnOk};
 ghost use Rattle.fast_check_symbol_demands.specs.Demands.{demand_of};
 ghost use Rattle.fast_check_symbol_demands.specs.Rules.{each_of, names, symbol_names};
-ghost use Rattle.fast_check_symbol_demands.specs.symbol_tables.symbols.Symbols.{symbol_of};
+ghost use Rattle.fast_check_symbol_demands.specs.symbols.Symbols.{symbol_of};
 
 use crate::aliases::push_path_demands;
-use fast_check_symbol_demands::symbol_tables::CheckedTables;
+use fast_check_symbol_demands::symbols::CheckedTables;
 use fast_check_symbol_demands::{Ask, Demands, Namespace, SymbolDemand, push_symbol};
 use std::alloc::{AllocError, Global};
 

@@ -8,8 +8,7 @@ mod names;
 mod public;
 
 pub use fast_check_symbol_demands as symbol_demands;
-pub use fast_check_symbol_demands::symbol_tables::CheckedTables;
-pub use fast_check_symbol_demands::symbol_tables::symbols::SymbolId;
+pub use fast_check_symbol_demands::symbols::{CheckedTables, SymbolId};
 pub use fast_check_symbol_demands::{
     Ask, Demands, Extent, Namespace, SymbolDemand, binds, is_implementation,
 };

@@ -4,7 +4,7 @@ ghost use Rattle.fast_check_names.specs.Names.{path_of};
 ghost use Rattle.fast_check_symbol_demands.specs.Rules.{is_prototype};
 
 use fast_check_symbol_demands::has_class;
-use fast_check_symbol_demands::symbol_tables::symbols::SymbolDecl;
+use fast_check_symbol_demands::symbols::SymbolDecl;
 
 /// Whether a name is `prototype`, of a class.
 pub fn is_prototype(name: &str, decls: &[SymbolDecl]) -> bool

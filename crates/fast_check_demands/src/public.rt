@@ -1,7 +1,7 @@
 //! The ranges that a demand makes public, and those of implementations.
 ghost use Rattle.std.specs.Prelude.{◌≡◌, ◌++◌, not, ◌&&◌, option_map, OnOk};
-ghost use Rattle.fast_check_symbol_demands.specs.symbol_tables.symbols.Exports.{seen_export};
-ghost use Rattle.fast_check_symbol_demands.specs.symbol_tables.symbols.Symbols.{symbol_of};
+ghost use Rattle.fast_check_symbol_demands.specs.symbols.Exports.{seen_export};
+ghost use Rattle.fast_check_symbol_demands.specs.symbols.Symbols.{symbol_of};
 ghost use Rattle.std.specs.List.{flat_map, filter};
 ghost use Rattle.std.specs.Option.{option_copied};
 ghost use Rattle.fast_check_symbol_demands.specs.Demands.{demand_of, asked_of};
@@ -9,9 +9,8 @@ ghost use Rattle.fast_check_symbol_demands.specs.Decls.{binds as binds_in, is_im
 ghost use Rattle.fast_check_symbol_demands.specs.Rules.{each_of};
 ghost use Rattle.fast_check_demands.specs.Yields.{decl_ranges, is_within, outside, expando_ranges, decl_yields, symbol_ranges, asked_ranges, ranges, symbol_implementations, asked_implementations, implementations};
 
-use fast_check_symbol_demands::symbol_tables::CheckedTables;
-use fast_check_symbol_demands::symbol_tables::symbols::{
-    Symbol, SymbolDecl, SymbolExports, SymbolId,
+use fast_check_symbol_demands::symbols::{
+    CheckedTables, Symbol, SymbolDecl, SymbolExports, SymbolId,
 };
 use fast_check_symbol_demands::{
     Ask, Namespace, SymbolDemand, binds, is_function, is_implementation,

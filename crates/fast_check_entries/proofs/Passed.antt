@@ -1,8 +1,8 @@
 -- Faults that are passed on.
 use Rattle.std.proofs.Common.{◌≡◌, ℕ, sym, subst, List, Option, Some, Result, Ok, Err, IsErrAnd, IfErr, string_bytes}
 use Rattle.fast_check_packages.specs.Package.{Nv}
-use Rattle.fast_check_provider.specs.declared.fault.BuildFault.{BuildFault}
-use Rattle.fast_check_provider.specs.declared.fault.BuildFault.TheVariants.{InvalidExport, OutOfMemory}
+use Rattle.fast_check_packages.specs.declared.fault.BuildFault.{BuildFault}
+use Rattle.fast_check_packages.specs.declared.fault.BuildFault.TheVariants.{InvalidExport, OutOfMemory}
 use Rattle.fast_check_entries.specs.Entries.{Tells}
 
 -- `?` passes a fault on as it is

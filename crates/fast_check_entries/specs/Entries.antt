@@ -21,8 +21,8 @@ use Rattle.fast_check_graph.specs.declared.graph.ModuleGraph.{ModuleGraph}
 use Rattle.fast_check_graph.specs.declared.module.Module.{Module}
 use Rattle.fast_check_graph.specs.Graph.{module_at, exports_of}
 use Rattle.fast_check_graph.specs.Modules.{is_typed_module}
-use Rattle.fast_check_provider.specs.declared.fault.BuildFault.{BuildFault}
-use Rattle.fast_check_provider.specs.declared.fault.BuildFault.TheVariants.{InvalidExport, OutOfMemory}
+use Rattle.fast_check_packages.specs.declared.fault.BuildFault.{BuildFault}
+use Rattle.fast_check_packages.specs.declared.fault.BuildFault.TheVariants.{InvalidExport, OutOfMemory}
 use Rattle.fast_check_findings.specs.declared.finding.EntryFault.{EntryFault}
 use Rattle.fast_check_findings.specs.declared.finding.EntryFault.TheVariants.{NotFound, Untyped}
 

@@ -7,8 +7,7 @@ ghost use Rattle.fast_check_graph.specs.Graph.{exports_of as graph_exports};
 ghost use Rattle.fast_check_entries.specs.Entries.{has_version, is_member, member_named, member_exports, base_or};
 
 use fast_check_graph::ModuleGraph;
-use fast_check_packages::{PackageNv, WorkspaceMember};
-use fast_check_provider::JsrUrlProvider;
+use fast_check_packages::{JsrUrlProvider, PackageNv, WorkspaceMember};
 use indexmap::IndexMap;
 use semver::Version;
 use std::alloc::AllocError;

@@ -7,8 +7,7 @@ ghost use Rattle.fast_check_entries.specs.Entries.{Tells, TellsRefused};
 
 use crate::exports::{base_of, exports_of, member_named};
 use fast_check_graph::ModuleGraph;
-use fast_check_packages::{PackageNv, WorkspaceMember};
-use fast_check_provider::{BuildFault, JsrUrlProvider};
+use fast_check_packages::{BuildFault, JsrUrlProvider, PackageNv, WorkspaceMember};
 use indexmap::IndexMap;
 use std::alloc::{AllocError, Global};
 use url::{ParseError, Url};

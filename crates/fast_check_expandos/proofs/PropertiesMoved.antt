@@ -13,7 +13,7 @@ use Rattle.fast_check_syntax.proofs.Moved.{part_moved, text_of_moved}
 use Rattle.fast_check_program_forms.specs.Names.{Ident-ctxt}
 use Rattle.fast_check_expression_forms.specs.Calls.{MemberExpr-obj}
 use Rattle.fast_check_helpers.proofs.GlobalCallsMoved.{moved_scope}
-use Rattle.fast_check_modules.specs.symbol_tables.Tables.{same_id}
+use Rattle.fast_check_modules.specs.symbols.Tables.{same_id}
 use Rattle.fast_check_signatures.proofs.MovedParts.{moved_seen, field_moved, scope_field_moved}
 use Rattle.fast_check_signatures.specs.Seen.{written}
 use Rattle.fast_check_expandos.specs.declared.properties.ExpandoProperty.{ExpandoProperty}

@@ -14,7 +14,7 @@ use Rattle.fast_check_expression_forms.specs.Calls.{MemberExpr-obj, MemberExpr-p
 use Rattle.fast_check_statement_forms.specs.Declarations.{var_decl, var_declarator}
 use Rattle.fast_check_statement_forms.specs.TsDeclarations.{ts_module_decl, ts_module_block}
 use Rattle.fast_check_modules.specs.Expandos.{id_of}
-use Rattle.fast_check_modules.specs.symbol_tables.Tables.{same_id}
+use Rattle.fast_check_modules.specs.symbols.Tables.{same_id}
 use Rattle.fast_check_signatures.specs.declared.fault.Fault.{Fault}
 use Rattle.fast_check_signatures.specs.declared.fault.FaultKind.TheVariants.{UnsupportedExpandoProperty}
 use Rattle.fast_check_signatures.specs.Seen.{Seen, written, faulty}

@@ -4,7 +4,7 @@ use Rattle.std.specs.Prelude.{◌≡◌, ◌||◌, List, [], ◌∷◌, ◌++◌
 use Rattle.std.specs.List.{flat_map, list_any}
 use Rattle.fast_check_syntax.specs.declared.atom.Id.{Id}
 use Rattle.fast_check_syntax.specs.declared.tree.Tree.{Tree}
-use Rattle.fast_check_modules.specs.symbol_tables.Tables.{same_id}
+use Rattle.fast_check_modules.specs.symbols.Tables.{same_id}
 use Rattle.fast_check_signatures.specs.declared.fault.Fault.{Fault}
 use Rattle.fast_check_signatures.specs.Answers.{Answer}
 use Rattle.fast_check_signatures.specs.Seen.{Seen, written}

@@ -1,6 +1,6 @@
 -- What a module knows of the objects of its expando properties: what its symbols say.
 use Rattle.fast_check_modules.specs.EsModule.{EsModule}
-use Rattle.fast_check_modules.specs.symbol_tables.Tables.{symbol_of_swc}
+use Rattle.fast_check_modules.specs.symbols.Tables.{symbol_of_swc}
 use Rattle.fast_check_expandos.specs.Objects.{Objects, exports_name, stands_exported}
 
 unfoldable pub objects_of : EsModule → Objects

@@ -23,8 +23,8 @@ use Rattle.fast_check_symbols.specs.declared.node.SymbolDep.{SymbolDep}
 use Rattle.fast_check_symbols.specs.declared.node.SymbolDep.TheVariants as deps
 use Rattle.fast_check_symbols.specs.declared.node.SymbolNodeDep.{SymbolNodeDep}
 use Rattle.fast_check_symbols.specs.Symbols.{symbol_of, has_id}
-use Rattle.fast_check_symbol_tables.specs.declared.tables.ReExportAllNode.{ReExportAllNode}
-use Rattle.fast_check_symbol_tables.specs.Tables.{Tables, resolved_export}
+use Rattle.fast_check_symbols.specs.declared.tables.ReExportAllNode.{ReExportAllNode}
+use Rattle.fast_check_symbols.specs.Tables.{Tables, resolved_export}
 use Rattle.fast_check_graph.specs.declared.root_symbol.ModuleInfo.{ModuleInfo}
 use Rattle.fast_check_graph.specs.Modules.{is_typed_module}
 use Rattle.fast_check_graph.specs.Graph.{is_specifier, text_resolved}
@@ -37,8 +37,8 @@ use Rattle.fast_check_demands.specs.Demands.{Demand as SymbolDemand, Asked, by_r
 use Rattle.fast_check_demands.specs.Decls.{binds, is_implementation}
 use Rattle.fast_check_demands.specs.Account.{root, step}
 use Rattle.fast_check_demands.specs.Rules.{each_of, names, reference, references, qualified}
-use Rattle.fast_check_files.specs.Files.{FileDemand, wants, path_demand, import_demand, dep_files, kind_files}
-use Rattle.fast_check_files.specs.Files.{decl_files, symbol_files, alias_files, asked_files, files}
+use Rattle.fast_check_name_demands.specs.Files.{FileDemand, wants, path_demand, import_demand, dep_files, kind_files}
+use Rattle.fast_check_name_demands.specs.Files.{decl_files, symbol_files, alias_files, asked_files, files}
 use Rattle.fast_check_turns.specs.traces.declared.modules.TracedModule.{TracedModule}
 use Rattle.fast_check_turns.specs.traces.Modules.{tables_in, own_export, led_to, answer_of, first_with, answer_to}
 use Rattle.fast_check_turns.specs.traces.Roots.{roots, is_exported_in, references_as, exported_as, export_whole, star_export, star_roots, path_roots}

@@ -8,7 +8,7 @@ use Rattle.url.specs.Parts.{Parts, serialize}
 use Rattle.fast_check_packages.specs.Package.{Nv}
 use Rattle.fast_check_cache.specs.Cache.{ItemView}
 use Rattle.fast_check_graph.specs.declared.graph.ModuleGraph.{ModuleGraph}
-use Rattle.fast_check_cached_packages.specs.CachedPackages.{usable, if_usable, at_key, used_item}
+use Rattle.fast_check_cache.specs.CachedPackages.{usable, if_usable, at_key, used_item}
 use Rattle.fast_check_turns.specs.Lent.{used_of}
 use Rattle.fast_check_turns.specs.steps.Sources.{Used}
 use Rattle.fast_check_finder.specs.Reach.{dependencies_in, dependencies_below, lent_dependencies}

@@ -4,8 +4,8 @@ use Rattle.url.specs.Parts.{Parts}
 use Rattle.fast_check_names.specs.declared.lattice.imported_exports.ImportedExports.{ImportedExports}
 use Rattle.fast_check_packages.specs.Package.{Nv}
 use Rattle.fast_check_packages.specs.declared.package.PackageNv.{PackageNv}
-use Rattle.fast_check_traced_modules.specs.declared.traced_modules.PendingTrace.{PendingTrace}
-use Rattle.fast_check_traced_modules.specs.Traces.{entry_of}
+use Rattle.fast_check_worklists.specs.declared.traced_modules.PendingTrace.{PendingTrace}
+use Rattle.fast_check_worklists.specs.Traces.{entry_of}
 use Rattle.fast_check_worklists.proofs.Asks.{map_last}
 use Rattle.fast_check_worklists.specs.State.{trace_of, State, IsFollowed}
 use Rattle.fast_check_worklists.specs.Turn.{waiting_trace, IsTurn}

@@ -14,7 +14,7 @@ use Rattle.fast_check_symbols.specs.declared.decl.SymbolDeclKind.{SymbolDeclKind
 use Rattle.fast_check_symbols.specs.declared.decl.SymbolDeclKind.TheVariants.{Target, QualifiedTarget, FileRef, Definition}
 use Rattle.fast_check_symbols.specs.declared.node.SymbolDep.{SymbolDep}
 use Rattle.fast_check_symbols.specs.declared.node.SymbolDep.TheVariants as deps
-use Rattle.fast_check_symbol_tables.specs.Tables.{Tables}
+use Rattle.fast_check_symbols.specs.Tables.{Tables}
 use Rattle.fast_check_turns.specs.traces.Modules.{tables_in}
 use Rattle.fast_check_worklists.specs.Demands.{Text}
 use Rattle.fast_check_worklists.specs.Measure.{Universe}

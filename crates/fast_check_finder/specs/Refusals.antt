@@ -2,8 +2,8 @@
 use Rattle.std.specs.Prelude.{◌≡◌, List, string_bytes}
 use Rattle.std.specs.List.{Contains}
 use Rattle.fast_check_packages.specs.Package.{Nv, nv_of}
-use Rattle.fast_check_provider.specs.declared.fault.BuildFault.{BuildFault}
-use Rattle.fast_check_provider.specs.declared.fault.BuildFault.TheVariants.{InvalidExport, OutOfMemory}
+use Rattle.fast_check_packages.specs.declared.fault.BuildFault.{BuildFault}
+use Rattle.fast_check_packages.specs.declared.fault.BuildFault.TheVariants.{InvalidExport, OutOfMemory}
 use Rattle.fast_check_worklists.specs.Demands.{of_package}
 use Rattle.fast_check_worklists.specs.Account.{Account, Chained}
 use Rattle.fast_check_turns.specs.entries.Entries.{Entrance, passed_over, refused, entered}

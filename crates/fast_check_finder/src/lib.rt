@@ -3,8 +3,7 @@
 
 mod search;
 
-pub use fast_check_packages::{PackageNv, WorkspaceMember};
-pub use fast_check_provider::BuildFault;
+pub use fast_check_packages::{BuildFault, PackageNv, WorkspaceMember};
 pub use fast_check_turns::{
     EnteredPackage, EntryFault, Finding, FollowedModule, FoundModule, KeptPackage, Sources,
     UntypedModule,

@@ -3,8 +3,8 @@
 ghost use Rattle.std.specs.Prelude.{◌≡◌, [], Some, map, OnOk, IfOk, IfErr};
 ghost use Rattle.std.specs.List.{flat_map};
 ghost use Rattle.fast_check_packages.specs.Package.{nv_of};
-ghost use Rattle.fast_check_cached_packages.specs.CachedPackages.{used_item};
-ghost use Rattle.fast_check_traced_modules.specs.Traces.{pending};
+ghost use Rattle.fast_check_cache.specs.CachedPackages.{used_item};
+ghost use Rattle.fast_check_worklists.specs.Traces.{pending};
 ghost use Rattle.fast_check_worklists.specs.Account.{Account, IsAccount, IsYield};
 ghost use Rattle.fast_check_worklists.specs.State.{state_of};
 ghost use Rattle.fast_check_worklists.specs.Turn.{IsTurn};
@@ -16,8 +16,7 @@ ghost use Rattle.fast_check_turns.specs.Yields.{gives};
 ghost use Rattle.fast_check_finder.specs.Refusals.{IsRefusal, IsRefusedOf, JoinAll};
 
 use fast_check_cache::FastCheckCache;
-use fast_check_packages::PackageNv;
-use fast_check_provider::{BuildFault, JsrUrlProvider};
+use fast_check_packages::{BuildFault, JsrUrlProvider, PackageNv};
 use fast_check_turns::{Finding, Sources, enter, follow};
 use fast_check_worklists::{Asked, begin, copy_of};
 use std::alloc::{AllocError, Global};

@@ -2,8 +2,7 @@
 
 use anyhow::Result;
 use fast_check_modules::TableFault;
-use fast_check_packages::PackageNv;
-use fast_check_provider::BuildFault;
+use fast_check_packages::{BuildFault, PackageNv};
 use fast_check_read::InputFault;
 use semver::Version;
 use std::alloc::Global;

@@ -2,8 +2,8 @@
 //! module. Each is compared with the first, and with a copy of itself.
 
 use anyhow::Result;
+use fast_check_cases::Said;
 use fast_check_diagnostics::FastCheckDiagnosticRange;
-use fast_check_said::Said;
 use fast_check_syntax::{SourcePos, SourceRange};
 use std::alloc::Global;
 use std::fs;

@@ -1,7 +1,7 @@
 //! What is told of a diagnostic.
 
+use fast_check_cases::Said;
 use fast_check_diagnostics::{Diagnostic, DiagnosticLocation, FastCheckDiagnostic};
-use fast_check_said::Said;
 use std::alloc::Global;
 
 fn tell_location(alloc: Global, told: &dyn Diagnostic, said: &mut Said) {

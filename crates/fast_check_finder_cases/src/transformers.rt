@@ -3,8 +3,8 @@
 mod calls;
 
 use crate::transformers::calls::tell_calls;
+use fast_check_cases::Said;
 use fast_check_requests::{Refusal, read_request};
-use fast_check_said::Said;
 use std::alloc::Global;
 use std::{fs, io};
 

@@ -2,9 +2,9 @@
 
 use crate::told::tell_diagnostic;
 use anyhow::Result;
-use fast_check_answers::write_diagnostics;
+use fast_check_cases::Said;
 use fast_check_diagnostics::FastCheckDiagnostic;
-use fast_check_said::Said;
+use fast_check_print::write_diagnostics;
 use json::Writer;
 use std::alloc::{AllocError, Global};
 use std::array;

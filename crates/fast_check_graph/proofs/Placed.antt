@@ -10,8 +10,8 @@ use Rattle.std.proofs.lemmas.Bool.{cases_Bool}
 use Rattle.std.proofs.lemmas.Map.Keys.{IsDistinct-from_sorted}
 use Rattle.std.proofs.lemmas.Map.Views.{lookup-from_Contains}
 use Rattle.url.specs.Parts.{Parts, serialize}
-use Rattle.fast_check_modules.proofs.symbol_table_proofs.Alike.{lookup_alike}
-use Rattle.fast_check_modules.proofs.symbol_table_proofs.Witness.{witness, none_of}
+use Rattle.fast_check_modules.proofs.symbol_proofs.Alike.{lookup_alike}
+use Rattle.fast_check_modules.proofs.symbol_proofs.Witness.{witness, none_of}
 use Rattle.fast_check_graph.specs.declared.root_symbol.ModuleInfo.{ModuleInfo}
 use Rattle.fast_check_graph.specs.declared.root_symbol.RootSymbol.{RootSymbol}
 use Rattle.fast_check_graph.specs.Graph.{is_specifier}

@@ -7,7 +7,7 @@ use Rattle.std.specs.Ordering.{nat_cmp, is_eq}
 use Rattle.std.specs.Cmp.Lexicographic.{slice_cmp, texts_ties}
 use Rattle.std.specs.declared.alloc.Global.{Global}
 use Rattle.url.specs.Parts.{Parts, serialize}
-use Rattle.fast_check_modules.proofs.symbol_table_proofs.Alike.{lookup_alike}
+use Rattle.fast_check_modules.proofs.symbol_proofs.Alike.{lookup_alike}
 use Rattle.fast_check_graph.specs.Graph.{is_specifier}
 
 pub at_specifier : {X : Type 0} (u : Parts) (es : List (Parts × X))

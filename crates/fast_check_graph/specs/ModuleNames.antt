@@ -5,9 +5,9 @@ use Rattle.std.specs.Map.{lookup}
 use Rattle.std.specs.Option.{option_and_then, option_or}
 use Rattle.std.specs.BTreeMap.{BTreeMap}
 use Rattle.url.specs.Parts.{Parts}
-use Rattle.fast_check_modules.specs.symbol_tables.declared.fault.TableFault.{TableFault}
-use Rattle.fast_check_modules.specs.symbol_tables.declared.fault.TableFault.TheVariants.{MissingSymbol, SymbolWithoutDecl, ModuleNotUnderOwnName}
-use Rattle.fast_check_modules.specs.symbol_tables.declared.fault.TableFault.TheVariants.{ExpandoWithoutSymbol, OutOfMemory}
+use Rattle.fast_check_modules.specs.symbols.declared.fault.TableFault.{TableFault}
+use Rattle.fast_check_modules.specs.symbols.declared.fault.TableFault.TheVariants.{MissingSymbol, SymbolWithoutDecl, ModuleNotUnderOwnName}
+use Rattle.fast_check_modules.specs.symbols.declared.fault.TableFault.TheVariants.{ExpandoWithoutSymbol, OutOfMemory}
 use Rattle.fast_check_graph.specs.declared.root_symbol.ModuleInfo.{ModuleInfo}
 use Rattle.fast_check_graph.specs.declared.root_symbol.ModuleInfo.TheVariants.{Esm, Json}
 use Rattle.fast_check_graph.specs.Graph.{is_specifier}

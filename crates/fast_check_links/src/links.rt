@@ -2,24 +2,27 @@
 ghost use Rattle.std.specs.Prelude.{◌≡◌, IfOk};
 ghost use Rattle.fast_check_syntax.specs.Part.{seen};
 ghost use Rattle.fast_check_signatures.specs.Answers.{faultless};
-ghost use Rattle.fast_check_asked.specs.skeleton.Links.{answered_source, public_specifiers};
-ghost use Rattle.fast_check_asked.specs.skeleton.declared.rules.LinkRule.TheVariants as links;
-ghost use Rattle.fast_check_asked.specs.Asked.{Asked-around};
-ghost use Rattle.fast_check_asked.specs.Kept.{as_list};
+ghost use Rattle.fast_check_surroundings.specs.skeleton.Links.{answered_source, public_specifiers};
+ghost use Rattle.fast_check_surroundings.specs.skeleton.declared.rules.LinkRule.TheVariants as links;
+ghost use Rattle.fast_check_surroundings.specs.Surroundings.{seen_around};
+ghost use Rattle.fast_check_surroundings.specs.Kept.{as_list};
 ghost use Rattle.fast_check_links.specs.Links.{link_answer};
 
-use fast_check_asked::Asked;
-use fast_check_asked::skeleton::LinkRule;
 use fast_check_program_forms::{ExportAll, ImportDecl, NamedExport, Str, TsImportEqualsDecl};
 use fast_check_ranges::range_of_node;
-use fast_check_sources::relative_source;
+use fast_check_surroundings::skeleton::LinkRule;
+use fast_check_surroundings::{Surroundings, relative_source};
 use fast_check_syntax::{Atom, Items, Part, Tree};
 use std::alloc::{AllocError, Global};
 
 /// The source of an import or an export: by the text that stands for it, if there is another one. An export of own names
 /// has none.
-fn answered_source(alloc: Global, asked: Asked<'_>, src: Part<'_>) -> Result<Tree, AllocError>
-    ensures { IfOk result (λ tree. tree ≡ answered_source (Asked-around asked.entry) (seen src.entry)) }
+fn answered_source(
+    alloc: Global,
+    asked: Surroundings<'_>,
+    src: Part<'_>,
+) -> Result<Tree, AllocError>
+    ensures { IfOk result (λ tree. tree ≡ answered_source (seen_around asked.entry) (seen src.entry)) }
 {
     if src.is_absent() {
         return src.to_tree(alloc);
@@ -41,11 +44,11 @@ fn answered_source(alloc: Global, asked: Asked<'_>, src: Part<'_>) -> Result<Tre
 /// The source as it is answered, and the attributes as they are.
 fn source_and_attributes(
     alloc: Global,
-    asked: Asked<'_>,
+    asked: Surroundings<'_>,
     src: Part<'_>,
     with: Part<'_>,
 ) -> Result<(Tree, Tree), AllocError>
-    ensures { IfOk result (λ made. (made.0 ≡ answered_source (Asked-around asked.entry) (seen src.entry)) × (made.1 ≡ seen with.entry)) }
+    ensures { IfOk result (λ made. (made.0 ≡ answered_source (seen_around asked.entry) (seen src.entry)) × (made.1 ≡ seen with.entry)) }
 {
     let src = answered_source(alloc, asked, src)?;
     let with = with.to_tree(alloc)?;
@@ -55,10 +58,10 @@ fn source_and_attributes(
 /// The specifiers of an import or an export that are public, each by its own range.
 fn public_specifiers(
     alloc: Global,
-    asked: Asked<'_>,
+    asked: Surroundings<'_>,
     specifiers: Part<'_>,
 ) -> Result<Items<Tree>, AllocError>
-    ensures { IfOk result (λ items. items ≡ public_specifiers (Asked-around asked.entry) (seen specifiers.entry)) }
+    ensures { IfOk result (λ items. items ≡ public_specifiers (seen_around asked.entry) (seen specifiers.entry)) }
 {
     let mut items = Items::new(alloc);
     for specifier in specifiers.parts() {
@@ -72,8 +75,12 @@ fn public_specifiers(
 }
 
 /// An import with its public specifiers; none where it has none.
-fn keep_import(alloc: Global, asked: Asked<'_>, item: Part<'_>) -> Result<Option<Tree>, AllocError>
-    ensures { IfOk result (λ tree. link_answer (Asked-around asked.entry) (seen item.entry) links.Import ≡ faultless (as_list tree)) }
+fn keep_import(
+    alloc: Global,
+    asked: Surroundings<'_>,
+    item: Part<'_>,
+) -> Result<Option<Tree>, AllocError>
+    ensures { IfOk result (λ tree. link_answer (seen_around asked.entry) (seen item.entry) links.Import ≡ faultless (as_list tree)) }
 {
     let ImportDecl {
         span,
@@ -101,8 +108,12 @@ fn keep_import(alloc: Global, asked: Asked<'_>, item: Part<'_>) -> Result<Option
 }
 
 /// An export of names with its public specifiers; none where it has none.
-fn keep_export(alloc: Global, asked: Asked<'_>, item: Part<'_>) -> Result<Option<Tree>, AllocError>
-    ensures { IfOk result (λ tree. link_answer (Asked-around asked.entry) (seen item.entry) links.Export ≡ faultless (as_list tree)) }
+fn keep_export(
+    alloc: Global,
+    asked: Surroundings<'_>,
+    item: Part<'_>,
+) -> Result<Option<Tree>, AllocError>
+    ensures { IfOk result (λ tree. link_answer (seen_around asked.entry) (seen item.entry) links.Export ≡ faultless (as_list tree)) }
 {
     let NamedExport {
         span,
@@ -127,8 +138,12 @@ fn keep_export(alloc: Global, asked: Asked<'_>, item: Part<'_>) -> Result<Option
 }
 
 /// `export * from source`; none where it is not public.
-fn keep_all(alloc: Global, asked: Asked<'_>, item: Part<'_>) -> Result<Option<Tree>, AllocError>
-    ensures { IfOk result (λ tree. link_answer (Asked-around asked.entry) (seen item.entry) links.All ≡ faultless (as_list tree)) }
+fn keep_all(
+    alloc: Global,
+    asked: Surroundings<'_>,
+    item: Part<'_>,
+) -> Result<Option<Tree>, AllocError>
+    ensures { IfOk result (λ tree. link_answer (seen_around asked.entry) (seen item.entry) links.All ≡ faultless (as_list tree)) }
 {
     let ExportAll {
         span,
@@ -150,8 +165,12 @@ fn keep_all(alloc: Global, asked: Asked<'_>, item: Part<'_>) -> Result<Option<Tr
 }
 
 /// `import A = B.C` as it is written; none where it is not public.
-fn keep_alias(alloc: Global, asked: Asked<'_>, item: Part<'_>) -> Result<Option<Tree>, AllocError>
-    ensures { IfOk result (λ tree. link_answer (Asked-around asked.entry) (seen item.entry) links.Alias ≡ faultless (as_list tree)) }
+fn keep_alias(
+    alloc: Global,
+    asked: Surroundings<'_>,
+    item: Part<'_>,
+) -> Result<Option<Tree>, AllocError>
+    ensures { IfOk result (λ tree. link_answer (seen_around asked.entry) (seen item.entry) links.Alias ≡ faultless (as_list tree)) }
 {
     if !asked
         .public_ranges
@@ -165,11 +184,11 @@ fn keep_alias(alloc: Global, asked: Asked<'_>, item: Part<'_>) -> Result<Option<
 /// What is public of an import or an export with which this is done; none where nothing is. Nothing can be wrong with it.
 pub fn keep_link(
     alloc: Global,
-    asked: Asked<'_>,
+    asked: Surroundings<'_>,
     item: Part<'_>,
     rule: LinkRule,
 ) -> Result<Option<Tree>, AllocError>
-    ensures { IfOk result (λ tree. link_answer (Asked-around asked.entry) (seen item.entry) rule ≡ faultless (as_list tree)) }
+    ensures { IfOk result (λ tree. link_answer (seen_around asked.entry) (seen item.entry) rule ≡ faultless (as_list tree)) }
 {
     match rule {
         LinkRule::Import => keep_import(alloc, asked, item),

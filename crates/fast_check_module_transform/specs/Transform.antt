@@ -3,13 +3,13 @@ use Rattle.std.specs.Prelude.{List}
 use Rattle.fast_check_syntax.specs.declared.tree.Tree.{Tree}
 use Rattle.fast_check_graph.specs.declared.graph.ModuleGraph.{ModuleGraph}
 use Rattle.fast_check_modules.specs.EsModule.{EsModule}
-use Rattle.fast_check_declarations.specs.asked.Asked.{surroundings_of}
+use Rattle.fast_check_declarations.specs.surroundings.Surroundings.{surroundings_of}
 use Rattle.fast_check_links.specs.StaticSources.{static_sources}
 use Rattle.fast_check_modules.specs.diagnostics.PublicRanges.{PublicRanges}
 use Rattle.fast_check_parsed_source.specs.declared.tables.fast_check_module.StaticSource.{StaticSource}
 use Rattle.fast_check_signatures.specs.declared.fault.Fault.{Fault}
-use Rattle.fast_check_declarations.specs.asked.skeleton.Skeleton.{skeleton_of, faults_of}
-use Rattle.fast_check_declarations.specs.asked.skeleton.KeptComments.{kept_comments}
+use Rattle.fast_check_declarations.specs.surroundings.skeleton.Skeleton.{skeleton_of, faults_of}
+use Rattle.fast_check_declarations.specs.surroundings.skeleton.KeptComments.{kept_comments}
 use Rattle.fast_check_comments.specs.declared.comments.Comments.{Comments}
 
 -- the skeleton of a module

@@ -3,18 +3,18 @@ ghost use Rattle.std.specs.Prelude.{◌≡◌, ◌++◌, false, flat_map, IfOk};
 ghost use Rattle.fast_check_syntax.specs.Part.{seen};
 ghost use Rattle.fast_check_syntax.specs.Shape.{parts};
 ghost use Rattle.fast_check_signatures.specs.Answers.{Adds};
-ghost use Rattle.fast_check_declarations.specs.asked.skeleton.KeptComments.{removed_from, start_look, starts_in_body, starts_in_namespace, starts_below, without_all_leading};
-ghost use Rattle.fast_check_declarations.specs.asked.skeleton.Rules.{is_assigned, item_rule};
-ghost use Rattle.fast_check_declarations.specs.asked.skeleton.Visible.{item_properties};
-ghost use Rattle.fast_check_declarations.specs.asked.Asked.{Asked-around};
-ghost use Rattle.fast_check_declarations.specs.asked.Kept.{as_list};
+ghost use Rattle.fast_check_declarations.specs.surroundings.skeleton.KeptComments.{removed_from, start_look, starts_in_body, starts_in_namespace, starts_below, without_all_leading};
+ghost use Rattle.fast_check_declarations.specs.surroundings.skeleton.Rules.{is_assigned, item_rule};
+ghost use Rattle.fast_check_declarations.specs.surroundings.skeleton.Visible.{item_properties};
+ghost use Rattle.fast_check_declarations.specs.surroundings.Surroundings.{seen_around};
+ghost use Rattle.fast_check_declarations.specs.surroundings.Kept.{as_list};
 ghost use Rattle.fast_check_module_transform.specs.PartAnswers.{namespace_answer, decl_answer, export_answer, starts_in_export, refused_answer, item_answer};
 ghost use Rattle.fast_check_module_transform.specs.PartAnswers.{each_answer, items_answer};
 
 use fast_check_comments::CommentsMut;
-use fast_check_declarations::asked::Asked;
-use fast_check_declarations::asked::skeleton::expandos::{ExpandoProperty, keep_namespaces};
-use fast_check_declarations::asked::skeleton::{DeclRule, ItemRule, item_rule};
+use fast_check_declarations::surroundings::Surroundings;
+use fast_check_declarations::surroundings::skeleton::expandos::{ExpandoProperty, keep_namespaces};
+use fast_check_declarations::surroundings::skeleton::{DeclRule, ItemRule, item_rule};
 use fast_check_declarations::{keep_default, keep_public_class, remove_inside};
 use fast_check_links::keep_link;
 use fast_check_program_forms::ExportDecl;
@@ -33,14 +33,14 @@ use std::alloc::{AllocError, Global};
 #[cycle(items)]
 pub fn keep_items(
     alloc: Global,
-    asked: Asked<'_>,
+    asked: Surroundings<'_>,
     body: Part<'_>,
     comments: &mut CommentsMut,
     faults: &mut Vec<Fault>,
 ) -> Result<Items<Tree>, AllocError>
-    ensures answer { IfOk result (λ items. Adds (items_answer (Asked-around asked.entry) (parts (seen body.entry))) items faults.old.items faults.new.items) }
+    ensures answer { IfOk result (λ items. Adds (items_answer (seen_around asked.entry) (parts (seen body.entry))) items faults.old.items faults.new.items) }
     ensures comments { IfOk result (λ _.
-        comments.new ≡ without_all_leading (removed_from (Asked-around asked.entry) (parts (seen body.entry))) comments.old) }
+        comments.new ≡ without_all_leading (removed_from (seen_around asked.entry) (parts (seen body.entry))) comments.old) }
 {
     let mut properties = Vec::new(alloc);
     let mut items = keep_each(alloc, asked, body, comments, &mut properties, faults)?;
@@ -52,17 +52,17 @@ pub fn keep_items(
 #[cycle(items)]
 fn keep_each(
     alloc: Global,
-    asked: Asked<'_>,
+    asked: Surroundings<'_>,
     body: Part<'_>,
     comments: &mut CommentsMut,
     properties: &mut Vec<ExpandoProperty>,
     faults: &mut Vec<Fault>,
 ) -> Result<Items<Tree>, AllocError>
-    ensures answer { IfOk result (λ items. Adds (each_answer (Asked-around asked.entry) (parts (seen body.entry))) items faults.old.items faults.new.items) }
+    ensures answer { IfOk result (λ items. Adds (each_answer (seen_around asked.entry) (parts (seen body.entry))) items faults.old.items faults.new.items) }
     ensures properties { IfOk result (λ _.
-        properties.new.items ≡ properties.old.items ++ flat_map (item_properties (Asked-around asked.entry)) (parts (seen body.entry))) }
+        properties.new.items ≡ properties.old.items ++ flat_map (item_properties (seen_around asked.entry)) (parts (seen body.entry))) }
     ensures comments { IfOk result (λ _.
-        comments.new ≡ without_all_leading (removed_from (Asked-around asked.entry) (parts (seen body.entry))) comments.old) }
+        comments.new ≡ without_all_leading (removed_from (seen_around asked.entry) (parts (seen body.entry))) comments.old) }
 {
     let mut items = Items::new(alloc);
     for item in body.parts() {
@@ -92,16 +92,16 @@ fn keep_each(
 #[cycle(items)]
 fn keep_namespace(
     alloc: Global,
-    asked: Asked<'_>,
+    asked: Surroundings<'_>,
     place: SourceRange,
     decl: Part<'_>,
     comments: &mut CommentsMut,
     faults: &mut Vec<Fault>,
 ) -> Result<Option<Tree>, AllocError>
     ensures answer { IfOk result (λ tree.
-        Adds (namespace_answer (Asked-around asked.entry) place (seen decl.entry)) (as_list tree) faults.old.items faults.new.items) }
+        Adds (namespace_answer (seen_around asked.entry) place (seen decl.entry)) (as_list tree) faults.old.items faults.new.items) }
     ensures comments { IfOk result (λ _.
-        comments.new ≡ without_all_leading (starts_in_namespace start_look (Asked-around asked.entry) place (seen decl.entry)) comments.old) }
+        comments.new ≡ without_all_leading (starts_in_namespace start_look (seen_around asked.entry) place (seen decl.entry)) comments.old) }
 {
     if let Some(fault) = module_fault(decl) {
         faults.push(fault)?;
@@ -125,7 +125,7 @@ fn keep_namespace(
 #[cycle(items)]
 fn keep_decl(
     alloc: Global,
-    asked: Asked<'_>,
+    asked: Surroundings<'_>,
     place: SourceRange,
     decl: Part<'_>,
     rule: DeclRule,
@@ -133,9 +133,9 @@ fn keep_decl(
     faults: &mut Vec<Fault>,
 ) -> Result<Option<Tree>, AllocError>
     ensures answer { IfOk result (λ tree.
-        Adds (decl_answer (Asked-around asked.entry) place (seen decl.entry) rule) (as_list tree) faults.old.items faults.new.items) }
+        Adds (decl_answer (seen_around asked.entry) place (seen decl.entry) rule) (as_list tree) faults.old.items faults.new.items) }
     ensures comments { IfOk result (λ _.
-        comments.new ≡ without_all_leading (starts_in_body start_look (Asked-around asked.entry) place (seen decl.entry) rule) comments.old) }
+        comments.new ≡ without_all_leading (starts_in_body start_look (seen_around asked.entry) place (seen decl.entry) rule) comments.old) }
 {
     match rule {
         DeclRule::Variables => keep_statement(alloc, asked, decl, faults),
@@ -152,16 +152,16 @@ fn keep_decl(
 #[cycle(items)]
 fn keep_export(
     alloc: Global,
-    asked: Asked<'_>,
+    asked: Surroundings<'_>,
     item: Part<'_>,
     rule: DeclRule,
     comments: &mut CommentsMut,
     faults: &mut Vec<Fault>,
 ) -> Result<Option<Tree>, AllocError>
     ensures answer { IfOk result (λ tree.
-        Adds (export_answer (Asked-around asked.entry) (seen item.entry) rule) (as_list tree) faults.old.items faults.new.items) }
+        Adds (export_answer (seen_around asked.entry) (seen item.entry) rule) (as_list tree) faults.old.items faults.new.items) }
     ensures comments { IfOk result (λ _.
-        comments.new ≡ without_all_leading (starts_in_export (Asked-around asked.entry) (seen item.entry) rule) comments.old) }
+        comments.new ≡ without_all_leading (starts_in_export (seen_around asked.entry) (seen item.entry) rule) comments.old) }
 {
     let ExportDecl { span, decl } = ExportDecl::of(item);
     match keep_decl(alloc, asked, span, decl, rule, comments, faults)? {
@@ -195,15 +195,15 @@ fn is_assigned(item: Part<'_>) -> bool
 #[cycle(items)]
 fn keep_item(
     alloc: Global,
-    asked: Asked<'_>,
+    asked: Surroundings<'_>,
     item: Part<'_>,
     comments: &mut CommentsMut,
     faults: &mut Vec<Fault>,
 ) -> Result<Option<Tree>, AllocError>
     requires no_assignment { is_assigned (item_rule (seen item)) ≡ false }
-    ensures answer { IfOk result (λ tree. Adds (item_answer (Asked-around asked.entry) (seen item.entry)) (as_list tree) faults.old.items faults.new.items) }
+    ensures answer { IfOk result (λ tree. Adds (item_answer (seen_around asked.entry) (seen item.entry)) (as_list tree) faults.old.items faults.new.items) }
     ensures comments { IfOk result (λ _.
-        comments.new ≡ without_all_leading (starts_below start_look (Asked-around asked.entry) (seen item.entry) (item_rule (seen item.entry))) comments.old) }
+        comments.new ≡ without_all_leading (starts_below start_look (seen_around asked.entry) (seen item.entry) (item_rule (seen item.entry))) comments.old) }
 {
     match item_rule(item) {
         ItemRule::Declared(rule) => keep_decl(

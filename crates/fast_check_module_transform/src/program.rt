@@ -2,14 +2,14 @@
 ghost use Rattle.std.specs.Prelude.{◌≡◌, IfOk};
 ghost use Rattle.fast_check_syntax.specs.Part.{seen};
 ghost use Rattle.fast_check_signatures.specs.Answers.{Adds};
-ghost use Rattle.fast_check_declarations.specs.asked.skeleton.KeptComments.{removed_starts, without_all_leading};
-ghost use Rattle.fast_check_declarations.specs.asked.Asked.{Asked-around};
+ghost use Rattle.fast_check_declarations.specs.surroundings.skeleton.KeptComments.{removed_starts, without_all_leading};
+ghost use Rattle.fast_check_declarations.specs.surroundings.Surroundings.{seen_around};
 ghost use Rattle.fast_check_module_transform.specs.PartAnswers.{program_answer};
 ghost use Rattle.fast_check_module_transform.specs.Transform.{skeleton, comments, faults};
 
 use crate::items::keep_items;
 use fast_check_comments::{Comments, CommentsMut};
-use fast_check_declarations::asked::Asked;
+use fast_check_declarations::surroundings::Surroundings;
 use fast_check_graph::ModuleGraph;
 use fast_check_modules::EsModuleInfo;
 use fast_check_modules::diagnostics::ModulePublicRanges;
@@ -38,7 +38,7 @@ pub fn keep_module(
     ensures comments { IfOk result (λ kept. kept.comments ≡ comments graph.now es_module_info.now public_ranges.now) }
     ensures faults { IfOk result (λ kept. kept.faults.items ≡ faults graph.now es_module_info.now public_ranges.now) }
 {
-    let asked = Asked::of(graph, es_module_info, public_ranges);
+    let asked = Surroundings::of(graph, es_module_info, public_ranges);
     let source = es_module_info.source();
     let mut comments = CommentsMut::new(source.comments.clone()?);
     let mut faults = Vec::new(alloc);
@@ -59,13 +59,13 @@ pub fn keep_module(
 /// A module with what is public of its items. The comments before the others go.
 fn keep_program(
     alloc: Global,
-    asked: Asked<'_>,
+    asked: Surroundings<'_>,
     program: Part<'_>,
     comments: &mut CommentsMut,
     faults: &mut Vec<Fault>,
 ) -> Result<Tree, AllocError>
-    ensures answer { IfOk result (λ tree. Adds (program_answer (Asked-around asked.entry) (seen program.entry)) tree faults.old.items faults.new.items) }
-    ensures comments { IfOk result (λ _. comments.new ≡ without_all_leading (removed_starts (Asked-around asked.entry) (seen program.entry)) comments.old) }
+    ensures answer { IfOk result (λ tree. Adds (program_answer (seen_around asked.entry) (seen program.entry)) tree faults.old.items faults.new.items) }
+    ensures comments { IfOk result (λ _. comments.new ≡ without_all_leading (removed_starts (seen_around asked.entry) (seen program.entry)) comments.old) }
 {
     let Module {
         span,

@@ -12,17 +12,17 @@ use Rattle.fast_check_symbols.specs.declared.symbol.Symbol.{Symbol}
 use Rattle.fast_check_symbols.specs.Entries.{last_value}
 use Rattle.fast_check_symbols.specs.Symbols.{symbol_of}
 use Rattle.fast_check_diagnostics.specs.PublicRanges.{PublicRanges, same_range}
-use Rattle.fast_check_symbol_tables.specs.declared.tables.ModuleTables.{ModuleTables}
-use Rattle.fast_check_symbol_tables.specs.declared.tables.ReExportAllNode.{ReExportAllNode}
+use Rattle.fast_check_symbols.specs.declared.tables.ModuleTables.{ModuleTables}
+use Rattle.fast_check_symbols.specs.declared.tables.ReExportAllNode.{ReExportAllNode}
 use Rattle.fast_check_modules.specs.Expandos.{expandos}
-use Rattle.fast_check_symbol_tables.specs.Tables.{Tables, same_id, symbol_of_swc, table_ranges}
-use Rattle.fast_check_symbol_tables.specs.WellFormed.{AreMadeOf, AreWellFormed, bound_symbol}
+use Rattle.fast_check_symbols.specs.Tables.{Tables, same_id, symbol_of_swc, table_ranges}
+use Rattle.fast_check_symbols.specs.WellFormed.{AreMadeOf, AreWellFormed, bound_symbol}
 use Rattle.fast_check_modules.specs.FitProgram.{HasUnboundExpando, IsModuleFault}
-use Rattle.fast_check_symbol_tables.specs.declared.fault.TableFault.{TableFault}
-use Rattle.fast_check_symbol_tables.specs.declared.fault.TableFault.TheVariants.{MissingSymbol, SymbolWithoutDecl, ModuleNotUnderOwnName}
-use Rattle.fast_check_symbol_tables.specs.declared.fault.TableFault.TheVariants.{ExpandoWithoutSymbol, OutOfMemory}
+use Rattle.fast_check_symbols.specs.declared.fault.TableFault.{TableFault}
+use Rattle.fast_check_symbols.specs.declared.fault.TableFault.TheVariants.{MissingSymbol, SymbolWithoutDecl, ModuleNotUnderOwnName}
+use Rattle.fast_check_symbols.specs.declared.fault.TableFault.TheVariants.{ExpandoWithoutSymbol, OutOfMemory}
 use Rattle.fast_check_modules.specs.EsModule.{EsModule, Admits, BindsOwnRanges, AreOwnRanges, IsUnboundFault, is_ranged_unbound, is_public_unbound}
-use Rattle.fast_check_symbol_tables.proofs.Witness.{witness, none_of, is_none_of, none_is, and_left, and_right, and_both}
+use Rattle.fast_check_symbols.proofs.Witness.{witness, none_of, is_none_of, none_is, and_left, and_right, and_both}
 
 -- ranges that are the same are one
 range_of : ℕ → ℕ → SourceRange

@@ -1,3 +1,3 @@
-pub use Rattle.fast_check_symbol_tables.proofs as symbol_table_proofs
+pub use Rattle.fast_check_symbols.proofs as symbol_proofs
 pub mod ExpandosOut
 pub mod FaultsFound

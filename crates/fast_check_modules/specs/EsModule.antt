@@ -7,11 +7,11 @@ use Rattle.fast_check_syntax.specs.declared.tree.Tree.{Tree}
 use Rattle.fast_check_parsed_source.specs.declared.tables.parsed_source.ParsedSource.{ParsedSource}
 use Rattle.fast_check_diagnostics.specs.PublicRanges.{PublicRanges, is_public, same_range}
 use Rattle.fast_check_modules.specs.declared.expandos.Expando.{Expando}
-use Rattle.fast_check_symbol_tables.specs.declared.fault.TableFault.{TableFault}
-use Rattle.fast_check_symbol_tables.specs.declared.fault.TableFault.TheVariants.{MissingSymbol, SymbolWithoutDecl, ModuleNotUnderOwnName}
-use Rattle.fast_check_symbol_tables.specs.declared.fault.TableFault.TheVariants.{ExpandoWithoutSymbol, OutOfMemory}
+use Rattle.fast_check_symbols.specs.declared.fault.TableFault.{TableFault}
+use Rattle.fast_check_symbols.specs.declared.fault.TableFault.TheVariants.{MissingSymbol, SymbolWithoutDecl, ModuleNotUnderOwnName}
+use Rattle.fast_check_symbols.specs.declared.fault.TableFault.TheVariants.{ExpandoWithoutSymbol, OutOfMemory}
 use Rattle.fast_check_modules.specs.Expandos.{expandos}
-use Rattle.fast_check_symbol_tables.specs.Tables.{Tables, symbol_of_swc, table_ranges}
+use Rattle.fast_check_symbols.specs.Tables.{Tables, symbol_of_swc, table_ranges}
 
 -- of an ECMAScript module, its name, its source and its tables
 pub record EsModule : Type 0 where

@@ -2,12 +2,12 @@
 use Rattle.std.specs.Prelude.{◌≡◌, None}
 use Rattle.std.specs.List.{Contains}
 use Rattle.fast_check_syntax.specs.declared.tree.Tree.{Tree}
-use Rattle.fast_check_symbol_tables.specs.declared.fault.TableFault.{TableFault}
-use Rattle.fast_check_symbol_tables.specs.declared.fault.TableFault.TheVariants.{MissingSymbol, SymbolWithoutDecl, ModuleNotUnderOwnName}
-use Rattle.fast_check_symbol_tables.specs.declared.fault.TableFault.TheVariants.{ExpandoWithoutSymbol, OutOfMemory}
-use Rattle.fast_check_symbol_tables.specs.declared.tables.ModuleTables.{ModuleTables}
-use Rattle.fast_check_symbol_tables.specs.Tables.{table_ranges}
-use Rattle.fast_check_symbol_tables.specs.WellFormed.{AreWellFormed, LacksDeclaration, MissesSymbol, bound_symbol}
+use Rattle.fast_check_symbols.specs.declared.fault.TableFault.{TableFault}
+use Rattle.fast_check_symbols.specs.declared.fault.TableFault.TheVariants.{MissingSymbol, SymbolWithoutDecl, ModuleNotUnderOwnName}
+use Rattle.fast_check_symbols.specs.declared.fault.TableFault.TheVariants.{ExpandoWithoutSymbol, OutOfMemory}
+use Rattle.fast_check_symbols.specs.declared.tables.ModuleTables.{ModuleTables}
+use Rattle.fast_check_symbols.specs.Tables.{table_ranges}
+use Rattle.fast_check_symbols.specs.WellFormed.{AreWellFormed, LacksDeclaration, MissesSymbol, bound_symbol}
 use Rattle.fast_check_modules.specs.declared.expandos.Expando.{Expando}
 use Rattle.fast_check_modules.specs.Expandos.{expandos}
 

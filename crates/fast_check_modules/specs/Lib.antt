@@ -1,6 +1,5 @@
 pub use Rattle.fast_check_parsed_source.specs.MediaType
 pub use Rattle.fast_check_symbols.specs as symbols
-pub use Rattle.fast_check_symbol_tables.specs as symbol_tables
 pub use Rattle.fast_check_diagnostics.specs as diagnostics
 pub mod Expandos
 pub mod FitProgram

@@ -2,15 +2,16 @@
 ghost use Rattle.std.specs.Prelude.{◌≡◌, IfOk, IfErr, OnOk, IsTrue, ◌↔◌};
 ghost use Rattle.std.specs.Option.{option_copied};
 ghost use Rattle.fast_check_modules.specs.EsModule.{AreRead};
-ghost use Rattle.fast_check_symbol_tables.specs.WellFormed.{AreMadeOf};
+ghost use Rattle.fast_check_symbols.specs.WellFormed.{AreMadeOf};
 ghost use Rattle.fast_check_modules.specs.FitProgram.{FitProgram, IsModuleFault};
 
 use crate::expandos::Expando;
 use crate::unbound::{any_public_unbound, bound_expandos};
 use fast_check_diagnostics::ModulePublicRanges;
 use fast_check_parsed_source::ParsedSource;
-use fast_check_symbol_tables::{CheckedTables, ModuleTables, ReExportAllNode, TableFault};
-use fast_check_symbols::{Symbol, SymbolId};
+use fast_check_symbols::{
+    CheckedTables, ModuleTables, ReExportAllNode, Symbol, SymbolId, TableFault,
+};
 use fast_check_syntax::{Id, Tree};
 use std::alloc::Global;
 use std::collections::BTreeMap;
@@ -42,8 +43,8 @@ impl Model for EsModuleInfo {
 }
 
 impl EsModuleInfo {
-    ghost use Rattle.fast_check_symbol_tables.specs.Tables.{symbol_of_swc, resolved_export, answered_names};
-    ghost use Rattle.fast_check_symbol_tables.specs.WellFormed.{AreMadeOf};
+    ghost use Rattle.fast_check_symbols.specs.Tables.{symbol_of_swc, resolved_export, answered_names};
+    ghost use Rattle.fast_check_symbols.specs.WellFormed.{AreMadeOf};
     ghost use Rattle.fast_check_modules.specs.FitProgram.{FitProgram, IsModuleFault};
     ghost use Rattle.fast_check_modules.specs.EsModule.{Admits, AreOwnRanges};
     ghost use Rattle.fast_check_symbols.specs.Symbols.{symbol_of, place_of};

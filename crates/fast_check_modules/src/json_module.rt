@@ -2,8 +2,9 @@
 ghost use Rattle.std.specs.Prelude.{◌≡◌, IfOk, IfErr, OnOk};
 ghost use Rattle.std.specs.Option.{option_copied};
 
-use fast_check_symbol_tables::{CheckedTables, ModuleTables, ReExportAllNode, TableFault};
-use fast_check_symbols::{Symbol, SymbolId};
+use fast_check_symbols::{
+    CheckedTables, ModuleTables, ReExportAllNode, Symbol, SymbolId, TableFault,
+};
 use fast_check_syntax::Id;
 use std::alloc::Global;
 use std::collections::BTreeMap;
@@ -26,8 +27,8 @@ impl Model for JsonModuleInfo {
 }
 
 impl JsonModuleInfo {
-    ghost use Rattle.fast_check_symbol_tables.specs.Tables.{symbol_of_swc, resolved_export, answered_names};
-    ghost use Rattle.fast_check_symbol_tables.specs.WellFormed.{AreMadeOf, AreWellFormed, IsTableFault};
+    ghost use Rattle.fast_check_symbols.specs.Tables.{symbol_of_swc, resolved_export, answered_names};
+    ghost use Rattle.fast_check_symbols.specs.WellFormed.{AreMadeOf, AreWellFormed, IsTableFault};
     ghost use Rattle.fast_check_symbols.specs.Symbols.{symbol_of, place_of};
 
     /// The module of this name and these tables. Of several faults the first is answered, and what was handed in is dropped.

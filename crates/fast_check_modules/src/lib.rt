@@ -11,10 +11,10 @@ pub use es_module::EsModuleInfo;
 pub use expandos::{Expando, expandos_of, is_expando_assignment};
 pub use fast_check_diagnostics as diagnostics;
 pub use fast_check_parsed_source::MediaType;
-pub use fast_check_symbol_tables::{CheckedTables, ModuleTables, ReExportAllNode, TableFault};
 pub use fast_check_symbols as symbols;
 pub use fast_check_symbols::{
-    FileDepName, ReferenceNamespace, Symbol, SymbolDecl, SymbolDeclKind, SymbolDep, SymbolExports,
-    SymbolId, SymbolNode, SymbolNodeDep,
+    CheckedTables, FileDepName, ModuleTables, ReExportAllNode, ReferenceNamespace, Symbol,
+    SymbolDecl, SymbolDeclKind, SymbolDep, SymbolExports, SymbolId, SymbolNode, SymbolNodeDep,
+    TableFault,
 };
 pub use json_module::JsonModuleInfo;

@@ -2,11 +2,10 @@
 ghost use Rattle.std.specs.Prelude.{◌≡◌, ◌++◌, flat_map, map, IfOk, OnOk};
 ghost use Rattle.std.specs.List.{list_any};
 ghost use Rattle.fast_check_diagnostics.specs.PublicRanges.{same_range};
-ghost use Rattle.fast_check_symbol_tables.specs.Tables.{table_ranges};
+ghost use Rattle.fast_check_symbols.specs.Tables.{table_ranges};
 
 use fast_check_diagnostics::range_set;
-use fast_check_symbol_tables::{CheckedTables, ReExportAllNode};
-use fast_check_symbols::{Symbol, SymbolDecl};
+use fast_check_symbols::{CheckedTables, ReExportAllNode, Symbol, SymbolDecl};
 use fast_check_syntax::SourceRange;
 use std::alloc::{AllocError, Global};
 use std::collections::BTreeSet;

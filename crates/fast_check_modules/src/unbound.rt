@@ -8,7 +8,7 @@ ghost use Rattle.fast_check_modules.specs.EsModule.{AreRead, IsUnboundFault, is_
 use crate::expandos::{Expando, expandos_of};
 use crate::ranges::ranges_of;
 use fast_check_diagnostics::ModulePublicRanges;
-use fast_check_symbol_tables::{CheckedTables, TableFault};
+use fast_check_symbols::{CheckedTables, TableFault};
 use fast_check_syntax::{SourceRange, Tree};
 use std::alloc::{AllocError, Global};
 use std::collections::BTreeSet;

@@ -22,7 +22,7 @@ use Rattle.fast_check_names.specs.Paths.{paths_opened_nil, below_all_is, below_s
 use Rattle.fast_check_names.specs.Imports.{NameDemand, names_but_default, each_name, subset_at, whole_at, demands}
 use Rattle.fast_check_demands.specs.symbol_demands.declared.demand.Extent.{Extent}
 use Rattle.fast_check_demands.specs.symbol_demands.declared.demand.Extent.TheVariants.{Touched, Whole}
-use Rattle.fast_check_files.specs.Files.{path_demand}
+use Rattle.fast_check_name_demands.specs.Files.{path_demand}
 use Rattle.fast_check_name_demands.specs.NameDemands.{is_demanded_at, IsPartOf, Gains, IsEmpty, AreDemands}
 
 -- of lists

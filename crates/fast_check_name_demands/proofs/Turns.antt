@@ -13,7 +13,7 @@ use Rattle.fast_check_names.specs.declared.lattice.imported_exports.ImportedExpo
 use Rattle.fast_check_names.specs.Names.{Path, path_of, paths, paths_below, IsListed}
 use Rattle.fast_check_names.specs.Imports.{names_but_default, each_name}
 use Rattle.fast_check_demands.specs.symbol_demands.declared.demand.Extent.TheVariants.{Touched, Whole}
-use Rattle.fast_check_files.specs.Files.{path_demand}
+use Rattle.fast_check_name_demands.specs.Files.{path_demand}
 use Rattle.fast_check_name_demands.specs.NameDemands.{IsPartOf, Gains, AreDemands}
 use Rattle.fast_check_name_demands.proofs.Depth.{depth, depth_below, below_depth}
 use Rattle.fast_check_name_demands.proofs.Parts.{Demands, Entry, IsPartOfEach, below_name, name_of, entry_paths, gains_one, gains_both, gains_as}

@@ -1,1 +1,3 @@
+pub use Rattle.fast_check_demands.specs as demands
+pub mod Files
 pub mod NameDemands

@@ -7,7 +7,7 @@ use Rattle.fast_check_names.specs.Names.{Path, path_of, NameSet, has_subset, has
 use Rattle.fast_check_names.specs.Imports.{NameDemand, names_but_default, each_name, subset_at, demands}
 use Rattle.fast_check_demands.specs.symbol_demands.declared.demand.Extent.{Extent}
 use Rattle.fast_check_demands.specs.symbol_demands.declared.demand.Extent.TheVariants.{Touched, Whole}
-use Rattle.fast_check_files.specs.Files.{path_demand}
+use Rattle.fast_check_name_demands.specs.Files.{path_demand}
 use Rattle.fast_check_name_demands.specs.declared.single.NameDemand.{NameDemand as Single}
 use Rattle.fast_check_name_demands.specs.declared.single.NameDemand.TheVariants as singles
 

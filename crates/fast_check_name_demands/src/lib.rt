@@ -1,6 +1,13 @@
-//! The single things that a value of demanded names stands for, one by one.
+//! Demands of names: what a module asks of other files, and the demands that a set of names stands for.
 #![tactic(auto)]
 
+mod list;
+mod references;
 mod single;
+mod want;
 
+pub use fast_check_demands as demands;
+pub use list::FileWants;
+pub use references::push_files;
 pub use single::{NameDemand, name_demands, wanted_names};
+pub use want::{FileWant, WantedNames, by_path};

@@ -1,11 +1,11 @@
 //! The single names that a value of demanded names stands for.
 ghost use Rattle.std.specs.Prelude.{◌≡◌, [], ◌∷◌, ◌++◌, map, OnOk, IfOk, string_bytes};
 ghost use Rattle.fast_check_names.specs.Names.{path_of, paths, paths_below};
-ghost use Rattle.fast_check_files.specs.Files.{names_of};
+ghost use Rattle.fast_check_name_demands.specs.Files.{names_of};
 ghost use Rattle.fast_check_name_demands.specs.NameDemands.{demand_of, IsPartOf, Gains, AreDemands};
 
+use crate::want::{WantedNames, by_path};
 use fast_check_demands::Extent;
-use fast_check_files::{WantedNames, by_path};
 use fast_check_names::{Exports, ImportedExports, NamedSubset};
 use std::alloc::{AllocError, Global};
 

@@ -10,7 +10,7 @@ use Rattle.fast_check_graph.specs.declared.root_symbol.RootSymbol.{RootSymbol}
 use Rattle.fast_check_cache.specs.Cache.{ModuleView, skeleton as kept_tree, diagnostic, ItemView, module_of, with_item}
 use Rattle.fast_check_cache.specs.declared.item.FastCheckCacheModuleItem.{FastCheckCacheModuleItem}
 use Rattle.fast_check_cache.specs.declared.package_ranges.PackagePublicRanges.{PackagePublicRanges}
-use Rattle.fast_check_cached_packages.specs.CachedPackages.{source_hash}
+use Rattle.fast_check_cache.specs.CachedPackages.{source_hash}
 use Rattle.fast_check_module_transform.specs.Transform.{skeleton, sources, comments}
 use Rattle.fast_check_package_answers.specs.Reasons.{PublicModule, Reason, package_reasons, sound_front, subject}
 use Rattle.fast_check_package_answers.specs.PackageAnswer.{TreeModule, tree_modules}

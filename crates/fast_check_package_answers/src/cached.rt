@@ -9,8 +9,7 @@ ghost use Rattle.fast_check_package_answers.specs.PackageAnswer.{IsFoundAnswer, 
 use crate::answer::{ModuleAnswer, answer_modules, skeletons_or_wrong};
 use crate::kept::keep_modules;
 use crate::used::used_answers;
-use fast_check_cache::{FastCheckCache, FastCheckCacheItem, PackagePublicRanges};
-use fast_check_cached_packages::key_of;
+use fast_check_cache::{FastCheckCache, FastCheckCacheItem, PackagePublicRanges, key_of};
 use fast_check_graph::{ModuleGraph, RootSymbol};
 use fast_check_module_transform::TransformOptions;
 use fast_check_packages::PackageNv;

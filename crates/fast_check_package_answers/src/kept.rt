@@ -6,8 +6,8 @@ ghost use Rattle.fast_check_package_answers.specs.KeptAnswers.{kept_answer, kept
 use crate::answer::ModuleAnswer;
 use fast_check_cache::{
     FastCheckCacheModuleItem, FastCheckCacheModuleItemDiagnostic, FastCheckCacheModuleItemInfo,
+    source_hash,
 };
-use fast_check_cached_packages::source_hash;
 use fast_check_graph::ModuleGraph;
 use fast_check_modules::diagnostics::FastCheckDiagnostic;
 use fast_check_parsed_source::FastCheckModule;

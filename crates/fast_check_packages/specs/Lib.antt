@@ -1,2 +1,6 @@
 pub mod Package
 pub mod PackageOrder
+pub mod Listed
+pub mod First
+pub mod Packages
+pub mod Texts

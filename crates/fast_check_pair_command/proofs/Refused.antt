@@ -4,7 +4,7 @@ use Rattle.fast_check_requests.specs.declared.refusal.Refusal.{Refusal}
 use Rattle.fast_check_requests.specs.declared.refusal.Refusal.TheVariants as refusals
 use Rattle.fast_check_requests.specs.Run.{IsOfBytes}
 use Rattle.fast_check_modules.specs.EsModule.{EsModule}
-use Rattle.fast_check_transform_pair.specs.Transformed.{ModuleAnswer}
+use Rattle.fast_check_transformer.specs.Transformed.{ModuleAnswer}
 use Rattle.fast_check_pair_command.specs.declared.request.PairRequest.{PairRequest}
 use Rattle.fast_check_pair_command.specs.Input.{HoldsPair, LacksPair}
 use Rattle.fast_check_pair_command.specs.Line.{status_of}

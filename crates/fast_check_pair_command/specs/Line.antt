@@ -4,10 +4,10 @@ use Rattle.serde_json.specs.Data.{Data}
 use Rattle.fast_check_graph.specs.declared.graph.ModuleGraph.{ModuleGraph}
 use Rattle.fast_check_modules.specs.EsModule.{EsModule}
 use Rattle.fast_check_modules.specs.diagnostics.PublicRanges.{PublicRanges}
-use Rattle.fast_check_answers.specs.Answer.{answer_data}
+use Rattle.fast_check_print.specs.Answer.{answer_data}
 use Rattle.fast_check_print.specs.Pieces.{pair_data}
 use Rattle.fast_check_transform_command.specs.Line.{line_of_data}
-use Rattle.fast_check_transform_pair.specs.Transformed.{ModuleAnswer, IsTransformed}
+use Rattle.fast_check_transformer.specs.Transformed.{ModuleAnswer, IsTransformed}
 
 -- both answers as an array of two, the first module's first
 abbrev pub answers_data : ModuleAnswer → ModuleAnswer → Data

@@ -4,7 +4,7 @@ use Rattle.fast_check_graph.specs.declared.graph.ModuleGraph.{ModuleGraph}
 use Rattle.fast_check_modules.specs.EsModule.{EsModule, Admits}
 use Rattle.fast_check_modules.specs.FitProgram.{FitProgram, IsModuleFault}
 use Rattle.fast_check_modules.specs.diagnostics.PublicRanges.{PublicRanges}
-use Rattle.fast_check_modules.specs.symbol_tables.declared.fault.TableFault.{TableFault}
+use Rattle.fast_check_modules.specs.symbols.declared.fault.TableFault.{TableFault}
 use Rattle.fast_check_requests.specs.declared.refusal.Refusal.{Refusal}
 use Rattle.fast_check_requests.specs.declared.refusal.Refusal.TheVariants as refusals
 use Rattle.fast_check_requests.specs.Input.{IsNotJson}

@@ -18,7 +18,7 @@ use fast_check_modules::diagnostics::{FastCheckDiagnostic, ModulePublicRanges};
 use fast_check_modules::{EsModuleInfo, TableFault};
 use fast_check_parsed_source::FastCheckModule;
 use fast_check_requests::{Answer, EsModuleParts, Refusal};
-use fast_check_transform_pair::transform_pair;
+use fast_check_transformer::transform_pair;
 use std::alloc::{AllocError, Global};
 
 /// A side of a pair whose tables have no fault: the module, and what is public in it.

@@ -2,3 +2,5 @@ pub mod Adding
 pub mod Items
 mod Members
 mod VariantNames
+mod Arrays
+mod Reports

@@ -2,3 +2,6 @@ pub mod Comments
 pub mod Pieces
 pub mod Printing
 pub mod Writing
+pub mod Answer
+pub mod Answers
+pub mod Diagnostics

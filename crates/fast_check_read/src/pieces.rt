@@ -14,7 +14,7 @@ use serde_json::{Map, Value};
 use std::alloc::Global;
 
 /// A flag.
-pub fn read_flag(value: &Value) -> Result<bool, ReadError>
+pub fn read_bool(value: &Value) -> Result<bool, ReadError>
     ensures { result ≡ ok_or (as_bool (view value.now)) ReadError.BadForm }
 {
     value.as_bool().ok_or(ReadError::BadForm)
@@ -72,7 +72,7 @@ pub fn read_optional_flag(value: Option<&Value>) -> Result<bool, ReadError>
     ensures { result ≡ ok_or (optional_flag_of (option_map (λ v. view v.now) value.entry)) ReadError.BadForm }
 {
     match value {
-        Some(value) => read_flag(value),
+        Some(value) => read_bool(value),
         None => Ok(false),
     }
 }

@@ -10,7 +10,7 @@ ghost use Rattle.fast_check_read.specs.Reading.{reading, item_readings, member_r
 ghost use Rattle.fast_check_read.specs.Reading.{default_tree, field_tree, node_tree, choice_tree, marked_tree};
 
 use crate::error::ReadError;
-use crate::pieces::{read_array, read_flag, read_members, read_range, read_text, read_u32};
+use crate::pieces::{read_array, read_bool, read_members, read_range, read_text, read_u32};
 use fast_check_schema::{
     Choice, Count, Field, Form, Words, fields, marked, variant_named, word_named,
 };
@@ -24,7 +24,7 @@ pub fn read_tree(alloc: Global, value: &Value, form: Form) -> Result<Tree, ReadE
     ensures { Answers (tree_of (view value.now) form) result }
 {
     match form {
-        Form::Flag => Ok(Tree::Flag(read_flag(value)?)),
+        Form::Flag => Ok(Tree::Flag(read_bool(value)?)),
         Form::Context => Ok(Tree::Context(SyntaxContext(read_u32(value)?))),
         Form::Text => Ok(Tree::Text(Atom::from_str(alloc, read_text(value)?)?)),
         Form::Range => Ok(Tree::Range(read_range(value)?)),

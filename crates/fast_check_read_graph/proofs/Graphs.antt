@@ -16,7 +16,7 @@ use Rattle.url.specs.Parts.{Parts, serialize}
 use Rattle.fast_check_symbols.specs.Entries.{last_value}
 use Rattle.fast_check_packages.specs.declared.package.PackageNv.{PackageNv}
 use Rattle.fast_check_packages.specs.Package.{nv_of, nv_cmp}
-use Rattle.fast_check_modules.proofs.symbol_table_proofs.Alike.{lookup_alike, last_alike}
+use Rattle.fast_check_modules.proofs.symbol_proofs.Alike.{lookup_alike, last_alike}
 use Rattle.fast_check_graph.specs.declared.graph.ModuleGraph.{ModuleGraph}
 use Rattle.fast_check_graph.specs.declared.module.Module.{Module}
 use Rattle.fast_check_graph.specs.Graph.{is_specifier, is_package, text_resolved, IsGraphOf}

@@ -15,8 +15,8 @@ use Rattle.fast_check_symbols.specs.declared.decl.SymbolDecl.{SymbolDecl}
 use Rattle.fast_check_symbols.specs.declared.decl.SymbolDeclKind.{SymbolDeclKind}
 use Rattle.fast_check_symbols.specs.declared.decl.SymbolDeclKind.TheVariants as kinds
 use Rattle.fast_check_symbols.specs.declared.symbol.Symbol.{Symbol}
-use Rattle.fast_check_modules.specs.symbol_tables.declared.tables.ModuleTables.{ModuleTables}
-use Rattle.fast_check_modules.specs.symbol_tables.declared.tables.ReExportAllNode.{ReExportAllNode}
+use Rattle.fast_check_modules.specs.symbols.declared.tables.ModuleTables.{ModuleTables}
+use Rattle.fast_check_modules.specs.symbols.declared.tables.ReExportAllNode.{ReExportAllNode}
 
 -- what is taken of a file
 pub data FileName : Type 0 where

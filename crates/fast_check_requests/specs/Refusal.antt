@@ -1,8 +1,8 @@
 -- Why the program has no answer, and what it says then.
 use Rattle.std.specs.Prelude.{◌≡◌, ℕ, IsTrue, List, ◌++◌, Option, codes}
 use Rattle.std.specs.Io.KnownBytes.{Appends}
-use Rattle.fast_check_modules.specs.symbol_tables.declared.fault.TableFault as table_fault
-use Rattle.fast_check_modules.specs.symbol_tables.declared.fault.TableFault.TheVariants as table_faults
+use Rattle.fast_check_modules.specs.symbols.declared.fault.TableFault as table_fault
+use Rattle.fast_check_modules.specs.symbols.declared.fault.TableFault.TheVariants as table_faults
 use Rattle.fast_check_read.specs.declared.error.ReadError.{ReadError}
 use Rattle.fast_check_read.specs.declared.error.ReadError.TheVariants as read_errors
 use Rattle.fast_check_read.specs.declared.input.InputFault.{InputFault}

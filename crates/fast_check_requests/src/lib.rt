@@ -13,7 +13,7 @@ mod words;
 pub use command::{Answer, Command};
 pub use ending::Ending;
 pub use input::{read_bytes, read_request};
-pub use program::run;
+pub use program::run_commands;
 pub use refusal::Refusal;
 pub use request::{
     EsModuleParts, TransformRequest, read_es_module, read_optional_ranges, read_transform_request,

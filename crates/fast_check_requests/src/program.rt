@@ -16,7 +16,7 @@ use std::io::{Read, Write};
 /// Runs a program of these commands with these words on an input, which is none where its file does not open. The status is 0
 /// where all modules have skeletons, 1 where there are diagnostics, each with one line of JSON to `out`; 2 where the words or the
 /// input are refused, 3 where memory ran out, and 4 where `out` does not take its line, each with one line to `err`.
-pub fn run<C: Command, R: Read + Drop, O: Write, E: Write>(
+pub fn run_commands<C: Command, R: Read + Drop, O: Write, E: Write>(
     alloc: Global,
     words: &[String],
     input: Option<R>,

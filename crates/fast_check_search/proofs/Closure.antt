@@ -5,12 +5,12 @@ use Rattle.std.proofs.lemmas.Bool.{or_left, or_right, or_cases}
 use Rattle.std.proofs.lemmas.List.{take_more, take_all, take-append-le}
 use Rattle.std.proofs.lemmas.List.Folds.{list_any-append}
 use Rattle.std.proofs.lemmas.List.Elements.{Contains-get_or, Contains-push_cases, Contains-push, Contains-append_left, Contains-append_right, Contains-append_cases}
-use Rattle.fast_check_symbol_tables.specs.Tables.{Tables}
-use Rattle.fast_check_files.specs.demands.Demands.{Demand}
-use Rattle.fast_check_files.specs.demands.Rules.{names}
-use Rattle.fast_check_files.specs.demands.Yields.{ranges, implementations, faults, fault_seen}
-use Rattle.fast_check_files.specs.demands.Account.{root, step, alike, referred, IsCovered, IsAccount, IsYield}
-use Rattle.fast_check_files.specs.Files.{files}
+use Rattle.fast_check_symbols.specs.Tables.{Tables}
+use Rattle.fast_check_name_demands.specs.demands.Demands.{Demand}
+use Rattle.fast_check_name_demands.specs.demands.Rules.{names}
+use Rattle.fast_check_name_demands.specs.demands.Yields.{ranges, implementations, faults, fault_seen}
+use Rattle.fast_check_name_demands.specs.demands.Account.{root, step, alike, referred, IsCovered, IsAccount, IsYield}
+use Rattle.fast_check_name_demands.specs.Files.{files}
 use Rattle.fast_check_search.specs.declared.turns.Found.{Found}
 use Rattle.fast_check_search.specs.Worklist.{Grows, CoversEach}
 use Rattle.fast_check_search.specs.Turn.{IsFound, Gains, IsOnTheWay}

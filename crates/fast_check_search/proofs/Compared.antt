@@ -10,19 +10,19 @@ use Rattle.std.proofs.lemmas.Map.Text.{is_eq-slice_cmp}
 use Rattle.std.proofs.lemmas.Bool.{eq-eqb, and_from}
 use Rattle.std.specs.Str.{bytes_eq}
 use Rattle.fast_check_names.specs.Names.{path_of}
-use Rattle.fast_check_files.specs.demands.symbol_demands.contracts.demand.SymbolDemandOrd.TheImpl as order
-use Rattle.fast_check_files.specs.demands.symbol_demands.contracts.demand.AskOrd.TheImpl as ask_order
-use Rattle.fast_check_files.specs.demands.symbol_demands.contracts.demand.NamespaceOrd.TheImpl as namespace_order
-use Rattle.fast_check_files.specs.demands.symbol_demands.contracts.demand.ExtentOrd.TheImpl as extent_order
-use Rattle.fast_check_files.specs.demands.symbol_demands.declared.demand.Namespace.{Namespace}
-use Rattle.fast_check_files.specs.demands.symbol_demands.declared.demand.Namespace.TheVariants.{Value, Type_}
-use Rattle.fast_check_files.specs.demands.symbol_demands.declared.demand.Extent.{Extent}
-use Rattle.fast_check_files.specs.demands.symbol_demands.declared.demand.Extent.TheVariants.{Touched, Whole}
-use Rattle.fast_check_files.specs.demands.symbol_demands.declared.demand.Ask.{Ask}
-use Rattle.fast_check_files.specs.demands.symbol_demands.declared.demand.Ask.TheVariants.{Reference, Child, Path}
-use Rattle.fast_check_files.specs.demands.symbol_demands.declared.demand.SymbolDemand.{SymbolDemand}
-use Rattle.fast_check_files.specs.demands.Demands.{Demand, demand_of, asked_of}
-use Rattle.fast_check_files.specs.demands.Account.{same_namespace, same_extent, same_path, same_asked, same}
+use Rattle.fast_check_name_demands.specs.demands.symbol_demands.contracts.demand.SymbolDemandOrd.TheImpl as order
+use Rattle.fast_check_name_demands.specs.demands.symbol_demands.contracts.demand.AskOrd.TheImpl as ask_order
+use Rattle.fast_check_name_demands.specs.demands.symbol_demands.contracts.demand.NamespaceOrd.TheImpl as namespace_order
+use Rattle.fast_check_name_demands.specs.demands.symbol_demands.contracts.demand.ExtentOrd.TheImpl as extent_order
+use Rattle.fast_check_name_demands.specs.demands.symbol_demands.declared.demand.Namespace.{Namespace}
+use Rattle.fast_check_name_demands.specs.demands.symbol_demands.declared.demand.Namespace.TheVariants.{Value, Type_}
+use Rattle.fast_check_name_demands.specs.demands.symbol_demands.declared.demand.Extent.{Extent}
+use Rattle.fast_check_name_demands.specs.demands.symbol_demands.declared.demand.Extent.TheVariants.{Touched, Whole}
+use Rattle.fast_check_name_demands.specs.demands.symbol_demands.declared.demand.Ask.{Ask}
+use Rattle.fast_check_name_demands.specs.demands.symbol_demands.declared.demand.Ask.TheVariants.{Reference, Child, Path}
+use Rattle.fast_check_name_demands.specs.demands.symbol_demands.declared.demand.SymbolDemand.{SymbolDemand}
+use Rattle.fast_check_name_demands.specs.demands.Demands.{Demand, demand_of, asked_of}
+use Rattle.fast_check_name_demands.specs.demands.Account.{same_namespace, same_extent, same_path, same_asked, same}
 use Rattle.fast_check_search.specs.contracts.done.DoneDemandOrd.TheImpl as key_order
 use Rattle.fast_check_search.specs.declared.done.DoneDemand.{DoneDemand}
 use Rattle.fast_check_search.specs.Done.{names_of, key_of}

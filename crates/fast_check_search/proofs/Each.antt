@@ -2,7 +2,7 @@
 use Rattle.std.proofs.Common.{◌≡◌, sym, ap, refl, subst, Bool, true, false, cond, List, [], ◌∷◌, ◌++◌, map, Option, Some, None, ⊎_elim, inl, inr, ◌⊎◌, arith}
 use Rattle.std.specs.List.{Contains, flat_map}
 use Rattle.std.proofs.lemmas.List.Elements.{Contains-push_cases, Contains-append_left, Contains-append_right, Contains-append_cases}
-use Rattle.fast_check_files.specs.demands.Rules.{each_of}
+use Rattle.fast_check_name_demands.specs.demands.Rules.{each_of}
 
 pub Contains_none : {X : Type 0} (x : X) → Contains [] x → ⊥
 Contains_none x h = omega (arith, h.1)

@@ -22,15 +22,15 @@ use Rattle.fast_check_symbols.specs.declared.node.SymbolDep.TheVariants as deps
 use Rattle.fast_check_symbols.specs.Entries.{last_that}
 use Rattle.fast_check_symbols.specs.Symbols.{symbol_of, has_id, mentioned_by}
 use Rattle.fast_check_symbols.specs.Exports.{export_named}
-use Rattle.fast_check_symbol_tables.specs.Tables.{Tables, symbol_of_swc, symbol_id_of}
-use Rattle.fast_check_files.specs.demands.symbol_demands.declared.demand.Namespace.{Namespace}
-use Rattle.fast_check_files.specs.demands.symbol_demands.declared.demand.Namespace.TheVariants.{Value, Type_}
-use Rattle.fast_check_files.specs.demands.symbol_demands.declared.demand.Extent.{Extent}
-use Rattle.fast_check_files.specs.demands.symbol_demands.declared.demand.Extent.TheVariants.{Touched, Whole}
-use Rattle.fast_check_files.specs.demands.Demands.{Demand, Asked, by_reference, as_child, by_path, same_symbol}
-use Rattle.fast_check_files.specs.demands.Decls.{binds, is_implementation, has_alias, is_closed}
-use Rattle.fast_check_files.specs.demands.Rules.{reference, child, qualified, references, children, references_in, named, each_of, bound, parent_at, parent_names, dep_names, deps_names, kind_names, decl_names, exports_names, members_names, symbol_names, parts_names, alias_names, member_named, symbol_is_named, member_names, prototype_names, export_names, is_prototype, first_names, path_names, asked_names, names}
-use Rattle.fast_check_files.specs.demands.Account.{Chained, root, step, alike}
+use Rattle.fast_check_symbols.specs.Tables.{Tables, symbol_of_swc, symbol_id_of}
+use Rattle.fast_check_name_demands.specs.demands.symbol_demands.declared.demand.Namespace.{Namespace}
+use Rattle.fast_check_name_demands.specs.demands.symbol_demands.declared.demand.Namespace.TheVariants.{Value, Type_}
+use Rattle.fast_check_name_demands.specs.demands.symbol_demands.declared.demand.Extent.{Extent}
+use Rattle.fast_check_name_demands.specs.demands.symbol_demands.declared.demand.Extent.TheVariants.{Touched, Whole}
+use Rattle.fast_check_name_demands.specs.demands.Demands.{Demand, Asked, by_reference, as_child, by_path, same_symbol}
+use Rattle.fast_check_name_demands.specs.demands.Decls.{binds, is_implementation, has_alias, is_closed}
+use Rattle.fast_check_name_demands.specs.demands.Rules.{reference, child, qualified, references, children, references_in, named, each_of, bound, parent_at, parent_names, dep_names, deps_names, kind_names, decl_names, exports_names, members_names, symbol_names, parts_names, alias_names, member_named, symbol_is_named, member_names, prototype_names, export_names, is_prototype, first_names, path_names, asked_names, names}
+use Rattle.fast_check_name_demands.specs.demands.Account.{Chained, root, step, alike}
 use Rattle.fast_check_search.specs.Universe.{demand_ids, symbol_ids, ids, suffixes, pieces, dep_paths, kind_paths, symbol_paths, asked_paths, written_paths, paths, both_extents, asks, asks_of, universe, limit, IsAskedInside, IsInside}
 use Rattle.fast_check_search.proofs.Same.{alike_laws}
 use Rattle.fast_check_search.proofs.Each.{Contains_none, Contains_only, Contains_first, Contains_later, Contains_cases, contains_map, contains_flat_map, Each, each_nil, each_one, each_append, each_cons, each_map, each_flat, each_cond, each_each_of}

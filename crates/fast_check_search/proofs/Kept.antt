@@ -7,9 +7,9 @@ use Rattle.std.proofs.lemmas.Bool.{or_left, or_right}
 use Rattle.std.proofs.lemmas.List.{map-append}
 use Rattle.std.proofs.lemmas.List.Folds.{list_any-append}
 use Rattle.std.proofs.lemmas.Map.Keys.{IsDistinct-push}
-use Rattle.fast_check_files.specs.demands.symbol_demands.declared.demand.SymbolDemand.{SymbolDemand}
-use Rattle.fast_check_files.specs.demands.Demands.{Demand, demand_of}
-use Rattle.fast_check_files.specs.demands.Account.{same, alike, essence, referred, IsCovered}
+use Rattle.fast_check_name_demands.specs.demands.symbol_demands.declared.demand.SymbolDemand.{SymbolDemand}
+use Rattle.fast_check_name_demands.specs.demands.Demands.{Demand, demand_of}
+use Rattle.fast_check_name_demands.specs.demands.Account.{same, alike, essence, referred, IsCovered}
 use Rattle.fast_check_search.specs.contracts.done.DoneDemandOrd.TheImpl as order
 use Rattle.fast_check_search.specs.declared.worklist.Worklist.{Worklist}
 use Rattle.fast_check_search.specs.Done.{key_of}

@@ -8,13 +8,13 @@ use Rattle.fast_check_symbols.specs.declared.symbol_id.SymbolId.{SymbolId}
 use Rattle.fast_check_symbols.specs.declared.symbol.Symbol.{Symbol}
 use Rattle.fast_check_symbols.specs.declared.decl.SymbolDecl.{SymbolDecl}
 use Rattle.fast_check_symbols.specs.Symbols.{symbol_of, has_id}
-use Rattle.fast_check_symbol_tables.specs.Tables.{Tables, table_ranges}
-use Rattle.fast_check_files.specs.demands.symbol_demands.declared.demand.Namespace.{Namespace}
-use Rattle.fast_check_files.specs.demands.Demands.{Demand, Asked, by_reference, as_child, by_path}
-use Rattle.fast_check_files.specs.demands.Decls.{binds, is_implementation, is_function}
-use Rattle.fast_check_files.specs.demands.Rules.{each_of}
-use Rattle.fast_check_files.specs.demands.Yields.{decl_ranges, is_within, outside, expando_ranges, decl_yields, symbol_ranges, asked_ranges, ranges, symbol_implementations, asked_implementations, implementations}
-use Rattle.fast_check_files.specs.demands.Account.{IsYield}
+use Rattle.fast_check_symbols.specs.Tables.{Tables, table_ranges}
+use Rattle.fast_check_name_demands.specs.demands.symbol_demands.declared.demand.Namespace.{Namespace}
+use Rattle.fast_check_name_demands.specs.demands.Demands.{Demand, Asked, by_reference, as_child, by_path}
+use Rattle.fast_check_name_demands.specs.demands.Decls.{binds, is_implementation, is_function}
+use Rattle.fast_check_name_demands.specs.demands.Rules.{each_of}
+use Rattle.fast_check_name_demands.specs.demands.Yields.{decl_ranges, is_within, outside, expando_ranges, decl_yields, symbol_ranges, asked_ranges, ranges, symbol_implementations, asked_implementations, implementations}
+use Rattle.fast_check_name_demands.specs.demands.Account.{IsYield}
 use Rattle.fast_check_search.specs.Turn.{AreTableRanges}
 use Rattle.fast_check_search.proofs.Each.{Contains_first, Contains_later, contains_map, contains_flat_map, Each, each_nil, each_append, each_cons, each_map, each_flat, each_cond, each_each_of}
 use Rattle.fast_check_search.proofs.Inside.{last_inside}

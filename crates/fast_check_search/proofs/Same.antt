@@ -5,12 +5,12 @@ use Rattle.std.specs.Cmp.{IsEquivalence}
 use Rattle.std.specs.Cmp.Lexicographic.{bytes_decides}
 use Rattle.std.proofs.lemmas.Bool.{cases_Bool, false≢true, eqb-true, eq-eqb, and_parts, and_from}
 use Rattle.fast_check_names.specs.Names.{Path}
-use Rattle.fast_check_files.specs.demands.symbol_demands.declared.demand.Namespace.{Namespace}
-use Rattle.fast_check_files.specs.demands.symbol_demands.declared.demand.Namespace.TheVariants.{Value, Type_}
-use Rattle.fast_check_files.specs.demands.symbol_demands.declared.demand.Extent.{Extent}
-use Rattle.fast_check_files.specs.demands.symbol_demands.declared.demand.Extent.TheVariants.{Touched, Whole}
-use Rattle.fast_check_files.specs.demands.Demands.{Demand, Asked, by_reference, as_child, by_path, same_symbol}
-use Rattle.fast_check_files.specs.demands.Account.{same_namespace, same_extent, same_path, same_asked, same, alike, essence}
+use Rattle.fast_check_name_demands.specs.demands.symbol_demands.declared.demand.Namespace.{Namespace}
+use Rattle.fast_check_name_demands.specs.demands.symbol_demands.declared.demand.Namespace.TheVariants.{Value, Type_}
+use Rattle.fast_check_name_demands.specs.demands.symbol_demands.declared.demand.Extent.{Extent}
+use Rattle.fast_check_name_demands.specs.demands.symbol_demands.declared.demand.Extent.TheVariants.{Touched, Whole}
+use Rattle.fast_check_name_demands.specs.demands.Demands.{Demand, Asked, by_reference, as_child, by_path, same_symbol}
+use Rattle.fast_check_name_demands.specs.demands.Account.{same_namespace, same_extent, same_path, same_asked, same, alike, essence}
 
 same_namespaces : (n m : Namespace) → same_namespace n m ≡ true → n ≡ m
 same_namespaces Value Value h = refl

@@ -1,8 +1,8 @@
 -- Inner: no contract of a public call cites what stands here.
 -- A demand as a set has it.
 use Rattle.std.specs.Prelude.{ℕ, length}
-use Rattle.fast_check_files.specs.demands.symbol_demands.declared.demand.SymbolDemand.{SymbolDemand}
-use Rattle.fast_check_files.specs.demands.Demands.{Asked, by_reference, as_child, by_path, demand_of}
+use Rattle.fast_check_name_demands.specs.demands.symbol_demands.declared.demand.SymbolDemand.{SymbolDemand}
+use Rattle.fast_check_name_demands.specs.demands.Demands.{Asked, by_reference, as_child, by_path, demand_of}
 use Rattle.fast_check_search.specs.declared.done.DoneDemand.{DoneDemand}
 
 -- how many names a demand has

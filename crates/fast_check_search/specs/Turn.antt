@@ -3,12 +3,12 @@
 use Rattle.std.specs.Prelude.{◌≡◌, ℕ, ◌≤◌, List, ◌++◌, length, take, map}
 use Rattle.std.specs.List.{Contains}
 use Rattle.fast_check_syntax.specs.declared.source.SourceRange.{SourceRange}
-use Rattle.fast_check_symbol_tables.specs.Tables.{Tables, table_ranges}
-use Rattle.fast_check_files.specs.demands.Demands.{Demand}
-use Rattle.fast_check_files.specs.demands.Rules.{names}
-use Rattle.fast_check_files.specs.demands.Account.{Chained, IsCovered, IsYield}
-use Rattle.fast_check_files.specs.demands.Yields.{ranges, implementations, faults, fault_seen}
-use Rattle.fast_check_files.specs.Files.{files}
+use Rattle.fast_check_symbols.specs.Tables.{Tables, table_ranges}
+use Rattle.fast_check_name_demands.specs.demands.Demands.{Demand}
+use Rattle.fast_check_name_demands.specs.demands.Rules.{names}
+use Rattle.fast_check_name_demands.specs.demands.Account.{Chained, IsCovered, IsYield}
+use Rattle.fast_check_name_demands.specs.demands.Yields.{ranges, implementations, faults, fault_seen}
+use Rattle.fast_check_name_demands.specs.Files.{files}
 use Rattle.fast_check_search.specs.declared.turns.Found.{Found}
 
 -- what was found is exactly what these demands make public, what is wrong with them, and what they ask of other files

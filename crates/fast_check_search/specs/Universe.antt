@@ -11,10 +11,10 @@ use Rattle.fast_check_symbols.specs.declared.decl.SymbolDeclKind.TheVariants.{Ta
 use Rattle.fast_check_symbols.specs.declared.node.SymbolDep.{SymbolDep}
 use Rattle.fast_check_symbols.specs.declared.node.SymbolDep.TheVariants as deps
 use Rattle.fast_check_symbols.specs.Symbols.{mentioned_by}
-use Rattle.fast_check_symbol_tables.specs.Tables.{Tables}
-use Rattle.fast_check_files.specs.demands.symbol_demands.declared.demand.Namespace.TheVariants.{Value, Type_}
-use Rattle.fast_check_files.specs.demands.symbol_demands.declared.demand.Extent.TheVariants.{Touched, Whole}
-use Rattle.fast_check_files.specs.demands.Demands.{Demand, Asked, by_reference, as_child, by_path}
+use Rattle.fast_check_symbols.specs.Tables.{Tables}
+use Rattle.fast_check_name_demands.specs.demands.symbol_demands.declared.demand.Namespace.TheVariants.{Value, Type_}
+use Rattle.fast_check_name_demands.specs.demands.symbol_demands.declared.demand.Extent.TheVariants.{Touched, Whole}
+use Rattle.fast_check_name_demands.specs.demands.Demands.{Demand, Asked, by_reference, as_child, by_path}
 
 -- ids
 

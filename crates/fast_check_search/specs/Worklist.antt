@@ -3,9 +3,9 @@
 use Rattle.std.specs.Prelude.{◌≡◌, List, ◌++◌, map}
 use Rattle.std.specs.List.{list_any, Contains, IsDistinct}
 use Rattle.std.specs.BTreeSet.{contains}
-use Rattle.fast_check_files.specs.demands.symbol_demands.declared.demand.SymbolDemand.{SymbolDemand}
-use Rattle.fast_check_files.specs.demands.Demands.{Demand, demand_of}
-use Rattle.fast_check_files.specs.demands.Account.{essence, same, alike, IsCovered}
+use Rattle.fast_check_name_demands.specs.demands.symbol_demands.declared.demand.SymbolDemand.{SymbolDemand}
+use Rattle.fast_check_name_demands.specs.demands.Demands.{Demand, demand_of}
+use Rattle.fast_check_name_demands.specs.demands.Account.{essence, same, alike, IsCovered}
 use Rattle.fast_check_search.specs.contracts.done.DoneDemandOrd.TheImpl as order
 use Rattle.fast_check_search.specs.declared.worklist.Worklist.{Worklist}
 use Rattle.fast_check_search.specs.Done.{key_of}

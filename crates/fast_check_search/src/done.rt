@@ -1,8 +1,8 @@
 ghost use Rattle.std.specs.Prelude.{◌≡◌};
-ghost use Rattle.fast_check_files.specs.demands.Demands.{demand_of};
+ghost use Rattle.fast_check_name_demands.specs.demands.Demands.{demand_of};
 ghost use Rattle.fast_check_search.specs.Done.{names_of};
 
-use fast_check_files::demands::{Ask, SymbolDemand};
+use fast_check_name_demands::demands::{Ask, SymbolDemand};
 
 /// A demand as a set has it. The number of its names is compared before the names, so that paths of other lengths are told apart at once.
 #[derive(Clone, Copy, PartialEq, Eq, PartialOrd, Ord)]

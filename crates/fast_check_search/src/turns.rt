@@ -1,18 +1,18 @@
 //! The search through the symbols of a module.
 ghost use Rattle.std.specs.Prelude.{◌≡◌, List, [], map, IfOk, OnOk, ◌++◌, option_map, option_to_list};
-ghost use Rattle.fast_check_files.specs.demands.Demands.{Demand, demand_of};
-ghost use Rattle.fast_check_files.specs.demands.Account.{IsAccount, IsYield};
-ghost use Rattle.fast_check_files.specs.demands.Yields.{fault_seen};
-ghost use Rattle.fast_check_files.specs.demands.Rules.{names};
+ghost use Rattle.fast_check_name_demands.specs.demands.Demands.{Demand, demand_of};
+ghost use Rattle.fast_check_name_demands.specs.demands.Account.{IsAccount, IsYield};
+ghost use Rattle.fast_check_name_demands.specs.demands.Yields.{fault_seen};
+ghost use Rattle.fast_check_name_demands.specs.demands.Rules.{names};
 ghost use Rattle.fast_check_search.specs.Turn.{IsFound, Gains, AreTableRanges};
 ghost use Rattle.fast_check_search.specs.Worklist.{asked, IsKept, Grows, CoversEach};
 
 use crate::worklist::Worklist;
-use fast_check_files::demands::{
+use fast_check_name_demands::demands::{
     CheckedTables, SourceRange, SymbolDemand, SymbolFault, demands_of, fault_of,
     push_implementations, push_ranges,
 };
-use fast_check_files::{FileWants, push_files};
+use fast_check_name_demands::{FileWants, push_files};
 use std::alloc::{AllocError, Global};
 
 /// What the demands of a module make public, what is wrong with them, and what they ask of other files. Each may stand here more than once.

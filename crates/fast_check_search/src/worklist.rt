@@ -1,13 +1,13 @@
 //! The demands of a search: those that were asked for, with a cursor.
 ghost use Rattle.std.specs.Prelude.{◌≡◌, [], length, slice_get, Some, ◌<◌, OnOk};
 ghost use Rattle.std.specs.List.{list_any};
-ghost use Rattle.fast_check_files.specs.demands.Demands.{demand_of};
-ghost use Rattle.fast_check_files.specs.demands.Account.{essence as essence_of, referred as referred_of, alike, IsCovered};
+ghost use Rattle.fast_check_name_demands.specs.demands.Demands.{demand_of};
+ghost use Rattle.fast_check_name_demands.specs.demands.Account.{essence as essence_of, referred as referred_of, alike, IsCovered};
 ghost use Rattle.fast_check_search.specs.Worklist.{asked, IsKept, Grows, CoversEach};
 ghost use Rattle.std.specs.Prelude.{map, ◌∷◌};
 
 use crate::done::{DoneDemand, done_demand};
-use fast_check_files::demands::{Ask, SymbolDemand};
+use fast_check_name_demands::demands::{Ask, SymbolDemand};
 use std::alloc::{AllocError, Global};
 use std::collections::BTreeSet;
 

@@ -29,38 +29,38 @@ use Rattle.fast_check_statement_forms.specs.TsDeclarations.{TsModuleDecl-id, TsM
 use Rattle.fast_check_statement_forms.specs.TsDeclarations.{TsNamespaceDecl-declare, TsNamespaceDecl-global, TsNamespaceDecl-id}
 use Rattle.fast_check_helpers.specs.declared.literal_type.DeclMutabilityKind.{DeclMutabilityKind}
 use Rattle.fast_check_helpers.specs.declared.literal_type.DeclMutabilityKind.TheVariants.{Const, Mutable}
-use Rattle.fast_check_typed_grammar.specs.signatures.declared.fault.Fault.{Fault}
-use Rattle.fast_check_typed_grammar.specs.signatures.declared.fault.FaultKind.TheVariants.{UnsupportedDestructuring, UnsupportedUsing}
-use Rattle.fast_check_typed_grammar.specs.signatures.declared.fault.FaultKind.TheVariants.{UnsupportedGlobalModule, UnsupportedAmbientModule}
-use Rattle.fast_check_typed_grammar.specs.signatures.declared.function_kind.FunctionKind.TheVariants.{DeclarationLike}
+use Rattle.fast_check_signatures.specs.declared.fault.Fault.{Fault}
+use Rattle.fast_check_signatures.specs.declared.fault.FaultKind.TheVariants.{UnsupportedDestructuring, UnsupportedUsing}
+use Rattle.fast_check_signatures.specs.declared.fault.FaultKind.TheVariants.{UnsupportedGlobalModule, UnsupportedAmbientModule}
+use Rattle.fast_check_signatures.specs.declared.function_kind.FunctionKind.TheVariants.{DeclarationLike}
 use Rattle.fast_check_skeleton.specs.Surroundings.{Surroundings, inside}
 use Rattle.fast_check_helpers.specs.Builders.{type_ann, never_value}
 use Rattle.fast_check_helpers.specs.InferredType.{inferred_type}
 use Rattle.fast_check_helpers.proofs.BuildersMoved.{type_ann_moved, never_value_moved}
 use Rattle.fast_check_skeleton.specs.Mutability.{mutability_of}
 use Rattle.fast_check_skeleton.specs.Namespaces.{innermost, block_items, items_inside, body_round}
-use Rattle.fast_check_typed_grammar.specs.signatures.Seen.{Seen, written, range, scope, flag, round, listed, declarator, faulty, refused, seens}
+use Rattle.fast_check_signatures.specs.Seen.{Seen, written, range, scope, flag, round, listed, declarator, faulty, refused, seens}
 use Rattle.fast_check_skeleton.specs.Visible.{declared_ident, declared_type, declarator_head, typed_declarator, value_seen, untyped_seen, ident_declarator_seen}
 use Rattle.fast_check_skeleton.specs.Visible.{declarator_seen, is_ambient_statement, is_public_declarator, declarator_in, public_declarator, public_declarators}
 use Rattle.fast_check_skeleton.specs.Visible.{statement_seen, signature_of, function_decl_seen, public_function, is_ambient_class, class_in, class_decl_seen}
 use Rattle.fast_check_skeleton.specs.Visible.{public_class, is_public_using, using_place, decl_seen, exported_seen}
 use Rattle.fast_check_skeleton.specs.Visible.{item_look, body_seen, namespace_seen, seen_by_rule, item_seen, items_of, visible}
-use Rattle.fast_check_typed_grammar.specs.signatures.Answers.{answer_of}
-use Rattle.fast_check_typed_grammar.specs.signatures.Classes.{plain_class_seen, ambient_class}
-use Rattle.fast_check_typed_grammar.specs.signatures.Expressions.{expr_seen}
-use Rattle.fast_check_typed_grammar.specs.signatures.Functions.{function_seen, implementation_seen}
-use Rattle.fast_check_same_values.specs.SameValues.{SameBindings, Both, SameExpr}
-use Rattle.fast_check_same_values.specs.SameValues as v
-use Rattle.fast_check_same_values.proofs.AlikeTrees.{TreeAlike, image_alike, new_alike, absent_alike, range_leaf_alike, flag_leaf_alike, node_alike}
-use Rattle.fast_check_same_values.proofs.AlikeTrees.{range_field_alike}
-use Rattle.fast_check_same_values.proofs.AlikeSeen.{Alike, AllAlike, written_alike, same_written, range_alike, scope_alike, flag_alike}
-use Rattle.fast_check_same_values.proofs.AlikeSeen.{alike_if, all_alike_if, faulty_alike, listed_alike, round_alike, append_alike}
-use Rattle.fast_check_typed_grammar.proofs.signature_proofs.Choices.{both_true}
-use Rattle.fast_check_typed_grammar.proofs.signature_proofs.MovedParts.{moved_declarator}
-use Rattle.fast_check_same_values.proofs.AlikePresent.{absent_shows, expr_absent}
-use Rattle.fast_check_same_values.proofs.Alike.{expr_alike, function_alike}
-use Rattle.fast_check_same_values.proofs.AlikeClasses.{class_alike, ambient_class_alike}
-use Rattle.fast_check_same_values.proofs.AlikeFunctions.{implementation_alike}
+use Rattle.fast_check_signatures.specs.Answers.{answer_of}
+use Rattle.fast_check_signatures.specs.Classes.{plain_class_seen, ambient_class}
+use Rattle.fast_check_signatures.specs.Expressions.{expr_seen}
+use Rattle.fast_check_signatures.specs.Functions.{function_seen, implementation_seen}
+use Rattle.fast_check_skeleton.specs.SameValues.{SameBindings, Both, SameExpr}
+use Rattle.fast_check_skeleton.specs.SameValues as v
+use Rattle.fast_check_skeleton.proofs.AlikeTrees.{TreeAlike, image_alike, new_alike, absent_alike, range_leaf_alike, flag_leaf_alike, node_alike}
+use Rattle.fast_check_skeleton.proofs.AlikeTrees.{range_field_alike}
+use Rattle.fast_check_skeleton.proofs.AlikeSeen.{Alike, AllAlike, written_alike, same_written, range_alike, scope_alike, flag_alike}
+use Rattle.fast_check_skeleton.proofs.AlikeSeen.{alike_if, all_alike_if, faulty_alike, listed_alike, round_alike, append_alike}
+use Rattle.fast_check_signatures.proofs.Choices.{both_true}
+use Rattle.fast_check_signatures.proofs.MovedParts.{moved_declarator}
+use Rattle.fast_check_skeleton.proofs.AlikePresent.{absent_shows, expr_absent}
+use Rattle.fast_check_skeleton.proofs.Alike.{expr_alike, function_alike}
+use Rattle.fast_check_skeleton.proofs.AlikeClasses.{class_alike, ambient_class_alike}
+use Rattle.fast_check_skeleton.proofs.AlikeFunctions.{implementation_alike}
 use Rattle.fast_check_skeleton.specs.Skeleton.{transformed, skeleton_of, faults_of}
 use Rattle.fast_check_skeleton.specs.Hidden.{IsSilentDecl, IsSilent, SameHead, SameDeclarator, SameDeclarators, SameStatement}
 use Rattle.fast_check_skeleton.specs.Hidden.{SameFunctionDecl, SameClassDecl, SameDecl, SameNamespaceHead, SameInnerHead, SameItem, SameNamespace}
@@ -75,8 +75,8 @@ use Rattle.fast_check_skeleton.proofs.Namespaces.{hidden_namespace, global_is, a
 use Rattle.fast_check_expression_forms.specs.Operators.{AssignExpr-span, AssignExpr-left}
 use Rattle.fast_check_statement_forms.specs.Statements.{ExprStmt-expr}
 use Rattle.fast_check_modules.specs.Expandos.{is_expando_assignment}
-use Rattle.fast_check_typed_grammar.specs.signatures.Seen.{tested}
-use Rattle.fast_check_typed_grammar.specs.signatures.Answers.{answer_to}
+use Rattle.fast_check_signatures.specs.Seen.{tested}
+use Rattle.fast_check_signatures.specs.Answers.{answer_to}
 use Rattle.fast_check_expandos.specs.declared.properties.ExpandoProperty.{ExpandoProperty}
 use Rattle.fast_check_expandos.specs.Assignments.{right_seen, missing_place, kept_property}
 use Rattle.fast_check_expandos.specs.Expandos.{namespaces_seen}
@@ -88,7 +88,7 @@ use Rattle.fast_check_skeleton.proofs.AgreeingDefaults.{silent_default, defaults
 use Rattle.fast_check_skeleton.specs.SameLinks as l
 use Rattle.fast_check_skeleton.specs.Hidden as h
 use Rattle.fast_check_skeleton.specs.Worlds.{SameFault, SameSkeleton}
-use Rattle.fast_check_typed_grammar.proofs.signature_proofs.AnswersMoved.{moved_fault, moved_items, answer_of_moved}
+use Rattle.fast_check_signatures.proofs.AnswersMoved.{moved_fault, moved_items, answer_of_moved}
 
 -- ---- what is silent is not seen
 

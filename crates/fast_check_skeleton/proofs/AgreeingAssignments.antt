@@ -12,15 +12,15 @@ use Rattle.fast_check_expression_forms.specs.Calls.{MemberExpr-span}
 use Rattle.fast_check_expression_forms.specs.Operators.{AssignExpr-span, AssignExpr-left, AssignExpr-right}
 use Rattle.fast_check_ranges.specs.Ranges.{range_of_node}
 use Rattle.fast_check_modules.specs.Expandos.{is_expando_assignment}
-use Rattle.fast_check_typed_grammar.specs.signatures.Answers.{answer_to}
-use Rattle.fast_check_typed_grammar.specs.signatures.Seen.{tested, refused}
-use Rattle.fast_check_typed_grammar.proofs.signature_proofs.AnswersMoved.{answer_to_moved}
-use Rattle.fast_check_same_values.specs.SameValues.{SameBindings}
-use Rattle.fast_check_same_values.proofs.Alike.{expr_alike}
-use Rattle.fast_check_same_values.proofs.AlikeSeen.{Alike, AllAlike, alike_if, all_alike_if}
-use Rattle.fast_check_same_values.proofs.AlikePresent.{expr_absent}
-use Rattle.fast_check_typed_grammar.specs.signatures.Expressions.{expr_seen}
-use Rattle.fast_check_same_values.proofs.AlikeTrees.{range_field_alike}
+use Rattle.fast_check_signatures.specs.Answers.{answer_to}
+use Rattle.fast_check_signatures.specs.Seen.{tested, refused}
+use Rattle.fast_check_signatures.proofs.AnswersMoved.{answer_to_moved}
+use Rattle.fast_check_skeleton.specs.SameValues.{SameBindings}
+use Rattle.fast_check_skeleton.proofs.Alike.{expr_alike}
+use Rattle.fast_check_skeleton.proofs.AlikeSeen.{Alike, AllAlike, alike_if, all_alike_if}
+use Rattle.fast_check_skeleton.proofs.AlikePresent.{expr_absent}
+use Rattle.fast_check_signatures.specs.Expressions.{expr_seen}
+use Rattle.fast_check_skeleton.proofs.AlikeTrees.{range_field_alike}
 use Rattle.fast_check_expandos.specs.declared.properties.ExpandoProperty.{ExpandoProperty}
 use Rattle.fast_check_expandos.specs.Assignments.{right_seen, is_declared, missing_place, assignment_seen, kept_property, declared_properties, mentioned_in}
 use Rattle.fast_check_expandos.specs.Expandos.{object_of, property_declarator, property_of, namespaces_seen}

@@ -17,10 +17,10 @@ use Rattle.fast_check_program_forms.specs.ModuleDecls.{ImportDecl-with, ImportDe
 use Rattle.fast_check_program_forms.specs.ModuleDecls.{NamedExport-span, NamedExport-specifiers, NamedExport-src, NamedExport-type_only, NamedExport-with}
 use Rattle.fast_check_program_forms.specs.ModuleDecls.{ExportAll-span, ExportAll-src, ExportAll-type_only, ExportAll-with, TsImportEqualsDecl-span}
 use Rattle.fast_check_ranges.specs.Ranges.{range_of_node}
-use Rattle.fast_check_typed_grammar.specs.signatures.Seen.{written}
-use Rattle.fast_check_same_values.proofs.AlikeTrees.{TreeAlike, new_alike, absent_alike, range_leaf_alike, flag_leaf_alike, node_alike}
-use Rattle.fast_check_same_values.proofs.AlikeTrees.{range_field_alike}
-use Rattle.fast_check_same_values.proofs.AlikeSeen.{AllAlike, same_written, written_alike, all_alike_if}
+use Rattle.fast_check_signatures.specs.Seen.{written}
+use Rattle.fast_check_skeleton.proofs.AlikeTrees.{TreeAlike, new_alike, absent_alike, range_leaf_alike, flag_leaf_alike, node_alike}
+use Rattle.fast_check_skeleton.proofs.AlikeTrees.{range_field_alike}
+use Rattle.fast_check_skeleton.proofs.AlikeSeen.{AllAlike, same_written, written_alike, all_alike_if}
 use Rattle.fast_check_skeleton.specs.declared.rules.ItemRule.TheVariants.{Linked}
 use Rattle.fast_check_skeleton.specs.declared.rules.LinkRule.{LinkRule}
 use Rattle.fast_check_skeleton.specs.declared.rules.LinkRule.TheVariants.{Import, Export, All, Alias}

@@ -20,21 +20,21 @@ use Rattle.fast_check_class_forms.specs.Functions.{Function-params}
 use Rattle.fast_check_statement_forms.specs.Declarations.{ClassDecl-class, FnDecl-function}
 use Rattle.fast_check_helpers.specs.Builders.{new_ident, ts_keyword_type, type_ann}
 use Rattle.fast_check_ranges.specs.Ranges.{range_of_node}
-use Rattle.fast_check_typed_grammar.specs.signatures.NewNodes.{no_scope, ident_name}
-use Rattle.fast_check_typed_grammar.specs.signatures.Members.{is_hash_named}
-use Rattle.fast_check_typed_grammar.specs.signatures.Classes.{private_method_head}
-use Rattle.fast_check_same_values.specs.SameValues.{SameFunctionHead, SameReturn, SameFunction}
-use Rattle.fast_check_same_values.specs.SameValues as v
-use Rattle.fast_check_same_values.specs.SameClasses.{IsNoPartner, SamePropertyHead, SameMembers, SameClassHead, SameClass}
-use Rattle.fast_check_same_values.specs.SameClasses as s
-use Rattle.fast_check_same_values.proofs.AlikeTrees.{new_alike}
+use Rattle.fast_check_signatures.specs.NewNodes.{no_scope, ident_name}
+use Rattle.fast_check_signatures.specs.Members.{is_hash_named}
+use Rattle.fast_check_signatures.specs.Classes.{private_method_head}
+use Rattle.fast_check_skeleton.specs.SameValues.{SameFunctionHead, SameReturn, SameFunction}
+use Rattle.fast_check_skeleton.specs.SameValues as v
+use Rattle.fast_check_skeleton.specs.SameClasses.{IsNoPartner, SamePropertyHead, SameMembers, SameClassHead, SameClass}
+use Rattle.fast_check_skeleton.specs.SameClasses as s
+use Rattle.fast_check_skeleton.proofs.AlikeTrees.{new_alike}
 use Rattle.fast_check_skeleton.specs.Hidden.{AgreeHidden, SameFunctionDecl, SameClassDecl, SameItem, SameItems}
 use Rattle.fast_check_skeleton.specs.Hidden as h
 use Rattle.fast_check_skeleton.specs.Visible.{items_of}
 use Rattle.fast_check_skeleton.specs.Skeleton.{skeleton_of}
 use Rattle.fast_check_skeleton.specs.ClassExample.{void_function, function_f, method_m, class_of_members, class_c, static_block, empty_statement, parameter}
 use Rattle.fast_check_skeleton.specs.ClassExample.{module_of, first, second, no_places, no_classes, all_public, property_m, ClassExample}
-use Rattle.fast_check_typed_grammar.proofs.TypedFunctions.{absent}
+use Rattle.fast_check_skeleton.proofs.TypedFunctions.{absent}
 use Rattle.fast_check_skeleton.specs.Example.{at}
 use Rattle.fast_check_skeleton.proofs.Namespaces.{item_seen_is}
 use Rattle.fast_check_skeleton.proofs.Example.{context_of_context}

@@ -26,21 +26,21 @@ use Rattle.fast_check_statement_forms.specs.TsDeclarations.{TsModuleDecl-span}
 use Rattle.fast_check_ranges.specs.Ranges.{range_of_node}
 use Rattle.fast_check_skeleton.specs.Surroundings.{Surroundings, inside}
 use Rattle.fast_check_skeleton.specs.Namespaces.{is_namespace, innermost, block_items, items_inside}
-use Rattle.fast_check_typed_grammar.specs.signatures.Seen.{Seen}
+use Rattle.fast_check_signatures.specs.Seen.{Seen}
 use Rattle.fast_check_skeleton.specs.Visible.{is_ambient_class, item_seen}
 use Rattle.fast_check_skeleton.specs.KeptComments.{start_of_unseen, starts_of_removed, starts_in_decl, starts_in_default, starts_inside, removed_start}
 use Rattle.fast_check_skeleton.specs.KeptComments.{starts_in_namespace, starts_in_body, starts_below, start_look, removed_from, removed_starts, without_all_leading}
 use Rattle.fast_check_skeleton.specs.KeptComments.{kept_comments}
 use Rattle.fast_check_skeleton.specs.SameComments.{all_comments_at, SameComment, SameAtPairs, SameComments}
 use Rattle.fast_check_skeleton.specs.Hidden.{SameDecl, SameNamespaceHead, SameItem, SameNamespace, SameBody, SameItems, AgreeHidden}
-use Rattle.fast_check_same_values.specs.SameClasses.{HasNoPartner, IsNoPartner}
+use Rattle.fast_check_skeleton.specs.SameClasses.{HasNoPartner, IsNoPartner}
 use Rattle.fast_check_skeleton.specs.Hidden as h
 use Rattle.fast_check_skeleton.specs.SameDefaults.{SameDefaultDecl, SameDefault}
 use Rattle.fast_check_skeleton.specs.SameDefaults as defaults
-use Rattle.fast_check_same_values.specs.SameValues.{SameBindings, Both}
-use Rattle.fast_check_same_values.specs.SameValues as v
+use Rattle.fast_check_skeleton.specs.SameValues.{SameBindings, Both}
+use Rattle.fast_check_skeleton.specs.SameValues as v
 use Rattle.fast_check_skeleton.specs.Worlds.{TwoWorlds}
-use Rattle.fast_check_same_values.proofs.AlikeSeen.{AllAlike}
+use Rattle.fast_check_skeleton.proofs.AlikeSeen.{AllAlike}
 use Rattle.fast_check_skeleton.specs.Kinds.{is_standing}
 use Rattle.fast_check_skeleton.specs.declared.rules.DefaultRule.{DefaultRule}
 use Rattle.fast_check_skeleton.specs.declared.rules.DefaultRule.TheVariants.{Value, Class, Function, Interface}

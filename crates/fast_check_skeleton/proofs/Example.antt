@@ -28,7 +28,7 @@ use Rattle.fast_check_skeleton.specs.Mutability.{mutability_of}
 use Rattle.fast_check_ranges.specs.Ranges.{range_of_node}
 use Rattle.fast_check_skeleton.specs.Visible.{declared_ident, declared_type, is_public_declarator, items_of}
 use Rattle.fast_check_skeleton.specs.Hidden.{AgreeHidden, SameHead, SameDeclarator, SameDeclarators, SameStatement, SameDecl, SameItem, SameItems}
-use Rattle.fast_check_same_values.specs.SameClasses.{IsNoPartner}
+use Rattle.fast_check_skeleton.specs.SameClasses.{IsNoPartner}
 use Rattle.fast_check_skeleton.specs.Hidden as h
 use Rattle.fast_check_skeleton.specs.SameLinks as l
 use Rattle.fast_check_skeleton.specs.KeptComments.{kept_comments}

@@ -18,14 +18,14 @@ use Rattle.fast_check_statement_forms.specs.Statements.{ExprStmt-expr}
 use Rattle.fast_check_helpers.specs.Builders.{new_ident, ts_keyword_type}
 use Rattle.fast_check_modules.specs.Expandos.{is_expando_assignment}
 use Rattle.fast_check_ranges.specs.Ranges.{range_of_node}
-use Rattle.fast_check_same_values.specs.SameValues.{SameExpr}
-use Rattle.fast_check_same_values.specs.SameValues as v
-use Rattle.fast_check_typed_grammar.specs.signatures.Answers.{answer_to, answer_of}
-use Rattle.fast_check_typed_grammar.specs.signatures.Expressions.{expr_seen}
-use Rattle.fast_check_typed_grammar.specs.signatures.NewNodes.{never_in_parens}
-use Rattle.fast_check_typed_grammar.specs.signatures.Seen.{Seen, written, range, round, tested, refused, seens}
-use Rattle.fast_check_typed_grammar.proofs.signature_proofs.Adding.{answer_append}
-use Rattle.fast_check_typed_grammar.proofs.signature_proofs.Looks.{expr_seen_is}
+use Rattle.fast_check_skeleton.specs.SameValues.{SameExpr}
+use Rattle.fast_check_skeleton.specs.SameValues as v
+use Rattle.fast_check_signatures.specs.Answers.{answer_to, answer_of}
+use Rattle.fast_check_signatures.specs.Expressions.{expr_seen}
+use Rattle.fast_check_signatures.specs.NewNodes.{never_in_parens}
+use Rattle.fast_check_signatures.specs.Seen.{Seen, written, range, round, tested, refused, seens}
+use Rattle.fast_check_signatures.proofs.Adding.{answer_append}
+use Rattle.fast_check_signatures.proofs.Looks.{expr_seen_is}
 use Rattle.fast_check_expandos.specs.declared.properties.ExpandoProperty.{ExpandoProperty}
 use Rattle.fast_check_expandos.specs.declared.references.Reference.{Reference}
 use Rattle.fast_check_expandos.specs.Assignments.{right_seen, missing_place, assignment_seen, kept_property, declared_properties}

@@ -20,18 +20,18 @@ use Rattle.fast_check_class_forms.specs.Methods.{ClassMethod-is_abstract, ClassM
 use Rattle.fast_check_helpers.specs.declared.literal_type.DeclMutabilityKind.TheVariants.{Mutable}
 use Rattle.fast_check_helpers.specs.Builders.{type_ann, any_type_ann}
 use Rattle.fast_check_helpers.specs.InferredType.{inferred_type}
-use Rattle.fast_check_typed_grammar.specs.signatures.Bindings.{Bindings}
-use Rattle.fast_check_typed_grammar.specs.signatures.Seen.{PropertyHead, Seen, written, range, scope, flag, listed, seens}
-use Rattle.fast_check_typed_grammar.specs.signatures.Answers.{settled, with_tree, class_of, declared_property, valued_property, answer_to, parts_answer, answer_of}
-use Rattle.fast_check_typed_grammar.specs.signatures.Members.{is_private, is_hash_named_kind, is_hash_named, hash_mark, stays_by_kind, stays_behind, each_behind, if_kept}
-use Rattle.fast_check_typed_grammar.specs.signatures.Members.{kept_members}
-use Rattle.fast_check_typed_grammar.specs.signatures.Classes.{superclass_seen, typed_property, mutability_of_property, property_head, accessor_head, private_method_head}
-use Rattle.fast_check_typed_grammar.specs.signatures.Classes.{param_properties, patterns_among, param_property_head, constructor_body, method_function_seen}
-use Rattle.fast_check_typed_grammar.specs.signatures.Classes.{unless_any, constructor_of, unless_taken_apart, class_head, untyped_property_seen, property_seen}
-use Rattle.fast_check_typed_grammar.specs.signatures.Classes.{untyped_accessor_seen, accessor_seen, method_seen, constructor_params_seen, constructor_seen, member_of_kind}
-use Rattle.fast_check_typed_grammar.specs.signatures.Classes.{member_seen, param_property_type, param_property, declared_by_params, members_seen}
-use Rattle.fast_check_typed_grammar.proofs.signature_proofs.Adding.{answer_append}
-use Rattle.fast_check_typed_grammar.proofs.signature_proofs.Choices.{of_choice}
+use Rattle.fast_check_signatures.specs.Bindings.{Bindings}
+use Rattle.fast_check_signatures.specs.Seen.{PropertyHead, Seen, written, range, scope, flag, listed, seens}
+use Rattle.fast_check_signatures.specs.Answers.{settled, with_tree, class_of, declared_property, valued_property, answer_to, parts_answer, answer_of}
+use Rattle.fast_check_signatures.specs.Members.{is_private, is_hash_named_kind, is_hash_named, hash_mark, stays_by_kind, stays_behind, each_behind, if_kept}
+use Rattle.fast_check_signatures.specs.Members.{kept_members}
+use Rattle.fast_check_signatures.specs.Classes.{superclass_seen, typed_property, mutability_of_property, property_head, accessor_head, private_method_head}
+use Rattle.fast_check_signatures.specs.Classes.{param_properties, patterns_among, param_property_head, constructor_body, method_function_seen}
+use Rattle.fast_check_signatures.specs.Classes.{unless_any, constructor_of, unless_taken_apart, class_head, untyped_property_seen, property_seen}
+use Rattle.fast_check_signatures.specs.Classes.{untyped_accessor_seen, accessor_seen, method_seen, constructor_params_seen, constructor_seen, member_of_kind}
+use Rattle.fast_check_signatures.specs.Classes.{member_seen, param_property_type, param_property, declared_by_params, members_seen}
+use Rattle.fast_check_signatures.proofs.Adding.{answer_append}
+use Rattle.fast_check_signatures.proofs.Choices.{of_choice}
 use Rattle.fast_check_skeleton.specs.HashMark.{IsMarked, HashMarked}
 
 -- ---- trees without a hash name

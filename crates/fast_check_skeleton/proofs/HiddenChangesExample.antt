@@ -22,13 +22,13 @@ use Rattle.fast_check_helpers.specs.Builders.{new_ident, ts_keyword_type}
 use Rattle.fast_check_helpers.specs.InferredType.{inferred_type}
 use Rattle.fast_check_helpers.proofs.InferredTypes.{inferred_out}
 use Rattle.fast_check_modules.specs.Expandos.{is_expando_assignment}
-use Rattle.fast_check_typed_grammar.specs.signatures.Expressions.{is_refused}
-use Rattle.fast_check_typed_grammar.specs.signatures.Members.{is_hash_named}
-use Rattle.fast_check_typed_grammar.specs.signatures.NewNodes.{no_scope}
-use Rattle.fast_check_same_values.specs.SameClasses.{SameMembers, SameClassHead, SameClass}
-use Rattle.fast_check_same_values.specs.SameClasses as s
-use Rattle.fast_check_same_values.specs.SameValues.{SameExpr, SameFunction, SameParams, SamePat}
-use Rattle.fast_check_same_values.specs.SameValues as v
+use Rattle.fast_check_signatures.specs.Expressions.{is_refused}
+use Rattle.fast_check_signatures.specs.Members.{is_hash_named}
+use Rattle.fast_check_signatures.specs.NewNodes.{no_scope}
+use Rattle.fast_check_skeleton.specs.SameClasses.{SameMembers, SameClassHead, SameClass}
+use Rattle.fast_check_skeleton.specs.SameClasses as s
+use Rattle.fast_check_skeleton.specs.SameValues.{SameExpr, SameFunction, SameParams, SamePat}
+use Rattle.fast_check_skeleton.specs.SameValues as v
 use Rattle.fast_check_skeleton.specs.Hidden.{AgreeHidden, SameFunctionDecl, SameClassDecl, SameItem, SameItems}
 use Rattle.fast_check_skeleton.specs.Hidden as h
 use Rattle.fast_check_skeleton.specs.SameAssignments.{SameAssignment}

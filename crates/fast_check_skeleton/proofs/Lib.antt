@@ -1,3 +1,25 @@
+pub use Rattle.fast_check_signatures.proofs as signature_proofs
+pub mod AlikeTrees
+pub mod AlikeMembers
+pub mod AlikeSeen
+pub mod AlikeParameters
+pub mod AlikeFunctions
+pub mod AlikeExpressions
+pub mod Alike
+pub mod AlikePresent
+pub mod AlikeProperties
+pub mod AlikeClasses
+pub mod HiddenChanges
+pub mod HiddenRules
+pub mod Descending
+pub mod Staying
+pub mod StayingLists
+pub mod TypedPatterns
+pub mod TypedFunctions
+pub mod TypedArrows
+pub mod Typed
+pub mod Present
+pub mod TypedClasses
 pub mod Ruled
 pub mod Namespaces
 pub mod ItemRanges

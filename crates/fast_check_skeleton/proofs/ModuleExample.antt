@@ -9,8 +9,8 @@ use Rattle.fast_check_syntax.proofs.Made.{kind_of_node, parts_node, part_node, i
 use Rattle.fast_check_syntax.proofs.Moved.{node_moved, absent_moved, text_moved, context_moved, flag_moved, range_moved, none_moved}
 use Rattle.fast_check_expression_forms.specs.Expressions.{FnExpr-ident, FnExpr-function}
 use Rattle.fast_check_program_forms.specs.ModuleDecls.{ImportDecl-specifiers, ImportDecl-src, ExportDefaultDecl-decl}
-use Rattle.fast_check_same_values.specs.SameValues.{SameFunction}
-use Rattle.fast_check_typed_grammar.proofs.TypedFunctions.{absent}
+use Rattle.fast_check_skeleton.specs.SameValues.{SameFunction}
+use Rattle.fast_check_skeleton.proofs.TypedFunctions.{absent}
 use Rattle.fast_check_skeleton.specs.Hidden.{AgreeHidden, SameItem, SameItems}
 use Rattle.fast_check_skeleton.specs.Hidden as h
 use Rattle.fast_check_skeleton.specs.Links.{is_public_specifier}

@@ -11,8 +11,8 @@ use Rattle.fast_check_statement_forms.specs.TsDeclarations.{TsModuleDecl-span, T
 use Rattle.fast_check_statement_forms.specs.TsDeclarations.{TsModuleDecl-id, TsModuleDecl-body, TsNamespaceDecl-body}
 use Rattle.fast_check_helpers.specs.Builders.{new_ident}
 use Rattle.fast_check_ranges.specs.Ranges.{range_of_node}
-use Rattle.fast_check_same_values.specs.SameClasses.{IsNoPartner}
-use Rattle.fast_check_typed_grammar.specs.signatures.Seen.{Seen, written, range, flag, round, seens}
+use Rattle.fast_check_skeleton.specs.SameClasses.{IsNoPartner}
+use Rattle.fast_check_signatures.specs.Seen.{Seen, written, range, flag, round, seens}
 use Rattle.fast_check_expandos.specs.Expandos.{namespaces_seen}
 use Rattle.fast_check_skeleton.specs.ClassExample.{no_places, all_public}
 use Rattle.fast_check_skeleton.specs.Example.{at}

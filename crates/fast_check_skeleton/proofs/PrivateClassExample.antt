@@ -15,13 +15,13 @@ use Rattle.fast_check_ranges.specs.Ranges.{range_of_node}
 use Rattle.fast_check_program_forms.specs.ModuleDecls.{ExportDecl-decl}
 use Rattle.fast_check_statement_forms.specs.Declarations.{VarDecl-kind, VarDecl-decls}
 use Rattle.fast_check_helpers.specs.Builders.{new_ident, ts_keyword_type, type_ann, never_value}
-use Rattle.fast_check_typed_grammar.specs.signatures.Bindings.{Bindings}
-use Rattle.fast_check_typed_grammar.specs.signatures.Expressions.{is_plain, is_compound, is_among, other_kinds, freezes, is_made, known_by_kind, is_known, is_refused, makes_plain}
-use Rattle.fast_check_typed_grammar.proofs.TypedFunctions.{absent}
-use Rattle.fast_check_typed_grammar.proofs.signature_proofs.Choices.{both_true}
-use Rattle.fast_check_same_values.specs.SameClasses.{HasNoPartner}
-use Rattle.fast_check_same_values.specs.SameValues.{SameExpr}
-use Rattle.fast_check_same_values.specs.SameValues as v
+use Rattle.fast_check_signatures.specs.Bindings.{Bindings}
+use Rattle.fast_check_signatures.specs.Expressions.{is_plain, is_compound, is_among, other_kinds, freezes, is_made, known_by_kind, is_known, is_refused, makes_plain}
+use Rattle.fast_check_skeleton.proofs.TypedFunctions.{absent}
+use Rattle.fast_check_signatures.proofs.Choices.{both_true}
+use Rattle.fast_check_skeleton.specs.SameClasses.{HasNoPartner}
+use Rattle.fast_check_skeleton.specs.SameValues.{SameExpr}
+use Rattle.fast_check_skeleton.specs.SameValues as v
 use Rattle.fast_check_skeleton.specs.Mutability.{mutability_of}
 use Rattle.fast_check_skeleton.specs.Visible.{is_public_declarator}
 use Rattle.fast_check_skeleton.specs.Surroundings.{Surroundings}

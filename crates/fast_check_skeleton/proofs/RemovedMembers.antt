@@ -12,11 +12,11 @@ use Rattle.fast_check_syntax.specs.Moves.{Renaming, IsRenaming, IsPair}
 use Rattle.fast_check_syntax.specs.Same.{SameRange}
 use Rattle.fast_check_ranges.specs.Ranges.{range_of_node}
 use Rattle.fast_check_class_forms.specs.Classes.{Class-body}
-use Rattle.fast_check_typed_grammar.specs.signatures.Bindings.{Bindings}
-use Rattle.fast_check_typed_grammar.specs.signatures.Members.{stays_behind, each_behind, if_removed}
-use Rattle.fast_check_same_values.specs.SameClasses.{HasNoPartner, IsNoPartner, SameMember, SameMembers, SameClass}
-use Rattle.fast_check_same_values.specs.SameClasses as s
-use Rattle.fast_check_same_values.proofs.AlikeMembers.{silent, SameTaken, taken_left, taken_right, taken_next, stays_alike}
+use Rattle.fast_check_signatures.specs.Bindings.{Bindings}
+use Rattle.fast_check_signatures.specs.Members.{stays_behind, each_behind, if_removed}
+use Rattle.fast_check_skeleton.specs.SameClasses.{HasNoPartner, IsNoPartner, SameMember, SameMembers, SameClass}
+use Rattle.fast_check_skeleton.specs.SameClasses as s
+use Rattle.fast_check_skeleton.proofs.AlikeMembers.{silent, SameTaken, taken_left, taken_right, taken_next, stays_alike}
 use Rattle.fast_check_skeleton.specs.KeptComments.{starts_of_removed}
 use Rattle.fast_check_skeleton.proofs.ItemRanges.{range_of_constructor, range_of_method, range_of_property, range_of_accessor, range_alike}
 

@@ -8,7 +8,7 @@ use Rattle.fast_check_syntax.specs.declared.tree.Tree.{Tree}
 use Rattle.fast_check_syntax.specs.Shape.{◌is◌, is_kind, kind_of}
 use Rattle.fast_check_program_forms.specs.ModuleDecls.{ExportDecl-decl, ExportDefaultDecl-decl}
 use Rattle.fast_check_statement_forms.specs.Statements.{ExprStmt-expr}
-use Rattle.fast_check_typed_grammar.specs.signatures.declared.fault.FaultKind.TheVariants.{UnsupportedRequire}
+use Rattle.fast_check_signatures.specs.declared.fault.FaultKind.TheVariants.{UnsupportedRequire}
 use Rattle.fast_check_skeleton.specs.declared.rules.DeclRule.{DeclRule}
 use Rattle.fast_check_skeleton.specs.declared.rules.DeclRule.TheVariants.{Function, Class, Standing, Namespace}
 use Rattle.fast_check_skeleton.specs.declared.rules.ItemRule.{ItemRule}

@@ -17,14 +17,14 @@ use Rattle.fast_check_ranges.specs.Ranges.{range_of_node}
 use Rattle.fast_check_statement_forms.specs.Declarations.{FnDecl-function}
 use Rattle.fast_check_statement_forms.specs.Statements.{ExprStmt-expr}
 use Rattle.fast_check_helpers.specs.Builders.{new_ident}
-use Rattle.fast_check_typed_grammar.specs.signatures.Answers.{answer_to}
-use Rattle.fast_check_typed_grammar.specs.signatures.Expressions.{is_plain, expr_seen}
-use Rattle.fast_check_typed_grammar.specs.signatures.NewNodes.{no_scope}
-use Rattle.fast_check_typed_grammar.specs.signatures.Seen.{written, refused}
-use Rattle.fast_check_typed_grammar.proofs.signature_proofs.Looks.{expr_seen_is}
-use Rattle.fast_check_same_values.specs.SameClasses.{HasNoPartner}
-use Rattle.fast_check_same_values.specs.SameValues.{SameExpr, SameFunction}
-use Rattle.fast_check_same_values.specs.SameValues as v
+use Rattle.fast_check_signatures.specs.Answers.{answer_to}
+use Rattle.fast_check_signatures.specs.Expressions.{is_plain, expr_seen}
+use Rattle.fast_check_signatures.specs.NewNodes.{no_scope}
+use Rattle.fast_check_signatures.specs.Seen.{written, refused}
+use Rattle.fast_check_signatures.proofs.Looks.{expr_seen_is}
+use Rattle.fast_check_skeleton.specs.SameClasses.{HasNoPartner}
+use Rattle.fast_check_skeleton.specs.SameValues.{SameExpr, SameFunction}
+use Rattle.fast_check_skeleton.specs.SameValues as v
 use Rattle.fast_check_expandos.specs.Assignments.{right_seen, mentioned_by, mentioned_in}
 use Rattle.fast_check_expandos.specs.Expandos.{object_of, property_name}
 use Rattle.fast_check_expandos.specs.Objects.{no_objects}

@@ -27,20 +27,20 @@ use Rattle.fast_check_helpers.specs.declared.literal_type.DeclMutabilityKind.{De
 use Rattle.fast_check_helpers.specs.InferredType.{inferred_type}
 use Rattle.fast_check_statement_forms.specs.TsDeclarations.{TsModuleDecl-span, TsModuleDecl-declare, TsModuleDecl-global, TsModuleDecl-id}
 use Rattle.fast_check_ranges.specs.Ranges.{range_of_node}
-use Rattle.fast_check_typed_grammar.specs.signatures.declared.fault.FaultKind.TheVariants.{UnsupportedGlobalModule, UnsupportedAmbientModule, MissingExplicitType, UnsupportedDefaultExportExpr, UnsupportedUsing}
-use Rattle.fast_check_typed_grammar.specs.signatures.declared.function_kind.FunctionKind.TheVariants.{DeclarationLike}
-use Rattle.fast_check_typed_grammar.specs.signatures.Seen.{Seen, written, range, scope, flag, round, listed, faulty, seens}
-use Rattle.fast_check_typed_grammar.specs.signatures.Answers.{Answer, faultless, joined, visited, with_tree, round_answer, fault_at, answer_to, parts_answer, answer_of}
-use Rattle.fast_check_typed_grammar.specs.signatures.Expressions.{expr_seen}
-use Rattle.fast_check_typed_grammar.proofs.signature_proofs.Choices.{of_choice, no_left, not_empty}
-use Rattle.fast_check_typed_grammar.specs.TypedGrammar.{IsLeavable, IsTypedFunction}
-use Rattle.fast_check_typed_grammar.specs.ClassGrammar.{IsAmbientClass, IsTypedClass}
-use Rattle.fast_check_typed_grammar.specs.signatures.Classes.{plain_class_seen, ambient_class}
-use Rattle.fast_check_typed_grammar.proofs.Staying.{Holds, Stays, round_stays, written_before, last_stays, demanded_holds}
-use Rattle.fast_check_typed_grammar.proofs.StayingLists.{AllStay, all_flat, all_hold, some_weaker, all_weaker, all_if, both_some}
-use Rattle.fast_check_typed_grammar.proofs.TypedClasses.{ambient_stands, class_stays}
-use Rattle.fast_check_typed_grammar.proofs.Present.{stays_there}
-use Rattle.fast_check_typed_grammar.proofs.Typed.{expr_stays, function_is_typed, implementation_is_typed}
+use Rattle.fast_check_signatures.specs.declared.fault.FaultKind.TheVariants.{UnsupportedGlobalModule, UnsupportedAmbientModule, MissingExplicitType, UnsupportedDefaultExportExpr, UnsupportedUsing}
+use Rattle.fast_check_signatures.specs.declared.function_kind.FunctionKind.TheVariants.{DeclarationLike}
+use Rattle.fast_check_signatures.specs.Seen.{Seen, written, range, scope, flag, round, listed, faulty, seens}
+use Rattle.fast_check_signatures.specs.Answers.{Answer, faultless, joined, visited, with_tree, round_answer, fault_at, answer_to, parts_answer, answer_of}
+use Rattle.fast_check_signatures.specs.Expressions.{expr_seen}
+use Rattle.fast_check_signatures.proofs.Choices.{of_choice, no_left, not_empty}
+use Rattle.fast_check_skeleton.specs.TypedGrammar.{IsLeavable, IsTypedFunction}
+use Rattle.fast_check_skeleton.specs.ClassGrammar.{IsAmbientClass, IsTypedClass}
+use Rattle.fast_check_signatures.specs.Classes.{plain_class_seen, ambient_class}
+use Rattle.fast_check_skeleton.proofs.Staying.{Holds, Stays, round_stays, written_before, last_stays, demanded_holds}
+use Rattle.fast_check_skeleton.proofs.StayingLists.{AllStay, all_flat, all_hold, some_weaker, all_weaker, all_if, both_some}
+use Rattle.fast_check_skeleton.proofs.TypedClasses.{ambient_stands, class_stays}
+use Rattle.fast_check_skeleton.proofs.Present.{stays_there}
+use Rattle.fast_check_skeleton.proofs.Typed.{expr_stays, function_is_typed, implementation_is_typed}
 use Rattle.fast_check_skeleton.specs.declared.rules.DeclRule.{DeclRule}
 use Rattle.fast_check_skeleton.specs.declared.rules.DeclRule.TheVariants.{Variables, Function, Class, Standing, Namespace, Using, NoDeclaration}
 use Rattle.fast_check_skeleton.specs.declared.rules.DefaultRule.{DefaultRule}
@@ -74,9 +74,8 @@ use Rattle.fast_check_skeleton.proofs.Namespaces.{item_seen_is, items_below}
 use Rattle.fast_check_syntax.specs.Height.{height, height_at_most}
 use Rattle.fast_check_expandos.specs.Assignments.{right_seen, missing_place}
 use Rattle.fast_check_expression_forms.specs.Operators.{AssignExpr-span}
-use Rattle.fast_check_statement_forms.specs.Statements.{ExprStmt-expr}
-use Rattle.fast_check_typed_grammar.specs.signatures.Answers.{tested_answer}
-use Rattle.fast_check_typed_grammar.specs.signatures.Seen.{tested}
+use Rattle.fast_check_signatures.specs.Answers.{tested_answer}
+use Rattle.fast_check_signatures.specs.Seen.{tested}
 use Rattle.fast_check_skeleton.proofs.Ruled.{standing_kind, function_kind}
 
 -- ---- declarators

@@ -23,19 +23,19 @@ use Rattle.fast_check_statement_forms.specs.TsDeclarations.{TsModuleDecl-global,
 use Rattle.fast_check_statement_forms.specs.TsDeclarations.{TsModuleBlock-body, ts_module_block}
 use Rattle.fast_check_program_forms.specs.Names.{BindingIdent-type_ann, binding_ident}
 use Rattle.fast_check_statement_forms.specs.Declarations.{VarDeclarator-name, VarDeclarator-init, var_declarator}
-use Rattle.fast_check_modules.specs.symbol_tables.Tables.{same_id}
+use Rattle.fast_check_modules.specs.symbols.Tables.{same_id}
 use Rattle.fast_check_modules.specs.Expandos.{is_expando_assignment}
-use Rattle.fast_check_typed_grammar.specs.signatures.Bindings.{Bindings}
-use Rattle.fast_check_typed_grammar.specs.signatures.declared.fault.FaultKind.TheVariants.{MissingExplicitType}
-use Rattle.fast_check_typed_grammar.specs.signatures.Seen.{Seen, tested}
-use Rattle.fast_check_typed_grammar.specs.signatures.Answers.{Answer, answer_to, answer_of, tested_answer, unless_stays, fault_at}
-use Rattle.fast_check_typed_grammar.proofs.signature_proofs.Choices.{of_choice, no_left, no_right, not_empty}
-use Rattle.fast_check_typed_grammar.proofs.signature_proofs.Adding.{answer_append}
-use Rattle.fast_check_typed_grammar.specs.TypedGrammar.{IsLeavable}
-use Rattle.fast_check_typed_grammar.proofs.Present.{stays_there}
-use Rattle.fast_check_typed_grammar.proofs.Staying.{Holds, Stays}
-use Rattle.fast_check_typed_grammar.proofs.StayingLists.{AllStay, all_append, both_some}
-use Rattle.fast_check_typed_grammar.proofs.Typed.{expr_stays}
+use Rattle.fast_check_signatures.specs.Bindings.{Bindings}
+use Rattle.fast_check_signatures.specs.declared.fault.FaultKind.TheVariants.{MissingExplicitType}
+use Rattle.fast_check_signatures.specs.Seen.{Seen, tested}
+use Rattle.fast_check_signatures.specs.Answers.{Answer, answer_to, answer_of, tested_answer, unless_stays, fault_at}
+use Rattle.fast_check_signatures.proofs.Choices.{of_choice, no_left, no_right, not_empty}
+use Rattle.fast_check_signatures.proofs.Adding.{answer_append}
+use Rattle.fast_check_skeleton.specs.TypedGrammar.{IsLeavable}
+use Rattle.fast_check_skeleton.proofs.Present.{stays_there}
+use Rattle.fast_check_skeleton.proofs.Staying.{Holds, Stays}
+use Rattle.fast_check_skeleton.proofs.StayingLists.{AllStay, all_append, both_some}
+use Rattle.fast_check_skeleton.proofs.Typed.{expr_stays}
 use Rattle.fast_check_expandos.specs.declared.properties.ExpandoProperty.{ExpandoProperty}
 use Rattle.fast_check_expandos.specs.declared.references.Reference.{Reference}
 use Rattle.fast_check_expandos.specs.Assignments.{right_seen, missing_place, assignment_seen, kept_property, declared_properties}

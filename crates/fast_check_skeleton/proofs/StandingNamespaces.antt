@@ -13,11 +13,11 @@ use Rattle.fast_check_statement_forms.specs.TsDeclarations.{TsModuleDecl-span, T
 use Rattle.fast_check_statement_forms.specs.TsDeclarations.{TsModuleDecl-id, TsModuleDecl-body, TsModuleBlock-span, TsModuleBlock-body}
 use Rattle.fast_check_statement_forms.specs.TsDeclarations.{TsNamespaceDecl-span, TsNamespaceDecl-declare, TsNamespaceDecl-global, TsNamespaceDecl-id}
 use Rattle.fast_check_statement_forms.specs.TsDeclarations.{TsNamespaceDecl-body, ts_module_block}
-use Rattle.fast_check_typed_grammar.specs.signatures.Bindings.{Bindings}
-use Rattle.fast_check_typed_grammar.specs.signatures.Seen.{Seen}
-use Rattle.fast_check_typed_grammar.specs.signatures.Answers.{Answer, answer_to, answer_of, faultless, round_answer, visited}
-use Rattle.fast_check_typed_grammar.proofs.Staying.{Holds, items_hold}
-use Rattle.fast_check_typed_grammar.proofs.StayingLists.{AllStay}
+use Rattle.fast_check_signatures.specs.Bindings.{Bindings}
+use Rattle.fast_check_signatures.specs.Seen.{Seen}
+use Rattle.fast_check_signatures.specs.Answers.{Answer, answer_to, answer_of, faultless, round_answer, visited}
+use Rattle.fast_check_skeleton.proofs.Staying.{Holds, items_hold}
+use Rattle.fast_check_skeleton.proofs.StayingLists.{AllStay}
 use Rattle.fast_check_skeleton.specs.Grammar.{IsTypedItem, IsTypedNamespace, IsTypedBody, AllTypedItems}
 use Rattle.fast_check_skeleton.specs.Grammar as g
 use Rattle.fast_check_skeleton.specs.Namespaces.{is_namespace, body_round, namespace_round, inner_namespace, with_form, body_with, namespace_with}

@@ -16,9 +16,9 @@ use Rattle.fast_check_program_forms.specs.Names.{binding_ident}
 use Rattle.fast_check_program_forms.specs.Programs.{module'}
 use Rattle.fast_check_statement_forms.specs.Declarations.{class_decl, fn_decl}
 use Rattle.fast_check_helpers.specs.Builders.{new_ident, ts_keyword_type, type_ann, any_type_ann}
-use Rattle.fast_check_typed_grammar.specs.signatures.Answers.{declared_property}
-use Rattle.fast_check_typed_grammar.specs.signatures.Bindings.{Bindings}
-use Rattle.fast_check_typed_grammar.specs.signatures.NewNodes.{no_scope, new_block, ident_name}
+use Rattle.fast_check_signatures.specs.Answers.{declared_property}
+use Rattle.fast_check_signatures.specs.Bindings.{Bindings}
+use Rattle.fast_check_signatures.specs.NewNodes.{no_scope, new_block, ident_name}
 use Rattle.fast_check_skeleton.specs.Example.{at}
 use Rattle.fast_check_expandos.specs.Objects.{no_objects}
 use Rattle.fast_check_skeleton.specs.Surroundings.{Surroundings}

@@ -9,11 +9,11 @@ use Rattle.fast_check_expression_forms.specs.Expressions.{ClassExpr-ident, Class
 use Rattle.fast_check_program_forms.specs.ModuleDecls.{ExportDefaultExpr-span, ExportDefaultExpr-expr, ExportDefaultDecl-span, ExportDefaultDecl-decl}
 use Rattle.fast_check_program_forms.specs.Names.{Ident-span}
 use Rattle.fast_check_ranges.specs.Ranges.{range_of_node}
-use Rattle.fast_check_typed_grammar.specs.signatures.declared.function_kind.FunctionKind.TheVariants.{DeclarationLike}
-use Rattle.fast_check_typed_grammar.specs.signatures.Classes.{plain_class_seen}
-use Rattle.fast_check_typed_grammar.specs.signatures.Expressions.{expr_seen}
-use Rattle.fast_check_typed_grammar.specs.signatures.Functions.{function_seen, implementation_seen}
-use Rattle.fast_check_typed_grammar.specs.signatures.Seen.{Seen, written, range, round, default_export, seens}
+use Rattle.fast_check_signatures.specs.declared.function_kind.FunctionKind.TheVariants.{DeclarationLike}
+use Rattle.fast_check_signatures.specs.Classes.{plain_class_seen}
+use Rattle.fast_check_signatures.specs.Expressions.{expr_seen}
+use Rattle.fast_check_signatures.specs.Functions.{function_seen, implementation_seen}
+use Rattle.fast_check_signatures.specs.Seen.{Seen, written, range, round, default_export, seens}
 use Rattle.fast_check_skeleton.specs.declared.rules.DefaultRule.{DefaultRule}
 use Rattle.fast_check_skeleton.specs.declared.rules.DefaultRule.TheVariants.{Value, Class, Function, Interface}
 use Rattle.fast_check_skeleton.specs.Surroundings.{Surroundings}

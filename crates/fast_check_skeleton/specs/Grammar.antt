@@ -4,7 +4,7 @@ use Rattle.fast_check_syntax.specs.declared.kind.Kind.TheVariants.{ImportDecl, N
 use Rattle.fast_check_syntax.specs.declared.kind.Kind.TheVariants.{ExportDefaultExpr, ExportDefaultDecl, ClassExpr, FnExpr, TsInterfaceDecl}
 use Rattle.fast_check_syntax.specs.declared.kind.Kind.TheVariants.{Module, ExportDecl, VarDecl, VarDeclarator, FnDecl, ClassDecl, BindingIdent}
 use Rattle.fast_check_syntax.specs.declared.kind.Kind.TheVariants.{TsModuleDecl, TsModuleBlock, TsNamespaceDecl}
-use Rattle.fast_check_typed_grammar.specs.signatures.Bindings.{Bindings}
+use Rattle.fast_check_signatures.specs.Bindings.{Bindings}
 use Rattle.fast_check_syntax.specs.declared.tree.Tree.{Tree}
 use Rattle.fast_check_syntax.specs.Shape.{kind_of, parts, is_absent, OfAll}
 use Rattle.fast_check_helpers.specs.Builders.{never_value}
@@ -12,8 +12,8 @@ use Rattle.fast_check_program_forms.specs.Names.{BindingIdent-type_ann}
 use Rattle.fast_check_program_forms.specs.Programs.{Module-body}
 use Rattle.fast_check_program_forms.specs.ModuleDecls.{ExportDecl-decl, ExportDefaultExpr-expr, ExportDefaultDecl-decl}
 use Rattle.fast_check_expression_forms.specs.Expressions.{ClassExpr-class, FnExpr-function}
-use Rattle.fast_check_typed_grammar.specs.TypedGrammar.{IsLeavable, IsTypedFunction}
-use Rattle.fast_check_typed_grammar.specs.ClassGrammar.{IsAmbientClass, IsTypedClass}
+use Rattle.fast_check_skeleton.specs.TypedGrammar.{IsLeavable, IsTypedFunction}
+use Rattle.fast_check_skeleton.specs.ClassGrammar.{IsAmbientClass, IsTypedClass}
 use Rattle.fast_check_statement_forms.specs.Declarations.{ClassDecl-declare, ClassDecl-class, FnDecl-function, VarDecl-declare, VarDecl-decls}
 use Rattle.fast_check_statement_forms.specs.Declarations.{VarDeclarator-name, VarDeclarator-init}
 use Rattle.fast_check_statement_forms.specs.TsDeclarations.{TsModuleDecl-declare, TsModuleDecl-body, TsModuleBlock-body, TsNamespaceDecl-body}

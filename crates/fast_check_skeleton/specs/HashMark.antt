@@ -5,11 +5,11 @@ use Rattle.fast_check_syntax.specs.declared.source.SourceRange.{SourceRange}
 use Rattle.fast_check_syntax.specs.declared.tree.Tree.{Tree}
 use Rattle.fast_check_syntax.specs.Shape.{parts}
 use Rattle.fast_check_class_forms.specs.Classes.{Class-body}
-use Rattle.fast_check_typed_grammar.specs.signatures.Bindings.{Bindings}
-use Rattle.fast_check_typed_grammar.specs.signatures.Answers.{answer_to}
-use Rattle.fast_check_typed_grammar.specs.signatures.NewNodes.{hash_private}
-use Rattle.fast_check_typed_grammar.specs.signatures.Members.{is_hash_named}
-use Rattle.fast_check_typed_grammar.specs.signatures.Classes.{plain_class_seen}
+use Rattle.fast_check_signatures.specs.Bindings.{Bindings}
+use Rattle.fast_check_signatures.specs.Answers.{answer_to}
+use Rattle.fast_check_signatures.specs.NewNodes.{hash_private}
+use Rattle.fast_check_signatures.specs.Members.{is_hash_named}
+use Rattle.fast_check_signatures.specs.Classes.{plain_class_seen}
 
 -- In the skeleton of a class that is not ambient `#private!: unknown` stands first exactly if the class had a method, a property or an accessor with a hash
 -- name, and no other member with a hash name stands there.

@@ -25,12 +25,12 @@ use Rattle.fast_check_expression_forms.specs.Operators.{AssignExpr-span}
 use Rattle.fast_check_statement_forms.specs.TsDeclarations.{TsModuleDecl-span, TsModuleDecl-declare, TsModuleDecl-global, TsModuleDecl-namespace}
 use Rattle.fast_check_statement_forms.specs.TsDeclarations.{TsModuleDecl-id, TsModuleDecl-body, TsModuleBlock-span, TsNamespaceDecl-span}
 use Rattle.fast_check_statement_forms.specs.TsDeclarations.{TsNamespaceDecl-declare, TsNamespaceDecl-global, TsNamespaceDecl-id, TsNamespaceDecl-body}
-use Rattle.fast_check_same_values.specs.SameValues.{SameBindings, Both, Neither, SameExpr, SameFunction, SameImplementation}
-use Rattle.fast_check_same_values.specs.SameClasses.{HasNoPartner, IsNoPartner, SameClass, SameAmbientClass}
+use Rattle.fast_check_skeleton.specs.SameValues.{SameBindings, Both, Neither, SameExpr, SameFunction, SameImplementation}
+use Rattle.fast_check_skeleton.specs.SameClasses.{HasNoPartner, IsNoPartner, SameClass, SameAmbientClass}
 use Rattle.fast_check_skeleton.specs.Kinds.{is_standing, is_statement}
 use Rattle.fast_check_skeleton.specs.Mutability.{mutability_of}
 use Rattle.fast_check_skeleton.specs.Namespaces.{is_ambient_module, is_namespace, block_items}
-use Rattle.fast_check_typed_grammar.specs.signatures.declared.fault.FaultKind.{FaultKind}
+use Rattle.fast_check_signatures.specs.declared.fault.FaultKind.{FaultKind}
 use Rattle.fast_check_skeleton.specs.declared.rules.ItemRule.TheVariants.{Refused}
 use Rattle.fast_check_skeleton.specs.Rules.{item_rule}
 use Rattle.fast_check_skeleton.specs.SameDefaults.{IsSilentDefault, SameDefault}

@@ -21,7 +21,7 @@ use Rattle.fast_check_program_forms.specs.ModuleDecls.{TsImportEqualsDecl-span, 
 use Rattle.fast_check_program_forms.specs.ModuleDecls.{ExportDefaultDecl-decl}
 use Rattle.fast_check_statement_forms.specs.Declarations.{VarDecl-decls, VarDeclarator-init}
 use Rattle.fast_check_statement_forms.specs.Statements.{ExprStmt-expr}
-use Rattle.fast_check_same_values.specs.SameClasses.{HasNoPartner, IsNoPartner}
+use Rattle.fast_check_skeleton.specs.SameClasses.{HasNoPartner, IsNoPartner}
 use Rattle.fast_check_skeleton.specs.Defaults.{is_public_value}
 use Rattle.fast_check_skeleton.specs.Kinds.{is_standing, is_default_decl}
 use Rattle.fast_check_skeleton.specs.Links.{public_specifiers}

@@ -16,8 +16,8 @@ use Rattle.fast_check_expression_forms.specs.Operators.{AssignExpr-span}
 use Rattle.fast_check_statement_forms.specs.Statements.{ExprStmt-expr}
 use Rattle.fast_check_program_forms.specs.ModuleDecls.{ExportDecl-span, ExportDecl-decl, ExportDefaultDecl-span, ExportDefaultDecl-decl}
 use Rattle.fast_check_statement_forms.specs.Declarations.{ClassDecl-class}
-use Rattle.fast_check_typed_grammar.specs.signatures.Members.{removed_members}
-use Rattle.fast_check_typed_grammar.specs.signatures.Seen.{Seen}
+use Rattle.fast_check_signatures.specs.Members.{removed_members}
+use Rattle.fast_check_signatures.specs.Seen.{Seen}
 use Rattle.fast_check_skeleton.specs.Namespaces.{is_namespace, items_inside}
 use Rattle.fast_check_skeleton.specs.Surroundings.{Surroundings, inside}
 use Rattle.fast_check_skeleton.specs.declared.rules.DeclRule.{DeclRule}

@@ -1,4 +1,11 @@
+pub use Rattle.fast_check_signatures.specs as signatures
 pub use Rattle.fast_check_expandos.specs as expandos
+pub mod SameValues
+pub mod SameClasses
+pub mod HiddenChanges
+pub mod HiddenRules
+pub mod TypedGrammar
+pub mod ClassGrammar
 pub mod Surroundings
 pub mod Kinds
 pub mod Rules

@@ -10,7 +10,7 @@ use Rattle.fast_check_statement_forms.specs.TsDeclarations.{TsModuleDecl-span, T
 use Rattle.fast_check_statement_forms.specs.TsDeclarations.{TsModuleDecl-id, TsModuleDecl-body, TsModuleBlock-span, TsModuleBlock-body}
 use Rattle.fast_check_statement_forms.specs.TsDeclarations.{TsNamespaceDecl-span, TsNamespaceDecl-declare, TsNamespaceDecl-global, TsNamespaceDecl-id}
 use Rattle.fast_check_statement_forms.specs.TsDeclarations.{TsNamespaceDecl-body, ts_module_decl, ts_module_block}
-use Rattle.fast_check_typed_grammar.specs.signatures.Seen.{Seen, written, range, flag, round, listed, refused, seens}
+use Rattle.fast_check_signatures.specs.Seen.{Seen, written, range, flag, round, listed, refused, seens}
 
 -- `declare module "x" {}`, and what has no body
 abbrev pub is_ambient_module : Tree → Bool

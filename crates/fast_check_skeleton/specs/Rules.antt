@@ -8,7 +8,7 @@ use Rattle.fast_check_program_forms.specs.ModuleDecls.{ExportDecl-decl, ExportDe
 use Rattle.fast_check_statement_forms.specs.Statements.{ExprStmt-expr}
 use Rattle.fast_check_skeleton.specs.declared.rules.DeclRule.{DeclRule}
 use Rattle.fast_check_skeleton.specs.declared.rules.DeclRule.TheVariants.{Variables, Function, Class, Standing, Namespace, Using, NoDeclaration}
-use Rattle.fast_check_typed_grammar.specs.signatures.declared.fault.FaultKind.TheVariants.{UnsupportedRequire, UnsupportedTsExportAssignment, UnsupportedTsNamespaceExport}
+use Rattle.fast_check_signatures.specs.declared.fault.FaultKind.TheVariants.{UnsupportedRequire, UnsupportedTsExportAssignment, UnsupportedTsNamespaceExport}
 use Rattle.fast_check_skeleton.specs.declared.rules.DefaultRule.TheVariants as defaults
 use Rattle.fast_check_skeleton.specs.declared.rules.LinkRule.TheVariants as links
 use Rattle.fast_check_skeleton.specs.declared.rules.ItemRule.{ItemRule}

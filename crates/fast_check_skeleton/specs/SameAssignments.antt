@@ -7,7 +7,7 @@ use Rattle.fast_check_syntax.specs.Same.{SameTree, SameRange}
 use Rattle.fast_check_expression_forms.specs.Operators.{AssignExpr-span, AssignExpr-left, AssignExpr-right}
 use Rattle.fast_check_ranges.specs.Ranges.{range_of_node}
 use Rattle.fast_check_statement_forms.specs.Statements.{ExprStmt-expr}
-use Rattle.fast_check_same_values.specs.SameValues.{Both, SameExpr}
+use Rattle.fast_check_skeleton.specs.SameValues.{Both, SameExpr}
 use Rattle.fast_check_modules.specs.Expandos.{is_expando_assignment}
 use Rattle.fast_check_expandos.specs.Assignments.{is_declared, mentioned_by}
 use Rattle.fast_check_expandos.specs.Expandos.{object_of}

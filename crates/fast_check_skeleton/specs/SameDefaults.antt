@@ -8,8 +8,8 @@ use Rattle.fast_check_syntax.specs.Moves.{Renaming}
 use Rattle.fast_check_syntax.specs.Same.{SameTree, SameRange}
 use Rattle.fast_check_expression_forms.specs.Expressions.{ClassExpr-ident, ClassExpr-class, FnExpr-ident, FnExpr-function}
 use Rattle.fast_check_program_forms.specs.ModuleDecls.{ExportDefaultExpr-span, ExportDefaultExpr-expr, ExportDefaultDecl-span, ExportDefaultDecl-decl}
-use Rattle.fast_check_same_values.specs.SameValues.{Both, SameExpr, SameFunction, SameImplementation}
-use Rattle.fast_check_same_values.specs.SameClasses.{SameClass}
+use Rattle.fast_check_skeleton.specs.SameValues.{Both, SameExpr, SameFunction, SameImplementation}
+use Rattle.fast_check_skeleton.specs.SameClasses.{SameClass}
 use Rattle.fast_check_skeleton.specs.Defaults.{is_public_value}
 use Rattle.fast_check_skeleton.specs.Kinds.{is_default_decl}
 use Rattle.fast_check_skeleton.specs.Surroundings.{Surroundings}

@@ -10,7 +10,7 @@ use Rattle.fast_check_program_forms.specs.ModuleDecls.{ImportDecl-span, ImportDe
 use Rattle.fast_check_program_forms.specs.ModuleDecls.{ImportDecl-with, ImportDecl-phase}
 use Rattle.fast_check_program_forms.specs.ModuleDecls.{NamedExport-span, NamedExport-specifiers, NamedExport-src, NamedExport-type_only, NamedExport-with}
 use Rattle.fast_check_program_forms.specs.ModuleDecls.{ExportAll-span, ExportAll-src, ExportAll-type_only, ExportAll-with, TsImportEqualsDecl-span}
-use Rattle.fast_check_same_values.specs.SameValues.{Both}
+use Rattle.fast_check_skeleton.specs.SameValues.{Both}
 use Rattle.fast_check_skeleton.specs.Links.{is_public_specifier, public_specifiers}
 use Rattle.fast_check_skeleton.specs.Rules.{is_require}
 use Rattle.fast_check_skeleton.specs.Surroundings.{Surroundings}

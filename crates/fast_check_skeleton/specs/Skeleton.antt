@@ -3,8 +3,8 @@ use Rattle.std.specs.Prelude.{List}
 use Rattle.fast_check_syntax.specs.declared.tree.Tree.{Tree}
 use Rattle.fast_check_syntax.specs.Shape.{list}
 use Rattle.fast_check_program_forms.specs.Programs.{Module-span, Module-shebang, module'}
-use Rattle.fast_check_typed_grammar.specs.signatures.declared.fault.Fault.{Fault}
-use Rattle.fast_check_typed_grammar.specs.signatures.Answers.{Answer, answer_of}
+use Rattle.fast_check_signatures.specs.declared.fault.Fault.{Fault}
+use Rattle.fast_check_signatures.specs.Answers.{Answer, answer_of}
 use Rattle.fast_check_skeleton.specs.Surroundings.{Surroundings}
 use Rattle.fast_check_skeleton.specs.Visible.{visible}
 

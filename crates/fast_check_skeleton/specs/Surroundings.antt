@@ -3,7 +3,7 @@ use Rattle.std.specs.Prelude.{ℕ, Bool, ◌||◌, Option, List}
 use Rattle.fast_check_syntax.specs.declared.source.SourceRange.{SourceRange}
 use Rattle.fast_check_syntax.specs.declared.tree.Tree.{Tree}
 use Rattle.fast_check_statement_forms.specs.TsDeclarations.{TsModuleDecl-declare}
-use Rattle.fast_check_typed_grammar.specs.signatures.Bindings.{Bindings}
+use Rattle.fast_check_signatures.specs.Bindings.{Bindings}
 use Rattle.fast_check_expandos.specs.Objects.{Objects}
 
 pub record Surroundings : Type 0 where

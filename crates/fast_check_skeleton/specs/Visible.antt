@@ -19,14 +19,14 @@ use Rattle.fast_check_statement_forms.specs.Declarations.{FnDecl-ident, FnDecl-d
 use Rattle.fast_check_statement_forms.specs.Declarations.{UsingDecl-span, UsingDecl-decls}
 use Rattle.fast_check_statement_forms.specs.Declarations.{VarDecl-span, VarDecl-ctxt, VarDecl-kind, VarDecl-declare, VarDecl-decls}
 use Rattle.fast_check_statement_forms.specs.Declarations.{VarDeclarator-span, VarDeclarator-name, VarDeclarator-init, VarDeclarator-definite, var_declarator}
-use Rattle.fast_check_typed_grammar.specs.signatures.declared.fault.FaultKind.TheVariants.{UnsupportedDestructuring, UnsupportedUsing, UnsupportedGlobalModule}
-use Rattle.fast_check_typed_grammar.specs.signatures.declared.fault.FaultKind.TheVariants.{UnsupportedAmbientModule}
+use Rattle.fast_check_signatures.specs.declared.fault.FaultKind.TheVariants.{UnsupportedDestructuring, UnsupportedUsing, UnsupportedGlobalModule}
+use Rattle.fast_check_signatures.specs.declared.fault.FaultKind.TheVariants.{UnsupportedAmbientModule}
 use Rattle.fast_check_statement_forms.specs.TsDeclarations.{TsModuleDecl-span, TsModuleDecl-global, TsModuleDecl-id}
-use Rattle.fast_check_typed_grammar.specs.signatures.declared.function_kind.FunctionKind.TheVariants.{DeclarationLike}
-use Rattle.fast_check_typed_grammar.specs.signatures.Classes.{plain_class_seen, ambient_class}
-use Rattle.fast_check_typed_grammar.specs.signatures.Expressions.{expr_seen}
-use Rattle.fast_check_typed_grammar.specs.signatures.Functions.{function_seen, implementation_seen}
-use Rattle.fast_check_typed_grammar.specs.signatures.Seen.{DeclaratorHead, Seen, written, range, scope, flag, round, listed, declarator, faulty, refused, seens}
+use Rattle.fast_check_signatures.specs.declared.function_kind.FunctionKind.TheVariants.{DeclarationLike}
+use Rattle.fast_check_signatures.specs.Classes.{plain_class_seen, ambient_class}
+use Rattle.fast_check_signatures.specs.Expressions.{expr_seen}
+use Rattle.fast_check_signatures.specs.Functions.{function_seen, implementation_seen}
+use Rattle.fast_check_signatures.specs.Seen.{DeclaratorHead, Seen, written, range, scope, flag, round, listed, declarator, faulty, refused, seens}
 use Rattle.fast_check_skeleton.specs.declared.rules.DeclRule.{DeclRule}
 use Rattle.fast_check_skeleton.specs.declared.rules.DeclRule.TheVariants.{Variables, Function, Class, Standing, Namespace, Using, NoDeclaration}
 use Rattle.fast_check_skeleton.specs.declared.rules.ItemRule.{ItemRule}

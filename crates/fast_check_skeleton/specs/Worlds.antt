@@ -6,7 +6,7 @@ use Rattle.fast_check_syntax.specs.Same.{SameTree, SameRange, Each}
 use Rattle.fast_check_comments.specs.declared.comments.Comments.{Comments}
 use Rattle.fast_check_comments.specs.Kept.{kept}
 use Rattle.fast_check_program_forms.specs.Programs.{Module-body, Module-shebang}
-use Rattle.fast_check_typed_grammar.specs.signatures.declared.fault.Fault.{Fault}
+use Rattle.fast_check_signatures.specs.declared.fault.Fault.{Fault}
 use Rattle.fast_check_skeleton.specs.Surroundings.{Surroundings}
 use Rattle.fast_check_skeleton.specs.Skeleton.{skeleton_of, faults_of}
 use Rattle.fast_check_skeleton.specs.KeptComments.{kept_comments}

@@ -4,9 +4,9 @@ ghost use Rattle.fast_check_syntax.specs.Part.{seen};
 ghost use Rattle.fast_check_skeleton.specs.Rules.{decl_rule, default_rule, expr_stmt_rule, item_rule, is_require};
 
 use fast_check_program_forms::{ExportDecl, ExportDefaultDecl, TsImportEqualsDecl};
+use fast_check_signatures::FaultKind;
 use fast_check_statement_forms::ExprStmt;
 use fast_check_syntax::{Kind, Part};
-use fast_check_typed_grammar::signatures::FaultKind;
 
 /// What is done with a declaration.
 #[derive(Clone, Copy, PartialEq, Eq, Debug)]

@@ -11,7 +11,7 @@ use Rattle.fast_check_ranges.specs.Ranges.{range_of_node}
 use Rattle.fast_check_symbols.specs.declared.symbol.Symbol.{Symbol}
 use Rattle.fast_check_modules.specs.EsModule.{EsModule}
 use Rattle.fast_check_modules.specs.Expandos.{is_expando_assignment}
-use Rattle.fast_check_modules.specs.symbol_tables.Tables.{symbol_of_swc}
+use Rattle.fast_check_modules.specs.symbols.Tables.{symbol_of_swc}
 use Rattle.fast_check_signatures.specs.declared.fault.Fault.{Fault}
 use Rattle.fast_check_signatures.specs.declared.fault.FaultKind.TheVariants.{MissingExplicitType}
 use Rattle.fast_check_signatures.specs.Answers.{Answer, Adds, fault_at, unless_stays, answer_to, answer_of}
@@ -21,7 +21,7 @@ use Rattle.fast_check_expandos.specs.Assignments.{right_seen, is_declared, missi
 use Rattle.fast_check_expandos.specs.Expandos.{object_of}
 use Rattle.fast_check_expandos.specs.ModuleObjects.{objects_of}
 use Rattle.fast_check_expandos.specs.Objects.{Objects, exports_name, stands_exported}
-use Rattle.fast_check_asked.specs.skeleton.Surroundings.{Surroundings}
+use Rattle.fast_check_surroundings.specs.skeleton.Surroundings.{Surroundings}
 use Rattle.fast_check_statements.specs.Assigned.{assignment_answer, assignment_properties, missing_at}
 use Rattle.fast_check_statements.specs.PartAnswers.{value_answer}
 

@@ -25,15 +25,15 @@ use Rattle.fast_check_signatures.specs.Expressions.{expr_seen}
 use Rattle.fast_check_signatures.specs.Functions.{function_seen, implementation_seen}
 use Rattle.fast_check_signatures.proofs.Choices.{of_choice}
 use Rattle.fast_check_signatures.proofs.Adding.{adds_nothing, adds_fault, adds_same, adds_made, adds_demanded, adds_missing, adds_visited}
-use Rattle.fast_check_asked.specs.skeleton.Mutability.{mutability_of}
-use Rattle.fast_check_asked.specs.skeleton.Surroundings.{Surroundings}
-use Rattle.fast_check_asked.specs.skeleton.Visible.{declared_ident, declared_type, declarator_head, typed_declarator, value_seen, untyped_seen}
-use Rattle.fast_check_asked.specs.skeleton.Visible.{ident_declarator_seen, declarator_seen, is_ambient_statement, is_public_declarator, public_declarator}
-use Rattle.fast_check_asked.specs.skeleton.Visible.{public_declarators, statement_seen, signature_of, is_public_using, using_place, using_seen}
-use Rattle.fast_check_asked.proofs.skeleton_proofs.Standing.{declarator_one, statement_is}
+use Rattle.fast_check_surroundings.specs.skeleton.Mutability.{mutability_of}
+use Rattle.fast_check_surroundings.specs.skeleton.Surroundings.{Surroundings}
+use Rattle.fast_check_surroundings.specs.skeleton.Visible.{declared_ident, declared_type, declarator_head, typed_declarator, value_seen, untyped_seen}
+use Rattle.fast_check_surroundings.specs.skeleton.Visible.{ident_declarator_seen, declarator_seen, is_ambient_statement, is_public_declarator, public_declarator}
+use Rattle.fast_check_surroundings.specs.skeleton.Visible.{public_declarators, statement_seen, signature_of, is_public_using, using_place, using_seen}
+use Rattle.fast_check_surroundings.proofs.skeleton_proofs.Standing.{declarator_one, statement_is}
 use Rattle.fast_check_statements.specs.PartAnswers.{retyped, value_answer, valued_answer, ident_answer, declarator_answer, public_answer}
 use Rattle.fast_check_statements.specs.PartAnswers.{declarators_answer, statement_answer, signature_answer, function_answer, using_answer}
-use Rattle.fast_check_asked.proofs.Listed.{alone, one_more, whole}
+use Rattle.fast_check_surroundings.proofs.Listed.{alone, one_more, whole}
 
 -- ---- declarators
 

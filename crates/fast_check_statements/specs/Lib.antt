@@ -1,3 +1,3 @@
-pub use Rattle.fast_check_asked.specs as asked
+pub use Rattle.fast_check_surroundings.specs as surroundings
 pub mod PartAnswers
 pub mod Assigned

@@ -13,11 +13,11 @@ use Rattle.fast_check_signatures.specs.Seen.{declarator}
 use Rattle.fast_check_signatures.specs.declared.fault.Fault.{Fault}
 use Rattle.fast_check_signatures.specs.declared.fault.FaultKind.TheVariants.{UnsupportedGlobalModule, UnsupportedAmbientModule}
 use Rattle.fast_check_signatures.specs.Answers.{Answer, fault_at, answer_to, answer_of}
-use Rattle.fast_check_asked.specs.skeleton.Namespaces.{is_ambient_module}
-use Rattle.fast_check_asked.specs.skeleton.Surroundings.{Surroundings}
-use Rattle.fast_check_asked.specs.skeleton.Visible.{declared_ident, declarator_head, value_seen, ident_declarator_seen, declarator_seen, public_declarator}
-use Rattle.fast_check_asked.specs.skeleton.Visible.{public_declarators, statement_seen, signature_of, function_decl_seen, public_function, standing_seen}
-use Rattle.fast_check_asked.specs.skeleton.Visible.{using_seen}
+use Rattle.fast_check_surroundings.specs.skeleton.Namespaces.{is_ambient_module}
+use Rattle.fast_check_surroundings.specs.skeleton.Surroundings.{Surroundings}
+use Rattle.fast_check_surroundings.specs.skeleton.Visible.{declared_ident, declarator_head, value_seen, ident_declarator_seen, declarator_seen, public_declarator}
+use Rattle.fast_check_surroundings.specs.skeleton.Visible.{public_declarators, statement_seen, signature_of, function_decl_seen, public_function, standing_seen}
+use Rattle.fast_check_surroundings.specs.skeleton.Visible.{using_seen}
 
 -- a declarator of another type and value
 abbrev pub retyped : Tree → Tree → Tree → Tree

@@ -5,23 +5,23 @@ ghost use Rattle.fast_check_syntax.specs.Part.{seen};
 ghost use Rattle.fast_check_expression_forms.specs.Calls.{MemberExpr-span};
 ghost use Rattle.fast_check_expression_forms.specs.Operators.{AssignExpr-span, AssignExpr-left};
 ghost use Rattle.fast_check_modules.specs.Expandos.{is_expando_assignment};
-ghost use Rattle.fast_check_modules.specs.symbol_tables.Tables.{symbol_of_swc};
+ghost use Rattle.fast_check_modules.specs.symbols.Tables.{symbol_of_swc};
 ghost use Rattle.fast_check_signatures.specs.declared.fault.FaultKind.TheVariants as kinds;
 ghost use Rattle.fast_check_signatures.specs.Answers.{Adds, fault_at};
 ghost use Rattle.fast_check_expandos.specs.Assignments.{missing_place, kept_property};
 ghost use Rattle.fast_check_expandos.specs.Expandos.{object_of, property_name};
 ghost use Rattle.fast_check_expandos.specs.ModuleObjects.{objects_of};
 ghost use Rattle.fast_check_expandos.specs.Objects.{exports_name};
-ghost use Rattle.fast_check_asked.specs.Asked.{Asked-around};
+ghost use Rattle.fast_check_surroundings.specs.Surroundings.{seen_around};
 ghost use Rattle.fast_check_statements.specs.Assigned.{assignment_answer, assignment_properties, missing_at};
 
 use crate::declarations::keep_value;
-use fast_check_asked::Asked;
 use fast_check_expandos::{ExpandoProperty, expando_property, exports_property, object_of};
 use fast_check_expression_forms::{AssignExpr, MemberExpr};
 use fast_check_modules::{Symbol, is_expando_assignment};
 use fast_check_ranges::range_of_node;
 use fast_check_signatures::{Fault, FaultKind};
+use fast_check_surroundings::Surroundings;
 use fast_check_syntax::{Part, Tree};
 use std::alloc::{AllocError, Global};
 
@@ -30,14 +30,14 @@ use std::alloc::{AllocError, Global};
 /// at the target, unless the object exports a property of this name.
 pub fn keep_assignment(
     alloc: Global,
-    asked: Asked<'_>,
+    asked: Surroundings<'_>,
     assignment: Part<'_>,
     properties: &mut Vec<ExpandoProperty>,
     faults: &mut Vec<Fault>,
 ) -> Result<(), AllocError>
-    ensures answer { OnOk result (Adds (assignment_answer (Asked-around asked.entry) (seen assignment.entry)) [] faults.old.items faults.new.items) }
+    ensures answer { OnOk result (Adds (assignment_answer (seen_around asked.entry) (seen assignment.entry)) [] faults.old.items faults.new.items) }
     ensures properties { OnOk result (properties.new.items ≡
-        properties.old.items ++ assignment_properties (Asked-around asked.entry) (seen assignment.entry)) }
+        properties.old.items ++ assignment_properties (seen_around asked.entry) (seen assignment.entry)) }
 {
     let AssignExpr { span, right, .. } = AssignExpr::of(assignment);
     if !asked.public_ranges.contains(&span) {
@@ -53,7 +53,7 @@ pub fn keep_assignment(
 /// The property that an assignment of expando form declares, if its right side may stay.
 fn keep_property(
     alloc: Global,
-    asked: Asked<'_>,
+    asked: Surroundings<'_>,
     assignment: Part<'_>,
     value: Option<Tree>,
     properties: &mut Vec<ExpandoProperty>,
@@ -80,7 +80,7 @@ fn keep_property(
 /// The symbol of the object of a target `object.name`, if there is one.
 fn symbol_of_object<'a>(
     alloc: Global,
-    asked: Asked<'a>,
+    asked: Surroundings<'a>,
     target: Part<'_>,
 ) -> Result<Option<&'a Symbol>, AllocError>
     ensures { IfOk result (λ symbol. option_copied symbol ≡ symbol_of_swc asked.entry.es_module_info.now.tables (object_of (seen target.entry))) }

@@ -6,21 +6,21 @@ ghost use Rattle.fast_check_syntax.specs.Shape.{parts};
 ghost use Rattle.fast_check_statement_forms.specs.Declarations.{VarDecl-decls};
 ghost use Rattle.fast_check_helpers.specs.Builders.{never_value};
 ghost use Rattle.fast_check_signatures.specs.Answers.{Adds, faultless};
-ghost use Rattle.fast_check_asked.specs.skeleton.Mutability.{mutability_of};
-ghost use Rattle.fast_check_asked.specs.skeleton.Visible.{is_ambient_statement, is_public_declarator, is_public_using, using_place};
-ghost use Rattle.fast_check_asked.specs.Asked.{Asked-around};
-ghost use Rattle.fast_check_asked.specs.Kept.{as_list};
+ghost use Rattle.fast_check_surroundings.specs.skeleton.Mutability.{mutability_of};
+ghost use Rattle.fast_check_surroundings.specs.skeleton.Visible.{is_ambient_statement, is_public_declarator, is_public_using, using_place};
+ghost use Rattle.fast_check_surroundings.specs.Surroundings.{seen_around};
+ghost use Rattle.fast_check_surroundings.specs.Kept.{as_list};
 ghost use Rattle.fast_check_statements.specs.PartAnswers.{retyped, value_answer, valued_answer, ident_answer};
 ghost use Rattle.fast_check_statements.specs.PartAnswers.{declarator_answer, public_answer, declarators_answer, statement_answer, standing_answer};
 ghost use Rattle.fast_check_statements.specs.PartAnswers.{using_answer};
 
-use fast_check_asked::Asked;
-use fast_check_asked::bindings::unresolved_context;
 use fast_check_helpers::{DeclMutabilityKind, maybe_infer_type, never_value, type_ann};
 use fast_check_program_forms::{BindingIdent, Ident};
 use fast_check_ranges::range_of_node;
 use fast_check_signatures::{Fault, FaultKind};
 use fast_check_statement_forms::{UsingDecl, VarDecl, VarDeclarator};
+use fast_check_surroundings::Surroundings;
+use fast_check_surroundings::bindings::unresolved_context;
 use fast_check_syntax::{Items, Kind, Part, SourceRange, Tree, Word};
 use fast_check_values::leave_expr;
 use std::alloc::{AllocError, Global};
@@ -37,8 +37,8 @@ fn mutability_of(kind: Part<'_>) -> DeclMutabilityKind
 }
 
 /// Whether a variable statement stands as it is written, since it is ambient.
-fn is_ambient_statement(asked: Asked<'_>, statement: Part<'_>) -> bool
-    ensures { result ≡ is_ambient_statement (Asked-around asked.entry) (seen statement.entry) }
+fn is_ambient_statement(asked: Surroundings<'_>, statement: Part<'_>) -> bool
+    ensures { result ≡ is_ambient_statement (seen_around asked.entry) (seen statement.entry) }
 {
     asked.is_ambient || VarDecl::of(statement).declare
 }
@@ -72,12 +72,12 @@ fn declared(alloc: Global, declarator: Part<'_>, ty: Tree) -> Result<Tree, Alloc
 /// named by the identifier at `place`.
 pub fn keep_value(
     alloc: Global,
-    asked: Asked<'_>,
+    asked: Surroundings<'_>,
     place: SourceRange,
     value: Part<'_>,
     faults: &mut Vec<Fault>,
 ) -> Result<Option<Tree>, AllocError>
-    ensures { IfOk result (λ tree. Adds (value_answer (Asked-around asked.entry) place (seen value.entry)) tree faults.old.items faults.new.items) }
+    ensures { IfOk result (λ tree. Adds (value_answer (seen_around asked.entry) place (seen value.entry)) tree faults.old.items faults.new.items) }
 {
     if value.is_absent() {
         return Ok(None);
@@ -89,11 +89,11 @@ pub fn keep_value(
 /// identifier.
 fn valued_declarator(
     alloc: Global,
-    asked: Asked<'_>,
+    asked: Surroundings<'_>,
     declarator: Part<'_>,
     faults: &mut Vec<Fault>,
 ) -> Result<Tree, AllocError>
-    ensures { IfOk result (λ tree. Adds (valued_answer (Asked-around asked.entry) (seen declarator.entry)) (Some tree) faults.old.items faults.new.items) }
+    ensures { IfOk result (λ tree. Adds (valued_answer (seen_around asked.entry) (seen declarator.entry)) (Some tree) faults.old.items faults.new.items) }
 {
     let VarDeclarator { name, init, .. } = VarDeclarator::of(declarator);
     let place = Ident::of(BindingIdent::of(name).id).span;
@@ -113,13 +113,13 @@ fn valued_declarator(
 /// stay.
 fn ident_declarator(
     alloc: Global,
-    asked: Asked<'_>,
+    asked: Surroundings<'_>,
     mutability: DeclMutabilityKind,
     declarator: Part<'_>,
     faults: &mut Vec<Fault>,
 ) -> Result<Tree, AllocError>
     ensures { IfOk result (λ tree.
-        Adds (ident_answer (Asked-around asked.entry) mutability (seen declarator.entry)) (Some tree) faults.old.items faults.new.items) }
+        Adds (ident_answer (seen_around asked.entry) mutability (seen declarator.entry)) (Some tree) faults.old.items faults.new.items) }
 {
     let VarDeclarator { name, init, .. } = VarDeclarator::of(declarator);
     let ty = BindingIdent::of(name).type_ann;
@@ -141,13 +141,13 @@ fn ident_declarator(
 /// none, or where a pattern stands for the identifier, that is a fault.
 fn typed_declarator(
     alloc: Global,
-    asked: Asked<'_>,
+    asked: Surroundings<'_>,
     mutability: DeclMutabilityKind,
     declarator: Part<'_>,
     faults: &mut Vec<Fault>,
 ) -> Result<Tree, AllocError>
     ensures { IfOk result (λ tree.
-        Adds (declarator_answer (Asked-around asked.entry) mutability (seen declarator.entry)) (Some tree) faults.old.items faults.new.items) }
+        Adds (declarator_answer (seen_around asked.entry) mutability (seen declarator.entry)) (Some tree) faults.old.items faults.new.items) }
 {
     let name = VarDeclarator::of(declarator).name;
     if name.kind() == Kind::BindingIdent {
@@ -163,13 +163,13 @@ fn typed_declarator(
 /// A declarator of a statement, that of an ambient one as it is written; none where it is not public.
 fn keep_declarator(
     alloc: Global,
-    asked: Asked<'_>,
+    asked: Surroundings<'_>,
     statement: Part<'_>,
     declarator: Part<'_>,
     faults: &mut Vec<Fault>,
 ) -> Result<Option<Tree>, AllocError>
     ensures { IfOk result (λ tree.
-        Adds (public_answer (Asked-around asked.entry) (seen statement.entry) (seen declarator.entry)) (as_list tree) faults.old.items faults.new.items) }
+        Adds (public_answer (seen_around asked.entry) (seen statement.entry) (seen declarator.entry)) (as_list tree) faults.old.items faults.new.items) }
 {
     let span = VarDeclarator::of(declarator).span;
     if !asked.public_ranges.contains(&span) {
@@ -185,12 +185,12 @@ fn keep_declarator(
 /// The public declarators of a statement.
 fn public_declarators(
     alloc: Global,
-    asked: Asked<'_>,
+    asked: Surroundings<'_>,
     statement: Part<'_>,
     faults: &mut Vec<Fault>,
 ) -> Result<Items<Tree>, AllocError>
     ensures { IfOk result (λ items.
-        Adds (declarators_answer (Asked-around asked.entry) (seen statement.entry) (parts (VarDecl-decls (seen statement.entry))))
+        Adds (declarators_answer (seen_around asked.entry) (seen statement.entry) (parts (VarDecl-decls (seen statement.entry))))
         items faults.old.items faults.new.items) }
 {
     let mut items = Items::new(alloc);
@@ -206,11 +206,11 @@ fn public_declarators(
 /// A variable statement with its public declarators; none where it has none.
 pub fn keep_statement(
     alloc: Global,
-    asked: Asked<'_>,
+    asked: Surroundings<'_>,
     statement: Part<'_>,
     faults: &mut Vec<Fault>,
 ) -> Result<Option<Tree>, AllocError>
-    ensures { IfOk result (λ tree. Adds (statement_answer (Asked-around asked.entry) (seen statement.entry)) (as_list tree) faults.old.items faults.new.items) }
+    ensures { IfOk result (λ tree. Adds (statement_answer (seen_around asked.entry) (seen statement.entry)) (as_list tree) faults.old.items faults.new.items) }
 {
     let decls = public_declarators(alloc, asked, statement, faults)?;
     if decls.is_empty() {
@@ -235,8 +235,8 @@ pub fn keep_statement(
 }
 
 /// Whether a declarator is public.
-fn is_public_declarator(asked: Asked<'_>, declarator: Part<'_>) -> bool
-    ensures { result ≡ is_public_declarator (Asked-around asked.entry) (seen declarator.entry) }
+fn is_public_declarator(asked: Surroundings<'_>, declarator: Part<'_>) -> bool
+    ensures { result ≡ is_public_declarator (seen_around asked.entry) (seen declarator.entry) }
 {
     asked
         .public_ranges
@@ -244,15 +244,15 @@ fn is_public_declarator(asked: Asked<'_>, declarator: Part<'_>) -> bool
 }
 
 /// Whether one of some declarators is public.
-fn has_public_declarator(asked: Asked<'_>, decls: Part<'_>) -> bool
-    ensures { result ≡ list_any (is_public_declarator (Asked-around asked.entry)) (parts (seen decls.entry)) }
+fn has_public_declarator(asked: Surroundings<'_>, decls: Part<'_>) -> bool
+    ensures { result ≡ list_any (is_public_declarator (seen_around asked.entry)) (parts (seen decls.entry)) }
 {
     decls.parts().iter().any(|declarator| is_public_declarator(asked, declarator.read()))
 }
 
 /// Whether `using` is public: by `place`, or by one of its declarators.
-fn is_public_using(asked: Asked<'_>, place: SourceRange, decl: Part<'_>) -> bool
-    ensures { result ≡ is_public_using (Asked-around asked.entry) place (seen decl.entry) }
+fn is_public_using(asked: Surroundings<'_>, place: SourceRange, decl: Part<'_>) -> bool
+    ensures { result ≡ is_public_using (seen_around asked.entry) place (seen decl.entry) }
 {
     asked.public_ranges.contains(&place) || has_public_declarator(asked, UsingDecl::of(decl).decls)
 }
@@ -270,12 +270,12 @@ fn using_place(decl: Part<'_>) -> SourceRange
 
 /// The fault of `using`, if it is public; no skeleton has what it declares.
 pub fn keep_using(
-    asked: Asked<'_>,
+    asked: Surroundings<'_>,
     place: SourceRange,
     decl: Part<'_>,
     faults: &mut Vec<Fault>,
 ) -> Result<Option<Tree>, AllocError>
-    ensures { IfOk result (λ tree. Adds (using_answer (Asked-around asked.entry) place (seen decl.entry)) (as_list tree) faults.old.items faults.new.items) }
+    ensures { IfOk result (λ tree. Adds (using_answer (seen_around asked.entry) place (seen decl.entry)) (as_list tree) faults.old.items faults.new.items) }
 {
     if !is_public_using(asked, place, decl) {
         return Ok(None);
@@ -290,11 +290,11 @@ pub fn keep_using(
 /// A declaration that stands as it is written, which is public by `place`; none where it is not.
 pub fn keep_standing(
     alloc: Global,
-    asked: Asked<'_>,
+    asked: Surroundings<'_>,
     place: SourceRange,
     decl: Part<'_>,
 ) -> Result<Option<Tree>, AllocError>
-    ensures { IfOk result (λ tree. standing_answer (Asked-around asked.entry) place (seen decl.entry) ≡ faultless (as_list tree)) }
+    ensures { IfOk result (λ tree. standing_answer (seen_around asked.entry) place (seen decl.entry) ≡ faultless (as_list tree)) }
 {
     if !asked.public_ranges.contains(&place) {
         return Ok(None);

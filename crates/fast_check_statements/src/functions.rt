@@ -2,14 +2,14 @@
 ghost use Rattle.std.specs.Prelude.{IfOk, Some};
 ghost use Rattle.fast_check_syntax.specs.Part.{seen};
 ghost use Rattle.fast_check_signatures.specs.Answers.{Adds};
-ghost use Rattle.fast_check_asked.specs.Asked.{Asked-around};
-ghost use Rattle.fast_check_asked.specs.Kept.{as_list};
+ghost use Rattle.fast_check_surroundings.specs.Surroundings.{seen_around};
+ghost use Rattle.fast_check_surroundings.specs.Kept.{as_list};
 ghost use Rattle.fast_check_statements.specs.PartAnswers.{signature_answer, function_answer, public_function_answer};
 
-use fast_check_asked::Asked;
 use fast_check_program_forms::Ident;
 use fast_check_signatures::{Fault, FunctionKind};
 use fast_check_statement_forms::FnDecl;
+use fast_check_surroundings::Surroundings;
 use fast_check_syntax::{Part, SourceRange, Tree};
 use fast_check_values::{transform_fn, transform_implementation};
 use std::alloc::{AllocError, Global};
@@ -17,12 +17,12 @@ use std::alloc::{AllocError, Global};
 /// The signature of a public function: of an implementation behind overloads the count of its parameters.
 fn transform_signature(
     alloc: Global,
-    asked: Asked<'_>,
+    asked: Surroundings<'_>,
     place: SourceRange,
     decl: Part<'_>,
     faults: &mut Vec<Fault>,
 ) -> Result<Tree, AllocError>
-    ensures { IfOk result (λ tree. Adds (signature_answer (Asked-around asked.entry) place (seen decl.entry)) (Some tree) faults.old.items faults.new.items) }
+    ensures { IfOk result (λ tree. Adds (signature_answer (seen_around asked.entry) place (seen decl.entry)) (Some tree) faults.old.items faults.new.items) }
 {
     let FnDecl {
         ident,
@@ -47,12 +47,12 @@ fn transform_signature(
 /// parameters; another, by its signature.
 fn keep_function(
     alloc: Global,
-    asked: Asked<'_>,
+    asked: Surroundings<'_>,
     place: SourceRange,
     decl: Part<'_>,
     faults: &mut Vec<Fault>,
 ) -> Result<Tree, AllocError>
-    ensures { IfOk result (λ tree. Adds (function_answer (Asked-around asked.entry) place (seen decl.entry)) (Some tree) faults.old.items faults.new.items) }
+    ensures { IfOk result (λ tree. Adds (function_answer (seen_around asked.entry) place (seen decl.entry)) (Some tree) faults.old.items faults.new.items) }
 {
     if asked.is_ambient {
         return decl.to_tree(alloc);
@@ -71,13 +71,13 @@ fn keep_function(
 /// A function, which is public by `place`; none where it is not.
 pub fn keep_public_function(
     alloc: Global,
-    asked: Asked<'_>,
+    asked: Surroundings<'_>,
     place: SourceRange,
     decl: Part<'_>,
     faults: &mut Vec<Fault>,
 ) -> Result<Option<Tree>, AllocError>
     ensures { IfOk result (λ tree.
-        Adds (public_function_answer (Asked-around asked.entry) place (seen decl.entry)) (as_list tree) faults.old.items faults.new.items) }
+        Adds (public_function_answer (seen_around asked.entry) place (seen decl.entry)) (as_list tree) faults.old.items faults.new.items) }
 {
     if !asked.public_ranges.contains(&place) {
         return Ok(None);

@@ -6,7 +6,7 @@ use Rattle.fast_check_names.specs.Imports.{names_but_default}
 use Rattle.fast_check_graph.specs.Graph.{resolved_to}
 use Rattle.fast_check_graph.specs.Root.{specifier_of}
 use Rattle.fast_check_demands.specs.Rules.{each_of}
-use Rattle.fast_check_files.specs.Files.{FileDemand}
+use Rattle.fast_check_name_demands.specs.Files.{FileDemand}
 use Rattle.fast_check_traces.specs.declared.modules.TracedModule.{TracedModule}
 use Rattle.fast_check_traces.specs.Wants.{Want as ModuleWant, re_exported, answered}
 use Rattle.fast_check_worklists.specs.Demands.{Text, Wanted, same_nv, asked_by, Want, to_package, to_module}

@@ -2,12 +2,12 @@
 ghost use Rattle.std.specs.Prelude.{◌≡◌, ◌∷◌, [], IfOk};
 ghost use Rattle.fast_check_names.specs.Names.{path_of, paths, paths_below, named, IsSame};
 ghost use Rattle.fast_check_names.specs.Imports.{subset_at, whole_at};
-ghost use Rattle.fast_check_files.specs.Files.{names_of, path_demand};
+ghost use Rattle.fast_check_name_demands.specs.Files.{names_of, path_demand};
 ghost use Rattle.fast_check_worklists.specs.Demands.{asked, asked_by};
 ghost use Rattle.fast_check_steps.specs.Exports.{touched_below};
 
 use fast_check_demands::Extent;
-use fast_check_files::WantedNames;
+use fast_check_name_demands::WantedNames;
 use fast_check_names::{Exports, ImportedExports, NamedSubset};
 use std::alloc::{AllocError, Global};
 

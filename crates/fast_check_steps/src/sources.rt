@@ -7,8 +7,7 @@ ghost use Rattle.fast_check_packages.specs.Package.{nv_of};
 ghost use Rattle.fast_check_steps.specs.Sources.{info_at, member_nv, member_of as member_at, owner_by, untyped_at};
 
 use fast_check_graph::{ModuleGraph, ModuleInfo, RootSymbol};
-use fast_check_packages::{PackageNv, WorkspaceMember};
-use fast_check_provider::JsrUrlProvider;
+use fast_check_packages::{JsrUrlProvider, PackageNv, WorkspaceMember};
 use std::alloc::{AllocError, Global};
 use url::Url;
 

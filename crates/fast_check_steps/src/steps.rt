@@ -5,7 +5,7 @@ ghost use Rattle.std.specs.Option.{option_copied};
 ghost use Rattle.std.specs.List.{flat_map};
 ghost use Rattle.url.specs.Parts.{serialize};
 ghost use Rattle.fast_check_packages.specs.Package.{nv_of};
-ghost use Rattle.fast_check_files.specs.Files.{names_of, file_demand_of};
+ghost use Rattle.fast_check_name_demands.specs.Files.{names_of, file_demand_of};
 ghost use Rattle.fast_check_traces.specs.Wants.{want_of as want_seen, re_exported};
 ghost use Rattle.fast_check_worklists.specs.Demands.{asked, asked_by};
 ghost use Rattle.fast_check_worklists.specs.State.{want_of};
@@ -14,10 +14,9 @@ ghost use Rattle.fast_check_steps.specs.Wants.{file_at, behind, resolved, file_w
 
 use crate::exports::exports_of;
 use crate::sources::{Sources, owner_of};
-use fast_check_files::{FileWant, FileWants, WantedNames};
+use fast_check_name_demands::{FileWant, FileWants, WantedNames};
 use fast_check_names::ImportedExports;
-use fast_check_packages::PackageNv;
-use fast_check_provider::JsrUrlProvider;
+use fast_check_packages::{JsrUrlProvider, PackageNv};
 use fast_check_traces::{ModuleWant, ModuleWants, TracedModule};
 use fast_check_worklists::{Step, is_same};
 use std::alloc::{AllocError, Global};

@@ -1,11 +1,11 @@
 -- What one declaration says of its symbol, for demands.
 use Rattle.std.specs.Prelude.{Bool, true, false, ◌&&◌, ◌||◌, List}
 use Rattle.std.specs.List.{list_any}
-use Rattle.fast_check_symbol_tables.specs.symbols.Decls.{definition_of, node_says}
-use Rattle.fast_check_symbol_tables.specs.symbols.declared.decl.SymbolDecl.{SymbolDecl}
-use Rattle.fast_check_symbol_tables.specs.symbols.declared.decl.SymbolDeclKind.{SymbolDeclKind}
-use Rattle.fast_check_symbol_tables.specs.symbols.declared.decl.SymbolDeclKind.TheVariants.{Target, QualifiedTarget, FileRef, Definition}
-use Rattle.fast_check_symbol_tables.specs.symbols.declared.node.SymbolNode.{SymbolNode}
+use Rattle.fast_check_symbols.specs.Decls.{definition_of, node_says}
+use Rattle.fast_check_symbols.specs.declared.decl.SymbolDecl.{SymbolDecl}
+use Rattle.fast_check_symbols.specs.declared.decl.SymbolDeclKind.{SymbolDeclKind}
+use Rattle.fast_check_symbols.specs.declared.decl.SymbolDeclKind.TheVariants.{Target, QualifiedTarget, FileRef, Definition}
+use Rattle.fast_check_symbols.specs.declared.node.SymbolNode.{SymbolNode}
 use Rattle.fast_check_symbol_demands.specs.declared.demand.Namespace.{Namespace}
 use Rattle.fast_check_symbol_demands.specs.declared.demand.Namespace.TheVariants.{Value, Type_}
 

@@ -1,4 +1,4 @@
-pub use Rattle.fast_check_symbol_tables.specs as symbol_tables
+pub use Rattle.fast_check_symbols.specs as symbols
 pub mod Demands
 pub mod Decls
 pub mod Rules

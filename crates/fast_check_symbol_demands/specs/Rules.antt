@@ -8,21 +8,21 @@ use Rattle.std.specs.Str.{bytes_eq}
 use Rattle.std.specs.declared.alloc.Global.{Global}
 use Rattle.fast_check_names.specs.Names.{Name, Path, path_of}
 use Rattle.fast_check_syntax.specs.declared.atom.Id.{Id}
-use Rattle.fast_check_symbol_tables.specs.symbols.declared.symbol_id.SymbolId.{SymbolId}
-use Rattle.fast_check_symbol_tables.specs.symbols.declared.symbol.Symbol.{Symbol}
-use Rattle.fast_check_symbol_tables.specs.symbols.declared.decl.SymbolDecl.{SymbolDecl}
-use Rattle.fast_check_symbol_tables.specs.symbols.declared.decl.SymbolDeclKind.{SymbolDeclKind}
-use Rattle.fast_check_symbol_tables.specs.symbols.declared.decl.SymbolDeclKind.TheVariants.{Target, QualifiedTarget, FileRef, Definition}
-use Rattle.fast_check_symbol_tables.specs.symbols.declared.node.ReferenceNamespace.{ReferenceNamespace}
-use Rattle.fast_check_symbol_tables.specs.symbols.declared.node.ReferenceNamespace.TheVariants as refs
-use Rattle.fast_check_symbol_tables.specs.symbols.declared.node.SymbolDep.{SymbolDep}
-use Rattle.fast_check_symbol_tables.specs.symbols.declared.node.SymbolDep.TheVariants as deps
-use Rattle.fast_check_symbol_tables.specs.symbols.declared.node.SymbolNodeDep.{SymbolNodeDep}
-use Rattle.fast_check_symbol_tables.specs.symbols.Symbols.{symbol_of}
-use Rattle.fast_check_symbol_tables.specs.symbols.Exports.{export_named}
-use Rattle.fast_check_symbol_tables.specs.Members.{first_named}
-pub use Rattle.fast_check_symbol_tables.specs.Members.{symbol_is_named}
-use Rattle.fast_check_symbol_tables.specs.Tables.{Tables, symbol_of_swc}
+use Rattle.fast_check_symbols.specs.declared.symbol_id.SymbolId.{SymbolId}
+use Rattle.fast_check_symbols.specs.declared.symbol.Symbol.{Symbol}
+use Rattle.fast_check_symbols.specs.declared.decl.SymbolDecl.{SymbolDecl}
+use Rattle.fast_check_symbols.specs.declared.decl.SymbolDeclKind.{SymbolDeclKind}
+use Rattle.fast_check_symbols.specs.declared.decl.SymbolDeclKind.TheVariants.{Target, QualifiedTarget, FileRef, Definition}
+use Rattle.fast_check_symbols.specs.declared.node.ReferenceNamespace.{ReferenceNamespace}
+use Rattle.fast_check_symbols.specs.declared.node.ReferenceNamespace.TheVariants as refs
+use Rattle.fast_check_symbols.specs.declared.node.SymbolDep.{SymbolDep}
+use Rattle.fast_check_symbols.specs.declared.node.SymbolDep.TheVariants as deps
+use Rattle.fast_check_symbols.specs.declared.node.SymbolNodeDep.{SymbolNodeDep}
+use Rattle.fast_check_symbols.specs.Symbols.{symbol_of}
+use Rattle.fast_check_symbols.specs.Exports.{export_named}
+use Rattle.fast_check_symbols.specs.Members.{first_named}
+pub use Rattle.fast_check_symbols.specs.Members.{symbol_is_named}
+use Rattle.fast_check_symbols.specs.Tables.{Tables, symbol_of_swc}
 use Rattle.fast_check_symbol_demands.specs.declared.demand.Namespace.{Namespace}
 use Rattle.fast_check_symbol_demands.specs.declared.demand.Namespace.TheVariants.{Value, Type_}
 use Rattle.fast_check_symbol_demands.specs.declared.demand.Extent.{Extent}

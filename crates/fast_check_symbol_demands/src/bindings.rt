@@ -5,8 +5,7 @@ ghost use Rattle.fast_check_symbol_demands.specs.Rules.{bound, each_of, referenc
 
 use crate::demand::{Ask, Extent, Namespace, SymbolDemand};
 use crate::list::Demands;
-use fast_check_symbol_tables::CheckedTables;
-use fast_check_symbol_tables::symbols::{ReferenceNamespace, SymbolId};
+use fast_check_symbols::{CheckedTables, ReferenceNamespace, SymbolId};
 use fast_check_syntax::Id;
 use std::alloc::AllocError;
 

@@ -1,6 +1,6 @@
 //! Demands of the children of a symbol: its exports, its members and what its declarations bind.
 ghost use Rattle.std.specs.Prelude.{◌≡◌, ◌++◌, option_map, OnOk};
-ghost use Rattle.fast_check_symbol_tables.specs.symbols.Exports.{seen_export};
+ghost use Rattle.fast_check_symbols.specs.Exports.{seen_export};
 ghost use Rattle.std.specs.List.{flat_map};
 ghost use Rattle.fast_check_symbol_demands.specs.Demands.{demand_of};
 ghost use Rattle.fast_check_symbol_demands.specs.Rules.{each_of, children, decl_names, exports_names, members_names, symbol_names};
@@ -10,8 +10,7 @@ use crate::decls::{binds, is_implementation};
 use crate::demand::{Namespace, SymbolDemand};
 use crate::dependencies::push_kind;
 use crate::list::Demands;
-use fast_check_symbol_tables::CheckedTables;
-use fast_check_symbol_tables::symbols::{Symbol, SymbolDecl, SymbolExports, SymbolId};
+use fast_check_symbols::{CheckedTables, Symbol, SymbolDecl, SymbolExports, SymbolId};
 use std::alloc::AllocError;
 
 fn push_decl<'a>(

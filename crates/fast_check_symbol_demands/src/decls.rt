@@ -4,7 +4,7 @@ ghost use Rattle.std.specs.List.{list_any};
 ghost use Rattle.fast_check_symbol_demands.specs.Decls.{binds, is_implementation, is_function, is_class_decl, is_closed_decl, is_alias, has_alias, has_class, is_closed};
 
 use crate::demand::Namespace;
-use fast_check_symbol_tables::symbols::{SymbolDecl, SymbolDeclKind, SymbolNode};
+use fast_check_symbols::{SymbolDecl, SymbolDeclKind, SymbolNode};
 
 /// Whether a declaration binds its name in a namespace.
 pub fn binds(decl: &SymbolDecl, namespace: Namespace) -> bool

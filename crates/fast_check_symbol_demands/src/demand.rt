@@ -1,5 +1,5 @@
 //! A demand of a symbol of a module.
-use fast_check_symbol_tables::symbols::SymbolId;
+use fast_check_symbols::SymbolId;
 
 /// One of TypeScript's two namespaces.
 #[derive(Clone, Copy, PartialEq, Eq, PartialOrd, Ord)]

@@ -6,9 +6,9 @@ ghost use Rattle.fast_check_symbol_demands.specs.Rules.{each_of, reference, refe
 use crate::bindings::{bound, push_named_at, push_reference, push_references, push_references_in};
 use crate::demand::{Namespace, SymbolDemand};
 use crate::list::Demands;
-use fast_check_symbol_tables::CheckedTables;
-use fast_check_symbol_tables::symbols::{
-    ReferenceNamespace, SymbolDeclKind, SymbolDep, SymbolId, SymbolNode, SymbolNodeDep,
+use fast_check_symbols::{
+    CheckedTables, ReferenceNamespace, SymbolDeclKind, SymbolDep, SymbolId, SymbolNode,
+    SymbolNodeDep,
 };
 use std::alloc::AllocError;
 

@@ -13,5 +13,5 @@ pub use children::push_symbol;
 pub use decls::{binds, has_alias, has_class, is_closed, is_function, is_implementation};
 pub use demand::{Ask, Extent, Namespace, SymbolDemand};
 pub use dependencies::is_same;
-pub use fast_check_symbol_tables as symbol_tables;
+pub use fast_check_symbols as symbols;
 pub use list::Demands;

@@ -1,3 +1,10 @@
 pub mod Last
 pub mod Seen
 pub mod Indexed
+pub mod Mentions
+pub mod Witness
+pub mod Alike
+pub mod TableFaults
+pub mod EntriesMissed
+pub mod Pushed
+pub mod Named

@@ -8,9 +8,8 @@ pub use fast_check_modules::{
     ReferenceNamespace, Symbol, SymbolDecl, SymbolDeclKind, SymbolDep, SymbolExports, SymbolId,
     SymbolNode, SymbolNodeDep, TableFault,
 };
-pub use fast_check_packages::{PackageNv, WorkspaceMember};
+pub use fast_check_packages::{JsrUrlProvider, PackageNv, WorkspaceMember};
 pub use fast_check_parsed_source::{MediaType, ModuleSpecifier, ParsedSource};
-pub use fast_check_provider::JsrUrlProvider;
 
 /// What is public of a module, and what is told of what is wrong.
 pub mod diagnostics {
@@ -23,10 +22,10 @@ pub mod diagnostics {
 /// Sets of demanded names, and the modules that were followed or wait.
 pub mod lattice {
     pub use fast_check_names::{Exports, FileDepName, ImportedExports, NamedSubset};
-    pub use fast_check_traced_modules::{HandledExports, PendingTrace, PendingTraces};
+    pub use fast_check_worklists::{HandledExports, PendingTrace, PendingTraces};
 }
 
 /// What a caller lends, and why a build stops.
 pub mod provider {
-    pub use fast_check_provider::{BuildFault, JsrUrlProvider, ListedPackages};
+    pub use fast_check_packages::{BuildFault, JsrUrlProvider, ListedPackages};
 }

@@ -5,12 +5,12 @@ use Rattle.std.proofs.lemmas.List.Elements.{Contains-append_right}
 use Rattle.fast_check_syntax.specs.declared.source.SourceRange.{SourceRange}
 use Rattle.fast_check_names.specs.Names.{Name}
 use Rattle.fast_check_names.specs.Imports.{NameDemand, names_but_default, each_name, subset_at, whole_at}
-use Rattle.fast_check_modules.specs.symbol_tables.declared.tables.ReExportAllNode.{ReExportAllNode}
-use Rattle.fast_check_modules.specs.symbol_tables.Tables.{table_ranges}
+use Rattle.fast_check_modules.specs.symbols.declared.tables.ReExportAllNode.{ReExportAllNode}
+use Rattle.fast_check_modules.specs.symbols.Tables.{table_ranges}
 use Rattle.fast_check_search.specs.Turn.{AreTableRanges}
 use Rattle.fast_check_search.proofs.Each.{Contains_first, Contains_later, contains_map, Each, each_nil, each_one, each_map, each_flat, each_cond}
-use Rattle.fast_check_files.specs.declared.want.WantedNames.{WantedNames}
-use Rattle.fast_check_files.specs.Files.{names_of}
+use Rattle.fast_check_name_demands.specs.declared.want.WantedNames.{WantedNames}
+use Rattle.fast_check_name_demands.specs.Files.{names_of}
 use Rattle.fast_check_traces.specs.declared.modules.TracedModule.{TracedModule}
 use Rattle.fast_check_traces.specs.Modules.{own_tables, own_export, answer_of, first_with}
 use Rattle.fast_check_traces.specs.Wants.{node_ranges, first_range, path_ranges, re_export_ranges}

@@ -7,8 +7,8 @@ use Rattle.fast_check_names.specs.Names.{Name}
 use Rattle.fast_check_symbols.specs.declared.symbol_id.SymbolId.{SymbolId}
 use Rattle.fast_check_symbols.specs.Symbols.{symbol_of}
 use Rattle.fast_check_symbols.specs.Exports.{export_named}
-use Rattle.fast_check_modules.specs.symbol_tables.declared.tables.ReExportAllNode.{ReExportAllNode}
-use Rattle.fast_check_modules.specs.symbol_tables.Tables.{Tables, resolved_export}
+use Rattle.fast_check_modules.specs.symbols.declared.tables.ReExportAllNode.{ReExportAllNode}
+use Rattle.fast_check_modules.specs.symbols.Tables.{Tables, resolved_export}
 use Rattle.fast_check_graph.specs.declared.root_symbol.ModuleInfo.{ModuleInfo}
 use Rattle.fast_check_graph.specs.declared.root_symbol.ModuleInfo.TheVariants.{Esm, Json}
 use Rattle.fast_check_graph.specs.Graph.{resolved_to}

@@ -9,7 +9,7 @@ use Rattle.fast_check_symbols.specs.declared.symbol.Symbol.{Symbol}
 use Rattle.fast_check_symbols.specs.declared.decl.SymbolDecl.{SymbolDecl}
 use Rattle.fast_check_symbols.specs.Decls.{decl_has_export_keyword}
 use Rattle.fast_check_symbols.specs.Symbols.{symbol_of}
-use Rattle.fast_check_modules.specs.symbol_tables.Tables.{Tables}
+use Rattle.fast_check_modules.specs.symbols.Tables.{Tables}
 use Rattle.fast_check_demands.specs.symbol_demands.declared.demand.Namespace.{Namespace}
 use Rattle.fast_check_demands.specs.symbol_demands.declared.demand.Namespace.TheVariants.{Value, Type_}
 use Rattle.fast_check_demands.specs.symbol_demands.declared.demand.Extent.{Extent}

@@ -4,9 +4,9 @@ use Rattle.url.specs.Parts.{Parts}
 use Rattle.fast_check_syntax.specs.declared.source.SourceRange.{SourceRange}
 use Rattle.fast_check_names.specs.Names.{Name}
 use Rattle.fast_check_names.specs.Imports.{NameDemand, names_but_default, each_name, subset_at, whole_at}
-use Rattle.fast_check_modules.specs.symbol_tables.declared.tables.ReExportAllNode.{ReExportAllNode}
+use Rattle.fast_check_modules.specs.symbols.declared.tables.ReExportAllNode.{ReExportAllNode}
 use Rattle.fast_check_demands.specs.Rules.{each_of}
-use Rattle.fast_check_files.specs.Files.{names_of}
+use Rattle.fast_check_name_demands.specs.Files.{names_of}
 use Rattle.fast_check_traces.specs.declared.list.ModuleWant.{ModuleWant}
 use Rattle.fast_check_traces.specs.declared.list.ModuleWant.TheVariants.{ReExported, Answered}
 use Rattle.fast_check_traces.specs.declared.modules.TracedModule.{TracedModule}

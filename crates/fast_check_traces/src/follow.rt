@@ -4,7 +4,7 @@ ghost use Rattle.std.specs.List.{flat_map};
 ghost use Rattle.fast_check_demands.specs.Demands.{Demand};
 ghost use Rattle.fast_check_demands.specs.Account.{IsAccount};
 ghost use Rattle.fast_check_search.specs.Turn.{IsFound, AreTableRanges};
-ghost use Rattle.fast_check_files.specs.Files.{names_of};
+ghost use Rattle.fast_check_name_demands.specs.Files.{names_of};
 ghost use Rattle.fast_check_traces.specs.Modules.{own_tables as tables_at};
 ghost use Rattle.fast_check_traces.specs.Roots.{roots};
 ghost use Rattle.fast_check_traces.specs.Wants.{re_export_ranges as ranges_through, module_wants};
@@ -14,7 +14,7 @@ use crate::modules::{TracedModule, own_tables};
 use crate::re_exports::{re_export_ranges, wants_of};
 use crate::roots::roots_of;
 use fast_check_demands::SourceRange;
-use fast_check_files::WantedNames;
+use fast_check_name_demands::WantedNames;
 use fast_check_search::{Found, search};
 use std::alloc::{AllocError, Global};
 

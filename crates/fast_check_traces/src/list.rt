@@ -2,7 +2,7 @@
 ghost use Rattle.std.specs.Prelude.{◌≡◌, [], ◌∷◌, ◌++◌, map, OnOk};
 ghost use Rattle.fast_check_traces.specs.Wants.{want_of};
 
-use fast_check_files::WantedNames;
+use fast_check_name_demands::WantedNames;
 use std::alloc::{AllocError, Global};
 use std::marker::Model;
 use url::Url;

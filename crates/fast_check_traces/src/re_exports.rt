@@ -3,15 +3,15 @@ ghost use Rattle.std.specs.Prelude.{◌≡◌, ◌∷◌, [], ◌++◌, map, OnO
 ghost use Rattle.std.specs.Option.{option_copied};
 ghost use Rattle.std.specs.List.{flat_map};
 ghost use Rattle.fast_check_names.specs.Names.{path_of};
-ghost use Rattle.fast_check_files.specs.Files.{names_of, path_demand};
+ghost use Rattle.fast_check_name_demands.specs.Files.{names_of, path_demand};
 ghost use Rattle.fast_check_traces.specs.Modules.{own_tables as tables_at};
 ghost use Rattle.fast_check_traces.specs.Wants.{re_exported, answered, node_ranges, first_range, path_ranges, re_export_ranges, answered_at, path_wants, module_wants};
 
 use crate::list::{ModuleWant, ModuleWants};
 use crate::modules::{TracedModule, answer_to, first_with, own_export, own_tables};
 use fast_check_demands::{Extent, SourceRange};
-use fast_check_files::WantedNames;
 use fast_check_modules::ReExportAllNode;
+use fast_check_name_demands::WantedNames;
 use std::alloc::{AllocError, Global};
 use url::Url;
 

@@ -4,13 +4,13 @@ ghost use Rattle.std.specs.Option.{option_copied};
 ghost use Rattle.std.specs.List.{flat_map};
 ghost use Rattle.fast_check_names.specs.Names.{path_of};
 ghost use Rattle.fast_check_symbols.specs.Exports.{seen_export};
-ghost use Rattle.fast_check_files.specs.Files.{names_of, path_demand};
+ghost use Rattle.fast_check_name_demands.specs.Files.{names_of, path_demand};
 ghost use Rattle.fast_check_demands.specs.Rules.{each_of, reference};
 ghost use Rattle.fast_check_traces.specs.Roots.{is_exported_in, references_as, exported_as, export_whole, star_export, star_roots, path_roots, roots};
 
 use crate::modules::own_export;
 use fast_check_demands::{Ask, CheckedTables, Demands, Extent, Namespace, SymbolDemand, binds};
-use fast_check_files::WantedNames;
+use fast_check_name_demands::WantedNames;
 use fast_check_symbols::{Symbol, SymbolDecl, SymbolExports, SymbolId};
 use std::alloc::{AllocError, Global};
 

@@ -3,8 +3,7 @@
 
 pub use fast_check_module_transform::{TransformOptions, transform};
 pub use fast_check_parsed_source::{FastCheckModule, ModuleInfo, StaticSource};
-pub use fast_check_transform_pair::transform_pair;
-pub use fast_check_transformer::FastCheckTransformer;
+pub use fast_check_transformer::{FastCheckTransformer, transform_pair};
 
 /// What a cache keeps.
 pub mod cache {

@@ -1,7 +1,7 @@
 //! `fast-check transform FILE`, without the other commands: the fast check of one TypeScript module, from a JSON file to a line of JSON.
 #![tactic(auto)]
 
-use fast_check_requests::{read_call, run};
+use fast_check_requests::{read_call, run_commands};
 use fast_check_transform_command::Transform;
 use std::process::ExitCode;
 
@@ -10,7 +10,13 @@ fn main(rt: HostRuntime) -> ExitCode {
     let mut err = rt.stderr();
     let ending = match read_call(&rt) {
         Ok((words, file)) => {
-            run::<Transform, _, _, _>(rt.alloc(), words.as_slice(), file, &mut out, &mut err)
+            run_commands::<Transform, _, _, _>(
+                rt.alloc(),
+                words.as_slice(),
+                file,
+                &mut out,
+                &mut err,
+            )
         }
         Err(refusal) => refusal.told(&mut err),
     };

@@ -2,7 +2,7 @@
 use Rattle.std.specs.Prelude.{◌≡◌, ℕ, List, Bool}
 use Rattle.fast_check_graph.specs.declared.graph.ModuleGraph.{ModuleGraph}
 use Rattle.fast_check_modules.specs.EsModule.{EsModule, Admits}
-use Rattle.fast_check_modules.specs.symbol_tables.WellFormed.{AreMadeOf}
+use Rattle.fast_check_modules.specs.symbols.WellFormed.{AreMadeOf}
 use Rattle.fast_check_modules.specs.FitProgram.{FitProgram, IsModuleFault}
 use Rattle.fast_check_requests.specs.declared.refusal.Refusal.{Refusal}
 use Rattle.fast_check_requests.specs.declared.refusal.Refusal.TheVariants as refusals

@@ -1,12 +1,12 @@
 //! The line that the program answers.
 
 ghost use Rattle.std.specs.Prelude.{◌≡◌, IfOk};
-ghost use Rattle.fast_check_answers.specs.Answer.{answer_data};
+ghost use Rattle.fast_check_print.specs.Answer.{answer_data};
 ghost use Rattle.fast_check_transform_command.specs.Line.{line_of_data};
 
-use fast_check_answers::write_answer;
 use fast_check_modules::diagnostics::FastCheckDiagnostic;
 use fast_check_parsed_source::FastCheckModule;
+use fast_check_print::write_answer;
 use json::Writer;
 use std::alloc::{AllocError, Global};
 

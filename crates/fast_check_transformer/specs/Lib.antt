@@ -1,1 +1,6 @@
 pub mod Transformer
+pub mod Transformed
+pub mod Compared
+pub mod Worlds
+pub mod Apart
+pub mod Examples

@@ -1,6 +1,8 @@
-//! A transformer of a module, which keeps what is wrong with the module beside what is public of it.
+//! The transform as callers have it: a transformer that keeps what is wrong, and two modules beside each other, with the law of two worlds.
 #![tactic(auto)]
 
+mod pair;
 mod transformer;
 
+pub use pair::transform_pair;
 pub use transformer::FastCheckTransformer;

@@ -15,7 +15,7 @@ use Rattle.fast_check_demands.specs.Rules.{each_of, names}
 use Rattle.fast_check_demands.specs.Yields.{ranges, implementations, faults}
 use Rattle.fast_check_entries.specs.findings.declared.finding.FoundModule.{FoundModule}
 use Rattle.fast_check_entries.specs.findings.Faults.{placed_in}
-use Rattle.fast_check_files.specs.Files.{files}
+use Rattle.fast_check_name_demands.specs.Files.{files}
 use Rattle.fast_check_traces.specs.declared.modules.TracedModule.{TracedModule}
 use Rattle.fast_check_traces.specs.Modules.{own_tables}
 use Rattle.fast_check_traces.specs.Roots.{roots}

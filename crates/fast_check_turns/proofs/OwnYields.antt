@@ -6,7 +6,7 @@ use Rattle.std.specs.Map.{lookup}
 use Rattle.std.specs.Option.{option_and_then, option_or}
 use Rattle.url.specs.Parts.{Parts, serialize}
 use Rattle.fast_check_syntax.specs.declared.source.SourceRange.{SourceRange}
-use Rattle.fast_check_symbol_tables.specs.Tables.{table_ranges}
+use Rattle.fast_check_symbols.specs.Tables.{table_ranges}
 use Rattle.fast_check_packages.specs.Package.{Nv}
 use Rattle.fast_check_cache.specs.Cache.{ItemView}
 use Rattle.fast_check_names.specs.Imports.{NameDemand}

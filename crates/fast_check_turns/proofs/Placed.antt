@@ -4,7 +4,7 @@ use Rattle.std.specs.List.{flat_map}
 use Rattle.std.proofs.lemmas.List.{map-append}
 use Rattle.url.specs.Parts.{Parts}
 use Rattle.fast_check_packages.specs.Package.{Nv}
-use Rattle.fast_check_symbol_tables.specs.Tables.{Tables}
+use Rattle.fast_check_symbols.specs.Tables.{Tables}
 use Rattle.fast_check_graph.specs.Root.{specifier_of}
 use Rattle.fast_check_demands.specs.declared.fault.SymbolFault.{SymbolFault}
 use Rattle.fast_check_demands.specs.Yields.{Fault, fault_seen}

@@ -9,8 +9,8 @@ use Rattle.fast_check_demands.specs.Account.{IsAccount as IsSymbolAccount}
 use Rattle.fast_check_demands.specs.Yields.{fault_seen}
 use Rattle.fast_check_entries.specs.findings.declared.finding.FoundModule.{FoundModule}
 use Rattle.fast_check_entries.specs.findings.Faults.{placed, placed_in}
-use Rattle.fast_check_files.specs.declared.want.WantedNames.{WantedNames}
-use Rattle.fast_check_files.specs.Files.{names_of}
+use Rattle.fast_check_name_demands.specs.declared.want.WantedNames.{WantedNames}
+use Rattle.fast_check_name_demands.specs.Files.{names_of}
 use Rattle.fast_check_search.specs.declared.turns.Found.{Found}
 use Rattle.fast_check_search.specs.Turn.{IsFound}
 use Rattle.fast_check_traces.specs.declared.modules.TracedModule.{TracedModule}

@@ -8,7 +8,7 @@ use Rattle.fast_check_names.specs.Imports.{NameDemand, each_name}
 use Rattle.fast_check_graph.specs.declared.graph.ModuleGraph.{ModuleGraph}
 use Rattle.fast_check_demands.specs.Demands.{Demand as SymbolDemand}
 use Rattle.fast_check_demands.specs.Rules.{each_of, names}
-use Rattle.fast_check_files.specs.Files.{files}
+use Rattle.fast_check_name_demands.specs.Files.{files}
 use Rattle.fast_check_traces.specs.declared.modules.TracedModule.{TracedModule}
 use Rattle.fast_check_traces.specs.Modules.{own_tables}
 use Rattle.fast_check_traces.specs.Roots.{roots}

@@ -13,7 +13,7 @@ use Rattle.fast_check_entries.specs.findings.declared.finding.FoundModule.{Found
 use Rattle.fast_check_entries.specs.findings.Faults.{placed, placed_in}
 use Rattle.fast_check_entries.specs.findings.Yields.{Yield}
 use Rattle.fast_check_entries.specs.findings.Findings.{module_yields}
-use Rattle.fast_check_files.specs.Files.{FileDemand, files}
+use Rattle.fast_check_name_demands.specs.Files.{FileDemand, files}
 use Rattle.fast_check_traces.specs.declared.modules.TracedModule.{TracedModule}
 use Rattle.fast_check_traces.specs.Modules.{own_tables}
 use Rattle.fast_check_traces.specs.Roots.{roots}

@@ -5,7 +5,7 @@ ghost use Rattle.std.specs.List.{flat_map};
 ghost use Rattle.std.specs.Rc.{rc_str_bytes};
 ghost use Rattle.fast_check_packages.specs.Package.{nv_of};
 ghost use Rattle.fast_check_demands.specs.Yields.{fault_seen};
-ghost use Rattle.fast_check_files.specs.Files.{names_of};
+ghost use Rattle.fast_check_name_demands.specs.Files.{names_of};
 ghost use Rattle.fast_check_worklists.specs.State.{want_of};
 ghost use Rattle.fast_check_entries.specs.findings.Faults.{placed_in, placed};
 ghost use Rattle.fast_check_entries.specs.findings.Yields.{dependency};
@@ -16,8 +16,7 @@ ghost use Rattle.fast_check_turns.specs.Yields.{text_of, source_with, source_in,
 use fast_check_demands::SymbolFault;
 use fast_check_entries::findings::{DemandFault, FaultyModule, FoundModule, faults_in};
 use fast_check_graph::ModuleInfo;
-use fast_check_packages::PackageNv;
-use fast_check_provider::JsrUrlProvider;
+use fast_check_packages::{JsrUrlProvider, PackageNv};
 use fast_check_search::Found;
 use fast_check_steps::{Asker, steps_of};
 use fast_check_traces::{Traced, TracedModule, WantedNames, tables_of, trace};

@@ -11,7 +11,7 @@ use Rattle.fast_check_packages.specs.declared.package.PackageNv.{PackageNv}
 use Rattle.fast_check_names.specs.declared.lattice.imported_exports.ImportedExports.{ImportedExports}
 use Rattle.fast_check_packages.specs.Package.{Nv, nv_of}
 use Rattle.fast_check_names.specs.Imports.{NameDemand}
-use Rattle.fast_check_traced_modules.specs.Traces.{is_module, WaitsAt}
+use Rattle.fast_check_worklists.specs.Traces.{is_module, WaitsAt}
 use Rattle.fast_check_worklists.specs.Demands.{Text, same_nv, asked, of_module, World}
 use Rattle.fast_check_worklists.specs.Account.{Trace, Chained}
 use Rattle.fast_check_worklists.specs.State.{State, WaitsFor, AsksModule, AsksPackage}

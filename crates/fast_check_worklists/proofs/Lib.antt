@@ -1,3 +1,4 @@
+pub mod Traced
 pub mod Asks
 pub mod Maps
 pub mod Asking

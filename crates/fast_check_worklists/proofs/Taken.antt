@@ -9,7 +9,7 @@ use Rattle.fast_check_names.specs.declared.lattice.imported_exports.ImportedExpo
 use Rattle.fast_check_names.specs.declared.lattice.imported_exports.ImportedExports.TheVariants.{Star, StarWithDefault, Subset}
 use Rattle.fast_check_names.specs.Names.{Part, Path, Touched, IsSame, IsBelow, HasMore}
 use Rattle.fast_check_names.specs.Imports.{default_name, all_names, imported, answered, NameDemand, IsCopy, IsAdded}
-use Rattle.fast_check_traced_modules.specs.Traces.{is_module, Handles, HandlesAt}
+use Rattle.fast_check_worklists.specs.Traces.{is_module, Handles, HandlesAt}
 use Rattle.fast_check_names.proofs.Forms.{not_all, star_below_all}
 use Rattle.fast_check_worklists.specs.Demands.{Text, asked}
 use Rattle.fast_check_worklists.proofs.Asking.{IsWide, asked_new, asked_either, copy_asked}

@@ -13,7 +13,7 @@ use Rattle.fast_check_names.specs.declared.lattice.imported_exports.ImportedExpo
 use Rattle.fast_check_packages.specs.Package.{Nv, nv_of}
 use Rattle.fast_check_names.specs.Names.{Part, Path, IsBelow}
 use Rattle.fast_check_names.specs.Imports.{imported, NameDemand, IsAdded}
-use Rattle.fast_check_traced_modules.specs.Traces.{is_module, WaitsAt}
+use Rattle.fast_check_worklists.specs.Traces.{is_module, WaitsAt}
 use Rattle.fast_check_worklists.specs.Demands.{Text, asked}
 use Rattle.fast_check_worklists.specs.Account.{Trace, is_of, joined}
 use Rattle.fast_check_worklists.specs.State.{WaitsFor}

@@ -1,3 +1,4 @@
+pub mod Traces
 pub mod Demands
 pub mod Account
 pub mod State

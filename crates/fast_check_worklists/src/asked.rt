@@ -5,9 +5,9 @@ ghost use Rattle.fast_check_worklists.specs.Demands.{same_nv};
 ghost use Rattle.fast_check_worklists.specs.State.{state_of, AsksModule, AsksPackage, AsksOne, AsksAll};
 ghost use Rattle.fast_check_worklists.specs.Turn.{IsBegun};
 
+use crate::traced_modules::{HandledExports, PendingTraces};
 use fast_check_names::ImportedExports;
 use fast_check_packages::PackageNv;
-use fast_check_traced_modules::{HandledExports, PendingTraces};
 use indexmap::IndexSet;
 use std::alloc::{AllocError, Global};
 use std::cmp::Ordering;

@@ -2,11 +2,11 @@
 
 use crate::told::tell_diagnostic;
 use fast_check_cache::PackagePublicRanges;
+use fast_check_cases::Said;
 use fast_check_diagnostics::{
     Diagnostic, FastCheckDiagnostic, FastCheckDiagnosticRange, ModulePublicRanges,
 };
 use fast_check_packages::PackageNv;
-use fast_check_said::Said;
 use fast_check_syntax::SourceRange;
 use std::alloc::Global;
 use std::collections::{BTreeMap, BTreeSet};

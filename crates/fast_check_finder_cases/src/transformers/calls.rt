@@ -1,10 +1,10 @@
 //! Calls of a transformer, and what is told of them.
 use crate::told::tell_diagnostic;
+use fast_check_cases::Said;
 use fast_check_graph::ModuleGraph;
 use fast_check_modules::diagnostics::{Diagnostic, FastCheckDiagnostic, ModulePublicRanges};
 use fast_check_modules::{EsModuleInfo, TableFault};
 use fast_check_requests::{EsModuleParts, Refusal, TransformRequest};
-use fast_check_said::Said;
 use fast_check_transformer::FastCheckTransformer;
 use std::alloc::{AllocError, Global};
 

@@ -1,8 +1,7 @@
 //! A provider whose calls are refused from one on.
-ghost use Rattle.fast_check_provider.specs.Listed.{row_of, row_at, url_in, nv_in};
+ghost use Rattle.fast_check_packages.specs.Listed.{row_of, row_at, url_in, nv_in};
 
-use fast_check_packages::PackageNv;
-use fast_check_provider::{JsrUrlProvider, ListedPackages};
+use fast_check_packages::{JsrUrlProvider, ListedPackages, PackageNv};
 use std::alloc::AllocError;
 use std::cell::Cell;
 use url::Url;

@@ -1,8 +1,7 @@
 //! A world: the input of `build`, with the modules by their names.
 
 use crate::worlds::provider::RefusingProvider;
-use fast_check_build_requests::BuildRequest;
-use fast_check_build_tables::root_symbol_of;
+use fast_check_build_requests::{BuildRequest, root_symbol_of};
 use fast_check_graph::{ModuleGraph, RootSymbol};
 use fast_check_modules::TableFault;
 use fast_check_packages::{PackageNv, WorkspaceMember};

@@ -1,7 +1,7 @@
 use Rattle.std.proofs.Common.{map}
 use Rattle.std.proofs.lemmas.Result.{IfOk-weaker, IfErr-weaker}
 use Rattle.fast_check_packages.specs.Package.{nv_of}
-use Rattle.fast_check_cached_packages.specs.CachedPackages.{used_item}
+use Rattle.fast_check_cache.specs.CachedPackages.{used_item}
 use Rattle.fast_check_finder.specs.turns.Lent.{used_of}
 use Rattle.fast_check_finder.specs.turns.steps.Sources.{with_used}
 use Rattle.fast_check_finder.specs.Refusals.{IsRefusal}

@@ -3,8 +3,8 @@ use mir.Syntax.{Dict}
 use denote.Param.Table.{Entry}
 use borrow.Pointer.Hide.{carry, carried_same}
 use Rattle.fast_check_packages.specs.Package.{nv_of}
-use Rattle.fast_check_provider.specs.declared.provider.JsrUrlProvider.{Ghosts}
-use Rattle.fast_check_provider.specs.declared.fault.BuildFault.TheVariants as faults
+use Rattle.fast_check_packages.specs.declared.provider.JsrUrlProvider.{Ghosts}
+use Rattle.fast_check_packages.specs.declared.fault.BuildFault.TheVariants as faults
 use Rattle.fast_check_build.specs.finder.Refusals.{IsRefusal}
 use Rattle.fast_check_build.specs.Found.{known_of}
 use Rattle.fast_check_build.specs.Build.{IsBuilt}

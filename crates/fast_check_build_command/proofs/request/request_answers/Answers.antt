@@ -1,6 +1,6 @@
 use Rattle.std.proofs.Common.{map, subst}
 use Rattle.std.proofs.lemmas.Result.{err_from_is_err_and}
-use Rattle.fast_check_provider.specs.declared.listed.ListedPackages.{ListedPackages}
+use Rattle.fast_check_packages.specs.declared.listed.ListedPackages.{ListedPackages}
 use Rattle.fast_check_packages.specs.Package.{nv_of}
 use Rattle.fast_check_build.specs.Build.{IsBuilt}
 use Rattle.fast_check_build_command.specs.Build.{known_by}

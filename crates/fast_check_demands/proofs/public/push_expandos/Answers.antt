@@ -1,4 +1,4 @@
-use Rattle.fast_check_symbol_demands.specs.symbol_tables.symbols.Symbols.{symbol_of}
+use Rattle.fast_check_symbol_demands.specs.symbols.Symbols.{symbol_of}
 use Rattle.fast_check_symbol_demands.specs.Rules.{each_of}
 use Rattle.fast_check_demands.specs.Yields.{outside}
 use Rattle.fast_check_symbol_demands.proofs.EachAt.{each_more}

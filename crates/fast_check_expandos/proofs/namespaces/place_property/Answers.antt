@@ -3,7 +3,7 @@ use Rattle.std.specs.Map.{set_value}
 use Rattle.std.proofs.lemmas.Result.{on_ok_weaker}
 use Rattle.indexmap.specs.IndexMap.{insert_entry}
 use Rattle.indexmap.proofs.CallerLemmas.{insert_entry-new}
-use Rattle.fast_check_modules.specs.symbol_tables.Tables.{same_id}
+use Rattle.fast_check_modules.specs.symbols.Tables.{same_id}
 use Rattle.fast_check_expandos.specs.Merged.{merged}
 use Rattle.fast_check_expandos.proofs.SameIds.{placed_last, placed_there}
 use Rattle.fast_check_expandos.proofs.Placed.{merged_one}

@@ -6,7 +6,7 @@ use Rattle.fast_check_syntax.specs.declared.tree.Tree.{Tree}
 use Rattle.fast_check_syntax.specs.Part.{seen}
 use Rattle.fast_check_syntax.specs.Shape.{parts}
 use Rattle.fast_check_modules.proofs.ExpandosOut.{item_lower}
-use Rattle.fast_check_modules.proofs.symbol_table_proofs.Pushed.{each_more, each_all}
+use Rattle.fast_check_modules.proofs.symbol_proofs.Pushed.{each_more, each_all}
 use Rattle.fast_check_expandos.specs.declared.references.Reference.{Reference}
 use Rattle.fast_check_expandos.specs.Objects.{exports_name}
 use Rattle.fast_check_expandos.specs.References.{references, own_reference}

@@ -1,10 +1,10 @@
 use Rattle.std.proofs.Common.{map, refl, Some}
 use Rattle.std.specs.List.{flat_map}
 use Rattle.fast_check_packages.specs.Package.{nv_of}
-use Rattle.fast_check_traced_modules.specs.Traces.{handled, pending}
+use Rattle.fast_check_worklists.specs.Traces.{handled, pending}
 use Rattle.fast_check_worklists.specs.State.{state_of}
 use Rattle.fast_check_worklists.proofs.Last.{same_turn}
-use Rattle.fast_check_cached_packages.specs.CachedPackages.{used_item}
+use Rattle.fast_check_cache.specs.CachedPackages.{used_item}
 use Rattle.fast_check_turns.specs.Lent.{used_of}
 use Rattle.fast_check_turns.specs.steps.Sources.{known, with_used}
 use Rattle.fast_check_turns.specs.Rules.{world}

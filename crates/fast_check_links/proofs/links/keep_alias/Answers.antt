@@ -1,16 +1,16 @@
 use Rattle.std.proofs.Common.{◌∙◌, ap, sym}
 use Rattle.fast_check_syntax.specs.Part.{seen}
 use Rattle.fast_check_diagnostics.specs.PublicRanges.{is_public}
-use Rattle.fast_check_asked.specs.Asked.{Asked-around}
+use Rattle.fast_check_surroundings.specs.Surroundings.{seen_around}
 use Rattle.fast_check_links.proofs.LinkCases.{no_alias, made_alias}
 use Rattle.fast_check_links.proofs.links.keep_alias.Goals as goal
 
 pub returns-then-not-contains : goal.returns-then-not-contains
 returns-then-not-contains c =
-    no_alias (Asked-around c.args.asked) (seen c.args.item)
+    no_alias (seen_around c.args.asked) (seen c.args.item)
     (ap (is_public c.args.asked.public_ranges.now) (sym c.of.ensures.span) ∙ (sym c.contains.ensures ∙ c.if-not-contains.true))
 
 pub returns : goal.returns
 returns c =
-    made_alias (Asked-around c.args.asked) (seen c.args.item)
+    made_alias (seen_around c.args.asked) (seen c.args.item)
     (ap (is_public c.args.asked.public_ranges.now) (sym c.of.ensures.span) ∙ (sym c.contains.ensures ∙ c.if-not-contains.false)) c.in_ok-to_tree.ensures

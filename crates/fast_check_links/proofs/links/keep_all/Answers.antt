@@ -2,20 +2,20 @@ use Rattle.std.proofs.Common.{◌∙◌, ap, sym}
 use Rattle.fast_check_syntax.specs.Part.{seen}
 use Rattle.fast_check_diagnostics.specs.PublicRanges.{is_public}
 use Rattle.fast_check_program_forms.specs.ModuleDecls.{export_all}
-use Rattle.fast_check_asked.specs.skeleton.Links.{answered_source}
-use Rattle.fast_check_asked.specs.Asked.{Asked-around}
+use Rattle.fast_check_surroundings.specs.skeleton.Links.{answered_source}
+use Rattle.fast_check_surroundings.specs.Surroundings.{seen_around}
 use Rattle.fast_check_links.proofs.LinkCases.{no_all, made_all}
 use Rattle.fast_check_links.proofs.links.keep_all.Goals as goal
 
 pub returns-then-not-contains : goal.returns-then-not-contains
 returns-then-not-contains c =
-    no_all (Asked-around c.args.asked) (seen c.args.item)
+    no_all (seen_around c.args.asked) (seen c.args.item)
     (ap (is_public c.args.asked.public_ranges.now) (sym c.of-type_only.ensures.span) ∙ (sym c.contains.ensures ∙ c.if-not-contains.true))
 
 pub returns : goal.returns
 returns c =
-    made_all (Asked-around c.args.asked) (seen c.args.item)
+    made_all (seen_around c.args.asked) (seen c.args.item)
     (ap (is_public c.args.asked.public_ranges.now) (sym c.of-type_only.ensures.span) ∙ (sym c.contains.ensures ∙ c.if-not-contains.false))
     (c.in_ok-into_tree.ensures ∙ (λ i. export_all (c.of-type_only.ensures.span i)
-    ((c.in_ok-src.ensures.0 ∙ ap (answered_source (Asked-around c.args.asked)) c.of-type_only.ensures.src) i)
+    ((c.in_ok-src.ensures.0 ∙ ap (answered_source (seen_around c.args.asked)) c.of-type_only.ensures.src) i)
     (c.of-type_only.ensures.type_only i) ((c.in_ok-src.ensures.1 ∙ c.of-type_only.ensures.with) i)))

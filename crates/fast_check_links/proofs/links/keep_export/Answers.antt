@@ -2,19 +2,19 @@ use Rattle.std.proofs.Common.{refl, ◌∙◌, ap}
 use Rattle.std.proofs.lemmas.Bool.{false≢true}
 use Rattle.fast_check_syntax.specs.Part.{seen}
 use Rattle.fast_check_program_forms.specs.ModuleDecls.{named_export}
-use Rattle.fast_check_asked.specs.skeleton.Links.{answered_source}
-use Rattle.fast_check_asked.specs.Asked.{Asked-around}
+use Rattle.fast_check_surroundings.specs.skeleton.Links.{answered_source}
+use Rattle.fast_check_surroundings.specs.Surroundings.{seen_around}
 use Rattle.fast_check_links.proofs.LinkCases.{no_export, made_export}
 use Rattle.fast_check_links.proofs.links.keep_export.Goals as goal
 
 pub returns-then-is_empty : goal.returns-then-is_empty
 returns-then-is_empty c =
-    no_export (Asked-around c.args.asked) (seen c.args.item) c.in_ok-specifiers.ensures c.of-type_only.ensures.specifiers (c.if-is_empty.ensures.0 refl)
+    no_export (seen_around c.args.asked) (seen c.args.item) c.in_ok-specifiers.ensures c.of-type_only.ensures.specifiers (c.if-is_empty.ensures.0 refl)
 
 pub returns : goal.returns
 returns c =
-    made_export (Asked-around c.args.asked) (seen c.args.item) c.in_ok-specifiers.ensures c.of-type_only.ensures.specifiers
+    made_export (seen_around c.args.asked) (seen c.args.item) c.in_ok-specifiers.ensures c.of-type_only.ensures.specifiers
     (λ e. false≢true (c.if-is_empty.ensures.1 e))
     (c.in_ok-into_tree.ensures ∙ (λ i. named_export (c.of-type_only.ensures.span i) (c.list.ensures i)
-    ((c.in_ok-src.ensures.0 ∙ ap (answered_source (Asked-around c.args.asked)) c.of-type_only.ensures.src) i)
+    ((c.in_ok-src.ensures.0 ∙ ap (answered_source (seen_around c.args.asked)) c.of-type_only.ensures.src) i)
     (c.of-type_only.ensures.type_only i) ((c.in_ok-src.ensures.1 ∙ c.of-type_only.ensures.with) i)))

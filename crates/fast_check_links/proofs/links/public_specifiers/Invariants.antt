@@ -1,8 +1,8 @@
 use Rattle.std.proofs.Common.{◌≡◌, take}
 use Rattle.std.specs.List.{filter}
-use Rattle.fast_check_asked.specs.skeleton.Links.{is_public_specifier}
-use Rattle.fast_check_asked.specs.Asked.{Asked-around}
+use Rattle.fast_check_surroundings.specs.skeleton.Links.{is_public_specifier}
+use Rattle.fast_check_surroundings.specs.Surroundings.{seen_around}
 use Rattle.fast_check_links.proofs.links.public_specifiers.Given as goal
 
 abbrev pub invariant-loop-specifier : goal.invariant-loop-specifier
-invariant-loop-specifier l = l.items ≡ filter (is_public_specifier (Asked-around l.asked)) (take l.specifier-index l.specifier-items)
+invariant-loop-specifier l = l.items ≡ filter (is_public_specifier (seen_around l.asked)) (take l.specifier-index l.specifier-items)

@@ -2,10 +2,10 @@ use Rattle.std.proofs.Common.{◌≡◌, ◌++◌, ◌+◌, ◌*◌, take}
 use Rattle.fast_check_syntax.specs.Part.{seen}
 use Rattle.fast_check_syntax.specs.Height.{height}
 use Rattle.fast_check_signatures.specs.Answers.{Adds}
-use Rattle.fast_check_declarations.specs.asked.skeleton.KeptComments.{removed_from, without_all_leading}
+use Rattle.fast_check_declarations.specs.surroundings.skeleton.KeptComments.{removed_from, without_all_leading}
 use Rattle.std.specs.List.{flat_map}
-use Rattle.fast_check_declarations.specs.asked.skeleton.Visible.{item_properties}
-use Rattle.fast_check_declarations.specs.asked.Asked.{Asked-around}
+use Rattle.fast_check_declarations.specs.surroundings.skeleton.Visible.{item_properties}
+use Rattle.fast_check_declarations.specs.surroundings.Surroundings.{seen_around}
 use Rattle.fast_check_module_transform.specs.PartAnswers.{each_answer}
 use Rattle.fast_check_module_transform.proofs.items.+items.Given as goal
 
@@ -29,7 +29,7 @@ decreases-keep_item l = 6 * height (seen l.item) + 5
 
 abbrev pub invariant-keep_each-loop-item : goal.invariant-keep_each-loop-item
 invariant-keep_each-loop-item l = record {
-  answer : Adds (each_answer (Asked-around l.asked) (take l.item-index l.item-items)) l.items l.initial.faults.items l.faults.items;
-  properties : l.properties.items ≡ l.initial.properties.items ++ flat_map (item_properties (Asked-around l.asked)) (take l.item-index l.item-items);
-  comments : l.comments ≡ without_all_leading (removed_from (Asked-around l.asked) (take l.item-index l.item-items)) l.initial.comments;
+  answer : Adds (each_answer (seen_around l.asked) (take l.item-index l.item-items)) l.items l.initial.faults.items l.faults.items;
+  properties : l.properties.items ≡ l.initial.properties.items ++ flat_map (item_properties (seen_around l.asked)) (take l.item-index l.item-items);
+  comments : l.comments ≡ without_all_leading (removed_from (seen_around l.asked) (take l.item-index l.item-items)) l.initial.comments;
 }

@@ -7,7 +7,7 @@ use Rattle.fast_check_syntax.specs.Shape.{parts}
 use Rattle.fast_check_modules.specs.declared.expandos.Expando.{Expando}
 use Rattle.fast_check_modules.specs.Expandos.{expandos, own_expando}
 use Rattle.fast_check_modules.proofs.ExpandosOut.{expandos_out, item_lower}
-use Rattle.fast_check_symbol_tables.proofs.Pushed.{each_more, each_all}
+use Rattle.fast_check_symbols.proofs.Pushed.{each_more, each_all}
 use Rattle.fast_check_modules.proofs.expandos.+expandos.Goals as goal
 
 pub push_expandos-returns : goal.push_expandos-returns

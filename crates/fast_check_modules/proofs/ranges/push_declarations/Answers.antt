@@ -1,6 +1,6 @@
 use Rattle.std.proofs.Common.{◌∙◌, ap, ◌++◌, map}
 use Rattle.fast_check_symbols.specs.declared.symbol.Symbol.{Symbol}
-use Rattle.fast_check_symbol_tables.proofs.Pushed.{each_more, each_all}
+use Rattle.fast_check_symbols.proofs.Pushed.{each_more, each_all}
 use Rattle.fast_check_modules.proofs.ranges.push_declarations.Goals as goal
 
 pub loop-symbol-preserved : goal.loop-symbol-preserved

@@ -1,5 +1,5 @@
 use Rattle.fast_check_symbols.specs.declared.decl.SymbolDecl.{SymbolDecl}
-use Rattle.fast_check_symbol_tables.proofs.Pushed.{one_more, all}
+use Rattle.fast_check_symbols.proofs.Pushed.{one_more, all}
 use Rattle.fast_check_modules.proofs.ranges.push_decls.Goals as goal
 
 pub loop-decl-preserved : goal.loop-decl-preserved

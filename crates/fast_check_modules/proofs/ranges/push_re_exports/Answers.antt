@@ -1,5 +1,5 @@
-use Rattle.fast_check_symbol_tables.specs.declared.tables.ReExportAllNode.{ReExportAllNode}
-use Rattle.fast_check_symbol_tables.proofs.Pushed.{one_more, all}
+use Rattle.fast_check_symbols.specs.declared.tables.ReExportAllNode.{ReExportAllNode}
+use Rattle.fast_check_symbols.proofs.Pushed.{one_more, all}
 use Rattle.fast_check_modules.proofs.ranges.push_re_exports.Goals as goal
 
 pub loop-node-preserved : goal.loop-node-preserved

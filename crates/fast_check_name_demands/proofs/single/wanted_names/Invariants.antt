@@ -1,5 +1,5 @@
 use Rattle.std.proofs.Common.{◌≡◌, map, take}
-use Rattle.fast_check_files.specs.Files.{names_of}
+use Rattle.fast_check_name_demands.specs.Files.{names_of}
 use Rattle.fast_check_name_demands.specs.NameDemands.{demand_of}
 use Rattle.fast_check_name_demands.proofs.single.wanted_names.Given as goal
 

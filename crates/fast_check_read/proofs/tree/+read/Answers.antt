@@ -150,10 +150,10 @@ read_counted-returns-in_ok-read_array-in_default t c =
 
 -- ---- the forms
 
-pub read_tree-returns-in_err-read_flag-in-Flag : goal.read_tree-returns-in_err-read_flag-in-Flag
-read_tree-returns-in_err-read_flag-in-Flag t c =
+pub read_tree-returns-in_err-read_bool-in-Flag : goal.read_tree-returns-in_err-read_bool-in-Flag
+read_tree-returns-in_err-read_bool-in-Flag t c =
     let value = view c.args.value.now in
-    answers_none _ _ (ap (tree_of value) c.in-Flag.is ∙ (tree_of_flag value ∙ ap (option_map Flag) (none_of_err _ _ _ c.in_err-read_flag-in-Flag.ensures)))
+    answers_none _ _ (ap (tree_of value) c.in-Flag.is ∙ (tree_of_flag value ∙ ap (option_map Flag) (none_of_err _ _ _ c.in_err-read_bool-in-Flag.ensures)))
     c.from_residual.ensures.0
 
 pub read_tree-returns-in_err-read_u32-in-Context : goal.read_tree-returns-in_err-read_u32-in-Context
@@ -203,10 +203,10 @@ read_tree-returns-in_err-read_members-in-Marked t c =
     answers_none _ _ (ap (tree_of value) c.in-Marked.is ∙ (tree_of_marked value _ ∙ then_none _ c.in_err-read_members-in-Marked.ensures.err.1))
     c.from_residual-in_err-read_members-in-Marked.ensures.0
 
-pub read_tree-returns-in_ok-read_flag-in-Flag : goal.read_tree-returns-in_ok-read_flag-in-Flag
-read_tree-returns-in_ok-read_flag-in-Flag t c =
+pub read_tree-returns-in_ok-read_bool-in-Flag : goal.read_tree-returns-in_ok-read_bool-in-Flag
+read_tree-returns-in_ok-read_bool-in-Flag t c =
     let value = view c.args.value.now in
-    ap (tree_of value) c.in-Flag.is ∙ (tree_of_flag value ∙ ap (option_map Flag) (some_of_ok _ _ _ c.in_ok-read_flag-in-Flag.ensures))
+    ap (tree_of value) c.in-Flag.is ∙ (tree_of_flag value ∙ ap (option_map Flag) (some_of_ok _ _ _ c.in_ok-read_bool-in-Flag.ensures))
 
 pub read_tree-returns-in_ok-read_u32-in-Context : goal.read_tree-returns-in_ok-read_u32-in-Context
 read_tree-returns-in_ok-read_u32-in-Context t c =

@@ -1,5 +1,5 @@
 use Rattle.std.proofs.Common.{◌-◌, map}
-use Rattle.fast_check_files.specs.demands.Demands.{demand_of}
+use Rattle.fast_check_name_demands.specs.demands.Demands.{demand_of}
 use Rattle.fast_check_search.specs.Universe.{limit}
 use Rattle.fast_check_search.specs.Worklist.{asked, IsKept}
 use Rattle.fast_check_search.specs.Turn.{IsOnTheWay}

@@ -6,7 +6,7 @@ use Rattle.std.proofs.lemmas.Result.{on_ok_weaker}
 use Rattle.fast_check_syntax.specs.Part.{seen}
 use Rattle.fast_check_expression_forms.specs.Calls.{MemberExpr-span}
 use Rattle.fast_check_expression_forms.specs.Operators.{AssignExpr-span, AssignExpr-left}
-use Rattle.fast_check_modules.specs.symbol_tables.Tables.{symbol_of_swc}
+use Rattle.fast_check_modules.specs.symbols.Tables.{symbol_of_swc}
 use Rattle.fast_check_signatures.specs.declared.fault.FaultKind.TheVariants.{MissingExplicitType}
 use Rattle.fast_check_signatures.specs.Answers.{fault_at}
 use Rattle.fast_check_expandos.specs.Assignments.{missing_place, kept_property}

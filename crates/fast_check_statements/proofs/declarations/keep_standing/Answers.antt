@@ -1,14 +1,14 @@
 use Rattle.std.proofs.Common.{sym, ◌∙◌}
 use Rattle.fast_check_syntax.specs.Part.{seen}
-use Rattle.fast_check_asked.specs.Asked.{Asked-around}
+use Rattle.fast_check_surroundings.specs.Surroundings.{seen_around}
 use Rattle.fast_check_statements.proofs.PublicCases.{standing_stays, standing_goes}
 use Rattle.fast_check_statements.proofs.declarations.keep_standing.Goals as goal
 
 pub returns-then-not-contains : goal.returns-then-not-contains
 returns-then-not-contains c =
-    standing_goes (Asked-around c.args.asked) c.args.place (seen c.args.decl) (sym c.contains.ensures ∙ c.if-not-contains.true)
+    standing_goes (seen_around c.args.asked) c.args.place (seen c.args.decl) (sym c.contains.ensures ∙ c.if-not-contains.true)
 
 pub returns : goal.returns
 returns c =
-    standing_stays (Asked-around c.args.asked) c.args.place (seen c.args.decl) (sym c.contains.ensures ∙ c.if-not-contains.false)
+    standing_stays (seen_around c.args.asked) c.args.place (seen c.args.decl) (sym c.contains.ensures ∙ c.if-not-contains.false)
     c.in_ok-to_tree.ensures

@@ -1,7 +1,7 @@
 use Rattle.std.proofs.Common.{◌≡◌, ◌++◌, map, take}
 use Rattle.std.specs.List.{flat_map}
 use Rattle.fast_check_packages.specs.Package.{nv_of}
-use Rattle.fast_check_files.specs.Files.{file_demand_of}
+use Rattle.fast_check_name_demands.specs.Files.{file_demand_of}
 use Rattle.fast_check_worklists.specs.State.{want_of}
 use Rattle.fast_check_steps.specs.Sources.{known}
 use Rattle.fast_check_steps.specs.Wants.{file_wants}

@@ -1,6 +1,6 @@
 use Rattle.std.proofs.Common.{◌≡◌, take}
 use Rattle.std.specs.List.{flat_map}
-use Rattle.fast_check_files.specs.Files.{names_of}
+use Rattle.fast_check_name_demands.specs.Files.{names_of}
 use Rattle.fast_check_traces.specs.Roots.{roots}
 use Rattle.fast_check_traces.proofs.roots.roots_of.Given as goal
 

@@ -2,7 +2,7 @@ use Rattle.std.proofs.Common.{◌++◌, ap, ◌∙◌}
 use Rattle.json.specs.Print.{print}
 use Rattle.serde_json.proofs.Texts.{print-outline}
 use Rattle.fast_check_print.specs.Writing.{tokens_of}
-use Rattle.fast_check_answers.specs.Answer.{answer_data}
+use Rattle.fast_check_print.specs.Answer.{answer_data}
 use Rattle.fast_check_requests.specs.Refusal.{line_end}
 use Rattle.fast_check_transform_command.proofs.answer.print_line.Goals as goal
 

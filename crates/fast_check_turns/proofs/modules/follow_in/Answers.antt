@@ -1,6 +1,6 @@
 use Rattle.std.proofs.Common.{◌∙◌, sym, ap, subst, List, map}
 use Rattle.fast_check_names.specs.Imports.{NameDemand}
-use Rattle.fast_check_files.specs.Files.{names_of}
+use Rattle.fast_check_name_demands.specs.Files.{names_of}
 use Rattle.fast_check_name_demands.specs.NameDemands.{demand_of, AreDemands}
 use Rattle.fast_check_turns.proofs.modules.follow_in.Goals as goal
 

@@ -1,7 +1,7 @@
 use Rattle.std.proofs.Common.{sym, subst}
 use Rattle.std.specs.List.{flat_map}
 use Rattle.fast_check_packages.specs.Package.{nv_of}
-use Rattle.fast_check_cached_packages.specs.CachedPackages.{used_item}
+use Rattle.fast_check_cache.specs.CachedPackages.{used_item}
 use Rattle.fast_check_entries.specs.Entries.{Entrance}
 use Rattle.fast_check_entries.specs.findings.Findings.{yields_of}
 use Rattle.fast_check_worklists.specs.State.{state_of}

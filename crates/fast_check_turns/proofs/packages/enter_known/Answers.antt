@@ -5,7 +5,7 @@ use Rattle.fast_check_packages.specs.Package.{nv_of}
 use Rattle.fast_check_entries.specs.findings.Findings.{yields_of}
 use Rattle.fast_check_worklists.specs.State.{state_of}
 use Rattle.fast_check_cache.specs.Cache.{ItemView, item_of}
-use Rattle.fast_check_cached_packages.specs.CachedPackages.{used_item}
+use Rattle.fast_check_cache.specs.CachedPackages.{used_item}
 use Rattle.fast_check_entries.specs.Entries.{in_order}
 use Rattle.fast_check_turns.specs.Turns.{EntersAt}
 use Rattle.fast_check_turns.proofs.Entered.{looked_up}

@@ -1,7 +1,7 @@
 use Rattle.std.proofs.Common.{◌≡◌, ◌∙◌, sym, subst, true, false}
 use Rattle.std.specs.List.{list_any}
-use Rattle.fast_check_files.specs.demands.Demands.{demand_of}
-use Rattle.fast_check_files.specs.demands.Account.{alike}
+use Rattle.fast_check_name_demands.specs.demands.Demands.{demand_of}
+use Rattle.fast_check_name_demands.specs.demands.Account.{alike}
 use Rattle.std.specs.BTreeSet.{Updates}
 use Rattle.fast_check_search.specs.contracts.done.DoneDemandOrd.TheImpl as order
 use Rattle.fast_check_search.specs.declared.done.DoneDemand.{DoneDemand}

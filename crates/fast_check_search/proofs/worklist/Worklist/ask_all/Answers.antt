@@ -1,6 +1,6 @@
 use Rattle.std.proofs.Common.{map, ◌∙◌, sym, ap}
 use Rattle.std.proofs.lemmas.List.{length-map, get_or-map}
-use Rattle.fast_check_files.specs.demands.Demands.{demand_of}
+use Rattle.fast_check_name_demands.specs.demands.Demands.{demand_of}
 use Rattle.fast_check_search.specs.Worklist.{asked}
 use Rattle.fast_check_search.proofs.Closure.{asked_more, asked_all}
 use Rattle.fast_check_search.proofs.worklist.Worklist.ask_all.Goals as goal

@@ -1,5 +1,5 @@
 use Rattle.std.proofs.Common.{map, take}
-use Rattle.fast_check_files.specs.demands.Demands.{demand_of}
+use Rattle.fast_check_name_demands.specs.demands.Demands.{demand_of}
 use Rattle.fast_check_search.specs.Worklist.{asked, IsKept, Grows, CoversEach}
 use Rattle.fast_check_search.proofs.worklist.Worklist.ask_all.Given as goal
 

@@ -4,7 +4,7 @@ use Rattle.std.specs.BTreeMap.{is_at}
 use Rattle.fast_check_search.specs.contracts.done.DoneDemandOrd.TheImpl as order
 use Rattle.fast_check_search.specs.Done.{key_of}
 use Rattle.std.proofs.lemmas.Map.Made.{IsDistinct-from_count}
-use Rattle.fast_check_files.specs.demands.Account.{alike}
+use Rattle.fast_check_name_demands.specs.demands.Account.{alike}
 use Rattle.fast_check_search.proofs.Same.{alike_laws}
 use Rattle.fast_check_search.proofs.Kept.{kept_none}
 use Rattle.fast_check_search.proofs.worklist.Worklist.new.Goals as goal

@@ -1,2 +1,0 @@
-mod Arrays
-mod Reports

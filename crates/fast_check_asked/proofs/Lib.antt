@@ -1,2 +1,0 @@
-pub use Rattle.fast_check_skeleton.proofs as skeleton_proofs
-pub mod Listed

@@ -1,0 +1,47 @@
+//! Modules of the parts that are handed in.
+
+ghost use Rattle.std.specs.Prelude.{IfOk, IfErr, OnOk};
+ghost use Rattle.fast_check_build_requests.specs.Modules.{AreModulesOf, AreSound, IsFaultOf, IsFirstFault, IsModuleOf};
+
+use crate::module_parts::ModuleParts;
+use fast_check_graph::ModuleInfo;
+use fast_check_modules::{EsModuleInfo, JsonModuleInfo, TableFault};
+use std::alloc::Global;
+use url::Url;
+
+/// The module of these parts. Of several faults of its tables the first is answered.
+fn module_of(alloc: Global, parts: ModuleParts) -> Result<ModuleInfo, TableFault>
+    ensures made { IfOk result (IsModuleOf parts) }
+    ensures sound { OnOk result (AreSound parts) }
+    ensures fault { IfErr result (IsFaultOf parts) }
+{
+    match parts {
+        ModuleParts::Esm(esm) => Ok(ModuleInfo::Esm(EsModuleInfo::new(
+            alloc,
+            esm.specifier,
+            esm.source,
+            esm.tables,
+        )?)),
+        ModuleParts::Json(json) => Ok(ModuleInfo::Json(JsonModuleInfo::new(
+            alloc,
+            json.specifier,
+            json.tables,
+        )?)),
+    }
+}
+
+/// The modules of these parts, made in order: the first fault ends it.
+pub fn modules_of(
+    alloc: Global,
+    modules: Vec<(Url, ModuleParts)>,
+) -> Result<Vec<(Url, ModuleInfo)>, TableFault>
+    ensures made { IfOk result (λ made. AreModulesOf modules.items made.items) }
+    ensures fault { IfErr result (IsFirstFault modules.items) }
+{
+    let mut made = Vec::new(alloc);
+    for (name, parts) in modules {
+        let module = module_of(alloc, parts)?;
+        made.push((name, module))?;
+    }
+    Ok(made)
+}

@@ -1,0 +1,112 @@
+//! A text that is told piece by piece.
+ghost use Rattle.std.specs.Prelude.{◌≡◌, [], ◌++◌, Some, None, OnSome, MatchResult, is_ok, if◌then◌else◌};
+ghost use Rattle.std.specs.Option.{option_copied};
+ghost use Rattle.std.specs.String.{string_bytes};
+ghost use Rattle.fast_check_cases.specs.Tells.{Tells, text_of_flag};
+
+use std::alloc::{AllocError, Global};
+use std::marker::Model;
+
+/// A text that is told piece by piece. Where memory is wanting, a piece is left out, and the text is no answer.
+/// Contracts see it as its bytes, or as `None` once a piece was left out.
+#[derive(Drop)]
+pub struct Said {
+    text: String,
+    lacks: bool,
+}
+
+impl Model for Said {
+    ghost use Rattle.std.specs.Prelude.{ℕ, List, Option, Some, None, if◌then◌else◌};
+    ghost use Rattle.std.specs.String.{string_bytes};
+
+    ghost Value = { Option (List ℕ) };
+
+    ghost view = { λ said. if said.lacks then None else Some (string_bytes said.text) };
+}
+
+impl Said {
+    /// The text of no piece.
+    pub fn new(alloc: Global) -> Said
+        ensures { result ≡ Some [] }
+    {
+        Said {
+            text: String::new(alloc),
+            lacks: false,
+        }
+    }
+
+    /// Tells a text.
+    pub fn tell(&mut self, text: &str)
+        ensures { Tells text.now self.old self.new }
+    {
+        let told = self.text.push_str(text);
+        self.note(told);
+    }
+
+    /// Tells a text that was made, if it was.
+    pub fn tell_made(&mut self, made: Result<String, AllocError>)
+        ensures { MatchResult made (λ text. Tells (string_bytes text) self.old self.new) (λ _. self.new ≡ None) }
+    {
+        match made {
+            Ok(text) => self.tell(text.as_str()),
+            Err(_) => self.lack(),
+        }
+    }
+
+    /// Tells a path of three pieces.
+    pub fn tell_path(&mut self, before: &str, name: &str, after: &str)
+        ensures { Tells (before.now ++ (name.now ++ after.now)) self.old self.new }
+    {
+        self.tell(before);
+        self.tell(name);
+        self.tell(after);
+    }
+
+    /// Tells a flag, as `true` or `false`.
+    pub fn tell_flag(&mut self, flag: bool)
+        ensures { Tells (text_of_flag flag) self.old self.new }
+    {
+        self.tell(if flag { "true" } else { "false" });
+    }
+
+    /// A copy of a text. Where memory is wanting, nothing is a text any more.
+    pub fn copy(&mut self, alloc: Global, text: &str) -> String
+        ensures kept { OnSome self.new (self.new ≡ self.old) }
+        ensures copied { OnSome self.new (string_bytes result ≡ text.now) }
+    {
+        match String::from_str(alloc, text) {
+            Ok(copy) => copy,
+            Err(_) => {
+                self.lack();
+                String::new(alloc)
+            }
+        }
+    }
+
+    /// Notes whether a call had memory. The text is kept if it had.
+    pub fn note(&mut self, done: Result<(), AllocError>)
+        ensures { self.new ≡ (if is_ok done then self.old else None) }
+    {
+        if done.is_err() {
+            self.lack();
+        }
+    }
+
+    /// Notes that memory is wanting.
+    pub fn lack(&mut self)
+        ensures { self.new ≡ None }
+    {
+        self.lacks = true;
+    }
+
+    /// The text, if nothing was left out.
+    pub fn text(&self) -> Option<&str>
+        ensures { option_copied result ≡ self.now }
+    {
+        if self.lacks {
+            None
+        } else {
+            Some(self.text.as_str())
+        }
+    }
+}

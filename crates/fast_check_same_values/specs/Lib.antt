@@ -1,4 +1,0 @@
-pub mod SameValues
-pub mod SameClasses
-pub mod HiddenChanges
-pub mod HiddenRules

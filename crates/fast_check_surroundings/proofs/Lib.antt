@@ -1,0 +1,3 @@
+pub use Rattle.fast_check_skeleton.proofs as skeleton_proofs
+pub mod Related
+pub mod Listed

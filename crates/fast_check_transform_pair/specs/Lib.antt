@@ -1,5 +1,0 @@
-pub mod Transformed
-pub mod Compared
-pub mod Worlds
-pub mod Apart
-pub mod Examples

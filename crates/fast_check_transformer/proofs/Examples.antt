@@ -1,0 +1,154 @@
+-- The modules of the examples agree, and their nearest edits do not.
+use Rattle.std.specs.Prelude.{◌≡◌, ℕ, Option, List, [], ◌∷◌, map, refl}
+use Rattle.std.proofs.Common.{inl, ap, ◌∙◌, sym}
+use Rattle.fast_check_bindings.specs.Bindings.{bindings_of}
+use Rattle.fast_check_comments.specs.declared.comments.Comments.{Comments}
+use Rattle.fast_check_comments.specs.Kept.{kept}
+use Rattle.fast_check_surroundings.specs.Surroundings.{surroundings_of}
+use Rattle.fast_check_graph.specs.declared.graph.ModuleGraph.{ModuleGraph}
+use Rattle.fast_check_modules.specs.EsModule.{EsModule}
+use Rattle.fast_check_modules.specs.diagnostics.PublicRanges.{PublicRanges, is_public}
+use Rattle.fast_check_modules.specs.symbols.Tables.{symbol_of_swc}
+use Rattle.fast_check_signatures.specs.NewNodes.{no_scope}
+use Rattle.fast_check_expandos.specs.Assignments.{is_declared, mentioned_by}
+use Rattle.fast_check_expandos.specs.Expandos.{object_of, property_name}
+use Rattle.fast_check_expandos.specs.ModuleObjects.{objects_of}
+use Rattle.fast_check_expandos.specs.Objects.{Objects, exports_name, stands_exported}
+use Rattle.fast_check_surroundings.specs.Sources.{relative_source}
+use Rattle.fast_check_skeleton.specs.Example.{at}
+use Rattle.fast_check_skeleton.specs.Surroundings.{Surroundings}
+use Rattle.fast_check_skeleton.specs.ClassExample.{no_places}
+use Rattle.fast_check_skeleton.specs.ExpandoExample.{target, assignment, x_value}
+use Rattle.fast_check_skeleton.specs.HiddenChangesExample as changes
+use Rattle.fast_check_skeleton.specs.PrivateClassExample as class
+use Rattle.fast_check_skeleton.specs.SameComments.{SameComments}
+use Rattle.fast_check_skeleton.specs.SameAssignments.{SameObject}
+use Rattle.fast_check_skeleton.proofs.Example.{context_of_context}
+use Rattle.fast_check_skeleton.proofs.ModuleExample.{text_of_text}
+use Rattle.fast_check_syntax.specs.declared.atom.Id.{Id}
+use Rattle.fast_check_syntax.specs.declared.tree.Tree.{Tree}
+use Rattle.fast_check_syntax.specs.Moves.{IsPair}
+use Rattle.fast_check_syntax.proofs.Made.{part_node}
+use Rattle.fast_check_transformer.specs.Examples.{with_program, public_at, first_assigned, second_assigned, name_f, SameOfF}
+use Rattle.fast_check_transformer.specs.Examples.{PrivateClasses, SilentAssignments, AllChanges}
+use Rattle.fast_check_transformer.proofs.ExampleModules.{classes_agree, assignments_agree, changes_agree, public_class_differs}
+use Rattle.fast_check_transformer.proofs.ExampleModules.{public_assignment_differs}
+
+-- ---- what is known of these modules
+
+abbrev objects : EsModule → Tree → Objects
+objects m t = objects_of (with_program m t)
+
+unresolved : (m n : EsModule) (t u : Tree) →
+    IsPair no_places.scopes (bindings_of (with_program m t)).unresolved.0 (bindings_of (with_program n u)).unresolved.0
+unfolding bindings_of
+unresolved m n t u = inl (refl, refl)
+
+-- by the tables alone
+objects_one : (m : EsModule) (t u : Tree) → objects m t ≡ objects m u
+unfolding objects_of
+objects_one m t u = refl
+
+exports_are : (m : EsModule) (t : Tree) (id : Id) (name : List ℕ) →
+    (objects m t).exports id name ≡ exports_name (symbol_of_swc m.tables id) name
+unfolding objects_of
+exports_are m t id name = refl
+
+keyword_is : (m : EsModule) (t : Tree) (id : Id) → (objects m t).has_export_keyword id ≡ stands_exported (symbol_of_swc m.tables id)
+unfolding objects_of
+keyword_is m t id = refl
+
+-- the target is `f.a`
+object_text : (object_of target).0 ≡ 102 ∷ []
+object_text = simp (part_node, text_of_text)
+
+object_scope : (object_of target).1 ≡ no_scope
+object_scope = simp (part_node, context_of_context)
+
+object_is : object_of target ≡ name_f
+object_is = λ i. record { 0 = object_text i; 1 = object_scope i }
+
+property_is : property_name target ≡ 97 ∷ []
+property_is = simp (part_node, text_of_text)
+
+module _ (graph : ModuleGraph) where
+  abbrev of : EsModule → PublicRanges → Tree → Surroundings
+  of m ranges t = surroundings_of graph (with_program m t) ranges
+
+  abbrev sources : EsModule → Tree → List ℕ → Option (List ℕ)
+  sources m t = relative_source graph (with_program m t).specifier
+
+  same_object : (m n : EsModule) (t u : Tree) → SameOfF m n →
+      SameObject no_places (of m (public_at []) t) (of n (public_at []) u) target target
+  same_object m n t u e = record {
+    is_declared = declared m t ∙ (e.exports_a ∙ sym (declared n u));
+    has_export_keyword = keyword m t ∙ (e.is_exported ∙ sym (keyword n u));
+  }
+    where
+      declared : (m : EsModule) (t : Tree) → is_declared (objects m t) target ≡ exports_name (symbol_of_swc m.tables name_f) (97 ∷ [])
+      declared m t = (λ i. (objects m t).exports (object_is i) (property_is i)) ∙ exports_are m t name_f (97 ∷ [])
+
+      keyword : (m : EsModule) (t : Tree) →
+          (objects m t).has_export_keyword (object_of target) ≡ stands_exported (symbol_of_swc m.tables name_f)
+      keyword m t = ap ((objects m t).has_export_keyword) object_is ∙ keyword_is m t name_f
+
+  -- no comments agree with none
+  abbrev none : Tree → EsModule → Comments
+  none t m = (with_program m t).source.comments
+
+  same_comments : (m n : EsModule) (t u : Tree) → SameComments no_places (kept (none t m)) (kept (none u n))
+  same_comments m n t u = record { leading = λ p q e. tt; trailing = λ p q e. tt }
+
+pub private_classes : PrivateClasses
+private_classes graph m n one =
+    let here = is_public (public_at []) in
+    let there = is_public (public_at (at 7 17 ∷ [])) in
+    let c = bindings_of (with_program m class.first) in
+    let d = bindings_of (with_program n class.second) in
+    let x = sources graph m class.first in
+    let y = sources graph n class.second in
+    let o = objects m class.first in
+    let o' = objects n class.second in
+    record {
+      agree = record {
+        specifier = one;
+        program = classes_agree here c d x y o o' (unresolved m n class.first class.second) refl;
+        comments = same_comments graph m n class.first class.second;
+      };
+      public_class = λ r ok g. public_class_differs r ok there here c d x y o o' refl refl refl g.program;
+    }
+
+pub silent_assignments : SilentAssignments
+silent_assignments graph m n one =
+    let here = is_public (public_at []) in
+    let there = is_public (public_at (at 7 14 ∷ [])) in
+    let c = bindings_of (with_program m first_assigned) in
+    let d = bindings_of (with_program n second_assigned) in
+    let x = sources graph m first_assigned in
+    let y = sources graph n second_assigned in
+    let o = objects m first_assigned in
+    let o' = objects n second_assigned in
+    record {
+      agree = λ same. record {
+        specifier = one;
+        program = assignments_agree here c d x y o o' (unresolved m n first_assigned second_assigned) refl
+            (same_object graph m n first_assigned second_assigned same);
+        comments = same_comments graph m n first_assigned second_assigned;
+      };
+      public_assignment = λ r ok g. public_assignment_differs r ok there here c d x y o o' refl refl refl g.program;
+    }
+
+pub all_changes : AllChanges
+all_changes graph m =
+    let c = bindings_of (with_program m changes.first) in
+    let d = bindings_of (with_program m changes.second) in
+    let names = mentioned_by c (assignment x_value) in
+    let one = objects_one m changes.first changes.second in
+    record {
+      specifier = refl;
+      program = changes_agree (is_public (public_at [])) c d (sources graph m changes.first) (sources graph m changes.second)
+          (objects m changes.first) (objects m changes.second) (unresolved m m changes.first changes.second)
+          (same_object graph m m changes.first changes.second (record { exports_a = refl; is_exported = refl }))
+          (ap (λ o. map (o.exports (object_of target)) names) one);
+      comments = same_comments graph m m changes.first changes.second;
+    }

@@ -1,3 +1,0 @@
-pub use Rattle.fast_check_signatures.specs as signatures
-pub mod TypedGrammar
-pub mod ClassGrammar
