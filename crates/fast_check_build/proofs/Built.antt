@@ -35,12 +35,14 @@ use Rattle.fast_check_finder.specs.turns.Own.{IsOwnRange}
 use Rattle.fast_check_build.specs.Found.{IsFound}
 
 -- an entry of a map is found by its own key
-found_entry : {K X : Type 0} {cmp : K → K → Ordering} (o : IsTotalOrder cmp) (test : K → Bool) → IsKeyTest (eq_by_cmp cmp) test → (m : BTreeMap K X) →
+found_entry : {K X : Type 0} {cmp : K → K → Ordering} (o : IsTotalOrder cmp) (test : K → Bool) → IsKeyTest (eq_by_cmp cmp) test →
+    (m : BTreeMap K X) →
     IsOrdered cmp m → (e : K × X) → Contains m.entries e → test e.0 ≡ true → lookup test m.entries ≡ Some e.1
 found_entry {K} {X} {cmp} o test one m ordered e h t = lookup_key o test one e.0 m.entries t ∙
     lookup-from_Contains (eq_by_cmp_equiv o) e.0 e.1 m.entries (IsDistinct-from_sorted cmp (keys m) ordered) h
 
-found_package : (m : BTreeMap PackageNv PackagePublicRanges) → IsOrdered by_nv m → (e : PackageNv × PackagePublicRanges) → Contains m.entries e →
+found_package : (m : BTreeMap PackageNv PackagePublicRanges) → IsOrdered by_nv m → (e : PackageNv × PackagePublicRanges) →
+    Contains m.entries e →
     lookup_package (nv_of e.0) m.entries ≡ Some e.1
 found_package m ordered e h = found_entry package_total (is_package (nv_of e.0)) (package_one (nv_of e.0)) m ordered e h
     ((eq_by_cmp_equiv nv_total).refl (nv_of e.0))
@@ -63,13 +65,16 @@ all_trees root (m ∷ ms) h = both (with_tree m (found_module root m.0)) (tree_m
 module _ (k : Known) (roots : List Nv) (ranges : BTreeMap PackageNv PackagePublicRanges) (found : IsFound k roots ranges)
     (ordered : IsOrdered by_nv ranges) where
   -- what is public in a module of a package is what is answered about it
-  is_answered : (p : PackageNv × PackagePublicRanges) → Contains ranges.entries p → IsOrdered by_text p.1.module_ranges → (m : PublicModule) →
-      Contains p.1.module_ranges.entries m → (r : SourceRange) → answer ranges (nv_of p.0) (about (serialize m.0) (whether_public r)) ≡ is_public m.1 r
+  is_answered : (p : PackageNv × PackagePublicRanges) → Contains ranges.entries p → IsOrdered by_text p.1.module_ranges →
+      (m : PublicModule) →
+      Contains p.1.module_ranges.entries m → (r : SourceRange) →
+      answer ranges (nv_of p.0) (about (serialize m.0) (whether_public r)) ≡ is_public m.1 r
   is_answered p c in_order m d r =
       ap (where_found (package_answer (about (serialize m.0) (whether_public r)))) (found_package ranges ordered p c)
       ∙ ap (where_found (module_answer (serialize m.0) (whether_public r))) (found_ranges p.1.module_ranges in_order m d)
 
-  owned_module : (p : PackageNv × PackagePublicRanges) → Contains ranges.entries p → IsOrdered by_text p.1.module_ranges → (m : PublicModule) →
+  owned_module : (p : PackageNv × PackagePublicRanges) → Contains ranges.entries p → IsOrdered by_text p.1.module_ranges →
+      (m : PublicModule) →
       Contains p.1.module_ranges.entries m → OwnsModule k.root_symbol m
   owned_module p c in_order m d = go (found_module k.root_symbol m.0) refl
     where
@@ -82,7 +87,8 @@ module _ (k : Known) (roots : List Nv) (ranges : BTreeMap PackageNv PackagePubli
         tt,
       )
 
-  owned_packages : (ps : List (PackageNv × PackagePublicRanges)) → ((p : PackageNv × PackagePublicRanges) → Contains ps p → IsOwned k.root_symbol p.1) →
+  owned_packages : (ps : List (PackageNv × PackagePublicRanges)) →
+      ((p : PackageNv × PackagePublicRanges) → Contains ps p → IsOwned k.root_symbol p.1) →
       AreOwned k.root_symbol ps
   owned_packages [] h = tt
   owned_packages (p ∷ ps) h = (h p (Contains_first p ps), owned_packages ps (λ x c. h x (Contains_later p ps x c)))

@@ -11,7 +11,8 @@ use Rattle.fast_check_cache.specs.declared.package_ranges.PackagePublicRanges.{P
 use Rattle.fast_check_worklists.specs.Account.{Account, IsAccount, IsYield}
 use Rattle.fast_check_package_ranges.specs.findings.Findings.{yields_of}
 use Rattle.fast_check_package_ranges.specs.findings.declared.finding.Finding.{Finding}
-use Rattle.fast_check_package_ranges.specs.Questions.{ModuleQuestion, about, whether_public, whether_implementing, IsTextless, is_kept, is_said}
+use Rattle.fast_check_package_ranges.specs.Questions.{ModuleQuestion, about, whether_public, whether_implementing, IsTextless, is_kept}
+use Rattle.fast_check_package_ranges.specs.Questions.{is_said}
 use Rattle.fast_check_package_ranges.specs.Parts.{lookup_package}
 use Rattle.fast_check_package_ranges.specs.Answers.{answer, AreAnswers}
 use Rattle.fast_check_package_ranges.proofs.KeptSays.{kept_silent}
@@ -29,7 +30,8 @@ said_about : (found : List Finding) (answers : BTreeMap PackageNv PackagePublicR
     (nv : Nv) (t : List ℕ) (q : ModuleQuestion) → IsTextless (about t q) → answer answers nv (about t q) ≡ true →
     is_said (flat_map yields_of found) nv (about t q) ≡ true
 said_about found answers says nv t q fair e = ⊎_elim
-    (λ y. absurd (false≢true (sym (kept_silent (flat_map yields_of found) nv t q (lookup_package nv answers.entries) (says.cached nv y)) ∙ e)))
+    (λ y. absurd
+    (false≢true (sym (kept_silent (flat_map yields_of found) nv t q (lookup_package nv answers.entries) (says.cached nv y)) ∙ e)))
     (λ n. sym (says.said nv (about t q) n fair) ∙ e)
     (cases_Bool (is_kept (flat_map yields_of found) nv))
 
@@ -43,13 +45,15 @@ found_public k roots found answers a says named = record {
   is_yield = a.2;
   join = a.3;
   says = says;
-  own = λ nv t r h. own_public k a.0 (flat_map yields_of found) a.2 named nv t r (said_about found answers says nv t (whether_public r) tt h);
+  own = λ nv t r h. own_public k a.0 (flat_map yields_of found) a.2 named nv t r
+      (said_about found answers says nv t (whether_public r) tt h);
   own_implementations = λ nv t r h.
       own_implementing k a.0 (flat_map yields_of found) a.2 named nv t r (said_about found answers says nv t (whether_implementing r) tt h);
 }
 
 -- what holds of the items that a lent cache gives holds without a cache, or for the seed of that cache
-pub with_lent : {C : Type 0} (lent : Option C) (own : C → List ℕ) (by : C → List ℕ → Used) (seed : List ℕ) (k : Known) (So : Known → Type 0) →
+pub with_lent : {C : Type 0} (lent : Option C) (own : C → List ℕ) (by : C → List ℕ → Used) (seed : List ℕ) (k : Known)
+    (So : Known → Type 0) →
     MatchOption lent ⊤ (λ c. IsSeed (own c) seed) → So (with_used (used_of lent (λ c. by c seed)) k) →
     MatchOption lent (So (with_used none_used k)) (λ c. WithSeed (own c) (λ s. So (with_used (by c s) k)))
 with_lent None own by seed k So h so = so

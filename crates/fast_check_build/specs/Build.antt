@@ -13,15 +13,16 @@ use Rattle.fast_check_finder.specs.turns.steps.Sources.{Known}
 use Rattle.fast_check_finder.specs.Refusals.{IsRefusal}
 use Rattle.fast_check_build.specs.Found.{IsFound}
 
--- it was found what is public in the packages that are handed in, and in all that follow from them; and each of them is answered, in the order
--- of their names and versions
+-- it was found what is public in the packages that are handed in, and in all that follow from them; and each of them is
+-- answered, in the order of their names and versions
 pub record IsBuilt (k : Known) (roots : List Nv) (first : Bool) (answers : List Answer) : Type 0 where
   pub ranges : BTreeMap PackageNv PackagePublicRanges
   pub found : IsFound k roots ranges
   pub packages_in_order : IsOrdered by_nv ranges
   pub answered : AreAnswered k.graph k.root_symbol first ranges.entries answers
 
--- the same where a cache is lent, with the hash of a package and its entry points: the items of the packages were set then, in order
+-- the same where a cache is lent, with the hash of a package and its entry points: the items of the packages were set
+-- then, in order
 pub record IsBuiltWith (k : Known) (roots : List Nv) (first : Bool) (key : Nv → List (List ℕ) → ℕ)
     (old new : ℕ → Option ItemView) (answers : List Answer) : Type 0 where
   pub built : IsBuilt k roots first answers

@@ -14,4 +14,11 @@ pub record Finder : Type 0 where
   pub pending_nvs : List PackageNv
 
 abbrev pub finder_of : PublicRangeFinder → Finder
-finder_of f = record { graph = f.graph.now; root_symbol = f.root_symbol.now; workspace_members = f.workspace_members.now; pending_nvs = f.pending_nvs.items }
+finder_of f =
+    record {
+      graph = f.graph.now;
+      root_symbol = f.root_symbol.now;
+      workspace_members =
+          f.workspace_members.now;
+      pending_nvs = f.pending_nvs.items;
+    }

@@ -32,9 +32,9 @@ known_of graph root_symbol members url_of nv_at = record {
   used = none_used;
 }
 
--- There is an account of demands, from the packages that are handed in, whose export texts all join; and the answers say what its demands give,
--- and nothing else. A package whose item is used demands what the item depends on, and gives the item. What is public in a module is declared in it,
--- so that the module admits it.
+-- There is an account of demands, from the packages that are handed in, whose export texts all join; and the answers
+-- say what its demands give, and nothing else. A package whose item is used demands what the item depends on, and gives
+-- the item. What is public in a module is declared in it, so that the module admits it.
 pub record IsFound (k : Known) (roots : List Nv) (answers : BTreeMap PackageNv PackagePublicRanges) : Type 0 where
   pub account : Account
   pub yields : List Yield
@@ -43,7 +43,8 @@ pub record IsFound (k : Known) (roots : List Nv) (answers : BTreeMap PackageNv P
   pub join : JoinAll k account
   pub says : AreAnswers yields answers
   pub own : (nv : Nv) (t : Text) (r : SourceRange) → answer answers nv (about t (whether_public r)) ≡ true → IsOwnRange (named_at k.root_symbol t) r
-  pub own_implementations : (nv : Nv) (t : Text) (r : SourceRange) → answer answers nv (about t (whether_implementing r)) ≡ true →
+  pub own_implementations : (nv : Nv) (t : Text) (r : SourceRange) →
+      answer answers nv (about t (whether_implementing r)) ≡ true →
       IsOwnRange (named_at k.root_symbol t) r
 
 -- it is so for one seed, that of the rules or the cache's own

@@ -54,7 +54,8 @@ pub export_refused_of : (refusal : Refusal) (asked : BuildRequest) (root : RootS
     → RefusesBuild asked refusal
 export_refused_of refusal asked root listed same is refuses =
     export_refused refusal asked root is
-    (subst (λ (l : ListedPackages). IsExportRefusal (known_by asked.graph root asked.workspace_members.items l) (roots_in asked) refusal) same refuses)
+    (subst (λ (l : ListedPackages). IsExportRefusal (known_by asked.graph root asked.workspace_members.items l)
+    (roots_in asked) refusal) same refuses)
 
 one_or_none : (b : Bool) → (if b then 1 else 0) < 2
 one_or_none true = lit< tt

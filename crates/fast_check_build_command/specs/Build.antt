@@ -27,7 +27,8 @@ use Rattle.fast_check_build_command.specs.Line.{IsLineOf}
 -- what is known of them, where the packages are listed with their URLs
 abbrev pub known_by : ModuleGraph → RootSymbol → List WorkspaceMember → ListedPackages → Known
 known_by graph root members listed =
-    known_of graph root members (λ nv. url_in listed.fallback (row_of listed.packages.items nv)) (λ text. nv_in (row_at listed.packages.items text))
+    known_of graph root members (λ nv. url_in listed.fallback (row_of listed.packages.items nv))
+    (λ text. nv_in (row_at listed.packages.items text))
 
 -- a package that follows from these has an export text that does not join to its URL
 pub record HasInvalidExport (k : Known) (roots : List Nv) : Type 0 where
@@ -91,7 +92,8 @@ OfBuild P bytes = (asked : BuildRequest) × HoldsBuild bytes asked × P asked
 abbrev pub IsAnswerTo : List ℕ → List ℕ → ℕ → Type 0
 IsAnswerTo bytes line status = OfBuild (λ asked. AnswersBuild asked line status) bytes
 
--- why they are refused: they are no JSON, or the JSON of no request, or their request is refused; memory may run out at any bytes
+-- why they are refused: they are no JSON, or the JSON of no request, or their request is refused; memory may run out at
+-- any bytes
 abbrev pub RefusesBytes : Refusal → List ℕ → Type 0
 RefusesBytes refusals.NotJson bytes = IsNotJson bytes
 RefusesBytes refusals.BadForm bytes = IsNoBuild bytes

@@ -56,7 +56,8 @@ found_entry test [] x is = cc
 found_entry test (e ∷ es) x is = found_at test e es x (test e.0) refl (found_entry test es x) is
 
 -- the look-up of an entry's key finds it
-entry_found : (m : BTreeMap Parts ModuleInfo) (es : Modules) → IsFromIterResult url_cmp es m → (e : Parts × ModuleInfo) → Contains m.entries e
+entry_found : (m : BTreeMap Parts ModuleInfo) (es : Modules) → IsFromIterResult url_cmp es m → (e : Parts × ModuleInfo) →
+    Contains m.entries e
     → lookup (is_specifier e.0) m.entries ≡ Some e.1
 entry_found m es h e among =
     let total : IsTotalOrder url_cmp = on_total serialize nat_list_cmp_total in
@@ -85,15 +86,18 @@ alike test [] [] h = tt
 alike test [] (m ∷ ms) h = absurd h
 alike test (e ∷ es) [] h = absurd h
 alike test (e ∷ es) (m ∷ ms) (h, more) =
-    subst (λ (b : Bool). AreAlike (last_value test (e ∷ es)) (option_or (last_value test ms) (cond b (Some m.1) None))) (sym (ap test h.name))
+    subst (λ (b : Bool). AreAlike (last_value test (e ∷ es)) (option_or (last_value test ms) (cond b (Some m.1) None)))
+    (sym (ap test h.name))
     (or_alike (last_value test es) (last_value test ms) (test e.0) e.1 m.1 (alike test es ms more) h.made)
 
-module_there : (o : Option ModuleParts) (n : Option ModuleInfo) (p : ModuleParts) → AreAlike o n → o ≡ Some p → (m : ModuleInfo) × (n ≡ Some m) × IsModuleOf p m
+module_there : (o : Option ModuleParts) (n : Option ModuleInfo) (p : ModuleParts) → AreAlike o n → o ≡ Some p → (m : ModuleInfo) ×
+    (n ≡ Some m) × IsModuleOf p m
 module_there None n p h is = cc
 module_there (Some q) None p h is = absurd h
 module_there (Some q) (Some m) p h is = (m, refl, subst (λ (r : ModuleParts). IsModuleOf r m) (let same : q ≡ p = cc in same) h)
 
-parts_there : (o : Option ModuleParts) (n : Option ModuleInfo) (m : ModuleInfo) → AreAlike o n → n ≡ Some m → (p : ModuleParts) × (o ≡ Some p) × IsModuleOf p m
+parts_there : (o : Option ModuleParts) (n : Option ModuleInfo) (m : ModuleInfo) → AreAlike o n → n ≡ Some m → (p : ModuleParts) ×
+    (o ≡ Some p) × IsModuleOf p m
 parts_there o None m h is = cc
 parts_there None (Some n) m h is = absurd h
 parts_there (Some p) (Some n) m h is = (p, refl, subst (λ (r : ModuleInfo). IsModuleOf p r) (let same : n ≡ m = cc in same) h)
@@ -155,7 +159,8 @@ module _ (es : Entries) (ms : Modules) (made : AreModulesOf es ms) (m : BTreeMap
   root_of ps aliases a r is = record {
     made = ms;
     are_made = made;
-    finds = λ name. is.finds name ∙ (λ i. option_or (named name i) (option_and_then (λ (other : Parts). named other i) (last_named aliases ps a name i)));
+    finds = λ name. is.finds name ∙
+        (λ i. option_or (named name i) (option_and_then (λ (other : Parts). named other i) (last_named aliases ps a name i)));
   }
 
 -- ---- faults of tables

@@ -16,7 +16,8 @@ pub record Goes (all rest : Entries) (made : List (Parts × ModuleInfo)) : Type 
 
 pub begins : (all rest : Entries) (made : List (Parts × ModuleInfo)) → rest ≡ all → made ≡ [] → Goes all rest made
 begins all rest made is none = record {
-  more = λ ms h. subst (λ (xs : List (Parts × ModuleInfo)). AreModulesOf all (xs ++ ms)) (sym none) (subst (λ (es : Entries). AreModulesOf es ms) is h);
+  more = λ ms h. subst (λ (xs : List (Parts × ModuleInfo)). AreModulesOf all (xs ++ ms)) (sym none)
+      (subst (λ (es : Entries). AreModulesOf es ms) is h);
   fault = λ f h. subst (λ (es : Entries). IsFirstFault es f) is h;
 }
 

@@ -19,4 +19,5 @@ provider p = record { packages = map (λ e. (nv_of e.0, e.1)) p.packages.items; 
 abbrev pub provider_of : Data → Option SeenProvider
 provider_of value =
     given (listed (both_of package_of url_of) (codes "packages") value) (λ packages.
-    option_map (λ fallback. record { packages = packages; fallback = fallback }) (needed url_of (codes "fallback") value))
+    option_map (λ fallback. record { packages = packages; fallback = fallback })
+    (needed url_of (codes "fallback") value))

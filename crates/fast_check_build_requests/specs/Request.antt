@@ -12,8 +12,9 @@ use Rattle.fast_check_build_requests.specs.ModuleParts.{SeenModule, module_parts
 use Rattle.fast_check_build_requests.specs.Provider.{SeenProvider, provider, provider_of}
 use Rattle.fast_check_build_requests.specs.declared.request.BuildRequest.{BuildRequest}
 
--- what contracts see of a request: the graph of modules, the modules under their names, the names that stand for others, the members of the workspace,
--- the packages with their URLs, those that are followed, and whether the first fault of each is answered alone
+-- what contracts see of a request: the graph of modules, the modules under their names, the names that stand for
+-- others, the members of the workspace, the packages with their URLs, those that are followed, and whether the first
+-- fault of each is answered alone
 pub record SeenBuild : Type 0 where
   pub graph : SeenGraph
   pub modules : List (Parts × SeenModule)
@@ -34,7 +35,8 @@ build b = record {
   first = b.should_error_on_first_diagnostic;
 }
 
--- an object of the members graph, modules, aliases, workspace_members, provider, pending and first: all may be left out but the graph and the provider
+-- an object of the members graph, modules, aliases, workspace_members, provider, pending and first: all may be left out
+-- but the graph and the provider
 abbrev pub members_of_build : Data → Option SeenBuild
 members_of_build value =
     given (graph_member_of value) (λ graph.

@@ -14,7 +14,8 @@ same_hash (Diagnostic d) = refl
 
 -- a test of each module is that of what is seen of it
 pub all_seen : (graph : ModuleGraph) (ms : List (Parts × FastCheckCacheModuleItem)) →
-    list_all (λ (m : Parts × ModuleView). kept_hash m.1 == source_hash graph m.0) (map (λ (e : Parts × FastCheckCacheModuleItem). (e.0, module_of e.1)) ms)
+    list_all (λ (m : Parts × ModuleView). kept_hash m.1 == source_hash graph m.0)
+    (map (λ (e : Parts × FastCheckCacheModuleItem). (e.0, module_of e.1)) ms)
     ≡ list_all (λ (m : Parts × FastCheckCacheModuleItem). source_hash_of m.1 == source_hash graph m.0) ms
 all_seen graph [] = refl
 all_seen graph (m ∷ ms) = λ i. (same_hash m.1 i == source_hash graph m.0) && all_seen graph ms i

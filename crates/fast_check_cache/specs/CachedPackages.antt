@@ -31,5 +31,6 @@ abbrev pub at_key : (ℕ → Option ItemView) → ℕ → Option ItemView
 at_key stored key = if nat_lt key (2 ^ 64) then stored key else None
 
 -- the item under the key of a package and its entry points, if it is usable
-abbrev pub used_item : (Nv → List (List ℕ) → ℕ) → (ℕ → Option ItemView) → ModuleGraph → Nv → List Parts → Option ItemView
+abbrev pub used_item : (Nv → List (List ℕ) → ℕ) → (ℕ → Option ItemView) → ModuleGraph → Nv → List Parts →
+    Option ItemView
 used_item key stored graph nv entry_points = if_usable graph (at_key stored (key nv (map serialize entry_points)))

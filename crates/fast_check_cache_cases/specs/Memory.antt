@@ -14,6 +14,7 @@ items_at items key = option_map item_of (get nat_cmp items.by_hash key)
 abbrev pub HasNothing : Items → Type 0
 HasNothing items = (key : ℕ) → items_at items key ≡ None
 
--- the key of a package and the texts of its entry points is their hash under a seed that a cache with this own one may give
+-- the key of a package and the texts of its entry points is their hash under a seed that a cache with this own one may
+-- give
 abbrev pub IsKey : List ℕ → (List ℕ → Nv → List (List ℕ) → ℕ) → Nv → List (List ℕ) → ℕ → Type 0
 IsKey own hash nv entrypoints key = (seed : List ℕ) × IsSeed own seed × (key ≡ hash seed nv entrypoints)

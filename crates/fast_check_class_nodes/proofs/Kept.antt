@@ -10,7 +10,8 @@ use Rattle.fast_check_syntax.specs.Part.{seen}
 use Rattle.fast_check_signatures.specs.Members.{stays_behind, each_behind, if_kept}
 
 next_member : (ms : List Tree) (i : ℕ) (d : Tree) → i < length ms → (earlier : List Tree) →
-    each_behind if_kept earlier (drop i ms) ≡ if_kept earlier (get_or ms i d) ++ each_behind if_kept (get_or ms i d ∷ earlier) (drop (i + 1) ms)
+    each_behind if_kept earlier (drop i ms) ≡ if_kept earlier (get_or ms i d) ++ each_behind if_kept (get_or ms i d ∷ earlier)
+    (drop (i + 1) ms)
 next_member ms i d h earlier = rw (add-one, drop-cons ms i d) refl
 
 module _ (ms : List Tree) (i : ℕ) (m : Tree) (h : i < length ms) (e : m ≡ get_or ms i m) (earlier : List Tree) where
@@ -20,7 +21,8 @@ module _ (ms : List Tree) (i : ℕ) (m : Tree) (h : i < length ms) (e : m ≡ ge
   abbrev with_test : Bool → List Tree
   with_test b = (if b then m ∷ [] else []) ++ each_behind if_kept (m ∷ earlier) (drop (i + 1) ms)
 
-  pub kept_more : {stays : Bool} → stays ≡ true → stays ≡ stays_behind earlier m → {all : List Tree} (kept : List Part) {more : List Part} (p : Part) →
+  pub kept_more : {stays : Bool} → stays ≡ true → stays ≡ stays_behind earlier m →
+      {all : List Tree} (kept : List Part) {more : List Part} (p : Part) →
       all ≡ map seen kept ++ each_behind if_kept earlier (drop i ms) → seen p ≡ m → more ≡ kept ++ p ∷ [] →
       all ≡ map seen more ++ each_behind if_kept (m ∷ earlier) (drop (i + 1) ms)
   kept_more s t kept p x q k =

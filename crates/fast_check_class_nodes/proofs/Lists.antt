@@ -8,12 +8,15 @@ use Rattle.std.proofs.lemmas.List.Elements.{filter-append}
 use Rattle.fast_check_syntax.specs.declared.tree.Tree.{Tree}
 
 -- what is made of each
-pub mapped_more : (f : Tree → Tree) (ts : List Tree) (i : ℕ) (t : Tree) → i < length ts → t ≡ get_or ts i t → {xs ys : List Tree} {made : Tree} →
+pub mapped_more : (f : Tree → Tree) (ts : List Tree) (i : ℕ) (t : Tree) → i < length ts → t ≡ get_or ts i t →
+    {xs ys : List Tree} {made : Tree} →
     xs ≡ map f (take i ts) → made ≡ f t → ys ≡ xs ++ made ∷ [] → ys ≡ map f (take (i + 1) ts)
 mapped_more f ts i t h e {xs = xs} p m q =
-    q ∙ (λ i. p i ++ m i ∷ []) ∙ sym (ap (map f) (take_more ts i t h ∙ ap (λ u. take i ts ++ u ∷ []) (sym e)) ∙ map-append f (take i ts) (t ∷ []))
+    q ∙ (λ i. p i ++ m i ∷ []) ∙
+    sym (ap (map f) (take_more ts i t h ∙ ap (λ u. take i ts ++ u ∷ []) (sym e)) ∙ map-append f (take i ts) (t ∷ []))
 
-pub mapped_all : (f : Tree → Tree) {ts us : List Tree} (i : ℕ) → length ts ≤ i → ts ≡ us → {xs : List Tree} → xs ≡ map f (take i ts) → xs ≡ map f us
+pub mapped_all : (f : Tree → Tree) {ts us : List Tree} (i : ℕ) → length ts ≤ i → ts ≡ us → {xs : List Tree} → xs ≡ map f (take i ts) →
+    xs ≡ map f us
 mapped_all f {ts} i h e p = p ∙ ap (map f) (take_all i ts h ∙ e)
 
 -- what is made of those that pass a test

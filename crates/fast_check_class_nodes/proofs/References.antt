@@ -26,7 +26,8 @@ lower_leaf k e p = false≢true (sym e ∙ ap (λ a. a is kinds.Leaf) p)
 pub lower : (t : Tree) (i : ℕ) {u : Tree} {k : Kind} → k ≡ kind_of t → u ≡ part i t → k is kinds.Leaf ≡ false → height u < height t
 lower t i e p n = rw p (height_part t i (λ leaf. lower_leaf _ n (e ∙ leaf)))
 
-pub lower_odd : (t : Tree) (i : ℕ) {u : Tree} {k : Kind} {n : ℕ} → 2 * height t + 1 ≡ n → k ≡ kind_of t → u ≡ part i t → k is kinds.Leaf ≡ false →
+pub lower_odd : (t : Tree) (i : ℕ) {u : Tree} {k : Kind} {n : ℕ} → 2 * height t + 1 ≡ n → k ≡ kind_of t → u ≡ part i t →
+    k is kinds.Leaf ≡ false →
     2 * height u + 1 < n
 lower_odd t i m e p l = omega (arith, m, lower t i e p l)
 
@@ -65,7 +66,8 @@ module _ (t : Tree) where
   pub no_superclass : is_absent t ≡ true → (old : List Fault) → Adds (answer_to (superclass_seen t)) (Some Absent) old old
   no_superclass a old = adds_same (ap (λ b. answer_to (superclass_if b (is_reference t))) a) (adds_nothing (Some Absent) old)
 
-  pub reference_stays : is_absent t ≡ false → is_reference t ≡ true → (old : List Fault) → Adds (answer_to (superclass_seen t)) (Some t) old old
+  pub reference_stays : is_absent t ≡ false → is_reference t ≡ true → (old : List Fault) →
+      Adds (answer_to (superclass_seen t)) (Some t) old old
   reference_stays a r old = adds_same (λ i. answer_to (superclass_if (a i) (r i))) (adds_nothing (Some t) old)
 
   pub superclass_faulty : is_absent t ≡ false → is_reference t ≡ false → {old all : List Fault} →

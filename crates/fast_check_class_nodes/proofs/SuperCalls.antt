@@ -6,13 +6,15 @@ use Rattle.fast_check_syntax.specs.declared.tree.Tree.{Tree}
 use Rattle.fast_check_syntax.specs.Shape.{◌is◌, kind_of, parts, list}
 use Rattle.fast_check_class_forms.specs.Classes.{TsParamProp-span, TsParamProp-param}
 use Rattle.fast_check_class_forms.specs.Functions.{param}
-use Rattle.fast_check_expression_forms.specs.Calls.{call_expr, CallExpr-span, CallExpr-ctxt, CallExpr-callee, CallExpr-args, CallExpr-type_args}
+use Rattle.fast_check_expression_forms.specs.Calls.{call_expr, CallExpr-span, CallExpr-ctxt, CallExpr-callee, CallExpr-args}
+use Rattle.fast_check_expression_forms.specs.Calls.{CallExpr-type_args}
 use Rattle.fast_check_statement_forms.specs.Statements.{ExprStmt-expr}
 use Rattle.fast_check_signatures.specs.Classes.{plain_param, is_super_call, never_argument}
 
 abbrev pub never_call : Tree → Tree
 never_call call =
-    call_expr (CallExpr-span call) (CallExpr-ctxt call) (CallExpr-callee call) (list (map (λ a. never_argument a) (parts (CallExpr-args call))))
+    call_expr (CallExpr-span call) (CallExpr-ctxt call) (CallExpr-callee call)
+    (list (map (λ a. never_argument a) (parts (CallExpr-args call))))
     (CallExpr-type_args call)
 
 module _ (s : Tree) where

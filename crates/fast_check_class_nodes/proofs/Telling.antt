@@ -7,7 +7,8 @@ use Rattle.std.proofs.Common.{ap, ◌∙◌, sym}
 use denote.Ref.{Bor}
 use Rattle.fast_check_syntax.specs.declared.tree.Tree.{Tree}
 use Rattle.fast_check_class_forms.specs.Methods.{ClassMethod-key, ClassMethod-accessibility}
-use Rattle.fast_check_signatures.specs.Members.{is_private, is_computed, key_text, is_private_method_of, is_private_implementation, stays_behind}
+use Rattle.fast_check_signatures.specs.Members.{is_private, is_computed, key_text, is_private_method_of, is_private_implementation}
+use Rattle.fast_check_signatures.specs.Members.{stays_behind}
 use Rattle.fast_check_class_nodes.specs.declared.earlier.Earlier.{Earlier}
 use Rattle.fast_check_class_nodes.specs.Told.{IsMethod, Tells, Next}
 
@@ -15,8 +16,10 @@ or_is : (b c : Bool) → cond b true c ≡ b || c
 or_is true c = refl
 or_is false c = refl
 
-module _ (t : Tree) (m : IsMethod t) (p : is_private (ClassMethod-accessibility t) ≡ true) (k : is_computed (ClassMethod-key t) ≡ false) where
-  stays_if_new : (earlier : List Tree) → stays_behind earlier t ≡ not (list_any (is_private_method_of (key_text (ClassMethod-key t))) earlier)
+module _ (t : Tree) (m : IsMethod t) (p : is_private (ClassMethod-accessibility t) ≡ true)
+    (k : is_computed (ClassMethod-key t) ≡ false) where
+  stays_if_new : (earlier : List Tree) → stays_behind earlier t ≡ not
+      (list_any (is_private_method_of (key_text (ClassMethod-key t))) earlier)
   stays_if_new earlier = rw (m, p, k) refl
 
   is_method_of : (name : List ℕ) → is_private_method_of name t ≡ bytes_eq (key_text (ClassMethod-key t)) name

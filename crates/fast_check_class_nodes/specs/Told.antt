@@ -7,8 +7,10 @@ use Rattle.std.specs.HashSet.{contains_by}
 use Rattle.fast_check_syntax.specs.declared.kind.Kind.TheVariants as kinds
 use Rattle.fast_check_syntax.specs.declared.tree.Tree.{Tree}
 use Rattle.fast_check_syntax.specs.Shape.{◌is◌, kind_of}
-use Rattle.fast_check_class_forms.specs.Fields.{ClassProp-key, ClassProp-accessibility, AutoAccessor-key, AutoAccessor-accessibility}
-use Rattle.fast_check_signatures.specs.Members.{is_private, is_computed, is_private_method_of, is_private_implementation, stays_behind}
+use Rattle.fast_check_class_forms.specs.Fields.{ClassProp-key, ClassProp-accessibility, AutoAccessor-key}
+use Rattle.fast_check_class_forms.specs.Fields.{AutoAccessor-accessibility}
+use Rattle.fast_check_signatures.specs.Members.{is_private, is_computed, is_private_method_of}
+use Rattle.fast_check_signatures.specs.Members.{is_private_implementation, stays_behind}
 use Rattle.fast_check_class_nodes.specs.declared.earlier.Earlier.{Earlier}
 
 abbrev pub IsConstructor : Tree → Type 0
@@ -23,11 +25,13 @@ property_stays m = not (is_private (ClassProp-accessibility m) && is_computed (C
 
 abbrev pub accessor_stays : Tree → Bool
 accessor_stays m =
-    not (kind_of (AutoAccessor-key m) is kinds.PrivateName) && not (is_private (AutoAccessor-accessibility m) && is_computed (AutoAccessor-key m))
+    not (kind_of (AutoAccessor-key m) is kinds.PrivateName) &&
+    not (is_private (AutoAccessor-accessibility m) && is_computed (AutoAccessor-key m))
 
 -- what is told of the earlier members: which names private methods have, and whether a private constructor has a body
 pub record Tells (told : Earlier) (earlier : List Tree) : Type 0 where
-  pub names : (name : List ℕ) → contains_by (λ k. bytes_eq name k.now) told.private_methods ≡ list_any (is_private_method_of name) earlier
+  pub names : (name : List ℕ) → contains_by (λ k. bytes_eq name k.now) told.private_methods ≡ list_any
+      (is_private_method_of name) earlier
   pub implementation : told.has_private_implementation ≡ list_any is_private_implementation earlier
 
 -- whether a member stays behind the earlier ones, and what is told of it and them

@@ -1,6 +1,6 @@
 -- What is answered to constructors: the first parameter property that is a pattern, parameters, and the node.
-use Rattle.std.specs.Prelude.{◌≡◌, ℕ, suc, ◌+◌, ◌<◌, ◌≤◌, Bool, true, false, ◌&&◌, Option, Some, None, option_map, List, [], ◌∷◌, ◌++◌, map, length, drop, refl}
-use Rattle.std.specs.Prelude.{if◌then◌else◌, Result, IfOk}
+use Rattle.std.specs.Prelude.{◌≡◌, ℕ, suc, ◌+◌, ◌<◌, ◌≤◌, Bool, true, false, ◌&&◌, Option, Some, None, option_map, List, [], ◌∷◌, ◌++◌, map}
+use Rattle.std.specs.Prelude.{length, drop, refl, if◌then◌else◌, Result, IfOk}
 use Rattle.std.specs.List.{filter}
 use lib.ListN.{get_or}
 use Rattle.std.proofs.Common.{ap, ◌∙◌, sym, subst, add-one}
@@ -24,8 +24,8 @@ use Rattle.fast_check_signatures.specs.Seen.{Seen}
 use Rattle.fast_check_signatures.specs.Answers.{Adds, fault_at, faultless, answer_to, answer_of}
 use Rattle.fast_check_signatures.specs.Functions.{any_params_from}
 use Rattle.fast_check_signatures.specs.Classes.{is_param_property, takes_apart, plain_param, param_target, constructor_body, constructor_of}
-use Rattle.fast_check_signatures.specs.Classes.{unless_taken_apart, patterns_among, param_properties, constructor_params_seen, constructor_seen}
-use Rattle.fast_check_signatures.specs.Classes.{plain_params_seen}
+use Rattle.fast_check_signatures.specs.Classes.{unless_taken_apart, patterns_among, param_properties, constructor_params_seen}
+use Rattle.fast_check_signatures.specs.Classes.{constructor_seen, plain_params_seen}
 use Rattle.fast_check_signatures.specs.Members.{is_private}
 use Rattle.fast_check_signatures.proofs.Adding.{adds_nothing, adds_same, adds_made, adds_fault, adds_visited}
 use Rattle.fast_check_values.specs.Looked.{params_looked}
@@ -56,9 +56,11 @@ module _ (ps : List Tree) (i : ℕ) (p : Tree) (h : i < length ps) (e : p ≡ ge
   step b = if b then Some (place_of p) else first_pattern (drop (i + 1) ps)
 
   next_is : first_pattern (drop i ps) ≡ step (is_param_property p && takes_apart p)
-  next_is = next_pattern ps i p h ∙ ap (λ t. if is_param_property t && takes_apart t then Some (place_of t) else first_pattern (drop (i + 1) ps)) (sym e)
+  next_is = next_pattern ps i p h ∙
+      ap (λ t. if is_param_property t && takes_apart t then Some (place_of t) else first_pattern (drop (i + 1) ps)) (sym e)
 
-  pub pattern_here : first_pattern ps ≡ first_pattern (drop i ps) → (is_param_property p && takes_apart p) ≡ true → {r : SourceRange} → r ≡ place_of p →
+  pub pattern_here : first_pattern ps ≡ first_pattern (drop i ps) → (is_param_property p && takes_apart p) ≡ true → {r : SourceRange} →
+      r ≡ place_of p →
       Some r ≡ first_pattern ps
   pattern_here all b q = ap Some q ∙ sym (all ∙ (next_is ∙ ap step b))
 
@@ -77,7 +79,8 @@ constructor_made m ss {new = new} h =
     adds_made (option_map (node kinds.Constructor)) (adds_visited (adds_nothing (Some (tree.Range (Constructor-span m))) _)
     (adds_visited (adds_nothing (Some (tree.Context (Constructor-ctxt m))) _) (adds_visited (adds_nothing (Some (Constructor-key m)) _)
     (adds_visited (adds_made (λ ts. Some (list ts)) h) (adds_visited (adds_nothing (Some (constructor_body (Constructor-body m))) _)
-    (adds_visited (adds_nothing (Some (Constructor-accessibility m)) _) (adds_visited (adds_nothing (Some (tree.Flag (Constructor-is_optional m))) _)
+    (adds_visited (adds_nothing (Some (Constructor-accessibility m)) _)
+    (adds_visited (adds_nothing (Some (tree.Flag (Constructor-is_optional m))) _)
     (adds_nothing (Some []) new))))))))
 
 module _ (u : Bindings) (is_implementation : SourceRange → Bool) (m : Tree) where
@@ -94,13 +97,16 @@ module _ (u : Bindings) (is_implementation : SourceRange → Bool) (m : Tree) wh
   stays_by [] e = refl
   stays_by (p ∷ ps) e = cc
 
-  pub constructor_faulty : {ps : List Tree} {r : SourceRange} → first_pattern ps ≡ Some r → ps ≡ parts (Constructor-params m) → {old all : List Fault} →
-      all ≡ old ++ fault_at UnsupportedDestructuring r ∷ [] → Adds (answer_to (constructor_seen u is_implementation m)) (Some Absent) old all
+  pub constructor_faulty : {ps : List Tree} {r : SourceRange} → first_pattern ps ≡ Some r → ps ≡ parts (Constructor-params m) →
+      {old all : List Fault} →
+      all ≡ old ++ fault_at UnsupportedDestructuring r ∷ [] → Adds (answer_to (constructor_seen u is_implementation m))
+      (Some Absent) old all
   constructor_faulty {r = r} e q {old} p =
       subst (λ fs. Adds (answer_to (constructor_seen u is_implementation m)) (Some Absent) old fs) (sym p)
       (adds_same (faulty_by (patterns_among (param_properties m)) r (ap first_pattern (sym q) ∙ e)) (adds_fault (Some Absent) _ old))
 
-  pub constructor_stays : {ps : List Tree} → first_pattern ps ≡ None → ps ≡ parts (Constructor-params m) → {items : List Tree} {old new : List Fault} →
+  pub constructor_stays : {ps : List Tree} → first_pattern ps ≡ None → ps ≡ parts (Constructor-params m) →
+      {items : List Tree} {old new : List Fault} →
       Adds (answer_of (constructor_params_seen u is_implementation m)) items old new →
       Adds (answer_to (constructor_seen u is_implementation m)) (Some (signed_constructor m items)) old new
   constructor_stays e q h =
@@ -132,7 +138,8 @@ module _ (u : Bindings) (is_implementation : SourceRange → Bool) (m : Tree) wh
       go : (items : List Tree) → answer_of (any_params_from 0 (parts t)) ≡ faultless items →
           Adds (answer_of (constructor_params_seen u is_implementation m)) items old old
       go items h =
-          adds_same ((λ j. answer_of (params_if (p j) (i j))) ∙ (ap (λ ps. answer_of (any_params_from 0 ps)) (sym (plain_parts e)) ∙ h)) (adds_nothing _ old)
+          adds_same ((λ j. answer_of (params_if (p j) (i j))) ∙ (ap (λ ps. answer_of (any_params_from 0 ps)) (sym (plain_parts e)) ∙ h))
+          (adds_nothing _ old)
 
   pub own_params : {E : Type 0} (made : Result (List Tree) E) → is_private (Constructor-accessibility m) ≡ false →
       is_implementation (Constructor-span m) ≡ false → {t : Tree} → t ≡ list plain → (old new : List Fault) →

@@ -6,12 +6,14 @@ use Rattle.fast_check_syntax.specs.declared.source.SourceRange.{SourceRange}
 use Rattle.fast_check_syntax.specs.declared.source.SyntaxContext.{SyntaxContext}
 use Rattle.fast_check_syntax.specs.declared.tree.Tree.{Tree}
 use Rattle.fast_check_syntax.specs.Shape.{is_absent, list}
-use Rattle.fast_check_class_forms.specs.Classes.{Constructor-span, Constructor-ctxt, Constructor-key, Constructor-body, Constructor-accessibility}
-use Rattle.fast_check_class_forms.specs.Classes.{Constructor-is_optional, constructor}
+use Rattle.fast_check_class_forms.specs.Classes.{Constructor-span, Constructor-ctxt, Constructor-key, Constructor-body}
+use Rattle.fast_check_class_forms.specs.Classes.{Constructor-accessibility, Constructor-is_optional, constructor}
 use Rattle.fast_check_class_forms.specs.Fields.{ClassProp-key, ClassProp-value, ClassProp-readonly}
 use Rattle.fast_check_class_forms.specs.Fields.{AutoAccessor-value, AutoAccessor-type_ann, AutoAccessor-accessibility}
-use Rattle.fast_check_class_forms.specs.Methods.{ClassMethod-span, ClassMethod-key, ClassMethod-kind, ClassMethod-is_static, ClassMethod-accessibility}
-use Rattle.fast_check_class_forms.specs.Methods.{ClassMethod-is_abstract, ClassMethod-is_optional, ClassMethod-is_override, class_method}
+use Rattle.fast_check_class_forms.specs.Methods.{ClassMethod-span, ClassMethod-key, ClassMethod-kind}
+use Rattle.fast_check_class_forms.specs.Methods.{ClassMethod-is_static, ClassMethod-accessibility}
+use Rattle.fast_check_class_forms.specs.Methods.{ClassMethod-is_abstract, ClassMethod-is_optional}
+use Rattle.fast_check_class_forms.specs.Methods.{ClassMethod-is_override, class_method}
 use Rattle.fast_check_helpers.specs.declared.literal_type.DeclMutabilityKind.TheVariants.{Mutable}
 use Rattle.fast_check_helpers.specs.Builders.{type_ann, any_type_ann}
 use Rattle.fast_check_helpers.specs.InferredType.{inferred_type}
@@ -30,7 +32,8 @@ no_implementations place = false
 unfoldable pub value_answer : Bindings → Tree → Answer Tree
 value_answer bindings m =
     let place = range_of_node (ClassProp-key m) in
-    demanded (fault_at MissingExplicitType place) (answer_to (classes.member_value_seen bindings no_implementations place (ClassProp-value m)))
+    demanded (fault_at MissingExplicitType place)
+    (answer_to (classes.member_value_seen bindings no_implementations place (ClassProp-value m)))
 
 -- to a property without a written type, and to a property
 unfoldable pub untyped_answer : Bindings → Tree → Answer (Option Tree)
@@ -45,7 +48,8 @@ property_answer bindings m = answer_to (classes.property_seen bindings no_implem
 abbrev pub accessor_type : SyntaxContext → Tree → Option Tree
 accessor_type unresolved m =
     if is_private (AutoAccessor-accessibility m) then Some any_type_ann
-    else (if is_absent (AutoAccessor-type_ann m) then option_map type_ann (inferred_type Mutable unresolved (AutoAccessor-value m))
+    else (if is_absent (AutoAccessor-type_ann m) then option_map type_ann
+    (inferred_type Mutable unresolved (AutoAccessor-value m))
     else Some (AutoAccessor-type_ann m))
 
 -- to an accessor
@@ -66,7 +70,8 @@ first_pattern params = first_of (classes.patterns_among (filter (λ p. classes.i
 -- a constructor of these parameters
 abbrev pub signed_constructor : Tree → List Tree → Tree
 signed_constructor m params =
-    constructor (Constructor-span m) (Constructor-ctxt m) (Constructor-key m) (list params) (classes.constructor_body (Constructor-body m))
+    constructor (Constructor-span m) (Constructor-ctxt m) (Constructor-key m) (list params)
+    (classes.constructor_body (Constructor-body m))
     (Constructor-accessibility m) (Constructor-is_optional m)
 
 -- ---- methods
@@ -74,7 +79,8 @@ signed_constructor m params =
 -- a method of this function
 abbrev pub signed_method : Tree → Tree → Tree
 signed_method m function =
-    class_method (ClassMethod-span m) (ClassMethod-key m) function (ClassMethod-kind m) (ClassMethod-is_static m) (ClassMethod-accessibility m)
+    class_method (ClassMethod-span m) (ClassMethod-key m) function (ClassMethod-kind m) (ClassMethod-is_static m)
+    (ClassMethod-accessibility m)
     (ClassMethod-is_abstract m) (ClassMethod-is_optional m) (ClassMethod-is_override m)
 
 -- ---- members

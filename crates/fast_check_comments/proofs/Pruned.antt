@@ -8,7 +8,8 @@ use Rattle.fast_check_comments.specs.Kept.{is_kept, is_empty, pruned}
 use Rattle.fast_check_comments.specs.Places.{Places}
 
 module _ {F : Type 0} (T : F → SourcePos → List Comment → Bool → List Comment → F → Type 0) (f : F)
-    (says : (k : SourcePos) (v : List Comment) (b : Bool) (w : List Comment) (f' : F) → T f k v b w f' → (b ≡ not (is_empty (filter is_kept v))) ×
+    (says : (k : SourcePos) (v : List Comment) (b : Bool) (w : List Comment) (f' : F) → T f k v b w f' →
+    (b ≡ not (is_empty (filter is_kept v))) ×
     (w ≡ filter is_kept v) × (f' ≡ f)) where
   pub pruned_from_retain : (es left : Places) → RetainsPairs T f es left → left ≡ pruned es
   pruned_from_retain [] left r = r

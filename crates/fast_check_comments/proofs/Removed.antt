@@ -14,7 +14,8 @@ module _ {K X : Type 0} (test : K → Bool) where
   all_are_others [] h = refl
   all_are_others (e ∷ es) h = go (test e.0) h (all_are_others es)
     where
-      go : (b : Bool) → cond b (Some e.1) (lookup test es) ≡ None → (lookup test es ≡ None → es ≡ others es) → e ∷ es ≡ cond (not b) (e ∷ others es) (others es)
+      go : (b : Bool) → cond b (Some e.1) (lookup test es) ≡ None → (lookup test es ≡ None → es ≡ others es) → e ∷
+          es ≡ cond (not b) (e ∷ others es) (others es)
       go true h more = cc
       go false h more = ap (λ xs. e ∷ xs) (more h)
 

@@ -36,4 +36,5 @@ kept comments = record { leading = pruned comments.leading; trailing = pruned co
 
 -- the comments without those before the token at a position
 abbrev pub without_leading : SourcePos → Comments → Comments
-without_leading position comments = record { leading = without_comments position comments.leading; trailing = comments.trailing }
+without_leading position comments =
+    record { leading = without_comments position comments.leading; trailing = comments.trailing }

@@ -1,4 +1,5 @@
--- The comments of a text as a list of entries: a position, and the comments that stand at it. The entries stand in the order of their positions.
+-- The comments of a text as a list of entries: a position, and the comments that stand at it. The entries stand in the
+-- order of their positions.
 use Rattle.std.specs.Prelude.{Bool, not, List, Option}
 use Rattle.std.specs.declared.cmp.Ordering.{Ordering}
 use Rattle.std.specs.Ordering.{nat_cmp}

@@ -1,5 +1,6 @@
 -- What is answered to classes, and the comments before their members that go.
-use Rattle.std.specs.Prelude.{◌≡◌, ℕ, ◌+◌, ◌<◌, ◌≤◌, Bool, true, false, Some, option_map, List, [], ◌∷◌, ◌++◌, map, length, drop, refl, if◌then◌else◌}
+use Rattle.std.specs.Prelude.{◌≡◌, ℕ, ◌+◌, ◌<◌, ◌≤◌, Bool, true, false, Some, option_map, List, [], ◌∷◌, ◌++◌, map, length, drop, refl}
+use Rattle.std.specs.Prelude.{if◌then◌else◌}
 use lib.ListN.{get_or}
 use Rattle.std.proofs.Common.{ap, ◌∙◌, sym, add-one}
 use Rattle.std.proofs.Math.Seq.{drop-cons}
@@ -78,7 +79,8 @@ module _ (ms : List Tree) (i : ℕ) (m : Tree) (h : i < length ms) (e : m ≡ ge
   stays_more s t comments x = x ∙ ap (λ ps. without_all_leading ps comments) (left_is ∙ ap left_if (sym t ∙ s))
 
   pub goes_more : {stays : Bool} → stays ≡ false → stays ≡ stays_behind earlier m → {all : Comments} (comments : Comments) →
-      all ≡ without_all_leading (starts_left earlier (drop i ms)) comments → {start : SourcePos} → start ≡ (range_of_node m).start → {more : Comments} →
+      all ≡ without_all_leading (starts_left earlier (drop i ms)) comments → {start : SourcePos} → start ≡ (range_of_node m).start →
+      {more : Comments} →
       more ≡ without_leading start comments → all ≡ without_all_leading (starts_left (m ∷ earlier) (drop (i + 1) ms)) more
   goes_more s t comments x p q =
       x ∙ (ap (λ ps. without_all_leading ps comments) (left_is ∙ ap left_if (sym t ∙ s))

@@ -23,8 +23,9 @@ use Rattle.fast_check_surroundings.specs.skeleton.declared.rules.DefaultRule.The
 use Rattle.fast_check_surroundings.specs.skeleton.Defaults.{default_value_seen, default_class_seen, default_place}
 use Rattle.fast_check_surroundings.specs.skeleton.Defaults.{default_signature, default_function_seen, default_seen}
 use Rattle.fast_check_surroundings.specs.skeleton.Surroundings.{Surroundings}
-use Rattle.fast_check_declarations.specs.ClassAnswers.{default_value_answer, default_class_answer, default_signature_answer, default_function_answer}
-use Rattle.fast_check_declarations.specs.ClassAnswers.{is_public_default, exported_default, default_decl_seen, default_decl_answer, default_answer}
+use Rattle.fast_check_declarations.specs.ClassAnswers.{default_value_answer, default_class_answer, default_signature_answer}
+use Rattle.fast_check_declarations.specs.ClassAnswers.{default_function_answer, is_public_default, exported_default, default_decl_seen}
+use Rattle.fast_check_declarations.specs.ClassAnswers.{default_decl_answer, default_answer}
 use Rattle.fast_check_surroundings.proofs.Listed.{alone}
 
 -- ---- expressions
@@ -33,15 +34,18 @@ module _ (around : Surroundings) (t : Tree) where
   abbrev wrong : Fault
   wrong = fault_at UnsupportedDefaultExportExpr (ExportDefaultExpr-span t)
 
-  pub value_stays : {expr x : Tree} {o : Option Tree} {old new : List Fault} → Adds (answer_to (expr_seen around.bindings expr None)) o old new →
-      expr ≡ ExportDefaultExpr-expr t → o ≡ Some x → Adds (default_value_answer around t) (Some (export_default_expr (ExportDefaultExpr-span t) x)) old new
+  pub value_stays : {expr x : Tree} {o : Option Tree} {old new : List Fault} →
+      Adds (answer_to (expr_seen around.bindings expr None)) o old new →
+      expr ≡ ExportDefaultExpr-expr t → o ≡ Some x → Adds (default_value_answer around t)
+      (Some (export_default_expr (ExportDefaultExpr-span t) x)) old new
   unfolding default_value_answer
   value_stays {old = old} {new = new} h p e =
       adds_made (λ v. Some (export_default_expr (ExportDefaultExpr-span t) v))
       (adds_demanded wrong (subst (λ x. Adds (answer_to (expr_seen around.bindings (ExportDefaultExpr-expr t) None)) x old new) e
       (adds_same (ap (λ v. answer_to (expr_seen around.bindings v None)) (sym p)) h)))
 
-  pub value_goes : {expr : Tree} {o : Option Tree} {old new : List Fault} → Adds (answer_to (expr_seen around.bindings expr None)) o old new →
+  pub value_goes : {expr : Tree} {o : Option Tree} {old new : List Fault} →
+      Adds (answer_to (expr_seen around.bindings expr None)) o old new →
       expr ≡ ExportDefaultExpr-expr t → o ≡ None → {span : SourceRange} → span ≡ ExportDefaultExpr-span t → {all : List Fault} →
       all ≡ new ++ fault_at UnsupportedDefaultExportExpr span ∷ [] →
       Adds (default_value_answer around t) (Some (export_default_expr (ExportDefaultExpr-span t) Absent)) old all
@@ -61,7 +65,8 @@ pub made_class : (around : Surroundings) (decl : Tree) {class t : Tree} {old new
 unfolding default_class_answer
 made_class around decl {new = new} h p =
     adds_made (option_map (node ClassExpr)) (adds_visited (adds_nothing (Some (ClassExpr-ident decl)) _)
-    (adds_visited (adds_same (ap (λ c. answer_to (plain_class_seen around.bindings around.is_implementation c)) (sym p)) h) (adds_nothing (Some []) new)))
+    (adds_visited (adds_same (ap (λ c. answer_to (plain_class_seen around.bindings around.is_implementation c)) (sym p)) h)
+    (adds_nothing (Some []) new)))
 
 -- ---- functions
 
@@ -72,7 +77,8 @@ module _ (around : Surroundings) (place : SourceRange) (decl : Tree) where
       else function_seen around.bindings (expr_seen around.bindings) DeclarationLike (default_place decl) (FnExpr-function decl)
 
   pub implementation : around.is_implementation place ≡ true → {f t : Tree} → f ≡ FnExpr-function decl →
-      answer_to (implementation_seen f) ≡ faultless (Some t) → (old : List Fault) → Adds (default_signature_answer around place decl) (Some t) old old
+      answer_to (implementation_seen f) ≡ faultless (Some t) → (old : List Fault) →
+      Adds (default_signature_answer around place decl) (Some t) old old
   unfolding default_signature_answer
   implementation e q p old =
       adds_same (ap (λ b. answer_to (signature_if b)) e ∙ (ap (λ f. answer_to (implementation_seen f)) (sym q) ∙ p)) (adds_nothing _ old)
@@ -88,7 +94,8 @@ module _ (around : Surroundings) (place : SourceRange) (decl : Tree) where
   abbrev decl_if : Bool → Seen
   decl_if b = if b then written decl else round FnExpr (seens (written (FnExpr-ident decl) ∷ default_signature around place decl ∷ []))
 
-  pub ambient_function : around.is_ambient ≡ true → (old : List Fault) → Adds (default_function_answer around place decl) (Some decl) old old
+  pub ambient_function : around.is_ambient ≡ true → (old : List Fault) →
+      Adds (default_function_answer around place decl) (Some decl) old old
   unfolding default_function_answer
   ambient_function e old = adds_same (ap (λ b. answer_to (decl_if b)) e) (adds_nothing _ old)
 
@@ -98,7 +105,8 @@ module _ (around : Surroundings) (place : SourceRange) (decl : Tree) where
   unfolding default_function_answer default_signature_answer
   made_function e {new = new} h =
       adds_same (ap (λ b. answer_to (decl_if b)) e)
-      (adds_made (option_map (node FnExpr)) (adds_visited (adds_nothing (Some (FnExpr-ident decl)) _) (adds_visited h (adds_nothing (Some []) new))))
+      (adds_made (option_map (node FnExpr))
+      (adds_visited (adds_nothing (Some (FnExpr-ident decl)) _) (adds_visited h (adds_nothing (Some []) new))))
 
 -- ---- exports
 
@@ -109,20 +117,24 @@ module _ (around : Surroundings) (t : Tree) where
       adds_made (option_map (node ExportDefaultDecl)) (adds_visited (adds_nothing (Some (tree.Range (ExportDefaultDecl-span t))) _)
       (adds_visited h (adds_nothing (Some []) new)))
 
-  pub value_decl : {rule : DefaultRule} → rule ≡ Value → {x : Tree} {old new : List Fault} → Adds (default_value_answer around t) (Some x) old new →
+  pub value_decl : {rule : DefaultRule} → rule ≡ Value → {x : Tree} {old new : List Fault} →
+      Adds (default_value_answer around t) (Some x) old new →
       Adds (default_decl_answer around t rule) (Some x) old new
   unfolding default_decl_answer default_value_answer
   value_decl r h = adds_same (ap (λ q. answer_to (default_decl_seen around t q)) r) h
 
-  pub class_decl : {rule : DefaultRule} → rule ≡ Class → {decl x : Tree} {old new : List Fault} → Adds (default_class_answer around decl) (Some x) old new →
-      decl ≡ ExportDefaultDecl-decl t → Adds (default_decl_answer around t rule) (Some (export_default_decl (ExportDefaultDecl-span t) x)) old new
+  pub class_decl : {rule : DefaultRule} → rule ≡ Class → {decl x : Tree} {old new : List Fault} →
+      Adds (default_class_answer around decl) (Some x) old new →
+      decl ≡ ExportDefaultDecl-decl t → Adds (default_decl_answer around t rule)
+      (Some (export_default_decl (ExportDefaultDecl-span t) x)) old new
   unfolding default_decl_answer default_class_answer
   class_decl r h p =
       adds_same (ap (λ q. answer_to (default_decl_seen around t q)) r)
       (exported (default_class_seen around (ExportDefaultDecl-decl t)) (adds_same (ap (default_class_answer around) (sym p)) h))
 
   pub function_decl : {rule : DefaultRule} → rule ≡ Function → {place : SourceRange} {decl x : Tree} {old new : List Fault} →
-      Adds (default_function_answer around place decl) (Some x) old new → place ≡ ExportDefaultDecl-span t → decl ≡ ExportDefaultDecl-decl t →
+      Adds (default_function_answer around place decl) (Some x) old new → place ≡ ExportDefaultDecl-span t →
+      decl ≡ ExportDefaultDecl-decl t →
       Adds (default_decl_answer around t rule) (Some (export_default_decl (ExportDefaultDecl-span t) x)) old new
   unfolding default_decl_answer default_function_answer
   function_decl r h s p =
@@ -135,7 +147,8 @@ module _ (around : Surroundings) (t : Tree) where
   unfolding default_decl_answer
   interface_decl {rule} r p old =
       subst (λ u. Adds (default_decl_answer around t rule) (Some (export_default_decl (ExportDefaultDecl-span t) u)) old old) (sym p)
-      (adds_same (ap (λ q. answer_to (default_decl_seen around t q)) r) (exported (written (ExportDefaultDecl-decl t)) (adds_nothing _ old)))
+      (adds_same (ap (λ q. answer_to (default_decl_seen around t q)) r)
+      (exported (written (ExportDefaultDecl-decl t)) (adds_nothing _ old)))
 
   abbrev default_if : DefaultRule → Bool → List Seen
   default_if rule p = if p then default_decl_seen around t rule ∷ [] else []

@@ -1,5 +1,6 @@
 -- What a demand makes public, and what is wrong with it.
-use Rattle.std.specs.Prelude.{Bool, false, cond, not, ◌&&◌, List, [], ◌∷◌, map, Option, Some, None, length, take, option_to_list, leb}
+use Rattle.std.specs.Prelude.{Bool, false, cond, not, ◌&&◌, List, [], ◌∷◌, map, Option, Some, None, length, take}
+use Rattle.std.specs.Prelude.{option_to_list, leb}
 use Rattle.std.specs.List.{flat_map, filter}
 use Rattle.fast_check_names.specs.Names.{Name, Path, path_of}
 use Rattle.fast_check_syntax.specs.declared.source.SourceRange.{SourceRange}
@@ -36,7 +37,9 @@ expando_ranges t r exports = flat_map (λ e. each_of (outside r) (symbol_of e.1 
 
 -- a declaration is public by its range, and a function with its expando properties, unless it implements overloads
 abbrev pub decl_yields : Tables → Namespace → List (Name × SymbolId) → SymbolDecl → List SourceRange
-decl_yields t n exports x = cond (binds x n) (x.range ∷ cond (is_function x && not (is_implementation x)) (expando_ranges t x.range exports) []) []
+decl_yields t n exports x =
+    cond (binds x n)
+    (x.range ∷ cond (is_function x && not (is_implementation x)) (expando_ranges t x.range exports) []) []
 
 -- a private member makes nothing public
 abbrev pub symbol_ranges : Tables → Namespace → Symbol → List SourceRange
@@ -55,7 +58,8 @@ ranges t d = each_of (asked_ranges t d.asked) (symbol_of d.symbol t.symbols)
 -- implementations of overloads
 
 abbrev pub symbol_implementations : Namespace → Symbol → List SourceRange
-symbol_implementations n s = cond s.is_private_member [] (decl_ranges (filter (λ x. binds x n && is_implementation x) s.decls.items))
+symbol_implementations n s = cond s.is_private_member []
+    (decl_ranges (filter (λ x. binds x n && is_implementation x) s.decls.items))
 
 abbrev pub asked_implementations : Asked → Symbol → List SourceRange
 asked_implementations (by_reference n) s = symbol_implementations n s
@@ -68,7 +72,8 @@ implementations t d = each_of (asked_implementations d.asked) (symbol_of d.symbo
 
 -- faults
 
--- what is wrong with a demand: of which kind, at which symbol, with the names below it that were asked for, and who asked
+-- what is wrong with a demand: of which kind, at which symbol, with the names below it that were asked for, and who
+-- asked
 pub record Fault : Type 0 where
   pub kind : FaultKind
   pub symbol : SymbolId
@@ -87,7 +92,8 @@ is_parent id (Some parent) = same_symbol parent id
 
 -- a private member may be demanded by the symbol that lists it alone
 abbrev pub private_fault : Demand → Symbol → Option Fault
-private_fault d s = cond (s.is_private_member && not (is_parent d.referrer s.parent_id)) (Some (fault_at PrivateMember [] d)) None
+private_fault d s = cond (s.is_private_member && not (is_parent d.referrer s.parent_id))
+    (Some (fault_at PrivateMember [] d)) None
 
 -- a class has no such member (`C.prototype.m`), or something below a member is asked for (`C.prototype.m.x`)
 abbrev pub member_fault : Demand → Path → Option SymbolId → Option Fault

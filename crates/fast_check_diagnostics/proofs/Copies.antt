@@ -68,7 +68,8 @@ other_specifiers _ _ _ _ _ = refl
 -- a call that answers a copy of what is the diagnostic answers a copy of it
 pub answers_copy : {E : Type 0} {known d : FastCheckDiagnostic} (r : Result FastCheckDiagnostic E)
     → known ≡ d → IfOk r (IsDiagnosticCopy known) → MatchResult r (IsDiagnosticCopy d) (λ _. ⊥ → ⊥)
-answers_copy {E} {known} {d} r is copied = MatchResult-weaker r copied (λ copy h. subst (λ a. IsDiagnosticCopy a copy) is h) (λ _ _ never. never)
+answers_copy {E} {known} {d} r is copied = MatchResult-weaker r copied (λ copy h. subst (λ a. IsDiagnosticCopy a copy) is h)
+    (λ _ _ never. never)
 
 own_names : {d known : FastCheckDiagnostic} (range first second : _)
     → d ≡ known → with_names known range first second ≡ known → with_names d range first second ≡ d
@@ -106,15 +107,19 @@ range_kept (kinds.UnsupportedComplexReference a b c) _ _ none _ _ _ = absurd (no
 range_kept (kinds.UnsupportedExpandoProperty a b c) _ _ _ none _ _ = absurd (none a b c refl)
 range_kept (kinds.UnsupportedPrivateMemberReference a b c) _ _ _ _ none _ = absurd (none a b c refl)
 range_kept (kinds.MissingExplicitType _) range _ _ _ _ e = sym (ap (λ part. kinds.MissingExplicitType (part_or range part)) e)
-range_kept (kinds.MissingExplicitReturnType _ b c) range _ _ _ _ e = sym (ap (λ part. kinds.MissingExplicitReturnType (part_or range part) b c) e)
+range_kept (kinds.MissingExplicitReturnType _ b c) range _ _ _ _ e =
+    sym (ap (λ part. kinds.MissingExplicitReturnType (part_or range part) b c) e)
 range_kept (kinds.UnsupportedAmbientModule _) range _ _ _ _ e = sym (ap (λ part. kinds.UnsupportedAmbientModule (part_or range part)) e)
-range_kept (kinds.UnsupportedDefaultExportExpr _) range _ _ _ _ e = sym (ap (λ part. kinds.UnsupportedDefaultExportExpr (part_or range part)) e)
+range_kept (kinds.UnsupportedDefaultExportExpr _) range _ _ _ _ e =
+    sym (ap (λ part. kinds.UnsupportedDefaultExportExpr (part_or range part)) e)
 range_kept (kinds.UnsupportedDestructuring _) range _ _ _ _ e = sym (ap (λ part. kinds.UnsupportedDestructuring (part_or range part)) e)
 range_kept (kinds.UnsupportedGlobalModule _) range _ _ _ _ e = sym (ap (λ part. kinds.UnsupportedGlobalModule (part_or range part)) e)
 range_kept (kinds.UnsupportedRequire _) range _ _ _ _ e = sym (ap (λ part. kinds.UnsupportedRequire (part_or range part)) e)
 range_kept (kinds.UnsupportedSuperClassExpr _) range _ _ _ _ e = sym (ap (λ part. kinds.UnsupportedSuperClassExpr (part_or range part)) e)
-range_kept (kinds.UnsupportedTsExportAssignment _) range _ _ _ _ e = sym (ap (λ part. kinds.UnsupportedTsExportAssignment (part_or range part)) e)
-range_kept (kinds.UnsupportedTsNamespaceExport _) range _ _ _ _ e = sym (ap (λ part. kinds.UnsupportedTsNamespaceExport (part_or range part)) e)
+range_kept (kinds.UnsupportedTsExportAssignment _) range _ _ _ _ e =
+    sym (ap (λ part. kinds.UnsupportedTsExportAssignment (part_or range part)) e)
+range_kept (kinds.UnsupportedTsNamespaceExport _) range _ _ _ _ e =
+    sym (ap (λ part. kinds.UnsupportedTsNamespaceExport (part_or range part)) e)
 range_kept (kinds.UnsupportedUsing _) range _ _ _ _ e = sym (ap (λ part. kinds.UnsupportedUsing (part_or range part)) e)
 range_kept _ _ _ _ _ _ e = absurd (subst is_part (sym e) tt)
 

@@ -1,9 +1,11 @@
 -- What is told of the diagnostics whose kinds have no rule of their own.
 use Rattle.std.proofs.Common.{◌≡◌, refl}
 use Rattle.fast_check_diagnostics.specs.declared.diagnostics.FastCheckDiagnostic.{FastCheckDiagnostic}
-use Rattle.fast_check_diagnostics.specs.declared.diagnostics.FastCheckDiagnostic.TheVariants.{MissingExplicitReturnType, UnsupportedExpandoProperty}
-use Rattle.fast_check_diagnostics.specs.declared.diagnostics.FastCheckDiagnostic.TheVariants.{NotFoundReference, UnsupportedComplexReference}
-use Rattle.fast_check_diagnostics.specs.declared.diagnostics.FastCheckDiagnostic.TheVariants.{UnsupportedPrivateMemberReference, Emit, ExportNotFound}
+use Rattle.fast_check_diagnostics.specs.declared.diagnostics.FastCheckDiagnostic.TheVariants.{MissingExplicitReturnType}
+use Rattle.fast_check_diagnostics.specs.declared.diagnostics.FastCheckDiagnostic.TheVariants.{UnsupportedExpandoProperty, NotFoundReference}
+use Rattle.fast_check_diagnostics.specs.declared.diagnostics.FastCheckDiagnostic.TheVariants.{UnsupportedComplexReference}
+use Rattle.fast_check_diagnostics.specs.declared.diagnostics.FastCheckDiagnostic.TheVariants.{UnsupportedPrivateMemberReference, Emit}
+use Rattle.fast_check_diagnostics.specs.declared.diagnostics.FastCheckDiagnostic.TheVariants.{ExportNotFound}
 use Rattle.fast_check_diagnostics.specs.declared.diagnostics.FastCheckDiagnostic.TheVariants.{UnsupportedJavaScriptEntrypoint}
 use Rattle.fast_check_diagnostics.specs.declared.diagnostics.report.DiagnosticLevel.TheVariants.{Error}
 use Rattle.fast_check_diagnostics.specs.Diagnostic.{level_of, message_of, hint_of, info_of, texts_of}
@@ -28,7 +30,8 @@ pub other_messages : (d : FastCheckDiagnostic)
 unfolding message_of
 other_messages (NotFoundReference range name referrer) none _ _ _ _ _ = absurd (none range name referrer refl)
 other_messages (UnsupportedComplexReference range name referrer) _ none _ _ _ _ = absurd (none range name referrer refl)
-other_messages (UnsupportedExpandoProperty range object_name reference_name) _ _ none _ _ _ = absurd (none range object_name reference_name refl)
+other_messages (UnsupportedExpandoProperty range object_name reference_name) _ _ none _ _ _ =
+    absurd (none range object_name reference_name refl)
 other_messages (UnsupportedPrivateMemberReference range name referrer) _ _ _ none _ _ = absurd (none range name referrer refl)
 other_messages (Emit specifier inner) _ _ _ _ none _ = absurd (none specifier inner refl)
 other_messages (ExportNotFound specifier) _ _ _ _ _ none = absurd (none specifier refl)

@@ -5,16 +5,24 @@ use Rattle.std.specs.Rc.{rc_str_bytes}
 use Rattle.url.specs.Parts.{Parts, serialize}
 use Rattle.fast_check_diagnostics.specs.declared.diagnostics.range.FastCheckDiagnosticRange.{FastCheckDiagnosticRange}
 use Rattle.fast_check_diagnostics.specs.declared.diagnostics.FastCheckDiagnostic.{FastCheckDiagnostic}
-use Rattle.fast_check_diagnostics.specs.declared.diagnostics.FastCheckDiagnostic.TheVariants.{NotFoundReference, MissingExplicitType}
-use Rattle.fast_check_diagnostics.specs.declared.diagnostics.FastCheckDiagnostic.TheVariants.{MissingExplicitReturnType, UnsupportedAmbientModule}
-use Rattle.fast_check_diagnostics.specs.declared.diagnostics.FastCheckDiagnostic.TheVariants.{UnsupportedComplexReference, UnsupportedDefaultExportExpr}
-use Rattle.fast_check_diagnostics.specs.declared.diagnostics.FastCheckDiagnostic.TheVariants.{UnsupportedDestructuring, UnsupportedExpandoProperty}
-use Rattle.fast_check_diagnostics.specs.declared.diagnostics.FastCheckDiagnostic.TheVariants.{UnsupportedGlobalModule, UnsupportedRequire}
+use Rattle.fast_check_diagnostics.specs.declared.diagnostics.FastCheckDiagnostic.TheVariants.{NotFoundReference}
+use Rattle.fast_check_diagnostics.specs.declared.diagnostics.FastCheckDiagnostic.TheVariants.{MissingExplicitType}
+use Rattle.fast_check_diagnostics.specs.declared.diagnostics.FastCheckDiagnostic.TheVariants.{MissingExplicitReturnType}
+use Rattle.fast_check_diagnostics.specs.declared.diagnostics.FastCheckDiagnostic.TheVariants.{UnsupportedAmbientModule}
+use Rattle.fast_check_diagnostics.specs.declared.diagnostics.FastCheckDiagnostic.TheVariants.{UnsupportedComplexReference}
+use Rattle.fast_check_diagnostics.specs.declared.diagnostics.FastCheckDiagnostic.TheVariants.{UnsupportedDefaultExportExpr}
+use Rattle.fast_check_diagnostics.specs.declared.diagnostics.FastCheckDiagnostic.TheVariants.{UnsupportedDestructuring}
+use Rattle.fast_check_diagnostics.specs.declared.diagnostics.FastCheckDiagnostic.TheVariants.{UnsupportedExpandoProperty}
+use Rattle.fast_check_diagnostics.specs.declared.diagnostics.FastCheckDiagnostic.TheVariants.{UnsupportedGlobalModule}
+use Rattle.fast_check_diagnostics.specs.declared.diagnostics.FastCheckDiagnostic.TheVariants.{UnsupportedRequire}
 use Rattle.fast_check_diagnostics.specs.declared.diagnostics.FastCheckDiagnostic.TheVariants.{UnsupportedPrivateMemberReference}
-use Rattle.fast_check_diagnostics.specs.declared.diagnostics.FastCheckDiagnostic.TheVariants.{UnsupportedSuperClassExpr, UnsupportedTsExportAssignment}
-use Rattle.fast_check_diagnostics.specs.declared.diagnostics.FastCheckDiagnostic.TheVariants.{UnsupportedTsNamespaceExport, UnsupportedUsing}
+use Rattle.fast_check_diagnostics.specs.declared.diagnostics.FastCheckDiagnostic.TheVariants.{UnsupportedSuperClassExpr}
+use Rattle.fast_check_diagnostics.specs.declared.diagnostics.FastCheckDiagnostic.TheVariants.{UnsupportedTsExportAssignment}
+use Rattle.fast_check_diagnostics.specs.declared.diagnostics.FastCheckDiagnostic.TheVariants.{UnsupportedTsNamespaceExport}
+use Rattle.fast_check_diagnostics.specs.declared.diagnostics.FastCheckDiagnostic.TheVariants.{UnsupportedUsing}
 use Rattle.fast_check_diagnostics.specs.declared.diagnostics.FastCheckDiagnostic.TheVariants.{UnsupportedNestedJavaScript}
-use Rattle.fast_check_diagnostics.specs.declared.diagnostics.FastCheckDiagnostic.TheVariants.{UnsupportedJavaScriptEntrypoint, Emit, ExportNotFound}
+use Rattle.fast_check_diagnostics.specs.declared.diagnostics.FastCheckDiagnostic.TheVariants.{UnsupportedJavaScriptEntrypoint}
+use Rattle.fast_check_diagnostics.specs.declared.diagnostics.FastCheckDiagnostic.TheVariants.{Emit, ExportNotFound}
 use Rattle.fast_check_diagnostics.specs.declared.diagnostics.FastCheckDiagnostic.TheVariants.{Cached}
 use Rattle.fast_check_diagnostics.specs.declared.diagnostics.report.DiagnosticLevel.{DiagnosticLevel}
 use Rattle.fast_check_diagnostics.specs.declared.diagnostics.report.DiagnosticLevel.TheVariants.{Error, Warning}
@@ -64,10 +72,12 @@ specifier_of d = specifier_of_subject (subject_of d)
 -- texts that several kinds share
 
 abbrev pub may_be_a_bug : List ℕ
-may_be_a_bug = codes "this error may be the result of a bug in Deno - if you think this is the case, please open an issue"
+may_be_a_bug =
+    codes "this error may be the result of a bug in Deno - if you think this is the case, please open an issue"
 
 abbrev pub is_a_bug : List ℕ
-is_a_bug = codes "this error is the result of a bug in Deno and you don't be seeing it - please open an issue if one doesn't exist"
+is_a_bug =
+    codes "this error is the result of a bug in Deno and you don't be seeing it - please open an issue if one doesn't exist"
 
 abbrev pub needs_inference : List ℕ
 needs_inference = codes "JavaScript files with no corresponding declaration require type inference to be type checked"
@@ -78,8 +88,8 @@ declare_or_rewrite = codes "add a type declaration (d.ts) for the JavaScript mod
 abbrev pub is_reference : List ℕ
 is_reference = codes "this is the reference"
 
--- what is told of all diagnostics of its kind: code, message, range description, hint and lines (None and empty where they go
--- by what the diagnostic holds)
+-- what is told of all diagnostics of its kind: code, message, range description, hint and lines (None and empty where
+-- they go by what the diagnostic holds)
 unfoldable pub texts_of : FastCheckDiagnostic → KindTexts
 texts_of (NotFoundReference _ _ _) = record {
   code = codes "not-found-reference";
@@ -135,7 +145,8 @@ texts_of (UnsupportedExpandoProperty _ _ _) = record {
   message = [];
   range_description = None;
   hint = None;
-  info = codes "expando properties get converted to a namespace and the reference conflicts with a namespace export" ∷ [];
+  info = codes "expando properties get converted to a namespace and the reference conflicts with a namespace export" ∷
+      [];
 }
 texts_of (UnsupportedGlobalModule _) = record {
   code = codes "unsupported-global-module";
@@ -185,7 +196,8 @@ texts_of (UnsupportedUsing _) = record {
   message = codes "using declarations are not supproted in the public API";
   range_description = None;
   hint = Some (codes "use 'const' instead of 'using'");
-  info = codes "using declarations have unclear semantics in the public API" ∷ codes "they are thus not supported in the public API" ∷ [];
+  info = codes "using declarations have unclear semantics in the public API" ∷
+      codes "they are thus not supported in the public API" ∷ [];
 }
 texts_of (UnsupportedNestedJavaScript _) = record {
   code = codes "unsupported-nested-javascript";
@@ -241,11 +253,14 @@ level_of _ = Error
 -- what is wrong
 unfoldable pub message_of : FastCheckDiagnostic → List ℕ
 message_of (NotFoundReference _ name referrer) =
-    codes "could not resolve '" ++ (string_bytes name ++ (codes "' referenced from '" ++ (string_bytes referrer ++ codes "'")))
+    codes "could not resolve '" ++
+    (string_bytes name ++ (codes "' referenced from '" ++ (string_bytes referrer ++ codes "'")))
 message_of (UnsupportedComplexReference _ name referrer) =
-    codes "the reference '" ++ (string_bytes name ++ (codes "' from '" ++ (string_bytes referrer ++ codes "' was too complex")))
+    codes "the reference '" ++
+    (string_bytes name ++ (codes "' from '" ++ (string_bytes referrer ++ codes "' was too complex")))
 message_of (UnsupportedExpandoProperty _ object_name reference_name) =
-    codes "expando property referencing '" ++ (string_bytes reference_name ++ (codes "' conflicts with '" ++ (string_bytes object_name ++
+    codes "expando property referencing '" ++
+    (string_bytes reference_name ++ (codes "' conflicts with '" ++ (string_bytes object_name ++
     (codes "." ++ (string_bytes reference_name ++ codes "'")))))
 message_of (UnsupportedPrivateMemberReference _ name referrer) =
     codes "public API member (" ++ (string_bytes referrer ++
@@ -257,7 +272,8 @@ message_of d = (texts_of d).message
 -- what can be done about a function without return type: is it definitely void or never, and is it asynchronous?
 abbrev pub hint_of_return_type : Bool → Bool → List ℕ
 hint_of_return_type true _ = codes "add an explicit return type of 'void' or 'never' to the function"
-hint_of_return_type false true = codes "add an explicit return type of 'Promise<void>' or 'Promise<never>' to the function"
+hint_of_return_type false true =
+    codes "add an explicit return type of 'Promise<void>' or 'Promise<never>' to the function"
 hint_of_return_type false false = codes "add an explicit return type to the function"
 
 -- what can be done about an expando property whose value mentions a name that another one has
@@ -267,24 +283,29 @@ hint_of_expando name = codes "rename '" ++ (name ++
 
 -- what can be done about it
 unfoldable pub hint_of : FastCheckDiagnostic → Option (List ℕ)
-hint_of (MissingExplicitReturnType _ is_definitely_void_or_never is_async) = Some (hint_of_return_type is_definitely_void_or_never is_async)
+hint_of (MissingExplicitReturnType _ is_definitely_void_or_never is_async) =
+    Some (hint_of_return_type is_definitely_void_or_never is_async)
 hint_of (UnsupportedExpandoProperty _ _ reference_name) = Some (hint_of_expando (string_bytes reference_name))
 hint_of d = (texts_of d).hint
 
 -- what types there are for a function that returns no value: is it asynchronous?
 abbrev pub types_without_value : Bool → List ℕ
-types_without_value true = codes "async function expressions without a return statement can have a return type of either 'Promise<void>' or 'Promise<never>'"
-types_without_value false = codes "function expressions without a return statement can have a return type of either 'void' or 'never'"
+types_without_value true =
+    codes "async function expressions without a return statement can have a return type of either 'Promise<void>' or 'Promise<never>'"
+types_without_value false =
+    codes "function expressions without a return statement can have a return type of either 'void' or 'never'"
 
 -- lines that say more of a function without return type: is it definitely void or never, and is it asynchronous?
 abbrev pub info_of_return_type : Bool → Bool → List (List ℕ)
 info_of_return_type false _ = codes "all functions in the public API must have an explicit return type" ∷ []
-info_of_return_type true is_async = codes "all functions in the public API must have an explicit return type" ∷ types_without_value is_async ∷
+info_of_return_type true is_async = codes "all functions in the public API must have an explicit return type" ∷
+    types_without_value is_async ∷
     codes "this function has no return statements, so a return type could not be inferred automatically" ∷ []
 
 -- lines that say more
 unfoldable pub info_of : FastCheckDiagnostic → List (List ℕ)
-info_of (MissingExplicitReturnType _ is_definitely_void_or_never is_async) = info_of_return_type is_definitely_void_or_never is_async
+info_of (MissingExplicitReturnType _ is_definitely_void_or_never is_async) =
+    info_of_return_type is_definitely_void_or_never is_async
 info_of d = (texts_of d).info
 
 -- where the pages that explain the kinds stand, and the page of each: the name of its kind follows
@@ -301,7 +322,8 @@ location_at specifier None = AtModule specifier
 
 -- its range is shown in the source text, with the description
 abbrev pub snippet_at : Option (List ℕ) → FastCheckDiagnosticRange → Snippet
-snippet_at description range = record { text = rc_str_bytes range.text_info; range = range.range; description = description }
+snippet_at description range =
+    record { text = rc_str_bytes range.text_info; range = range.range; description = description }
 
 -- all that is told of it: no mended source text is offered
 abbrev pub report_of : FastCheckDiagnostic → Report

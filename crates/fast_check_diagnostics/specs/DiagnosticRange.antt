@@ -24,4 +24,5 @@ place_writes a = fed.str (serialize a.specifier) ++ fed.u32 a.range.start.0 ++ f
 
 -- a copy has the same module, the same range and the same text
 abbrev pub IsCopy : FastCheckDiagnosticRange → FastCheckDiagnosticRange → Type 0
-IsCopy a copy = (copy.specifier ≡ a.specifier) × (copy.range ≡ a.range) × (rc_str_bytes copy.text_info ≡ rc_str_bytes a.text_info)
+IsCopy a copy = (copy.specifier ≡ a.specifier) × (copy.range ≡ a.range) ×
+    (rc_str_bytes copy.text_info ≡ rc_str_bytes a.text_info)

@@ -3,7 +3,8 @@ use Rattle.std.specs.Prelude.{ℕ, List, Option, map}
 use Rattle.std.specs.Option.{option_copied}
 use Rattle.fast_check_diagnostics.specs.declared.diagnostics.texts.Texts.{Texts}
 
--- the name of the kind, what is wrong, what the range is to the reader, what can be done about it, and lines that say more
+-- the name of the kind, what is wrong, what the range is to the reader, what can be done about it, and lines that say
+-- more
 pub record KindTexts : Type 0 where
   pub code : List ℕ
   pub message : List ℕ

@@ -4,8 +4,8 @@ use Rattle.std.specs.List.{list_any}
 use Rattle.fast_check_syntax.specs.declared.source.SourceRange.{SourceRange}
 use Rattle.fast_check_diagnostics.specs.declared.diagnostics.FastCheckDiagnostic.{FastCheckDiagnostic}
 
--- the ranges of the public declarations, those of the implementations that have overloads (each in order, each once), and the diagnostics
--- that were found with them
+-- the ranges of the public declarations, those of the implementations that have overloads (each in order, each once),
+-- and the diagnostics that were found with them
 pub record PublicRanges : Type 0 where
   pub ranges : List SourceRange
   pub implementations : List SourceRange

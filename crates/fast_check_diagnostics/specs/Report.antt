@@ -6,7 +6,8 @@ use Rattle.url.specs.Parts.{Parts}
 use Rattle.fast_check_syntax.specs.declared.source.SourceRange.{SourceRange}
 use Rattle.fast_check_diagnostics.specs.declared.diagnostics.report.DiagnosticLevel.{DiagnosticLevel}
 use Rattle.fast_check_diagnostics.specs.declared.diagnostics.report.DiagnosticLocation.{DiagnosticLocation}
-use Rattle.fast_check_diagnostics.specs.declared.diagnostics.report.DiagnosticLocation.TheVariants.{ModulePosition, Module}
+use Rattle.fast_check_diagnostics.specs.declared.diagnostics.report.DiagnosticLocation.TheVariants.{ModulePosition}
+use Rattle.fast_check_diagnostics.specs.declared.diagnostics.report.DiagnosticLocation.TheVariants.{Module}
 use Rattle.fast_check_diagnostics.specs.declared.diagnostics.report.DiagnosticSnippet.{DiagnosticSnippet}
 
 -- where it stands: at a position of a module's source text, or at a module as a whole

@@ -1,6 +1,6 @@
 -- The first element that passes a test, as a search from the front comes to it.
-use Rattle.std.proofs.Common.{◌≡◌, ◌∙◌, sym, ap, refl, ℕ, zero, suc, ◌+◌, ◌<◌, Bool, false, cond, List, [], ◌∷◌, ◌++◌, Some, None, map, take, length, get_or}
-use Rattle.std.proofs.Common.{⊎_elim, arith, add-one, append-nil, append_assoc}
+use Rattle.std.proofs.Common.{◌≡◌, ◌∙◌, sym, ap, refl, ℕ, zero, suc, ◌+◌, ◌<◌, Bool, false, cond, List, [], ◌∷◌, ◌++◌, Some, None, map}
+use Rattle.std.proofs.Common.{take, length, get_or, ⊎_elim, arith, add-one, append-nil, append_assoc}
 use Rattle.std.specs.List.{find, flat_map}
 use Rattle.std.proofs.lemmas.Bool.{cases_Bool}
 
@@ -46,7 +46,8 @@ module _ {X Y Z : Type 0} (f : Y → List Z) (g : X → Y) where
   flat_more [] i x le is = absurd (omega (arith, le))
   flat_more (z ∷ zs) zero x le is = append-nil (f (g z)) ∙ ap (λ (w : X). f (g w)) (sym is)
   flat_more (z ∷ zs) (suc i) x le is =
-      ap (λ (ys : List Z). f (g z) ++ ys) (flat_more zs i x (omega (arith, le)) is) ∙ sym (append_assoc (f (g z)) (flat_map f (map g (take i zs))) (f (g x)))
+      ap (λ (ys : List Z). f (g z) ++ ys) (flat_more zs i x (omega (arith, le)) is) ∙
+      sym (append_assoc (f (g z)) (flat_map f (map g (take i zs))) (f (g x)))
 
   -- what one more gives comes last
   pub flat_after : (xs : List X) (i : ℕ) (x : X) → i < length xs → x ≡ get_or xs i x →

@@ -11,7 +11,8 @@ passed_on (Ok x) e P is p = tt
 passed_on (Err y) e P is p = subst P (sym is) p
 
 -- what is told of some texts is told of others that have the same first one
-pub tells_of : (nv : Nv) (one other : Option (List ℕ)) → ((text : List ℕ) → one ≡ Some text → other ≡ Some text) → (f : BuildFault) → Tells nv one f →
+pub tells_of : (nv : Nv) (one other : Option (List ℕ)) → ((text : List ℕ) → one ≡ Some text → other ≡ Some text) → (f : BuildFault) →
+    Tells nv one f →
     Tells nv other f
 tells_of nv one other same OutOfMemory t = tt
 tells_of nv one other same (InvalidExport p text) t = (t.0, same (string_bytes text) t.1)

@@ -1,5 +1,6 @@
 -- The entry points of a package, and what is wrong with them.
-use Rattle.std.specs.Prelude.{◌≡◌, ℕ, Bool, true, ◌&&◌, cond, List, [], map, fold, Option, Some, None, option_map, is_none, option_to_list}
+use Rattle.std.specs.Prelude.{◌≡◌, ℕ, Bool, true, ◌&&◌, cond, List, [], map, fold, Option, Some, None, option_map}
+use Rattle.std.specs.Prelude.{is_none, option_to_list}
 use Rattle.std.specs.Prelude.{String, string_bytes}
 use Rattle.std.specs.List.{find, flat_map}
 use Rattle.std.specs.Map.{values_of}
@@ -71,7 +72,8 @@ all_joined base texts = flat_map (λ t. option_to_list (joined base t)) texts
 abbrev pub first_refused : Parts → List (List ℕ) → Option (List ℕ)
 first_refused base texts = find (λ t. is_none (joined base t)) texts
 
--- A package is passed over where its exports are not known, refused for a text that does not join, or entered at these modules.
+-- A package is passed over where its exports are not known, refused for a text that does not join, or entered at these
+-- modules.
 pub data Entrance : Type 0 where
   passed_over : Entrance
   refused : List ℕ → Entrance
@@ -83,7 +85,8 @@ unless_refused (Some text) urls = refused text
 
 abbrev pub entrance_by : Parts → Option Exports → Entrance
 entrance_by base None = passed_over
-entrance_by base (Some exports) = unless_refused (first_refused base (texts_of exports)) (all_joined base (texts_of exports))
+entrance_by base (Some exports) = unless_refused (first_refused base (texts_of exports))
+    (all_joined base (texts_of exports))
 
 abbrev pub entrance_as : ModuleGraph → Option WorkspaceMember → (Nv → Parts) → Nv → Entrance
 entrance_as g member url_of nv = entrance_by (base_or (url_of nv) member) (exports_at g member nv)

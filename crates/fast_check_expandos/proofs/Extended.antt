@@ -30,11 +30,14 @@ extends_tree ss t {old} {mid} {new} {fs} {gs} h e = record {
 
 -- a conflict behind others
 pub extends_conflict : (ss us : List Seen) (object : Id) (r : Reference) {old mid new : List Tree} {fs gs hs : List Fault} →
-    us ≡ ss ++ conflict_seen object r ∷ [] → Extends (answer_of ss) old mid fs gs → new ≡ mid ++ Absent ∷ [] → hs ≡ gs ++ conflict_fault object r ∷ [] →
+    us ≡ ss ++ conflict_seen object r ∷ [] → Extends (answer_of ss) old mid fs gs → new ≡ mid ++ Absent ∷ [] →
+    hs ≡ gs ++ conflict_fault object r ∷ [] →
     Extends (answer_of us) old new fs hs
 extends_conflict ss us object r {old} {mid} {new} {fs} {gs} {hs} u h e f =
     let both = ap answer_of u ∙ answer_append ss (conflict_seen object r ∷ []) in record {
-      items = e ∙ (ap (λ ts. ts ++ Absent ∷ []) h.items ∙ (append_assoc old (answer_of ss).stays (Absent ∷ []) ∙ ap (λ a. old ++ a.stays) (sym both)));
+      items = e ∙
+          (ap (λ ts. ts ++ Absent ∷ []) h.items ∙
+          (append_assoc old (answer_of ss).stays (Absent ∷ []) ∙ ap (λ a. old ++ a.stays) (sym both)));
       faults = f ∙ (ap (λ ts. ts ++ conflict_fault object r ∷ []) h.faults
           ∙ (append_assoc fs (answer_of ss).faults (conflict_fault object r ∷ []) ∙ ap (λ a. fs ++ a.faults) (sym both)));
     }

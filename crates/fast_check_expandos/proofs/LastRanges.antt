@@ -21,7 +21,8 @@ placed_inserted : (r : Reference) (es : List (List ℕ × SourceRange)) →
 placed_inserted r [] = refl
 placed_inserted r (e ∷ es) = ap (λ rest. if bytes_eq r.name e.0 then (e.0, r.range) ∷ es else e ∷ rest) (placed_inserted r es)
 
-pub one_reference_more : (rs : List Reference) (r : Reference) → last_ranges (rs ++ r ∷ []) ≡ insert_entry bytes_eq (last_ranges rs) r.name r.range
+pub one_reference_more : (rs : List Reference) (r : Reference) →
+    last_ranges (rs ++ r ∷ []) ≡ insert_entry bytes_eq (last_ranges rs) r.name r.range
 one_reference_more rs r =
     one_item_more bytes_eq (λ s. s.name) last_range (λ range s. s.range) one_text last_of_more rs r
     ∙ placed_inserted r (last_ranges rs)

@@ -25,7 +25,8 @@ module _ (scope : SyntaxContext) where
     own_filtered t =
         by (kind_of t is kinds.Ident) ((Ident-ctxt t).0 == scope.0) (exported (Ident-sym t)) refl
       where
-        by : (k s e : Bool) → exported (Ident-sym t) ≡ e → (if k && (s && e) then record { name = Ident-sym t; range = Ident-span t } ∷ [] else []) ≡
+        by : (k s e : Bool) → exported (Ident-sym t) ≡ e →
+            (if k && (s && e) then record { name = Ident-sym t; range = Ident-span t } ∷ [] else []) ≡
             filter is_exported (if k && (s && true) then record { name = Ident-sym t; range = Ident-span t } ∷ [] else [])
         by true true true e = rw e refl
         by true true false e = rw e refl
@@ -42,7 +43,8 @@ module _ (scope : SyntaxContext) where
     none_at_absent : IsFiltered Absent
     unfolding references
     none_at_absent =
-        by_form_absent [] (references_form scope exported) ∙ sym (ap (filter is_exported) (by_form_absent [] (references_form scope (λ name. true))))
+        by_form_absent [] (references_form scope exported) ∙ sym
+        (ap (filter is_exported) (by_form_absent [] (references_form scope (λ name. true))))
 
     -- of all references those by a name that is exported
     references_filtered : (t : Tree) → references scope exported t ≡ filter is_exported (all t)

@@ -8,8 +8,8 @@ use Rattle.fast_check_syntax.specs.declared.source.SourceRange.{SourceRange}
 use Rattle.fast_check_syntax.specs.declared.tree.Tree.{Tree}
 use Rattle.fast_check_syntax.specs.Shape.{part, text_of}
 use Rattle.fast_check_syntax.specs.Moves.{Moves, Keeps, moved, moved_range}
-use Rattle.fast_check_syntax.proofs.Moved.{node_moved, range_moved, none_moved, absent_moved, word_moved, flag_moved, text_moved, context_moved}
-use Rattle.fast_check_syntax.proofs.Moved.{part_moved, text_of_moved}
+use Rattle.fast_check_syntax.proofs.Moved.{node_moved, range_moved, none_moved, absent_moved, word_moved, flag_moved, text_moved}
+use Rattle.fast_check_syntax.proofs.Moved.{context_moved, part_moved, text_of_moved}
 use Rattle.fast_check_program_forms.specs.Names.{Ident-ctxt}
 use Rattle.fast_check_expression_forms.specs.Calls.{MemberExpr-obj}
 use Rattle.fast_check_helpers.proofs.GlobalCallsMoved.{moved_scope}
@@ -18,8 +18,8 @@ use Rattle.fast_check_signatures.proofs.MovedParts.{moved_seen, field_moved, sco
 use Rattle.fast_check_signatures.specs.Seen.{written}
 use Rattle.fast_check_expandos.specs.declared.properties.ExpandoProperty.{ExpandoProperty}
 use Rattle.fast_check_expandos.specs.declared.references.Reference.{Reference}
-use Rattle.fast_check_expandos.specs.Expandos.{object_of, property_name, property_declarator, property_of, exported_variables, namespace_decl, namespace_item}
-use Rattle.fast_check_expandos.specs.Expandos.{conflict_seen, namespace_seen, by_object, namespaces_seen}
+use Rattle.fast_check_expandos.specs.Expandos.{object_of, property_name, property_declarator, property_of, exported_variables}
+use Rattle.fast_check_expandos.specs.Expandos.{namespace_decl, namespace_item, conflict_seen, namespace_seen, by_object, namespaces_seen}
 use Rattle.fast_check_expandos.specs.References.{conflicts}
 use Rattle.fast_check_expandos.proofs.GroupsMoved.{grouped_moved}
 use Rattle.fast_check_expandos.proofs.ReferencesMoved.{moved_reference, same_scope, conflicts_moved}
@@ -62,7 +62,8 @@ module _ (m : Moves) (ok : Keeps m) where
   any_kept [] = refl
   any_kept (p ∷ ps) = ap (λ b. p.is_exported || b) (any_kept ps)
 
-  declarators_moved : (ps : List ExpandoProperty) → map (λ p. p.declarator) (map (moved_expando m) ps) ≡ map (moved m) (map (λ p. p.declarator) ps)
+  declarators_moved : (ps : List ExpandoProperty) → map (λ p. p.declarator) (map (moved_expando m) ps) ≡ map (moved m)
+      (map (λ p. p.declarator) ps)
   declarators_moved [] = refl
   declarators_moved (p ∷ ps) = ap (λ ds. moved m p.declarator ∷ ds) (declarators_moved ps)
 
@@ -91,7 +92,8 @@ module _ (m : Moves) (ok : Keeps m) where
   each_moved : (gs : List (Id × List ExpandoProperty)) →
       flat_map namespace_seen (map (λ g. (moved_id m g.0, map (moved_expando m) g.1)) gs) ≡ map (moved_seen m) (flat_map namespace_seen gs)
   each_moved [] = refl
-  each_moved (g ∷ gs) = ap₂ ◌++◌ (namespace_seen_moved g) (each_moved gs) ∙ sym (map-append (moved_seen m) (namespace_seen g) (flat_map namespace_seen gs))
+  each_moved (g ∷ gs) = ap₂ ◌++◌ (namespace_seen_moved g) (each_moved gs) ∙
+      sym (map-append (moved_seen m) (namespace_seen g) (flat_map namespace_seen gs))
 
   same_moved : (a b : Id) → same_id (moved_id m a) (moved_id m b) ≡ same_id a b
   same_moved a b = ap (λ c. bytes_eq a.0 b.0 && c) (same_scope m ok a.1.0 b.1.0)
@@ -99,13 +101,15 @@ module _ (m : Moves) (ok : Keeps m) where
   -- the namespaces of moved properties are what they were, moved
   pub namespaces_moved : (ps : List ExpandoProperty) → namespaces_seen (map (moved_expando m) ps) ≡ map (moved_seen m) (namespaces_seen ps)
   namespaces_moved ps =
-      ap (flat_map namespace_seen) (grouped_moved same_id same_id (λ p. p.object) (λ p. p.object) (moved_id m) (moved_expando m) same_moved (λ p. refl) ps)
+      ap (flat_map namespace_seen)
+      (grouped_moved same_id same_id (λ p. p.object) (λ p. p.object) (moved_id m) (moved_expando m) same_moved (λ p. refl) ps)
       ∙ each_moved (by_object ps)
 
   object_moved : (target : Tree) → object_of (moved m target) ≡ moved_id m (object_of target)
   object_moved target = λ i. record {
     0 = text_kept 2 1 target i;
-    1 = (ap Ident-ctxt (field_moved m MemberExpr-obj _ (λ t. refl) target) ∙ scope_field_moved m ok Ident-ctxt _ (λ t. refl) (MemberExpr-obj target)) i;
+    1 = (ap Ident-ctxt (field_moved m MemberExpr-obj _ (λ t. refl) target) ∙
+        scope_field_moved m ok Ident-ctxt _ (λ t. refl) (MemberExpr-obj target)) i;
   }
 
   -- a property of moved parts, whose object exports the same names

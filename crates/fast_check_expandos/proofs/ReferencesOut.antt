@@ -11,14 +11,17 @@ use Rattle.fast_check_expandos.specs.declared.references.Reference.{Reference}
 use Rattle.fast_check_expandos.specs.References.{references, references_form, own_reference}
 
 module _ (scope : SyntaxContext) (exported : List ℕ → Bool) where
-  each_found : (ts : List Tree) → flat_map (λ (found : List Reference). found) (map (references scope exported) ts) ≡ flat_map (references scope exported) ts
+  each_found : (ts : List Tree) → flat_map (λ (found : List Reference). found) (map (references scope exported) ts) ≡ flat_map
+      (references scope exported) ts
   each_found [] = refl
   each_found (t ∷ ts) = ap (λ rest. references scope exported t ++ rest) (each_found ts)
 
-  nothing : (t : Tree) → kind_of t ≡ Leaf → parts t ≡ [] → own_reference scope exported t ++ flat_map (references scope exported) (parts t) ≡ []
+  nothing : (t : Tree) → kind_of t ≡ Leaf → parts t ≡ [] → own_reference scope exported t ++ flat_map (references scope exported)
+      (parts t) ≡ []
   nothing t e f = rw (e, f) refl
 
-  pub references_out : (t : Tree) → references scope exported t ≡ own_reference scope exported t ++ flat_map (references scope exported) (parts t)
+  pub references_out : (t : Tree) → references scope exported t ≡ own_reference scope exported t ++ flat_map (references scope exported)
+      (parts t)
   unfolding references
   references_out t = go (is_absent t) refl
     where

@@ -41,7 +41,8 @@ pub placed_last : (p : ExpandoProperty) (es : List (Id × Namespace)) → lookup
 placed_last p [] e = refl
 placed_last p (x ∷ es) e = by (same_id p.object x.0) refl (placed_last p es)
   where
-    by : (b : Bool) → same_id p.object x.0 ≡ b → (lookup (same_id p.object) es ≡ None → es ++ (p.object, merged (p ∷ [])) ∷ [] ≡ placed_property p es) →
+    by : (b : Bool) → same_id p.object x.0 ≡ b →
+        (lookup (same_id p.object) es ≡ None → es ++ (p.object, merged (p ∷ [])) ∷ [] ≡ placed_property p es) →
         x ∷ (es ++ (p.object, merged (p ∷ [])) ∷ []) ≡ placed_property p (x ∷ es)
     by true f rest = absurd (some_is_none (sym (found_behind p.object x es true f) ∙ e))
     by false f rest = ap (λ zs. x ∷ zs) (rest (sym (found_behind p.object x es false f) ∙ e)) ∙ sym (rw f refl)

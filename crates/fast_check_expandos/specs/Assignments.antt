@@ -1,5 +1,5 @@
--- Assignments that are statements. None stays: its right side is tested where it is public, and one of expando form, `object.name = value`, declares
--- a property.
+-- Assignments that are statements. None stays: its right side is tested where it is public, and one of expando form,
+-- `object.name = value`, declares a property.
 use Rattle.std.specs.Prelude.{ℕ, Bool, not, ◌&&◌, Option, Some, None, List, [], ◌∷◌, if◌then◌else◌}
 use Rattle.fast_check_syntax.specs.declared.source.SourceRange.{SourceRange}
 use Rattle.fast_check_syntax.specs.declared.source.SyntaxContext.{SyntaxContext}
@@ -31,25 +31,29 @@ is_declared objects target = objects.exports (object_of target) (property_name t
 -- where the type is missing if the right side may not stay: at the target of an expando that is not declared elsewhere
 abbrev pub missing_place : Objects → Tree → Option SourceRange
 missing_place objects assignment =
-    if is_expando_assignment assignment && not (is_declared objects (AssignExpr-left assignment)) then Some (MemberExpr-span (AssignExpr-left assignment))
+    if is_expando_assignment assignment && not (is_declared objects (AssignExpr-left assignment)) then Some
+    (MemberExpr-span (AssignExpr-left assignment))
     else None
 
 -- an assignment, which is public by its own range, and not by that of its statement
 abbrev pub assignment_seen : (SourceRange → Bool) → Bindings → Objects → Tree → List Seen
 assignment_seen is_public bindings objects assignment =
-    if is_public (AssignExpr-span assignment) then tested (missing_place objects assignment) (right_seen bindings assignment) ∷ [] else []
+    if is_public (AssignExpr-span assignment) then tested (missing_place objects assignment)
+    (right_seen bindings assignment) ∷ [] else []
 
 -- the property of a value that stays
 abbrev pub kept_property : Objects → SourceRange → Tree → Option Tree → List ExpandoProperty
 kept_property objects place target None = []
 kept_property objects place target (Some value) =
-    property_of (objects.exports (object_of target)) (objects.has_export_keyword (object_of target)) place target value ∷ []
+    property_of (objects.exports (object_of target))
+    (objects.has_export_keyword (object_of target)) place target value ∷ []
 
 -- what an assignment declares: of expando form, a property if the right side may stay
 abbrev pub declared_properties : (SourceRange → Bool) → Bindings → Objects → Tree → List ExpandoProperty
 declared_properties is_public bindings objects assignment =
     if is_public (AssignExpr-span assignment) && is_expando_assignment assignment then
-    kept_property objects (AssignExpr-span assignment) (AssignExpr-left assignment) (answer_to (right_seen bindings assignment)).stays
+    kept_property objects (AssignExpr-span assignment) (AssignExpr-left assignment)
+    (answer_to (right_seen bindings assignment)).stays
     else []
 
 -- the names that the right side mentions, as it stays, in the scope of the object of the target

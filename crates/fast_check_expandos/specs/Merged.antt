@@ -39,7 +39,8 @@ namespaces properties = map (λ g. (g.0, merged g.1)) (by_object properties)
 
 -- what is seen of one
 abbrev pub merged_seen : Id × Namespace → List Seen
-merged_seen e = map (conflict_seen e.0) e.1.conflicts ++ written (namespace_item e.1.is_exported e.0.0 e.1.declarators) ∷ []
+merged_seen e = map (conflict_seen e.0) e.1.conflicts ++ written
+    (namespace_item e.1.is_exported e.0.0 e.1.declarators) ∷ []
 
 -- what stays is put behind the items, and the faults behind the others
 pub record Extends (answer : Answer (List Tree)) (old new : List Tree) (earlier later : List Fault) : Type 0 where

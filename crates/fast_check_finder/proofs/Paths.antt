@@ -1,6 +1,6 @@
 -- Paths of given names, up to a length, and those that are asked for beside a path.
-use Rattle.std.proofs.Common.{◌≡◌, ◌∙◌, sym, ap, refl, subst, ℕ, zero, suc, ◌≤◌, Bool, true, ◌&&◌, not, List, [], ◌∷◌, ◌++◌, map, length, ⊎_elim}
-use Rattle.std.proofs.Common.{arith, length-append}
+use Rattle.std.proofs.Common.{◌≡◌, ◌∙◌, sym, ap, refl, subst, ℕ, zero, suc, ◌≤◌, Bool, true, ◌&&◌, not, List, [], ◌∷◌, ◌++◌, map, length}
+use Rattle.std.proofs.Common.{⊎_elim, arith, length-append}
 use Rattle.std.specs.List.{Contains, flat_map}
 use Rattle.std.specs.Str.{bytes_eq}
 use Rattle.std.proofs.lemmas.Bool.{cases_Bool, false≢true, and_parts, and_from}
@@ -11,8 +11,8 @@ use Rattle.fast_check_names.specs.Imports.{NameDemand, names_but_default, each_n
 use Rattle.fast_check_names.specs.declared.lattice.imported_exports.ImportedExports.TheVariants.{Star, StarWithDefault}
 use Rattle.fast_check_names.proofs.Sets.{same_whole}
 use Rattle.fast_check_search.specs.Universe.{suffixes, pieces}
-use Rattle.fast_check_search.proofs.Each.{Contains_none, Contains_first, Contains_later, Contains_only, Contains_cases, contains_map, contains_flat_map, Each}
-use Rattle.fast_check_search.proofs.Each.{each_nil, each_append, each_map}
+use Rattle.fast_check_search.proofs.Each.{Contains_none, Contains_first, Contains_later, Contains_only, Contains_cases, contains_map}
+use Rattle.fast_check_search.proofs.Each.{contains_flat_map, Each, each_nil, each_append, each_map}
 use Rattle.fast_check_worklists.proofs.Single.{whole_covered}
 use Rattle.fast_check_worklists.proofs.Waiting.{map_contains}
 use Rattle.fast_check_worklists.specs.Demands.{begins, touched_path, asked, asked_by}
@@ -86,7 +86,8 @@ module _ (ns : List Name) where
   -- what may be asked for of a path
   fits_suffix : (n : ℕ) (p : Path) → Fits ns n p → Each (Fits ns n) (suffixes p)
   fits_suffix n [] f q c = subst (Fits ns n) (Contains_only [] q c) f
-  fits_suffix n (m ∷ p) f q c = ⊎_elim (λ e. subst (Fits ns n) e f) (λ r. fits_suffix n p (fits_rest n m p f) q r) (Contains_cases (m ∷ p) (suffixes p) q c)
+  fits_suffix n (m ∷ p) f q c = ⊎_elim (λ e. subst (Fits ns n) e f) (λ r. fits_suffix n p (fits_rest n m p f) q r)
+      (Contains_cases (m ∷ p) (suffixes p) q c)
 
   pub fits_piece : (n : ℕ) (p : Path) → 1 ≤ n → Fits ns n p → Each (Fits ns n) (pieces p)
   fits_piece n p le f = each_append (Fits ns n) (suffixes p) (map (λ m. m ∷ []) p) (fits_suffix n p f)
@@ -129,7 +130,9 @@ whole_begins (n ∷ p) (m ∷ q) h =
     (λ t. and_from (bytes_eq n m) (begins q p) t
     (whole_begins p q (sym (same_whole (λ part r. whole_below (n ∷ p) part (m ∷ r)) (whole_below p)
     (λ part r. ap (λ (b : Bool). b && whole_below p part r) t) q) ∙ h)))
-    (λ f. absurd (false≢true (sym (ap (λ (b : Bool). b && whole_below p Covered q) f) ∙ whole_covered (λ part r. whole_below (n ∷ p) part (m ∷ r)) q h)))
+    (λ f. absurd
+    (false≢true
+    (sym (ap (λ (b : Bool). b && whole_below p Covered q) f) ∙ whole_covered (λ part r. whole_below (n ∷ p) part (m ∷ r)) q h)))
     (cases_Bool (bytes_eq n m))
 
 -- what is asked for beside a single demand is of names of the same kind

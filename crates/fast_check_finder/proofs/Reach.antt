@@ -1,6 +1,6 @@
 -- What follows from what can be demanded can be demanded.
-use Rattle.std.proofs.Common.{◌≡◌, ◌∙◌, sym, ap, refl, subst, ℕ, suc, ◌≤◌, Bool, true, false, cond, ◌&&◌, ◌||◌, not, List, [], ◌∷◌, ◌++◌, map}
-use Rattle.std.proofs.Common.{length, Option, Some, None, option_map, option_to_list, ⊎_elim, ◌⊎◌, inl, inr, arith, is_some}
+use Rattle.std.proofs.Common.{◌≡◌, ◌∙◌, sym, ap, refl, subst, ℕ, suc, ◌≤◌, Bool, true, false, cond, ◌&&◌, ◌||◌, not, List, [], ◌∷◌, ◌++◌}
+use Rattle.std.proofs.Common.{map, length, Option, Some, None, option_map, option_to_list, ⊎_elim, ◌⊎◌, inl, inr, arith, is_some}
 use Rattle.std.proofs.Common.{string_bytes}
 use Rattle.std.specs.List.{Contains, flat_map, find}
 use Rattle.std.specs.Map.{lookup}
@@ -41,23 +41,25 @@ use Rattle.fast_check_name_demands.specs.Files.{FileDemand, wants, path_demand, 
 use Rattle.fast_check_name_demands.specs.Files.{decl_files, symbol_files, alias_files, asked_files, files}
 use Rattle.fast_check_turns.specs.traces.declared.modules.TracedModule.{TracedModule}
 use Rattle.fast_check_turns.specs.traces.Modules.{tables_in, own_export, led_to, answer_of, first_with, answer_to}
-use Rattle.fast_check_turns.specs.traces.Roots.{roots, is_exported_in, references_as, exported_as, export_whole, star_export, star_roots, path_roots}
+use Rattle.fast_check_turns.specs.traces.Roots.{roots, is_exported_in, references_as, exported_as, export_whole, star_export, star_roots}
+use Rattle.fast_check_turns.specs.traces.Roots.{path_roots}
 use Rattle.fast_check_turns.specs.traces.Wants.{Want as ModuleWant, re_exported, answered, all_wants, answered_at, path_wants, module_wants}
 use Rattle.fast_check_search.specs.Universe as inner
 use Rattle.fast_check_search.proofs.Inside.{inside as inside_module, last_inside}
 use Rattle.fast_check_search.proofs.Each.{Contains_first, Contains_later, Contains_only, contains_map, contains_flat_map, Each}
 use Rattle.fast_check_search.proofs.Each.{each_nil, each_one, each_cons, each_append, each_map, each_flat, each_cond, each_each_of}
 use Rattle.fast_check_worklists.proofs.Maps.{found_in}
-use Rattle.fast_check_worklists.specs.Demands.{Text, same_nv, asked_by, Want, to_package, to_module, to_symbol, Demand, of_package, of_module}
-use Rattle.fast_check_worklists.specs.Demands.{of_symbol}
+use Rattle.fast_check_worklists.specs.Demands.{Text, same_nv, asked_by, Want, to_package, to_module, to_symbol, Demand, of_package}
+use Rattle.fast_check_worklists.specs.Demands.{of_module, of_symbol}
 use Rattle.fast_check_worklists.specs.Measure.{IsWithin, IsPathWithin, IsInside, IsWantInside, IsUniverse}
 use Rattle.fast_check_findings.specs.declared.finding.EntryFault.{EntryFault}
 use Rattle.fast_check_turns.specs.entries.Entries.{Entrance, passed_over, refused, entered, all_faults, in_order}
 use Rattle.fast_check_turns.specs.steps.Sources.{Used, Known, is_text, node_at, named_at, typed_info, info_at, traced_as, module_at}
 use Rattle.fast_check_turns.specs.steps.Wants.{file_at, behind, resolved, file_wants, left_wants}
-use Rattle.fast_check_turns.specs.Rules.{names_wants, symbol_wants, entry_want, unless_faulty, entrance_at, entered_wants, entry_wants, world}
-use Rattle.fast_check_finder.specs.Reach.{dep_names, kind_names, symbol_names, table_names, all_names, paths_up_to, targets, answers, entry_texts}
-use Rattle.fast_check_finder.specs.Reach.{outer_texts, all_packages, urls_in, reach}
+use Rattle.fast_check_turns.specs.Rules.{names_wants, symbol_wants, entry_want, unless_faulty, entrance_at, entered_wants, entry_wants}
+use Rattle.fast_check_turns.specs.Rules.{world}
+use Rattle.fast_check_finder.specs.Reach.{dep_names, kind_names, symbol_names, table_names, all_names, paths_up_to, targets, answers}
+use Rattle.fast_check_finder.specs.Reach.{entry_texts, outer_texts, all_packages, urls_in, reach}
 use Rattle.fast_check_turns.proofs.Lists.{flat_contains}
 use Rattle.fast_check_finder.proofs.Paths.{flat_longer, Fits, fits_in, in_fits, fits_empty, fits_more, fits_longer, fits_tail, fits_piece}
 use Rattle.fast_check_finder.proofs.Paths.{empty_in, all_within, asked_within}
@@ -69,7 +71,8 @@ some_is : {X : Type 0} (x y : X) → Some x ≡ Some y → x ≡ y
 some_is x y e = cc
 
 -- what is looked up in what was found
-then_some : {X Y : Type 0} (f : X → Option Y) (o : Option X) (y : Y) → option_and_then f o ≡ Some y → (x : X) × (o ≡ Some x) × (f x ≡ Some y)
+then_some : {X Y : Type 0} (f : X → Option Y) (o : Option X) (y : Y) → option_and_then f o ≡ Some y → (x : X) × (o ≡ Some x) ×
+    (f x ≡ Some y)
 then_some f None y e = absurd (none_some y e)
 then_some f (Some x) y e = (x, refl, e)
 
@@ -79,13 +82,15 @@ or_some (Some y) p x e = inl e
 
 -- what a used item depends on
 abbrev pub HasDependencies : Used → List Nv → Type 0
-HasDependencies used stored = (nv : Nv) (urls : List Parts) (item : ItemView) → used nv urls ≡ Some item → (p : Nv) → Contains item.0 p → Contains stored p
+HasDependencies used stored = (nv : Nv) (urls : List Parts) (item : ItemView) → used nv urls ≡ Some item → (p : Nv) → Contains item.0 p →
+    Contains stored p
 
 find_in : {X : Type 0} (test : X → Bool) (xs : List X) (x : X) → find test xs ≡ Some x → Contains xs x
 find_in test [] x e = absurd (none_some x e)
 find_in {X} test (y ∷ ys) x e =
     ⊎_elim
-    (λ t. subst (λ (z : X). Contains (y ∷ ys) z) (some_is y x (sym (ap (λ (b : Bool). cond b (Some y) (find test ys)) t) ∙ e)) (Contains_first y ys))
+    (λ t. subst (λ (z : X). Contains (y ∷ ys) z) (some_is y x (sym (ap (λ (b : Bool). cond b (Some y) (find test ys)) t) ∙ e))
+    (Contains_first y ys))
     (λ f. Contains_later y ys x (find_in test ys x (sym (ap (λ (b : Bool). cond b (Some y) (find test ys)) f) ∙ e)))
     (cases_Bool (test y))
 
@@ -119,7 +124,8 @@ module _ (k : Known) (stored roots_in : List Nv) (has_all : HasDependencies k.us
       (cases_Bool (is_typed_module n.0))
 
   -- of the module that is followed
-  each_traced : {Y : Type 0} (P : Y → Type 0) (f : TracedModule → List Y) (t : Text) → ((info : ModuleInfo) → IsInfo info → Each P (f (traced_as k info))) →
+  each_traced : {Y : Type 0} (P : Y → Type 0) (f : TracedModule → List Y) (t : Text) →
+      ((info : ModuleInfo) → IsInfo info → Each P (f (traced_as k info))) →
       Each P (each_of f (module_at k t))
   each_traced {Y} P f t h = go (info_at k.graph k.root_symbol t) refl
     where
@@ -157,7 +163,8 @@ module _ (k : Known) (stored roots_in : List Nv) (has_all : HasDependencies k.us
       each_cons In (to_module p t (asked_by d)) _ (text_in t c, asked_within A (suc L) d i)
       (each_cond In (same_nv nv p) [] (to_package p ∷ []) (each_nil In) (each_one In (to_package p) (package_in t p c e)))
 
-  target_in : (info : ModuleInfo) (text : List ℕ) (url : Parts) → resolved (traced_as k info) text ≡ Some url → Contains (outer_texts k) (serialize url)
+  target_in : (info : ModuleInfo) (text : List ℕ) (url : Parts) → resolved (traced_as k info) text ≡ Some url →
+      Contains (outer_texts k) (serialize url)
   target_in info text url e =
       let r = then_some (text_resolved text) (lookup (is_specifier (specifier_of info)) k.graph.resolutions.entries) url e in
       let f = found_in (is_specifier (specifier_of info)) k.graph.resolutions.entries r.0 r.1 in
@@ -166,7 +173,8 @@ module _ (k : Known) (stored roots_in : List Nv) (has_all : HasDependencies k.us
       (contains_flat_map (λ e. map (λ x. serialize x.1) e.1.entries) k.graph.resolutions.entries (f.0, r.0) (serialize url) f.1
       (contains_map (λ x. serialize x.1) r.0.entries (g.0, url) g.1))
 
-  answer_in : (info : ModuleInfo) (name : Name) (url : Parts) → answer_to (traced_as k info) name ≡ Some url → Contains (outer_texts k) (serialize url)
+  answer_in : (info : ModuleInfo) (name : Name) (url : Parts) → answer_to (traced_as k info) name ≡ Some url →
+      Contains (outer_texts k) (serialize url)
   answer_in info name url e =
       let x = then_some (answer_of (traced_as k info) name) (first_with (traced_as k info) name (tables_in info).re_exports) url e in
       let o = then_some (λ other. resolved_export (tables_in other) name) (led_to (traced_as k info) x.0) url x.2 in
@@ -174,7 +182,8 @@ module _ (k : Known) (stored roots_in : List Nv) (has_all : HasDependencies k.us
       let i = named_info (serialize l.0) o.0 l.2 in
       let f = found_in _ (tables_in o.0).resolved url o.2 in
       Contains-append_right (targets k) (answers k) (serialize url)
-      (contains_flat_map (λ e. map (λ x. serialize x.1) (tables_in e.1).resolved) k.root_symbol.modules.entries (i.0, o.0) (serialize url) i.1
+      (contains_flat_map (λ e. map (λ x. serialize x.1) (tables_in e.1).resolved) k.root_symbol.modules.entries (i.0, o.0)
+      (serialize url) i.1
       (contains_map (λ x. serialize x.1) (tables_in o.0).resolved (f.0, url) f.1))
 
   -- names that the tables of a module write
@@ -191,13 +200,16 @@ module _ (k : Known) (stored roots_in : List Nv) (has_all : HasDependencies k.us
         (contains_flat_map (λ e. table_names (tables_in e.1)) k.root_symbol.modules.entries (is.0, info) n is.1 c)
 
     table_longer : suc (length (table_names T)) ≤ L
-    table_longer = let h = flat_longer (λ e. table_names (tables_in e.1)) k.root_symbol.modules.entries (is.0, info) is.1 in omega (arith, h)
+    table_longer = let h = flat_longer (λ e. table_names (tables_in e.1)) k.root_symbol.modules.entries (is.0, info) is.1 in omega
+        (arith, h)
 
     module _ (s : Symbol) (c : Contains T.symbols s) where
       -- what a declaration of the symbol writes
       module _ (x : SymbolDecl) (i : Contains s.decls.items x) where
         kind_written : (n : Name) → Contains (kind_names x.kind) n → Contains A n
-        kind_written n h = name_written n (contains_flat_map symbol_names T.symbols s n c (contains_flat_map (λ y. kind_names y.kind) s.decls.items x n i h))
+        kind_written n h =
+            name_written n
+            (contains_flat_map symbol_names T.symbols s n c (contains_flat_map (λ y. kind_names y.kind) s.decls.items x n i h))
 
         kind_longer : suc (length (kind_names x.kind)) ≤ L
         kind_longer =
@@ -207,25 +219,29 @@ module _ (k : Known) (stored roots_in : List Nv) (has_all : HasDependencies k.us
             omega (arith, a, b, d)
 
       -- a path that is written fits
-      written : (p : Path) (x : SymbolDecl) → Contains s.decls.items x → length p ≤ length (kind_names x.kind) → Each (λ n. Contains (kind_names x.kind) n) p
+      written : (p : Path) (x : SymbolDecl) → Contains s.decls.items x → length p ≤ length (kind_names x.kind) →
+          Each (λ n. Contains (kind_names x.kind) n) p
           → Fits A L p
       written p x i le h = record { short = (let a = kind_longer x i in omega (arith, a, le)); named = λ n j. kind_written x i n (h n j) }
 
       fits_target : (p : Path) (x : SymbolDecl) → Contains s.decls.items x → kind_names x.kind ≡ p → Fits A L p
       fits_target p x i e = written p x i (omega (arith, ap length e)) (λ n j. subst (λ (q : Path). Contains q n) (sym e) j)
 
-      fits_dep : (p : Path) (x : SymbolDecl) (ys : List SymbolNodeDep) (y : SymbolNodeDep) → Contains s.decls.items x → kind_names x.kind ≡ flat_map
+      fits_dep : (p : Path) (x : SymbolDecl) (ys : List SymbolNodeDep) (y : SymbolNodeDep) → Contains s.decls.items x →
+          kind_names x.kind ≡ flat_map
           (λ z. dep_names z.dep) ys → Contains ys y → dep_names y.dep ≡ p → Fits A L p
       fits_dep p x ys y i e j d =
           let le = flat_longer (λ z. dep_names z.dep) ys y j in
           written p x i (omega (arith, le, ap length d, ap length e))
-          (λ n h. subst (λ (q : Path). Contains q n) (sym e) (contains_flat_map (λ z. dep_names z.dep) ys y n j (subst (λ (q : Path). Contains q n) (sym d) h)))
+          (λ n h. subst (λ (q : Path). Contains q n) (sym e)
+          (contains_flat_map (λ z. dep_names z.dep) ys y n j (subst (λ (q : Path). Contains q n) (sym d) h)))
 
       -- what the search of a module counts
       counted : Each (Fits A L) (inner.symbol_paths s)
       counted = each_flat (Fits A L) (λ x. inner.kind_paths x.kind) s.decls.items (λ x i. of_kind x i x.kind refl)
         where
-          of_dep : (x : SymbolDecl) → Contains s.decls.items x → (ys : List SymbolNodeDep) → kind_names x.kind ≡ flat_map (λ z. dep_names z.dep) ys →
+          of_dep : (x : SymbolDecl) → Contains s.decls.items x → (ys : List SymbolNodeDep) →
+              kind_names x.kind ≡ flat_map (λ z. dep_names z.dep) ys →
               (y : SymbolNodeDep) → Contains ys y →
               (d : SymbolDep) → y.dep ≡ d → Each (Fits A L) (inner.dep_paths d)
           of_dep x i ys e y j (deps.Id id) d = each_nil (Fits A L)
@@ -233,13 +249,16 @@ module _ (k : Known) (stored roots_in : List Nv) (has_all : HasDependencies k.us
               (fits_dep (path_of parts.items) x ys y i e j (ap dep_names d))
           of_dep x i ys e y j (deps.ImportType specifier parts) d = each_nil (Fits A L)
 
-          of_kind : (x : SymbolDecl) → Contains s.decls.items x → (kind : SymbolDeclKind) → x.kind ≡ kind → Each (Fits A L) (inner.kind_paths kind)
+          of_kind : (x : SymbolDecl) → Contains s.decls.items x → (kind : SymbolDeclKind) → x.kind ≡ kind →
+              Each (Fits A L) (inner.kind_paths kind)
           of_kind x i (Target id) e = each_nil (Fits A L)
-          of_kind x i (QualifiedTarget id parts) e = each_one (Fits A L) (path_of parts.items) (fits_target (path_of parts.items) x i (ap kind_names e))
+          of_kind x i (QualifiedTarget id parts) e = each_one (Fits A L) (path_of parts.items)
+              (fits_target (path_of parts.items) x i (ap kind_names e))
           of_kind x i (FileRef specifier name) e = each_nil (Fits A L)
           of_kind x i (Definition None) e = each_nil (Fits A L)
           of_kind x i (Definition (Some node)) e =
-              each_flat (Fits A L) (λ y. inner.dep_paths y.dep) node.deps.items (λ y j. of_dep x i node.deps.items (ap kind_names e) y j y.dep refl)
+              each_flat (Fits A L) (λ y. inner.dep_paths y.dep) node.deps.items
+              (λ y j. of_dep x i node.deps.items (ap kind_names e) y j y.dep refl)
 
       abbrev FileWithin : FileDemand → Type 0
       FileWithin f = Within f.names
@@ -253,29 +272,35 @@ module _ (k : Known) (stored roots_in : List Nv) (has_all : HasDependencies k.us
       import_within [] f = tt
       import_within (n ∷ p) f = fits_in A (suc L) (n ∷ p) (fits_longer A L (n ∷ p) f)
 
-      name_fits : (x : SymbolDecl) (specifier : _) (name : _) → Contains s.decls.items x → x.kind ≡ FileRef specifier (Named name) → Contains A
+      name_fits : (x : SymbolDecl) (specifier : _) (name : _) → Contains s.decls.items x → x.kind ≡ FileRef specifier (Named name) →
+          Contains A
           (string_bytes name)
       name_fits x specifier name i e = kind_written x i (string_bytes name) (subst (λ (kind : SymbolDeclKind). Contains (kind_names kind)
           (string_bytes name)) (sym e) (Contains_first (string_bytes name) []))
 
-      kind_within : (x : SymbolDecl) → Contains s.decls.items x → (kind : SymbolDeclKind) → x.kind ≡ kind → Each FileWithin (kind_files kind)
+      kind_within : (x : SymbolDecl) → Contains s.decls.items x → (kind : SymbolDeclKind) → x.kind ≡ kind →
+          Each FileWithin (kind_files kind)
       kind_within x i (Target id) e = each_nil FileWithin
       kind_within x i (QualifiedTarget id parts) e = each_nil FileWithin
       kind_within x i (FileRef specifier Star) e = each_one FileWithin (wants (string_bytes specifier) names_but_default) tt
       kind_within x i (FileRef specifier (Named name)) e =
           each_one FileWithin (wants (string_bytes specifier) (whole_at (string_bytes name ∷ [])))
-          (fits_in A (suc L) (string_bytes name ∷ []) (fits_more A (string_bytes name) L [] (name_fits x specifier name i e) (fits_empty A L)))
+          (fits_in A (suc L) (string_bytes name ∷ [])
+          (fits_more A (string_bytes name) L [] (name_fits x specifier name i e) (fits_empty A L)))
       kind_within x i (Definition None) e = each_nil FileWithin
-      kind_within x i (Definition (Some node)) e = each_flat FileWithin (λ y. dep_files y.dep) node.deps.items (λ y j. of_dep y j y.dep refl)
+      kind_within x i (Definition (Some node)) e = each_flat FileWithin (λ y. dep_files y.dep) node.deps.items
+          (λ y j. of_dep y j y.dep refl)
         where
           of_dep : (y : SymbolNodeDep) → Contains node.deps.items y → (d : SymbolDep) → y.dep ≡ d → Each FileWithin (dep_files d)
           of_dep y j (deps.Id id) d = each_nil FileWithin
           of_dep y j (deps.QualifiedId id parts) d = each_nil FileWithin
           of_dep y j (deps.ImportType specifier parts) d =
               each_one FileWithin (wants (string_bytes specifier) (import_demand (path_of parts.items)))
-              (import_within (path_of parts.items) (fits_dep (path_of parts.items) x node.deps.items y i (ap kind_names e) j (ap dep_names d)))
+              (import_within (path_of parts.items)
+              (fits_dep (path_of parts.items) x node.deps.items y i (ap kind_names e) j (ap dep_names d)))
 
-      alias_within : (p : Path) (extent : Extent) → Fits A L p → (x : SymbolDecl) → Contains s.decls.items x → (kind : SymbolDeclKind) → x.kind ≡ kind →
+      alias_within : (p : Path) (extent : Extent) → Fits A L p → (x : SymbolDecl) → Contains s.decls.items x → (kind : SymbolDeclKind) →
+          x.kind ≡ kind →
           Each FileWithin (alias_files p extent kind)
       alias_within p extent f x i (Target id) e = each_nil FileWithin
       alias_within p extent f x i (QualifiedTarget id parts) e = each_nil FileWithin
@@ -288,7 +313,8 @@ module _ (k : Known) (stored roots_in : List Nv) (has_all : HasDependencies k.us
 
       symbol_within : (n : Namespace) → Each FileWithin (symbol_files n s)
       symbol_within n = each_cond FileWithin s.is_private_member [] (flat_map (decl_files n) s.decls.items) (each_nil FileWithin)
-          (each_flat FileWithin (decl_files n) s.decls.items (λ x i. each_cond FileWithin (binds x n && not (is_implementation x)) (kind_files x.kind) []
+          (each_flat FileWithin (decl_files n) s.decls.items
+          (λ x i. each_cond FileWithin (binds x n && not (is_implementation x)) (kind_files x.kind) []
           (kind_within x i x.kind refl) (each_nil FileWithin)))
 
       asked_files_within : (a : Asked) → IsPathWithin (paths_up_to L A) a → Each FileWithin (asked_files a s)
@@ -318,7 +344,8 @@ module _ (k : Known) (stored roots_in : List Nv) (has_all : HasDependencies k.us
 
         all_fit : Each (Fits A L) (inner.written_paths T (d ∷ []))
         all_fit = each_append (Fits A L) (flat_map (λ x. inner.asked_paths x.asked) (d ∷ [])) (flat_map inner.symbol_paths T.symbols)
-            (each_flat (Fits A L) (λ x. inner.asked_paths x.asked) (d ∷ []) (λ x i. first_fits x.asked (subst SymbolIn (Contains_only d x i) h)))
+            (each_flat (Fits A L) (λ x. inner.asked_paths x.asked) (d ∷ [])
+            (λ x i. first_fits x.asked (subst SymbolIn (Contains_only d x i) h)))
             (each_flat (Fits A L) inner.symbol_paths T.symbols (λ s i. counted s i))
 
         go : (a : Asked) → inner.IsAskedInside (inner.paths T (d ∷ [])) a → IsPathWithin (paths_up_to L A) a
@@ -351,7 +378,8 @@ module _ (k : Known) (stored roots_in : List Nv) (has_all : HasDependencies k.us
 
     star_in : (b : Bool) → Each SymbolIn (star_roots T b)
     star_in b = each_each_of SymbolIn (λ s. flat_map (star_export T b) s.exports) (symbol_of T.module_symbol T.symbols)
-        (λ s e. each_flat SymbolIn (star_export T b) s.exports (λ x i. each_cond SymbolIn (b || not (bytes_eq x.0 default_name)) (export_whole T x.1) []
+        (λ s e. each_flat SymbolIn (star_export T b) s.exports
+        (λ x i. each_cond SymbolIn (b || not (bytes_eq x.0 default_name)) (export_whole T x.1) []
         (whole_in x.1) (each_nil SymbolIn)))
 
     path_in : (x : SymbolId) (p : Path) (e : Extent) → Fits A L p → Each SymbolIn (path_roots T x p e)
@@ -372,7 +400,8 @@ module _ (k : Known) (stored roots_in : List Nv) (has_all : HasDependencies k.us
     -- what the module asks of others
 
     in_left : (nv : Nv) (text : List ℕ) → Each In (left_wants k nv m (re_exported text))
-    in_left nv text = each_each_of In (λ url. behind nv (serialize url) (asked_by names_but_default) (k.owner (serialize url))) (resolved m text)
+    in_left nv text = each_each_of In (λ url. behind nv (serialize url) (asked_by names_but_default) (k.owner (serialize url)))
+        (resolved m text)
         (λ url e. in_behind nv (serialize url) names_but_default (k.owner (serialize url)) refl (target_in info text url e) tt)
 
     in_all : (nv : Nv) → Each In (flat_map (left_wants k nv m) (all_wants T.re_exports))
@@ -380,13 +409,15 @@ module _ (k : Known) (stored roots_in : List Nv) (has_all : HasDependencies k.us
       where
         go : (xs : List ReExportAllNode) → Each In (flat_map (left_wants k nv m) (all_wants xs))
         go [] = each_nil In
-        go (x ∷ xs) = each_append In (left_wants k nv m (re_exported (string_bytes x.specifier))) (flat_map (left_wants k nv m) (all_wants xs))
+        go (x ∷ xs) = each_append In (left_wants k nv m (re_exported (string_bytes x.specifier)))
+            (flat_map (left_wants k nv m) (all_wants xs))
             (in_left nv (string_bytes x.specifier)) (go xs)
 
     in_path : (nv : Nv) (n : Name) (d : NameDemand) → Within d → Each In (flat_map (left_wants k nv m) (path_wants m n d))
     in_path nv n d h = each_flat In (left_wants k nv m) (path_wants m n d) (λ v c. go v
         (each_cond Ans (is_some (own_export T n)) [] (answered_at d (answer_to m n)) (each_nil Ans)
-        (each_each_of Ans (λ url. answered url d ∷ []) (answer_to m n) (λ url e. each_one Ans (answered url d) (answer_in info n url e, refl))) v c))
+        (each_each_of Ans (λ url. answered url d ∷ []) (answer_to m n)
+        (λ url e. each_one Ans (answered url d) (answer_in info n url e, refl))) v c))
       where
         Ans : ModuleWant → Type 0
         Ans (re_exported text) = ⊥
@@ -415,7 +446,8 @@ module _ (k : Known) (stored roots_in : List Nv) (has_all : HasDependencies k.us
         each_each_of In (λ url. file_at nv (serialize url) (asked_by f.names) (k.owner (serialize url))) (resolved m f.text)
         (λ url e. in_file nv (serialize url) f.names (k.owner (serialize url)) refl (target_in info f.text url e) (files_within s h f c))))
 
-  entry_in : (nv : Nv) → Contains (all_packages k stored roots_in) nv → (urls : List Parts) → entrance_at k nv ≡ entered urls → (url : Parts) → Contains urls url →
+  entry_in : (nv : Nv) → Contains (all_packages k stored roots_in) nv → (urls : List Parts) → entrance_at k nv ≡ entered urls →
+      (url : Parts) → Contains urls url →
       In (entry_want nv url)
   entry_in nv i urls e url c = (
     Contains-append_right (outer_texts k) (entry_texts k (all_packages k stored roots_in)) (serialize url)
@@ -436,7 +468,8 @@ module _ (k : Known) (stored roots_in : List Nv) (has_all : HasDependencies k.us
           Each In (entered_wants k.graph nv urls item)
       by_item urls e None h = sound urls e (all_faults k.graph urls)
       by_item urls e (Some item) h = each_map In to_package item.0
-          (λ p c. Contains-append_right roots_in (owners ++ stored) p (Contains-append_right owners stored p (has_all nv (in_order urls) item h p c)))
+          (λ p c. Contains-append_right roots_in (owners ++ stored) p
+          (Contains-append_right owners stored p (has_all nv (in_order urls) item h p c)))
 
       go : (entrance : Entrance) → entrance_at k nv ≡ entrance → Each In (entry_wants k.graph k.used nv entrance)
       go passed_over e = each_nil In

@@ -11,8 +11,8 @@ use Rattle.fast_check_packages.specs.declared.fault.BuildFault.TheVariants.{Inva
 use Rattle.fast_check_findings.specs.Faults.{placed_in}
 use Rattle.fast_check_findings.specs.declared.finding.Finding.{Finding}
 use Rattle.fast_check_findings.specs.declared.finding.Finding.TheVariants.{Entered, Followed, Untyped, Kept}
-use Rattle.fast_check_findings.specs.Yields.{ModuleFault, Yield, known_package, entry_point, refused_export, dependency, recorded, public, implementing, faulty}
-use Rattle.fast_check_findings.specs.Yields.{untyped_module, kept}
+use Rattle.fast_check_findings.specs.Yields.{ModuleFault, Yield, known_package, entry_point, refused_export, dependency, recorded, public}
+use Rattle.fast_check_findings.specs.Yields.{implementing, faulty, untyped_module, kept}
 use Rattle.fast_check_cache.specs.Cache.{item_of}
 use Rattle.fast_check_findings.specs.Findings.{faulty_module, entry_fault, placed_yield, placed_yields, yields_of}
 use Rattle.fast_check_turns.specs.entries.Entries.{Entrance, passed_over, refused, entered, TellsRefused}
@@ -61,7 +61,8 @@ finding_joins (Followed f) =
 finding_joins (Untyped u) = faulty_joins (nv_of u.package) (serialize u.specifier) untyped_module
 finding_joins (Kept k) = each_one Joins (kept (nv_of k.package) k.entry_points.keys (item_of k.item)) tt
 
-pub all_join : (k : Known) (account : Account) (found : List Finding) → IsYield (gives k) account (flat_map yields_of found) → JoinAll k account
+pub all_join : (k : Known) (account : Account) (found : List Finding) → IsYield (gives k) account (flat_map yields_of found) →
+    JoinAll k account
 all_join k account found y nv c = go (entrance_at k nv) refl
   where
     go : (e : Entrance) → entrance_at k nv ≡ e → IsNotRefused e
@@ -70,7 +71,8 @@ all_join k account found y nv c = go (entrance_at k nv) refl
     go (refused text) e =
         each_flat Joins yields_of found (λ f i. finding_joins f) (refused_export nv text)
         (y.complete (of_package nv) (refused_export nv text) c
-        (subst (λ (x : Entrance). Contains (entry_yields k.graph k.used nv x) (refused_export nv text)) (sym e) (Contains_first (refused_export nv text) [])))
+        (subst (λ (x : Entrance). Contains (entry_yields k.graph k.used nv x) (refused_export nv text)) (sym e)
+        (Contains_first (refused_export nv text) [])))
 
 -- the package that stops the search is one of those that were asked for
 pub refused_of : (k : Known) (packages : List PackageNv) (i : ℕ) (p : PackageNv) (nv : Nv) → i < length packages → p ≡ get_or packages i p →
@@ -84,7 +86,8 @@ refused_of k packages i p nv le is e (InvalidExport q text) t = (
 )
 
 -- and so is demanded
-pub refusal : (k : Known) (roots packages : List Nv) → ((p : Nv) → Contains packages p → Chained (world k) roots (of_package p)) → (f : BuildFault) →
+pub refusal : (k : Known) (roots packages : List Nv) → ((p : Nv) → Contains packages p → Chained (world k) roots (of_package p)) →
+    (f : BuildFault) →
     IsRefusedOf k packages f → IsRefusal k roots f
 refusal k roots packages chained OutOfMemory t = tt
 refusal k roots packages chained (InvalidExport p text) t = (chained (nv_of p) t.0, t.1)

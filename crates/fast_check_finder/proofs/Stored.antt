@@ -1,5 +1,6 @@
 -- A cache has finitely many items, so those that are used depend on finitely many packages.
-use Rattle.std.proofs.Common.{◌≡◌, ◌∙◌, sym, ap, refl, subst, ℕ, ◌^◌, map, zero, suc, ◌<◌, ◌≤◌, Bool, true, false, List, Option, Some, None, ⊎_elim, ◌⊎◌, inl, inr, arith}
+use Rattle.std.proofs.Common.{◌≡◌, ◌∙◌, sym, ap, refl, subst, ℕ, ◌^◌, map, zero, suc, ◌<◌, ◌≤◌, Bool, true, false, List, Option, Some, None}
+use Rattle.std.proofs.Common.{⊎_elim, ◌⊎◌, inl, inr, arith}
 use Rattle.std.specs.Prelude.{nat_lt, if◌then◌else◌}
 use Rattle.std.specs.List.{Contains}
 use Rattle.std.proofs.lemmas.List.Elements.{Contains-append_left, Contains-append_right}
@@ -55,4 +56,5 @@ pub has_lent : {C : Type 0} (lent : Option C) (key : C → Nv → List (List ℕ
     HasDependencies (used_of lent (λ c. used_item (key c) (stored c) g)) (lent_dependencies lent stored)
 has_lent None key stored g nv urls item e p c = absurd (none_some item e)
 has_lent (Some x) key stored g nv urls item e p c =
-    under_key (stored x) (2 ^ 64) (key x nv (map serialize urls)) item (there g (at_key (stored x) (key x nv (map serialize urls))) item e) p c
+    under_key (stored x) (2 ^ 64) (key x nv (map serialize urls)) item
+    (there g (at_key (stored x) (key x nv (map serialize urls))) item e) p c

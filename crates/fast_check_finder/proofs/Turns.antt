@@ -15,7 +15,8 @@ use Rattle.fast_check_turns.specs.Rules.{world}
 use Rattle.fast_check_turns.specs.Yields.{gives}
 
 -- a trace was taken from what waits, and followed
-pub traced_turn : (k : Known) (next : ℕ) (hs : List (Parts × ImportedExports)) (ps : List Nv) (ws us : List (Parts × (PackageNv × ImportedExports)))
+pub traced_turn : (k : Known) (next : ℕ) (hs : List (Parts × ImportedExports)) (ps : List Nv)
+    (ws us : List (Parts × (PackageNv × ImportedExports)))
     (t : PendingTrace) (b : State) (old new : List Yield) (after : Option ℕ) → ws ≡ us ++ entry_of t ∷ [] →
     IsFollowed (world k) (gives k) (trace_of t) (record { handled = hs; waiting = us; packages = ps }) b old new → after ≡ Some next →
     IsTurn (world k) (gives k) next (record { handled = hs; waiting = ws; packages = ps }) b old new after

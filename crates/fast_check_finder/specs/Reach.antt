@@ -1,6 +1,7 @@
 -- Inner: no contract of a public call cites what stands here.
 -- All that can be demanded.
-use Rattle.std.specs.Prelude.{ℕ, zero, suc, ◌^◌, List, [], ◌∷◌, ◌++◌, map, length, Option, Some, None, option_to_list, string_bytes}
+use Rattle.std.specs.Prelude.{ℕ, zero, suc, ◌^◌, List, [], ◌∷◌, ◌++◌, map, length, Option, Some, None, option_to_list}
+use Rattle.std.specs.Prelude.{string_bytes}
 use Rattle.std.specs.List.{flat_map}
 use Rattle.url.specs.Parts.{Parts, serialize}
 use Rattle.fast_check_packages.specs.Package.{Nv}
@@ -11,7 +12,8 @@ use Rattle.fast_check_symbols.specs.declared.file_dep_name.FileDepName.{FileDepN
 use Rattle.fast_check_symbols.specs.declared.file_dep_name.FileDepName.TheVariants.{Star, Name as Named}
 use Rattle.fast_check_symbols.specs.declared.symbol.Symbol.{Symbol}
 use Rattle.fast_check_symbols.specs.declared.decl.SymbolDeclKind.{SymbolDeclKind}
-use Rattle.fast_check_symbols.specs.declared.decl.SymbolDeclKind.TheVariants.{Target, QualifiedTarget, FileRef, Definition}
+use Rattle.fast_check_symbols.specs.declared.decl.SymbolDeclKind.TheVariants.{Target, QualifiedTarget, FileRef}
+use Rattle.fast_check_symbols.specs.declared.decl.SymbolDeclKind.TheVariants.{Definition}
 use Rattle.fast_check_symbols.specs.declared.node.SymbolDep.{SymbolDep}
 use Rattle.fast_check_symbols.specs.declared.node.SymbolDep.TheVariants as deps
 use Rattle.fast_check_symbols.specs.Tables.{Tables}
@@ -77,7 +79,8 @@ abbrev pub lent_dependencies : {C : Type 0} → Option C → (C → ℕ → Opti
 lent_dependencies None stored = []
 lent_dependencies (Some c) stored = dependencies_below (stored c) (2 ^ 64)
 
--- the packages that are handed in, those that the modules of others belong to, and those on which items of a cache depend
+-- the packages that are handed in, those that the modules of others belong to, and those on which items of a cache
+-- depend
 abbrev pub all_packages : Known → List Nv → List Nv → List Nv
 all_packages k stored roots = roots ++ (flat_map (λ t. option_to_list (k.owner t)) (outer_texts k) ++ stored)
 

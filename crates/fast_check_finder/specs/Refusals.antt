@@ -12,7 +12,8 @@ use Rattle.fast_check_turns.specs.Rules.{entrance_at, world}
 
 -- a package that is demanded, and its first export text that does not join. Of want of memory nothing is said
 abbrev pub IsRefusal : Known → List Nv → BuildFault → Type 0
-IsRefusal k roots (InvalidExport nv text) = Chained (world k) roots (of_package (nv_of nv)) × (entrance_at k (nv_of nv) ≡ refused (string_bytes text))
+IsRefusal k roots (InvalidExport nv text) = Chained (world k) roots (of_package (nv_of nv)) ×
+    (entrance_at k (nv_of nv) ≡ refused (string_bytes text))
 IsRefusal k roots OutOfMemory = Unit {0}
 
 abbrev pub IsNotRefused : Entrance → Type 0
@@ -26,5 +27,6 @@ JoinAll k account = (nv : Nv) → Contains account.packages nv → IsNotRefused 
 
 -- one of these packages, and its first export text that does not join
 abbrev pub IsRefusedOf : Known → List Nv → BuildFault → Type 0
-IsRefusedOf k packages (InvalidExport nv text) = Contains packages (nv_of nv) × (entrance_at k (nv_of nv) ≡ refused (string_bytes text))
+IsRefusedOf k packages (InvalidExport nv text) = Contains packages (nv_of nv) ×
+    (entrance_at k (nv_of nv) ≡ refused (string_bytes text))
 IsRefusedOf k packages OutOfMemory = Unit {0}

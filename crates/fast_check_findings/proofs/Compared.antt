@@ -31,13 +31,16 @@ kinds_tie TooComplex NotFound = refl
 kinds_tie TooComplex TooComplex = refl
 
 ranges_tie : (a b : SourceRange) → same_range a b ≡ is_eq (range_order.cmp-value.it a b)
-ranges_tie a b = both_tied _ _ (nat_cmp a.start.0 b.start.0) (nat_cmp a.end.0 b.end.0) (unsigned_ties a.start.0 b.start.0) (unsigned_ties a.end.0 b.end.0)
+ranges_tie a b = both_tied _ _ (nat_cmp a.start.0 b.start.0) (nat_cmp a.end.0 b.end.0) (unsigned_ties a.start.0 b.start.0)
+    (unsigned_ties a.end.0 b.end.0)
 
 pub compares : (a b : DemandFault) (t u : List ℕ) → same_fault (placed_with a t) (placed_with b u) ≡ is_eq (order.cmp-value.it a b)
 compares a b t u = both_tied _ _ (range_order.cmp-value.it a.range b.range) _ (ranges_tie a.range b.range)
     (both_tied _ _ (kind_order.cmp-value.it a.kind b.kind) _ (kinds_tie a.kind b.kind)
-    (both_tied _ _ (slice_cmp nat_cmp (string_bytes a.name) (string_bytes b.name)) _ (texts_ties (string_bytes a.name) (string_bytes b.name))
-    (both_tied _ _ (slice_cmp nat_cmp (string_bytes a.referrer) (string_bytes b.referrer)) (slice_cmp nat_cmp (serialize a.specifier) (serialize b.specifier))
+    (both_tied _ _ (slice_cmp nat_cmp (string_bytes a.name) (string_bytes b.name)) _
+    (texts_ties (string_bytes a.name) (string_bytes b.name))
+    (both_tied _ _ (slice_cmp nat_cmp (string_bytes a.referrer) (string_bytes b.referrer))
+    (slice_cmp nat_cmp (serialize a.specifier) (serialize b.specifier))
     (texts_ties (string_bytes a.referrer) (string_bytes b.referrer)) (texts_ties (serialize a.specifier) (serialize b.specifier)))))
 
 -- a fault is one with itself
@@ -61,5 +64,6 @@ pub same_itself : (r : PlacedFault) → same_fault r r ≡ true
 same_itself r = and_both (same_range r.range r.range) _ (range_itself r.range)
     (and_both (same_kind r.kind r.kind) _ (kind_itself r.kind)
     (and_both (bytes_eq r.name r.name) _ (nat_list_eq_equiv.refl r.name)
-    (and_both (bytes_eq r.referrer r.referrer) (bytes_eq (serialize r.specifier) (serialize r.specifier)) (nat_list_eq_equiv.refl r.referrer)
+    (and_both (bytes_eq r.referrer r.referrer) (bytes_eq (serialize r.specifier) (serialize r.specifier))
+    (nat_list_eq_equiv.refl r.referrer)
     (nat_list_eq_equiv.refl (serialize r.specifier)))))

@@ -14,7 +14,8 @@ use Rattle.fast_check_findings.specs.declared.demand_fault.DemandFault.{DemandFa
 use Rattle.fast_check_findings.specs.Diagnostics.{where_found, tells, same_fault, tell_one_fault, AreOf}
 use Rattle.fast_check_findings.proofs.Compared.{compares}
 
-pub of_push : (ds : List FastCheckDiagnostic) (es : List (DemandFault × RcStr Global)) (d : FastCheckDiagnostic) (e : DemandFault × RcStr Global) →
+pub of_push : (ds : List FastCheckDiagnostic) (es : List (DemandFault × RcStr Global)) (d : FastCheckDiagnostic)
+    (e : DemandFault × RcStr Global) →
     AreOf ds es → demand_fault d ≡ Some (placed_with e.0 (rc_str_bytes e.1)) → AreOf (ds ++ d ∷ []) (es ++ e ∷ [])
 of_push [] [] d e h p = (p, tt)
 of_push [] (y ∷ ys) d e h p = absurd h
@@ -26,8 +27,10 @@ one_apart : (d x : FastCheckDiagnostic) (e y : DemandFault × RcStr Global) → 
 one_apart d x e y p q h = ap (where_found (λ r. tells (same_fault r) x)) p ∙
     (ap (where_found (same_fault (placed_with e.0 (rc_str_bytes e.1)))) q ∙ (compares e.0 y.0 (rc_str_bytes e.1) (rc_str_bytes y.1) ∙ h))
 
-apart : (d : FastCheckDiagnostic) (e : DemandFault × RcStr Global) (ds : List FastCheckDiagnostic) (es : List (DemandFault × RcStr Global)) →
-    demand_fault d ≡ Some (placed_with e.0 (rc_str_bytes e.1)) → AreOf ds es → AllByRecursion (λ k. eq_by_cmp order.cmp-value.it e.0 k ≡ false) (keys_of es) →
+apart : (d : FastCheckDiagnostic) (e : DemandFault × RcStr Global) (ds : List FastCheckDiagnostic)
+    (es : List (DemandFault × RcStr Global)) →
+    demand_fault d ≡ Some (placed_with e.0 (rc_str_bytes e.1)) → AreOf ds es →
+    AllByRecursion (λ k. eq_by_cmp order.cmp-value.it e.0 k ≡ false) (keys_of es) →
     AllByRecursion (λ x. tell_one_fault d x ≡ false) ds
 apart d e [] [] p h a = tt
 apart d e [] (y ∷ ys) p h a = absurd h

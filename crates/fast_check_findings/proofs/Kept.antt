@@ -24,7 +24,8 @@ or_comm true false = refl
 or_comm false true = refl
 or_comm false false = refl
 
-inserted_at : {K X : Type 0} (test : K × X → Bool) (r : Ordering) (e n : K × X) (es rest : List (K × X)) (o : Option X) → cond (is_eq r) (Some e.1) o ≡ None →
+inserted_at : {K X : Type 0} (test : K × X → Bool) (r : Ordering) (e n : K × X) (es rest : List (K × X)) (o : Option X) →
+    cond (is_eq r) (Some e.1) o ≡ None →
     (o ≡ None → list_any test rest ≡ (list_any test es || test n)) →
     list_any test (match_ordering r (n ∷ e ∷ es) ((e.0, n.1) ∷ es) (e ∷ rest)) ≡ (list_any test (e ∷ es) || test n)
 inserted_at test Less e n es rest o h g = or_comm (test n) (list_any test (e ∷ es))
@@ -32,7 +33,8 @@ inserted_at test Equal e n es rest o h g = absurd (false≢true (sym (ap is_some
 inserted_at test Greater e n es rest o h g = ap (λ b. test e || b) (g h) ∙ sym (or_assoc (test e) (list_any test es) (test n))
 
 -- a key that is new
-pub inserted : {K X : Type 0} (cmp : K → K → Ordering) (test : K × X → Bool) (es : List (K × X)) (k : K) (v : X) → lookup (is_at (cmp k)) es ≡ None →
+pub inserted : {K X : Type 0} (cmp : K → K → Ordering) (test : K × X → Bool) (es : List (K × X)) (k : K) (v : X) →
+    lookup (is_at (cmp k)) es ≡ None →
     list_any test (insert_entry cmp es k v) ≡ (list_any test es || test (k, v))
 inserted cmp test [] k v h = or_none (test (k, v))
 inserted cmp test (e ∷ es) k v h = inserted_at test (cmp k e.0) e (k, v) es (insert_entry cmp es k v) (lookup (is_at (cmp k)) es) h
@@ -56,7 +58,8 @@ there test fair (e ∷ es) f text h t = there_at (is_eq (order.cmp-value.it f e.
 
 -- it adds nothing
 pub kept : (test : PlacedFault → Bool) → IsFair test → (es : List (DemandFault × RcStr Global)) (f : DemandFault) (text : RcStr Global) →
-    is_some (lookup (is_at (order.cmp-value.it f)) es) ≡ true → list_any (passes test) es ≡ (list_any (passes test) es || passes test (f, text))
+    is_some (lookup (is_at (order.cmp-value.it f)) es) ≡ true → list_any
+    (passes test) es ≡ (list_any (passes test) es || passes test (f, text))
 kept test fair es f text h = ⊎_elim
     (λ t. there test fair es f text h t ∙ sym (ap (λ b. b || passes test (f, text)) (there test fair es f text h t)))
     (λ n. sym (ap (λ b. list_any (passes test) es || b) n ∙ or_none (list_any (passes test) es)))

@@ -33,7 +33,8 @@ same_kind _ _ = false
 abbrev pub same_fault : PlacedFault → PlacedFault → Bool
 same_fault a b = same_range a.range b.range
     && (same_kind a.kind b.kind
-    && (bytes_eq a.name b.name && (bytes_eq a.referrer b.referrer && bytes_eq (serialize a.specifier) (serialize b.specifier))))
+    && (bytes_eq a.name b.name &&
+    (bytes_eq a.referrer b.referrer && bytes_eq (serialize a.specifier) (serialize b.specifier))))
 
 -- two diagnostics tell of one fault of a demand
 abbrev pub tell_one_fault : FastCheckDiagnostic → FastCheckDiagnostic → Bool

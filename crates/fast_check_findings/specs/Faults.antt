@@ -33,7 +33,15 @@ pub record PlacedFault : Type 0 where
 
 abbrev pub placed_of : FaultKind → FastCheckDiagnosticRange → List ℕ → List ℕ → PlacedFault
 placed_of kind place name referrer =
-    record { kind = kind; specifier = place.specifier; text = rc_str_bytes place.text_info; range = place.range; name = name; referrer = referrer }
+    record {
+      kind = kind;
+      specifier = place.specifier;
+      text = rc_str_bytes place.text_info;
+      range = place.range;
+      name =
+          name;
+      referrer = referrer;
+    }
 
 -- a fault of the code, with the source text
 abbrev pub placed_with : DemandFault → List ℕ → PlacedFault
@@ -51,9 +59,12 @@ placed_in e = placed_with e.0 (rc_str_bytes e.1)
 
 -- the fault of a demand that a diagnostic is of, if it is of one
 unfoldable pub demand_fault : FastCheckDiagnostic → Option PlacedFault
-demand_fault (UnsupportedPrivateMemberReference place name referrer) = Some (placed_of PrivateMember place (string_bytes name) (string_bytes referrer))
-demand_fault (NotFoundReference place name referrer) = Some (placed_of NotFound place (string_bytes name) (string_bytes referrer))
-demand_fault (UnsupportedComplexReference place name referrer) = Some (placed_of TooComplex place (string_bytes name) (string_bytes referrer))
+demand_fault (UnsupportedPrivateMemberReference place name referrer) =
+    Some (placed_of PrivateMember place (string_bytes name) (string_bytes referrer))
+demand_fault (NotFoundReference place name referrer) = Some
+    (placed_of NotFound place (string_bytes name) (string_bytes referrer))
+demand_fault (UnsupportedComplexReference place name referrer) =
+    Some (placed_of TooComplex place (string_bytes name) (string_bytes referrer))
 demand_fault _ = None
 
 -- the name that a symbol is known by: the names from the module down to it, where they are known

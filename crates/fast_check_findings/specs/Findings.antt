@@ -15,7 +15,8 @@ use Rattle.fast_check_findings.specs.declared.finding.KeptPackage.{KeptPackage}
 use Rattle.fast_check_findings.specs.declared.finding.Finding.{Finding}
 use Rattle.fast_check_findings.specs.declared.finding.Finding.TheVariants.{Entered, Followed, Untyped, Kept}
 use Rattle.fast_check_findings.specs.Yields.{ModuleFault, missing_entry, untyped_entry, untyped_module, of_demand}
-use Rattle.fast_check_findings.specs.Yields.{Yield, known_package, entry_point, dependency, recorded, public, implementing, faulty, kept}
+use Rattle.fast_check_findings.specs.Yields.{Yield, known_package, entry_point, dependency, recorded, public}
+use Rattle.fast_check_findings.specs.Yields.{implementing, faulty, kept}
 
 -- a module is recorded with what is wrong with it as a whole
 abbrev pub faulty_module : Nv → Text → ModuleFault → List Yield

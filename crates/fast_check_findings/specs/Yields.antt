@@ -7,17 +7,18 @@ use Rattle.fast_check_cache.specs.Cache.{ItemView}
 use Rattle.fast_check_findings.specs.Faults.{PlacedFault}
 use Rattle.fast_check_worklists.specs.Demands.{Text}
 
--- What is wrong with a module: an entry point that the graph does not have, one whose types are not known, another module whose types are not known,
--- or something that was demanded of it.
+-- What is wrong with a module: an entry point that the graph does not have, one whose types are not known, another
+-- module whose types are not known, or something that was demanded of it.
 pub data ModuleFault : Type 0 where
   missing_entry : ModuleFault
   untyped_entry : ModuleFault
   untyped_module : ModuleFault
   of_demand : PlacedFault → ModuleFault
 
--- A package whose exports are known; an entry point of a package; an export text of a package that cannot be joined to its URL; a package on which
--- another depends; and by package and module: that the module is recorded, a public range, a public range of an implementation of overloads, and
--- what is wrong. Of a package whose item in a cache is used: its entry points, in order and each once, and the item.
+-- A package whose exports are known; an entry point of a package; an export text of a package that cannot be joined to
+-- its URL; a package on which another depends; and by package and module: that the module is recorded, a public range,
+-- a public range of an implementation of overloads, and what is wrong. Of a package whose item in a cache is used: its
+-- entry points, in order and each once, and the item.
 pub data Yield : Type 0 where
   known_package : Nv → Yield
   entry_point : Nv → Text → Yield

@@ -27,14 +27,18 @@ well_placed m e h = none_of is_misplaced m.entries h.entry e h.among h.differs
 module _ (m : BTreeMap Parts ModuleInfo) (placed : list_any is_misplaced m.entries ≡ false) where
   -- the key of an entry is its module's name
   own_key : (e : Parts × ModuleInfo) → Contains m.entries e → is_specifier e.0 (specifier_of e.1) ≡ true
-  own_key e h = ⊎_elim (λ y. y) (λ n. absurd (none_of is_misplaced m.entries e placed h (ap not n))) (cases_Bool (is_specifier e.0 (specifier_of e.1)))
+  own_key e h = ⊎_elim (λ y. y) (λ n. absurd (none_of is_misplaced m.entries e placed h (ap not n)))
+      (cases_Bool (is_specifier e.0 (specifier_of e.1)))
 
-  own_module_found : IsOrdered (λ (a b : Parts). slice_cmp nat_cmp (serialize a) (serialize b)) m → (e : Parts × ModuleInfo) → Contains m.entries e →
+  own_module_found : IsOrdered (λ (a b : Parts). slice_cmp nat_cmp (serialize a) (serialize b)) m → (e : Parts × ModuleInfo) →
+      Contains m.entries e →
       module_named m.entries (specifier_of e.1) ≡ Some e.1
   own_module_found ordered e h = let total : IsTotalOrder (λ (a b : Parts). slice_cmp nat_cmp (serialize a) (serialize b)) =
       on_total serialize nat_list_cmp_total in
-      lookup_alike (is_specifier (specifier_of e.1)) (eq_by_cmp (λ (a b : Parts). slice_cmp nat_cmp (serialize a) (serialize b)) e.0) m.entries
-      (λ k. sym (nat_list_eq_equiv.congr (serialize e.0) (serialize (specifier_of e.1)) (serialize k) (own_key e h)) ∙ texts_ties (serialize e.0) (serialize k))
+      lookup_alike (is_specifier (specifier_of e.1))
+      (eq_by_cmp (λ (a b : Parts). slice_cmp nat_cmp (serialize a) (serialize b)) e.0) m.entries
+      (λ k. sym (nat_list_eq_equiv.congr (serialize e.0) (serialize (specifier_of e.1)) (serialize k) (own_key e h)) ∙
+      texts_ties (serialize e.0) (serialize k))
       ∙ lookup-from_Contains (eq_by_cmp_equiv total) e.0 e.1 m.entries
       (IsDistinct-from_sorted (λ (a b : Parts). slice_cmp nat_cmp (serialize a) (serialize b)) (keys m) ordered) h
 
@@ -42,4 +46,5 @@ module _ (m : BTreeMap Parts ModuleInfo) (placed : list_any is_misplaced m.entri
 pub found_by_own_names : (r : RootSymbol) → IsOrdered (λ (a b : Parts). slice_cmp nat_cmp (serialize a) (serialize b)) r.modules →
     list_any is_misplaced r.modules.entries ≡ false → AreFoundByOwnNames r
 found_by_own_names r ordered placed e h =
-    ap (λ o. option_or o (module_aliased r.modules.entries r.aliases.entries (specifier_of e.1))) (own_module_found r.modules placed ordered e h)
+    ap (λ o. option_or o (module_aliased r.modules.entries r.aliases.entries (specifier_of e.1)))
+    (own_module_found r.modules placed ordered e h)

@@ -13,7 +13,8 @@ use Rattle.fast_check_graph.specs.Graph.{is_specifier}
 pub at_specifier : {X : Type 0} (u : Parts) (es : List (Parts × X))
     → lookup (λ k. is_eq (slice_cmp nat_cmp (serialize u) (serialize k))) es ≡ lookup (is_specifier u) es
 at_specifier u es =
-    lookup_alike (λ k. is_eq (slice_cmp nat_cmp (serialize u) (serialize k))) (is_specifier u) es (λ k. sym (texts_ties (serialize u) (serialize k)))
+    lookup_alike (λ k. is_eq (slice_cmp nat_cmp (serialize u) (serialize k))) (is_specifier u) es
+    (λ k. sym (texts_ties (serialize u) (serialize k)))
 
 pub at_text : {X : Type 0} (text : List ℕ) (es : List (String Global × X))
     → lookup (λ k. is_eq (slice_cmp nat_cmp text (string_bytes k))) es ≡ lookup (λ k. bytes_eq text (string_bytes k)) es

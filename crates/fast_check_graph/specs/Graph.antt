@@ -31,16 +31,19 @@ text_resolved text texts = lookup (λ k. bytes_eq text (string_bytes k)) texts.e
 
 -- what a text in a module resolves to
 abbrev pub resolved_to : ModuleGraph → List ℕ → Parts → Option Parts
-resolved_to g text referrer = option_and_then (text_resolved text) (lookup (is_specifier referrer) g.resolutions.entries)
+resolved_to g text referrer = option_and_then (text_resolved text)
+    (lookup (is_specifier referrer) g.resolutions.entries)
 
 -- the export texts of a package by their export names
 abbrev pub exports_of : ModuleGraph → Nv → Option (List (String Global × String Global))
 exports_of g nv = option_map (λ m. m.entries) (lookup (is_package nv) g.packages.entries)
 
 -- what is found in a graph is what was handed in
-pub record IsGraphOf {S : Type 0} (modules : BTreeMap Parts Module) (resolutions : BTreeMap Parts (BTreeMap (String Global) Parts))
+pub record IsGraphOf {S : Type 0} (modules : BTreeMap Parts Module)
+    (resolutions : BTreeMap Parts (BTreeMap (String Global) Parts))
     (packages : BTreeMap PackageNv (IndexMap (String Global) (String Global) S)) (g : ModuleGraph) : Type 0 where
   pub has_modules : (specifier : Parts) → module_at g specifier ≡ lookup (is_specifier specifier) modules.entries
   pub resolves : (text : List ℕ) (referrer : Parts)
-      → resolved_to g text referrer ≡ option_and_then (text_resolved text) (lookup (is_specifier referrer) resolutions.entries)
+      → resolved_to g text referrer ≡ option_and_then (text_resolved text)
+      (lookup (is_specifier referrer) resolutions.entries)
   pub has_packages : (nv : Nv) → exports_of g nv ≡ option_map (λ m. m.entries) (lookup (is_package nv) packages.entries)

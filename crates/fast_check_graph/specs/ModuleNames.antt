@@ -6,7 +6,8 @@ use Rattle.std.specs.Option.{option_and_then, option_or}
 use Rattle.std.specs.BTreeMap.{BTreeMap}
 use Rattle.url.specs.Parts.{Parts}
 use Rattle.fast_check_modules.specs.symbols.declared.fault.TableFault.{TableFault}
-use Rattle.fast_check_modules.specs.symbols.declared.fault.TableFault.TheVariants.{MissingSymbol, SymbolWithoutDecl, ModuleNotUnderOwnName}
+use Rattle.fast_check_modules.specs.symbols.declared.fault.TableFault.TheVariants.{MissingSymbol, SymbolWithoutDecl}
+use Rattle.fast_check_modules.specs.symbols.declared.fault.TableFault.TheVariants.{ModuleNotUnderOwnName}
 use Rattle.fast_check_modules.specs.symbols.declared.fault.TableFault.TheVariants.{ExpandoWithoutSymbol, OutOfMemory}
 use Rattle.fast_check_graph.specs.declared.root_symbol.ModuleInfo.{ModuleInfo}
 use Rattle.fast_check_graph.specs.declared.root_symbol.ModuleInfo.TheVariants.{Esm, Json}

@@ -3,9 +3,10 @@ use Rattle.std.proofs.Common.{◌≡◌}
 use Rattle.fast_check_syntax.specs.declared.kind.Word.{Word}
 use Rattle.fast_check_syntax.specs.declared.tree.Tree.{Tree}
 use Rattle.fast_check_syntax.specs.Moves.{Moves, Keeps, moved}
-use Rattle.fast_check_syntax.proofs.Moved.{node_moved, absent_moved, flag_moved, word_moved, text_moved, context_moved, range_moved, none_moved}
-use Rattle.fast_check_helpers.specs.Builders.{ts_keyword_type, ts_lit_type, type_ann, regex_type, never_value, any_type_ann, ts_readonly, ts_tuple_element}
-use Rattle.fast_check_helpers.specs.Builders.{unique_symbol}
+use Rattle.fast_check_syntax.proofs.Moved.{node_moved, absent_moved, flag_moved, word_moved, text_moved, context_moved, range_moved}
+use Rattle.fast_check_syntax.proofs.Moved.{none_moved}
+use Rattle.fast_check_helpers.specs.Builders.{ts_keyword_type, ts_lit_type, type_ann, regex_type, never_value, any_type_ann, ts_readonly}
+use Rattle.fast_check_helpers.specs.Builders.{ts_tuple_element, unique_symbol}
 
 module _ (m : Moves) (ok : Keeps m) where
   pub ts_keyword_type_moved : (w : Word) → moved m (ts_keyword_type w) ≡ ts_keyword_type w
@@ -30,7 +31,8 @@ module _ (m : Moves) (ok : Keeps m) where
   regex_type_moved = simp (node_moved, range_moved, none_moved m ok, absent_moved, flag_moved, text_moved, context_moved, ok.scope_zero)
 
   pub unique_symbol_moved : moved m unique_symbol ≡ unique_symbol
-  unique_symbol_moved = simp (node_moved, range_moved, none_moved m ok, absent_moved, flag_moved, text_moved, context_moved, word_moved, ok.scope_zero)
+  unique_symbol_moved =
+      simp (node_moved, range_moved, none_moved m ok, absent_moved, flag_moved, text_moved, context_moved, word_moved, ok.scope_zero)
 
   pub never_value_moved : moved m never_value ≡ never_value
   never_value_moved = simp (node_moved, range_moved, none_moved m ok, word_moved)

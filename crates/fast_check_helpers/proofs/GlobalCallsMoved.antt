@@ -1,6 +1,6 @@
 -- A call of a global function stays one when its scopes are moved, those of the unresolved with them.
-use Rattle.std.proofs.Common.{◌≡◌, ℕ, Bool, true, false, ◌==◌, ◌&&◌, ◌||◌, Some, None, List, [], ◌∷◌, map, refl, ap, ap₂, ◌∙◌, sym, true≢false, eqb-true}
-use Rattle.std.proofs.Common.{eq-eqb}
+use Rattle.std.proofs.Common.{◌≡◌, ℕ, Bool, true, false, ◌==◌, ◌&&◌, ◌||◌, Some, None, List, [], ◌∷◌, map, refl, ap, ap₂, ◌∙◌, sym}
+use Rattle.std.proofs.Common.{true≢false, eqb-true, eq-eqb}
 use Rattle.std.specs.Prelude.{codes, if◌then◌else◌}
 use Rattle.std.specs.Option.{option_map}
 use Rattle.std.specs.Str.{bytes_eq}
@@ -17,8 +17,8 @@ use Rattle.fast_check_expression_forms.specs.Expressions.{ExprOrSpread-expr, Exp
 use Rattle.fast_check_program_forms.specs.Names.{Ident-ctxt}
 use Rattle.fast_check_helpers.specs.Places.{at-ExprOrSpread-expr, at-ExprOrSpread-spread, at-MemberExpr-obj, at-MemberExpr-prop}
 use Rattle.fast_check_helpers.specs.Places.{at-Ident-ctxt, at-Ident-sym, at-IdentName-sym}
-use Rattle.fast_check_helpers.specs.GlobalCalls.{is_global, is_plain_name, is_global_member, sole_argument, object_freeze_call_arg, is_symbol_description}
-use Rattle.fast_check_helpers.specs.GlobalCalls.{is_symbol_call}
+use Rattle.fast_check_helpers.specs.GlobalCalls.{is_global, is_plain_name, is_global_member, sole_argument, object_freeze_call_arg}
+use Rattle.fast_check_helpers.specs.GlobalCalls.{is_symbol_description, is_symbol_call}
 
 -- the scope number of the unresolved, moved
 abbrev pub moved_scope : Moves → SyntaxContext → SyntaxContext
@@ -62,12 +62,14 @@ module _ (m : Moves) (ok : Keeps m) where
       is_global_member object name (moved_scope m u) (moved m t) ≡ is_global_member object name u t
   is_global_member_moved object name u t =
       ap₂ (λ k b. (k is MemberExpr) && b) (kind_of_moved m t)
-      (ap₂ ◌&&◌ (ap (is_global object (moved_scope m u)) (part_moved m at-MemberExpr-obj.place t) ∙ is_global_moved object u (MemberExpr-obj t))
+      (ap₂ ◌&&◌
+      (ap (is_global object (moved_scope m u)) (part_moved m at-MemberExpr-obj.place t) ∙ is_global_moved object u (MemberExpr-obj t))
       (ap (is_plain_name name) (part_moved m at-MemberExpr-prop.place t) ∙ is_plain_name_moved name (MemberExpr-prop t)))
 
   description_moved : (ts : List Tree) → is_symbol_description (map (moved m) ts) ≡ is_symbol_description ts
   description_moved [] = refl
-  description_moved (t ∷ []) = ap (λ k. k is Str) (ap kind_of (part_moved m at-ExprOrSpread-expr.place t) ∙ kind_of_moved m (ExprOrSpread-expr t))
+  description_moved (t ∷ []) =
+      ap (λ k. k is Str) (ap kind_of (part_moved m at-ExprOrSpread-expr.place t) ∙ kind_of_moved m (ExprOrSpread-expr t))
   description_moved (t ∷ u ∷ us) = refl
 
   pub is_symbol_call_moved : (u : SyntaxContext) (callee args : Tree) →
@@ -96,6 +98,7 @@ module _ (m : Moves) (ok : Keeps m) where
       ∙ go (is_global_member (codes "Object") (codes "freeze") u callee)
     where
       go : (b : Bool) →
-          (if b then option_map (moved m) (sole_argument (parts args)) else None) ≡ option_map (moved m) (if b then sole_argument (parts args) else None)
+          (if b then option_map (moved m) (sole_argument (parts args)) else None) ≡ option_map (moved m)
+          (if b then sole_argument (parts args) else None)
       go true = refl
       go false = refl

@@ -10,13 +10,14 @@ use Rattle.fast_check_syntax.specs.declared.source.SyntaxContext.{SyntaxContext}
 use Rattle.fast_check_syntax.specs.declared.tree.Tree.{Tree, Absent}
 use Rattle.fast_check_syntax.specs.Shape.{kind_of, none_range, parts, text_of, is_absent}
 use Rattle.fast_check_syntax.specs.Moves.{Moves, Keeps, moved}
-use Rattle.fast_check_syntax.proofs.Moved.{node_moved, range_moved, text_moved, absent_moved, none_moved, kind_of_moved, part_moved, parts_moved}
-use Rattle.fast_check_syntax.proofs.Moved.{is_absent_moved, text_of_moved}
+use Rattle.fast_check_syntax.proofs.Moved.{node_moved, range_moved, text_moved, absent_moved, none_moved, kind_of_moved, part_moved}
+use Rattle.fast_check_syntax.proofs.Moved.{parts_moved, is_absent_moved, text_of_moved}
 use Rattle.fast_check_program_forms.specs.Literals.{str}
 use Rattle.fast_check_expression_forms.specs.Templates.{Tpl-exprs}
 use Rattle.fast_check_expression_forms.specs.Assertions.{TsAsExpr-type_ann, TsTypeAssertion-type_ann}
 use Rattle.fast_check_expression_forms.specs.Calls.{CallExpr-args, CallExpr-callee}
-use Rattle.fast_check_helpers.specs.Places.{at-CallExpr-args, at-CallExpr-callee, at-Tpl-exprs, at-TsAsExpr-type_ann, at-TsTypeAssertion-type_ann}
+use Rattle.fast_check_helpers.specs.Places.{at-CallExpr-args, at-CallExpr-callee, at-Tpl-exprs, at-TsAsExpr-type_ann}
+use Rattle.fast_check_helpers.specs.Places.{at-TsTypeAssertion-type_ann}
 use Rattle.fast_check_helpers.specs.declared.literal_type.DeclMutabilityKind.{DeclMutabilityKind}
 use Rattle.fast_check_helpers.specs.declared.literal_type.DeclMutabilityKind.TheVariants.{Const, Mutable}
 use Rattle.fast_check_helpers.specs.Builders.{unique_symbol}
@@ -76,7 +77,8 @@ module _ (m : Moves) (ok : Keeps m) where
   cooked_text_moved : (t : Tree) → cooked_text (moved m t) ≡ moved m (cooked_text t)
   cooked_text_moved t = simp (part_moved)
 
-  pub type_of_template_moved : (mutability : DeclMutabilityKind) (t : Tree) → type_of_template mutability (moved m t) ≡ moved m (type_of_template mutability t)
+  pub type_of_template_moved : (mutability : DeclMutabilityKind) (t : Tree) →
+      type_of_template mutability (moved m t) ≡ moved m (type_of_template mutability t)
   type_of_template_moved Const t =
       ap text_or_string (ap₂ text_without (ap parts (part_moved m at-Tpl-exprs.place t) ∙ parts_moved m (Tpl-exprs t)) (cooked_text_moved t)
       ∙ text_without_moved (parts (Tpl-exprs t)) (cooked_text t))
@@ -84,7 +86,8 @@ module _ (m : Moves) (ok : Keeps m) where
   type_of_template_moved Mutable t = sym (ts_keyword_type_moved m ok words.TsStringKeyword)
 
   pub asserted_type_moved : (t : Tree) → asserted_type (moved m t) ≡ option_map (moved m) (asserted_type t)
-  asserted_type_moved t = ap (λ b. if b then Some (moved m t) else None) (is_simple_type_moved m t) ∙ chosen m (is_simple_type t) _ _ _ _ refl refl
+  asserted_type_moved t = ap (λ b. if b then Some (moved m t) else None) (is_simple_type_moved m t) ∙
+      chosen m (is_simple_type t) _ _ _ _ refl refl
 
   pub symbol_type_moved : (u : SyntaxContext) (callee args : Tree) →
       symbol_type (moved_scope m u) (moved m callee) (moved m args) ≡ option_map (moved m) (symbol_type u callee args)
@@ -108,10 +111,12 @@ module _ (m : Moves) (ok : Keeps m) where
     by_kind_moved kinds.TsSatisfiesExpr t inside = refl
     by_kind_moved _ t inside = type_of_literal_moved mutability t
 
-    pub inferred_type_moved : (t : Tree) → inferred_type mutability (moved_scope m u) (moved m t) ≡ option_map (moved m) (inferred_type mutability u t)
+    pub inferred_type_moved : (t : Tree) → inferred_type mutability (moved_scope m u) (moved m t) ≡ option_map (moved m)
+        (inferred_type mutability u t)
     inferred_type_moved = moved_along m (option_map (moved m)) (inferred_type mutability (moved_scope m u)) (inferred_type mutability u)
         (inferred_form mutability (moved_scope m u)) (inferred_form mutability u)
         (inferred_out mutability (moved_scope m u)) (inferred_out mutability u)
         (inferred_absent mutability (moved_scope m u) ∙ ap (option_map (moved m)) (sym (inferred_absent mutability u)))
-        (λ t inside each. ap (λ k. inferred_by_kind k mutability (moved_scope m u) (moved m t) (λ i. option_map (moved m) (inside i))) (kind_of_moved m t)
+        (λ t inside each. ap (λ k. inferred_by_kind k mutability (moved_scope m u) (moved m t) (λ i. option_map (moved m) (inside i)))
+        (kind_of_moved m t)
         ∙ by_kind_moved (kind_of t) t inside)

@@ -1,5 +1,6 @@
 -- The equation of `inferred_type`.
-use Rattle.std.proofs.Common.{◌≡◌, ℕ, Bool, true, false, Option, Some, None, map, refl, ap, is_some, if◌then◌else◌, ◌∙◌, sym, IsTrue, inl, inr}
+use Rattle.std.proofs.Common.{◌≡◌, ℕ, Bool, true, false, Option, Some, None, map, refl, ap, is_some, if◌then◌else◌, ◌∙◌, sym, IsTrue, inl}
+use Rattle.std.proofs.Common.{inr}
 use Rattle.std.specs.Prelude.{Result, IfOk, unwrap_or}
 use Rattle.std.specs.Option.{option_map}
 use Rattle.std.proofs.lemmas.Result.{IfOk-weaker}
@@ -14,7 +15,8 @@ use Rattle.fast_check_helpers.specs.declared.literal_type.DeclMutabilityKind.{De
 use Rattle.fast_check_helpers.specs.declared.literal_type.DeclMutabilityKind.TheVariants.{Mutable}
 use Rattle.fast_check_helpers.specs.SimpleType.{is_simple_type}
 use Rattle.fast_check_helpers.specs.LiteralType.{literal_by_kind, type_of_literal}
-use Rattle.fast_check_helpers.specs.InferredType.{value_in, inferred_type, shows_type, inferred_by_kind, inferred_form, asserted_type, Asserts}
+use Rattle.fast_check_helpers.specs.InferredType.{value_in, inferred_type, shows_type, inferred_by_kind, inferred_form, asserted_type}
+use Rattle.fast_check_helpers.specs.InferredType.{Asserts}
 use Rattle.fast_check_helpers.proofs.Levels.{by_form_out}
 
 pub inferred_absent : (m : DeclMutabilityKind) (u : SyntaxContext) → inferred_type m u Absent ≡ None
@@ -61,11 +63,14 @@ passes k i e leaf = cc (e ∙ ap value_in leaf)
 -- an assertion to a simple type shows it
 pub inferred_asserted : (m : DeclMutabilityKind) (u : SyntaxContext) (t type : Tree) → Asserts type t → IsTrue (is_simple_type type) →
     inferred_type m u t ≡ Some type
-inferred_asserted m u t type (inl (k, e)) s = inferred_at m u t TsAsExpr k ∙ (ap asserted_type e ∙ ap (λ b. if b then Some type else None) s)
-inferred_asserted m u t type (inr (k, e)) s = inferred_at m u t TsTypeAssertion k ∙ (ap asserted_type e ∙ ap (λ b. if b then Some type else None) s)
+inferred_asserted m u t type (inl (k, e)) s = inferred_at m u t TsAsExpr k ∙
+    (ap asserted_type e ∙ ap (λ b. if b then Some type else None) s)
+inferred_asserted m u t type (inr (k, e)) s = inferred_at m u t TsTypeAssertion k ∙
+    (ap asserted_type e ∙ ap (λ b. if b then Some type else None) s)
 
 pub asserted_result : (m : DeclMutabilityKind) (u : SyntaxContext) (t : Tree) {E : Type 0} (r : Result (Option Tree) E) →
-    IfOk r (λ found. found ≡ inferred_type m u t) → (type : Tree) → Asserts type t → IsTrue (is_simple_type type) → IfOk r (λ found. found ≡ Some type)
+    IfOk r (λ found. found ≡ inferred_type m u t) → (type : Tree) → Asserts type t → IsTrue (is_simple_type type) →
+    IfOk r (λ found. found ≡ Some type)
 asserted_result m u t r h type a s = IfOk-weaker r _ _ (λ found e. e ∙ inferred_asserted m u t type a s) h
 
 -- whether a type is shown

@@ -6,7 +6,8 @@ use Rattle.fast_check_syntax.specs.declared.tree.Tree.{Tree}
 use Rattle.fast_check_helpers.specs.declared.literal_type.DeclMutabilityKind.{DeclMutabilityKind}
 use Rattle.fast_check_helpers.specs.LiteralType.{literal_by_kind}
 
-pub no_literal : (k : Kind) (mutability : DeclMutabilityKind) (t : Tree) → (k ≡ kinds.Str → ⊥) → (k ≡ kinds.Bool → ⊥) → (k ≡ kinds.Number → ⊥) →
+pub no_literal : (k : Kind) (mutability : DeclMutabilityKind) (t : Tree) → (k ≡ kinds.Str → ⊥) → (k ≡ kinds.Bool → ⊥) →
+    (k ≡ kinds.Number → ⊥) →
     (k ≡ kinds.BigInt → ⊥) → (k ≡ kinds.Null → ⊥) → (k ≡ kinds.Regex → ⊥) → None ≡ literal_by_kind k mutability t
 no_literal kinds.Str m t a b c d e f = absurd (a refl)
 no_literal kinds.Bool m t a b c d e f = absurd (b refl)

@@ -31,7 +31,8 @@ lower_than t i m n p = rw p (omega (arith, m, height_part t i n))
 pub lower_list : (t : Tree) {n : ℕ} → 2 * height t + 1 ≡ n → 2 * height t < n
 lower_list t m = omega (arith, m)
 
-pub lower_item : (t : Tree) (items : List Tree) (i : ℕ) (item : Tree) {u : Tree} {n : ℕ} → 2 * height t ≡ n → items ≡ parts t → i < length items →
+pub lower_item : (t : Tree) (items : List Tree) (i : ℕ) (item : Tree) {u : Tree} {n : ℕ} → 2 * height t ≡ n → items ≡ parts t →
+    i < length items →
     item ≡ get_or items i item → u ≡ item → 2 * height u + 1 < n
 lower_item t items i item {u} {n} m are below at same = omega (arith, m, lower_read)
   where

@@ -13,8 +13,8 @@ use Rattle.fast_check_statement_forms.specs.Statements.{ReturnStmt-arg, BlockStm
 use Rattle.fast_check_helpers.specs.Places.{at-BlockStmt-stmts}
 use Rattle.fast_check_helpers.specs.declared.literal_type.DeclMutabilityKind.TheVariants.{Mutable}
 use Rattle.fast_check_helpers.specs.LiteralType.{type_of_literal}
-use Rattle.fast_check_helpers.specs.NamedBodies.{return_arg, returns_nowhere, is_empty, arg_of_last, single_return_arg, names_by_kind, names_form, names_type}
-use Rattle.fast_check_helpers.specs.NamedBodies.{named_by, named_return}
+use Rattle.fast_check_helpers.specs.NamedBodies.{return_arg, returns_nowhere, is_empty, arg_of_last, single_return_arg, names_by_kind}
+use Rattle.fast_check_helpers.specs.NamedBodies.{names_form, names_type, named_by, named_return}
 use Rattle.fast_check_helpers.proofs.GlobalCallsMoved.{moved_scope}
 use Rattle.fast_check_helpers.proofs.InferredMoved.{chosen, type_of_literal_moved, inferred_type_moved}
 use Rattle.fast_check_helpers.proofs.Levels.{moved_stays}
@@ -60,7 +60,8 @@ module _ (m : Moves) (ok : Keeps m) where
 
   pub single_return_arg_moved : (t : Tree) → single_return_arg (moved m t) ≡ option_map (moved m) (single_return_arg t)
   single_return_arg_moved t =
-      ap arg_of_last (ap parts (part_moved m at-BlockStmt-stmts.place t) ∙ parts_moved m (BlockStmt-stmts t)) ∙ arg_of_last_moved (parts (BlockStmt-stmts t))
+      ap arg_of_last (ap parts (part_moved m at-BlockStmt-stmts.place t) ∙ parts_moved m (BlockStmt-stmts t)) ∙
+      arg_of_last_moved (parts (BlockStmt-stmts t))
 
   named_by_moved : (u : SyntaxContext) (arg : Option Tree) →
       named_by (moved_scope m u) (option_map (moved m) arg) ≡ option_map (moved m) (named_by u arg)

@@ -1,5 +1,6 @@
 -- The equation of `returns`, and what return statements make of a class.
-use Rattle.std.proofs.Common.{◌≡◌, ℕ, ◌+◌, ◌<◌, ◌≤◌, Bool, true, false, List, [], ◌∷◌, map, length, get_or, take, refl, ap, arith, subst, ◌∙◌, sym}
+use Rattle.std.proofs.Common.{◌≡◌, ℕ, ◌+◌, ◌<◌, ◌≤◌, Bool, true, false, List, [], ◌∷◌, map, length, get_or, take, refl, ap, arith, subst}
+use Rattle.std.proofs.Common.{◌∙◌, sym}
 use Rattle.std.proofs.lemmas.List.{take_more, take_all, flat_map_more}
 use Rattle.std.specs.List.{fold, flat_map}
 use Rattle.std.proofs.lemmas.List.Sums.{fold-append}
@@ -38,7 +39,8 @@ pub returns_fields : (t : Tree) (k : Kind) → kind_of t ≡ k → (k ≡ kinds.
     returns t ≡ flat_map (λ i. returns (part i t)) (entered (kind_of t))
 returns_fields t k e n l =
     returns_at t k e
-    ∙ (by_fields k t (λ i. returns (part i t)) (map returns (parts t)) n l ∙ ap (λ k. flat_map (λ i. returns (part i t)) (entered k)) (sym e))
+    ∙ (by_fields k t (λ i. returns (part i t)) (map returns (parts t)) n l ∙
+    ap (λ k. flat_map (λ i. returns (part i t)) (entered k)) (sym e))
 
 -- no leaf has such a field
 pub enters : (t : Tree) {fields : List ℕ} {i : ℕ} → fields ≡ entered (kind_of t) → i < length fields → kind_of t ≡ kinds.Leaf → ⊥
@@ -48,7 +50,8 @@ enters t {fields} {i} are below leaf =
 -- the class after the first of a list: one more of them, and all of them
 module _ {X : Type 0} (given : X → List Bool) (a : ReturnStatementAnalysis) (items : List X) (i : ℕ) {b : ReturnStatementAnalysis}
     (before : b ≡ fold after_return a (flat_map given (take i items))) where
-  pub each_more : (d : X) {item : X} {c : ReturnStatementAnalysis} → i < length items → item ≡ get_or items i d → c ≡ fold after_return b (given item) →
+  pub each_more : (d : X) {item : X} {c : ReturnStatementAnalysis} → i < length items → item ≡ get_or items i d →
+      c ≡ fold after_return b (given item) →
       c ≡ fold after_return a (flat_map given (take (i + 1) items))
   each_more d below at next =
       let earlier = take i items in

@@ -16,7 +16,8 @@ pub simple_out : (t : Tree) → is_simple_type t ≡ simple_form t (λ i. is_sim
 unfolding is_simple_type
 simple_out = by_form_out false simple_form (λ t inside each e. ap (λ k. simple_by_kind k t inside each) e)
 
-pub simple_at : (t : Tree) (k : Kind) → kind_of t ≡ k → is_simple_type t ≡ simple_by_kind k t (λ i. is_simple_type (part i t)) (map is_simple_type (parts t))
+pub simple_at : (t : Tree) (k : Kind) → kind_of t ≡ k → is_simple_type t ≡ simple_by_kind k t (λ i. is_simple_type (part i t))
+    (map is_simple_type (parts t))
 simple_at t k e = simple_out t ∙ ap (λ k. simple_by_kind k t (λ i. is_simple_type (part i t)) (map is_simple_type (parts t))) e
 
 pub simple_each : (t : Tree) → kind_of t ≡ kinds.List → is_simple_type t ≡ list_all is_simple_type (parts t)
@@ -54,13 +55,15 @@ pub holds : (k : Kind) (i : ℕ) → Some i ≡ types_in k → k ≡ kinds.Leaf 
 holds k i e leaf = cc (e ∙ ap types_in leaf)
 
 -- the first items of a list are simple: one that is not, one more that is, and all of them
-pub one_fails : (items all : List Tree) (i : ℕ) (item : Tree) {u : Tree} {b : Bool} → items ≡ all → i < length items → item ≡ get_or items i item → u ≡ item →
+pub one_fails : (items all : List Tree) (i : ℕ) (item : Tree) {u : Tree} {b : Bool} → items ≡ all → i < length items →
+    item ≡ get_or items i item → u ≡ item →
     b ≡ is_simple_type u → b ≡ false → false ≡ list_all is_simple_type all
 one_fails items all i item are below at same test fails =
     sym (subst (λ ts. list_all is_simple_type ts ≡ false) are
     (list_all_at is_simple_type items i item below (ap is_simple_type (sym (same ∙ at)) ∙ (sym test ∙ fails))))
 
-pub one_passes : (items : List Tree) (i : ℕ) (item : Tree) {u : Tree} {b : Bool} → i < length items → item ≡ get_or items i item → u ≡ item →
+pub one_passes : (items : List Tree) (i : ℕ) (item : Tree) {u : Tree} {b : Bool} → i < length items → item ≡ get_or items i item →
+    u ≡ item →
     list_all is_simple_type (take i items) ≡ true → b ≡ is_simple_type u → b ≡ true → list_all is_simple_type (take (i + 1) items) ≡ true
 one_passes items i item below at same before test passes =
     list_all_more is_simple_type items i item below

@@ -1,8 +1,10 @@
--- New nodes, which no text stands for: their range is that of no text, their scope number 0, their options empty and their flags false.
+-- New nodes, which no text stands for: their range is that of no text, their scope number 0, their options empty and
+-- their flags false.
 use Rattle.std.specs.Prelude.{ℕ, Bool, false, ◌&&◌, List, [], codes}
 use Rattle.fast_check_syntax.specs.declared.kind.Word.{Word}
 use Rattle.fast_check_syntax.specs.declared.kind.Kind.TheVariants.{TsKeywordType}
-use Rattle.fast_check_syntax.specs.declared.kind.Word.TheVariants.{TsAnyKeyword, TsNeverKeyword, TsVoidKeyword, ReadOnly, Unique}
+use Rattle.fast_check_syntax.specs.declared.kind.Word.TheVariants.{TsAnyKeyword, TsNeverKeyword, TsVoidKeyword}
+use Rattle.fast_check_syntax.specs.declared.kind.Word.TheVariants.{ReadOnly, Unique}
 use Rattle.fast_check_syntax.specs.declared.tree.Tree as tree
 use Rattle.fast_check_syntax.specs.declared.tree.Tree.{Tree, Absent}
 use Rattle.fast_check_syntax.specs.Shape.{◌is◌, kind_of, has_word, none_range, list}
@@ -34,7 +36,8 @@ type_ref name = types.ts_type_ref none_range (new_ident name) Absent
 -- the node of such a reference
 abbrev pub ident_type_ref : IdentTypeRef → Tree
 ident_type_ref ref =
-    types.ts_type_ref ref.span (ident ref.type_name.span ref.type_name.ctxt ref.type_name.sym ref.type_name.optional) Absent
+    types.ts_type_ref ref.span
+    (ident ref.type_name.span ref.type_name.ctxt ref.type_name.sym ref.type_name.optional) Absent
 
 -- the type of regular expressions
 abbrev pub regex_type : Tree

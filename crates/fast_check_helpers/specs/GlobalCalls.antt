@@ -1,5 +1,7 @@
--- Calls of what TypeScript declares for all modules. A name that nothing in the module binds has the scope number of the unresolved.
-use Rattle.std.specs.Prelude.{ℕ, Bool, true, false, ◌==◌, ◌&&◌, ◌||◌, Option, Some, None, List, [], ◌∷◌, if◌then◌else◌, codes}
+-- Calls of what TypeScript declares for all modules. A name that nothing in the module binds has the scope number of
+-- the unresolved.
+use Rattle.std.specs.Prelude.{ℕ, Bool, true, false, ◌==◌, ◌&&◌, ◌||◌, Option, Some, None, List, [], ◌∷◌, if◌then◌else◌}
+use Rattle.std.specs.Prelude.{codes}
 use Rattle.std.specs.Str.{bytes_eq}
 use Rattle.fast_check_syntax.specs.declared.kind.Kind.TheVariants.{Ident, IdentName, MemberExpr, Str}
 use Rattle.fast_check_syntax.specs.declared.part.Part.{Part}
@@ -13,7 +15,8 @@ use Rattle.fast_check_expression_forms.specs.declared.expressions.ExprOrSpread.{
 
 -- an identifier of this name that nothing in the module binds
 abbrev pub is_global : List ℕ → SyntaxContext → Tree → Bool
-is_global name unresolved expr = (kind_of expr is Ident) && (bytes_eq (Ident-sym expr) name && ((Ident-ctxt expr).0 == unresolved.0))
+is_global name unresolved expr = (kind_of expr is Ident) &&
+    (bytes_eq (Ident-sym expr) name && ((Ident-ctxt expr).0 == unresolved.0))
 
 -- `.name` of a member
 abbrev pub is_plain_name : List ℕ → Tree → Bool
@@ -22,7 +25,8 @@ is_plain_name name prop = (kind_of prop is IdentName) && bytes_eq (IdentName-sym
 -- `object.name`, the object global
 abbrev pub is_global_member : List ℕ → List ℕ → SyntaxContext → Tree → Bool
 is_global_member object name unresolved expr =
-    (kind_of expr is MemberExpr) && (is_global object unresolved (MemberExpr-obj expr) && is_plain_name name (MemberExpr-prop expr))
+    (kind_of expr is MemberExpr) &&
+    (is_global object unresolved (MemberExpr-obj expr) && is_plain_name name (MemberExpr-prop expr))
 
 -- the argument, where there is exactly one and it is no spread
 abbrev pub sole_argument : List Tree → Option Tree

@@ -33,20 +33,23 @@ value_in kinds.ParenExpr = Some at-ParenExpr-expr.place
 value_in kinds.TsSatisfiesExpr = Some at-TsSatisfiesExpr-expr.place
 value_in _ = None
 
--- Of `value as type` and `<type>value` it is the type, if that is simple; of a call that makes a symbol `unique symbol`;
--- of a template and of a literal their type; of `(value)` and `value satisfies type` that of the value, which `inside` gives
--- of the part at a place. No other value shows its type.
+-- Of `value as type` and `<type>value` it is the type, if that is simple; of a call that makes a symbol `unique
+-- symbol`; of a template and of a literal their type; of `(value)` and `value satisfies type` that of the value, which
+-- `inside` gives of the part at a place. No other value shows its type.
 abbrev pub inferred_by_kind : Kind → DeclMutabilityKind → SyntaxContext → Tree → (ℕ → Option Tree) → Option Tree
 inferred_by_kind kinds.TsAsExpr mutability unresolved value inside = asserted_type (TsAsExpr-type_ann value)
-inferred_by_kind kinds.TsTypeAssertion mutability unresolved value inside = asserted_type (TsTypeAssertion-type_ann value)
+inferred_by_kind kinds.TsTypeAssertion mutability unresolved value inside =
+    asserted_type (TsTypeAssertion-type_ann value)
 inferred_by_kind kinds.CallExpr mutability unresolved value inside =
     symbol_type unresolved (CallExpr-callee value) (CallExpr-args value)
 inferred_by_kind kinds.Tpl mutability unresolved value inside = Some (type_of_template mutability value)
 inferred_by_kind kind mutability unresolved value inside =
     unwrap_or (option_map inside (value_in kind)) (type_of_literal mutability value)
 
-abbrev pub inferred_form : DeclMutabilityKind → SyntaxContext → Tree → (ℕ → Option Tree) → List (Option Tree) → Option Tree
-inferred_form mutability unresolved value inside each = inferred_by_kind (kind_of value) mutability unresolved value inside
+abbrev pub inferred_form : DeclMutabilityKind → SyntaxContext → Tree → (ℕ → Option Tree) → List (Option Tree) →
+    Option Tree
+inferred_form mutability unresolved value inside each =
+    inferred_by_kind (kind_of value) mutability unresolved value inside
 
 unfoldable pub inferred_type : DeclMutabilityKind → SyntaxContext → Tree → Option Tree
 inferred_type mutability unresolved = by_form None (inferred_form mutability unresolved)
@@ -58,4 +61,5 @@ shows_type unresolved value = is_some (inferred_type Mutable unresolved value)
 -- the value is `value as type`, or `<type>value`
 abbrev pub Asserts : Tree → Tree → Type 0
 Asserts type value =
-    ((kind_of value ≡ TsAsExpr) × (TsAsExpr-type_ann value ≡ type)) ⊎ ((kind_of value ≡ TsTypeAssertion) × (TsTypeAssertion-type_ann value ≡ type))
+    ((kind_of value ≡ TsAsExpr) × (TsAsExpr-type_ann value ≡ type)) ⊎
+    ((kind_of value ≡ TsTypeAssertion) × (TsTypeAssertion-type_ann value ≡ type))

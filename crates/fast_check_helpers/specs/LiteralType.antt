@@ -3,7 +3,8 @@ use Rattle.std.specs.Prelude.{Option, Some, None}
 use Rattle.fast_check_syntax.specs.declared.kind.Kind.{Kind}
 use Rattle.fast_check_syntax.specs.declared.kind.Kind.TheVariants as kinds
 use Rattle.fast_check_syntax.specs.declared.kind.Word.{Word}
-use Rattle.fast_check_syntax.specs.declared.kind.Word.TheVariants.{TsStringKeyword, TsBooleanKeyword, TsNumberKeyword, TsBigIntKeyword, TsNullKeyword}
+use Rattle.fast_check_syntax.specs.declared.kind.Word.TheVariants.{TsStringKeyword, TsBooleanKeyword, TsNumberKeyword}
+use Rattle.fast_check_syntax.specs.declared.kind.Word.TheVariants.{TsBigIntKeyword, TsNullKeyword}
 use Rattle.fast_check_syntax.specs.declared.tree.Tree.{Tree}
 use Rattle.fast_check_syntax.specs.Shape.{kind_of}
 use Rattle.fast_check_helpers.specs.declared.literal_type.DeclMutabilityKind.{DeclMutabilityKind}

@@ -1,5 +1,7 @@
--- Bodies that name their return type: the last statement returns a value that shows its type, and no other statement returns.
-use Rattle.std.specs.Prelude.{ℕ, Bool, true, false, is_some, Option, Some, None, List, [], ◌∷◌, if◌then◌else◌, unwrap_or}
+-- Bodies that name their return type: the last statement returns a value that shows its type, and no other statement
+-- returns.
+use Rattle.std.specs.Prelude.{ℕ, Bool, true, false, is_some, Option, Some, None, List, [], ◌∷◌, if◌then◌else◌}
+use Rattle.std.specs.Prelude.{unwrap_or}
 use Rattle.std.specs.Option.{option_map}
 use Rattle.fast_check_syntax.specs.declared.kind.Kind.{Kind}
 use Rattle.fast_check_syntax.specs.declared.kind.Kind.TheVariants.{ReturnStmt}
@@ -17,7 +19,8 @@ use Rattle.fast_check_helpers.specs.ReturnClass.{returns}
 -- the argument of a return statement that has one
 abbrev pub return_arg : Tree → Option Tree
 return_arg stmt =
-    if kind_of stmt is ReturnStmt then (if is_absent (ReturnStmt-arg stmt) then None else Some (ReturnStmt-arg stmt)) else None
+    if kind_of stmt is ReturnStmt then
+    (if is_absent (ReturnStmt-arg stmt) then None else Some (ReturnStmt-arg stmt)) else None
 
 abbrev pub is_empty : List Bool → Bool
 is_empty [] = true
@@ -43,7 +46,8 @@ abbrev pub names_by_kind : Kind → Tree → (ℕ → Bool) → Bool
 names_by_kind kinds.TsAsExpr value inside = true
 names_by_kind kinds.TsTypeAssertion value inside = true
 names_by_kind kinds.Tpl value inside = true
-names_by_kind kind value inside = unwrap_or (option_map inside (value_in kind)) (is_some (type_of_literal Mutable value))
+names_by_kind kind value inside = unwrap_or (option_map inside (value_in kind))
+    (is_some (type_of_literal Mutable value))
 
 abbrev pub names_form : Tree → (ℕ → Bool) → List Bool → Bool
 names_form value inside each = names_by_kind (kind_of value) value inside

@@ -1,7 +1,9 @@
 -- Parameters that a call may leave out.
-use Rattle.std.specs.Prelude.{◌≡◌, ℕ, ◌<◌, Bool, true, false, ◌||◌, leb, List, drop, length, if◌then◌else◌, Option, Some, None}
+use Rattle.std.specs.Prelude.{◌≡◌, ℕ, ◌<◌, Bool, true, false, ◌||◌, leb, List, drop, length, if◌then◌else◌, Option}
+use Rattle.std.specs.Prelude.{Some, None}
 use Rattle.std.specs.List.{list_all}
-use Rattle.fast_check_syntax.specs.declared.kind.Kind.TheVariants.{BindingIdent, ArrayPat, ObjectPat, AssignPat, RestPat}
+use Rattle.fast_check_syntax.specs.declared.kind.Kind.TheVariants.{BindingIdent, ArrayPat, ObjectPat, AssignPat}
+use Rattle.fast_check_syntax.specs.declared.kind.Kind.TheVariants.{RestPat}
 use Rattle.fast_check_syntax.specs.declared.tree.Tree.{Tree}
 use Rattle.fast_check_syntax.specs.Shape.{◌is◌, kind_of}
 use Rattle.fast_check_program_forms.specs.Names.{BindingIdent-id, Ident-optional}

@@ -2,19 +2,22 @@
 use Rattle.std.specs.Prelude.{◌≡◌, ℕ, refl}
 use Rattle.fast_check_syntax.specs.declared.tree.Tree.{Tree}
 use Rattle.fast_check_syntax.specs.Shape.{part, text_of, context_of}
-use Rattle.fast_check_expression_forms.specs.Assertions.{TsAsExpr-type_ann, TsSatisfiesExpr-expr, TsTypeAssertion-type_ann}
+use Rattle.fast_check_expression_forms.specs.Assertions.{TsAsExpr-type_ann, TsSatisfiesExpr-expr}
+use Rattle.fast_check_expression_forms.specs.Assertions.{TsTypeAssertion-type_ann}
 use Rattle.fast_check_expression_forms.specs.Calls.{CallExpr-args, CallExpr-callee, MemberExpr-obj, MemberExpr-prop}
 use Rattle.fast_check_expression_forms.specs.Expressions.{ExprOrSpread-expr, ExprOrSpread-spread, ParenExpr-expr}
 use Rattle.fast_check_expression_forms.specs.Templates.{Tpl-exprs}
 use Rattle.fast_check_program_forms.specs.Names.{Ident-ctxt, Ident-sym, IdentName-sym}
-use Rattle.fast_check_statement_forms.specs.Loops.{WhileStmt-body, DoWhileStmt-body, ForStmt-body, ForInStmt-body, ForOfStmt-body}
-use Rattle.fast_check_statement_forms.specs.Statements.{BlockStmt-stmts, WithStmt-body, LabeledStmt-body, IfStmt-cons, IfStmt-alt, SwitchStmt-cases}
-use Rattle.fast_check_statement_forms.specs.Statements.{SwitchCase-cons, TryStmt-block, TryStmt-handler, TryStmt-finalizer, CatchClause-body}
+use Rattle.fast_check_statement_forms.specs.Loops.{WhileStmt-body, DoWhileStmt-body, ForStmt-body, ForInStmt-body}
+use Rattle.fast_check_statement_forms.specs.Loops.{ForOfStmt-body}
+use Rattle.fast_check_statement_forms.specs.Statements.{BlockStmt-stmts, WithStmt-body, LabeledStmt-body, IfStmt-cons}
+use Rattle.fast_check_statement_forms.specs.Statements.{IfStmt-alt, SwitchStmt-cases, SwitchCase-cons, TryStmt-block}
+use Rattle.fast_check_statement_forms.specs.Statements.{TryStmt-handler, TryStmt-finalizer, CatchClause-body}
 use Rattle.fast_check_type_forms.specs.TypeOperators.{TsTypeOperator-type_ann}
 use Rattle.fast_check_type_forms.specs.TypeParams.{TsTypeParamInstantiation-params}
-use Rattle.fast_check_type_forms.specs.Types.{TsTypeRef-type_params, TsTupleType-elem_types, TsTupleElement-ty, TsArrayType-elem_type}
-use Rattle.fast_check_type_forms.specs.Types.{TsOptionalType-type_ann, TsRestType-type_ann, TsUnionType-types, TsIntersectionType-types}
-use Rattle.fast_check_type_forms.specs.Types.{TsParenthesizedType-type_ann}
+use Rattle.fast_check_type_forms.specs.Types.{TsTypeRef-type_params, TsTupleType-elem_types, TsTupleElement-ty}
+use Rattle.fast_check_type_forms.specs.Types.{TsArrayType-elem_type, TsOptionalType-type_ann, TsRestType-type_ann}
+use Rattle.fast_check_type_forms.specs.Types.{TsUnionType-types, TsIntersectionType-types, TsParenthesizedType-type_ann}
 
 -- the place of a field: the field is the part that stands there
 pub record PlaceOf (field : Tree → Tree) : Type 0 where

@@ -9,14 +9,15 @@ use Rattle.fast_check_syntax.specs.Recursion.{by_form}
 use Rattle.fast_check_statement_forms.specs.Statements.{ReturnStmt-arg, BlockStmt-stmts}
 use Rattle.fast_check_helpers.specs.Places.{at-BlockStmt-stmts, at-WithStmt-body, at-LabeledStmt-body, at-IfStmt-cons}
 use Rattle.fast_check_helpers.specs.Places.{at-IfStmt-alt, at-SwitchStmt-cases, at-SwitchCase-cons, at-TryStmt-block}
-use Rattle.fast_check_helpers.specs.Places.{at-TryStmt-handler, at-TryStmt-finalizer, at-CatchClause-body, at-WhileStmt-body}
-use Rattle.fast_check_helpers.specs.Places.{at-DoWhileStmt-body, at-ForStmt-body, at-ForInStmt-body, at-ForOfStmt-body}
+use Rattle.fast_check_helpers.specs.Places.{at-TryStmt-handler, at-TryStmt-finalizer, at-CatchClause-body}
+use Rattle.fast_check_helpers.specs.Places.{at-WhileStmt-body, at-DoWhileStmt-body, at-ForStmt-body, at-ForInStmt-body}
+use Rattle.fast_check_helpers.specs.Places.{at-ForOfStmt-body}
 use Rattle.fast_check_helpers.specs.declared.return_class.ReturnStatementAnalysis.{ReturnStatementAnalysis}
 use Rattle.fast_check_helpers.specs.declared.return_class.ReturnStatementAnalysis.TheVariants as class
 
 -- The fields of a statement in which further statements stand, by their places in text order. So return statements are
--- reached through blocks, `with`, labels, both branches of `if`, the cases of `switch`, the three parts of `try`, and loops.
--- Expressions and declarations, and with them nested functions, are not entered.
+-- reached through blocks, `with`, labels, both branches of `if`, the cases of `switch`, the three parts of `try`, and
+-- loops. Expressions and declarations, and with them nested functions, are not entered.
 abbrev pub entered : Kind → List ℕ
 entered kinds.BlockStmt = at-BlockStmt-stmts.place ∷ []
 entered kinds.WithStmt = at-WithStmt-body.place ∷ []

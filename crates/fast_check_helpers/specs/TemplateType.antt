@@ -10,7 +10,8 @@ use Rattle.fast_check_helpers.specs.declared.literal_type.DeclMutabilityKind.The
 use Rattle.fast_check_helpers.specs.Builders.{ts_keyword_type, ts_lit_type}
 use Rattle.fast_check_helpers.specs.Places.{at_first}
 
--- the text that the first part of a template stands for; an empty option where its escapes have no meaning, or there is no part
+-- the text that the first part of a template stands for; an empty option where its escapes have no meaning, or there is
+-- no part
 abbrev pub cooked_text : Tree → Tree
 cooked_text tpl = TplElement-cooked (part at_first (Tpl-quasis tpl))
 

@@ -1,5 +1,6 @@
 -- What is answered to imports and exports, case by case.
-use Rattle.std.specs.Prelude.{◌≡◌, ℕ, ◌+◌, ◌<◌, ◌≤◌, Bool, true, false, cond, Option, List, [], ◌∷◌, ◌++◌, length, take, refl, if◌then◌else◌}
+use Rattle.std.specs.Prelude.{◌≡◌, ℕ, ◌+◌, ◌<◌, ◌≤◌, Bool, true, false, cond, Option, List, [], ◌∷◌, ◌++◌, length, take, refl}
+use Rattle.std.specs.Prelude.{if◌then◌else◌}
 use Rattle.std.specs.List.{filter}
 use lib.ListN.{get_or}
 use Rattle.std.proofs.Common.{ap, ◌∙◌, sym, append-nil}
@@ -8,12 +9,13 @@ use Rattle.std.proofs.lemmas.List.Elements.{filter_more}
 use Rattle.fast_check_syntax.specs.declared.tree.Tree.{Tree}
 use Rattle.fast_check_syntax.specs.Shape.{is_absent, parts}
 use Rattle.fast_check_program_forms.specs.Literals.{Str-value}
-use Rattle.fast_check_program_forms.specs.ModuleDecls.{ImportDecl-specifiers, NamedExport-specifiers, ExportAll-span, TsImportEqualsDecl-span}
+use Rattle.fast_check_program_forms.specs.ModuleDecls.{ImportDecl-specifiers, NamedExport-specifiers, ExportAll-span}
+use Rattle.fast_check_program_forms.specs.ModuleDecls.{TsImportEqualsDecl-span}
 use Rattle.fast_check_signatures.specs.Answers.{faultless, answer_of}
 use Rattle.fast_check_signatures.specs.Seen.{Seen, written}
 use Rattle.fast_check_surroundings.specs.skeleton.declared.rules.LinkRule.TheVariants.{Import, Export, All, Alias}
-use Rattle.fast_check_surroundings.specs.skeleton.Links.{is_public_specifier, public_specifiers, source_of, answered_source, with_specifiers}
-use Rattle.fast_check_surroundings.specs.skeleton.Links.{import_with, export_with, all_exported}
+use Rattle.fast_check_surroundings.specs.skeleton.Links.{is_public_specifier, public_specifiers, source_of, answered_source}
+use Rattle.fast_check_surroundings.specs.skeleton.Links.{with_specifiers, import_with, export_with, all_exported}
 use Rattle.fast_check_surroundings.specs.skeleton.Surroundings.{Surroundings}
 use Rattle.fast_check_links.specs.Links.{link_answer}
 
@@ -26,7 +28,8 @@ module _ (around : Surroundings) (src : Tree) where
   pub own_source : is_absent src ≡ true → src ≡ answered_source around src
   own_source e = ap (λ b. source_if b (around.relative (Str-value src))) (sym e)
 
-  pub present_source : is_absent src ≡ false → {value : List ℕ} {text : Option (List ℕ)} → text ≡ around.relative value → value ≡ Str-value src →
+  pub present_source : is_absent src ≡ false → {value : List ℕ} {text : Option (List ℕ)} → text ≡ around.relative value →
+      value ≡ Str-value src →
       source_of src text ≡ answered_source around src
   present_source e p q = λ i. source_if (sym e i) ((p ∙ ap around.relative q) i)
 
@@ -64,10 +67,12 @@ one_made make (x ∷ xs) n = refl
 
 some_left : (make : List Tree → Tree) {xs ys : List Tree} → xs ≡ ys → (xs ≡ [] → ⊥) → {t : Tree} → t ≡ make xs →
     answer_of (with_specifiers make ys) ≡ faultless (t ∷ [])
-some_left make {xs = xs} p n q = ap (λ zs. answer_of (with_specifiers make zs)) (sym p) ∙ (one_made make xs n ∙ ap (λ u. faultless (u ∷ [])) (sym q))
+some_left make {xs = xs} p n q = ap (λ zs. answer_of (with_specifiers make zs)) (sym p) ∙
+    (one_made make xs n ∙ ap (λ u. faultless (u ∷ [])) (sym q))
 
 module _ (around : Surroundings) (t : Tree) where
-  pub no_import : {xs : List Tree} {specifiers : Tree} → xs ≡ public_specifiers around specifiers → specifiers ≡ ImportDecl-specifiers t → xs ≡ [] →
+  pub no_import : {xs : List Tree} {specifiers : Tree} → xs ≡ public_specifiers around specifiers → specifiers ≡ ImportDecl-specifiers t →
+      xs ≡ [] →
       link_answer around t Import ≡ faultless []
   unfolding link_answer
   no_import p q e = none_left (import_with around t) (p ∙ ap (public_specifiers around) q) e
@@ -77,12 +82,14 @@ module _ (around : Surroundings) (t : Tree) where
   unfolding link_answer
   made_import p q n r = some_left (import_with around t) (p ∙ ap (public_specifiers around) q) n r
 
-  pub no_export : {xs : List Tree} {specifiers : Tree} → xs ≡ public_specifiers around specifiers → specifiers ≡ NamedExport-specifiers t → xs ≡ [] →
+  pub no_export : {xs : List Tree} {specifiers : Tree} → xs ≡ public_specifiers around specifiers → specifiers ≡ NamedExport-specifiers t →
+      xs ≡ [] →
       link_answer around t Export ≡ faultless []
   unfolding link_answer
   no_export p q e = none_left (export_with around t) (p ∙ ap (public_specifiers around) q) e
 
-  pub made_export : {xs : List Tree} {specifiers : Tree} → xs ≡ public_specifiers around specifiers → specifiers ≡ NamedExport-specifiers t →
+  pub made_export : {xs : List Tree} {specifiers : Tree} → xs ≡ public_specifiers around specifiers →
+      specifiers ≡ NamedExport-specifiers t →
       (xs ≡ [] → ⊥) → {made : Tree} → made ≡ export_with around t xs → link_answer around t Export ≡ faultless (made ∷ [])
   unfolding link_answer
   made_export p q n r = some_left (export_with around t) (p ∙ ap (public_specifiers around) q) n r
@@ -94,7 +101,8 @@ module _ (around : Surroundings) (t : Tree) where
   unfolding link_answer
   no_all e = ap (λ p. answer_of (one_if p (all_exported around t))) e
 
-  pub made_all : around.is_public (ExportAll-span t) ≡ true → {made : Tree} → made ≡ all_exported around t → link_answer around t All ≡ faultless (made ∷ [])
+  pub made_all : around.is_public (ExportAll-span t) ≡ true → {made : Tree} → made ≡ all_exported around t →
+      link_answer around t All ≡ faultless (made ∷ [])
   unfolding link_answer
   made_all e r = (λ i. answer_of (one_if (e i) (sym r i)))
 
@@ -102,6 +110,7 @@ module _ (around : Surroundings) (t : Tree) where
   unfolding link_answer
   no_alias e = ap (λ p. answer_of (one_if p t)) e
 
-  pub made_alias : around.is_public (TsImportEqualsDecl-span t) ≡ true → {made : Tree} → made ≡ t → link_answer around t Alias ≡ faultless (made ∷ [])
+  pub made_alias : around.is_public (TsImportEqualsDecl-span t) ≡ true → {made : Tree} → made ≡ t →
+      link_answer around t Alias ≡ faultless (made ∷ [])
   unfolding link_answer
   made_alias e r = (λ i. answer_of (one_if (e i) (sym r i)))

@@ -6,8 +6,8 @@ use Rattle.fast_check_syntax.specs.declared.kind.Kind.TheVariants as kinds
 use Rattle.fast_check_syntax.specs.declared.tree.Tree.{Tree}
 use Rattle.fast_check_syntax.specs.Shape.{kind_of, parts, is_absent}
 use Rattle.fast_check_program_forms.specs.Literals.{Str-span, Str-value}
-use Rattle.fast_check_program_forms.specs.ModuleDecls.{ImportDecl-src, ImportDecl-type_only, NamedExport-src, NamedExport-type_only}
-use Rattle.fast_check_program_forms.specs.ModuleDecls.{ExportAll-src, ExportAll-type_only}
+use Rattle.fast_check_program_forms.specs.ModuleDecls.{ImportDecl-src, ImportDecl-type_only, NamedExport-src}
+use Rattle.fast_check_program_forms.specs.ModuleDecls.{NamedExport-type_only, ExportAll-src, ExportAll-type_only}
 use Rattle.fast_check_program_forms.specs.Programs.{Module-body}
 use Rattle.fast_check_parsed_source.specs.declared.tables.fast_check_module.StaticSource.{StaticSource}
 

@@ -12,11 +12,13 @@ use Rattle.fast_check_signatures.specs.Answers.{Answer, Adds, fault_at, faultles
 use Rattle.fast_check_signatures.specs.Seen.{Seen, faulty}
 use Rattle.fast_check_signatures.proofs.Adding.{adds_nothing, adds_fault, adds_same}
 use Rattle.fast_check_declarations.specs.surroundings.skeleton.declared.rules.DeclRule.{DeclRule}
-use Rattle.fast_check_declarations.specs.surroundings.skeleton.declared.rules.DeclRule.TheVariants.{Variables, Function, Class, Standing, Namespace, Using, NoDeclaration}
+use Rattle.fast_check_declarations.specs.surroundings.skeleton.declared.rules.DeclRule.TheVariants.{Variables, Function, Class, Standing}
+use Rattle.fast_check_declarations.specs.surroundings.skeleton.declared.rules.DeclRule.TheVariants.{Namespace, Using, NoDeclaration}
 use Rattle.fast_check_declarations.specs.surroundings.skeleton.declared.rules.DefaultRule.{DefaultRule}
 use Rattle.fast_check_declarations.specs.surroundings.skeleton.declared.rules.LinkRule.{LinkRule}
 use Rattle.fast_check_declarations.specs.surroundings.skeleton.declared.rules.ItemRule.{ItemRule}
-use Rattle.fast_check_declarations.specs.surroundings.skeleton.declared.rules.ItemRule.TheVariants.{Declared, Exported, Linked, Default, Refused, Assigned, Silent}
+use Rattle.fast_check_declarations.specs.surroundings.skeleton.declared.rules.ItemRule.TheVariants.{Declared, Exported, Linked, Default}
+use Rattle.fast_check_declarations.specs.surroundings.skeleton.declared.rules.ItemRule.TheVariants.{Refused, Assigned, Silent}
 use Rattle.std.specs.List.{flat_map}
 use Rattle.std.specs.Prelude.{refl}
 use Rattle.std.proofs.lemmas.List.{take_more, take_all, append_assoc}
@@ -39,7 +41,8 @@ use Rattle.fast_check_statements.specs.PartAnswers.{statement_answer, public_fun
 use Rattle.fast_check_declarations.specs.ClassAnswers.{public_class_answer}
 use Rattle.fast_check_declarations.specs.ClassAnswers.{default_answer}
 use Rattle.fast_check_declarations.proofs.surroundings_proofs.Listed.{alone, one_more, whole}
-use Rattle.fast_check_module_transform.specs.PartAnswers.{namespace_answer, decl_answer, export_answer, refused_answer, item_answer, each_answer, items_answer}
+use Rattle.fast_check_module_transform.specs.PartAnswers.{namespace_answer, decl_answer, export_answer, refused_answer, item_answer}
+use Rattle.fast_check_module_transform.specs.PartAnswers.{each_answer, items_answer}
 
 module _ (around : Surroundings) (place : SourceRange) (decl : Tree) where
   -- what is answered to a declaration with which this is done
@@ -61,7 +64,8 @@ module _ (around : Surroundings) (place : SourceRange) (decl : Tree) where
   unfolding decl_answer public_class_answer
   classes r h = adds_same (ap by_rule r) h
 
-  pub standing : {rule : DeclRule} → rule ≡ Standing → (o : Option Tree) → standing_answer around place decl ≡ faultless (as_list o) → (old : List Fault) →
+  pub standing : {rule : DeclRule} → rule ≡ Standing → (o : Option Tree) → standing_answer around place decl ≡ faultless (as_list o) →
+      (old : List Fault) →
       Adds (decl_answer around place decl rule) (as_list o) old old
   unfolding decl_answer standing_answer
   standing r o h old = adds_same (ap by_rule r ∙ h) (adds_nothing (as_list o) old)
@@ -124,7 +128,8 @@ module _ (around : Surroundings) (item : Tree) where
       Adds (export_answer around item rule) [] old new
   unfolding export_answer decl_answer
   no_export rule h p q n =
-      none_of (decl_seen around (ExportDecl-span item) (ExportDecl-decl item) rule) (decl_one around (ExportDecl-span item) (ExportDecl-decl item) rule)
+      none_of (decl_seen around (ExportDecl-span item) (ExportDecl-decl item) rule)
+      (decl_one around (ExportDecl-span item) (ExportDecl-decl item) rule)
       (adds_same (λ i. answer_of (decl_seen around (sym p i) (sym q i) rule)) h) n
 
   pub made_export : (rule : DeclRule) {place : SourceRange} {decl t : Tree} {xs : List Tree} {old new : List Fault} →
@@ -160,7 +165,8 @@ pub told_refused : (item : Tree) (kind : FaultKind) {place : SourceRange} → pl
     new ≡ old ++ fault_at kind place ∷ [] → Adds (refused_answer item kind) (Absent ∷ []) old new
 unfolding refused_answer
 told_refused item kind p {old} f =
-    subst (λ fs. Adds (answer_of (faulty kind (range_of_node item) ∷ [])) (Absent ∷ []) old fs) (sym (f ∙ ap (λ r. old ++ fault_at kind r ∷ []) p))
+    subst (λ fs. Adds (answer_of (faulty kind (range_of_node item) ∷ [])) (Absent ∷ []) old fs)
+    (sym (f ∙ ap (λ r. old ++ fault_at kind r ∷ []) p))
     (alone (faulty kind (range_of_node item)) (adds_fault (Some Absent) (fault_at kind (range_of_node item)) old))
 
 -- ---- items
@@ -171,7 +177,8 @@ module _ (around : Surroundings) where
   no_items e old = subst (λ x. Adds (answer_of []) x old old) (sym e) (adds_nothing [] old)
 
   pub one_more_item : (items : List Tree) (i : ℕ) (item : Tree) → i < length items → item ≡ get_or items i item →
-      {xs ys zs : List Tree} {old mid new : List Fault} → Adds (each_answer around (take i items)) xs old mid → Adds (item_answer around item) ys mid new →
+      {xs ys zs : List Tree} {old mid new : List Fault} → Adds (each_answer around (take i items)) xs old mid →
+      Adds (item_answer around item) ys mid new →
       zs ≡ xs ++ ys → Adds (each_answer around (take (i + 1) items)) zs old new
   unfolding each_answer item_answer
   one_more_item items i item h e g k p = one_more (item_seen around) items i item h e g k p
@@ -182,24 +189,28 @@ module _ (around : Surroundings) where
   all_items i h e g = whole (item_seen around) i h e g
 
   -- one that is an assignment: nothing of it stays
-  pub one_more_assigned : (items : List Tree) (i : ℕ) (item : Tree) → i < length items → item ≡ get_or items i item → item_rule item ≡ Assigned →
+  pub one_more_assigned : (items : List Tree) (i : ℕ) (item : Tree) → i < length items → item ≡ get_or items i item →
+      item_rule item ≡ Assigned →
       {assignment : Tree} → assignment ≡ ExprStmt-expr item → {xs : List Tree} {old mid new : List Fault} →
       Adds (each_answer around (take i items)) xs old mid → Adds (assignment_answer around assignment) [] mid new →
       Adds (each_answer around (take (i + 1) items)) xs old new
   unfolding each_answer item_answer assignment_answer
   one_more_assigned items i item h e r a {xs = xs} g k =
       one_more (item_seen around) items i item h e g
-      (adds_same (by_item_rule around item r ∙ ap (λ x. answer_of (assignment_seen around.is_public around.bindings around.objects x)) (sym a)) k)
+      (adds_same
+      (by_item_rule around item r ∙ ap (λ x. answer_of (assignment_seen around.is_public around.bindings around.objects x)) (sym a)) k)
       (sym (append-nil xs))
 
   -- the namespaces behind them
   pub with_namespaces : (items : List Tree) {ps : List ExpandoProperty} {xs ys zs : List Tree} {old mid new : List Fault} →
-      Adds (each_answer around items) xs old mid → ps ≡ flat_map (item_properties around) items → Adds (answer_of (namespaces_seen ps)) ys mid new →
+      Adds (each_answer around items) xs old mid → ps ≡ flat_map (item_properties around) items →
+      Adds (answer_of (namespaces_seen ps)) ys mid new →
       zs ≡ xs ++ ys → Adds (items_answer around items) zs old new
   unfolding each_answer items_answer
   with_namespaces items {old = old} {new = new} g e k p =
       subst (λ x. Adds (items_answer around items) x old new) (sym p)
-      (adds_same (answer_append (flat_map (λ item. item_look item around) items) (namespaces_seen (flat_map (item_properties around) items)))
+      (adds_same
+      (answer_append (flat_map (λ item. item_look item around) items) (namespaces_seen (flat_map (item_properties around) items)))
       (adds_joined ◌++◌ g (adds_same (ap (λ qs. answer_of (namespaces_seen qs)) (sym e)) k)))
 
 -- ---- the properties of items
@@ -224,7 +235,8 @@ assigned_is (Refused kind) e = cc
 assigned_is Silent e = cc
 
 module _ (around : Surroundings) (items : List Tree) (i : ℕ) (item : Tree) (h : i < length items) (e : item ≡ get_or items i item) where
-  taken : flat_map (item_properties around) (take (i + 1) items) ≡ flat_map (item_properties around) (take i items) ++ item_properties around item
+  taken : flat_map (item_properties around) (take (i + 1) items) ≡ flat_map (item_properties around)
+      (take i items) ++ item_properties around item
   taken =
       ap (flat_map (item_properties around)) (take_more items i item h ∙ ap (λ u. take i items ++ u ∷ []) (sym e))
       ∙ (flat_map-append (item_properties around) (take i items) (item ∷ [])
@@ -233,7 +245,8 @@ module _ (around : Surroundings) (items : List Tree) (i : ℕ) (item : Tree) (h 
   pub same_properties : is_assigned (item_rule item) ≡ false → (old : List ExpandoProperty) {new : List ExpandoProperty} →
       new ≡ old ++ flat_map (item_properties around) (take i items) → new ≡ old ++ flat_map (item_properties around) (take (i + 1) items)
   same_properties n old p =
-      p ∙ ap (λ ps. old ++ ps) (sym (taken ∙ (ap (λ ps. flat_map (item_properties around) (take i items) ++ ps) (none_by_rule around item (item_rule item) n)
+      p ∙ ap (λ ps. old ++ ps)
+      (sym (taken ∙ (ap (λ ps. flat_map (item_properties around) (take i items) ++ ps) (none_by_rule around item (item_rule item) n)
       ∙ append-nil (flat_map (item_properties around) (take i items)))))
 
   pub more_properties : item_rule item ≡ Assigned → {assignment : Tree} → assignment ≡ ExprStmt-expr item →
@@ -245,7 +258,8 @@ module _ (around : Surroundings) (items : List Tree) (i : ℕ) (item : Tree) (h 
       q ∙ (λ j. p j ++ declared_properties around.is_public around.bindings around.objects (a j))
       ∙ (append_assoc old (flat_map (item_properties around) (take i items))
       (declared_properties around.is_public around.bindings around.objects (ExprStmt-expr item))
-      ∙ ap (λ ps. old ++ ps) (sym (taken ∙ ap (λ x. flat_map (item_properties around) (take i items) ++ properties_by_rule around item x) r)))
+      ∙ ap (λ ps. old ++ ps)
+      (sym (taken ∙ ap (λ x. flat_map (item_properties around) (take i items) ++ properties_by_rule around item x) r)))
 
 pub all_properties : (around : Surroundings) {items all : List Tree} (i : ℕ) → length items ≤ i → items ≡ all →
     (old : List ExpandoProperty) {new : List ExpandoProperty} →

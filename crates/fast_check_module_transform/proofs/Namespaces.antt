@@ -15,10 +15,12 @@ use Rattle.fast_check_signatures.specs.Seen.{Seen, faulty}
 use Rattle.fast_check_signatures.specs.Answers.{Adds, fault_at, answer_of}
 use Rattle.fast_check_signatures.proofs.Adding.{adds_nothing, adds_fault, adds_made, adds_same}
 use Rattle.fast_check_declarations.specs.surroundings.skeleton.KeptComments.{removed_from, start_look, starts_in_namespace}
-use Rattle.fast_check_declarations.specs.surroundings.skeleton.Namespaces.{is_ambient_module, is_namespace, innermost, items_inside, namespace_round, namespace_with}
+use Rattle.fast_check_declarations.specs.surroundings.skeleton.Namespaces.{is_ambient_module, is_namespace, innermost, items_inside}
+use Rattle.fast_check_declarations.specs.surroundings.skeleton.Namespaces.{namespace_round, namespace_with}
 use Rattle.fast_check_declarations.specs.surroundings.skeleton.Surroundings.{Surroundings, inside}
 use Rattle.fast_check_declarations.specs.surroundings.skeleton.Visible.{item_look, body_seen, namespace_seen}
-use Rattle.fast_check_declarations.proofs.surroundings_proofs.skeleton_proofs.Namespaces.{innermost_at_most, namespace_if, hidden_namespace, global_is, ambient_module_is}
+use Rattle.fast_check_declarations.proofs.surroundings_proofs.skeleton_proofs.Namespaces.{innermost_at_most, namespace_if, hidden_namespace}
+use Rattle.fast_check_declarations.proofs.surroundings_proofs.skeleton_proofs.Namespaces.{global_is, ambient_module_is}
 use Rattle.fast_check_declarations.proofs.surroundings_proofs.skeleton_proofs.StandingNamespaces.{namespace_is}
 use Rattle.fast_check_statements.specs.PartAnswers.{module_fault}
 use Rattle.fast_check_declarations.proofs.surroundings_proofs.Listed.{alone}
@@ -56,7 +58,8 @@ faulty_namespace decl f e = go (TsModuleDecl-global decl) (is_ambient_module dec
 module _ (around : Surroundings) (place : SourceRange) (decl : Tree) where
   -- a fault that is told
   told : {f : Fault} {old new : List Fault} → new ≡ old ++ f ∷ [] → {g : Fault} → f ≡ g →
-      namespace_seen item_look around place decl ≡ faulty g.kind g.range ∷ [] → Adds (namespace_answer around place decl) (Absent ∷ []) old new
+      namespace_seen item_look around place decl ≡ faulty g.kind g.range ∷ [] →
+      Adds (namespace_answer around place decl) (Absent ∷ []) old new
   unfolding namespace_answer
   told {f} {old} {new} n {g} e s =
       subst (λ fs. Adds (answer_of (namespace_seen item_look around place decl)) (Absent ∷ []) old fs) (sym (n ∙ ap (λ x. old ++ x ∷ []) e))
@@ -75,7 +78,8 @@ module _ (around : Surroundings) (place : SourceRange) (decl : Tree) where
   pub private_namespace : module_fault decl ≡ None → around.is_public place ≡ false → (old : List Fault) →
       Adds (namespace_answer around place decl) [] old old
   unfolding namespace_answer
-  private_namespace e p old = adds_same (ap answer_of (hidden_namespace around place decl (faultless_namespace decl e) p)) (adds_nothing [] old)
+  private_namespace e p old = adds_same (ap answer_of (hidden_namespace around place decl (faultless_namespace decl e) p))
+      (adds_nothing [] old)
 
   abbrev seen_inside : List Seen
   seen_inside = body_seen item_look (inside around decl) (items_inside decl)
@@ -86,7 +90,8 @@ module _ (around : Surroundings) (place : SourceRange) (decl : Tree) where
       Adds (namespace_answer around place decl) (t ∷ []) old new
   unfolding namespace_answer items_answer
   public_namespace e p {ts = ts} {old = old} {new = new} h q b {t} m =
-      let items : Adds (answer_of seen_inside) ts old new = adds_same (λ i. answer_of (body_seen item_look (sym q i) (parts (sym b i)))) h in
+      let items : Adds (answer_of seen_inside) ts old new = adds_same
+      (λ i. answer_of (body_seen item_look (sym q i) (parts (sym b i)))) h in
       let seen : namespace_seen item_look around place decl ≡ namespace_round seen_inside decl ∷ [] =
       namespace_if around place decl (faultless_namespace decl e) ∙ ap (λ x. if x then namespace_round seen_inside decl ∷ [] else []) p in
       subst (λ u. Adds (answer_of (namespace_seen item_look around place decl)) (u ∷ []) old new) (sym m)
@@ -104,7 +109,8 @@ module _ (around : Surroundings) (place : SourceRange) (decl : Tree) where
   pub nothing_private : module_fault decl ≡ None → around.is_public place ≡ false → starts_in_namespace start_look around place decl ≡ []
   nothing_private e p = λ i. starts_if (faultless_namespace decl e i) (p i)
 
-  pub all_inside : module_fault decl ≡ None → around.is_public place ≡ true → {here : Surroundings} {body : Tree} → here ≡ inside around decl →
+  pub all_inside : module_fault decl ≡ None → around.is_public place ≡ true → {here : Surroundings} {body : Tree} →
+      here ≡ inside around decl →
       body ≡ TsModuleBlock-body (innermost (TsModuleDecl-body decl)) →
       starts_in_namespace start_look around place decl ≡ removed_from here (parts body)
   all_inside e p q b = (λ i. starts_if (faultless_namespace decl e i) (p i)) ∙ (λ i. removed_from (sym q i) (parts (sym b i)))

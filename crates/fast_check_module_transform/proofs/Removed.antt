@@ -28,13 +28,14 @@ use Rattle.fast_check_declarations.specs.surroundings.skeleton.Visible.{seen_by_
 use Rattle.fast_check_declarations.specs.surroundings.skeleton.Visible.{item_seen}
 use Rattle.fast_check_signatures.specs.declared.fault.Fault.{Fault}
 use Rattle.fast_check_signatures.specs.Answers.{Adds, with_tree, answer_of}
-use Rattle.fast_check_declarations.specs.surroundings.skeleton.KeptComments.{start_of_unseen, starts_inside, starts_in_body, starts_below, start_look, removed_start, removed_from}
-use Rattle.fast_check_declarations.specs.surroundings.skeleton.KeptComments.{without_all_leading}
+use Rattle.fast_check_declarations.specs.surroundings.skeleton.KeptComments.{start_of_unseen, starts_inside, starts_in_body, starts_below}
+use Rattle.fast_check_declarations.specs.surroundings.skeleton.KeptComments.{start_look, removed_start, removed_from, without_all_leading}
 use Rattle.fast_check_declarations.proofs.surroundings_proofs.skeleton_proofs.Namespaces.{item_seen_is, removed_start_is}
 use Rattle.fast_check_declarations.proofs.surroundings_proofs.skeleton_proofs.Standing.{OneTree, item_one}
 use Rattle.fast_check_module_transform.specs.PartAnswers.{item_answer, starts_in_export}
 
-pub without_append : (xs ys : List SourcePos) (c : Comments) → without_all_leading (xs ++ ys) c ≡ without_all_leading ys (without_all_leading xs c)
+pub without_append : (xs ys : List SourcePos) (c : Comments) → without_all_leading (xs ++ ys) c ≡ without_all_leading ys
+    (without_all_leading xs c)
 without_append [] ys c = refl
 without_append (x ∷ xs) ys c = without_append xs ys (without_leading x c)
 
@@ -54,7 +55,8 @@ module _ (around : Surroundings) (item : Tree) where
   abbrev pub below : List SourcePos
   below = starts_below start_look around item (item_rule item)
 
-  pub removed_if_none : is_assigned (item_rule item) ≡ false → {xs : List Tree} {old new : List Fault} → Adds (item_answer around item) xs old new → xs ≡ [] →
+  pub removed_if_none : is_assigned (item_rule item) ≡ false → {xs : List Tree} {old new : List Fault} →
+      Adds (item_answer around item) xs old new → xs ≡ [] →
       removed_start around item ≡ below ++ ((range_of_node item).start ∷ inside)
   unfolding item_answer
   removed_if_none n h e =
@@ -72,7 +74,8 @@ module _ (around : Surroundings) (item : Tree) where
   pub removed_if_assigned : item_rule item ≡ Assigned → removed_start around item ≡ (range_of_node item).start ∷ []
   removed_if_assigned e =
       removed_start_is around item
-      ∙ (λ i. starts_below start_look around item (e i) ++ (start_of_unseen item ((item_seen_is around item ∙ ap (seen_by_rule around item) e) i)
+      ∙ (λ i. starts_below start_look around item
+      (e i) ++ (start_of_unseen item ((item_seen_is around item ∙ ap (seen_by_rule around item) e) i)
       ++ starts_inside around item (e i)))
       ∙ go (around.is_public (AssignExpr-span (ExprStmt-expr item)))
     where
@@ -89,7 +92,8 @@ module _ (around : Surroundings) (item : Tree) where
 
   pub below_declared : {T E : Type 0} (made : Result T E) {rule : DeclRule} {place : SourceRange} (new c : Comments) →
       item_rule item ≡ Declared rule → place ≡ range_of_node item →
-      IfOk made (λ _. new ≡ without_all_leading (starts_in_body start_look around place item rule) c) → IfOk made (λ _. new ≡ without_all_leading below c)
+      IfOk made (λ _. new ≡ without_all_leading (starts_in_body start_look around place item rule) c) →
+      IfOk made (λ _. new ≡ without_all_leading below c)
   below_declared made {rule} {place} new c e at = IfOk-weaker made _ _ (λ _. go)
     where
       go : new ≡ without_all_leading (starts_in_body start_look around place item rule) c → new ≡ without_all_leading below c
@@ -107,10 +111,12 @@ module _ (around : Surroundings) (item : Tree) where
 pub item_lower : (body item : Tree) (items : List Tree) (i : ℕ) → i < length items → items ≡ parts body → item ≡ get_or items i item →
     height item < height body
 item_lower body item items i h e p =
-    subst (λ t. height t < height body) (sym (p ∙ ap (λ ts. get_or ts i item) e)) (height_read body i item (subst (λ ts. i < length ts) e h))
+    subst (λ t. height t < height body) (sym (p ∙ ap (λ ts. get_or ts i item) e))
+    (height_read body i item (subst (λ ts. i < length ts) e h))
 
 -- the comments without those before one more item
-pub one_more : (around : Surroundings) (items : List Tree) (i : ℕ) (item : Tree) (starts : List SourcePos) (c : Comments) → i < length items →
+pub one_more : (around : Surroundings) (items : List Tree) (i : ℕ) (item : Tree) (starts : List SourcePos) (c : Comments) →
+    i < length items →
     item ≡ get_or items i item →
     removed_start around item ≡ starts →
     without_all_leading (removed_from around (take (i + 1) items)) c ≡ without_all_leading starts

@@ -20,12 +20,14 @@ use Rattle.fast_check_module_transform.specs.PartAnswers.{items_answer, program_
 use Rattle.fast_check_declarations.specs.surroundings.Surroundings.{surroundings_of}
 use Rattle.fast_check_module_transform.specs.Transform.{skeleton, faults}
 
-pub made_program : (around : Surroundings) (program : Tree) {E : Type 0} (r : Result Tree E) {x : Tree} {ts items : List Tree} {old new : List Fault} →
+pub made_program : (around : Surroundings) (program : Tree) {E : Type 0}
+    (r : Result Tree E) {x : Tree} {ts items : List Tree} {old new : List Fault} →
     IfOk r (λ t. t ≡ x) → Adds (items_answer around ts) items old new → ts ≡ parts (Module-body program) →
     x ≡ module' (Module-span program) (list items) (Module-shebang program) → IfOk r (λ t. Adds (program_answer around program) t old new)
 unfolding items_answer program_answer
 made_program around program r {items = items} {old = old} {new = new} e h p q =
-    let all : Adds (items_answer around (parts (Module-body program))) items old new = subst (λ us. Adds (items_answer around us) items old new) p h in
+    let all : Adds (items_answer around (parts (Module-body program))) items old new =
+    subst (λ us. Adds (items_answer around us) items old new) p h in
     IfOk-weaker r _ _ (λ t f. subst (λ u. Adds (program_answer around program) u old new) (sym (f ∙ q))
     (adds_made (λ ts. module' (Module-span program) (list ts) (Module-shebang program)) all)) e
 

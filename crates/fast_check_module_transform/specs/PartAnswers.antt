@@ -16,7 +16,8 @@ use Rattle.fast_check_declarations.specs.surroundings.skeleton.declared.rules.De
 use Rattle.fast_check_declarations.specs.surroundings.skeleton.KeptComments.{start_look, starts_in_body}
 use Rattle.fast_check_declarations.specs.surroundings.skeleton.Skeleton.{transformed}
 use Rattle.fast_check_declarations.specs.surroundings.skeleton.Surroundings.{Surroundings}
-use Rattle.fast_check_declarations.specs.surroundings.skeleton.Visible.{item_look, body_seen, namespace_seen, decl_seen, exported_seen, item_seen}
+use Rattle.fast_check_declarations.specs.surroundings.skeleton.Visible.{item_look, body_seen, namespace_seen, decl_seen}
+use Rattle.fast_check_declarations.specs.surroundings.skeleton.Visible.{exported_seen, item_seen}
 
 -- to a namespace, which is public by `place`
 unfoldable pub namespace_answer : Surroundings → SourceRange → Tree → Answer (List Tree)
@@ -28,7 +29,8 @@ decl_answer around place decl rule = answer_of (decl_seen around place decl rule
 
 -- to an export of one, and the starts of what goes inside of it
 unfoldable pub export_answer : Surroundings → Tree → DeclRule → Answer (List Tree)
-export_answer around item rule = answer_of (exported_seen item (decl_seen around (ExportDecl-span item) (ExportDecl-decl item) rule))
+export_answer around item rule =
+    answer_of (exported_seen item (decl_seen around (ExportDecl-span item) (ExportDecl-decl item) rule))
 
 abbrev pub starts_in_export : Surroundings → Tree → DeclRule → List SourcePos
 starts_in_export around item rule = starts_in_body start_look around (ExportDecl-span item) (ExportDecl-decl item) rule

@@ -1,5 +1,6 @@
 -- The equation of `expandos`.
-use Rattle.std.proofs.Common.{◌≡◌, ◌∙◌, sym, ap, refl, subst, arith, ℕ, ◌+◌, ◌*◌, ◌<◌, Bool, true, false, List, [], ◌∷◌, ◌++◌, map, length, get_or}
+use Rattle.std.proofs.Common.{◌≡◌, ◌∙◌, sym, ap, refl, subst, arith, ℕ, ◌+◌, ◌*◌, ◌<◌, Bool, true, false, List, [], ◌∷◌, ◌++◌, map, length}
+use Rattle.std.proofs.Common.{get_or}
 use Rattle.std.specs.List.{flat_map}
 use Rattle.fast_check_syntax.specs.declared.kind.Kind.TheVariants.{Leaf}
 use Rattle.fast_check_syntax.specs.declared.tree.Tree.{Tree}
@@ -26,7 +27,8 @@ expandos_out t = go (is_absent t) refl
     go false e = by_form_is [] expandos_form t e ∙ ap (λ rest. own_expando t ++ rest) (each_found (parts t))
 
 -- an item of a tree is lower, as the measures of the recursion count
-pub item_lower : (t d : Tree) (i : ℕ) {u : Tree} {ts : List Tree} {n : ℕ} → 2 * height t ≡ n → i < length ts → ts ≡ parts t → d ≡ get_or ts i d →
+pub item_lower : (t d : Tree) (i : ℕ) {u : Tree} {ts : List Tree} {n : ℕ} → 2 * height t ≡ n → i < length ts → ts ≡ parts t →
+    d ≡ get_or ts i d →
     u ≡ d → 2 * height u + 1 < n
 item_lower t d i m lt p is e =
     let same = ap height (e ∙ (is ∙ ap (λ (ts : List Tree). get_or ts i d) p)) in

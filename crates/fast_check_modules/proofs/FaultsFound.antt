@@ -21,7 +21,8 @@ use Rattle.fast_check_modules.specs.FitProgram.{HasUnboundExpando, IsModuleFault
 use Rattle.fast_check_symbols.specs.declared.fault.TableFault.{TableFault}
 use Rattle.fast_check_symbols.specs.declared.fault.TableFault.TheVariants.{MissingSymbol, SymbolWithoutDecl, ModuleNotUnderOwnName}
 use Rattle.fast_check_symbols.specs.declared.fault.TableFault.TheVariants.{ExpandoWithoutSymbol, OutOfMemory}
-use Rattle.fast_check_modules.specs.EsModule.{EsModule, Admits, BindsOwnRanges, AreOwnRanges, IsUnboundFault, is_ranged_unbound, is_public_unbound}
+use Rattle.fast_check_modules.specs.EsModule.{EsModule, Admits, BindsOwnRanges, AreOwnRanges, IsUnboundFault, is_ranged_unbound}
+use Rattle.fast_check_modules.specs.EsModule.{is_public_unbound}
 use Rattle.fast_check_symbols.proofs.Witness.{witness, none_of, is_none_of, none_is, and_left, and_right, and_both}
 
 -- ranges that are the same are one
@@ -68,7 +69,8 @@ apart : (b : Bool) → b ≡ true → not b ≡ true → ⊥
 apart true s n = let f : false ≡ true = n in cc
 apart false s n = cc
 
-pub expandos_bound : (t : ModuleTables) (made : Tables) (program : Tree) → AreMadeOf t made → BindsOwnRanges made program → HasUnboundExpando t program → ⊥
+pub expandos_bound : (t : ModuleTables) (made : Tables) (program : Tree) → AreMadeOf t made → BindsOwnRanges made program →
+    HasUnboundExpando t program → ⊥
 expandos_bound t made program h bound u =
     let object = symbol_of_swc made u.expando.object in
     let ranged = subst (λ (rs : List SourceRange). Contains rs u.expando.range) (sym (same_ranges t made h)) u.ranged in
@@ -80,7 +82,8 @@ pub unbound_fault : (t : ModuleTables) (made : Tables) (program : Tree) → AreM
 unbound_fault t made program h w MissingSymbol f = absurd f
 unbound_fault t made program h w SymbolWithoutDecl f = absurd f
 unbound_fault t made program h w ModuleNotUnderOwnName f = f
-unbound_fault t made program h w ExpandoWithoutSymbol f = (w.mentioned_have_symbols, w.symbols_have_declarations, unbound t made program h f)
+unbound_fault t made program h w ExpandoWithoutSymbol f =
+    (w.mentioned_have_symbols, w.symbols_have_declarations, unbound t made program h f)
 unbound_fault t made program h w OutOfMemory f = f
 
 -- each expando statement with a public range has an object with a symbol
@@ -91,7 +94,8 @@ admitted m p none e among public = go (is_some (symbol_of_swc m.tables e.object)
     go true h = h
     go false h = absurd (none_of (is_public_unbound m.tables p) (expandos m.source.program) e none among (and_both _ _ public (ap not h)))
 
-pub admits_none : (m : EsModule) (p : PublicRanges) → Admits m p → list_any (is_public_unbound m.tables p) (expandos m.source.program) ≡ true → ⊥
+pub admits_none : (m : EsModule) (p : PublicRanges) → Admits m p →
+    list_any (is_public_unbound m.tables p) (expandos m.source.program) ≡ true → ⊥
 admits_none m p h e =
     let w = witness (is_public_unbound m.tables p) (expandos m.source.program) e in
     let some : is_some (symbol_of_swc m.tables w.0.object) ≡ true = h w.0 w.1 (and_left _ _ w.2) in

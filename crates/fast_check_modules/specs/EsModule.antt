@@ -8,8 +8,9 @@ use Rattle.fast_check_parsed_source.specs.declared.tables.parsed_source.ParsedSo
 use Rattle.fast_check_diagnostics.specs.PublicRanges.{PublicRanges, is_public, same_range}
 use Rattle.fast_check_modules.specs.declared.expandos.Expando.{Expando}
 use Rattle.fast_check_symbols.specs.declared.fault.TableFault.{TableFault}
-use Rattle.fast_check_symbols.specs.declared.fault.TableFault.TheVariants.{MissingSymbol, SymbolWithoutDecl, ModuleNotUnderOwnName}
-use Rattle.fast_check_symbols.specs.declared.fault.TableFault.TheVariants.{ExpandoWithoutSymbol, OutOfMemory}
+use Rattle.fast_check_symbols.specs.declared.fault.TableFault.TheVariants.{MissingSymbol, SymbolWithoutDecl}
+use Rattle.fast_check_symbols.specs.declared.fault.TableFault.TheVariants.{ModuleNotUnderOwnName, ExpandoWithoutSymbol}
+use Rattle.fast_check_symbols.specs.declared.fault.TableFault.TheVariants.{OutOfMemory}
 use Rattle.fast_check_modules.specs.Expandos.{expandos}
 use Rattle.fast_check_symbols.specs.Tables.{Tables, symbol_of_swc, table_ranges}
 
@@ -27,16 +28,19 @@ pub record JsonModule : Type 0 where
 -- each expando statement with a public range has an object with a symbol
 abbrev pub Admits : EsModule → PublicRanges → Type 0
 Admits m public =
-    (e : Expando) → Contains (expandos m.source.program) e → IsTrue (is_public public e.range) → IsSome (symbol_of_swc m.tables e.object)
+    (e : Expando) → Contains (expandos m.source.program) e → IsTrue (is_public public e.range) →
+    IsSome (symbol_of_swc m.tables e.object)
 
 -- the same of the ranges of the tables themselves
 abbrev pub BindsOwnRanges : Tables → Tree → Type 0
 BindsOwnRanges t program =
-    (e : Expando) → Contains (expandos program) e → Contains (table_ranges t.symbols t.re_exports) e.range → IsSome (symbol_of_swc t e.object)
+    (e : Expando) → Contains (expandos program) e → Contains (table_ranges t.symbols t.re_exports) e.range →
+    IsSome (symbol_of_swc t e.object)
 
 -- all that is public is a range of the tables
 abbrev pub AreOwnRanges : Tables → PublicRanges → Type 0
-AreOwnRanges t public = (r : SourceRange) → IsTrue (is_public public r) → Contains (table_ranges t.symbols t.re_exports) r
+AreOwnRanges t public = (r : SourceRange) → IsTrue (is_public public r) →
+    Contains (table_ranges t.symbols t.re_exports) r
 
 -- these are the expando statements of a program, and its tables bind their own ranges
 pub record AreRead (t : Tables) (program : Tree) (es : List Expando) : Type 0 where

@@ -16,11 +16,13 @@ use Rattle.fast_check_modules.specs.declared.expandos.Expando.{Expando}
 -- a plain identifier property of an identifier
 abbrev pub is_expando_target : Tree → Bool
 is_expando_target t =
-    (kind_of t is kinds.MemberExpr) && ((kind_of (MemberExpr-obj t) is kinds.Ident) && (kind_of (MemberExpr-prop t) is kinds.IdentName))
+    (kind_of t is kinds.MemberExpr) &&
+    ((kind_of (MemberExpr-obj t) is kinds.Ident) && (kind_of (MemberExpr-prop t) is kinds.IdentName))
 
 -- such a property is assigned to, by `=`
 abbrev pub is_expando_assignment : Tree → Bool
-is_expando_assignment t = (kind_of t is kinds.AssignExpr) && (bytes_eq (AssignExpr-op t) (codes "=") && is_expando_target (AssignExpr-left t))
+is_expando_assignment t = (kind_of t is kinds.AssignExpr) &&
+    (bytes_eq (AssignExpr-op t) (codes "=") && is_expando_target (AssignExpr-left t))
 
 -- a statement that is such an assignment
 abbrev pub is_expando : Tree → Bool
@@ -31,7 +33,8 @@ id_of ident = record { 0 = Ident-sym ident; 1 = Ident-ctxt ident }
 
 -- its object, and the range of its assignment
 abbrev pub expando_of : Tree → Expando
-expando_of assignment = record { object = id_of (MemberExpr-obj (AssignExpr-left assignment)); range = AssignExpr-span assignment }
+expando_of assignment =
+    record { object = id_of (MemberExpr-obj (AssignExpr-left assignment)); range = AssignExpr-span assignment }
 
 -- what a tree is itself, if it is an expando statement
 abbrev pub own_expando : Tree → List Expando

@@ -3,8 +3,9 @@ use Rattle.std.specs.Prelude.{◌≡◌, None}
 use Rattle.std.specs.List.{Contains}
 use Rattle.fast_check_syntax.specs.declared.tree.Tree.{Tree}
 use Rattle.fast_check_symbols.specs.declared.fault.TableFault.{TableFault}
-use Rattle.fast_check_symbols.specs.declared.fault.TableFault.TheVariants.{MissingSymbol, SymbolWithoutDecl, ModuleNotUnderOwnName}
-use Rattle.fast_check_symbols.specs.declared.fault.TableFault.TheVariants.{ExpandoWithoutSymbol, OutOfMemory}
+use Rattle.fast_check_symbols.specs.declared.fault.TableFault.TheVariants.{MissingSymbol, SymbolWithoutDecl}
+use Rattle.fast_check_symbols.specs.declared.fault.TableFault.TheVariants.{ModuleNotUnderOwnName, ExpandoWithoutSymbol}
+use Rattle.fast_check_symbols.specs.declared.fault.TableFault.TheVariants.{OutOfMemory}
 use Rattle.fast_check_symbols.specs.declared.tables.ModuleTables.{ModuleTables}
 use Rattle.fast_check_symbols.specs.Tables.{table_ranges}
 use Rattle.fast_check_symbols.specs.WellFormed.{AreWellFormed, LacksDeclaration, MissesSymbol, bound_symbol}
@@ -23,7 +24,8 @@ abbrev pub IsModuleFault : ModuleTables → Tree → TableFault → Type 0
 IsModuleFault t program MissingSymbol = MissesSymbol t
 IsModuleFault t program SymbolWithoutDecl = (MissesSymbol t → ⊥) × LacksDeclaration t
 IsModuleFault t program ModuleNotUnderOwnName = ⊥
-IsModuleFault t program ExpandoWithoutSymbol = (MissesSymbol t → ⊥) × (LacksDeclaration t → ⊥) × HasUnboundExpando t program
+IsModuleFault t program ExpandoWithoutSymbol = (MissesSymbol t → ⊥) × (LacksDeclaration t → ⊥) ×
+    HasUnboundExpando t program
 IsModuleFault t program OutOfMemory = Unit {0}
 
 -- tables without fault beside a program

@@ -1,6 +1,6 @@
 -- What a set demands below a path, by what its names demand.
-use Rattle.std.proofs.Common.{◌≡◌, ◌∙◌, sym, ap, refl, subst, ⊎_elim, inl, inr, suc, get_or, true, false, ◌&&◌, not, cond, map, List, [], ◌∷◌, ◌++◌}
-use Rattle.std.proofs.Common.{Option, Some, None, String, string_bytes, ◌≢◌, ◌↔◌, append_assoc, arith}
+use Rattle.std.proofs.Common.{◌≡◌, ◌∙◌, sym, ap, refl, subst, ⊎_elim, inl, inr, suc, get_or, true, false, ◌&&◌, not, cond, map, List, []}
+use Rattle.std.proofs.Common.{◌∷◌, ◌++◌, Option, Some, None, String, string_bytes, ◌≢◌, ◌↔◌, append_assoc, arith}
 use Rattle.std.specs.Prelude.{◌⊎◌, IsTrue}
 use Rattle.std.specs.List.{Contains, AllPairs}
 use Rattle.std.specs.Str.{bytes_eq}
@@ -8,7 +8,8 @@ use Rattle.std.specs.declared.alloc.Global.{Global}
 use Rattle.std.proofs.lemmas.Bool.{false≢true, cases_Bool}
 use Rattle.std.proofs.lemmas.List.{append-nil, length-map}
 use Rattle.std.proofs.Math.ListN.{get_or-map}
-use Rattle.std.proofs.lemmas.List.Elements.{Contains-append_left, Contains-append_right, Contains-append_cases, Contains-push, Contains-push_cases}
+use Rattle.std.proofs.lemmas.List.Elements.{Contains-append_left, Contains-append_right, Contains-append_cases, Contains-push}
+use Rattle.std.proofs.lemmas.List.Elements.{Contains-push_cases}
 use Rattle.std.proofs.lemmas.Slice.Eq.{bytes_eq-Decides}
 use Rattle.fast_check_names.specs.declared.lattice.named_subset.Exports.{Exports}
 use Rattle.fast_check_names.specs.declared.lattice.named_subset.Exports.TheVariants.{All, Subset}
@@ -50,7 +51,8 @@ element_cases x y xs h = ⊎_elim
 pub gains_one : (x : NameDemand) (old : Demands) → Gains (λ d. d ≡ x) old (old ++ x ∷ [])
 gains_one x old d = (
   λ h. ⊎_elim (λ was. inl was) (λ is. inr (sym is)) (Contains-push_cases old x d h),
-  λ h. ⊎_elim (λ was. Contains-append_left old (x ∷ []) d was) (λ is. subst (λ (y : NameDemand). Contains (old ++ x ∷ []) y) (sym is) (Contains-push old x)) h,
+  λ h. ⊎_elim (λ was. Contains-append_left old (x ∷ []) d was)
+      (λ is. subst (λ (y : NameDemand). Contains (old ++ x ∷ []) y) (sym is) (Contains-push old x)) h,
 )
 
 pub gains_nothing : (old : Demands) → Gains (λ d. ⊥) old old
@@ -59,7 +61,8 @@ gains_nothing old d = (λ h. inl h, λ h. ⊎_elim (λ was. was) (λ none. absur
 pub gains_both : (P Q : NameDemand → Type 0) (old mid new : Demands) → Gains P old mid → Gains Q mid new → Gains (λ d. P d ⊎ Q d) old new
 gains_both P Q old mid new f g d = (
   λ h. ⊎_elim (λ was. ⊎_elim (λ first. inl first) (λ p. inr (inl p)) ((f d).0 was)) (λ q. inr (inr q)) ((g d).0 h),
-  λ h. ⊎_elim (λ was. (g d).1 (inl ((f d).1 (inl was)))) (λ more. ⊎_elim (λ p. (g d).1 (inl ((f d).1 (inr p)))) (λ q. (g d).1 (inr q)) more) h,
+  λ h. ⊎_elim (λ was. (g d).1 (inl ((f d).1 (inl was))))
+      (λ more. ⊎_elim (λ p. (g d).1 (inl ((f d).1 (inr p)))) (λ q. (g d).1 (inr q)) more) h,
 )
 
 pub gains_as : (P Q : NameDemand → Type 0) (old new : Demands) → ((d : NameDemand) → P d ↔ Q d) → Gains P old new → Gains Q old new
@@ -118,7 +121,8 @@ end_is path x = ap (λ p. at_end p x) (append-nil path)
 
 -- all of a name is demanded: the path whole
 
-only_whole : (path p : Path) (x : Extent) (d : NameDemand) → d ≡ at_end (path ++ p) x → is_demanded_at everything p x ≡ true → d ≡ at_end path Whole
+only_whole : (path p : Path) (x : Extent) (d : NameDemand) → d ≡ at_end (path ++ p) x → is_demanded_at everything p x ≡ true →
+    d ≡ at_end path Whole
 only_whole path [] Touched d is has = absurd (false≢true has)
 only_whole path (n ∷ p) Touched d is has = absurd (false≢true has)
 only_whole path [] Whole d is has = is ∙ end_is path Whole
@@ -142,13 +146,16 @@ subset_part : (path : Path) (s : NamedSubset) (d : NameDemand) (p : Path) (x : E
 subset_part path s d [] Touched is has = inr (is ∙ end_is path Touched)
 subset_part path s d [] Whole is has = absurd (false≢true has)
 subset_part path s d (n ∷ p) Touched is has = inl (record { below = n ∷ p; extent = Touched; is = is; has = has })
-subset_part path s d (n ∷ p) Whole is has = inl (record { below = n ∷ p; extent = Whole; is = is; has = demanded_at_name s n p Whole ∙ has })
+subset_part path s d (n ∷ p) Whole is has =
+    inl (record { below = n ∷ p; extent = Whole; is = is; has = demanded_at_name s n p Whole ∙ has })
 
-part_subset : (path : Path) (s : NamedSubset) (d : NameDemand) (p : Path) (x : Extent) → d ≡ at_end (path ++ p) x → is_demanded_at (paths s) p x ≡ true →
+part_subset : (path : Path) (s : NamedSubset) (d : NameDemand) (p : Path) (x : Extent) → d ≡ at_end (path ++ p) x →
+    is_demanded_at (paths s) p x ≡ true →
     IsPartOf path (subset_of (paths s)) d
 part_subset path s d [] x is has = absurd (false≢true (sym (demanded_at_nil s x) ∙ has))
 part_subset path s d (n ∷ p) Touched is has = record { below = n ∷ p; extent = Touched; is = is; has = has }
-part_subset path s d (n ∷ p) Whole is has = record { below = n ∷ p; extent = Whole; is = is; has = sym (demanded_at_name s n p Whole) ∙ has }
+part_subset path s d (n ∷ p) Whole is has =
+    record { below = n ∷ p; extent = Whole; is = is; has = sym (demanded_at_name s n p Whole) ∙ has }
 
 pub part_of_subset : (path : Path) (s : NamedSubset) (d : NameDemand) → IsSubsetPart path s d ↔ IsPartOf path (paths_below (Subset s)) d
 unfolding part_same
@@ -156,7 +163,8 @@ part_of_subset path s d = (
   λ h. part_same path (subset_of (paths s)) (paths_below (Subset s)) d (λ part q. sym (below_subset_is s part q))
       (⊎_elim (λ part. part_subset path s d part.below part.extent part.is part.has)
       (λ is. record { below = []; extent = Touched; is = is ∙ sym (end_is path Touched); has = refl }) h),
-  λ part. subset_part path s d part.below part.extent part.is (part_same path (paths_below (Subset s)) (subset_of (paths s)) d (below_subset_is s) part).has,
+  λ part. subset_part path s d part.below part.extent part.is
+      (part_same path (paths_below (Subset s)) (subset_of (paths s)) d (below_subset_is s) part).has,
 )
 
 -- by the list of a set's names
@@ -195,7 +203,8 @@ found (e ∷ names) n x h = ⊎_elim
       name_is = (bytes_eq-Decides n (string_bytes e.0)).0 here;
       value_is = inside (sym (ap (λ b. cond b (Some e.1) (listed_at names n)) here) ∙ h);
     })
-    (λ not_here. let later : IsFound names n x = found names n x (sym (ap (λ b. cond b (Some e.1) (listed_at names n)) not_here) ∙ h) in record {
+    (λ not_here. let later : IsFound names n x = found names n x
+    (sym (ap (λ b. cond b (Some e.1) (listed_at names n)) not_here) ∙ h) in record {
       entry = later.entry;
       among = later_of e later.entry names later.among;
       name_is = later.name_is;
@@ -205,15 +214,18 @@ found (e ∷ names) n x h = ⊎_elim
 
 -- an entry of a list whose names differ is what its name finds
 
-other_name : (e x : Entry) (names : List Entry) → AllPairs (λ n m. n ≢ m) (map name_of (x ∷ names)) → Contains names e → name_of x ≡ name_of e → ⊥
+other_name : (e x : Entry) (names : List Entry) → AllPairs (λ n m. n ≢ m) (map name_of (x ∷ names)) → Contains names e →
+    name_of x ≡ name_of e → ⊥
 other_name e x names once (k, below, is) same =
     let at : get_or (map name_of names) k (name_of e) ≡ name_of e = get_or-map name_of names k e ∙ ap name_of is in
     once 0 (suc k) (name_of e) (omega arith) (simp length-map (omega (arith, below))) (same ∙ sym at)
 
-once_later : (x : Entry) (names : List Entry) → AllPairs (λ n m. n ≢ m) (map name_of (x ∷ names)) → AllPairs (λ n m. n ≢ m) (map name_of names)
+once_later : (x : Entry) (names : List Entry) → AllPairs (λ n m. n ≢ m) (map name_of (x ∷ names)) →
+    AllPairs (λ n m. n ≢ m) (map name_of names)
 once_later x names once i j d before within = once (suc i) (suc j) d (omega (arith, before)) (omega (arith, within))
 
-listed_entry : (names : List Entry) (e : Entry) → AllPairs (λ n m. n ≢ m) (map name_of names) → Contains names e → listed_at names (name_of e) ≡ Some e.1
+listed_entry : (names : List Entry) (e : Entry) → AllPairs (λ n m. n ≢ m) (map name_of names) → Contains names e →
+    listed_at names (name_of e) ≡ Some e.1
 listed_entry [] e once among = absurd (no_element e among)
 listed_entry (x ∷ names) e once among = ⊎_elim
     (λ is. ap (λ b. cond b (Some x.1) (listed_at names (name_of e))) ((bytes_eq-Decides (name_of e) (name_of x)).1 (ap name_of (sym is))) ∙
@@ -227,7 +239,8 @@ listed_entry (x ∷ names) e once among = ⊎_elim
 -- what an entry has below its name is what the set has there
 pub entry_paths : (s : NamedSubset) (names : List Entry) (e : Entry) → IsListed (paths s) names → Contains names e →
     IsSame (λ part q. paths s part (name_of e ∷ q)) (paths_below e.1)
-entry_paths s names e listed among part q = listed.each (name_of e) part q ∙ ap (λ o. paths_at o part q) (listed_entry names e listed.once among)
+entry_paths s names e listed among part q = listed.each (name_of e) part q ∙
+    ap (λ o. paths_at o part q) (listed_entry names e listed.once among)
 
 longer_is : (path : Path) (n : Name) (p : Path) → (path ++ n ∷ []) ++ p ≡ path ++ n ∷ p
 longer_is path n p = append_assoc path (n ∷ []) p
@@ -239,7 +252,8 @@ from_entry path s names d listed each = record {
   extent = each.part.extent;
   is = each.part.is ∙ ap (λ p. path_demand p each.part.extent) (longer_is path (name_of each.entry) each.part.below);
   has = demanded_at_name s (name_of each.entry) each.part.below each.part.extent ∙
-      (demanded_same (λ part q. paths s part (name_of each.entry ∷ q)) (paths_below each.entry.1) (entry_paths s names each.entry listed each.among)
+      (demanded_same (λ part q. paths s part (name_of each.entry ∷ q)) (paths_below each.entry.1)
+      (entry_paths s names each.entry listed each.among)
       each.part.below each.part.extent ∙ each.part.has);
 }
 
@@ -253,7 +267,8 @@ under_name path names d n p x is (Some v) at has =
       part = record {
         below = p;
         extent = x;
-        is = is ∙ (ap (λ m. path_demand (path ++ m ∷ p) x) own.name_is ∙ ap (λ q. path_demand q x) (sym (longer_is path (name_of own.entry) p)));
+        is = is ∙
+            (ap (λ m. path_demand (path ++ m ∷ p) x) own.name_is ∙ ap (λ q. path_demand q x) (sym (longer_is path (name_of own.entry) p)));
         has = ap (λ y. is_demanded_at (paths_below y) p x) own.value_is ∙ has;
       };
     }
@@ -262,7 +277,8 @@ to_entry : (path : Path) (s : NamedSubset) (names : List Entry) (d : NameDemand)
     d ≡ path_demand (path ++ p) x → is_demanded_at (paths s) p x ≡ true → IsPartOfEach path names d
 to_entry path s names d listed [] x is has = absurd (false≢true (sym (demanded_at_nil s x) ∙ has))
 to_entry path s names d listed (n ∷ p) x is has = under_name path names d n p x is (listed_at names n) refl
-    (sym (demanded_same (λ part q. paths s part (n ∷ q)) (paths_at (listed_at names n)) (listed.each n) p x) ∙ (sym (demanded_at_name s n p x) ∙ has))
+    (sym (demanded_same (λ part q. paths s part (n ∷ q)) (paths_at (listed_at names n)) (listed.each n) p x) ∙
+    (sym (demanded_at_name s n p x) ∙ has))
 
 pub parts_by_name : (path : Path) (s : NamedSubset) (names : List Entry) → IsListed (paths s) names → (d : NameDemand) →
     IsPartOfEach path names d ↔ IsPartOf path (paths s) d
@@ -309,7 +325,8 @@ to_own s (whole_at (n ∷ p)) has = record { below = n ∷ p; extent = Whole; is
 -- where a name is touched, something is demanded
 not_empty : (s : NamedSubset) (n : Name) → IsTrue (paths s touched (n ∷ [])) → IsEmpty (SubsetOf s) → ⊥
 not_empty s n has empty = ⊎_elim
-    (λ whole. false≢true (sym (empty (whole_at (n ∷ []))) ∙ (ap (λ b. not b && paths s Covered (n ∷ [])) (paths_opened_nil s Covered) ∙ whole)))
+    (λ whole. false≢true
+    (sym (empty (whole_at (n ∷ []))) ∙ (ap (λ b. not b && paths s Covered (n ∷ [])) (paths_opened_nil s Covered) ∙ whole)))
     (λ part. false≢true (sym (empty (subset_at (n ∷ []))) ∙ (ap (λ b. b && not (paths s Covered (n ∷ []))) has ∙ ap not part)))
     (cases_Bool (paths s Covered (n ∷ [])))
 
@@ -332,7 +349,8 @@ empty_set s h (whole_at p) = nothing_at s h p Whole
 pub of_no_names : (s : NamedSubset) → IsSame (paths s) nothing → AreDemands (SubsetOf s) (subset_at [] ∷ [])
 of_no_names s h d = (
   λ among. ⊎_elim (λ none. absurd (no_element d none)) (λ is. inr (empty_set s h, sym is)) (Contains-push_cases [] (subset_at []) d among),
-  λ own. ⊎_elim (λ has. absurd (false≢true (sym (empty_set s h d) ∙ has))) (λ is. subst (λ (y : NameDemand). Contains (subset_at [] ∷ []) y) (sym is.1)
+  λ own. ⊎_elim (λ has. absurd (false≢true (sym (empty_set s h d) ∙ has)))
+      (λ is. subst (λ (y : NameDemand). Contains (subset_at [] ∷ []) y) (sym is.1)
       (Contains-push [] (subset_at []))) own,
 )
 

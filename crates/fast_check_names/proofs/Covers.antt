@@ -1,6 +1,6 @@
 -- All is written over a subset that lists no other, and its node is taken out.
-use Rattle.std.proofs.Common.{◌≡◌, ◌∙◌, sym, ap, refl, subst, ⊎_elim, ℕ, zero, suc, ◌+◌, ◌-◌, ◌<◌, ◌≤◌, Bool, true, ◌&&◌, cond, eqb, not, [], ◌∷◌}
-use Rattle.std.proofs.Common.{List, Some, None, arith, get_or, length, map}
+use Rattle.std.proofs.Common.{◌≡◌, ◌∙◌, sym, ap, refl, subst, ⊎_elim, ℕ, zero, suc, ◌+◌, ◌-◌, ◌<◌, ◌≤◌, Bool, true, ◌&&◌, cond, eqb, not}
+use Rattle.std.proofs.Common.{[], ◌∷◌, List, Some, None, arith, get_or, length, map}
 use Rattle.std.specs.List.{remove}
 use Rattle.std.specs.Str.{bytes_eq}
 use Rattle.std.proofs.lemmas.Bool.{false≢true, ne_eqb, eq-eqb, cases_order, cases_lt}
@@ -8,7 +8,8 @@ use Rattle.fast_check_names.specs.declared.lattice.node.NodeNo.{NodeNo}
 use Rattle.fast_check_names.specs.declared.lattice.node.Below.{Below}
 use Rattle.fast_check_names.specs.declared.lattice.node.Below.TheVariants.{All, Subset}
 use Rattle.fast_check_names.specs.Order.{Name, found}
-use Rattle.fast_check_names.specs.Graph.{Graph, IsTree, IsWritten, IsTakenOut, ListsNoSubset, listings, entry, lower, lower_entries, raise, moved, moved_below}
+use Rattle.fast_check_names.specs.Graph.{Graph, IsTree, IsWritten, IsTakenOut, ListsNoSubset, listings, entry, lower, lower_entries, raise}
+use Rattle.fast_check_names.specs.Graph.{moved, moved_below}
 use Rattle.fast_check_names.specs.declared.lattice.node.Node.{Node}
 use Rattle.fast_check_names.specs.Names.{whole_below, everything, IsAdded}
 use Rattle.fast_check_names.proofs.Lists.{mapped_at, mapped_found}
@@ -56,7 +57,8 @@ raise_apart (suc g) zero e = omega (arith, e)
 raise_apart (suc g) (suc k) e = raise_apart g k (omega (arith, e))
 
 -- what the nodes list when one is taken out
-pub left_at : (nodes : List Node) (gone k : ℕ) → gone < length nodes → get_or (listings (remove nodes gone)) k [] ≡ get_or (listings nodes) (raise gone k) []
+pub left_at : (nodes : List Node) (gone k : ℕ) → gone < length nodes →
+    get_or (listings (remove nodes gone)) k [] ≡ get_or (listings nodes) (raise gone k) []
 left_at [] gone k h = absurd (omega (arith, h))
 left_at (x ∷ nodes) zero k h = refl
 left_at (x ∷ nodes) (suc g) zero h = refl
@@ -99,7 +101,8 @@ module _ (g h w : Graph) (size at : ℕ) (name : Name) (no : NodeNo) (tree : IsT
   stays : (k : ℕ) (n : Name) (j : NodeNo) → (j.0 ≡ no.0 → ⊥) → g k n ≡ Some (Subset j) → h k n ≡ Some (Subset j)
   stays k n j d e = ⊎_elim
       (λ (s : (k ≡ at) × (name ≡ n) × ((eqb k at && bytes_eq name n) ≡ true)).
-      let found : g k n ≡ Some (Subset no) = subst (λ (m : Name). g k m ≡ Some (Subset no)) s.1 (subst (λ (i : ℕ). g i name ≡ Some (Subset no)) (sym s.0) link) in
+      let found : g k n ≡ Some (Subset no) = subst (λ (m : Name). g k m ≡ Some (Subset no)) s.1
+      (subst (λ (i : ℕ). g i name ≡ Some (Subset no)) (sym s.0) link) in
       absurd (d (ap (λ (x : NodeNo). x.0) (subset_is j no (sym e ∙ found)))))
       (λ s. written k n ∙ (ap (λ b. cond b (Some All) (g k n)) s ∙ e))
       (at_or_not k at name n)
@@ -120,7 +123,8 @@ module _ (g h w : Graph) (size at : ℕ) (name : Name) (no : NodeNo) (tree : IsT
       (λ (low : j < no.0). ⊎_elim (λ (e : k ≡ no.0). absurd (b e)) (⊎_elim
       (λ (l : k < no.0). omega (arith, lower_small no.0 j (omega (arith, low)), lower_small no.0 k (omega (arith, l)), h))
       (λ (l : no.0 < k). omega (arith, lower_small no.0 j (omega (arith, low)), lower_large no.0 k l, low, l))) (cases_order k no.0))
-      (λ (high : no.0 < j). let l : no.0 < k = omega (arith, high, h) in omega (arith, lower_large no.0 j high, lower_large no.0 k l, h))) (cases_order j no.0)
+      (λ (high : no.0 < j). let l : no.0 < k = omega (arith, high, h) in omega (arith, lower_large no.0 j high, lower_large no.0 k l, h)))
+      (cases_order j no.0)
 
   within_by : (k : ℕ) → k < size → (k ≡ no.0 → ⊥) → lower no.0 k < size - 1
   within_by k h d = ⊎_elim (λ (e : k ≡ no.0). absurd (d e)) (⊎_elim
@@ -128,7 +132,8 @@ module _ (g h w : Graph) (size at : ℕ) (name : Name) (no : NodeNo) (tree : IsT
       (λ (l : no.0 < k). omega (arith, lower_large no.0 k l, h))) (cases_order k no.0)
 
   raised_within : (m : ℕ) → m < size - 1 → raise no.0 m < size
-  raised_within m h = ⊎_elim (λ (l : m < no.0). omega (arith, raise_small no.0 m l, h)) (λ (l : no.0 ≤ m). omega (arith, raise_large no.0 m l, h)) (cases_lt m no.0)
+  raised_within m h = ⊎_elim (λ (l : m < no.0). omega (arith, raise_small no.0 m l, h))
+      (λ (l : no.0 ≤ m). omega (arith, raise_large no.0 m l, h)) (cases_lt m no.0)
 
   compacted : IsCompacted h size (is_live no.0) (lower no.0) w (size - 1)
   compacted = record {
@@ -140,7 +145,8 @@ module _ (g h w : Graph) (size at : ℕ) (name : Name) (no : NodeNo) (tree : IsT
         let p = tree.parent j some high in
         let l = tree.later p.0.0 p.0.1 (record { 0 = j }) p.1 in (
           p.0,
-          live_from no.0 p.0.0 (λ e. plain p.0.1 (record { 0 = j }) (subst (λ (i : ℕ). g i p.0.1 ≡ Some (Subset (record { 0 = j }))) e p.1)),
+          live_from no.0 p.0.0
+              (λ e. plain p.0.1 (record { 0 = j }) (subst (λ (i : ℕ). g i p.0.1 ≡ Some (Subset (record { 0 = j }))) e p.1)),
           omega (arith, l.0, l.1),
           stays p.0.0 p.0.1 (record { 0 = j }) (live_back no.0 j live) p.1,
         );
@@ -149,7 +155,8 @@ module _ (g h w : Graph) (size at : ℕ) (name : Name) (no : NodeNo) (tree : IsT
     within = λ k h live. within_by k h (live_back no.0 k live);
     onto = λ m h. (raise no.0 m, raised_within m h, live_from no.0 (raise no.0 m) (raise_apart no.0 m), lower_raise no.0 m);
     keeps = λ k n low live. out (lower no.0 k) n ∙ ap (λ i. moved (lower no.0) (h i n)) (raise_lower no.0 k (live_back no.0 k live));
-    past = λ m n l. out m n ∙ ap (moved (lower no.0)) (past (raise no.0 m) n (omega (arith, raise_large no.0 m (omega (arith, l, ends.1)), l)));
+    past = λ m n l. out m n ∙
+        ap (moved (lower no.0)) (past (raise no.0 m) n (omega (arith, raise_large no.0 m (omega (arith, l, ends.1)), l)));
   }
 
   pub tree_covered : IsTree w (size - 1)
@@ -159,10 +166,12 @@ module _ (g h w : Graph) (size at : ℕ) (name : Name) (no : NodeNo) (tree : IsT
   cover_added part n q =
       rooted_compacted h size (is_live no.0) (lower no.0) w (size - 1) compacted (omega (arith, ends.1)) part (n ∷ q) ∙
       (let put = put_all g h size at name written in
-      grown g h size at name put.now everything (whole_below (name ∷ [])) tree put.low (λ part x q. refl) put.gain 0 (omega (arith, ends.1)) n part q)
+      grown g h size at name put.now everything (whole_below (name ∷ [])) tree put.low (λ part x q. refl) put.gain 0
+      (omega (arith, ends.1)) n part q)
 
 -- what the nodes list when one is taken out, under lowered numbers
-pub taken_out : (nodes all : List Node) (gone : ℕ) → gone < length nodes → listings all ≡ map (lower_entries gone) (listings (remove nodes gone)) →
+pub taken_out : (nodes all : List Node) (gone : ℕ) → gone < length nodes →
+    listings all ≡ map (lower_entries gone) (listings (remove nodes gone)) →
     IsTakenOut (entry nodes) gone (entry all)
 taken_out nodes all gone within is k n =
     ap (λ ls. found (get_or ls k []) n) is ∙

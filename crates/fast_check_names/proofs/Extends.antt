@@ -1,6 +1,6 @@
 -- What a set gains at one node.
-use Rattle.std.proofs.Common.{◌≡◌, ◌∙◌, sym, ap, refl, subst, ⊎_elim, ℕ, suc, ◌+◌, ◌<◌, ◌≤◌, Bool, true, false, ◌&&◌, ◌||◌, cond, List, [], ◌∷◌, ◌++◌}
-use Rattle.std.proofs.Common.{Option, Some, None, arith, length, get_or, string_bytes, append_assoc}
+use Rattle.std.proofs.Common.{◌≡◌, ◌∙◌, sym, ap, refl, subst, ⊎_elim, ℕ, suc, ◌+◌, ◌<◌, ◌≤◌, Bool, true, false, ◌&&◌, ◌||◌, cond, List, []}
+use Rattle.std.proofs.Common.{◌∷◌, ◌++◌, Option, Some, None, arith, length, get_or, string_bytes, append_assoc}
 use Rattle.std.specs.Option.{is_some, IfSome}
 use Rattle.std.specs.Prelude.{Vec, vec_len}
 use Rattle.std.specs.declared.alloc.Global.{Global}
@@ -13,7 +13,8 @@ use Rattle.fast_check_names.specs.declared.lattice.node.Below.TheVariants.{Subse
 use Rattle.fast_check_names.specs.declared.lattice.named_subset.NamedSubset.{NamedSubset}
 use Rattle.fast_check_names.specs.Tree.{IsTree-prop}
 use Rattle.fast_check_names.specs.Order.{Name, Entry, found, name_at, IsOnce}
-use Rattle.fast_check_names.specs.Graph.{Graph, Part, Touched, Path, NameSet, entry, reach, below_node, rooted, subset_of, IsTree, AreApart, LacksNames, HasRoom, either_of}
+use Rattle.fast_check_names.specs.Graph.{Graph, Part, Touched, Path, NameSet, entry, reach, below_node, rooted, subset_of, IsTree, AreApart}
+use Rattle.fast_check_names.specs.Graph.{LacksNames, HasRoom, either_of}
 use Rattle.fast_check_names.specs.Names.{IsAdded, IsJoint, IsJoin, IsNameSet, IsLeastDifference, IsSame, nothing}
 use Rattle.fast_check_names.proofs.Walks.{name_tells, descends, or_false}
 use Rattle.fast_check_names.proofs.Places.{some_entry, found_first, found_none, once_before, once_push}
@@ -22,7 +23,8 @@ use Rattle.fast_check_names.proofs.Alike.{touched_some}
 use Rattle.fast_check_names.proofs.Copies.{subset_reach, past_nothing}
 
 pub itself : (n : Name) → bytes_eq n n ≡ true
-itself n = ⊎_elim (λ (t : (bytes_eq n n ≡ true) × (n ≡ n)). t.0) (λ (t : (bytes_eq n n ≡ false) × (n ≡ n → ⊥)). absurd (t.1 refl)) (name_tells n n)
+itself n = ⊎_elim (λ (t : (bytes_eq n n ≡ true) × (n ≡ n)). t.0) (λ (t : (bytes_eq n n ≡ false) × (n ≡ n → ⊥)). absurd (t.1 refl))
+    (name_tells n n)
 
 -- a name that stands at a place is found
 pub no_place : (es : List Entry) → IsOnce es → (n : Name) (i : ℕ) → i < length es → name_at es i ≡ n → found es n ≡ None → ⊥
@@ -38,7 +40,8 @@ behind_first f fs once = found_none fs (string_bytes f.0) (λ k w same. once 0 (
 pub found_append : (es fs : List Entry) (n : Name) → found (es ++ fs) n ≡ either_of (found es n) (found fs n)
 found_append [] fs n = refl
 found_append (e ∷ es) fs n =
-    elim (bytes_eq (string_bytes e.0) n) as (λ b. cond b (Some e.1) (found (es ++ fs) n) ≡ either_of (cond b (Some e.1) (found es n)) (found fs n))
+    elim (bytes_eq (string_bytes e.0) n) as
+    (λ b. cond b (Some e.1) (found (es ++ fs) n) ≡ either_of (cond b (Some e.1) (found es n)) (found fs n))
     [ true ↦ refl | false ↦ found_append es fs n ]
 
 -- two lists that have no name in common
@@ -68,23 +71,28 @@ once_append es (f ∷ fs) e_once f_once apart =
         (λ (t : (bytes_eq (string_bytes f.0) n ≡ false) × (string_bytes f.0 ≡ n → ⊥)). t.0)
         (name_tells (string_bytes f.0) n) in
         found_append es (f ∷ []) n ∙
-        (ap (λ o. either_of o (cond (bytes_eq (string_bytes f.0) n) (Some f.1) None)) (apart n (ap is_some (ap (λ b. cond b (Some f.1) (found fs n)) other) ∙ some)) ∙
+        (ap (λ o. either_of o (cond (bytes_eq (string_bytes f.0) n) (Some f.1) None))
+        (apart n (ap is_some (ap (λ b. cond b (Some f.1) (found fs n)) other) ∙ some)) ∙
         ap (λ b. cond b (Some f.1) None) other)
 
 -- a list of one name
-pub found_alone : (es : List Entry) (d : Entry) → length es ≡ 1 → d ≡ get_or es 0 d → (n : Name) → found es n ≡ cond (bytes_eq (string_bytes d.0) n) (Some d.1) None
+pub found_alone : (es : List Entry) (d : Entry) → length es ≡ 1 → d ≡ get_or es 0 d → (n : Name) →
+    found es n ≡ cond (bytes_eq (string_bytes d.0) n) (Some d.1) None
 found_alone [] d one is n = absurd (omega (arith, one))
 found_alone (e ∷ []) d one is n = ap (λ (x : Entry). cond (bytes_eq (string_bytes x.0) n) (Some x.1) None) (sym is)
 found_alone (e ∷ f ∷ es) d one is n = absurd (omega (arith, one))
 
 -- where one node lists one name alone, what is below it comes below that name
-module _ (g : Graph) (size at : ℕ) (h : Graph) (other : ℕ) (name : Name) (no next : NodeNo) (tree : IsTree g size) (link : g at name ≡ Some (Subset no))
+module _ (g : Graph) (size at : ℕ) (h : Graph) (other : ℕ) (name : Name) (no next : NodeNo) (tree : IsTree g size)
+    (link : g at name ≡ Some (Subset no))
     (alone : (n : Name) → h other n ≡ cond (bytes_eq name n) (Some (Subset next)) None) where
-  below_alone : (b : Bool) (part : Part) (q : Path) → reach h (cond b (Some (Subset next)) None) part q ≡ (b && subset_of (below_node h next.0) part q)
+  below_alone : (b : Bool) (part : Part) (q : Path) → reach h (cond b (Some (Subset next)) None) part q ≡
+      (b && subset_of (below_node h next.0) part q)
   below_alone true part q = sym (subset_reach h next part q)
   below_alone false part q = none_is h part q
 
-  named_alone : (part : Part) (x : Name) (q : Path) → subset_of (below_node h other) part (x ∷ q) ≡ (bytes_eq name x && subset_of (below_node h next.0) part q)
+  named_alone : (part : Part) (x : Name) (q : Path) → subset_of (below_node h other) part
+      (x ∷ q) ≡ (bytes_eq name x && subset_of (below_node h next.0) part q)
   named_alone part x q = ap (λ o. reach h o part q) (alone x) ∙ below_alone (bytes_eq name x) part q
 
   pub joint_down : (r : ℕ × ℕ) → IsJoint g size no.0 h next.0 r → IsJoint g size at h other r
@@ -109,7 +117,8 @@ either_way false false true a b = a refl
 either_way false false false a b = refl
 
 -- a set joined with what it lacks of another is joined with that
-pub joined_by_rest : (old new rest joined : NameSet) → IsNameSet new → IsNameSet rest → IsLeastDifference old new rest → IsJoin old rest joined → IsJoin old new joined
+pub joined_by_rest : (old new rest joined : NameSet) → IsNameSet new → IsNameSet rest → IsLeastDifference old new rest →
+    IsJoin old rest joined → IsJoin old new joined
 joined_by_rest old new rest joined new_set rest_set least join part p = join part p ∙
     either_way (old part p) (rest part p) (new part p)
     (λ t. (least rest rest_set).0 (λ s q u. u) part p t)
@@ -127,11 +136,13 @@ has_root nodes n some = ⊎_elim (λ (h : 0 < length nodes). h)
 -- a set is its nodes
 pub same_set : (s t : NamedSubset) → s.nodes ≡ t.nodes → s ≡ t
 same_set s t e =
-    let P : Vec Node Global → Type 0 = λ v. (d : IsTree (entry v.items) (vec_len v)) → (let r : NamedSubset = record { nodes = v; tree = d } in s ≡ r) in
+    let P : Vec Node Global → Type 0 = λ v. (d : IsTree (entry v.items) (vec_len v)) →
+    (let r : NamedSubset = record { nodes = v; tree = d } in s ≡ r) in
     subst P e (λ d i. record { nodes = s.nodes; tree = IsTree-prop (entry s.nodes.items) (vec_len s.nodes) s.tree d i }) t.tree
 
 -- room for more is room for what is there
-pub some_room : {X : Type 0} (items : Vec X Global) (more : ℕ) (room : Option (Vec X Global)) → HasRoom items more room → HasRoom items 0 room
+pub some_room : {X : Type 0} (items : Vec X Global) (more : ℕ) (room : Option (Vec X Global)) → HasRoom items more room →
+    HasRoom items 0 room
 some_room items more None h = omega (arith, h)
 some_room items more (Some v) h = (h.0, omega (arith, h.1))
 
@@ -140,12 +151,15 @@ if_some_from None f p = tt
 if_some_from (Some x) f p = f x p
 
 -- what one node gains of another set, is gained by the whole
-pub joint_here : (g : Graph) (size at : ℕ) (h : Graph) (other : ℕ) → at < size → LacksNames (g at) (h other) → IsJoint g size at h other (at, other)
+pub joint_here : (g : Graph) (size at : ℕ) (h : Graph) (other : ℕ) → at < size → LacksNames (g at) (h other) →
+    IsJoint g size at h other (at, other)
 joint_here g size at h other within apart = record { within = within; apart = apart; enough = λ w added. added }
 
 -- a copy has the names of what it is a copy of
-pub names_lacked : (g h s : Graph) (at other : ℕ) → LacksNames (g at) (h other) → IsSame (rooted s) (below_node h other) → LacksNames (g at) (s 0)
-names_lacked g h s at other apart same n some = apart n (sym (touched_some h (h other n)) ∙ (sym (same Touched (n ∷ [])) ∙ (touched_some s (s 0 n) ∙ some)))
+pub names_lacked : (g h s : Graph) (at other : ℕ) → LacksNames (g at) (h other) → IsSame (rooted s) (below_node h other) →
+    LacksNames (g at) (s 0)
+names_lacked g h s at other apart same n some =
+    apart n (sym (touched_some h (h other n)) ∙ (sym (same Touched (n ∷ [])) ∙ (touched_some s (s 0 n) ∙ some)))
 
 -- the same element of a list and of a longer one
 pub same_element : (xs ys : List Node) (i : ℕ) (a b : Node) → i < length xs → a ≡ get_or (xs ++ ys) i a → b ≡ get_or xs i b → a ≡ b

@@ -1,6 +1,6 @@
 -- The nodes of one path: they are a tree, and its paths are those of the path whole.
-use Rattle.std.proofs.Common.{◌≡◌, ◌∙◌, sym, ap, refl, subst, ⊎_elim, ℕ, zero, suc, ◌+◌, ◌-◌, ◌<◌, ◌≤◌, Bool, true, false, ◌&&◌, cond, eqb, List, [], ◌∷◌, ◌++◌}
-use Rattle.std.proofs.Common.{Option, Some, None, arith, length, get_or, String}
+use Rattle.std.proofs.Common.{◌≡◌, ◌∙◌, sym, ap, refl, subst, ⊎_elim, ℕ, zero, suc, ◌+◌, ◌-◌, ◌<◌, ◌≤◌, Bool, true, false, ◌&&◌, cond, eqb}
+use Rattle.std.proofs.Common.{List, [], ◌∷◌, ◌++◌, Option, Some, None, arith, length, get_or, String}
 use Rattle.std.specs.declared.alloc.Global.{Global}
 use Rattle.std.specs.Str.{bytes_eq}
 use Rattle.std.proofs.lemmas.Bool.{false≢true, cases_lt, ne_eqb}
@@ -21,34 +21,41 @@ use Rattle.fast_check_names.proofs.Copies.{past_none}
 use Rattle.fast_check_names.proofs.Walks.{name_tells}
 
 -- one name of the path, where what it has below it is known
-first_line : (g : Graph) (n : Name) (p : Path) (base : ℕ) → ((k : ℕ) (m : Name) → g (base + k) m ≡ line_from (n ∷ p) base k m) → (part : Part) (m : Name) (q : Path) →
+first_line : (g : Graph) (n : Name) (p : Path) (base : ℕ) → ((k : ℕ) (m : Name) → g (base + k) m ≡ line_from (n ∷ p) base k m) →
+    (part : Part) (m : Name) (q : Path) →
     reach g (Some (link base p)) part q ≡ whole_below p part q → below_node g base part (m ∷ q) ≡ whole_path (n ∷ p) part (m ∷ q)
 first_line g n p base is part m q known =
     let here : base ≡ base + 0 = omega arith in
     ap (λ o. reach g o part q) (ap (λ b. g b m) here ∙ is 0 m) ∙
-    (elim (bytes_eq n m) as (λ b. reach g (cond b (Some (link base p)) None) part q ≡ (b && whole_below p part q)) [ true ↦ known | false ↦ none_is g part q ])
+    (elim (bytes_eq n m) as
+    (λ b. reach g (cond b (Some (link base p)) None) part q ≡ (b && whole_below p part q)) [ true ↦ known | false ↦ none_is g part q ])
 
-later_line : (g : Graph) (n : Name) (p : Path) (base : ℕ) → ((k : ℕ) (m : Name) → g (base + k) m ≡ line_from (n ∷ p) base k m) → (k : ℕ) (m : Name) →
+later_line : (g : Graph) (n : Name) (p : Path) (base : ℕ) → ((k : ℕ) (m : Name) → g (base + k) m ≡ line_from (n ∷ p) base k m) →
+    (k : ℕ) (m : Name) →
     g (suc base + k) m ≡ line_from p (suc base) k m
 later_line g n p base is k m = let up : suc base + k ≡ base + suc k = omega arith in ap (λ b. g b m) up ∙ is (suc k) m
 
 -- what stands under a name, where the next nodes are the rest of the path
-reach_line : (g : Graph) (p : Path) (base : ℕ) → ((k : ℕ) (n : Name) → g (suc base + k) n ≡ line_from p (suc base) k n) → (part : Part) (q : Path) →
+reach_line : (g : Graph) (p : Path) (base : ℕ) → ((k : ℕ) (n : Name) → g (suc base + k) n ≡ line_from p (suc base) k n) →
+    (part : Part) (q : Path) →
     reach g (Some (link base p)) part q ≡ whole_below p part q
 reach_line g [] base is part [] = refl
 reach_line g [] base is part (y ∷ q) = refl
 reach_line g (x ∷ p) base is part [] = refl
-reach_line g (x ∷ p) base is part (y ∷ q) = first_line g x p (suc base) is part y q (reach_line g p (suc base) (later_line g x p (suc base) is) part q)
+reach_line g (x ∷ p) base is part (y ∷ q) = first_line g x p (suc base) is part y q
+    (reach_line g p (suc base) (later_line g x p (suc base) is) part q)
 
 pub line_whole : (g : Graph) (p : Path) → ((k : ℕ) (n : Name) → g k n ≡ line p k n) → IsSame (rooted g) (whole_path p)
 line_whole g [] is part [] = refl
 line_whole g [] is part (m ∷ q) = ap (λ o. reach g o part q) (is 0 m) ∙ none_is g part q
 line_whole g (n ∷ p) is part [] = refl
 line_whole g (n ∷ p) is part (m ∷ q) =
-    let from : (k : ℕ) (x : Name) → g (0 + k) x ≡ line_from (n ∷ p) 0 k x = λ k x. let e : 0 + k ≡ k = omega arith in ap (λ b. g b x) e ∙ is k x in
+    let from : (k : ℕ) (x : Name) → g (0 + k) x ≡ line_from (n ∷ p) 0 k x = λ k x. let e : 0 + k ≡ k = omega arith in ap (λ b. g b x) e ∙
+    is k x in
     first_line g n p 0 from part m q (reach_line g p 0 (later_line g n p 0 from) part q)
 
-line_says : (p : Path) (base k : ℕ) (n : Name) (j : NodeNo) → line_from p base k n ≡ Some (Subset j) → (j.0 ≡ suc (base + k)) × (suc k < length p) × (get_or p k [] ≡ n)
+line_says : (p : Path) (base k : ℕ) (n : Name) (j : NodeNo) → line_from p base k n ≡ Some (Subset j) → (j.0 ≡ suc (base + k)) ×
+    (suc k < length p) × (get_or p k [] ≡ n)
 line_says [] base k n j h = cc
 line_says (m ∷ []) base zero n j h = absurd (all_not (bytes_eq m n) h)
   where
@@ -57,7 +64,8 @@ line_says (m ∷ []) base zero n j h = absurd (all_not (bytes_eq m n) h)
     all_not false e = cc
 line_says (m ∷ x ∷ p) base zero n j h = ⊎_elim
     (λ (t : (bytes_eq m n ≡ true) × (m ≡ n)).
-    let e : Some (Subset (record { 0 = suc base })) ≡ Some (Subset j) = sym (ap (λ b. cond b (Some (Subset (record { 0 = suc base }))) None) t.0) ∙ h in
+    let e : Some (Subset (record { 0 = suc base })) ≡ Some (Subset j) =
+    sym (ap (λ b. cond b (Some (Subset (record { 0 = suc base }))) None) t.0) ∙ h in
     let is : j.0 ≡ suc base = number (record { 0 = suc base }) j e in
     (omega (arith, is), omega arith, t.1))
     (λ (f : (bytes_eq m n ≡ false) × (m ≡ n → ⊥)).
@@ -84,7 +92,8 @@ line_gives (m ∷ p) base (suc k) h =
 
 pub tree_line : (g : Graph) (p : Path) → ((k : ℕ) (n : Name) → g k n ≡ line p k n) → IsTree g (length p)
 tree_line g p is = record {
-  later = λ k n j h. let s = line_says p 0 k n j (sym (is k n) ∙ h) in let a = s.0 in let b = s.1 in (omega (arith, a), omega (arith, a, b));
+  later = λ k n j h. let s = line_says p 0 k n j (sym (is k n) ∙ h) in let a = s.0 in let b =
+      s.1 in (omega (arith, a), omega (arith, a, b));
   once = λ k n l m j h i.
       let s = line_says p 0 k n j (sym (is k n) ∙ h) in
       let t = line_says p 0 l m j (sym (is l m) ∙ i) in
@@ -93,8 +102,11 @@ tree_line g p is = record {
       let same : k ≡ l = omega (arith, a, b) in
       (same, sym s.2 ∙ (ap (λ x. get_or p x []) same ∙ t.2));
   parent = λ j low high.
-      let e : suc (0 + (j - 1)) ≡ j = omega (arith, low) in
-      ((j - 1, get_or p (j - 1) []), is (j - 1) (get_or p (j - 1) []) ∙ (line_gives p 0 (j - 1) (omega (arith, low, high)) ∙ ap (λ x. Some (Subset (record { 0 = x }))) e));
+      let e : suc (0 + (j - 1)) ≡ j = omega (arith, low) in (
+        (j - 1, get_or p (j - 1) []),
+        is (j - 1) (get_or p (j - 1) []) ∙
+            (line_gives p 0 (j - 1) (omega (arith, low, high)) ∙ ap (λ x. Some (Subset (record { 0 = x }))) e),
+      );
 }
 
 link_last : (count k : ℕ) → k + 1 ≡ count → link_at count k ≡ All
@@ -106,7 +118,8 @@ link_last count k e = ⊎_elim
 link_next : (count k : ℕ) → (k + 1 ≡ count → ⊥) → link_at count k ≡ Subset (record { 0 = k + 1 })
 link_next count k d = ap (λ b. cond b All (Subset (record { 0 = k + 1 }))) (ne_eqb (k + 1) count d)
 
-line_at : (p : Path) (base k : ℕ) (n : Name) → k < length p → line_from p base k n ≡ cond (bytes_eq (get_or p k []) n) (Some (link_at (base + length p) (base + k))) None
+line_at : (p : Path) (base k : ℕ) (n : Name) → k < length p → line_from p base k n ≡ cond (bytes_eq (get_or p k []) n)
+    (Some (link_at (base + length p) (base + k))) None
 line_at [] base k n h = absurd (omega (arith, h))
 line_at (m ∷ []) base zero n h =
     let e : (base + 0) + 1 ≡ base + 1 = omega arith in
@@ -114,7 +127,8 @@ line_at (m ∷ []) base zero n h =
 line_at (m ∷ x ∷ p) base zero n h =
     let d : (base + 0) + 1 ≡ base + suc (suc (length p)) → ⊥ = λ e. omega (arith, e) in
     let e : suc base ≡ (base + 0) + 1 = omega arith in
-    ap (λ y. cond (bytes_eq m n) (Some y) None) (ap (λ k. Subset (record { 0 = k })) e ∙ sym (link_next (base + suc (suc (length p))) (base + 0) d))
+    ap (λ y. cond (bytes_eq m n) (Some y) None)
+    (ap (λ k. Subset (record { 0 = k })) e ∙ sym (link_next (base + suc (suc (length p))) (base + 0) d))
 line_at (m ∷ p) base (suc k) n h =
     let a : suc base + length p ≡ base + suc (length p) = omega arith in
     let b : suc base + k ≡ base + suc k = omega arith in
@@ -132,7 +146,8 @@ abbrev pub IsBegun : Path → List Node → ℕ → Type 0
 IsBegun p nodes place = (length nodes ≡ place) × ((k : ℕ) (n : Name) → k < place → entry nodes k n ≡ line p k n)
 
 pub line_more : (p : Path) (nodes : List Node) (place : ℕ) (x : Node) → IsBegun p nodes place → place < length p →
-    ((n : Name) → found x.names.items n ≡ cond (bytes_eq (get_or p place []) n) (Some (link_at (length p) place)) None) → IsBegun p (nodes ++ x ∷ []) (place + 1)
+    ((n : Name) → found x.names.items n ≡ cond (bytes_eq (get_or p place []) n) (Some (link_at (length p) place)) None) →
+    IsBegun p (nodes ++ x ∷ []) (place + 1)
 line_more p nodes place x begun within is = (
   omega (arith, length-append nodes (x ∷ []), begun.0),
   λ k n h. ⊎_elim
@@ -149,7 +164,8 @@ line_more p nodes place x begun within is = (
       (cases_lt k place),
 )
 
-pub line_all : (p : Path) (nodes : List Node) (place : ℕ) → IsBegun p nodes place → length p ≤ place → place ≤ length p → (k : ℕ) (n : Name) → entry nodes k n ≡ line p k n
+pub line_all : (p : Path) (nodes : List Node) (place : ℕ) → IsBegun p nodes place → length p ≤ place → place ≤ length p →
+    (k : ℕ) (n : Name) → entry nodes k n ≡ line p k n
 line_all p nodes place begun low high k n = ⊎_elim
     (λ (l : k < place). begun.1 k n l)
     (λ (l : place ≤ k). past_none nodes k (omega (arith, l, begun.0)) n ∙ sym (line_past p 0 k n (omega (arith, l, low))))

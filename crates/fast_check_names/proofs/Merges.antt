@@ -1,6 +1,6 @@
 -- A tree is merged into a node: the names of its root stand there too, and its other nodes behind.
-use Rattle.std.proofs.Common.{◌≡◌, ◌∙◌, sym, ap, refl, subst, ⊎_elim, inl, inr, ◌⊎◌, ℕ, zero, suc, ◌+◌, ◌-◌, ◌<◌, ◌≤◌, true, false, ◌||◌, cond, eqb, [], ◌∷◌}
-use Rattle.std.proofs.Common.{Option, Some, None, arith}
+use Rattle.std.proofs.Common.{◌≡◌, ◌∙◌, sym, ap, refl, subst, ⊎_elim, inl, inr, ◌⊎◌, ℕ, zero, suc, ◌+◌, ◌-◌, ◌<◌, ◌≤◌, true, false, ◌||◌}
+use Rattle.std.proofs.Common.{cond, eqb, [], ◌∷◌, Option, Some, None, arith}
 use Rattle.std.specs.Option.{is_some}
 use Rattle.std.proofs.lemmas.Bool.{cases_lt, eq-eqb, ne_eqb}
 use Rattle.std.proofs.lemmas.Bool.Decides.{eqb_tells}
@@ -62,7 +62,11 @@ module _ (g s w : Graph) (size count at : ℕ) (tree : IsTree g size) (sub : IsT
       (either_back (g k n) (shift (size - 1) (s 0 n)) (Subset j)
       (ap (λ b. cond b (either_of (g k n) (shift (size - 1) (s 0 n))) (g k n)) (sym t.0) ∙ (sym (is.low k n h) ∙ e))))
       (λ (t : (eqb k at ≡ false) × (k ≡ at → ⊥)).
-      inl (record { low = h; was = ap (λ b. cond b (either_of (g k n) (shift (size - 1) (s 0 n))) (g k n)) (sym t.0) ∙ (sym (is.low k n h) ∙ e) }))
+      inl (record {
+        low = h;
+        was = ap (λ b. cond b (either_of (g k n) (shift (size - 1) (s 0 n))) (g k n)) (sym t.0) ∙
+            (sym (is.low k n h) ∙ e);
+      }))
       (eqb_tells k at))
       (λ (h : size ≤ k).
       let back : size + (k - size) ≡ k = omega (arith, h) in
@@ -80,8 +84,10 @@ module _ (g s w : Graph) (size count at : ℕ) (tree : IsTree g size) (sub : IsT
 
   once_by : (k : ℕ) (n : Name) (l : ℕ) (m : Name) (j : NodeNo) → IsOld k n j ⊎ IsNew k n j → IsOld l m j ⊎ IsNew l m j → (k ≡ l) × (n ≡ m)
   once_by k n l m j (inl o) (inl p) = tree.once k n l m j o.was p.was
-  once_by k n l m j (inl o) (inr p) = let a = tree.later k n j o.was in let b = sub.later p.node m p.next p.was in absurd (omega (arith, a.1, b.0, p.next_is))
-  once_by k n l m j (inr o) (inl p) = let a = tree.later l m j p.was in let b = sub.later o.node n o.next o.was in absurd (omega (arith, a.1, b.0, o.next_is))
+  once_by k n l m j (inl o) (inr p) = let a = tree.later k n j o.was in let b =
+      sub.later p.node m p.next p.was in absurd (omega (arith, a.1, b.0, p.next_is))
+  once_by k n l m j (inr o) (inl p) = let a = tree.later l m j p.was in let b =
+      sub.later o.node n o.next o.was in absurd (omega (arith, a.1, b.0, o.next_is))
   once_by k n l m j (inr o) (inr p) =
       let same : o.next ≡ p.next = no_is o.next p.next (omega (arith, o.next_is, p.next_is)) in
       let r = sub.once o.node n p.node m p.next (subst (λ (x : NodeNo). s o.node n ≡ Some (Subset x)) same o.was) p.was in
@@ -136,7 +142,8 @@ module _ (g s w : Graph) (size count at : ℕ) (tree : IsTree g size) (sub : IsT
   other : (k : ℕ) (n : Name) → k < size → (k ≡ at → ⊥) → w k n ≡ g k n
   other k n h d = is.low k n h ∙ ap (λ b. cond b (either_of (g k n) (shift (size - 1) (s 0 n))) (g k n)) (ne_eqb k at d)
 
-  from_either : (n : Name) (o p : Option Below) (part : Part) (q : Path) → IsAfter at size o → IsAfter 0 count p → (is_some p ≡ true → o ≡ None) →
+  from_either : (n : Name) (o p : Option Below) (part : Part) (q : Path) → IsAfter at size o → IsAfter 0 count p →
+      (is_some p ≡ true → o ≡ None) →
       reach w (either_of o (shift (size - 1) p)) part q ≡ (reach g o part q || reach s p part q)
   from_either n o None part q a b lack = ap (λ x. reach w x part q) (either_none o) ∙
       (after g w size at tree other o a part q ∙ (or_false (reach g o part q) ∙ ap (λ b. reach g o part q || b) (sym (none_is s part q))))
@@ -147,8 +154,10 @@ module _ (g s w : Graph) (size count at : ℕ) (tree : IsTree g size) (sub : IsT
   pub merged : (f : NameSet) → ((part : Part) (n : Name) (q : Path) → f part (n ∷ q) ≡ reach s (s 0 n) part q) → IsAdded g at f w
   merged f f_is part n q = grown_by g w size at tree other f gain 0 (omega (arith, within)) n part q
     where
-      gain : (k : ℕ) (n : Name) (part : Part) (q : Path) → k < size → k ≡ at → reach w (w k n) part q ≡ (reach g (g k n) part q || f part (n ∷ q))
+      gain : (k : ℕ) (n : Name) (part : Part) (q : Path) → k < size → k ≡ at →
+          reach w (w k n) part q ≡ (reach g (g k n) part q || f part (n ∷ q))
       gain k n part q h e = subst (λ (i : ℕ). reach w (w i n) part q ≡ (reach g (g i n) part q || f part (n ∷ q))) (sym e)
           (ap (λ o. reach w o part q) (at_node n) ∙
-          (from_either n (g at n) (s 0 n) part q (is_after g size tree at at n (omega arith)) (is_after s count sub 0 0 n (omega arith)) (apart n) ∙
+          (from_either n (g at n) (s 0 n) part q (is_after g size tree at at n (omega arith)) (is_after s count sub 0 0 n (omega arith))
+          (apart n) ∙
           ap (λ b. reach g (g at n) part q || b) (sym (f_is part n q))))

@@ -6,15 +6,19 @@ use Rattle.std.specs.Prelude.{Vec}
 use Rattle.std.specs.declared.alloc.Global.{Global}
 use Rattle.std.proofs.lemmas.Bool.{cases_order}
 use Rattle.std.proofs.lemmas.List.Folds.{concat-append}
-use Rattle.std.proofs.lemmas.List.{take-append-drop, append-nil, map-append, take_more, get_or-map, length-map, map-set, set-get_or, get_or_default, get_or_append_left, get_or-append-add, length-append, get_or-set_same, get_or-set_other, length-set}
-use Rattle.std.proofs.lemmas.List.Edits.{length-insert, get_or-insert_below, get_or-insert_at, get_or-insert_above, insert-append_left, insert-append_right}
+use Rattle.std.proofs.lemmas.List.{take-append-drop, append-nil, map-append, take_more, get_or-map, length-map, map-set, set-get_or}
+use Rattle.std.proofs.lemmas.List.{get_or_default, get_or_append_left, get_or-append-add, length-append, get_or-set_same, get_or-set_other}
+use Rattle.std.proofs.lemmas.List.{length-set}
+use Rattle.std.proofs.lemmas.List.Edits.{length-insert, get_or-insert_below, get_or-insert_at, get_or-insert_above, insert-append_left}
+use Rattle.std.proofs.lemmas.List.Edits.{insert-append_right}
 use Rattle.fast_check_names.specs.Order.{lists, run_at, AreFilled}
 use Rattle.fast_check_names.specs.Slots.{place}
 
 pub count_is : (runs : List (Vec ℕ Global)) → length (lists runs) ≡ length runs
 count_is runs = length-map runs (λ (x : Vec ℕ Global). x.items)
 
-pub run_is : (runs : List (Vec ℕ Global)) (r : ℕ) (v : Vec ℕ Global) → r < length runs → v ≡ get_or runs r v → run_at (lists runs) r ≡ v.items
+pub run_is : (runs : List (Vec ℕ Global)) (r : ℕ) (v : Vec ℕ Global) → r < length runs → v ≡ get_or runs r v →
+    run_at (lists runs) r ≡ v.items
 run_is runs r v w e = get_or-map (λ (x : Vec ℕ Global). x.items) runs r v [] w ∙ ap (λ (x : Vec ℕ Global). x.items) (sym e)
 
 pub lists_set : (runs : List (Vec ℕ Global)) (r : ℕ) (v : Vec ℕ Global) → lists (set runs r v) ≡ set (lists runs) r v.items
@@ -65,7 +69,8 @@ pub place_last : (xss : List (List ℕ)) (r : ℕ) → suc r ≡ length xss → 
 place_last [] r w = absurd (omega (arith, w))
 place_last (xs ∷ []) zero w = let h = length-append xs [] in omega (arith, h)
 place_last (xs ∷ ys ∷ xss) zero w = absurd (omega (arith, w))
-place_last (xs ∷ xss) (suc r) w = let h = place_last xss r (omega (arith, w)) in let l = length-append xs (concat xss) in omega (arith, h, l)
+place_last (xs ∷ xss) (suc r) w = let h = place_last xss r (omega (arith, w)) in let l =
+    length-append xs (concat xss) in omega (arith, h, l)
 
 pub concat_insert : (xss : List (List ℕ)) (r i x : ℕ) → r < length xss → i ≤ length (run_at xss r) →
     concat (set xss r (insert (run_at xss r) i x)) ≡ insert (concat xss) (place xss r i) x
@@ -75,10 +80,12 @@ concat_insert (xs ∷ xss) (suc r) i x w h =
     let p = place xss r i in
     let back : (length xs + p) - length xs ≡ p = omega arith in
     ap (λ ys. xs ++ ys) (concat_insert xss r i x (omega (arith, w)) h) ∙
-    sym (insert-append_right xs (concat xss) (length xs) (length xs + p) x refl (omega arith) ∙ ap (λ m. xs ++ insert (concat xss) m x) back)
+    sym (insert-append_right xs (concat xss) (length xs) (length xs + p) x refl (omega arith) ∙
+    ap (λ m. xs ++ insert (concat xss) m x) back)
 
 -- a run in two
-pub concat_split : (xss : List (List ℕ)) (r : ℕ) (ys zs : List ℕ) → r < length xss → ys ++ zs ≡ run_at xss r → concat (insert (set xss r ys) (suc r) zs) ≡ concat xss
+pub concat_split : (xss : List (List ℕ)) (r : ℕ) (ys zs : List ℕ) → r < length xss → ys ++ zs ≡ run_at xss r →
+    concat (insert (set xss r ys) (suc r) zs) ≡ concat xss
 concat_split [] r ys zs w h = absurd (omega (arith, w))
 concat_split (xs ∷ xss) zero ys zs w h = sym (append_assoc ys zs (concat xss)) ∙ ap (λ ks. ks ++ concat xss) h
 concat_split (xs ∷ xss) (suc r) ys zs w h = ap (λ ks. xs ++ ks) (concat_split xss r ys zs (omega (arith, w)) h)
@@ -93,9 +100,11 @@ filled_set xss filled r ys w some k h = ⊎_elim
     (cases_order k r)
   where
     other : (k ≡ r → ⊥) → 0 < length (run_at (set xss r ys) k)
-    other d = subst (λ (zs : List ℕ). 0 < length zs) (sym (get_or-set_other xss r k ys [] d)) (filled k (omega (arith, h, length-set xss r ys)))
+    other d = subst (λ (zs : List ℕ). 0 < length zs) (sym (get_or-set_other xss r k ys [] d))
+        (filled k (omega (arith, h, length-set xss r ys)))
 
-pub filled_insert : (xss : List (List ℕ)) → AreFilled xss → (r : ℕ) (ys : List ℕ) → r ≤ length xss → 0 < length ys → AreFilled (insert xss r ys)
+pub filled_insert : (xss : List (List ℕ)) → AreFilled xss → (r : ℕ) (ys : List ℕ) → r ≤ length xss → 0 < length ys →
+    AreFilled (insert xss r ys)
 filled_insert xss filled r ys w some k h = ⊎_elim
     (λ (e : k ≡ r). subst (λ (m : ℕ). 0 < length (run_at (insert xss r ys) m)) (sym e)
     (subst (λ (zs : List ℕ). 0 < length zs) (sym (get_or-insert_at xss r ys [] w)) some))
@@ -109,32 +118,38 @@ filled_insert xss filled r ys w some k h = ⊎_elim
     (cases_order k r)
 
 -- the number at a place of a run
-pub number_is : (runs : List (Vec ℕ Global)) (r i : ℕ) (v : Vec ℕ Global) (k : ℕ) → r < length runs → v ≡ get_or runs r v → i < length (run_at (lists runs) r) →
+pub number_is : (runs : List (Vec ℕ Global)) (r i : ℕ) (v : Vec ℕ Global) (k : ℕ) → r < length runs → v ≡ get_or runs r v →
+    i < length (run_at (lists runs) r) →
     k ≡ get_or v.items i k → k ≡ get_or (run_at (lists runs) r) i 0
 number_is runs r i v k w e h is =
     let same = run_is runs r v w e in
     is ∙ (get_or_default v.items i k 0 (subst (λ (xs : List ℕ). i < length xs) same h) ∙ ap (λ xs. get_or xs i 0) (sym same))
 
 -- a run that stays as it was
-pub lists_left : (runs : List (Vec ℕ Global)) (r : ℕ) (v u : Vec ℕ Global) → r < length runs → v ≡ get_or runs r v → u.items ≡ v.items → lists (set runs r u) ≡ lists runs
+pub lists_left : (runs : List (Vec ℕ Global)) (r : ℕ) (v u : Vec ℕ Global) → r < length runs → v ≡ get_or runs r v → u.items ≡ v.items →
+    lists (set runs r u) ≡ lists runs
 lists_left runs r v u w e same =
     lists_set runs r u ∙ (ap (λ xs. set (lists runs) r xs) (same ∙ sym (run_is runs r v w e)) ∙ set-get_or (lists runs) r [])
 
 -- a run in which a number comes
-pub lists_put : (runs : List (Vec ℕ Global)) (r i k : ℕ) (v u : Vec ℕ Global) → r < length runs → v ≡ get_or runs r v → u.items ≡ insert v.items i k →
+pub lists_put : (runs : List (Vec ℕ Global)) (r i k : ℕ) (v u : Vec ℕ Global) → r < length runs → v ≡ get_or runs r v →
+    u.items ≡ insert v.items i k →
     lists (set runs r u) ≡ set (lists runs) r (insert (run_at (lists runs) r) i k)
 lists_put runs r i k v u w e put =
     lists_set runs r u ∙ ap (λ xs. set (lists runs) r xs) (put ∙ ap (λ xs. insert xs i k) (sym (run_is runs r v w e)))
 
 -- a run that is split
-module _ (runs rest new : List (Vec ℕ Global)) (r half : ℕ) (long lower upper : Vec ℕ Global) (within : r < length runs) (same : rest ≡ runs)
+module _ (runs rest new : List (Vec ℕ Global)) (r half : ℕ) (long lower upper : Vec ℕ Global) (within : r < length runs)
+    (same : rest ≡ runs)
     (long_is : long ≡ get_or rest r long) (lower_is : lower.items ≡ take half long.items) (upper_is : upper.items ≡ drop half long.items)
     (new_is : new ≡ insert (set rest r lower) (r + 1) upper) where
   new_lists : lists new ≡ insert (set (lists runs) r lower.items) (suc r) upper.items
   new_lists =
       let up : r + 1 ≡ suc r = omega arith in
-      ap lists new_is ∙ (lists_insert (set rest r lower) (r + 1) upper ∙ (ap (λ xss. insert xss (r + 1) upper.items) (lists_set rest r lower) ∙
-      (ap (λ m. insert (set (lists rest) r lower.items) m upper.items) up ∙ ap (λ rs. insert (set (lists rs) r lower.items) (suc r) upper.items) same)))
+      ap lists new_is ∙
+      (lists_insert (set rest r lower) (r + 1) upper ∙ (ap (λ xss. insert xss (r + 1) upper.items) (lists_set rest r lower) ∙
+      (ap (λ m. insert (set (lists rest) r lower.items) m upper.items) up ∙
+      ap (λ rs. insert (set (lists rs) r lower.items) (suc r) upper.items) same)))
 
   whole : lower.items ++ upper.items ≡ run_at (lists runs) r
   whole =
@@ -146,15 +161,19 @@ module _ (runs rest new : List (Vec ℕ Global)) (r half : ℕ) (long lower uppe
 
   pub split_filled : AreFilled (lists runs) → 0 < length lower.items → 0 < length upper.items → AreFilled (lists new)
   split_filled filled low high = subst (λ (xss : List (List ℕ)). AreFilled xss) (sym new_lists)
-      (filled_insert (set (lists runs) r lower.items) (filled_set (lists runs) filled r lower.items (omega (arith, within, count_is runs)) low) (suc r) upper.items
+      (filled_insert (set (lists runs) r lower.items)
+      (filled_set (lists runs) filled r lower.items (omega (arith, within, count_is runs)) low) (suc r) upper.items
       (omega (arith, within, count_is runs, length-set (lists runs) r lower.items)) high)
 
 -- one run more is joined
-pub joined_more : (runs : List (Vec ℕ Global)) (i : ℕ) (v : Vec ℕ Global) (ks : List ℕ) → i < length runs → v ≡ get_or runs i v → ks ≡ concat (lists (take i runs)) →
+pub joined_more : (runs : List (Vec ℕ Global)) (i : ℕ) (v : Vec ℕ Global) (ks : List ℕ) → i < length runs → v ≡ get_or runs i v →
+    ks ≡ concat (lists (take i runs)) →
     ks ++ v.items ≡ concat (lists (take (i + 1) runs))
 joined_more runs i v ks w e is =
     let f : Vec ℕ Global → List ℕ = λ x. x.items in
     let last : concat (v.items ∷ []) ≡ v.items = append-nil v.items in
     ap (λ xs. xs ++ v.items) is ∙ (ap (λ xs. concat (lists (take i runs)) ++ xs) (sym last) ∙
     (sym (concat-append (lists (take i runs)) (v.items ∷ [])) ∙
-    ap concat (sym (map-append f (take i runs) (v ∷ [])) ∙ ap lists (sym (take_more runs i v w ∙ ap (λ (x : Vec ℕ Global). take i runs ++ x ∷ []) (sym e))))))
+    ap concat
+    (sym (map-append f (take i runs) (v ∷ [])) ∙
+    ap lists (sym (take_more runs i v w ∙ ap (λ (x : Vec ℕ Global). take i runs ++ x ∷ []) (sym e))))))

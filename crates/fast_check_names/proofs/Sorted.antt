@@ -11,7 +11,8 @@ use Rattle.std.proofs.lemmas.Slice.Eq.{bytes_eq-Decides}
 use Rattle.std.proofs.lemmas.Bool.{false≢true, cases_lt, cases_order}
 use Rattle.std.proofs.lemmas.List.{get_or-map, length-map, length-append, get_or_append_left, get_or_at}
 use Rattle.std.proofs.lemmas.List.Edits.{length-insert, get_or-insert_below, get_or-insert_at, get_or-insert_above}
-use Rattle.fast_check_names.specs.Order.{Name, Entry, names_in, name_at, run_at, AreFilled, keys, IsRising, IsOrder, IsAbsentBefore, ArePlaces}
+use Rattle.fast_check_names.specs.Order.{Name, Entry, names_in, name_at, run_at, AreFilled, keys, IsRising, IsOrder, IsAbsentBefore}
+use Rattle.fast_check_names.specs.Order.{ArePlaces}
 use Rattle.fast_check_names.specs.Slots.{above, IsGap, place, IsSlot, IsCount}
 use Rattle.fast_check_names.proofs.Runs.{place_inside, place_within, place_reads, place_more, place_first, place_end, place_last, run_there}
 
@@ -32,10 +33,12 @@ forth : (n m : Name) → slice_cmp nat_cmp n m ≡ Greater → slice_cmp nat_cmp
 forth n m h = greater_less (slice_cmp nat_cmp m n) (sym h ∙ nat_list_cmp_total.antisymm n m)
 
 less_differ : (n m : Name) → slice_cmp nat_cmp n m ≡ Less → n ≡ m → ⊥
-less_differ n m h e = let s : slice_cmp nat_cmp n m ≡ Equal = subst (λ (k : Name). slice_cmp nat_cmp n k ≡ Equal) e (tied_itself nat_list_cmp_total n) in cc
+less_differ n m h e = let s : slice_cmp nat_cmp n m ≡ Equal = subst (λ (k : Name). slice_cmp nat_cmp n k ≡ Equal) e
+    (tied_itself nat_list_cmp_total n) in cc
 
 greater_differ : (n m : Name) → slice_cmp nat_cmp n m ≡ Greater → n ≡ m → ⊥
-greater_differ n m h e = let s : slice_cmp nat_cmp n m ≡ Equal = subst (λ (k : Name). slice_cmp nat_cmp n k ≡ Equal) e (tied_itself nat_list_cmp_total n) in cc
+greater_differ n m h e = let s : slice_cmp nat_cmp n m ≡ Equal =
+    subst (λ (k : Name). slice_cmp nat_cmp n k ≡ Equal) e (tied_itself nat_list_cmp_total n) in cc
 
 equal_same : (n m : Name) → slice_cmp nat_cmp n m ≡ Equal → n ≡ m
 equal_same n m h = (bytes_eq-Decides n m).0 (sym (is_eq-slice_cmp n m) ∙ ap is_eq h)
@@ -56,13 +59,15 @@ gap_from : (ms : List Name) (n : Name) (p : ℕ) → IsRising ms → p ≤ lengt
 gap_from ms n p rising within low high = record {
   within = within;
   before = λ k h. ⊎_elim
-      (λ (l : k < p - 1). nat_list_cmp_total.trans (get_or ms k []) (get_or ms (p - 1) []) n (rising k (p - 1) l (omega (arith, h, within))) (low (omega (arith, h))))
+      (λ (l : k < p - 1). nat_list_cmp_total.trans (get_or ms k []) (get_or ms (p - 1) []) n (rising k (p - 1) l (omega (arith, h, within)))
+      (low (omega (arith, h))))
       (λ (l : p - 1 ≤ k). let e : k ≡ p - 1 = omega (arith, l, h) in
       subst (λ (m : ℕ). slice_cmp nat_cmp (get_or ms m []) n ≡ Less) (sym e) (low (omega (arith, h))))
       (cases_lt k (p - 1));
   behind = λ k h w. ⊎_elim
       (λ (l : p < k). back n (get_or ms k [])
-      (nat_list_cmp_total.trans n (get_or ms p []) (get_or ms k []) (forth (get_or ms p []) n (high (omega (arith, l, w)))) (rising p k l w)))
+      (nat_list_cmp_total.trans n (get_or ms p []) (get_or ms k []) (forth (get_or ms p []) n (high (omega (arith, l, w))))
+      (rising p k l w)))
       (λ (l : k ≤ p). let e : k ≡ p = omega (arith, l, h) in
       subst (λ (m : ℕ). slice_cmp nat_cmp (get_or ms m []) n ≡ Greater) (sym e) (high (subst (λ (m : ℕ). m < length ms) e w)))
       (cases_lt p k);
@@ -86,14 +91,16 @@ rising_insert ns i n rising gap j k l w =
     (subst (λ (x : Name). P (get_or ns j []) x) (sym (below k kb)) (rising j k l (omega (arith, kb, gap.within)))))
     (λ (ka : i < k).
     let up : k ≡ (k - 1) + 1 = omega (arith, ka) in
-    let at_k : get_or (insert ns i n) k [] ≡ get_or ns (k - 1) [] = subst (λ (q : ℕ). get_or (insert ns i n) q [] ≡ get_or ns (k - 1) []) (sym up) (above (k - 1) (omega (arith, ka))) in
+    let at_k : get_or (insert ns i n) k [] ≡ get_or ns (k - 1) [] =
+    subst (λ (q : ℕ). get_or (insert ns i n) q [] ≡ get_or ns (k - 1) []) (sym up) (above (k - 1) (omega (arith, ka))) in
     subst (λ (x : Name). P (get_or (insert ns i n) j []) x) (sym at_k)
     (⊎_elim
     (λ (ji : j ≡ i). subst (λ (q : ℕ). P (get_or (insert ns i n) q []) (get_or ns (k - 1) [])) (sym ji)
     (subst (λ (x : Name). P x (get_or ns (k - 1) [])) (sym here)
     (forth (get_or ns (k - 1) []) n (gap.behind (k - 1) (omega (arith, ka)) (omega (arith, w, len, ka))))))
     (⊎_elim
-    (λ (jb : j < i). subst (λ (x : Name). P x (get_or ns (k - 1) [])) (sym (below j jb)) (rising j (k - 1) (omega (arith, jb, ka)) (omega (arith, w, len, ka))))
+    (λ (jb : j < i). subst (λ (x : Name). P x (get_or ns (k - 1) [])) (sym (below j jb))
+    (rising j (k - 1) (omega (arith, jb, ka)) (omega (arith, w, len, ka))))
     (λ (ja : i < j).
     let uj : j ≡ (j - 1) + 1 = omega (arith, ja) in
     subst (λ (x : Name). P x (get_or ns (k - 1) []))
@@ -111,7 +118,8 @@ keys_insert ns [] (suc i) k = refl
 keys_insert ns (x ∷ ks) (suc i) k = ap (λ (ms : List Name). get_or ns x [] ∷ ms) (keys_insert ns ks i k)
 
 -- before all names
-pub slot_first : (es : List Entry) (xss : List (List ℕ)) (n : Name) → AreFilled xss → (0 < length xss → above es (get_or (run_at xss 0) 0 0) n ≡ true) → IsSlot es xss n 0 0
+pub slot_first : (es : List Entry) (xss : List (List ℕ)) (n : Name) → AreFilled xss →
+    (0 < length xss → above es (get_or (run_at xss 0) 0 0) n ≡ true) → IsSlot es xss n 0 0
 slot_first es xss n filled up = record {
   some = λ h. h;
   within = omega arith;
@@ -122,7 +130,8 @@ slot_first es xss n filled up = record {
 }
 
 -- in the last run whose first name is not above
-pub slot_in : (es : List Entry) (xss : List (List ℕ)) (n : Name) (run at : ℕ) → AreFilled xss → run < length xss → at ≤ length (run_at xss run) →
+pub slot_in : (es : List Entry) (xss : List (List ℕ)) (n : Name) (run at : ℕ) → AreFilled xss → run < length xss →
+    at ≤ length (run_at xss run) →
     above es (get_or (run_at xss run) 0 0) n ≡ false → (0 < at → above es (get_or (run_at xss run) (at - 1) 0) n ≡ false) →
     (at < length (run_at xss run) → above es (get_or (run_at xss run) at 0) n ≡ true) →
     (run + 1 < length xss → above es (get_or (run_at xss (run + 1)) 0 0) n ≡ true) → IsSlot es xss n run at
@@ -140,7 +149,8 @@ slot_in es xss n run at filled there within first upto here next = record {
 }
 
 -- the place of a slot is where the name would stand
-pub slot_gap : (es : List Entry) (xss : List (List ℕ)) (n : Name) (run at : ℕ) → AreFilled xss → IsRising (keys (names_in es) (concat xss)) → IsSlot es xss n run at →
+pub slot_gap : (es : List Entry) (xss : List (List ℕ)) (n : Name) (run at : ℕ) → AreFilled xss →
+    IsRising (keys (names_in es) (concat xss)) → IsSlot es xss n run at →
     (0 < at → name_at es (get_or (run_at xss run) (at - 1) 0) ≡ n → ⊥) → IsGap (keys (names_in es) (concat xss)) n (place xss run at)
 slot_gap es [] n run at filled rising slot differs =
     let none : at ≤ length (run_at [] run) = slot.within in record {
@@ -190,7 +200,8 @@ slot_gap es (x ∷ rest) n run at filled rising slot differs =
     high_of : (q r i : ℕ) → q ≡ place xss r i → r < length xss → i < length (run_at xss r) → above es (get_or (run_at xss r) i 0) n ≡ true →
         slice_cmp nat_cmp (get_or (keys (names_in es) (concat xss)) q []) n ≡ Greater
     high_of q r i e w h up =
-        subst (λ (m : Name). slice_cmp nat_cmp m n ≡ Greater) (sym (ap (λ m. get_or (keys (names_in es) (concat xss)) m []) e ∙ read r i w h))
+        subst (λ (m : Name). slice_cmp nat_cmp m n ≡ Greater)
+        (sym (ap (λ m. get_or (keys (names_in es) (concat xss)) m []) e ∙ read r i w h))
         (is_greater (slice_cmp nat_cmp (name_at es (get_or (run_at xss r) i 0)) n) up)
 
     high : p < length (keys (names_in es) (concat xss)) → slice_cmp nat_cmp (get_or (keys (names_in es) (concat xss)) p []) n ≡ Greater
@@ -212,12 +223,14 @@ slot_gap es (x ∷ rest) n run at filled rising slot differs =
         (cases_lt at (length (run_at xss run)))
 
 -- the number before a slot is one of the order
-pub slot_within : (es : List Entry) (ns : List Name) (xss : List (List ℕ)) (count : ℕ) (n : Name) (run at : ℕ) → IsOrder ns xss count → IsSlot es xss n run at → 0 < at →
+pub slot_within : (es : List Entry) (ns : List Name) (xss : List (List ℕ)) (count : ℕ) (n : Name) (run at : ℕ) → IsOrder ns xss count →
+    IsSlot es xss n run at → 0 < at →
     get_or (run_at xss run) (at - 1) 0 < count
 slot_within es ns xss count n run at order slot some =
     let there = run_there xss run (omega (arith, some, slot.within)) in
     let inside : at - 1 < length (run_at xss run) = omega (arith, some, slot.within) in
-    subst (λ (k : ℕ). k < count) (place_reads xss run (at - 1) there inside) (order.within (place xss run (at - 1)) (place_inside xss run (at - 1) there inside))
+    subst (λ (k : ℕ). k < count) (place_reads xss run (at - 1) there inside)
+    (order.within (place xss run (at - 1)) (place_inside xss run (at - 1) there inside))
 
 -- where there is no run
 pub empty_gap : (ns : List Name) (xss : List (List ℕ)) (n : Name) → length xss ≡ 0 → IsGap (keys ns (concat xss)) n 0
@@ -229,7 +242,8 @@ empty_gap ns [] n none = record {
 empty_gap ns (xs ∷ xss) n none = absurd (omega (arith, none))
 
 -- a name that has a gap in the order has none of its numbers
-pub gap_lacks : (es : List Entry) (xss : List (List ℕ)) (count : ℕ) (n : Name) (p : ℕ) → IsOrder (names_in es) xss count → IsGap (keys (names_in es) (concat xss)) n p →
+pub gap_lacks : (es : List Entry) (xss : List (List ℕ)) (count : ℕ) (n : Name) (p : ℕ) → IsOrder (names_in es) xss count →
+    IsGap (keys (names_in es) (concat xss)) n p →
     IsAbsentBefore es n count
 gap_lacks es xss count n p order gap k h e =
     let ks = concat xss in
@@ -242,7 +256,8 @@ gap_lacks es xss count n p order gap k h e =
     (cases_lt q p))
 
 -- the runs change, and not what they hold
-pub order_same : (ns : List Name) (xss yss : List (List ℕ)) (count : ℕ) → IsOrder ns xss count → concat yss ≡ concat xss → AreFilled yss → IsOrder ns yss count
+pub order_same : (ns : List Name) (xss yss : List (List ℕ)) (count : ℕ) → IsOrder ns xss count → concat yss ≡ concat xss → AreFilled yss →
+    IsOrder ns yss count
 order_same ns xss yss count order same filled = record {
   filled = filled;
   rising = subst (λ (ks : List ℕ). IsRising (keys ns ks)) (sym same) order.rising;
@@ -252,11 +267,13 @@ order_same ns xss yss count order same filled = record {
 }
 
 -- the next number comes in
-pub order_put : (ns : List Name) (xss yss : List (List ℕ)) (count p : ℕ) → IsOrder ns xss count → IsGap (keys ns (concat xss)) (get_or ns count []) p →
+pub order_put : (ns : List Name) (xss yss : List (List ℕ)) (count p : ℕ) → IsOrder ns xss count →
+    IsGap (keys ns (concat xss)) (get_or ns count []) p →
     concat yss ≡ insert (concat xss) p count → AreFilled yss → count < length ns → IsOrder ns yss (count + 1)
 order_put ns xss yss count p order gap put filled more = record {
   filled = filled;
-  rising = subst (λ (ms : List Name). IsRising ms) (sym (ap (keys ns) put ∙ keys_insert ns ks p count)) (rising_insert (keys ns ks) p (get_or ns count []) order.rising gap);
+  rising = subst (λ (ms : List Name). IsRising ms) (sym (ap (keys ns) put ∙ keys_insert ns ks p count))
+      (rising_insert (keys ns ks) p (get_or ns count []) order.rising gap);
   within = subst (λ (zs : List ℕ). (q : ℕ) → q < length zs → get_or zs q 0 < count + 1) (sym put) inside;
   each = subst (λ (zs : List ℕ). (k : ℕ) → k < count + 1 → ((q : ℕ) → q < length zs → get_or zs q 0 ≡ k → ⊥) → ⊥) (sym put) all;
   count_within = omega (arith, more);
@@ -273,7 +290,8 @@ order_put ns xss yss count p order gap put filled more = record {
 
     inside : (q : ℕ) → q < length (insert ks p count) → get_or (insert ks p count) q 0 < count + 1
     inside q w = ⊎_elim
-        (λ (e : q ≡ p). subst (λ (m : ℕ). get_or (insert ks p count) m 0 < count + 1) (sym e) (omega (arith, get_or-insert_at ks p count 0 fits)))
+        (λ (e : q ≡ p). subst (λ (m : ℕ). get_or (insert ks p count) m 0 < count + 1) (sym e)
+        (omega (arith, get_or-insert_at ks p count 0 fits)))
         (⊎_elim
         (λ (l : q < p). omega (arith, get_or-insert_below ks p count 0 q l fits, order.within q (omega (arith, l, fits))))
         (λ (l : p < q).
@@ -288,7 +306,8 @@ order_put ns xss yss count p order gap put filled more = record {
         (λ (b : q < p). none q (omega (arith, h, len)) (get_or-insert_below ks p count 0 q b fits ∙ e))
         (λ (b : p ≤ q). none (q + 1) (omega (arith, h, len)) (get_or-insert_above ks p count 0 q b fits ∙ e))
         (cases_lt q p)))
-        (λ (l : count ≤ k). none p (omega (arith, len, fits)) (get_or-insert_at ks p count 0 fits ∙ (let e : count ≡ k = omega (arith, l, w) in e)))
+        (λ (l : count ≤ k). none p (omega (arith, len, fits))
+        (get_or-insert_at ks p count 0 fits ∙ (let e : count ≡ k = omega (arith, l, w) in e)))
         (cases_lt k count)
 
 -- names come to the end, behind the order
@@ -304,7 +323,8 @@ order_more ns ms xss count order = record {
     same : (ks : List ℕ) → ((p : ℕ) → p < length ks → get_or ks p 0 < count) → keys (ns ++ ms) ks ≡ keys ns ks
     same [] h = refl
     same (k ∷ ks) h =
-        ap (λ (m : Name). m ∷ keys (ns ++ ms) ks) (get_or_append_left ns ms [] k (let l : k < count = h 0 (omega arith) in omega (arith, l, order.count_within))) ∙
+        ap (λ (m : Name). m ∷ keys (ns ++ ms) ks)
+        (get_or_append_left ns ms [] k (let l : k < count = h 0 (omega arith) in omega (arith, l, order.count_within))) ∙
         ap (λ (zs : List Name). get_or ns k [] ∷ zs) (same ks (λ p w. h (suc p) (omega (arith, w))))
 
 -- the names stay
@@ -327,7 +347,8 @@ count_more ks i counted = (
   omega (arith, length-append ks (i ∷ []), counted.0),
   λ p h. ⊎_elim
       (λ (l : p < i). get_or_append_left ks (i ∷ []) 0 p (omega (arith, l, counted.0)) ∙ counted.1 p l)
-      (λ (l : i ≤ p). let e : p ≡ i = omega (arith, l, h) in ap (λ m. get_or (ks ++ i ∷ []) m 0) e ∙ (get_or_at ks i [] 0 i counted.0 ∙ sym e))
+      (λ (l : i ≤ p). let e : p ≡ i = omega (arith, l, h) in ap (λ m. get_or (ks ++ i ∷ []) m 0) e ∙
+      (get_or_at ks i [] 0 i counted.0 ∙ sym e))
       (cases_lt p i),
 )
 
@@ -343,15 +364,19 @@ count_places es ks counted = record {
 }
 
 -- all names are in order
-pub order_places : (es : List Entry) (xss : List (List ℕ)) (ks : List ℕ) (count : ℕ) → IsOrder (names_in es) xss count → ks ≡ concat xss → length es ≤ count →
+pub order_places : (es : List Entry) (xss : List (List ℕ)) (ks : List ℕ) (count : ℕ) → IsOrder (names_in es) xss count → ks ≡ concat xss →
+    length es ≤ count →
     ArePlaces es ks
 order_places es xss ks count order same all = subst (λ (zs : List ℕ). ArePlaces es zs) (sym same) (record {
   within = λ p h. omega (arith, order.within p h, order.count_within, long);
   each = λ k h. order.each k (omega (arith, h, all));
   once = λ p q l h e.
-      let wide : length (keys (names_in es) (concat xss)) ≡ length (concat xss) = length-map (concat xss) (λ k. get_or (names_in es) k []) in
-      less_differ (get_or (keys (names_in es) (concat xss)) p []) (get_or (keys (names_in es) (concat xss)) q []) (order.rising p q l (omega (arith, h, wide)))
-      (key_at (names_in es) (concat xss) p (omega (arith, l, h)) ∙ (ap (λ k. get_or (names_in es) k []) e ∙ sym (key_at (names_in es) (concat xss) q h)));
+      let wide : length (keys (names_in es) (concat xss)) ≡ length (concat xss) =
+      length-map (concat xss) (λ k. get_or (names_in es) k []) in
+      less_differ (get_or (keys (names_in es) (concat xss)) p []) (get_or (keys (names_in es) (concat xss)) q [])
+      (order.rising p q l (omega (arith, h, wide)))
+      (key_at (names_in es) (concat xss) p (omega (arith, l, h)) ∙
+      (ap (λ k. get_or (names_in es) k []) e ∙ sym (key_at (names_in es) (concat xss) q h)));
 })
   where
     long : length (names_in es) ≡ length es

@@ -10,7 +10,9 @@ IsOrder-prop ns xss count x y =
     let filled_prop : IsProp (AreFilled xss) = hlevel props in
     let rising_prop : IsProp (IsRising (keys ns (concat xss))) = hlevel props in
     let within_prop : IsProp ((p : ℕ) → p < length (concat xss) → get_or (concat xss) p 0 < count) = hlevel props in
-    let each_prop : IsProp ((k : ℕ) → k < count → ((p : ℕ) → p < length (concat xss) → get_or (concat xss) p 0 ≡ k → ⊥) → ⊥) = hlevel props in
+    let each_prop : IsProp
+    ((k : ℕ) → k < count → ((p : ℕ) → p < length (concat xss) → get_or (concat xss) p 0 ≡ k → ⊥) → ⊥) =
+    hlevel props in
     let count_prop : IsProp (count ≤ length ns) = hlevel props in
     λ i. record {
       filled = filled_prop x.filled y.filled i;

@@ -13,8 +13,8 @@ use Rattle.fast_check_graph.specs.declared.root_symbol.ModuleInfo.{ModuleInfo}
 use Rattle.fast_check_graph.specs.declared.root_symbol.ModuleInfo.TheVariants.{Esm, Json}
 use Rattle.fast_check_graph.specs.declared.root_symbol.RootSymbol.{RootSymbol}
 use Rattle.fast_check_module_transform.specs.Transform.{faults}
-use Rattle.fast_check_package_answers.specs.Reasons.{PublicModule, Reason, met, found, reasons_in_tree, found_or, module_reasons, first_list}
-use Rattle.fast_check_package_answers.specs.Reasons.{package_reasons}
+use Rattle.fast_check_package_answers.specs.Reasons.{PublicModule, Reason, met, found, reasons_in_tree, found_or, module_reasons}
+use Rattle.fast_check_package_answers.specs.Reasons.{first_list, package_reasons}
 use Rattle.fast_check_package_answers.specs.PackageAnswer.{IsFrontAlone}
 use Rattle.fast_check_package_answers.proofs.Lists.{front_empty}
 
@@ -45,7 +45,8 @@ in_module : (graph : ModuleGraph) (root : RootSymbol) (m : PublicModule) →
     IsFront (module_reasons true graph root m) (module_reasons false graph root m)
 in_module graph root m = or_found m.1.diagnostics _ _ (in_tree graph m.1 (found_module root m.0))
 
-one_more : (front all : List Reason) (fronts : List (List Reason)) (others : List Reason) → IsFront front all → IsFront (first_list fronts) others →
+one_more : (front all : List Reason) (fronts : List (List Reason)) (others : List Reason) → IsFront front all →
+    IsFront (first_list fronts) others →
     IsFront (first_list (front ∷ fronts)) (all ++ others)
 one_more [] all fronts others h k =
     subst (λ rs. IsFront (first_list fronts) (rs ++ others)) (sym (h.empty refl)) k

@@ -54,7 +54,8 @@ subjects [] (d ∷ ds) h = absurd h
 subjects (r ∷ rs) [] h = absurd h
 subjects (r ∷ rs) (d ∷ ds) h = λ i. told_of r d h.0 i ∷ subjects rs ds h.1 i
 
-named : (graph : ModuleGraph) (ms : List TreeModule) (answers : List Answer) → AllZip (IsShown graph) ms answers → map (λ a. a.0) answers ≡ map (λ m. m.specifier) ms
+named : (graph : ModuleGraph) (ms : List TreeModule) (answers : List Answer) → AllZip (IsShown graph) ms answers →
+    map (λ a. a.0) answers ≡ map (λ m. m.specifier) ms
 named graph [] [] h = refl
 named graph [] (a ∷ answers) h = absurd h
 named graph (m ∷ ms) [] h = absurd h
@@ -75,20 +76,24 @@ pub keeps : (graph : ModuleGraph) (ms : List TreeModule) (rs : List Reason) (ans
 keeps graph ms [] answers [] h k = skeletons graph ms answers h
 keeps graph ms [] answers (d ∷ ds) h k = absurd k
 keeps graph ms (r ∷ rs) answers [] h k = absurd k
-keeps graph ms (r ∷ rs) answers (d ∷ ds) h k = λ i. map (kept_diagnostic graph) (named graph ms answers h i ++ subjects (r ∷ rs) (d ∷ ds) k i)
+keeps graph ms (r ∷ rs) answers (d ∷ ds) h k = λ i. map (kept_diagnostic graph)
+    (named graph ms answers h i ++ subjects (r ∷ rs) (d ∷ ds) k i)
 
 -- and so is the item of a package
 pub item_kept : (graph : ModuleGraph) (root : RootSymbol) (ranges : PackagePublicRanges) (first : Bool) (begin skeletons seen : List Answer)
-    (wrong told : List FastCheckDiagnostic) (modules : List (Parts × FastCheckCacheModuleItem)) → begin ≡ [] → seen ≡ skeletons → told ≡ wrong →
+    (wrong told : List FastCheckDiagnostic) (modules : List (Parts × FastCheckCacheModuleItem)) → begin ≡ [] → seen ≡ skeletons →
+    told ≡ wrong →
     AllZip Tells (package_reasons first graph root ranges.module_ranges.entries) wrong →
     ShowsMore graph (tree_modules root (sound_front first graph root ranges.module_ranges.entries)) begin skeletons →
-    map entry_of modules ≡ kept_answers graph seen told → (map nv_of ranges.dependencies.keys, map entry_of modules) ≡ item_for first graph root ranges
+    map entry_of modules ≡ kept_answers graph seen told → (map nv_of ranges.dependencies.keys, map entry_of modules) ≡
+    item_for first graph root ranges
 item_kept graph root ranges first begin skeletons seen wrong told modules start same is tells shows kept =
     let ms = tree_modules root (sound_front first graph root ranges.module_ranges.entries) in
     let shown : AllZip (IsShown graph) ms seen =
     subst (λ (answers : List Answer). AllZip (IsShown graph) ms answers) (sym same) (all_shown graph ms begin skeletons start shows) in
     let all : AllZip Tells (package_reasons first graph root ranges.module_ranges.entries) told =
-    subst (λ (ds : List FastCheckDiagnostic). AllZip Tells (package_reasons first graph root ranges.module_ranges.entries) ds) (sym is) tells in
+    subst (λ (ds : List FastCheckDiagnostic). AllZip Tells (package_reasons first graph root ranges.module_ranges.entries) ds)
+    (sym is) tells in
     let modules_are : map entry_of modules ≡ kept_modules first graph root ranges.module_ranges.entries =
     kept ∙ keeps graph ms (package_reasons first graph root ranges.module_ranges.entries) seen told shown all in
     λ i. (map nv_of ranges.dependencies.keys, modules_are i)

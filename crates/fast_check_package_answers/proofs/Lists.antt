@@ -17,7 +17,8 @@ first_front [] more some = absurd (some refl)
 first_front ([] ∷ lists) more some = first_front lists more some
 first_front ((r ∷ rs) ∷ lists) more some = refl
 
-pub both_append : {A B : Type 0} (R : A → B → Type 0) (xs : List A) (ys : List B) (us : List A) (vs : List B) → AllZip R xs ys → AllZip R us vs →
+pub both_append : {A B : Type 0} (R : A → B → Type 0) (xs : List A) (ys : List B) (us : List A) (vs : List B) → AllZip R xs ys →
+    AllZip R us vs →
     AllZip R (xs ++ us) (ys ++ vs)
 both_append R [] [] us vs h k = k
 both_append R [] (y ∷ ys) us vs h k = absurd h

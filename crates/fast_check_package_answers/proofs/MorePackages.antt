@@ -1,6 +1,6 @@
 -- One package more.
-use Rattle.std.proofs.Common.{◌≡◌, ◌∙◌, sym, ap, refl, subst, ℕ, ◌==◌, Bool, true, false, List, [], ◌∷◌, ◌++◌, append-nil, append_assoc, length, take, fold}
-use Rattle.std.proofs.Common.{Option}
+use Rattle.std.proofs.Common.{◌≡◌, ◌∙◌, sym, ap, refl, subst, ℕ, ◌==◌, Bool, true, false, List, [], ◌∷◌, ◌++◌, append-nil, append_assoc}
+use Rattle.std.proofs.Common.{length, take, fold, Option}
 use Rattle.std.specs.Prelude.{Result, Ok, Err, OnErr}
 use Rattle.std.proofs.lemmas.List.Sums.{fold-append}
 use Rattle.std.proofs.Math.Seq.{take-append_seam}
@@ -24,7 +24,8 @@ owned_next root ps p rest all e h = (all_back (λ (x : PackageNv × PackagePubli
 
 -- one package more is answered
 pub answered_more : (graph : ModuleGraph) (root : RootSymbol) (first : Bool) (ps : List (PackageNv × PackagePublicRanges))
-    (p : PackageNv × PackagePublicRanges) (done part : List Answer) → AreAnswered graph root first ps done → IsAnswered graph root first p.1 part →
+    (p : PackageNv × PackagePublicRanges) (done part : List Answer) → AreAnswered graph root first ps done →
+    IsAnswered graph root first p.1 part →
     AreAnswered graph root first (ps ++ p ∷ []) (done ++ part)
 answered_more graph root first [] p done part e h = (part, [], ap (λ (xs : List Answer). xs ++ part) e ∙ sym (append-nil part), h, refl)
 answered_more graph root first (q ∷ ps) p done part k h = (
@@ -36,7 +37,8 @@ answered_more graph root first (q ∷ ps) p done part k h = (
 )
 
 -- one turn more: the packages that are answered, and their answers
-pub turned : (graph : ModuleGraph) (root : RootSymbol) (first : Bool) (ps : List (PackageNv × PackagePublicRanges)) (p : PackageNv × PackagePublicRanges)
+pub turned : (graph : ModuleGraph) (root : RootSymbol) (first : Bool) (ps : List (PackageNv × PackagePublicRanges))
+    (p : PackageNv × PackagePublicRanges)
     (left rest all : List (PackageNv × PackagePublicRanges)) (done part answers : List Answer) → ps ++ left ≡ all → left ≡ p ∷ rest →
     AreAnswered graph root first ps done → IsAnswered graph root first p.1 part → answers ≡ done ++ part →
     ((ps ++ p ∷ []) ++ rest ≡ all) × AreAnswered graph root first (ps ++ p ∷ []) answers
@@ -53,7 +55,8 @@ Key = Nv → List (List ℕ) → ℕ
 
 -- the map after one package more
 pub set_more : (key now : Key) (first : Bool) (graph : ModuleGraph) (root : RootSymbol) (ps : List (PackageNv × PackagePublicRanges))
-    (p : PackageNv × PackagePublicRanges) (nv : Nv) (old middle new : Items) → now ≡ key → nv ≡ nv_of p.0 → middle ≡ sets key first graph root ps old →
+    (p : PackageNv × PackagePublicRanges) (nv : Nv) (old middle new : Items) → now ≡ key → nv ≡ nv_of p.0 →
+    middle ≡ sets key first graph root ps old →
     new ≡ with_package now first graph root nv p.1 middle → new ≡ sets key first graph root (ps ++ p ∷ []) old
 set_more key now first graph root ps p nv old middle new same named before after =
     after ∙ (ap (λ (k : Key). with_package k first graph root nv p.1 middle) same

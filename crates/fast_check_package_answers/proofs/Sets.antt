@@ -15,15 +15,18 @@ abbrev Items : Type 0
 Items = ℕ → Option ItemView
 
 -- of which nothing is used
-pub found_set : (key : Nv → List (List ℕ) → ℕ) (first : Bool) (graph : ModuleGraph) (root : RootSymbol) (nv : Nv) (p : PackagePublicRanges) (old new : Items)
+pub found_set : (key : Nv → List (List ℕ) → ℕ) (first : Bool) (graph : ModuleGraph) (root : RootSymbol) (nv : Nv) (p : PackagePublicRanges)
+    (old new : Items)
     (b : Bool) → b ≡ (vec_len p.cache_items == 0) → b ≡ true →
-    new ≡ with_item (key nv (map serialize p.entrypoints.keys)) (item_for first graph root p) old → new ≡ with_package key first graph root nv p old
+    new ≡ with_item (key nv (map serialize p.entrypoints.keys)) (item_for first graph root p) old →
+    new ≡ with_package key first graph root nv p old
 found_set key first graph root nv p old new b is e set =
     set ∙ sym (ap (λ c. if c then with_item (key nv (map serialize p.entrypoints.keys)) (item_for first graph root p) old else old)
     (empty_test p.cache_items.items (empty_vec p.cache_items b is e)))
 
 -- of which a module is used
-pub used_set : (key : Nv → List (List ℕ) → ℕ) (first : Bool) (graph : ModuleGraph) (root : RootSymbol) (nv : Nv) (p : PackagePublicRanges) (old : Items)
+pub used_set : (key : Nv → List (List ℕ) → ℕ) (first : Bool) (graph : ModuleGraph) (root : RootSymbol) (nv : Nv) (p : PackagePublicRanges)
+    (old : Items)
     (b : Bool) → b ≡ (vec_len p.cache_items == 0) → b ≡ false → old ≡ with_package key first graph root nv p old
 used_set key first graph root nv p old b is e =
     sym (ap (λ c. if c then with_item (key nv (map serialize p.entrypoints.keys)) (item_for first graph root p) old else old)

@@ -6,7 +6,8 @@ use Rattle.std.proofs.lemmas.List.Sums.{take_while-cons}
 use Rattle.std.proofs.lemmas.List.{append-nil}
 use Rattle.fast_check_graph.specs.declared.graph.ModuleGraph.{ModuleGraph}
 use Rattle.fast_check_graph.specs.declared.root_symbol.RootSymbol.{RootSymbol}
-use Rattle.fast_check_package_answers.specs.Reasons.{PublicModule, Reason, first_list, module_reasons, package_reasons, is_sound, sound_front}
+use Rattle.fast_check_package_answers.specs.Reasons.{PublicModule, Reason, first_list, module_reasons, package_reasons, is_sound}
+use Rattle.fast_check_package_answers.specs.Reasons.{sound_front}
 use Rattle.fast_check_package_answers.proofs.Lists.{front_empty, back_empty, empty_test, test_empty, full_test}
 
 -- ---- fronts of lists
@@ -88,24 +89,28 @@ all_sound : (first : Bool) (graph : ModuleGraph) (root : RootSymbol) (ms : List 
 all_sound false graph root ms e = sound_joined (module_reasons false graph root) ms e
 all_sound true graph root ms e = sound_first (module_reasons true graph root) ms e
 
-none_wrong : (first : Bool) (graph : ModuleGraph) (root : RootSymbol) (ms : List PublicModule) → list_all (is_sound first graph root) ms ≡ true →
+none_wrong : (first : Bool) (graph : ModuleGraph) (root : RootSymbol) (ms : List PublicModule) →
+    list_all (is_sound first graph root) ms ≡ true →
     package_reasons first graph root ms ≡ []
 none_wrong false graph root ms e = joined_sound (module_reasons false graph root) ms e
 none_wrong true graph root ms e = first_sound (module_reasons true graph root) ms e
 
-not_all : (first : Bool) (graph : ModuleGraph) (root : RootSymbol) (ms : List PublicModule) (b : Bool) → list_all (is_sound first graph root) ms ≡ b →
+not_all : (first : Bool) (graph : ModuleGraph) (root : RootSymbol) (ms : List PublicModule) (b : Bool) →
+    list_all (is_sound first graph root) ms ≡ b →
     package_reasons first graph root ms ≢ [] → list_all (is_sound first graph root) ms ≡ false
 not_all first graph root ms true e some = absurd (some (none_wrong first graph root ms e))
 not_all first graph root ms false e some = e
 
 -- ---- the modules before the first with something wrong
 
-pub front_all : (first : Bool) (graph : ModuleGraph) (root : RootSymbol) (ms : List PublicModule) → package_reasons first graph root ms ≡ [] →
+pub front_all : (first : Bool) (graph : ModuleGraph) (root : RootSymbol) (ms : List PublicModule) →
+    package_reasons first graph root ms ≡ [] →
     sound_front first graph root ms ≡ ms
 front_all first graph root ms e = while_all (is_sound first graph root) ms (all_sound first graph root ms e)
 
 pub front_more : (first : Bool) (graph : ModuleGraph) (root : RootSymbol) (ms : List PublicModule) (m : PublicModule) →
-    package_reasons first graph root ms ≡ [] → module_reasons first graph root m ≡ [] → sound_front first graph root (ms ++ m ∷ []) ≡ ms ++ m ∷ []
+    package_reasons first graph root ms ≡ [] → module_reasons first graph root m ≡ [] →
+    sound_front first graph root (ms ++ m ∷ []) ≡ ms ++ m ∷ []
 front_more first graph root ms m e h =
     let p = is_sound first graph root in
     while_front p ms (m ∷ []) (all_sound first graph root ms e)
@@ -118,7 +123,8 @@ front_last first graph root ms m e h =
     while_front p ms (m ∷ []) (all_sound first graph root ms e)
     ∙ (ap (λ zs. ms ++ zs) (while_false p m [] (full_test (module_reasons first graph root m) h)) ∙ append-nil ms)
 
-pub front_stop : (first : Bool) (graph : ModuleGraph) (root : RootSymbol) (ms more : List PublicModule) → package_reasons first graph root ms ≢ [] →
+pub front_stop : (first : Bool) (graph : ModuleGraph) (root : RootSymbol) (ms more : List PublicModule) →
+    package_reasons first graph root ms ≢ [] →
     sound_front first graph root (ms ++ more) ≡ sound_front first graph root ms
 front_stop first graph root ms more some =
     let p = is_sound first graph root in

@@ -24,10 +24,11 @@ use Rattle.fast_check_graph.specs.declared.root_symbol.RootSymbol.{RootSymbol}
 use Rattle.fast_check_cache.specs.declared.package_ranges.PackagePublicRanges.{PackagePublicRanges}
 use Rattle.fast_check_module_transform.specs.Transform.{skeleton, sources, comments}
 use Rattle.fast_check_transform_faults.specs.Diagnostics.{AreDiagnosticsOf, told}
-use Rattle.fast_check_package_answers.specs.Reasons.{PublicModule, Reason, met, found, Tells, found_or, reasons_in_tree, first_list, module_reasons}
-use Rattle.fast_check_package_answers.specs.Reasons.{package_reasons, sound_front}
-use Rattle.fast_check_package_answers.specs.PackageAnswer.{Answer, TreeModule, IsShown, ShowsMore, with_tree, tree_modules}
-use Rattle.fast_check_package_answers.specs.PackageAnswer.{IsSkeletonOf, IsRefused, IsFoundAnswer, IsUsedAnswer, IsPackageAnswer, OwnsPublic, OwnsModule, OwnsAll}
+use Rattle.fast_check_package_answers.specs.Reasons.{PublicModule, Reason, met, found, Tells, found_or, reasons_in_tree, first_list}
+use Rattle.fast_check_package_answers.specs.Reasons.{module_reasons, package_reasons, sound_front}
+use Rattle.fast_check_package_answers.specs.PackageAnswer.{Answer, TreeModule, IsShown, ShowsMore, with_tree, tree_modules, IsSkeletonOf}
+use Rattle.fast_check_package_answers.specs.PackageAnswer.{IsRefused, IsFoundAnswer, IsUsedAnswer, IsPackageAnswer, OwnsPublic, OwnsModule}
+use Rattle.fast_check_package_answers.specs.PackageAnswer.{OwnsAll}
 use Rattle.fast_check_package_answers.proofs.Lists.{first_last, first_front, both_append, left_empty, right_empty}
 use Rattle.fast_check_package_answers.proofs.Lists.{all_front, all_back}
 use Rattle.fast_check_package_answers.proofs.Soundness.{front_all, front_more, front_last, front_stop}
@@ -75,7 +76,8 @@ early true wrong b is e = (
   λ none. let zero : length wrong ≡ 0 = ap {B = ℕ} length none in not_true (length wrong == 0) (sym is ∙ e) (eq-eqb (length wrong) 0 zero),
 )
 
-pub goes_on : (first : Bool) (wrong : List FastCheckDiagnostic) (b : Bool) → b ≡ (first && not (length wrong == 0)) → b ≡ false → first ≡ true → wrong ≡ []
+pub goes_on : (first : Bool) (wrong : List FastCheckDiagnostic) (b : Bool) → b ≡ (first && not (length wrong == 0)) → b ≡ false →
+    first ≡ true → wrong ≡ []
 goes_on false wrong b is e t = cc
 goes_on true wrong b is e t = nil_from_length wrong (eqb-true (length wrong) 0 (not_false (length wrong == 0) (sym is ∙ e)))
 
@@ -87,7 +89,8 @@ found_told [] = tt
 found_told (d ∷ ds) = (refl, found_told ds)
 
 -- and the faults of the transform as diagnostics
-pub faults_told : (info : EsModule) (fs : List Fault) (ds : List FastCheckDiagnostic) → AreDiagnosticsOf info fs ds → AllZip Tells (map (met info) fs) ds
+pub faults_told : (info : EsModule) (fs : List Fault) (ds : List FastCheckDiagnostic) → AreDiagnosticsOf info fs ds →
+    AllZip Tells (map (met info) fs) ds
 faults_told info [] [] h = tt
 faults_told info [] (d ∷ ds) h = absurd h
 faults_told info (f ∷ fs) [] h = absurd h
@@ -99,7 +102,8 @@ nothing_told false info [] e = tt
 nothing_told true info [] e = tt
 nothing_told first info (f ∷ fs) e = cc
 
-pub nothing_met : (first : Bool) (info : EsModule) (fs : List Fault) (ds : List FastCheckDiagnostic) → AreDiagnosticsOf info (told first fs) ds → ds ≡ [] →
+pub nothing_met : (first : Bool) (info : EsModule) (fs : List Fault) (ds : List FastCheckDiagnostic) →
+    AreDiagnosticsOf info (told first fs) ds → ds ≡ [] →
     fs ≡ []
 nothing_met first info [] ds h e = refl
 nothing_met false info (f ∷ fs) [] h e = absurd h
@@ -119,7 +123,8 @@ pub told_found : (ds : List FastCheckDiagnostic) (others : List Reason) (wrong :
 told_found [] others wrong some e = absurd (some refl)
 told_found (d ∷ ds) others wrong some e = subst (AllZip Tells (map found (d ∷ ds))) (sym e) (found_told (d ∷ ds))
 
-pub told_others : (ds : List FastCheckDiagnostic) (others : List Reason) (wrong : List FastCheckDiagnostic) → ds ≡ [] → AllZip Tells others wrong →
+pub told_others : (ds : List FastCheckDiagnostic) (others : List Reason) (wrong : List FastCheckDiagnostic) → ds ≡ [] →
+    AllZip Tells others wrong →
     AllZip Tells (found_or ds others) wrong
 told_others [] others wrong e h = h
 told_others (d ∷ ds) others wrong e h = cc
@@ -132,7 +137,8 @@ without_same : (public : PublicRanges) → public.diagnostics ≡ [] → without
 without_same public e = ap {B = PublicRanges} (λ ds. record public { diagnostics = ds }) (sym e)
 
 -- what is left when none are taken out
-pub left_same : (public left : PublicRanges) (taken : Diagnostics) → taken.items ≡ public.diagnostics → left ≡ without public → taken.items ≡ [] →
+pub left_same : (public left : PublicRanges) (taken : Diagnostics) → taken.items ≡ public.diagnostics → left ≡ without public →
+    taken.items ≡ [] →
     left ≡ public
 left_same public left taken is rest e = rest ∙ without_same public (sym is ∙ e)
 
@@ -141,7 +147,8 @@ found_none [] rs e = refl
 found_none (d ∷ ds) rs e = cc
 
 -- what is wrong with a module of which the finder found nothing
-pub told_rest : (first : Bool) (graph : ModuleGraph) (root : RootSymbol) (m : PublicModule) (left : PublicRanges) (r : Answered) → left ≡ m.1 →
+pub told_rest : (first : Bool) (graph : ModuleGraph) (root : RootSymbol) (m : PublicModule) (left : PublicRanges) (r : Answered) →
+    left ≡ m.1 →
     m.1.diagnostics ≡ [] → IfOk r (λ w. AllZip Tells (reasons_in_tree first graph left (found_module root m.0)) w.items) →
     IfOk r (λ w. AllZip Tells (module_reasons first graph root m) w.items)
 told_rest first graph root m left r same none h =
@@ -173,7 +180,8 @@ reasons_stop graph root ms more some =
 -- what is told of some modules, and of one more
 pub told_more : (first : Bool) (graph : ModuleGraph) (root : RootSymbol) (ms : List PublicModule) (m : PublicModule)
     (old more new : List FastCheckDiagnostic) →
-    (first ≡ true → old ≡ []) → AllZip Tells (package_reasons first graph root ms) old → AllZip Tells (module_reasons first graph root m) more →
+    (first ≡ true → old ≡ []) → AllZip Tells (package_reasons first graph root ms) old →
+    AllZip Tells (module_reasons first graph root m) more →
     new ≡ old ++ more → AllZip Tells (package_reasons first graph root (ms ++ m ∷ [])) new
 told_more first graph root ms m old more new none before one is =
     let reasons = reasons_more first graph root ms m (λ e. left_empty Tells _ old before (none e)) in
@@ -181,7 +189,8 @@ told_more first graph root ms m old more new none before one is =
     (subst (AllZip Tells _) (sym is) (both_append Tells _ old _ more before one))
 
 -- where the first fault is wanted alone, what is told of some modules is all
-pub told_all : (first : Bool) (graph : ModuleGraph) (root : RootSymbol) (ms more all : List PublicModule) (wrong : List FastCheckDiagnostic) →
+pub told_all : (first : Bool) (graph : ModuleGraph) (root : RootSymbol) (ms more all : List PublicModule)
+    (wrong : List FastCheckDiagnostic) →
     first ≡ true → wrong ≢ [] → ms ++ more ≡ all → AllZip Tells (package_reasons first graph root ms) wrong →
     AllZip Tells (package_reasons first graph root all) wrong
 told_all false graph root ms more all wrong is some e h = cc
@@ -194,7 +203,8 @@ told_all true graph root ms more all wrong is some e h =
 pub shows_none : (graph : ModuleGraph) (answers : List Answer) → ShowsMore graph [] answers answers
 shows_none graph answers modules h = subst (λ ms. AllZip (IsShown graph) ms answers) (sym (append-nil modules)) h
 
-pub shows_one : (graph : ModuleGraph) (m : TreeModule) (old new : List Answer) (answer : Answer) → new ≡ old ++ answer ∷ [] → IsShown graph m answer →
+pub shows_one : (graph : ModuleGraph) (m : TreeModule) (old new : List Answer) (answer : Answer) → new ≡ old ++ answer ∷ [] →
+    IsShown graph m answer →
     ShowsMore graph (m ∷ []) old new
 shows_one graph m old new answer is one modules h =
     subst (AllZip (IsShown graph) _) (sym is) (both_append (IsShown graph) modules old (m ∷ []) (answer ∷ []) h (one, tt))
@@ -213,18 +223,21 @@ shows_tree graph m (Ok x) made old new e p g k d is =
     shows_one graph m old new (m.specifier, Ok made) is (refl, subst (IsSkeletonOf graph m) same one)
 
 -- a module that was found
-pub shows_found : (graph : ModuleGraph) (m : PublicModule) (info : EsModule) (o : Option ModuleInfo) (old new : List Answer) (r : Answered) →
+pub shows_found : (graph : ModuleGraph) (m : PublicModule) (info : EsModule) (o : Option ModuleInfo) (old new : List Answer)
+    (r : Answered) →
     Some (Esm info) ≡ o → IfOk r (λ w. w.items ≡ [] → ShowsMore graph (with_tree m (Some (Esm info))) old new) →
     IfOk r (λ w. w.items ≡ [] → ShowsMore graph (with_tree m o) old new)
 shows_found graph m info o old new r e h =
     subst (λ (x : Option ModuleInfo). IfOk r (λ w. w.items ≡ [] → ShowsMore graph (with_tree m x) old new)) e h
 
 -- and one of which the finder found nothing
-pub shows_rest : (graph : ModuleGraph) (root : RootSymbol) (m : PublicModule) (left : PublicRanges) (old new : List Answer) (r : Answered) → left ≡ m.1 →
+pub shows_rest : (graph : ModuleGraph) (root : RootSymbol) (m : PublicModule) (left : PublicRanges) (old new : List Answer) (r : Answered) →
+    left ≡ m.1 →
     IfOk r (λ w. w.items ≡ [] → ShowsMore graph (with_tree (m.0, left) (found_module root m.0)) old new) →
     IfOk r (λ w. w.items ≡ [] → ShowsMore graph (with_tree m (found_module root m.0)) old new)
 shows_rest graph root m left old new r e h =
-    subst (λ (public : PublicRanges). IfOk r (λ w. w.items ≡ [] → ShowsMore graph (with_tree (m.0, public) (found_module root m.0)) old new)) e h
+    subst (λ (public : PublicRanges). IfOk r
+    (λ w. w.items ≡ [] → ShowsMore graph (with_tree (m.0, public) (found_module root m.0)) old new)) e h
 
 -- the modules with a tree of some modules, and of one more
 trees_more : (root : RootSymbol) (ms : List PublicModule) (m : PublicModule) →
@@ -246,7 +259,8 @@ full_list : {A : Type 0} (x : A) (xs : List A) → x ∷ xs ≡ [] → ⊥
 full_list x xs e = cc
 
 -- where something is wrong, the answers that were there stay
-shows_cut : (graph : ModuleGraph) (root : RootSymbol) (front front_after : List PublicModule) (begin before after kept : List Answer) (answered : ℕ) →
+shows_cut : (graph : ModuleGraph) (root : RootSymbol) (front front_after : List PublicModule) (begin before after kept : List Answer)
+    (answered : ℕ) →
     front_after ≡ front → kept ≡ take answered after → answered ≡ length before → take (length before) after ≡ before →
     ShowsMore graph (tree_modules root front) begin before → ShowsMore graph (tree_modules root front_after) begin kept
 shows_cut graph root front front_after begin before after kept answered same cut at stay shown =
@@ -255,7 +269,8 @@ shows_cut graph root front front_after begin before after kept answered same cut
     (subst (λ xs. ShowsMore graph (tree_modules root xs) begin before) (sym same) shown)
 
 -- where nothing was answered before, the answers show just the modules
-pub all_shown : (graph : ModuleGraph) (modules : List TreeModule) (begin answers : List Answer) → begin ≡ [] → ShowsMore graph modules begin answers →
+pub all_shown : (graph : ModuleGraph) (modules : List TreeModule) (begin answers : List Answer) → begin ≡ [] →
+    ShowsMore graph modules begin answers →
     AllZip (IsShown graph) modules answers
 all_shown graph modules begin answers start shows = shows [] (subst (AllZip (IsShown graph) []) (sym start) tt)
 
@@ -272,7 +287,8 @@ shows_turn first graph root ms m begin before after kept answered [] [] new h k 
     let front = front_more first graph root ms m none (left_empty Tells _ [] k refl) in
     let all = shows_more graph root ms m begin before after
     (subst (λ xs. ShowsMore graph (tree_modules root xs) begin before) (front_all first graph root ms none) shown) (one refl) in
-    subst (λ (answers : List Answer). ShowsMore graph (tree_modules root (sound_front first graph root (ms ++ m ∷ []))) begin answers) (sym (same is))
+    subst (λ (answers : List Answer). ShowsMore graph (tree_modules root (sound_front first graph root (ms ++ m ∷ []))) begin answers)
+    (sym (same is))
     (subst (λ xs. ShowsMore graph (tree_modules root xs) begin after) (sym front) all)
 shows_turn first graph root ms m begin before after kept answered [] (d ∷ ds) new h k is same cut at stay shown one =
     let none = left_empty Tells _ [] h refl in
@@ -295,7 +311,8 @@ shows_all first graph root ms more all begin kept wrong some e h shown =
 
 -- ---- a package
 
-pub package_found : (graph : ModuleGraph) (root : RootSymbol) (ranges : PackagePublicRanges) (first : Bool) (begin skeletons answers : List Answer)
+pub package_found : (graph : ModuleGraph) (root : RootSymbol) (ranges : PackagePublicRanges) (first : Bool)
+    (begin skeletons answers : List Answer)
     (wrong told_of : List FastCheckDiagnostic) → begin ≡ [] → told_of ≡ wrong →
     AllZip Tells (package_reasons first graph root ranges.module_ranges.entries) wrong →
     ShowsMore graph (tree_modules root (sound_front first graph root ranges.module_ranges.entries)) begin skeletons →
@@ -315,7 +332,8 @@ package_found graph root ranges first begin skeletons answers wrong told_of star
 
 -- a package is answered by what is found, where no module of it is kept, and else by these
 pub by_found : (graph : ModuleGraph) (root : RootSymbol) (ranges : PackagePublicRanges) (first : Bool) (answers : List Answer) (b : Bool) →
-    b ≡ (vec_len ranges.cache_items == 0) → b ≡ true → IsFoundAnswer graph root ranges first answers → IsPackageAnswer graph root ranges first answers
+    b ≡ (vec_len ranges.cache_items == 0) → b ≡ true → IsFoundAnswer graph root ranges first answers →
+    IsPackageAnswer graph root ranges first answers
 by_found graph root ranges first answers b is e h = record {
   used = λ some. absurd (some (empty_vec ranges.cache_items b is e));
   found = λ _. h;

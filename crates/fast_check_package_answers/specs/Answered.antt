@@ -24,7 +24,8 @@ abbrev pub by_nv : PackageNv → PackageNv → Ordering
 by_nv a b = nv_cmp (nv_of a) (nv_of b)
 
 -- a package is answered, its modules or its entry points in the order of their specifiers
-pub record IsAnswered (graph : ModuleGraph) (root : RootSymbol) (first : Bool) (p : PackagePublicRanges) (answers : List Answer) : Type 0 where
+pub record IsAnswered (graph : ModuleGraph) (root : RootSymbol) (first : Bool) (p : PackagePublicRanges)
+    (answers : List Answer) : Type 0 where
   pub modules_in_order : IsOrdered by_text p.module_ranges
   pub entry_points_in_order : IsOrderedSet by_text p.entrypoints
   pub answered : IsPackageAnswer graph root p first answers
@@ -33,9 +34,12 @@ pub record IsAnswered (graph : ModuleGraph) (root : RootSymbol) (first : Bool) (
 abbrev pub AreAnswered : ModuleGraph → RootSymbol → Bool → List (PackageNv × PackagePublicRanges) → List Answer → Type 0
 AreAnswered graph root first [] answers = answers ≡ []
 AreAnswered graph root first (p ∷ ps) answers =
-    (part : List Answer) × (rest : List Answer) × (answers ≡ part ++ rest) × IsAnswered graph root first p.1 part × AreAnswered graph root first ps rest
+    (part : List Answer) × (rest : List Answer) × (answers ≡ part ++ rest) × IsAnswered graph root first p.1 part ×
+    AreAnswered graph root first ps rest
 
 -- the map after the items of packages are set, one after the other
-abbrev pub sets : (Nv → List (List ℕ) → ℕ) → Bool → ModuleGraph → RootSymbol → List (PackageNv × PackagePublicRanges) → (ℕ → Option ItemView) →
+abbrev pub sets : (Nv → List (List ℕ) → ℕ) → Bool → ModuleGraph → RootSymbol → List (PackageNv × PackagePublicRanges) →
+    (ℕ → Option ItemView) →
     ℕ → Option ItemView
-sets key first graph root packages stored = fold (λ items p. with_package key first graph root (nv_of p.0) p.1 items) stored packages
+sets key first graph root packages stored =
+    fold (λ items p. with_package key first graph root (nv_of p.0) p.1 items) stored packages

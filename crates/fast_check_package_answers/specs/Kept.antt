@@ -21,11 +21,13 @@ entry_of e = (e.0, module_of e.1)
 
 -- a module with its skeleton, and with the hash that the graph has of its source
 abbrev pub kept_info : ModuleGraph → Parts → List StaticSource → Tree → Comments → Parts × ModuleView
-kept_info graph specifier depends program kept = (specifier, kept_tree (source_hash graph specifier) depends program kept)
+kept_info graph specifier depends program kept =
+    (specifier, kept_tree (source_hash graph specifier) depends program kept)
 
 abbrev pub kept_skeleton : ModuleGraph → TreeModule → Parts × ModuleView
 kept_skeleton graph m =
-    kept_info graph m.specifier (sources graph m.info m.public) (skeleton graph m.info m.public) (comments graph m.info m.public)
+    kept_info graph m.specifier (sources graph m.info m.public) (skeleton graph m.info m.public)
+    (comments graph m.info m.public)
 
 -- a module without skeleton
 abbrev pub kept_diagnostic : ModuleGraph → Parts → Parts × ModuleView
@@ -46,7 +48,9 @@ abbrev pub item_for : Bool → ModuleGraph → RootSymbol → PackagePublicRange
 item_for first graph root p = (map nv_of p.dependencies.keys, kept_modules first graph root p.module_ranges.entries)
 
 -- the map after a build of one package: with its item, where no module of it is used from the cache
-abbrev pub with_package : (Nv → List (List ℕ) → ℕ) → Bool → ModuleGraph → RootSymbol → Nv → PackagePublicRanges → (ℕ → Option ItemView) →
+abbrev pub with_package : (Nv → List (List ℕ) → ℕ) → Bool → ModuleGraph → RootSymbol → Nv → PackagePublicRanges →
+    (ℕ → Option ItemView) →
     ℕ → Option ItemView
 with_package key first graph root nv p stored =
-    if length p.cache_items.items == 0 then with_item (key nv (map serialize p.entrypoints.keys)) (item_for first graph root p) stored else stored
+    if length p.cache_items.items == 0 then with_item (key nv (map serialize p.entrypoints.keys))
+    (item_for first graph root p) stored else stored

@@ -11,7 +11,8 @@ use Rattle.fast_check_package_answers.specs.Kept.{kept_info, kept_diagnostic}
 
 -- of one that is answered
 abbrev pub kept_answer : ModuleGraph → Answer → Parts × ModuleView
-kept_answer graph (specifier, Ok made) = kept_info graph specifier made.module_info.sources.items made.program made.comments
+kept_answer graph (specifier, Ok made) =
+    kept_info graph specifier made.module_info.sources.items made.program made.comments
 kept_answer graph (specifier, Err _) = kept_diagnostic graph specifier
 
 -- the modules that are answered, and those of the diagnostics

@@ -1,5 +1,6 @@
 -- How a package is answered, once it is known what is public in its modules.
-use Rattle.std.specs.Prelude.{◌≡◌, ◌≢◌, ◌↔◌, Bool, true, false, List, [], ◌∷◌, ◌++◌, Option, Some, None, Result, Ok, Err, Vec}
+use Rattle.std.specs.Prelude.{◌≡◌, ◌≢◌, ◌↔◌, Bool, true, false, List, [], ◌∷◌, ◌++◌, Option, Some, None, Result, Ok}
+use Rattle.std.specs.Prelude.{Err, Vec}
 use Rattle.std.specs.List.{AllZip, AllByRecursion, flat_map}
 use Rattle.std.specs.declared.alloc.Global.{Global}
 use Rattle.url.specs.Parts.{Parts}
@@ -58,7 +59,8 @@ IsShown graph m (specifier, Err diagnostics) = ⊥
 
 -- the answers show some modules more
 abbrev pub ShowsMore : ModuleGraph → List TreeModule → List Answer → List Answer → Type 0
-ShowsMore graph more old new = (modules : List TreeModule) → AllZip (IsShown graph) modules old → AllZip (IsShown graph) (modules ++ more) new
+ShowsMore graph more old new = (modules : List TreeModule) → AllZip (IsShown graph) modules old →
+    AllZip (IsShown graph) (modules ++ more) new
 
 -- ---- a package that is refused
 
@@ -83,20 +85,24 @@ pub record AreRefused (reasons : List Reason) (entry_points : List Parts) (answe
 abbrev pub IsUsedAnswer : Parts × FastCheckCacheModuleItem → Answer → Type 0
 IsUsedAnswer (kept, Info info) (specifier, Ok made) = (specifier ≡ kept) × ((made.program ≡ info.program) ×
     ((made.comments ≡ info.comments) × (made.module_info.sources.items ≡ info.module_info.sources.items)))
-IsUsedAnswer (kept, Diagnostic _) (specifier, Err diagnostics) = (specifier ≡ kept) × (diagnostics.items ≡ Cached kept ∷ [])
+IsUsedAnswer (kept, Diagnostic _) (specifier, Err diagnostics) = (specifier ≡ kept) ×
+    (diagnostics.items ≡ Cached kept ∷ [])
 IsUsedAnswer _ _ = ⊥
 
 -- ---- a package
 
--- where nothing is wrong, each module with a tree is answered by its skeleton, and else each entry point by what is wrong
-pub record IsFoundAnswer (graph : ModuleGraph) (root : RootSymbol) (ranges : PackagePublicRanges) (first : Bool) (answers : List Answer) : Type 0 where
+-- where nothing is wrong, each module with a tree is answered by its skeleton, and else each entry point by what is
+-- wrong
+pub record IsFoundAnswer (graph : ModuleGraph) (root : RootSymbol) (ranges : PackagePublicRanges) (first : Bool)
+    (answers : List Answer) : Type 0 where
   pub shown : package_reasons first graph root ranges.module_ranges.entries ≡ []
       → AllZip (IsShown graph) (tree_modules root ranges.module_ranges.entries) answers
   pub refused : package_reasons first graph root ranges.module_ranges.entries ≢ []
       → AreRefused (package_reasons first graph root ranges.module_ranges.entries) ranges.entrypoints.keys answers
 
 -- by what a cache keeps of its modules, if anything, and else by what is found
-pub record IsPackageAnswer (graph : ModuleGraph) (root : RootSymbol) (ranges : PackagePublicRanges) (first : Bool) (answers : List Answer) : Type 0 where
+pub record IsPackageAnswer (graph : ModuleGraph) (root : RootSymbol) (ranges : PackagePublicRanges) (first : Bool)
+    (answers : List Answer) : Type 0 where
   pub used : ranges.cache_items.items ≢ [] → AllZip IsUsedAnswer ranges.cache_items.items answers
   pub found : ranges.cache_items.items ≡ [] → IsFoundAnswer graph root ranges first answers
 

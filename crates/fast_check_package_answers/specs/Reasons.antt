@@ -50,7 +50,8 @@ first_list [] = []
 first_list ([] ∷ lists) = first_list lists
 first_list ((r ∷ rs) ∷ lists) = r ∷ rs
 
--- the list of a package: those of its modules joined, or where the first fault is wanted alone, that of the first module that has one
+-- the list of a package: those of its modules joined, or where the first fault is wanted alone, that of the first
+-- module that has one
 abbrev pub package_reasons : Bool → ModuleGraph → RootSymbol → List PublicModule → List Reason
 package_reasons false graph root modules = flat_map (module_reasons false graph root) modules
 package_reasons true graph root modules = first_list (map (module_reasons true graph root) modules)

@@ -17,13 +17,15 @@ use Rattle.fast_check_findings.specs.declared.finding.Finding.{Finding}
 use Rattle.fast_check_findings.specs.declared.finding.Finding.TheVariants.{Entered, Followed, Untyped, Kept}
 use Rattle.fast_check_findings.specs.Yields.{ModuleFault, untyped_module}
 use Rattle.fast_check_findings.specs.Yields.{Yield, known_package, entry_point, dependency, recorded, public, implementing, faulty}
-use Rattle.fast_check_findings.specs.Findings.{entry_fault, faulty_module, entered_yields, placed_yield, placed_yields, followed_yields, yields_of}
+use Rattle.fast_check_findings.specs.Findings.{entry_fault, faulty_module, entered_yields, placed_yield, placed_yields, followed_yields}
+use Rattle.fast_check_findings.specs.Findings.{yields_of}
 use Rattle.fast_check_package_ranges.specs.declared.parts.JoinedModule.{JoinedModule}
 use Rattle.fast_check_package_ranges.specs.declared.parts.JoinedPackage.{JoinedPackage}
 use Rattle.fast_check_package_ranges.specs.Questions.{ModuleQuestion, whether_recorded, whether_public, whether_implementing}
-use Rattle.fast_check_package_ranges.specs.Questions.{whether_missing, whether_untyped_entry, whether_untyped, whether_faulty, whether_otherwise_faulty}
-use Rattle.fast_check_package_ranges.specs.Questions.{Question, whether_known, whether_entry_point, whether_dependency, whether_refused, about}
-use Rattle.fast_check_package_ranges.specs.Questions.{package_of, yield_says, yields_say, is_kept, is_said, IsTextless, IsTextlessAbout}
+use Rattle.fast_check_package_ranges.specs.Questions.{whether_missing, whether_untyped_entry, whether_untyped, whether_faulty}
+use Rattle.fast_check_package_ranges.specs.Questions.{whether_otherwise_faulty, Question, whether_known, whether_entry_point}
+use Rattle.fast_check_package_ranges.specs.Questions.{whether_dependency, whether_refused, about, package_of, yield_says, yields_say}
+use Rattle.fast_check_package_ranges.specs.Questions.{is_kept, is_said, IsTextless, IsTextlessAbout}
 use Rattle.fast_check_findings.specs.Diagnostics.{where_found}
 use Rattle.fast_check_package_ranges.specs.Parts.{module_says, package_says, packages_say, lookup_text, lookup_package}
 use Rattle.fast_check_package_ranges.specs.Parts.{package_found, followed_in, findings_say}
@@ -52,7 +54,8 @@ own_one nv y g = or_none (same_nv nv (package_of y) && g y) ∙ ap (λ b. same_n
 
 own_map : {X : Type 0} (nv n : Nv) (f : X → Yield) → ((x : X) → package_of (f x) ≡ n) → (xs : List X) → Owned nv n (map f xs)
 own_map nv n f h xs g = any_map (λ y. same_nv nv (package_of y) && g y) f xs ∙
-    (any_alike (λ x. same_nv nv (package_of (f x)) && g (f x)) (λ x. same_nv nv n && g (f x)) (λ x. ap (λ p. same_nv nv p && g (f x)) (h x)) xs ∙
+    (any_alike (λ x. same_nv nv (package_of (f x)) && g (f x)) (λ x. same_nv nv n && g (f x))
+    (λ x. ap (λ p. same_nv nv p && g (f x)) (h x)) xs ∙
     (any_and (same_nv nv n) (λ x. g (f x)) xs ∙ ap (λ b. same_nv nv n && b) (sym (any_map g f xs))))
 
 own_flat : {X : Type 0} (nv n : Nv) (f : X → List Yield) → ((x : X) → Owned nv n (f x)) → (xs : List X) → Owned nv n (flat_map f xs)
@@ -93,13 +96,16 @@ own_finding nv (Kept k) = own_none nv (nv_of k.package)
 
 -- findings say what their yields say
 all_yields : (found : List Finding) (nv : Nv) (q : Question) →
-    list_any (λ f. same_nv nv (package_found f) && list_any (λ y. yield_says y q) (followed_in f)) found ≡ yields_say (flat_map followed_in found) nv q
+    list_any (λ f. same_nv nv (package_found f) && list_any (λ y. yield_says y q) (followed_in f)) found ≡ yields_say
+    (flat_map followed_in found) nv q
 all_yields found nv q = sym (any_flat (λ y. same_nv nv (package_of y) && yield_says y q) followed_in found ∙
     any_alike (λ f. list_any (λ y. same_nv nv (package_of y) && yield_says y q) (followed_in f))
-    (λ f. same_nv nv (package_found f) && list_any (λ y. yield_says y q) (followed_in f)) (λ f. own_finding nv f (λ y. yield_says y q)) found)
+    (λ f. same_nv nv (package_found f) && list_any (λ y. yield_says y q) (followed_in f))
+    (λ f. own_finding nv f (λ y. yield_says y q)) found)
 
 -- the answer about a module, by what is known of it
-module_one : (t : List ℕ) (q : ModuleQuestion) → IsTextlessAbout q → (parts : Option JoinedModule) (m : Option PublicRanges) → AreModuleAnswers t parts m →
+module_one : (t : List ℕ) (q : ModuleQuestion) → IsTextlessAbout q → (parts : Option JoinedModule) (m : Option PublicRanges) →
+    AreModuleAnswers t parts m →
     where_found (module_answer t q) m ≡ where_found (λ p. module_is_said p q) parts
 module_one t q fair None None h = refl
 module_one t q fair None (Some m) h = absurd h
@@ -124,7 +130,8 @@ package_one whether_known fair parts p h = refl
 package_one (whether_entry_point t) fair parts p h = h.entry_points t
 package_one (whether_dependency nv) fair parts p h = h.dependencies nv
 package_one (whether_refused t) fair parts p h = refl
-package_one (about t q) fair parts p h = module_one t q fair (lookup_text t parts.modules.entries) (lookup_text t p.module_ranges.entries) (h.modules t)
+package_one (about t q) fair parts p h = module_one t q fair (lookup_text t parts.modules.entries) (lookup_text t p.module_ranges.entries)
+    (h.modules t)
 
 packages_one : (q : Question) → IsTextless q → (parts : Option JoinedPackage) (p : Option PackagePublicRanges) → ArePackageAnswers parts p →
     where_found (package_answer q) p ≡ where_found (λ x. package_is_said x q) parts
@@ -133,12 +140,15 @@ packages_one q fair None (Some p) h = absurd h
 packages_one q fair (Some x) None h = absurd h
 packages_one q fair (Some x) (Some p) h = package_one q fair x p h
 
-packages_exact : (t : List ℕ) (test : PlacedFault → Bool) (parts : Option JoinedPackage) (p : Option PackagePublicRanges) → ArePackageAnswers parts p →
-    where_found (package_answer (about t (whether_faulty test))) p ≡ true → where_found (λ x. package_says x (about t (whether_faulty test))) parts ≡ true
+packages_exact : (t : List ℕ) (test : PlacedFault → Bool) (parts : Option JoinedPackage) (p : Option PackagePublicRanges) →
+    ArePackageAnswers parts p →
+    where_found (package_answer (about t (whether_faulty test))) p ≡ true →
+    where_found (λ x. package_says x (about t (whether_faulty test))) parts ≡ true
 packages_exact t test None None h e = e
 packages_exact t test None (Some p) h e = absurd h
 packages_exact t test (Some x) None h e = absurd h
-packages_exact t test (Some x) (Some p) h e = exact_one t test (lookup_text t x.modules.entries) (lookup_text t p.module_ranges.entries) (h.modules t) e
+packages_exact t test (Some x) (Some p) h e = exact_one t test (lookup_text t x.modules.entries) (lookup_text t p.module_ranges.entries)
+    (h.modules t) e
 
 -- that types are not known, where nothing else is wrong
 hidden_module : (o : Option JoinedModule) → where_found (λ m. module_is_said m whether_untyped) o
@@ -147,7 +157,8 @@ hidden_module None = refl
 hidden_module (Some m) = refl
 
 hidden : (t : List ℕ) (o : Option JoinedPackage) → where_found (λ x. package_is_said x (about t whether_untyped)) o
-    ≡ (where_found (λ x. package_says x (about t whether_untyped)) o && not (where_found (λ x. package_says x (about t whether_otherwise_faulty)) o))
+    ≡ (where_found (λ x. package_says x (about t whether_untyped)) o &&
+    not (where_found (λ x. package_says x (about t whether_otherwise_faulty)) o))
 hidden t None = refl
 hidden t (Some p) = hidden_module (lookup_text t p.modules.entries)
 

@@ -1,5 +1,6 @@
 -- A map that is made of another, entry by entry.
-use Rattle.std.proofs.Common.{◌≡◌, ◌∙◌, refl, sym, ap, subst, Bool, true, false, cond, ◌||◌, List, [], ◌∷◌, ◌++◌, Option, Some, None, ⊎_elim}
+use Rattle.std.proofs.Common.{◌≡◌, ◌∙◌, refl, sym, ap, subst, Bool, true, false, cond, ◌||◌, List, [], ◌∷◌, ◌++◌, Option, Some, None}
+use Rattle.std.proofs.Common.{⊎_elim}
 use Rattle.std.specs.Cmp.{IsTotalOrder}
 use Rattle.std.specs.List.{list_any}
 use Rattle.std.specs.Ordering.{eq_by_cmp}
@@ -24,10 +25,12 @@ lookup_none : {K X : Type 0} (test : K → Bool) (es : List (K × X)) → passes
 lookup_none test [] h = refl
 lookup_none test (e ∷ es) h = none_at (test e.0) (Some e.1) (lookup test es) (passes test es) h (λ g. lookup_none test es g)
 
-passes_more : {K X : Type 0} (test : K → Bool) (front : List (K × X)) (e : K × X) → passes test (front ++ e ∷ []) ≡ (passes test front || test e.0)
+passes_more : {K X : Type 0} (test : K → Bool) (front : List (K × X)) (e : K × X) →
+    passes test (front ++ e ∷ []) ≡ (passes test front || test e.0)
 passes_more test front e = list_any-append (λ x. test x.0) front (e ∷ []) ∙ ap (λ b. passes test front || b) (or_none (test e.0))
 
-module _ {K X Y Q : Type 0} {cmp : K → K → Ordering} (o : IsTotalOrder cmp) (test : Q → K → Bool) (one : (t : Q) → IsKeyTest (eq_by_cmp cmp) (test t))
+module _ {K X Y Q : Type 0} {cmp : K → K → Ordering} (o : IsTotalOrder cmp) (test : Q → K → Bool)
+    (one : (t : Q) → IsKeyTest (eq_by_cmp cmp) (test t))
     (R : Q → Option X → Option Y → Type 0) where
   -- of the keys so far the made map has what stands for what the source has, and nothing of others
   pub record IsConverted (source : List (K × X)) (front : List (K × X)) (made : List (K × Y)) : Type 0 where
@@ -52,7 +55,8 @@ module _ {K X Y Q : Type 0} {cmp : K → K → Ordering} (o : IsTotalOrder cmp) 
   or_right true c h = absurd (false≢true (sym h))
   or_right false c h = h
 
-  pub convert_more : (source front : List (K × X)) (k : K) (x : X) (y : Y) (old new : BTreeMap K Y) → lookup (is_at (cmp k)) source ≡ Some x →
+  pub convert_more : (source front : List (K × X)) (k : K) (x : X) (y : Y) (old new : BTreeMap K Y) →
+      lookup (is_at (cmp k)) source ≡ Some x →
       tree.UpdatesBy cmp (cmp k) old new (Some y) → ((t : Q) → test t k ≡ true → R t (Some x) (Some y)) →
       IsConverted source front old.entries → IsConverted source (front ++ (k, x) ∷ []) new.entries
   convert_more source front k x y old new found u r h = record {
@@ -71,7 +75,8 @@ module _ {K X Y Q : Type 0} {cmp : K → K → Ordering} (o : IsTotalOrder cmp) 
         ∙ h.absent t (or_left (passes (test t) front) (test t k) q);
   }
 
-  pub convert_all : (source front : List (K × X)) (made : List (K × Y)) → front ≡ source → ((t : Q) → R t None None) → IsConverted source front made →
+  pub convert_all : (source front : List (K × X)) (made : List (K × Y)) → front ≡ source → ((t : Q) → R t None None) →
+      IsConverted source front made →
       (t : Q) → R t (lookup (test t) source) (lookup (test t) made)
   convert_all source front made e n h t = ⊎_elim
       (λ yes. h.there t yes)

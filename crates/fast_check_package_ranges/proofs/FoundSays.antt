@@ -21,10 +21,11 @@ use Rattle.fast_check_findings.specs.Findings.{entry_fault, faulty_module, enter
 use Rattle.fast_check_package_ranges.specs.declared.parts.JoinedModule.{JoinedModule}
 use Rattle.fast_check_package_ranges.specs.declared.parts.FoundPackage.{FoundPackage}
 use Rattle.fast_check_package_ranges.specs.Questions.{ModuleQuestion, whether_recorded, whether_public, whether_implementing}
-use Rattle.fast_check_package_ranges.specs.Questions.{whether_missing, whether_untyped_entry, whether_untyped, whether_faulty, whether_otherwise_faulty}
-use Rattle.fast_check_package_ranges.specs.Questions.{Question, whether_known, whether_entry_point, whether_dependency, whether_refused, about}
-use Rattle.fast_check_package_ranges.specs.Questions.{fault_says, is_recorded, range_says, implementation_says}
-use Rattle.fast_check_package_ranges.specs.Questions.{asks_known, asks_entry_point, asks_dependency, asks_module, yield_says}
+use Rattle.fast_check_package_ranges.specs.Questions.{whether_missing, whether_untyped_entry, whether_untyped, whether_faulty}
+use Rattle.fast_check_package_ranges.specs.Questions.{whether_otherwise_faulty, Question, whether_known, whether_entry_point}
+use Rattle.fast_check_package_ranges.specs.Questions.{whether_dependency, whether_refused, about, fault_says, is_recorded, range_says}
+use Rattle.fast_check_package_ranges.specs.Questions.{implementation_says, asks_known, asks_entry_point, asks_dependency, asks_module}
+use Rattle.fast_check_package_ranges.specs.Questions.{yield_says}
 use Rattle.fast_check_findings.specs.Diagnostics.{any_fault, passes}
 use Rattle.fast_check_package_ranges.specs.Parts.{is_text, is_package, module_says, found_module_says, found_says, finding_says}
 use Rattle.fast_check_findings.proofs.Bools.{or_none, and_or}
@@ -60,13 +61,15 @@ entered_says e q = ap (λ b. asks_known q || b)
     (λ f. faulty_says (nv_of e.package) (serialize f.0) (entry_fault f.1) q) e.faults.items)))
 
 -- what is found of a package that is entered
-pub entered_found : (e : EnteredPackage) (found : FoundPackage) → found.entry_points.items ≡ e.entry_points.items → found.dependencies.items ≡ [] →
+pub entered_found : (e : EnteredPackage) (found : FoundPackage) → found.entry_points.items ≡ e.entry_points.items →
+    found.dependencies.items ≡ [] →
     ((t : List ℕ) (m : ModuleQuestion) → list_any (found_module_says t m) found.modules.items
     ≡ list_any (λ f. is_text t f.0 && (is_recorded m || fault_says (entry_fault f.1) m)) e.faults.items) →
     (q : Question) → found_says found q ≡ finding_says (Entered e) q
 entered_found e found p d h whether_known = refl
 entered_found e found p d h (whether_entry_point t) = ap (list_any (is_text t)) p ∙ sym (entered_says e (whether_entry_point t) ∙
-    (ap (λ b. list_any (is_text t) e.entry_points.items || b) (any_false e.faults.items) ∙ or_none (list_any (is_text t) e.entry_points.items)))
+    (ap (λ b. list_any (is_text t) e.entry_points.items || b) (any_false e.faults.items) ∙
+    or_none (list_any (is_text t) e.entry_points.items)))
 entered_found e found p d h (whether_dependency nv) = ap (list_any (is_package nv)) d ∙ sym (entered_says e (whether_dependency nv) ∙
     (ap (λ b. b || faults_say (whether_dependency nv) e.faults.items) (any_false e.entry_points.items) ∙ any_false e.faults.items))
 entered_found e found p d h (whether_refused t) = sym (entered_says e (whether_refused t) ∙
@@ -80,7 +83,8 @@ pub record IsOne (found : FoundPackage) (specifier : Parts) (parts : JoinedModul
   pub modules : found.modules.items ≡ (specifier, parts) ∷ []
   pub dependencies_are : found.dependencies.items ≡ dependencies
 
-one_about : (found : FoundPackage) (specifier : Parts) (parts : JoinedModule) (dependencies : List PackageNv) → IsOne found specifier parts dependencies →
+one_about : (found : FoundPackage) (specifier : Parts) (parts : JoinedModule) (dependencies : List PackageNv) →
+    IsOne found specifier parts dependencies →
     (t : List ℕ) (m : ModuleQuestion) → found_says found (about t m) ≡ (bytes_eq t (serialize specifier) && module_says parts m)
 one_about found specifier parts dependencies h t m = ap (list_any (found_module_says t m)) h.modules ∙
     or_none (bytes_eq t (serialize specifier) && module_says parts m)
@@ -93,7 +97,8 @@ untyped_found u found parts h p (whether_entry_point t) = ap (list_any (is_text 
 untyped_found u found parts h p (whether_dependency nv) = ap (list_any (is_package nv)) h.dependencies_are
 untyped_found u found parts h p (whether_refused t) = refl
 untyped_found u found parts h p (about t m) = one_about found u.specifier parts [] h t m ∙
-    (ap (λ b. bytes_eq t (serialize u.specifier) && b) (p m) ∙ sym (faulty_says (nv_of u.package) (serialize u.specifier) untyped_module (about t m)))
+    (ap (λ b. bytes_eq t (serialize u.specifier) && b) (p m) ∙ sym
+    (faulty_says (nv_of u.package) (serialize u.specifier) untyped_module (about t m)))
 
 -- what a fault of a demand says
 abbrev placed_says : List ℕ → Question → PlacedFault → Bool
@@ -110,7 +115,8 @@ pieces t q ranges implementations ds dependencies = asks_module t is_recorded q
     || (list_any (placed_says t q) ds || list_any (λ p. asks_dependency (nv_of p) q) dependencies)))
 
 followed_pieces : (f : FollowedModule) (q : Question) → list_any (says q) (followed_yields f)
-    ≡ pieces (serialize f.specifier) q f.found.ranges.items f.found.implementations.items (map placed_in f.found.faults.items) f.dependencies.items
+    ≡ pieces (serialize f.specifier) q f.found.ranges.items f.found.implementations.items
+    (map placed_in f.found.faults.items) f.dependencies.items
 followed_pieces f q =
     let nv = nv_of f.package in
     let t = serialize f.specifier in
@@ -133,7 +139,8 @@ none_of : (t : List ℕ) (q : Question) (ranges implementations : List SourceRan
     ((s : ModuleQuestion → Bool) → asks_module t s q ≡ false) →
     pieces t q ranges implementations ds dependencies ≡ list_any (λ p. asks_dependency (nv_of p) q) dependencies
 none_of t q ranges implementations ds dependencies h =
-    ap (λ b. b || (list_any (λ r. asks_module t (range_says r) q) ranges || (list_any (λ r. asks_module t (implementation_says r) q) implementations
+    ap (λ b. b ||
+    (list_any (λ r. asks_module t (range_says r) q) ranges || (list_any (λ r. asks_module t (implementation_says r) q) implementations
     || (list_any (placed_says t q) ds || list_any (λ p. asks_dependency (nv_of p) q) dependencies)))) (h is_recorded) ∙
     four _ false _ false _ false _ _
     (any_none (λ r. asks_module t (range_says r) q) (λ r. h (range_says r)) ranges)
@@ -168,18 +175,22 @@ faults_here f test = sym (four _ false _ false _ (list_any (passes test) f.found
 
 -- the parts of a module that was followed say what its pieces say
 parts_here : (f : FollowedModule) (parts : JoinedModule) → IsFollowed f parts → (m : ModuleQuestion) →
-    module_says parts m ≡ here m f.found.ranges.items f.found.implementations.items (map placed_in f.found.faults.items) f.dependencies.items
+    module_says parts m ≡ here m f.found.ranges.items f.found.implementations.items
+    (map placed_in f.found.faults.items) f.dependencies.items
 parts_here f parts h whether_recorded = refl
 parts_here f parts h (whether_public r) = ap (λ (x : FoundModule). list_any (same_range r) x.ranges.items) h.found ∙ sym
     (four _ (list_any (same_range r) f.found.ranges.items) _ false _ false _ false refl (any_false f.found.implementations.items)
-    (any_false (map placed_in f.found.faults.items)) (any_false f.dependencies.items) ∙ or_none (list_any (same_range r) f.found.ranges.items))
+    (any_false (map placed_in f.found.faults.items)) (any_false f.dependencies.items) ∙
+    or_none (list_any (same_range r) f.found.ranges.items))
 parts_here f parts h (whether_implementing r) = ap (λ (x : FoundModule). list_any (same_range r) x.implementations.items) h.found ∙ sym
     (four _ false _ (list_any (same_range r) f.found.implementations.items) _ false _ false (any_false f.found.ranges.items) refl
-    (any_false (map placed_in f.found.faults.items)) (any_false f.dependencies.items) ∙ or_none (list_any (same_range r) f.found.implementations.items))
+    (any_false (map placed_in f.found.faults.items)) (any_false f.dependencies.items) ∙
+    or_none (list_any (same_range r) f.found.implementations.items))
 parts_here f parts h whether_missing =
     h.missing ∙ sym (all_false f.found.ranges.items f.found.implementations.items (map placed_in f.found.faults.items) f.dependencies.items)
 parts_here f parts h whether_untyped_entry =
-    h.untyped_entry ∙ sym (all_false f.found.ranges.items f.found.implementations.items (map placed_in f.found.faults.items) f.dependencies.items)
+    h.untyped_entry ∙
+    sym (all_false f.found.ranges.items f.found.implementations.items (map placed_in f.found.faults.items) f.dependencies.items)
 parts_here f parts h whether_untyped =
     h.untyped ∙ sym (all_false f.found.ranges.items f.found.implementations.items (map placed_in f.found.faults.items) f.dependencies.items)
 parts_here f parts h (whether_faulty test) = ap (λ (x : FoundModule). list_any (passes test) x.faults.items) h.found ∙ faults_here f test
@@ -189,26 +200,34 @@ parts_here f parts h whether_otherwise_faulty =
     (ap (λ (x : FoundModule). list_any (passes any_fault) x.faults.items) h.found ∙ faults_here f any_fault))
 
 -- the pieces about a module are those of the module itself, if it is the one
-pieces_about : (b : Bool) (m : ModuleQuestion) (ranges implementations : List SourceRange) (ds : List PlacedFault) (dependencies : List PackageNv) →
+pieces_about : (b : Bool) (m : ModuleQuestion) (ranges implementations : List SourceRange) (ds : List PlacedFault)
+    (dependencies : List PackageNv) →
     ((b && is_recorded m) || (list_any (λ r. b && range_says r m) ranges || (list_any (λ r. b && implementation_says r m) implementations
     || (list_any (λ r. b && fault_says (of_demand r) m) ds || list_any (λ (p : PackageNv). false) dependencies))))
     ≡ (b && here m ranges implementations ds dependencies)
 pieces_about true m ranges implementations ds dependencies = refl
 pieces_about false m ranges implementations ds dependencies = all_false ranges implementations ds dependencies
 
-pub followed_found : (f : FollowedModule) (found : FoundPackage) (parts : JoinedModule) → IsOne found f.specifier parts f.dependencies.items →
+pub followed_found : (f : FollowedModule) (found : FoundPackage) (parts : JoinedModule) →
+    IsOne found f.specifier parts f.dependencies.items →
     IsFollowed f parts → (q : Question) → found_says found q ≡ finding_says (Followed f) q
 followed_found f found parts h p whether_known = refl
-followed_found f found parts h p (whether_entry_point t) = ap (list_any (is_text t)) h.entry_points ∙ sym (followed_pieces f (whether_entry_point t) ∙
-    (none_of (serialize f.specifier) (whether_entry_point t) f.found.ranges.items f.found.implementations.items (map placed_in f.found.faults.items)
+followed_found f found parts h p (whether_entry_point t) = ap (list_any (is_text t)) h.entry_points ∙
+    sym (followed_pieces f (whether_entry_point t) ∙
+    (none_of (serialize f.specifier) (whether_entry_point t) f.found.ranges.items f.found.implementations.items
+    (map placed_in f.found.faults.items)
     f.dependencies.items (λ s. refl) ∙ any_false f.dependencies.items))
-followed_found f found parts h p (whether_dependency nv) = ap (list_any (is_package nv)) h.dependencies_are ∙ sym (followed_pieces f (whether_dependency nv) ∙
-    none_of (serialize f.specifier) (whether_dependency nv) f.found.ranges.items f.found.implementations.items (map placed_in f.found.faults.items)
+followed_found f found parts h p (whether_dependency nv) = ap (list_any (is_package nv)) h.dependencies_are ∙
+    sym (followed_pieces f (whether_dependency nv) ∙
+    none_of (serialize f.specifier) (whether_dependency nv) f.found.ranges.items f.found.implementations.items
+    (map placed_in f.found.faults.items)
     f.dependencies.items (λ s. refl))
 followed_found f found parts h p (whether_refused t) = sym (followed_pieces f (whether_refused t) ∙
-    (none_of (serialize f.specifier) (whether_refused t) f.found.ranges.items f.found.implementations.items (map placed_in f.found.faults.items)
+    (none_of (serialize f.specifier) (whether_refused t) f.found.ranges.items f.found.implementations.items
+    (map placed_in f.found.faults.items)
     f.dependencies.items (λ s. refl) ∙ any_false f.dependencies.items))
 followed_found f found parts h p (about t m) = one_about found f.specifier parts f.dependencies.items h t m ∙
     (ap (λ b. bytes_eq t (serialize f.specifier) && b) (parts_here f parts p m) ∙ sym (followed_pieces f (about t m) ∙
-    pieces_about (bytes_eq t (serialize f.specifier)) m f.found.ranges.items f.found.implementations.items (map placed_in f.found.faults.items)
+    pieces_about (bytes_eq t (serialize f.specifier)) m f.found.ranges.items f.found.implementations.items
+    (map placed_in f.found.faults.items)
     f.dependencies.items))

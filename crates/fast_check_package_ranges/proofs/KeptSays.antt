@@ -1,6 +1,6 @@
 -- Packages whose items are used, among findings and among answers.
-use Rattle.std.proofs.Common.{◌≡◌, ◌∙◌, refl, sym, ap, subst, ℕ, Bool, true, false, ◌&&◌, ◌||◌, List, [], ◌∷◌, ◌++◌, map, Option, Some, None, ⊎_elim}
-use Rattle.std.proofs.Common.{arith, append-nil, append_assoc}
+use Rattle.std.proofs.Common.{◌≡◌, ◌∙◌, refl, sym, ap, subst, ℕ, Bool, true, false, ◌&&◌, ◌||◌, List, [], ◌∷◌, ◌++◌, map, Option, Some}
+use Rattle.std.proofs.Common.{None, ⊎_elim, arith, append-nil, append_assoc}
 use Rattle.std.specs.List.{list_any, flat_map, Contains, IsDistinct}
 use Rattle.std.proofs.lemmas.Bool.{false≢true}
 use Rattle.std.proofs.lemmas.List.Elements.{Contains-push_cases, Contains-append_left, Contains-append_right, Contains-append_cases}
@@ -14,7 +14,8 @@ use Rattle.fast_check_worklists.specs.Demands.{Text, same_nv}
 use Rattle.fast_check_findings.specs.Faults.{PlacedFault, placed_in}
 use Rattle.fast_check_findings.specs.Diagnostics.{where_found}
 use Rattle.fast_check_findings.specs.Yields.{Yield, entry_point, dependency, public, implementing, kept}
-use Rattle.fast_check_findings.specs.Findings.{entry_fault, faulty_module, entered_yields, placed_yield, placed_yields, followed_yields, yields_of}
+use Rattle.fast_check_findings.specs.Findings.{entry_fault, faulty_module, entered_yields, placed_yield, placed_yields, followed_yields}
+use Rattle.fast_check_findings.specs.Findings.{yields_of}
 use Rattle.fast_check_findings.specs.declared.finding.EnteredPackage.{EnteredPackage}
 use Rattle.fast_check_findings.specs.declared.finding.FollowedModule.{FollowedModule}
 use Rattle.fast_check_findings.specs.declared.finding.KeptPackage.{KeptPackage}
@@ -22,11 +23,11 @@ use Rattle.fast_check_findings.specs.declared.finding.Finding.{Finding}
 use Rattle.fast_check_findings.specs.declared.finding.Finding.TheVariants.{Entered, Followed, Untyped, Kept}
 use Rattle.fast_check_findings.proofs.Bools.{or_none}
 use Rattle.fast_check_findings.proofs.Lists.{any_map, any_flat, any_none}
-use Rattle.fast_check_package_ranges.specs.Questions.{Question, about, whether_faulty, package_of, yield_says, keeps, is_kept, yields_say, is_said}
-use Rattle.fast_check_package_ranges.specs.Questions.{ModuleQuestion, IsTextless}
+use Rattle.fast_check_package_ranges.specs.Questions.{Question, about, whether_faulty, package_of, yield_says, keeps, is_kept, yields_say}
+use Rattle.fast_check_package_ranges.specs.Questions.{is_said, ModuleQuestion, IsTextless}
 use Rattle.fast_check_package_ranges.specs.Parts.{lookup_text, kept_in, followed_in}
-use Rattle.fast_check_package_ranges.specs.Answers.{tell_alike, is_so, module_answer, package_answer, module_diagnostics, package_diagnostics, cached_of}
-use Rattle.fast_check_package_ranges.specs.Answers.{IsKeptIn}
+use Rattle.fast_check_package_ranges.specs.Answers.{tell_alike, is_so, module_answer, package_answer, module_diagnostics}
+use Rattle.fast_check_package_ranges.specs.Answers.{package_diagnostics, cached_of, IsKeptIn}
 use Rattle.fast_check_package_ranges.specs.Made.{is_of, IsKeptAmong}
 
 -- what the answers say of a package, by what is found of it
@@ -48,7 +49,8 @@ or_right false c h = h
 
 -- of a package whose item is not used the findings of items say nothing
 not_kept_one : (nv : Nv) (q : Question) (f : Finding) → list_any (keeps nv) (yields_of f) ≡ false →
-    list_any (λ y. same_nv nv (package_of y) && yield_says y q) (followed_in f) ≡ list_any (λ y. same_nv nv (package_of y) && yield_says y q) (yields_of f)
+    list_any (λ y. same_nv nv (package_of y) && yield_says y q) (followed_in f) ≡ list_any
+    (λ y. same_nv nv (package_of y) && yield_says y q) (yields_of f)
 not_kept_one nv q (Entered e) h = refl
 not_kept_one nv q (Followed f) h = refl
 not_kept_one nv q (Untyped u) h = refl
@@ -111,7 +113,8 @@ pub same_kept : (nv : Nv) (found : List Finding) → list_any (is_of nv) (flat_m
 same_kept nv [] = refl
 same_kept nv (f ∷ fs) = list_any-append (is_of nv) (kept_in f) (flat_map kept_in fs) ∙
     (ap (λ b. b || list_any (is_of nv) (flat_map kept_in fs)) (same_one nv f) ∙
-    (ap (λ b. list_any (keeps nv) (yields_of f) || b) (same_kept nv fs) ∙ sym (list_any-append (keeps nv) (yields_of f) (flat_map yields_of fs))))
+    (ap (λ b. list_any (keeps nv) (yields_of f) || b) (same_kept nv fs) ∙
+    sym (list_any-append (keeps nv) (yields_of f) (flat_map yields_of fs))))
 
 pub flat_push : {X Y : Type 0} (f : X → List Y) (xs : List X) (x : X) → flat_map f (xs ++ x ∷ []) ≡ flat_map f xs ++ f x
 flat_push f [] x = append-nil (f x)
@@ -134,7 +137,8 @@ one_yield (Untyped u) k c = absurd (none_in k c)
 one_yield (Kept j) k c = ⊎_elim (λ n. absurd (none_in k n))
     (λ e. subst (λ (x : KeptPackage). Contains (yield_of j ∷ []) (yield_of x)) e (first_in (yield_of j) [])) (Contains-push_cases [] j k c)
 
-all_yield : (found : List Finding) (k : KeptPackage) → Contains (flat_map kept_in found) k → Contains (flat_map yields_of found) (yield_of k)
+all_yield : (found : List Finding) (k : KeptPackage) → Contains (flat_map kept_in found) k →
+    Contains (flat_map yields_of found) (yield_of k)
 all_yield [] k c = absurd (none_in k c)
 all_yield (f ∷ fs) k c = ⊎_elim
     (λ l. Contains-append_left (yields_of f) (flat_map yields_of fs) (yield_of k) (one_yield f k l))
@@ -148,7 +152,8 @@ kept_among found nv (Some p) h = (nv_of h.0.package, h.0.entry_points.keys, item
 
 -- the answer of such a package has nothing of modules
 module _ (yields : List Yield) (nv : Nv) (t : Text) where
-  pub kept_silent : (q : ModuleQuestion) (o : Option PackagePublicRanges) → IsKeptIn yields nv o → where_found (package_answer (about t q)) o ≡ false
+  pub kept_silent : (q : ModuleQuestion) (o : Option PackagePublicRanges) → IsKeptIn yields nv o →
+      where_found (package_answer (about t q)) o ≡ false
   kept_silent q None h = absurd h
   kept_silent q (Some p) h = ap (λ es. where_found (module_answer t q) (lookup_text t es)) h.5.nothing_else
 

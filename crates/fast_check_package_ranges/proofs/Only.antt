@@ -1,6 +1,7 @@
--- Every diagnostic of a module is one that its yields say, no two tell the same, and nothing comes from a cache, but for packages whose items are used.
-use Rattle.std.proofs.Common.{◌≡◌, ◌∙◌, refl, sym, ap, ℕ, zero, suc, Bool, true, false, not, ◌&&◌, ◌||◌, List, [], ◌∷◌, Option, Some, None, ⊎_elim}
-use Rattle.std.proofs.Common.{arith}
+-- Every diagnostic of a module is one that its yields say, no two tell the same, and nothing comes from a cache, but for packages whose
+-- items are used.
+use Rattle.std.proofs.Common.{◌≡◌, ◌∙◌, refl, sym, ap, ℕ, zero, suc, Bool, true, false, not, ◌&&◌, ◌||◌, List, [], ◌∷◌, Option, Some, None}
+use Rattle.std.proofs.Common.{⊎_elim, arith}
 use Rattle.std.specs.List.{list_any, Contains, IsDistinct}
 use Rattle.std.specs.Str.{bytes_eq}
 use Rattle.std.specs.BTreeMap.{BTreeMap}
@@ -17,11 +18,12 @@ use Rattle.fast_check_findings.specs.Diagnostics.{any_fault, tells, where_found,
 use Rattle.fast_check_findings.proofs.Compared.{and_both, same_itself}
 use Rattle.fast_check_package_ranges.specs.declared.parts.JoinedModule.{JoinedModule}
 use Rattle.fast_check_package_ranges.specs.declared.parts.JoinedPackage.{JoinedPackage}
-use Rattle.fast_check_package_ranges.specs.Questions.{ModuleQuestion, whether_missing, whether_untyped_entry, whether_untyped, whether_faulty}
-use Rattle.fast_check_package_ranges.specs.Questions.{Question, about, is_fault, is_said, IsTextless}
+use Rattle.fast_check_package_ranges.specs.Questions.{ModuleQuestion, whether_missing, whether_untyped_entry, whether_untyped}
+use Rattle.fast_check_package_ranges.specs.Questions.{whether_faulty, Question, about, is_fault, is_said, IsTextless}
 use Rattle.fast_check_package_ranges.specs.Parts.{lookup_text, lookup_package}
-use Rattle.fast_check_package_ranges.specs.Answers.{tells_missing, tells_untyped_entry, tells_untyped, tell_alike, is_so, module_answer, package_answer}
-use Rattle.fast_check_package_ranges.specs.Answers.{answer, module_diagnostics, package_diagnostics, diagnostics_of, cached_of}
+use Rattle.fast_check_package_ranges.specs.Answers.{tells_missing, tells_untyped_entry, tells_untyped, tell_alike, is_so, module_answer}
+use Rattle.fast_check_package_ranges.specs.Answers.{package_answer, answer, module_diagnostics, package_diagnostics, diagnostics_of}
+use Rattle.fast_check_package_ranges.specs.Answers.{cached_of}
 use Rattle.fast_check_package_ranges.specs.Made.{is_foreign, AreModuleAnswers, IsPackageAnswer, ArePackageAnswers}
 
 -- an item that passes
@@ -51,12 +53,14 @@ one_of false false false true A B C E f g h k n = k refl
 one_of false false false false A B C E f g h k n = absurd (false≢true (sym n))
 
 -- what is asked of the diagnostics of a module
-asked_in : (t : List ℕ) (f : FastCheckDiagnostic → Bool) (q : ModuleQuestion) → ((m : PublicRanges) → module_answer t q m ≡ list_any f m.diagnostics) →
+asked_in : (t : List ℕ) (f : FastCheckDiagnostic → Bool) (q : ModuleQuestion) →
+    ((m : PublicRanges) → module_answer t q m ≡ list_any f m.diagnostics) →
     (o : Option PublicRanges) → where_found (module_answer t q) o ≡ list_any f (module_diagnostics o)
 asked_in t f q h None = refl
 asked_in t f q h (Some m) = h m
 
-asked_of : (t : List ℕ) (f : FastCheckDiagnostic → Bool) (q : ModuleQuestion) → ((m : PublicRanges) → module_answer t q m ≡ list_any f m.diagnostics) →
+asked_of : (t : List ℕ) (f : FastCheckDiagnostic → Bool) (q : ModuleQuestion) →
+    ((m : PublicRanges) → module_answer t q m ≡ list_any f m.diagnostics) →
     (o : Option PackagePublicRanges) → where_found (package_answer (about t q)) o ≡ list_any f (package_diagnostics t o)
 asked_of t f q h None = refl
 asked_of t f q h (Some p) = asked_in t f q h (lookup_text t p.module_ranges.entries)
@@ -81,7 +85,8 @@ pub none_alike : (t : List ℕ) → IsDistinct (tell_alike t) []
 unfolding IsDistinct
 none_alike t = tt
 
-once_in : (t : List ℕ) (parts : Option JoinedModule) (m : Option PublicRanges) → AreModuleAnswers t parts m → IsDistinct (tell_alike t) (module_diagnostics m)
+once_in : (t : List ℕ) (parts : Option JoinedModule) (m : Option PublicRanges) → AreModuleAnswers t parts m →
+    IsDistinct (tell_alike t) (module_diagnostics m)
 once_in t None None h = none_alike t
 once_in t None (Some m) h = absurd h
 once_in t (Some p) None h = absurd h
@@ -113,11 +118,13 @@ module _ (packages : List (PackageNv × JoinedPackage)) (answers : BTreeMap Pack
       is_said yields nv (about t (whether_faulty test)) ≡ true) where
     -- what a diagnostic tells is answered
     answered : (t : List ℕ) (f : FastCheckDiagnostic → Bool) (q : ModuleQuestion) →
-        ((m : PublicRanges) → module_answer t q m ≡ list_any f m.diagnostics) → (d : FastCheckDiagnostic) → Contains (diagnostics_of answers nv t) d →
+        ((m : PublicRanges) → module_answer t q m ≡ list_any f m.diagnostics) → (d : FastCheckDiagnostic) →
+        Contains (diagnostics_of answers nv t) d →
         f d ≡ true → answer answers nv (about t q) ≡ true
     answered t f q h d c y = asked_of t f q h (lookup_package nv answers.entries) ∙ present f (diagnostics_of answers nv t) d c y
 
-    of_fault : (t : List ℕ) (d : FastCheckDiagnostic) → Contains (diagnostics_of answers nv t) d → (o : Option PlacedFault) → demand_fault d ≡ o →
+    of_fault : (t : List ℕ) (d : FastCheckDiagnostic) → Contains (diagnostics_of answers nv t) d → (o : Option PlacedFault) →
+        demand_fault d ≡ o →
         where_found any_fault o ≡ true → where_found (λ r. is_said yields nv (about t (whether_faulty (is_fault r)))) o ≡ true
     of_fault t d c None e h = absurd (false≢true h)
     of_fault t d c (Some r) e h = exact t (is_fault r)
@@ -129,4 +136,5 @@ module _ (packages : List (PackageNv × JoinedPackage)) (answers : BTreeMap Pack
         (λ y. sym (said (about t whether_untyped_entry) tt) ∙ answered t (tells_untyped_entry t) whether_untyped_entry (λ m. refl) d c y)
         (λ y. sym (said (about t whether_untyped) tt) ∙ answered t (tells_untyped t) whether_untyped (λ m. refl) d c y)
         (of_fault t d c (demand_fault d) refl)
-        (passes_not (is_foreign t) (diagnostics_of answers nv t) d c (foreign t (lookup_package nv packages) (lookup_package nv answers.entries) (made nv)))
+        (passes_not (is_foreign t) (diagnostics_of answers nv t) d c
+        (foreign t (lookup_package nv packages) (lookup_package nv answers.entries) (made nv)))

@@ -34,9 +34,11 @@ module _ {K : Type 0} {cmp : K → K → Ordering} (o : IsTotalOrder cmp) (test 
       })
       (cases_Bool (test k))
 
-  within : (ks xs : List K) → ((q : K) → list_any (eq_by_cmp cmp q) ks ≡ list_any (eq_by_cmp cmp q) xs) → list_any test ks ≡ true → list_any test xs ≡ true
+  within : (ks xs : List K) → ((q : K) → list_any (eq_by_cmp cmp q) ks ≡ list_any (eq_by_cmp cmp q) xs) → list_any test ks ≡ true →
+      list_any test xs ≡ true
   within ks xs h e = let r : Passes ks = passing ks e in
       any_alike test (eq_by_cmp cmp r.key) (λ x. one r.key x r.passes) xs ∙ (sym (h r.key) ∙ r.among)
 
-  pub collected : (ks xs : List K) → ((q : K) → list_any (eq_by_cmp cmp q) ks ≡ list_any (eq_by_cmp cmp q) xs) → list_any test ks ≡ list_any test xs
+  pub collected : (ks xs : List K) → ((q : K) → list_any (eq_by_cmp cmp q) ks ≡ list_any (eq_by_cmp cmp q) xs) →
+      list_any test ks ≡ list_any test xs
   collected ks xs h = both_ways (list_any test ks) (list_any test xs) (within ks xs h) (within xs ks (λ q. sym (h q)))

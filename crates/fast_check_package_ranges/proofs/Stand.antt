@@ -54,7 +54,8 @@ module _ (found : List Finding) (packages : List (PackageNv × JoinedPackage)) (
         (λ y. absurd (false≢true (sym (kept_silent Y nv t (whether_faulty test) (lookup_package nv answers.entries) (kept_at nv y)) ∙ e)))
         (λ n. (followed_at nv n).exact t test e) (cases_Bool (is_kept Y nv));
     only = λ nv t d c. ⊎_elim
-        (λ y. absurd (none_in (package_diagnostics t (lookup_package nv answers.entries)) d (kept_untold Y nv t (lookup_package nv answers.entries)
+        (λ y. absurd
+        (none_in (package_diagnostics t (lookup_package nv answers.entries)) d (kept_untold Y nv t (lookup_package nv answers.entries)
         (kept_at nv y)) c))
         (λ n. (followed_at nv n).only t d c) (cases_Bool (is_kept Y nv));
     once = λ nv t. ⊎_elim

@@ -16,11 +16,13 @@ use Rattle.fast_check_diagnostics.specs.declared.diagnostics.FastCheckDiagnostic
 use Rattle.fast_check_diagnostics.specs.declared.diagnostics.FastCheckDiagnostic.TheVariants.{UnsupportedNestedJavaScript}
 use Rattle.fast_check_findings.specs.Faults.{PlacedFault, demand_fault}
 use Rattle.fast_check_package_ranges.specs.declared.parts.JoinedModule.{JoinedModule}
-use Rattle.fast_check_package_ranges.specs.Questions.{IsTextlessAbout, ModuleQuestion, whether_recorded, whether_public, whether_implementing}
-use Rattle.fast_check_package_ranges.specs.Questions.{whether_missing, whether_untyped_entry, whether_untyped, whether_faulty, whether_otherwise_faulty}
+use Rattle.fast_check_package_ranges.specs.Questions.{IsTextlessAbout, ModuleQuestion, whether_recorded, whether_public}
+use Rattle.fast_check_package_ranges.specs.Questions.{whether_implementing, whether_missing, whether_untyped_entry, whether_untyped}
+use Rattle.fast_check_package_ranges.specs.Questions.{whether_faulty, whether_otherwise_faulty}
 use Rattle.fast_check_findings.specs.Diagnostics.{IsFair, any_fault, is_other, passes, tells, tell_one_fault}
 use Rattle.fast_check_package_ranges.specs.Parts.{is_text, module_says}
-use Rattle.fast_check_package_ranges.specs.Answers.{tells_missing, tells_untyped_entry, tells_untyped, tells_otherwise, tell_alike, module_answer}
+use Rattle.fast_check_package_ranges.specs.Answers.{tells_missing, tells_untyped_entry, tells_untyped, tells_otherwise, tell_alike}
+use Rattle.fast_check_package_ranges.specs.Answers.{module_answer}
 use Rattle.fast_check_package_ranges.specs.Made.{told_if, whole_diagnostics, module_is_said, is_foreign, IsModuleAnswer}
 use Rattle.fast_check_findings.proofs.Bools.{or_none, or_assoc, and_none}
 
@@ -62,7 +64,8 @@ last_of_four false false false e h = h
 foreign_other : (t : List ℕ) (d : FastCheckDiagnostic) → is_other d ≡ false → is_foreign t d ≡ false
 foreign_other t d h = last_of_four (tells_untyped t d) (tells_missing t d) (tells_untyped_entry t d) (tells any_fault d) h
 
-alike : (f g : FastCheckDiagnostic → Bool) → ((d : FastCheckDiagnostic) → is_other d ≡ false → f d ≡ g d) → (ds : List FastCheckDiagnostic) →
+alike : (f g : FastCheckDiagnostic → Bool) → ((d : FastCheckDiagnostic) → is_other d ≡ false → f d ≡ g d) →
+    (ds : List FastCheckDiagnostic) →
     list_any is_other ds ≡ false → list_any f ds ≡ list_any g ds
 alike f g e [] h = refl
 alike f g e (d ∷ ds) h = ap (λ b. b || list_any f ds) (e d (or_parts (is_other d) (list_any is_other ds) h).0)
@@ -72,7 +75,8 @@ none : (ds : List FastCheckDiagnostic) → list_any (λ (d : FastCheckDiagnostic
 none [] = refl
 none (d ∷ ds) = none ds
 
-all_none : (f : FastCheckDiagnostic → Bool) → ((d : FastCheckDiagnostic) → is_other d ≡ false → f d ≡ false) → (ds : List FastCheckDiagnostic) →
+all_none : (f : FastCheckDiagnostic → Bool) → ((d : FastCheckDiagnostic) → is_other d ≡ false → f d ≡ false) →
+    (ds : List FastCheckDiagnostic) →
     list_any is_other ds ≡ false → list_any f ds ≡ false
 all_none f e ds h = alike f (λ d. false) e ds h ∙ none ds
 
@@ -88,7 +92,8 @@ if_tells test false d = refl
 three : (a b c x y z : Bool) → a ≡ x → b ≡ y → c ≡ z → (a || (b || c)) ≡ (x || (y || z))
 three a b c x y z e f g = cc
 
-wholes_tell : (test : FastCheckDiagnostic → Bool) (s : Parts) (a b c : Bool) → list_any test (whole_diagnostics s a b c) ≡ whole_tell s a b c test
+wholes_tell : (test : FastCheckDiagnostic → Bool) (s : Parts) (a b c : Bool) →
+    list_any test (whole_diagnostics s a b c) ≡ whole_tell s a b c test
 wholes_tell test s a b c =
     let first = told_if a (ExportNotFound s) in
     let second = told_if b (UnsupportedJavaScriptEntrypoint s) in
@@ -97,7 +102,8 @@ wholes_tell test s a b c =
     three _ _ _ _ _ _ (if_tells test a (ExportNotFound s)) (if_tells test b (UnsupportedJavaScriptEntrypoint s))
     (if_tells test c (UnsupportedNestedJavaScript s)))
 
-wholes : (a b c x y z : Bool) (x' y' z' : Bool) → x ≡ x' → y ≡ y' → z ≡ z' → ((a && x) || ((b && y) || (c && z))) ≡ ((a && x') || ((b && y') || (c && z')))
+wholes : (a b c x y z : Bool) (x' y' z' : Bool) → x ≡ x' → y ≡ y' → z ≡ z' →
+    ((a && x) || ((b && y) || (c && z))) ≡ ((a && x') || ((b && y') || (c && z')))
 wholes a b c x y z x' y' z' e f g = cc
 
 only_first : (a b c : Bool) → ((a && true) || ((b && false) || (c && false))) ≡ a
@@ -166,11 +172,13 @@ none_of_four : (a b c x y z e : Bool) → a ≡ false → b ≡ false → c ≡ 
 none_of_four a b c x y z e p q r h = ap (λ i. (i && x) || ((b && y) || ((c && z) || e))) p ∙ (ap (λ i. (i && y) || ((c && z) || e)) q ∙
     (ap (λ i. (i && z) || e) r ∙ h))
 
-told_apart : (t : List ℕ) (d : FastCheckDiagnostic) → is_other d ≡ false → (ds : List FastCheckDiagnostic) → AllByRecursion (λ x. tell_one_fault d x ≡ false) ds →
+told_apart : (t : List ℕ) (d : FastCheckDiagnostic) → is_other d ≡ false → (ds : List FastCheckDiagnostic) →
+    AllByRecursion (λ x. tell_one_fault d x ≡ false) ds →
     AllByRecursion (λ x. tell_alike t d x ≡ false) ds
 told_apart t d o [] h = tt
 told_apart t d o (x ∷ xs) h = (
-  none_of_four (tells_missing t d) (tells_untyped_entry t d) (tells_untyped t d) _ _ _ (tell_one_fault d x) (missing_other t d o) (untyped_entry_other t d o)
+  none_of_four (tells_missing t d) (tells_untyped_entry t d) (tells_untyped t d) _ _ _ (tell_one_fault d x) (missing_other t d o)
+      (untyped_entry_other t d o)
       (untyped_other t d o) h.0,
   told_apart t d o xs h.1,
 )
@@ -179,14 +187,16 @@ none_twice : (t : List ℕ) → IsDistinct (tell_alike t) []
 unfolding IsDistinct
 none_twice t = tt
 
-told_distinct : (t : List ℕ) (ds : List FastCheckDiagnostic) → list_any is_other ds ≡ false → IsDistinct tell_one_fault ds → IsDistinct (tell_alike t) ds
+told_distinct : (t : List ℕ) (ds : List FastCheckDiagnostic) → list_any is_other ds ≡ false → IsDistinct tell_one_fault ds →
+    IsDistinct (tell_alike t) ds
 told_distinct t [] o h = none_twice t
 told_distinct t (d ∷ ds) o h = IsDistinct-cons (tell_alike t) d ds
     (told_apart t d (or_parts (is_other d) (list_any is_other ds) o).0 ds (IsDistinct-head tell_one_fault d ds h))
     (told_distinct t ds (or_parts (is_other d) (list_any is_other ds) o).1 (IsDistinct-tail tell_one_fault d ds h))
 
 -- one in front
-in_front : (t : List ℕ) (b : Bool) (d : FastCheckDiagnostic) (ds : List FastCheckDiagnostic) → AllByRecursion (λ x. tell_alike t d x ≡ false) ds →
+in_front : (t : List ℕ) (b : Bool) (d : FastCheckDiagnostic) (ds : List FastCheckDiagnostic) →
+    AllByRecursion (λ x. tell_alike t d x ≡ false) ds →
     IsDistinct (tell_alike t) ds → IsDistinct (tell_alike t) (told_if b d ++ ds)
 in_front t true d ds a h = IsDistinct-cons (tell_alike t) d ds a h
 in_front t false d ds a h = h
@@ -196,7 +206,8 @@ none_more : (test : FastCheckDiagnostic → Bool) (b : Bool) (d : FastCheckDiagn
 none_more test true d ds n h = ap (λ x. x || list_any test ds) n ∙ h
 none_more test false d ds n h = h
 
-wholes_before : (t : List ℕ) (s : Parts) (a b c : Bool) (ds : List FastCheckDiagnostic) → list_any is_other ds ≡ false → IsDistinct tell_one_fault ds →
+wholes_before : (t : List ℕ) (s : Parts) (a b c : Bool) (ds : List FastCheckDiagnostic) → list_any is_other ds ≡ false →
+    IsDistinct tell_one_fault ds →
     IsDistinct (tell_alike t) (told_if a (ExportNotFound s) ++ (told_if b (UnsupportedJavaScriptEntrypoint s) ++
     (told_if c (UnsupportedNestedJavaScript s) ++ ds)))
 wholes_before t s a b c ds o h =
@@ -208,12 +219,15 @@ wholes_before t s a b c ds o h =
     (none_more (tells_missing t) c (UnsupportedNestedJavaScript s) ds refl (all_none (tells_missing t) (missing_other t) ds o))))
     (in_front t b (UnsupportedJavaScriptEntrypoint s) last
     (all_apart (tell_alike t (UnsupportedJavaScriptEntrypoint s)) (tells_untyped_entry t) (untyped_entry_apart t s) last
-    (none_more (tells_untyped_entry t) c (UnsupportedNestedJavaScript s) ds refl (all_none (tells_untyped_entry t) (untyped_entry_other t) ds o)))
+    (none_more (tells_untyped_entry t) c (UnsupportedNestedJavaScript s) ds refl
+    (all_none (tells_untyped_entry t) (untyped_entry_other t) ds o)))
     (in_front t c (UnsupportedNestedJavaScript s) ds
-    (all_apart (tell_alike t (UnsupportedNestedJavaScript s)) (tells_untyped t) (untyped_apart t s) ds (all_none (tells_untyped t) (untyped_other t) ds o))
+    (all_apart (tell_alike t (UnsupportedNestedJavaScript s)) (tells_untyped t) (untyped_apart t s) ds
+    (all_none (tells_untyped t) (untyped_other t) ds o))
     (told_distinct t ds o h)))
 
-wholes_distinct : (t : List ℕ) (s : Parts) (a b c : Bool) (ds : List FastCheckDiagnostic) → list_any is_other ds ≡ false → IsDistinct tell_one_fault ds →
+wholes_distinct : (t : List ℕ) (s : Parts) (a b c : Bool) (ds : List FastCheckDiagnostic) → list_any is_other ds ≡ false →
+    IsDistinct tell_one_fault ds →
     IsDistinct (tell_alike t) (whole_diagnostics s a b c ++ ds)
 wholes_distinct t s a b c ds o h =
     let first = told_if a (ExportNotFound s) in
@@ -235,7 +249,8 @@ pub record IsTold (specifier : Parts) (parts : JoinedModule) (out told_once : Li
   pub only : list_any is_other told_once ≡ false
   pub once : IsDistinct tell_one_fault told_once
 
-module _ (specifier : Parts) (parts : JoinedModule) (out told_once : List FastCheckDiagnostic) (h : IsTold specifier parts out told_once) where
+module _ (specifier : Parts) (parts : JoinedModule) (out told_once : List FastCheckDiagnostic)
+    (h : IsTold specifier parts out told_once) where
   itself : bytes_eq (serialize specifier) (serialize specifier) ≡ true
   itself = nat_list_eq_equiv.refl (serialize specifier)
 
@@ -248,7 +263,8 @@ module _ (specifier : Parts) (parts : JoinedModule) (out told_once : List FastCh
       ap (λ b. b || list_any test told_once) (wholes_tell test specifier parts.is_missing parts.is_untyped_entry (shown parts)))
 
   -- a test that passes no fault of a demand
-  all_whole : (test : FastCheckDiagnostic → Bool) → ((d : FastCheckDiagnostic) → is_other d ≡ false → test d ≡ false) → list_any test out ≡ whole test
+  all_whole : (test : FastCheckDiagnostic → Bool) → ((d : FastCheckDiagnostic) → is_other d ≡ false → test d ≡ false) →
+      list_any test out ≡ whole test
   all_whole test e = all test ∙ (ap (λ b. whole test || b) (all_none test e told_once h.only) ∙ or_none (whole test))
 
   pub told_missing : list_any (tells_missing (serialize specifier)) out ≡ parts.is_missing
@@ -301,14 +317,16 @@ module _ (specifier : Parts) (parts : JoinedModule) (out told_once : List FastCh
 said : (specifier : Parts) (parts : JoinedModule) (m : PublicRanges) (told_once : List FastCheckDiagnostic) →
     ((r : SourceRange) → is_public m r ≡ list_any (same_range r) parts.found.ranges.items) →
     ((r : SourceRange) → is_implementation m r ≡ list_any (same_range r) parts.found.implementations.items) →
-    IsTold specifier parts m.diagnostics told_once → (q : ModuleQuestion) → IsTextlessAbout q → module_answer (serialize specifier) q m ≡ module_is_said parts q
+    IsTold specifier parts m.diagnostics told_once → (q : ModuleQuestion) → IsTextlessAbout q →
+    module_answer (serialize specifier) q m ≡ module_is_said parts q
 said specifier parts m told_once publics others h whether_recorded fair = refl
 said specifier parts m told_once publics others h (whether_public r) fair = publics r
 said specifier parts m told_once publics others h (whether_implementing r) fair = others r
 said specifier parts m told_once publics others h whether_missing fair = told_missing specifier parts m.diagnostics told_once h
 said specifier parts m told_once publics others h whether_untyped_entry fair = told_untyped_entry specifier parts m.diagnostics told_once h
 said specifier parts m told_once publics others h whether_untyped fair = told_untyped specifier parts m.diagnostics told_once h
-said specifier parts m told_once publics others h (whether_faulty test) fair = told_of_demands specifier parts m.diagnostics told_once h test ∙ h.same test fair
+said specifier parts m told_once publics others h (whether_faulty test) fair =
+    told_of_demands specifier parts m.diagnostics told_once h test ∙ h.same test fair
 said specifier parts m told_once publics others h whether_otherwise_faulty fair = told_otherwise specifier parts m.diagnostics told_once h
 
 pub module_made : (specifier : Parts) (parts : JoinedModule) (m : PublicRanges) (told_once : List FastCheckDiagnostic) →

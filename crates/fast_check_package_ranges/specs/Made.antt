@@ -16,9 +16,11 @@ use Rattle.fast_check_findings.specs.declared.finding.KeptPackage.{KeptPackage}
 use Rattle.fast_check_findings.specs.Faults.{PlacedFault}
 use Rattle.fast_check_package_ranges.specs.declared.parts.JoinedModule.{JoinedModule}
 use Rattle.fast_check_package_ranges.specs.declared.parts.JoinedPackage.{JoinedPackage}
-use Rattle.fast_check_package_ranges.specs.Questions.{ModuleQuestion, whether_untyped, whether_faulty, whether_otherwise_faulty, IsTextlessAbout}
+use Rattle.fast_check_package_ranges.specs.Questions.{ModuleQuestion, whether_untyped, whether_faulty}
+use Rattle.fast_check_package_ranges.specs.Questions.{whether_otherwise_faulty, IsTextlessAbout}
 use Rattle.fast_check_package_ranges.specs.Parts.{is_text, is_package, module_says, lookup_text}
-use Rattle.fast_check_package_ranges.specs.Answers.{tells_untyped, tells_otherwise, tell_alike, module_answer, IsKeptAnswer}
+use Rattle.fast_check_package_ranges.specs.Answers.{tells_untyped, tells_otherwise, tell_alike, module_answer}
+use Rattle.fast_check_package_ranges.specs.Answers.{IsKeptAnswer}
 
 -- a diagnostic that is there, or is not
 abbrev pub told_if : Bool → FastCheckDiagnostic → List FastCheckDiagnostic
@@ -27,7 +29,8 @@ told_if b d = cond b (d ∷ []) []
 -- what is wrong with a module as a whole
 abbrev pub whole_diagnostics : Parts → Bool → Bool → Bool → List FastCheckDiagnostic
 whole_diagnostics specifier is_missing is_untyped_entry is_untyped = told_if is_missing (ExportNotFound specifier)
-    ++ (told_if is_untyped_entry (UnsupportedJavaScriptEntrypoint specifier) ++ told_if is_untyped (UnsupportedNestedJavaScript specifier))
+    ++ (told_if is_untyped_entry (UnsupportedJavaScriptEntrypoint specifier) ++ told_if is_untyped
+    (UnsupportedNestedJavaScript specifier))
 
 -- what is said of a module
 abbrev pub module_is_said : JoinedModule → ModuleQuestion → Bool
@@ -40,7 +43,8 @@ is_foreign t d = not (tells_untyped t d || tells_otherwise t d)
 
 pub record IsModuleAnswer (t : Text) (parts : JoinedModule) (m : PublicRanges) : Type 0 where
   pub said : (q : ModuleQuestion) → IsTextlessAbout q → module_answer t q m ≡ module_is_said parts q
-  pub exact : (test : PlacedFault → Bool) → module_answer t (whether_faulty test) m ≡ true → module_says parts (whether_faulty test) ≡ true
+  pub exact : (test : PlacedFault → Bool) → module_answer t (whether_faulty test) m ≡ true →
+      module_says parts (whether_faulty test) ≡ true
   pub only : list_any (is_foreign t) m.diagnostics ≡ false
   pub once : IsDistinct (tell_alike t) m.diagnostics
 
@@ -50,9 +54,12 @@ AreModuleAnswers t (Some parts) (Some m) = IsModuleAnswer t parts m
 AreModuleAnswers t _ _ = ⊥
 
 pub record IsPackageAnswer (parts : JoinedPackage) (p : PackagePublicRanges) : Type 0 where
-  pub entry_points : (t : Text) → list_any (is_text t) p.entrypoints.keys ≡ list_any (is_text t) parts.entry_points.items
-  pub dependencies : (nv : Nv) → list_any (is_package nv) p.dependencies.keys ≡ list_any (is_package nv) parts.dependencies.items
-  pub modules : (t : Text) → AreModuleAnswers t (lookup_text t parts.modules.entries) (lookup_text t p.module_ranges.entries)
+  pub entry_points : (t : Text) → list_any (is_text t) p.entrypoints.keys ≡ list_any
+      (is_text t) parts.entry_points.items
+  pub dependencies : (nv : Nv) → list_any (is_package nv) p.dependencies.keys ≡ list_any
+      (is_package nv) parts.dependencies.items
+  pub modules : (t : Text) → AreModuleAnswers t (lookup_text t parts.modules.entries)
+      (lookup_text t p.module_ranges.entries)
   pub uncached : p.cache_items.items ≡ []
 
 abbrev pub ArePackageAnswers : Option JoinedPackage → Option PackagePublicRanges → Type 0

@@ -17,10 +17,11 @@ use Rattle.fast_check_findings.specs.Findings.{yields_of}
 use Rattle.fast_check_package_ranges.specs.declared.parts.JoinedModule.{JoinedModule}
 use Rattle.fast_check_package_ranges.specs.declared.parts.JoinedPackage.{JoinedPackage}
 use Rattle.fast_check_package_ranges.specs.declared.parts.FoundPackage.{FoundPackage}
-use Rattle.fast_check_package_ranges.specs.Questions.{ModuleQuestion, whether_recorded, whether_public, whether_implementing}
-use Rattle.fast_check_package_ranges.specs.Questions.{whether_missing, whether_untyped_entry, whether_untyped, whether_faulty, whether_otherwise_faulty}
-use Rattle.fast_check_package_ranges.specs.Questions.{Question, whether_known, whether_entry_point, whether_dependency, whether_refused, about}
-use Rattle.fast_check_package_ranges.specs.Questions.{yield_says}
+use Rattle.fast_check_package_ranges.specs.Questions.{ModuleQuestion, whether_recorded, whether_public}
+use Rattle.fast_check_package_ranges.specs.Questions.{whether_implementing, whether_missing, whether_untyped_entry}
+use Rattle.fast_check_package_ranges.specs.Questions.{whether_untyped, whether_faulty, whether_otherwise_faulty}
+use Rattle.fast_check_package_ranges.specs.Questions.{Question, whether_known, whether_entry_point, whether_dependency}
+use Rattle.fast_check_package_ranges.specs.Questions.{whether_refused, about, yield_says}
 
 abbrev pub is_text : Text → Parts → Bool
 is_text t url = bytes_eq t (serialize url)
@@ -36,7 +37,8 @@ module_says m whether_missing = m.is_missing
 module_says m whether_untyped_entry = m.is_untyped_entry
 module_says m whether_untyped = m.is_untyped
 module_says m (whether_faulty test) = list_any (passes test) m.found.faults.items
-module_says m whether_otherwise_faulty = m.is_missing || (m.is_untyped_entry || list_any (passes any_fault) m.found.faults.items)
+module_says m whether_otherwise_faulty = m.is_missing ||
+    (m.is_untyped_entry || list_any (passes any_fault) m.found.faults.items)
 
 abbrev pub lookup_text : {X : Type 0} → Text → List (Parts × X) → Option X
 lookup_text t modules = lookup (is_text t) modules

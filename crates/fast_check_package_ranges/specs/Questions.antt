@@ -9,11 +9,13 @@ use Rattle.fast_check_findings.specs.Faults.{PlacedFault}
 use Rattle.fast_check_findings.specs.Diagnostics.{same_fault}
 use Rattle.fast_check_worklists.specs.Demands.{Text, same_nv}
 use Rattle.fast_check_findings.specs.Yields.{ModuleFault, missing_entry, untyped_entry, untyped_module, of_demand}
-use Rattle.fast_check_findings.specs.Yields.{Yield, known_package, entry_point, refused_export, dependency, recorded, public, implementing, faulty, kept}
+use Rattle.fast_check_findings.specs.Yields.{Yield, known_package, entry_point, refused_export, dependency, recorded}
+use Rattle.fast_check_findings.specs.Yields.{public, implementing, faulty, kept}
 
--- About a module: whether it is recorded; whether a range is public, or one of an implementation of overloads; whether it is an entry point that is
--- not found, one whose types are not known, or another module whose types are not known; whether a fault of a demand that passes a test is there;
--- and whether anything is wrong but that its types are not known.
+-- About a module: whether it is recorded; whether a range is public, or one of an implementation of overloads; whether
+-- it is an entry point that is not found, one whose types are not known, or another module whose types are not known;
+-- whether a fault of a demand that passes a test is there; and whether anything is wrong but that its types are not
+-- known.
 pub data ModuleQuestion : Type 0 where
   whether_recorded : ModuleQuestion
   whether_public : SourceRange → ModuleQuestion
@@ -24,8 +26,8 @@ pub data ModuleQuestion : Type 0 where
   whether_faulty : (PlacedFault → Bool) → ModuleQuestion
   whether_otherwise_faulty : ModuleQuestion
 
--- About a package: whether it stands in the answer; whether a module is an entry point; whether it depends on another; whether an export text
--- is refused; and what can be asked about a module.
+-- About a package: whether it stands in the answer; whether a module is an entry point; whether it depends on another;
+-- whether an export text is refused; and what can be asked about a module.
 pub data Question : Type 0 where
   whether_known : Question
   whether_entry_point : Text → Question
@@ -119,7 +121,8 @@ yields_say yields nv q = list_any (λ y. same_nv nv (package_of y) && yield_says
 
 -- That the types of a module are not known is said where nothing else is wrong with it.
 abbrev pub is_said : List Yield → Nv → Question → Bool
-is_said yields nv (about t whether_untyped) = yields_say yields nv (about t whether_untyped) && not (yields_say yields nv (about t whether_otherwise_faulty))
+is_said yields nv (about t whether_untyped) = yields_say yields nv (about t whether_untyped) &&
+    not (yields_say yields nv (about t whether_otherwise_faulty))
 is_said yields nv q = yields_say yields nv q
 
 -- reports that are one, and have one source text

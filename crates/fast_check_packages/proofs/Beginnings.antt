@@ -18,32 +18,38 @@ use Rattle.fast_check_packages.specs.Listed.{begins_with}
 use Rattle.fast_check_packages.specs.declared.texts.TextIndex.{TextIndex}
 use Rattle.fast_check_packages.specs.First.{first_place, earlier}
 use Rattle.fast_check_packages.specs.Texts.{place_of, IsTextIndex}
-use Rattle.fast_check_packages.proofs.First.{first_push, first_same, first_same_of, first_none, first_of_either, earlier_assoc, earlier_none}
+use Rattle.fast_check_packages.proofs.First.{first_push, first_same, first_same_of, first_none, first_of_either, earlier_assoc}
+use Rattle.fast_check_packages.proofs.First.{earlier_none}
 
 -- ---- a place that is put
 
 abbrev Places : Type 0
 Places = BTreeMap (Vec ℕ Global) ℕ
 
-apart : (text asked key : List ℕ) → bytes_eq text asked ≡ false → is_eq (slice_cmp nat_cmp text key) ≡ true → is_eq (slice_cmp nat_cmp asked key) ≡ false
+apart : (text asked key : List ℕ) → bytes_eq text asked ≡ false → is_eq (slice_cmp nat_cmp text key) ≡ true →
+    is_eq (slice_cmp nat_cmp asked key) ≡ false
 apart text asked key n y =
-    sym (texts_ties asked key) ∙ (nat_list_eq_equiv.symm asked key ∙ (sym (nat_list_eq_equiv.congr text key asked (texts_ties text key ∙ y)) ∙ n))
+    sym (texts_ties asked key) ∙
+    (nat_list_eq_equiv.symm asked key ∙ (sym (nat_list_eq_equiv.congr text key asked (texts_ties text key ∙ y)) ∙ n))
 
 others : (text asked : List ℕ) (old new : List (Vec ℕ Global × ℕ))
-    → KeepsOthers (eq_by_cmp (λ a b. slice_cmp nat_cmp a.items b.items)) (λ k. is_eq (slice_cmp nat_cmp text k.items)) old new → bytes_eq text asked ≡ false
+    → KeepsOthers (eq_by_cmp (λ a b. slice_cmp nat_cmp a.items b.items)) (λ k. is_eq (slice_cmp nat_cmp text k.items)) old new →
+    bytes_eq text asked ≡ false
     → lookup (λ k. is_eq (slice_cmp nat_cmp asked k.items)) new ≡ lookup (λ k. is_eq (slice_cmp nat_cmp asked k.items)) old
 unfolding KeepsOthers
 others text asked old new h n =
     h (λ k. is_eq (slice_cmp nat_cmp asked k.items)) (λ x y. (eq_by_cmp_equiv nat_list_cmp_total).congr asked x.items y.items)
     (λ k y. apart text asked k.items n y)
 
-put_here : (text asked : List ℕ) (place : ℕ) (old new : Places) → place_of text new ≡ Some place → place_of text old ≡ None → bytes_eq text asked ≡ true
+put_here : (text asked : List ℕ) (place : ℕ) (old new : Places) → place_of text new ≡ Some place → place_of text old ≡ None →
+    bytes_eq text asked ≡ true
     → place_of asked new ≡ option_or (place_of asked old) (cond (bytes_eq text asked) (Some place) None)
 put_here text asked place old new here before y =
     let same : text ≡ asked = (bytes_eq-Decides text asked).0 y in
     subst (λ (t : List ℕ). place_of t new ≡ Some place) same here
     ∙ (sym (cond-true (bytes_eq text asked) (Some place) None y)
-    ∙ ap (λ (o : Option ℕ). option_or o (cond (bytes_eq text asked) (Some place) None)) (sym (subst (λ (t : List ℕ). place_of t old ≡ None) same before)))
+    ∙ ap (λ (o : Option ℕ). option_or o (cond (bytes_eq text asked) (Some place) None))
+    (sym (subst (λ (t : List ℕ). place_of t old ≡ None) same before)))
 
 or_none : (o : Option ℕ) → o ≡ option_or o None
 or_none None = refl
@@ -52,7 +58,8 @@ or_none (Some x) = refl
 put_other : (text asked : List ℕ) (place : ℕ) (old new : Places) → place_of asked new ≡ place_of asked old → bytes_eq text asked ≡ false
     → place_of asked new ≡ option_or (place_of asked old) (cond (bytes_eq text asked) (Some place) None)
 put_other text asked place old new e n =
-    e ∙ (or_none (place_of asked old) ∙ ap (λ o. option_or (place_of asked old) o) (sym (cond-false (bytes_eq text asked) (Some place) None n)))
+    e ∙ (or_none (place_of asked old) ∙ ap (λ o. option_or (place_of asked old) o)
+    (sym (cond-false (bytes_eq text asked) (Some place) None n)))
 
 -- a text that has no place gets it
 pub put_new : (text asked : List ℕ) (place : ℕ) (old new : Places)
@@ -120,7 +127,8 @@ neither true c h = h
 neither false c h = refl
 
 -- a text of a length begins another where it is that much of it
-pub begins_as_long : (text t : List ℕ) (n : ℕ) → n ≤ length text → (begins_with t text && is_eq (nat_cmp (length t) n)) ≡ bytes_eq (take n text) t
+pub begins_as_long : (text t : List ℕ) (n : ℕ) → n ≤ length text →
+    (begins_with t text && is_eq (nat_cmp (length t) n)) ≡ bytes_eq (take n text) t
 begins_as_long text t n le =
     ⊎_elim
     (λ y. both (begins_with t text) (is_eq (nat_cmp (length t) n)) y
@@ -176,12 +184,14 @@ pub found_as_long : (texts : List (List ℕ)) (index : TextIndex) (text : List �
     → place_of (take n text) index.places ≡ first_place (λ t. begins_with t text && is_eq (nat_cmp (length t) n)) texts
 found_as_long texts index text n le h =
     h.has_places (take n text)
-    ∙ sym (first_same (λ t. begins_with t text && is_eq (nat_cmp (length t) n)) (bytes_eq (take n text)) (λ t. begins_as_long text t n le) texts)
+    ∙ sym (first_same (λ t. begins_with t text && is_eq (nat_cmp (length t) n)) (bytes_eq (take n text))
+    (λ t. begins_as_long text t n le) texts)
 
 pub none_longer : (texts : List (List ℕ)) (text : List ℕ) (n : ℕ) → length text < n
     → None ≡ first_place (λ t. begins_with t text && is_eq (nat_cmp (length t) n)) texts
 none_longer texts text n lt =
-    sym (first_same (λ t. begins_with t text && is_eq (nat_cmp (length t) n)) (λ _. false) (λ t. begins_longer text t n lt) texts ∙ first_none texts)
+    sym (first_same (λ t. begins_with t text && is_eq (nat_cmp (length t) n)) (λ _. false) (λ t. begins_longer text t n lt) texts ∙
+    first_none texts)
 
 -- ---- the lengths, one after another
 
@@ -203,13 +213,15 @@ of_first_length texts text n rest =
     ∙ first_of_either (λ t. begins_with t text && is_eq (nat_cmp (length t) n)) (begins_of rest text) texts
 
 -- what is found so far and of the lengths that are left, where one of these is taken up
-pub one_length : (texts : List (List ℕ)) (text : List ℕ) (n : ℕ) (lengths rest : List ℕ) (first here next all : Option ℕ) → lengths ≡ n ∷ rest
+pub one_length : (texts : List (List ℕ)) (text : List ℕ) (n : ℕ) (lengths rest : List ℕ) (first here next all : Option ℕ) → lengths ≡ n ∷
+    rest
     → next ≡ earlier first here → here ≡ first_place (λ t. begins_with t text && is_eq (nat_cmp (length t) n)) texts
     → earlier first (first_place (begins_of lengths text) texts) ≡ all → earlier next (first_place (begins_of rest text) texts) ≡ all
 one_length texts text n lengths rest first here next all is more at h =
     ap (λ (o : Option ℕ). earlier o (first_place (begins_of rest text) texts))
     (more ∙ ap (λ (o : Option ℕ). earlier first o) at)
-    ∙ (earlier_assoc first (first_place (λ t. begins_with t text && is_eq (nat_cmp (length t) n)) texts) (first_place (begins_of rest text) texts)
+    ∙ (earlier_assoc first (first_place (λ t. begins_with t text && is_eq (nat_cmp (length t) n)) texts)
+    (first_place (begins_of rest text) texts)
     ∙ (ap (λ (o : Option ℕ). earlier first o) (sym (of_first_length texts text n rest))
     ∙ (ap (λ (ns : List ℕ). earlier first (first_place (begins_of ns text) texts)) (sym is) ∙ h)))
 
@@ -217,7 +229,8 @@ pub no_length : (texts : List (List ℕ)) (text lengths : List ℕ) (first all :
     → earlier first (first_place (begins_of lengths text) texts) ≡ all → first ≡ all
 no_length texts text lengths first all is h =
     sym (earlier_none first)
-    ∙ (ap (λ (o : Option ℕ). earlier first o) (sym (first_same (begins_of [] text) (λ _. false) (λ t. neither (begins_with t text) false refl) texts
+    ∙ (ap (λ (o : Option ℕ). earlier first o)
+    (sym (first_same (begins_of [] text) (λ _. false) (λ t. neither (begins_with t text) false refl) texts
     ∙ first_none texts))
     ∙ (ap (λ (ns : List ℕ). earlier first (first_place (begins_of ns text) texts)) (sym is) ∙ h))
 

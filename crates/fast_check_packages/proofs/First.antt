@@ -51,7 +51,8 @@ pub first_none : {X : Type 0} (xs : List X) → first_place (λ _. false) xs ≡
 first_none [] = refl
 first_none (x ∷ xs) = ap (λ o. option_map suc o) (first_none xs)
 
-pub first_mapped : {X Y : Type 0} (f : X → Y) (test : Y → Bool) (xs : List X) → first_place test (map f xs) ≡ first_place (λ x. test (f x)) xs
+pub first_mapped : {X Y : Type 0} (f : X → Y) (test : Y → Bool) (xs : List X) →
+    first_place test (map f xs) ≡ first_place (λ x. test (f x)) xs
 first_mapped f test [] = refl
 first_mapped f test (x ∷ xs) = ap (λ o. cond (test (f x)) (Some 0) (option_map suc o)) (first_mapped f test xs)
 
@@ -67,7 +68,8 @@ min_suc : (p q : ℕ) → min (suc p) (suc q) ≡ suc (min p q)
 min_suc p q = omega arith
 
 either : (b c : Bool) (o p : Option ℕ)
-    → cond (b || c) (Some 0) (option_map suc (earlier o p)) ≡ earlier (cond b (Some 0) (option_map suc o)) (cond c (Some 0) (option_map suc p))
+    → cond (b || c) (Some 0) (option_map suc (earlier o p)) ≡ earlier (cond b (Some 0) (option_map suc o))
+    (cond c (Some 0) (option_map suc p))
 either true true o p = ap Some (sym (zero_min 0))
 either true false o None = refl
 either true false o (Some q) = ap Some (sym (zero_min (suc q)))

@@ -1,6 +1,7 @@
 -- Indexes of packages as they grow, and what is found by them.
-use Rattle.std.proofs.Common.{◌≡◌, ◌∙◌, sym, ap, subst, refl, ℕ, zero, suc, ◌+◌, ◌<◌, Bool, true, false, cond, List, [], ◌∷◌, ◌++◌, length, take, get_or}
-use Rattle.std.proofs.Common.{arith, Option, Some, None, find, slice_get, option_and_then, IfSome, BTreeMap, is_eq, length-take-le, length-append}
+use Rattle.std.proofs.Common.{◌≡◌, ◌∙◌, sym, ap, subst, refl, ℕ, zero, suc, ◌+◌, ◌<◌, Bool, true, false, cond, List, [], ◌∷◌, ◌++◌, length}
+use Rattle.std.proofs.Common.{take, get_or, arith, Option, Some, None, find, slice_get, option_and_then, IfSome, BTreeMap, is_eq}
+use Rattle.std.proofs.Common.{length-take-le, length-append}
 use Rattle.std.specs.Borrow.{Bor}
 use Rattle.std.specs.Slice.{IsItemAt}
 use Rattle.std.specs.Option.{option_copied}
@@ -44,12 +45,15 @@ row_of_more : (rows : List Row) (e : Row) (nv : PackageNv)
     → row_of (rows ++ e ∷ []) (nv_of nv) ≡ cond (is_eq (nv_cmp (nv_of nv) (nv_of e.0))) (Some e) (row_of rows (nv_of nv))
 row_of_more rows e nv = ap (λ (xs : List Row). find (λ r. is_eq (nv_cmp (nv_of nv) (nv_of r.0))) xs) (reverse-append rows (e ∷ []))
 
-pub packages_more : (rows : List Row) (i : ℕ) (e : Row) (key : PackageNv) (old new : BTreeMap PackageNv ℕ) → i < length rows → e ≡ get_or rows i e
-    → nv_of key ≡ nv_of e.0 → Updates package_cmp old new key (Some i) → IsPackageIndex (take i rows) old → IsPackageIndex (take (i + 1) rows) new
+pub packages_more : (rows : List Row) (i : ℕ) (e : Row) (key : PackageNv) (old new : BTreeMap PackageNv ℕ) → i < length rows →
+    e ≡ get_or rows i e
+    → nv_of key ≡ nv_of e.0 → Updates package_cmp old new key (Some i) → IsPackageIndex (take i rows) old →
+    IsPackageIndex (take (i + 1) rows) new
 packages_more rows i e key old new lt read same u h =
     let longer : take (i + 1) rows ≡ take i rows ++ e ∷ [] = take_more rows i e lt ∙ ap (λ (x : Row). take i rows ++ x ∷ []) (sym read) in
     let long : length (take i rows) ≡ i = length-take-le i rows (omega arith) in
-    let now : (nv : PackageNv) → get package_cmp new nv ≡ cond (is_eq (nv_cmp (nv_of nv) (nv_of e.0))) (Some (length (take i rows))) (get package_cmp old nv)
+    let now : (nv : PackageNv) → get package_cmp new nv ≡ cond (is_eq (nv_cmp (nv_of nv) (nv_of e.0))) (Some (length (take i rows)))
+    (get package_cmp old nv)
     = λ nv. u.0 nv
     ∙ (ap (λ b. cond b (Some i) (get package_cmp old nv))
     ((eq_by_cmp_equiv nv_total).symm (nv_of key) (nv_of nv) ∙ ap (λ p. is_eq (nv_cmp (nv_of nv) p)) same)
@@ -57,11 +61,13 @@ packages_more rows i e key old new lt read same u h =
     subst (λ (xs : List Row). IsPackageIndex xs new) (sym longer) (record {
       within = λ nv.
           subst (λ (o : Option ℕ). IfSome o (λ place. place < length (take i rows ++ e ∷ []))) (sym (now nv))
-          (put_within (is_eq (nv_cmp (nv_of nv) (nv_of e.0))) (length (take i rows)) (length (take i rows ++ e ∷ [])) (get package_cmp old nv)
+          (put_within (is_eq (nv_cmp (nv_of nv) (nv_of e.0))) (length (take i rows)) (length (take i rows ++ e ∷ []))
+          (get package_cmp old nv)
           (subst (λ (n : ℕ). length (take i rows) < n) (sym (length-append (take i rows) (e ∷ []))) (omega arith)) (h.within nv));
       says = λ nv.
           ap (λ (o : Option ℕ). option_and_then (slice_get (take i rows ++ e ∷ [])) o) (now nv)
-          ∙ (put_says (is_eq (nv_cmp (nv_of nv) (nv_of e.0))) (take i rows) e (get package_cmp old nv) (row_of (take i rows) (nv_of nv)) (h.within nv)
+          ∙ (put_says (is_eq (nv_cmp (nv_of nv) (nv_of e.0))) (take i rows) e (get package_cmp old nv) (row_of (take i rows) (nv_of nv))
+          (h.within nv)
           (h.says nv) ∙ sym (row_of_more (take i rows) e nv));
     })
 
@@ -79,7 +85,8 @@ row_found rows text =
     found_there (λ e. begins_with (serialize e.1) text) rows
     ∙ ap (λ (o : Option ℕ). option_and_then (slice_get rows) o) (sym (first_mapped (λ e. serialize e.1) (λ t. begins_with t text) rows))
 
-pub row_none : (rows : List Row) (bytes text : List ℕ) (o : Option ℕ) → bytes ≡ text → o ≡ first_place (λ t. begins_with t bytes) (texts_of rows)
+pub row_none : (rows : List Row) (bytes text : List ℕ) (o : Option ℕ) → bytes ≡ text →
+    o ≡ first_place (λ t. begins_with t bytes) (texts_of rows)
     → o ≡ None → None ≡ row_at rows text
 row_none rows bytes text o same is none =
     sym (row_found rows text

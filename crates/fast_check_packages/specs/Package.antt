@@ -28,7 +28,8 @@ version_or_zero (Some v) = parts_of v
 -- versions by their numbers, then by pre-release and by build as Cargo orders them
 abbrev pub version_cmp : VersionParts → VersionParts → Ordering
 version_cmp = then_cmp (on (λ v. v.0) nat_cmp)
-    (then_cmp (on (λ v. v.1) nat_cmp) (then_cmp (on (λ v. v.2) nat_cmp) (then_cmp (on (λ v. v.3) pre_cmp) (on (λ v. v.4) build_cmp))))
+    (then_cmp (on (λ v. v.1) nat_cmp)
+    (then_cmp (on (λ v. v.2) nat_cmp) (then_cmp (on (λ v. v.3) pre_cmp) (on (λ v. v.4) build_cmp))))
 
 -- packages by the bytes of their names, and then by their versions
 abbrev pub nv_cmp : Nv → Nv → Ordering

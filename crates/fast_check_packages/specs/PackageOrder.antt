@@ -14,7 +14,8 @@ use Rattle.fast_check_packages.specs.Package.{nv_of, nv_cmp, version_cmp}
 version_total : IsTotalOrder version_cmp
 version_total = then_total (on_total (λ v. v.0) nat_cmp_total)
     (then_total (on_total (λ v. v.1) nat_cmp_total)
-    (then_total (on_total (λ v. v.2) nat_cmp_total) (then_total (on_total (λ v. v.3) pre_total) (on_total (λ v. v.4) build_total))))
+    (then_total (on_total (λ v. v.2) nat_cmp_total)
+    (then_total (on_total (λ v. v.3) pre_total) (on_total (λ v. v.4) build_total))))
 
 pub nv_total : IsTotalOrder nv_cmp
 nv_total = then_total (on_total (λ p. p.0) nat_list_cmp_total) (on_total (λ p. p.1) version_total)

@@ -19,7 +19,8 @@ status_of (Ok m) (Ok n) = 0
 status_of _ _ = 1
 
 -- the line with its status is that of what `transform` answers to each
-pub record IsPairAnswer (graph : ModuleGraph) (a : EsModule) (ranges_a : PublicRanges) (b : EsModule) (ranges_b : PublicRanges) (first_alone : Bool)
+pub record IsPairAnswer (graph : ModuleGraph) (a : EsModule) (ranges_a : PublicRanges) (b : EsModule)
+    (ranges_b : PublicRanges) (first_alone : Bool)
     (line : List ℕ) (status : ℕ) : Type 0 where
   pub first : ModuleAnswer
   pub second : ModuleAnswer

@@ -59,9 +59,11 @@ IsFaultOf side fault = IsModuleFault side.es_module.tables side.es_module.source
 abbrev pub IsWithoutFault : Side → Type 0
 IsWithoutFault side = FitProgram side.es_module.tables side.es_module.source.program
 
--- why it is refused: by a fault of the first module's tables, or else of the second's, before all else; memory may run out at any request
+-- why it is refused: by a fault of the first module's tables, or else of the second's, before all else; memory may run
+-- out at any request
 abbrev pub RefusesPair : PairRequest → Refusal → Type 0
-RefusesPair asked (refusals.TableFault fault) = IsFaultOf asked.a fault ⊎ (IsWithoutFault asked.a × IsFaultOf asked.b fault)
+RefusesPair asked (refusals.TableFault fault) = IsFaultOf asked.a fault ⊎
+    (IsWithoutFault asked.a × IsFaultOf asked.b fault)
 RefusesPair asked refusals.RangesNotAdmitted = IsNotAdmitted asked
 RefusesPair asked refusals.OutOfMemory = Unit {0}
 RefusesPair asked _ = ⊥
@@ -76,7 +78,8 @@ OfPair P bytes = (asked : PairRequest) × HoldsPair bytes asked × P asked
 abbrev pub IsAnswerTo : List ℕ → List ℕ → ℕ → Type 0
 IsAnswerTo bytes line status = OfPair (λ asked. AnswersPair asked line status) bytes
 
--- why they are refused: they are no JSON, or the JSON of no request, or their request is refused; memory may run out at any bytes
+-- why they are refused: they are no JSON, or the JSON of no request, or their request is refused; memory may run out at
+-- any bytes
 abbrev pub RefusesBytes : Refusal → List ℕ → Type 0
 RefusesBytes refusals.NotJson bytes = IsNotJson bytes
 RefusesBytes refusals.BadForm bytes = IsNoPair bytes

@@ -27,7 +27,8 @@ pub record Pair : Type 0 where
   pub b : Side
   pub first : Bool
 
--- members of these names: a module, its public ranges, and those of its implementations; ranges may be left out, and are then none
+-- members of these names: a module, its public ranges, and those of its implementations; ranges may be left out, and
+-- are then none
 abbrev pub side_of : List ℕ → List ℕ → List ℕ → Data → Option Side
 side_of name ranges_name implementations_name value =
     given (ranges_or_none (get ranges_name value)) (λ ranges.
@@ -54,7 +55,8 @@ pair_of value = if has_float value then None else members_of_pair value
 pub record IsSide (asked : Side) (side : made.Side) : Type 0 where
   pub es_module : HoldsModule asked.es_module side.es_module
   pub ranges : (r : SourceRange) → is_public side.public_ranges r ≡ list_any (same_range r) asked.ranges
-  pub implementations : (r : SourceRange) → is_implementation side.public_ranges r ≡ list_any (same_range r) asked.implementations
+  pub implementations : (r : SourceRange) → is_implementation side.public_ranges r ≡ list_any
+      (same_range r) asked.implementations
 
 pub record IsPair (asked : Pair) (pair : PairRequest) : Type 0 where
   pub graph : graphs.graph pair.graph ≡ asked.graph

@@ -13,7 +13,8 @@ use Rattle.fast_check_print.proofs.Items.{rest_of_items}
 pub one_written : {X : Type 0} (of : X → Data) (x : X) (all rest : List X) {whole : List Token} {old a b : Written} → all ≡ x ∷ rest →
     Remains whole old a (rest_of_items (map of all)) → WritesData (of x) a b → Remains whole old b (rest_of_items (map of rest))
 one_written of x all rest {whole} {old} {a} {b} is h step =
-    let now : Remains whole old a (rest_of_items (map of (x ∷ rest))) = subst (λ xs. Remains whole old a (rest_of_items (map of xs))) is h in
+    let now : Remains whole old a (rest_of_items (map of (x ∷ rest))) =
+    subst (λ xs. Remains whole old a (rest_of_items (map of xs))) is h in
     remains-next whole _ (rest_of_items (map of rest)) old a b now step
 
 pub item_written : {X : Type 0} (of : X → Data) (xs : List X) (i : ℕ) (x : X) {whole : List Token} {old a b : Written} → i < length xs →
@@ -23,7 +24,8 @@ item_written of xs i x below is =
     one_written of x (drop i xs) (drop (i + 1) xs) (drop_more xs i x below ∙ ap (λ y. y ∷ drop (i + 1) xs) (sym is))
 
 -- none still has to come, and the array is closed
-pub none_left : {X : Type 0} {E : Type 0} (of : X → Data) (all : List X) {whole : List Token} {old a b : Written} {r : Result (Unit {0}) E} → all ≡ [] →
+pub none_left : {X : Type 0} {E : Type 0} (of : X → Data)
+    (all : List X) {whole : List Token} {old a b : Written} {r : Result (Unit {0}) E} → all ≡ [] →
     Remains whole old a (rest_of_items (map of all)) → Writes r a b end_array → OnOk r (Adds whole old b)
 none_left of all {whole} {old} {a} {b} {r} is h closed = on_ok_weaker r ended (adds-token r a b end_array closed)
   where
@@ -33,6 +35,7 @@ none_left of all {whole} {old} {a} {b} {r} is h closed = on_ok_weaker r ended (a
     ended : Adds (end_array ∷ []) a b → Adds whole old b
     ended last = record { before = last.before ∙ now.before; tokens_now = last.tokens_now ∙ sym now.tokens_whole }
 
-pub items_written : {X : Type 0} {E : Type 0} (of : X → Data) (xs : List X) (i : ℕ) {whole : List Token} {old a b : Written} {r : Result (Unit {0}) E} →
+pub items_written : {X : Type 0} {E : Type 0} (of : X → Data) (xs : List X)
+    (i : ℕ) {whole : List Token} {old a b : Written} {r : Result (Unit {0}) E} →
     length xs ≤ i → Remains whole old a (rest_of_items (map of (drop i xs))) → Writes r a b end_array → OnOk r (Adds whole old b)
 items_written of xs i past = none_left of (drop i xs) (drop_all i xs past)

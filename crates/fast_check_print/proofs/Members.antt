@@ -1,6 +1,6 @@
 -- The members of an object, in the order in which they are written.
-use Rattle.std.proofs.Common.{◌≡◌, ℕ, zero, suc, ◌+◌, ◌<◌, ◌≤◌, List, [], ◌∷◌, ◌++◌, length, drop, get_or, subst, slice_get, Some, Ordering, Less}
-use Rattle.std.proofs.Common.{Equal, Greater, nat_cmp, arith, refl, sym, ap, ◌∙◌}
+use Rattle.std.proofs.Common.{◌≡◌, ℕ, zero, suc, ◌+◌, ◌<◌, ◌≤◌, List, [], ◌∷◌, ◌++◌, length, drop, get_or, subst, slice_get, Some, Ordering}
+use Rattle.std.proofs.Common.{Less, Equal, Greater, nat_cmp, arith, refl, sym, ap, ◌∙◌}
 use Rattle.std.proofs.Math.Seq.{drop-cons}
 use Rattle.std.proofs.lemmas.Map.Text.{is_eq-slice_cmp}
 use Rattle.std.specs.Cmp.Lexicographic.{slice_cmp, same_text}
@@ -35,22 +35,27 @@ same_names xs ys is = sym (same_text xs ys (sym (sym (is_eq-slice_cmp xs ys) ∙
 
 put-step : (fields : List FieldRow) (parts : List Printed) (new place : ℕ) (places : List ℕ) (o : Ordering)
     → slice_cmp nat_cmp (name_at fields new) (name_at fields place) ≡ o
-    → put (name_at fields new) (data_at fields parts new) (listed fields parts places) ≡ listed fields parts (insert_place fields new places)
+    → put (name_at fields new) (data_at fields parts new) (listed fields parts places) ≡ listed fields parts
+    (insert_place fields new places)
     → match_ordering o
     (member (name_at fields new) (data_at fields parts new) (listed fields parts (place ∷ places)))
     (member (name_at fields place) (data_at fields parts new) (listed fields parts places))
-    (member (name_at fields place) (data_at fields parts place) (put (name_at fields new) (data_at fields parts new) (listed fields parts places)))
+    (member (name_at fields place) (data_at fields parts place)
+    (put (name_at fields new) (data_at fields parts new) (listed fields parts places)))
     ≡ listed fields parts (match_ordering o (new ∷ place ∷ places) (new ∷ places) (place ∷ insert_place fields new places))
 put-step fields parts new place places Less is rest = refl
 put-step fields parts new place places Equal is rest =
-    ap (λ name. member name (data_at fields parts new) (listed fields parts places)) (same_names (name_at fields new) (name_at fields place) is)
+    ap (λ name. member name (data_at fields parts new) (listed fields parts places))
+    (same_names (name_at fields new) (name_at fields place) is)
 put-step fields parts new place places Greater is rest = ap (member (name_at fields place) (data_at fields parts place)) rest
 
 put-listed : (fields : List FieldRow) (parts : List Printed) (new : ℕ) (places : List ℕ)
-    → put (name_at fields new) (data_at fields parts new) (listed fields parts places) ≡ listed fields parts (insert_place fields new places)
+    → put (name_at fields new) (data_at fields parts new) (listed fields parts places) ≡ listed fields parts
+    (insert_place fields new places)
 put-listed fields parts new [] = refl
 put-listed fields parts new (place ∷ places) =
-    put-step fields parts new place places (slice_cmp nat_cmp (name_at fields new) (name_at fields place)) refl (put-listed fields parts new places)
+    put-step fields parts new place places (slice_cmp nat_cmp (name_at fields new) (name_at fields place)) refl
+    (put-listed fields parts new places)
 
 pub members-listed : (fields : List FieldRow) (parts : List Printed) (count : ℕ) →
     members_of_fields fields parts count ≡ listed fields parts (places_by_name fields count)
@@ -59,7 +64,8 @@ members-listed fields parts (suc place) =
     ap (put (name_at fields place) (data_at fields parts place)) (members-listed fields parts place) ∙
     put-listed fields parts place (places_by_name fields place)
 
-within-step : (fields : List FieldRow) (new place : ℕ) (places : List ℕ) (o : Ordering) → new < length fields → Within fields (place ∷ places) →
+within-step : (fields : List FieldRow) (new place : ℕ) (places : List ℕ) (o : Ordering) → new < length fields →
+    Within fields (place ∷ places) →
     Within fields (insert_place fields new places)
     → Within fields (match_ordering o (new ∷ place ∷ places) (new ∷ places) (place ∷ insert_place fields new places))
 within-step fields new place places Less is all rest = (is, all)
@@ -70,13 +76,16 @@ within-insert : (fields : List FieldRow) (new : ℕ) (places : List ℕ) → new
     Within fields (insert_place fields new places)
 within-insert fields new [] is all = (is, tt)
 within-insert fields new (place ∷ places) is all =
-    within-step fields new place places (slice_cmp nat_cmp (name_at fields new) (name_at fields place)) is all (within-insert fields new places is all.1)
+    within-step fields new place places (slice_cmp nat_cmp (name_at fields new) (name_at fields place)) is all
+    (within-insert fields new places is all.1)
 
 pub within-by_name : (fields : List FieldRow) (count : ℕ) → count ≤ length fields → Within fields (places_by_name fields count)
 within-by_name fields zero is = tt
-within-by_name fields (suc place) is = within-insert fields place (places_by_name fields place) (omega arith) (within-by_name fields place (omega arith))
+within-by_name fields (suc place) is = within-insert fields place (places_by_name fields place) (omega arith)
+    (within-by_name fields place (omega arith))
 
-pub name_at-some : (fields : List FieldRow) (place : ℕ) (field : FieldRow) → slice_get fields place ≡ Some field → name_at fields place ≡ field.name
+pub name_at-some : (fields : List FieldRow) (place : ℕ) (field : FieldRow) → slice_get fields place ≡ Some field →
+    name_at fields place ≡ field.name
 name_at-some fields place field is = ap name_or_none is
 
 pub data_at-some : (fields : List FieldRow) (parts : List Printed) (place : ℕ) (field : FieldRow) → slice_get fields place ≡ Some field
@@ -85,14 +94,16 @@ data_at-some fields parts place field is = ap (λ f. field_data f (slice_get par
 
 -- where the places go on
 pub next-place : (places : List ℕ) (i : ℕ) → i < length places → drop i places ≡ get_or places i 0 ∷ drop (i + 1) places
-next-place places i is = let one_more : suc i ≡ i + 1 = omega arith in drop-cons places i 0 is ∙ ap (λ n. get_or places i 0 ∷ drop n places) one_more
+next-place places i is = let one_more : suc i ≡ i + 1 = omega arith in drop-cons places i 0 is ∙
+    ap (λ n. get_or places i 0 ∷ drop n places) one_more
 
 pub next-within : (fields : List FieldRow) (places : List ℕ) (i : ℕ) → i < length places → Within fields (drop i places) →
     (get_or places i 0 < length fields) × Within fields (drop (i + 1) places)
 next-within fields places i is all = subst (Within fields) (next-place places i is) all
 
 -- the next member is written
-pub next-member : (fields : List FieldRow) (parts : List Printed) (places : List ℕ) (i : ℕ) (field : FieldRow) (whole : List Token) (old a b : Written)
+pub next-member : (fields : List FieldRow) (parts : List Printed) (places : List ℕ) (i : ℕ) (field : FieldRow) (whole : List Token)
+    (old a b : Written)
     → i < length places → slice_get fields (get_or places i 0) ≡ Some field
     → Remains whole old a (rest_of_members fields parts (drop i places))
     → Adds (key field.name ∷ tokens_of (part_data (slice_get parts (get_or places i 0)) field.form)) a b
@@ -103,4 +114,5 @@ next-member fields parts places i field whole old a b is found h step =
     let named = ap (λ name. key name ∷ (tokens_of (data_at fields parts place) ++ rest)) (name_at-some fields place field found) in
     let valued = ap (λ d. key field.name ∷ (tokens_of d ++ rest)) (data_at-some fields parts place field found) in
     let next = ap (rest_of_members fields parts) (next-place places i is) ∙ (named ∙ valued) in
-    remains-next whole (key field.name ∷ tokens_of (part_data (slice_get parts place) field.form)) rest old a b (subst (Remains whole old a) next h) step
+    remains-next whole (key field.name ∷ tokens_of (part_data (slice_get parts place) field.form)) rest old a b
+    (subst (Remains whole old a) next h) step

@@ -17,7 +17,8 @@ told_advice docs_url hint info =
     named (codes "docs_url") (text_or_null docs_url)
     ++ (named (codes "hint") (text_or_null hint) ++ named (codes "info") (array (items_of (map string info))))
 
-pub told_advice-is : (report : Report) (docs_url hint : Option (List ℕ)) (info : List (List ℕ)) → docs_url ≡ report.docs_url → hint ≡ report.hint →
+pub told_advice-is : (report : Report) (docs_url hint : Option (List ℕ)) (info : List (List ℕ)) → docs_url ≡ report.docs_url →
+    hint ≡ report.hint →
     info ≡ report.info → told_advice docs_url hint info ≡ advice report
 told_advice-is report docs_url hint info is_docs_url is_hint is_info =
     ap (λ x. told_advice x hint info) is_docs_url

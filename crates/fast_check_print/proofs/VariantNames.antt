@@ -1,5 +1,6 @@
 -- The names of the variants that a node is of, and the brackets round it.
-use Rattle.std.proofs.Common.{◌≡◌, ℕ, zero, suc, ◌<◌, ◌-◌, List, [], ◌∷◌, ◌++◌, length, replicate, arith, refl, sym, ap, ◌∙◌, append_assoc, append-nil}
+use Rattle.std.proofs.Common.{◌≡◌, ℕ, zero, suc, ◌<◌, ◌-◌, List, [], ◌∷◌, ◌++◌, length, replicate, arith, refl, sym, ap, ◌∙◌, append_assoc}
+use Rattle.std.proofs.Common.{append-nil}
 use Rattle.std.proofs.lemmas.List.{replicate_more}
 use native.Mathlib.Numerals.{unary_clauses}
 use Rattle.json.specs.Token.{begin_object, end_object, key}
@@ -13,7 +14,8 @@ use Rattle.fast_check_print.specs.Printing.{variant_names, names_from, under}
 use Rattle.fast_check_print.specs.Writing.{tokens_of, opening}
 
 pub variant_names-choice : (levels : ℕ) (kind : Kind) (choice : Choice) → 0 < levels
-    → variant_names levels kind (forms.Choice choice) ≡ names_from (variant_by_kind kind (variants_of choice)) (variant_names (levels - 1) kind)
+    → variant_names levels kind (forms.Choice choice) ≡ names_from (variant_by_kind kind (variants_of choice))
+    (variant_names (levels - 1) kind)
 variant_names-choice zero kind choice some = absurd (omega arith)
 variant_names-choice (suc levels) kind choice some = let one_less : suc levels - 1 ≡ levels = omega arith in rw one_less refl
 

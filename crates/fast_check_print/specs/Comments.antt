@@ -33,4 +33,6 @@ places_data places = array (items_of (map entry_data places))
 
 -- an object of the members leading and trailing
 abbrev pub comments_data : Comments → Data
-comments_data comments = object (member (codes "leading") (places_data comments.leading) (member (codes "trailing") (places_data comments.trailing) no_members))
+comments_data comments =
+    object (member (codes "leading") (places_data comments.leading)
+    (member (codes "trailing") (places_data comments.trailing) no_members))

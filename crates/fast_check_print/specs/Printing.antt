@@ -37,7 +37,8 @@ data_at fields parts place = field_data (slice_get fields place) (slice_get part
 -- the members of so many first fields, each with its part
 abbrev pub members_of_fields : List FieldRow → List Printed → ℕ → Members
 members_of_fields fields parts zero = no_members
-members_of_fields fields parts (suc place) = put (name_at fields place) (data_at fields parts place) (members_of_fields fields parts place)
+members_of_fields fields parts (suc place) = put (name_at fields place) (data_at fields parts place)
+    (members_of_fields fields parts place)
 
 -- the object of a form's fields
 abbrev pub fields_data : List FieldRow → List Printed → Data
@@ -67,7 +68,8 @@ names_from (Some variant) inner = variant.name ∷ inner variant.form
 -- the names of the variants that a node is of where the form stands, outermost first, through at most so many choices
 abbrev pub variant_names : ℕ → Kind → Form → List (List ℕ)
 variant_names zero kind form = []
-variant_names (suc levels) kind (forms.Choice choice) = names_from (variant_by_kind kind (variants_of choice)) (variant_names levels kind)
+variant_names (suc levels) kind (forms.Choice choice) =
+    names_from (variant_by_kind kind (variants_of choice)) (variant_names levels kind)
 variant_names (suc levels) kind _ = []
 
 -- a value under names, the first outermost
@@ -77,7 +79,8 @@ under (name ∷ names) value = single name (under names value)
 
 -- a node under the names of its variants: choices stand within choices at most three deep
 abbrev pub node_data : Kind → List Printed → Form → Data
-node_data kind parts form = if kind is kinds.List then list_data parts form else under (variant_names 3 kind form) (content_data kind parts)
+node_data kind parts form = if kind is kinds.List then list_data parts form else under (variant_names 3 kind form)
+    (content_data kind parts)
 
 -- one level of a tree, of what its parts print as: an empty option is null
 abbrev pub print_step : Tree-F Printed → Printed

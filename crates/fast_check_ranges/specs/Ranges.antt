@@ -20,8 +20,8 @@ without_target t = if kind_of t is kinds.TargetPat then TargetPat-pat t else t
 abbrev pub without_marks : Tree → Tree
 without_marks t = let pat = without_target t in if kind_of pat is kinds.PatExpr then PatExpr-expr pat else pat
 
--- The span of a form; of a class declaration or expression the class's, of a function declaration or expression the function's,
--- of an identifier as a pattern and of a default export specifier the identifier's.
+-- The span of a form; of a class declaration or expression the class's, of a function declaration or expression the
+-- function's, of an identifier as a pattern and of a default export specifier the identifier's.
 abbrev pub range_of_form : Tree → SourceRange
 range_of_form t =
     let kind = kind_of t in

@@ -1,7 +1,6 @@
 -- Answers where a call fails, and the loops that read each item of an array.
-use Rattle.std.proofs.Common.{◌≡◌, ◌∙◌, ℕ, ◌+◌, ◌<◌, ◌≤◌, false, true, List, [], ◌∷◌, ◌++◌, length, get_or, drop, Option, Some, None, option_map}
-use Rattle.std.proofs.Common.{option_and_then, Result, Ok, Err}
-use Rattle.std.proofs.Common.{Bor, Vec, Global, refl, sym, ap, append_assoc, append-nil}
+use Rattle.std.proofs.Common.{◌≡◌, ◌∙◌, ℕ, ◌+◌, ◌<◌, ◌≤◌, false, true, List, [], ◌∷◌, ◌++◌, length, get_or, drop, Option, Some, None}
+use Rattle.std.proofs.Common.{option_map, option_and_then, Result, Ok, Err, Bor, Vec, Global, refl, sym, ap, append_assoc, append-nil}
 use Rattle.std.proofs.Math.ListN.{drop_of_length-le}
 use Rattle.std.proofs.lemmas.List.{at_drop_more}
 use Rattle.std.specs.Option.{ok_or}
@@ -18,7 +17,8 @@ use Rattle.fast_check_read.specs.declared.error.ReadError.TheVariants.{BadForm, 
 -- ---- calls that fail
 
 -- where nothing is expected, any error is right
-pub answers_none : {A : Type 0} (expected : Option A) (result : Result A ReadError) → expected ≡ None → IsErr result → Answers expected result
+pub answers_none : {A : Type 0} (expected : Option A) (result : Result A ReadError) → expected ≡ None → IsErr result →
+    Answers expected result
 answers_none expected (Ok a) none err = absurd (let f : false ≡ true = err in cc)
 answers_none expected (Err error) none err = λ _. none
 
@@ -29,7 +29,8 @@ answers_passed expected (Ok a) error passed none = absurd passed
 answers_passed expected (Err e) error passed none = λ bad. none (sym passed ∙ bad)
 
 -- memory ran out
-pub answers_out : {A : Type 0} (expected : Option A) (result : Result A ReadError) → IsErrAnd result (λ e. e ≡ OutOfMemory) → Answers expected result
+pub answers_out : {A : Type 0} (expected : Option A) (result : Result A ReadError) → IsErrAnd result (λ e. e ≡ OutOfMemory) →
+    Answers expected result
 answers_out expected result out = answers_passed expected result OutOfMemory out (λ bad. cc)
 
 pub some_of_ok : {A E : Type 0} (a : Option A) (x : A) (error : E) → Ok x ≡ ok_or a error → a ≡ Some x
@@ -45,7 +46,8 @@ bad_of_err None thrown error e = cc
 bad_of_err (Some y) thrown error e = cc
 
 -- an error that is passed on, where the result is told by what is expected
-pub refused : {A : Type 0} (expected : Option A) (result : Result A ReadError) (error : ReadError) → IsErrAnd result (λ e. e ≡ error) → error ≡ BadForm
+pub refused : {A : Type 0} (expected : Option A) (result : Result A ReadError) (error : ReadError) → IsErrAnd result (λ e. e ≡ error) →
+    error ≡ BadForm
     → expected ≡ None → result ≡ ok_or expected BadForm
 refused expected (Ok a) error passed bad none = absurd passed
 refused expected (Err e) error passed bad none = ap Err (passed ∙ bad) ∙ ap (λ o. ok_or o BadForm) (sym none)
@@ -81,11 +83,13 @@ missing f asked member e none = then_none f (sym e ∙ ap (option_map (λ v. vie
 -- an array has items
 pub items_there : (value : Value) (items : Vec Value Global) (now : List Value) → value ≡ Array items → now ≡ items.items
     → as_array (view value) ≡ Some (items_view now)
-items_there value items now is same = ap (λ v. as_array (view v)) is ∙ (ap as_array (view-Array items) ∙ ap (λ vs. Some (items_view vs)) (sym same))
+items_there value items now is same = ap (λ v. as_array (view v)) is ∙
+    (ap as_array (view-Array items) ∙ ap (λ vs. Some (items_view vs)) (sym same))
 
 -- what each of a list gives is what the first gives and what each of the others gives
 abbrev pub ItemByItem : {V B : Type 0} → (List V → Option (List B)) → (V → Option B) → Type 0
-ItemByItem {V} {B} each_of reads = (v : V) (vs : List V) → each_of (v ∷ vs) ≡ option_and_then (λ y. option_map (λ ys. y ∷ ys) (each_of vs)) (reads v)
+ItemByItem {V} {B} each_of reads = (v : V) (vs : List V) → each_of (v ∷ vs) ≡ option_and_then (λ y. option_map (λ ys. y ∷ ys) (each_of vs))
+    (reads v)
 
 with_item : {B C : Type 0} (so_far so_far' : List B → C) (y : B) → ((ys : List B) → so_far (y ∷ ys) ≡ so_far' ys)
     → (others : Option (List B)) → option_map so_far (option_map (λ ys. y ∷ ys) others) ≡ option_map so_far' others
@@ -93,7 +97,8 @@ with_item so_far so_far' y step None = refl
 with_item so_far so_far' y step (Some ys) = ap Some (step ys)
 
 -- what the items that are left give, by the next
-here : {V B : Type 0} (each_of : List V → Option (List B)) (reads : V → Option B) → ItemByItem each_of reads → (vs : List V) (i : ℕ) (d v : V)
+here : {V B : Type 0} (each_of : List V → Option (List B)) (reads : V → Option B) → ItemByItem each_of reads →
+    (vs : List V) (i : ℕ) (d v : V)
     → i < length vs → v ≡ get_or vs i d
     → each_of (drop i vs) ≡ option_and_then (λ y. option_map (λ ys. y ∷ ys) (each_of (drop (i + 1) vs))) (reads v)
 here each_of reads more vs i d v less is =
@@ -106,7 +111,8 @@ pub one_more : {V B C : Type 0} (each_of : List V → Option (List B)) (reads : 
     → ((ys : List B) → so_far (y ∷ ys) ≡ so_far' ys) → all ≡ option_map so_far' (each_of (drop (i + 1) vs))
 one_more each_of reads more vs i d v all so_far so_far' y less is left read step =
     let others = each_of (drop (i + 1) vs) in
-    left ∙ (ap (option_map so_far) (here each_of reads more vs i d v less is ∙ ap (option_and_then (λ y. option_map (λ ys. y ∷ ys) others)) read)
+    left ∙ (ap (option_map so_far)
+    (here each_of reads more vs i d v less is ∙ ap (option_and_then (λ y. option_map (λ ys. y ∷ ys) others)) read)
     ∙ with_item so_far so_far' y step others)
 
 -- an item that gives nothing
@@ -115,7 +121,8 @@ pub none_here : {V B C : Type 0} (each_of : List V → Option (List B)) (reads :
     → i < length vs → v ≡ get_or vs i d → all ≡ option_map so_far (each_of (drop i vs)) → reads v ≡ None → all ≡ None
 none_here each_of reads more vs i d v all so_far less is left none =
     let others = each_of (drop (i + 1) vs) in
-    left ∙ ap (option_map so_far) (here each_of reads more vs i d v less is ∙ ap (option_and_then (λ y. option_map (λ ys. y ∷ ys) others)) none)
+    left ∙ ap (option_map so_far)
+    (here each_of reads more vs i d v less is ∙ ap (option_and_then (λ y. option_map (λ ys. y ∷ ys) others)) none)
 
 -- no more items
 pub none_left : {V B C : Type 0} (each_of : List V → Option (List B)) → each_of [] ≡ Some []
@@ -131,6 +138,7 @@ nothing_done done (Some ys) empty = ap (λ front. Some (front ++ ys)) (sym empty
 pub pushed : {B : Type 0} (done done' : List B) (y : B) → done' ≡ done ++ y ∷ [] → (ys : List B) → done ++ (y ∷ ys) ≡ done' ++ ys
 pushed done done' y e ys = sym (append_assoc done (y ∷ []) ys) ∙ ap (λ front. front ++ ys) (sym e)
 
-pub all_done : {V B : Type 0} (each_of : List V → Option (List B)) → each_of [] ≡ Some [] → (vs : List V) (i : ℕ) (all : Option (List B)) (done : List B)
+pub all_done : {V B : Type 0} (each_of : List V → Option (List B)) → each_of [] ≡ Some [] →
+    (vs : List V) (i : ℕ) (all : Option (List B)) (done : List B)
     → length vs ≤ i → all ≡ option_map (λ more. done ++ more) (each_of (drop i vs)) → all ≡ Some done
 all_done each_of none vs i all done past left = none_left each_of none vs i all (λ more. done ++ more) past left ∙ ap Some (append-nil done)

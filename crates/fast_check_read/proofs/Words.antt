@@ -1,6 +1,6 @@
 -- What stands at the place of each form, and what is null.
-use Rattle.std.proofs.Common.{◌≡◌, ◌∙◌, ℕ, List, [], ◌∷◌, Option, Some, None, Ok, Vec, BTreeMap, String, Global, string_bytes, option_map, option_and_then}
-use Rattle.std.proofs.Common.{refl, sym, ap}
+use Rattle.std.proofs.Common.{◌≡◌, ◌∙◌, ℕ, List, [], ◌∷◌, Option, Some, None, Ok, Vec, BTreeMap, String, Global, string_bytes, option_map}
+use Rattle.std.proofs.Common.{option_and_then, refl, sym, ap}
 use Rattle.std.specs.Option.{is_some, ok_or}
 use Rattle.serde_json.specs.Data.{Data, null, boolean, number, string, array, object}
 use Rattle.serde_json.specs.Find.{as_array, as_bool, as_null, as_object, as_str}
@@ -96,7 +96,8 @@ word_found (Some word) found error e = cc
 
 -- ---- what is an array or an object, and what is not
 
-pub members_there : (value : Value) (m : BTreeMap (String Global) Value) → value ≡ Object m → as_object (view value) ≡ Some (members_view m.entries)
+pub members_there : (value : Value) (m : BTreeMap (String Global) Value) → value ≡ Object m →
+    as_object (view value) ≡ Some (members_view m.entries)
 members_there value m is = ap (λ v. as_object (view v)) is ∙ ap as_object (view-Object m)
 
 pub array_there : (value : Value) (items : Vec Value Global) (form : Form) (count count' : Count) → value ≡ Array items → count ≡ count'
@@ -105,7 +106,8 @@ array_there value items form count count' is same =
     ap (λ v. counted (reading (view v)) form count) is
     ∙ (ap (λ d. counted (reading d) form count) (view-Array items) ∙ ap (counted (reading (array (items_view items.items))) form) same)
 
-pub one_member : (entries : List (String Global × Value)) (name : String Global) (content : Value) (choice : Choice) → entries ≡ (name, content) ∷ []
+pub one_member : (entries : List (String Global × Value)) (name : String Global) (content : Value) (choice : Choice) →
+    entries ≡ (name, content) ∷ []
     → (text : List ℕ) → text ≡ string_bytes name
     → choice_tree (member_readings (members_view entries)) choice
     ≡ option_and_then (λ v. tree_of (view content) v.form) (variant_by_name text (variants_of choice))

@@ -27,7 +27,8 @@ optional_range_of (Some value) = range_of_data value
 -- an object of the members kind, span and text
 abbrev pub comment_of : Data → Option Comment
 comment_of value =
-    option_and_then (λ kind. option_and_then (λ span. option_map (λ text. record { kind = kind; span = span; text = text })
+    option_and_then
+    (λ kind. option_and_then (λ span. option_map (λ text. record { kind = kind; span = span; text = text })
     (option_and_then as_str (get (codes "text") value)))
     (optional_range_of (get (codes "span") value)))
     (option_and_then comment_kind_of (get (codes "kind") value))
@@ -38,7 +39,10 @@ comment_list_of value = option_and_then (λ items. each comment_of (items_list i
 
 -- an array of a position and its comments
 abbrev pub entry_of : Data → Option (SourcePos × List Comment)
-entry_of value = option_and_then (λ pair. option_and_then (λ p. option_map (λ cs. (record { 0 = p }, cs)) (comment_list_of pair.1)) (u32_of pair.0))
+entry_of value =
+    option_and_then
+    (λ pair. option_and_then (λ p. option_map (λ cs. (record { 0 = p }, cs)) (comment_list_of pair.1))
+    (u32_of pair.0))
     (pair_of value)
 
 -- the places with each entry laid in turn, so that of entries with one position the last counts
@@ -57,7 +61,9 @@ optional_places_of (Some value) = places_of value
 -- an object of the members leading and trailing
 abbrev pub comments_of : Data → Option Comments
 comments_of value =
-    option_and_then (λ members. option_and_then (λ leading. option_map (λ trailing. record { leading = leading; trailing = trailing })
+    option_and_then
+    (λ members. option_and_then
+    (λ leading. option_map (λ trailing. record { leading = leading; trailing = trailing })
     (optional_places_of (get (codes "trailing") value)))
     (optional_places_of (get (codes "leading") value)))
     (as_object value)

@@ -1,5 +1,6 @@
 -- What the JSON of flags, numbers, texts and ranges stands for.
-use Rattle.std.specs.Prelude.{ℕ, ◌^◌, List, [], ◌∷◌, Bool, false, nat_lt, if◌then◌else◌, Option, Some, None, option_map, option_and_then}
+use Rattle.std.specs.Prelude.{ℕ, ◌^◌, List, [], ◌∷◌, Bool, false, nat_lt, if◌then◌else◌, Option, Some, None, option_map}
+use Rattle.std.specs.Prelude.{option_and_then}
 use Rattle.serde_json.specs.Data.{Data, Items, no_items, item}
 use Rattle.serde_json.specs.Find.{as_array, as_bool, as_number, as_str, as_u64 as number_as_u64}
 use Rattle.fast_check_syntax.specs.declared.source.SourceRange.{SourceRange}
@@ -19,7 +20,8 @@ u32_of value = option_and_then (λ n. if nat_lt n (2 ^ 32) then Some n else None
 
 -- the range of two ends
 abbrev pub range_of_ends : Option ℕ → Option ℕ → Option SourceRange
-range_of_ends start end = option_and_then (λ s. option_map (λ e. record { start = record { 0 = s }; end = record { 0 = e } }) end) start
+range_of_ends start end =
+    option_and_then (λ s. option_map (λ e. record { start = record { 0 = s }; end = record { 0 = e } }) end) start
 
 -- the items of an array of two
 abbrev pub pair_of_items : Items → Option (Data × Data)
@@ -40,7 +42,8 @@ items_list (item value more) = value ∷ items_list more
 
 -- the word of a text
 abbrev pub word_of : Data → Words → Option Word
-word_of value words = option_and_then (λ text. option_map (λ row. row.word) (word_by_text text (words_of words))) (as_str value)
+word_of value words = option_and_then (λ text. option_map (λ row. row.word) (word_by_text text (words_of words)))
+    (as_str value)
 
 -- a flag that may be left out
 abbrev pub optional_flag_of : Option Data → Option Bool

@@ -1,8 +1,10 @@
 -- The tree that a JSON value stands for at a place of a form.
-use Rattle.std.specs.Prelude.{ℕ, List, [], ◌∷◌, Bool, true, false, if◌then◌else◌, Option, Some, None, option_map, option_and_then}
+use Rattle.std.specs.Prelude.{ℕ, List, [], ◌∷◌, Bool, true, false, if◌then◌else◌, Option, Some, None, option_map}
+use Rattle.std.specs.Prelude.{option_and_then}
 use Rattle.std.specs.Ordering.{nat_cmp, match_ordering}
 use Rattle.std.specs.Cmp.Lexicographic.{slice_cmp}
-use Rattle.serde_json.specs.Data.{Data, null, boolean, number, string, array, object, Items, no_items, item, Members, no_members, member}
+use Rattle.serde_json.specs.Data.{Data, null, boolean, number, string, array, object, Items, no_items, item, Members}
+use Rattle.serde_json.specs.Data.{no_members, member}
 use Rattle.fast_check_syntax.specs.declared.kind.Kind.{Kind}
 use Rattle.fast_check_syntax.specs.declared.tree.Tree.{Tree, Absent, Flag, Context, Text, Range, Word}
 use Rattle.fast_check_syntax.specs.Shape.{node, list, none_range}
@@ -17,7 +19,8 @@ use Rattle.fast_check_schema.specs.Lookup.{variant_by_name, marked_choice}
 use Rattle.fast_check_read.specs.Each.{each}
 use Rattle.fast_check_read.specs.Pieces.{u32_of, range_of_data, word_of}
 
--- a value as it reads wherever it stands: as one of a form, and, where it is an array, as a list of a form, whose items may be null or not
+-- a value as it reads wherever it stands: as one of a form, and, where it is an array, as a list of a form, whose items
+-- may be null or not
 pub record Reading : Type 0 where
   pub is_null : Bool
   pub one : Form → Option Tree
@@ -81,7 +84,8 @@ default_tree form counts.OptionOfList = Some Absent
 -- the member of a name
 abbrev pub reading_named : List ℕ → List (List ℕ × Reading) → Option Reading
 reading_named name [] = None
-reading_named name (m ∷ ms) = match_ordering (slice_cmp nat_cmp name m.0) (reading_named name ms) (Some m.1) (reading_named name ms)
+reading_named name (m ∷ ms) = match_ordering (slice_cmp nat_cmp name m.0) (reading_named name ms) (Some m.1)
+    (reading_named name ms)
 
 abbrev pub field_or_default : Option Reading → FieldRow → Option Tree
 field_or_default None field = default_tree field.form field.count
@@ -102,7 +106,8 @@ choice_tree _ choice = None
 
 -- a choice under its mark
 abbrev pub marked_tree : List (List ℕ × Reading) → Kind → Option Tree
-marked_tree members mark = option_and_then (λ choice. option_map (λ t. node mark (t ∷ [])) (choice_tree members choice)) (marked_choice mark)
+marked_tree members mark = option_and_then (λ choice. option_map (λ t. node mark (t ∷ [])) (choice_tree members choice))
+    (marked_choice mark)
 
 abbrev pub object_tree : List (List ℕ × Reading) → Form → Option Tree
 object_tree members (forms.Struct kind) = node_tree members kind

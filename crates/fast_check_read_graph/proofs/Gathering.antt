@@ -1,6 +1,6 @@
 -- What is put together of what is read.
-use Rattle.std.proofs.Common.{◌≡◌, ◌∙◌, sym, ap, refl, subst, List, [], ◌∷◌, ◌++◌, Option, Some, None, option_map, Result, Ok, Err, ℕ, ◌+◌, ◌<◌, length}
-use Rattle.std.proofs.Common.{get_or, drop, Vec, Global}
+use Rattle.std.proofs.Common.{◌≡◌, ◌∙◌, sym, ap, refl, subst, List, [], ◌∷◌, ◌++◌, Option, Some, None, option_map, Result, Ok, Err, ℕ, ◌+◌}
+use Rattle.std.proofs.Common.{◌<◌, length, get_or, drop, Vec, Global}
 use Rattle.std.proofs.lemmas.List.{append-nil, append_assoc, at_drop_more}
 use Rattle.std.specs.Prelude.{option_and_then}
 use Rattle.std.specs.Result.{IsErrAnd}
@@ -44,14 +44,17 @@ pub gathered_none : {S X : Type 0} (with : S → X → S) (read : Data → Optio
 gathered_none with read s v vs e = stop with s (read (view v)) (each read (items_list (items_view vs))) e
 
 -- the next of the items that are left
-pub next_here : {V Y : Type 0} (f : List V → Y) (vs : List V) (i : ℕ) (v : V) → i < length vs → v ≡ get_or vs i v → f (drop i vs) ≡ f (v ∷ drop (i + 1) vs)
+pub next_here : {V Y : Type 0} (f : List V → Y) (vs : List V) (i : ℕ) (v : V) → i < length vs → v ≡ get_or vs i v →
+    f (drop i vs) ≡ f (v ∷ drop (i + 1) vs)
 next_here f vs i v less is = at_drop_more f vs i v less ∙ ap (λ w. f (w ∷ drop (i + 1) vs)) (sym is)
 
 -- an array has items
-pub list_there : {X : Type 0} (read : Data → Option X) (value : Value) (items : Vec Value Global) (now : List Value) → value ≡ Array items → now ≡ items.items
+pub list_there : {X : Type 0} (read : Data → Option X) (value : Value) (items : Vec Value Global) (now : List Value) → value ≡ Array items →
+    now ≡ items.items
     → list_of read (view value) ≡ each read (items_list (items_view now))
 list_there read value items now is same =
-    ap (λ v. list_of read (view v)) is ∙ (ap (list_of read) (view-Array items) ∙ ap (λ vs. each read (items_list (items_view vs))) (sym same))
+    ap (λ v. list_of read (view v)) is ∙
+    (ap (list_of read) (view-Array items) ∙ ap (λ vs. each read (items_list (items_view vs))) (sym same))
 
 -- items that are put behind a list
 behind : {X : Type 0} (before xs : List X) → all_gathered (λ items x. items ++ x ∷ []) before xs ≡ before ++ xs
@@ -65,10 +68,12 @@ all_items (Some xs) = ap Some (behind [] xs)
 -- ---- two readings
 
 -- both values are those of both, and the error is that of the first that has one
-pub both_reads : {A B C D : Type 0} (f : C → A) (g : D → B) (first : Option A) (second : Option B) (r : Result C ReadError) (s : Result D ReadError)
+pub both_reads : {A B C D : Type 0} (f : C → A) (g : D → B) (first : Option A) (second : Option B) (r : Result C ReadError)
+    (s : Result D ReadError)
     (both : Result (C × D) ReadError) → both ≡ both_read r s → Reads f first r → Reads g second s
     → Reads (λ p. (f p.0, g p.1)) (both_given first second) both
-both_reads f g first second (Ok a) (Ok b) both e h k = subst (Reads (λ p. (f p.0, g p.1)) (both_given first second)) (sym e) (given_some _ h ∙ map_some _ k)
+both_reads f g first second (Ok a) (Ok b) both e h k = subst (Reads (λ p. (f p.0, g p.1)) (both_given first second)) (sym e)
+    (given_some _ h ∙ map_some _ k)
 both_reads f g first second (Ok a) (Err error) both e h k =
     subst (Reads (λ p. (f p.0, g p.1)) (both_given first second)) (sym e) (λ bad. given_some _ h ∙ ap (option_map (λ b. (f a, b))) (k bad))
 both_reads f g first second (Err error) s both e h k =
@@ -112,7 +117,8 @@ given_four (Some x) (Some y) None d f = refl
 given_four (Some x) (Some y) (Some z) None f = refl
 given_four (Some x) (Some y) (Some z) (Some u) f = refl
 
-pub given_five : {A B C D E R : Type 0} (a : Option A) (b : Option B) (c : Option C) (d : Option D) (e : Option E) (f : A → B → C → D → E → R)
+pub given_five : {A B C D E R : Type 0} (a : Option A) (b : Option B) (c : Option C) (d : Option D) (e : Option E)
+    (f : A → B → C → D → E → R)
     → given a (λ x. given b (λ y. given c (λ z. given d (λ u. option_map (f x y z u) e))))
     ≡ option_map (λ p. f p.0.0 p.0.1 p.1.0 p.1.1.0 p.1.1.1) (both_given (both_given a b) (both_given c (both_given d e)))
 given_five None b c d e f = refl

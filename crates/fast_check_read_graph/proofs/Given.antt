@@ -1,7 +1,6 @@
 -- What is read with what is there.
-use Rattle.std.proofs.Common.{◌≡◌, ◌∙◌, ℕ, true, false, List, [], ◌∷◌, Option, Some, None, option_map, Result, Ok, Err, ap, refl, map, length, get_or, sym}
-use Rattle.std.proofs.Common.{◌<◌, ◌≤◌, arith}
-use Rattle.std.proofs.Common.{String, BTreeMap, Global}
+use Rattle.std.proofs.Common.{◌≡◌, ◌∙◌, ℕ, true, false, List, [], ◌∷◌, Option, Some, None, option_map, Result, Ok, Err, ap, refl, map}
+use Rattle.std.proofs.Common.{length, get_or, sym, ◌<◌, ◌≤◌, arith, String, BTreeMap, Global}
 use Rattle.std.specs.Result.{IsErr}
 use Rattle.serde_json.specs.Data.{Data}
 use Rattle.serde_json.specs.Find.{as_object, as_str}
@@ -30,7 +29,8 @@ pub map_some : {A B : Type 0} {a : Option A} {x : A} (f : A → B) → a ≡ Som
 map_some f e = ap (option_map f) e
 
 -- where nothing is expected, an error is right
-pub reads_none : {A B : Type 0} (seen : B → A) (expected : Option A) (result : Result B ReadError) → expected ≡ None → IsErr result → Reads seen expected result
+pub reads_none : {A B : Type 0} (seen : B → A) (expected : Option A) (result : Result B ReadError) → expected ≡ None → IsErr result →
+    Reads seen expected result
 reads_none seen expected (Ok b) none err = absurd (let f : false ≡ true = err in cc)
 reads_none seen expected (Err error) none err = λ _. none
 
@@ -59,7 +59,8 @@ three [] u v w more less first second third = absurd (omega arith)
 three (a ∷ []) u v w more less first second third = absurd (omega arith)
 three (a ∷ b ∷ []) u v w more less first second third = absurd (omega arith)
 three (a ∷ b ∷ c ∷ []) u v w more less first second third =
-    ap (λ x. Some (view x, view v, view w)) first ∙ (ap (λ x. Some (view a, view x, view w)) second ∙ ap (λ x. Some (view a, view b, view x)) third)
+    ap (λ x. Some (view x, view v, view w)) first ∙
+    (ap (λ x. Some (view a, view x, view w)) second ∙ ap (λ x. Some (view a, view b, view x)) third)
 three (a ∷ b ∷ c ∷ d ∷ rest) u v w more less first second third = absurd (omega arith)
 
 -- the reading that the name of a variant chooses

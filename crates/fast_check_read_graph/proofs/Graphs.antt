@@ -1,5 +1,6 @@
 -- Entries of a graph, as they are seen through the maps that hold them.
-use Rattle.std.proofs.Common.{◌≡◌, ◌∙◌, sym, ap, refl, ℕ, Bool, true, false, cond, ◌&&◌, List, [], ◌∷◌, map, string_bytes, Option, Some, None, option_map}
+use Rattle.std.proofs.Common.{◌≡◌, ◌∙◌, sym, ap, refl, ℕ, Bool, true, false, cond, ◌&&◌, List, [], ◌∷◌, map, string_bytes, Option, Some}
+use Rattle.std.proofs.Common.{None, option_map}
 use Rattle.std.proofs.lemmas.Map.Text.{btree_map_updates_text}
 use Rattle.std.specs.Prelude.{String, option_and_then, unwrap_or}
 use Rattle.std.specs.BTreeMap.{BTreeMap, get, Updates, is_at}
@@ -23,7 +24,8 @@ use Rattle.fast_check_graph.specs.Graph.{is_specifier, is_package, text_resolved
 use Rattle.fast_check_graph.proofs.Tied.{at_specifier, at_text}
 use Rattle.fast_check_read_graph.specs.Graph as seen
 use Rattle.fast_check_read_graph.specs.Gathered.{all_gathered}
-use Rattle.fast_check_read_graph.specs.Graph.{Exports, Resolutions, seen_exports, seen_resolutions, all_exported, all_resolved, resolved_also}
+use Rattle.fast_check_read_graph.specs.Graph.{Exports, Resolutions, seen_exports, seen_resolutions, all_exported, all_resolved}
+use Rattle.fast_check_read_graph.specs.Graph.{resolved_also}
 
 abbrev pub Texts : Type 0
 Texts = String Global × String Global
@@ -99,7 +101,8 @@ module _ (referrer url : Parts) (text : String Global) (m out n : BTreeMap Parts
       ∙ (twice (is_at (url_cmp referrer) u) (Some more) (get url_cmp m u)
       ∙ (λ i. cond (at_referrer u i) (Some more) (at_specifier u m.entries i)))))
 
-  same_referrer : (u : Parts) → is_specifier u referrer ≡ true → lookup (is_specifier referrer) m.entries ≡ lookup (is_specifier u) m.entries
+  same_referrer : (u : Parts) → is_specifier u referrer ≡ true →
+      lookup (is_specifier referrer) m.entries ≡ lookup (is_specifier u) m.entries
   same_referrer u e =
       lookup_alike (is_specifier referrer) (is_specifier u) m.entries
       (λ k. sym (nat_list_eq_equiv.congr (serialize u) (serialize referrer) (serialize k) e))
@@ -125,7 +128,8 @@ no_texts m e = λ i text referrer. option_and_then (text_resolved text) (lookup 
 
 -- ---- what is gathered
 
-pub texts_gathered : (exports es : Exports) → all_exported exports es ≡ all_gathered (λ so_far e. insert_entry bytes_eq so_far e.0 e.1) exports es
+pub texts_gathered : (exports es : Exports) → all_exported exports es ≡ all_gathered
+    (λ so_far e. insert_entry bytes_eq so_far e.0 e.1) exports es
 texts_gathered exports [] = refl
 texts_gathered exports (e ∷ es) = texts_gathered (insert_entry bytes_eq exports e.0 e.1) es
 
@@ -144,7 +148,8 @@ map_twice f g None = refl
 map_twice f g (Some x) = refl
 
 -- a graph is seen by its parts
-pub graph_of_parts : {S : Type 0} (modules : BTreeMap Parts Module) (resolutions : BTreeMap Parts Texts_of) (packages : Packages S) (g : ModuleGraph)
+pub graph_of_parts : {S : Type 0} (modules : BTreeMap Parts Module) (resolutions : BTreeMap Parts Texts_of) (packages : Packages S)
+    (g : ModuleGraph)
     → IsGraphOf modules resolutions packages g → seen.graph g ≡ record {
       modules = λ specifier. lookup (is_specifier specifier) modules.entries;
       resolutions = seen_resolutions resolutions;
@@ -161,7 +166,8 @@ graph_of_parts modules resolutions packages g h = λ i. record {
 pub graph_of_entries : {S : Type 0} (ms : List (Parts × Module)) (ps : List (PackageNv × IndexMap (String Global) (String Global) S))
     (modules : BTreeMap Parts Module) (resolutions : BTreeMap Parts Texts_of) (packages : Packages S) (g : ModuleGraph)
     → ((key : Parts) → get url_cmp modules key ≡ last_value (λ k. eq_by_cmp url_cmp k key) ms)
-    → ((key : PackageNv) → get (λ a b. nv_cmp (nv_of a) (nv_of b)) packages key ≡ last_value (λ k. eq_by_cmp (λ a b. nv_cmp (nv_of a) (nv_of b)) k key) ps)
+    → ((key : PackageNv) → get (λ a b. nv_cmp (nv_of a) (nv_of b)) packages key ≡ last_value
+    (λ k. eq_by_cmp (λ a b. nv_cmp (nv_of a) (nv_of b)) k key) ps)
     → IsGraphOf modules resolutions packages g
     → seen.graph g ≡ seen.graph_by ms (seen_resolutions resolutions) (map (λ p. (nv_of p.0, seen_exports p.1.entries)) ps)
 graph_of_entries ms ps modules resolutions packages g hm hp h = graph_of_parts modules resolutions packages g h ∙ (λ i. record {

@@ -1,6 +1,6 @@
 -- Texts that are parted at the last `@`, as `rsplit_once` parts them.
-use Rattle.std.proofs.Common.{◌≡◌, ◌≢◌, ◌∙◌, sym, ap, refl, ℕ, ◌<◌, ◌==◌, suc, List, [], ◌∷◌, ◌++◌, length, get_or, take, drop, Option, Some, None, option_map}
-use Rattle.std.proofs.Common.{arith, if◌then◌else◌, lit<}
+use Rattle.std.proofs.Common.{◌≡◌, ◌≢◌, ◌∙◌, sym, ap, refl, ℕ, ◌<◌, ◌==◌, suc, List, [], ◌∷◌, ◌++◌, length, get_or, take, drop, Option}
+use Rattle.std.proofs.Common.{Some, None, option_map, arith, if◌then◌else◌, lit<}
 use Rattle.std.proofs.Math.ListN.{take-append-drop}
 use Rattle.std.proofs.lemmas.Bool.{ne_eqb}
 use Rattle.std.proofs.lemmas.Str.Pattern.{NoCharPasses-char, drop_at_char}
@@ -24,7 +24,8 @@ parted_none (c ∷ text) h =
 parted_last : (front back : List ℕ) → LacksAt back → parted (front ++ 64 ∷ back) ≡ Some (front, back)
 parted_last [] back h = ap (λ o. option_or (option_map (λ p. (64 ∷ p.0, p.1)) o) (Some ([], back))) (parted_none back h)
 parted_last (c ∷ front) back h =
-    ap (λ o. option_or (option_map (λ p. (c ∷ p.0, p.1)) o) (if c == 64 then Some ([], front ++ 64 ∷ back) else None)) (parted_last front back h)
+    ap (λ o. option_or (option_map (λ p. (c ∷ p.0, p.1)) o) (if c == 64 then Some ([], front ++ 64 ∷ back) else None))
+    (parted_last front back h)
 
 pub parted_once : (text : List ℕ) (r : Option (Bor (List ℕ) × Bor (List ℕ)))
     → MatchOption r (RFindsChar 64 text None) (λ x. SplitsAroundMatch (RFindsChar 64) text x.0.now x.1.now)

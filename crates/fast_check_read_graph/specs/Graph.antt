@@ -1,5 +1,6 @@
 -- The graph of modules that a JSON value stands for.
-use Rattle.std.specs.Prelude.{ℕ, ◌==◌, ◌&&◌, if◌then◌else◌, List, [], ◌∷◌, codes, Option, None, Some, option_map, option_and_then, map, String, string_bytes}
+use Rattle.std.specs.Prelude.{ℕ, ◌==◌, ◌&&◌, if◌then◌else◌, List, [], ◌∷◌, codes, Option, None, Some, option_map}
+use Rattle.std.specs.Prelude.{option_and_then, map, String, string_bytes}
 use Rattle.std.specs.BTreeMap.{BTreeMap}
 use Rattle.std.specs.Map.{lookup}
 use Rattle.std.specs.Option.{option_or}
@@ -55,7 +56,8 @@ graph g = record {
 -- what stands before the last `@` of a text, and what stands behind it
 abbrev pub parted : List ℕ → Option (List ℕ × List ℕ)
 parted [] = None
-parted (c ∷ text) = option_or (option_map (λ p. (c ∷ p.0, p.1)) (parted text)) (if c == 64 then Some ([], text) else None)
+parted (c ∷ text) = option_or (option_map (λ p. (c ∷ p.0, p.1)) (parted text))
+    (if c == 64 then Some ([], text) else None)
 
 abbrev pub version_of : List ℕ → Option VersionParts
 version_of text = result_ok (version_parts text)
@@ -70,7 +72,8 @@ package_named text = given (parted text) (λ p. option_map (λ version. (p.0, ve
 abbrev pub package_of : Data → Option Nv
 package_of value = given (as_str value) package_named
 
--- names with texts, put one after another: a new name goes last, and one that is there keeps its place and takes the text
+-- names with texts, put one after another: a new name goes last, and one that is there keeps its place and takes the
+-- text
 abbrev pub all_exported : Exports → Exports → Exports
 all_exported exports [] = exports
 all_exported exports (e ∷ es) = all_exported (insert_entry bytes_eq exports e.0 e.1) es
@@ -82,7 +85,8 @@ package_exports_of value = option_map (all_exported []) (list_of (both_of as_str
 
 -- over others
 abbrev pub resolved_also : Parts × List ℕ × Parts → Resolutions → Resolutions
-resolved_also e others = λ text referrer. if is_specifier referrer e.0 && bytes_eq text e.1 then Some e.2 else others text referrer
+resolved_also e others = λ text referrer. if is_specifier referrer e.0 &&
+    bytes_eq text e.1 then Some e.2 else others text referrer
 
 abbrev pub no_resolutions : Resolutions
 no_resolutions = λ text referrer. None
@@ -109,7 +113,8 @@ abbrev pub members_of_graph : Data → Option SeenGraph
 members_of_graph value =
     given (listed (both_of url_of module_of) (codes "modules") value) (λ modules.
     given (or_default no_resolutions resolutions_of (get (codes "resolutions") value)) (λ resolutions.
-    option_map (λ packages. graph_by modules resolutions packages) (listed (both_of package_of package_exports_of) (codes "packages") value)))
+    option_map (λ packages. graph_by modules resolutions packages)
+    (listed (both_of package_of package_exports_of) (codes "packages") value)))
 
 -- an object of the members modules, resolutions and packages
 abbrev pub graph_of : Data → Option SeenGraph

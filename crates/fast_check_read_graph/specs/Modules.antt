@@ -4,8 +4,9 @@ use Rattle.std.specs.Str.{bytes_eq}
 use Rattle.serde_json.specs.Data.{Data}
 use Rattle.serde_json.specs.Find.{as_object, as_str}
 use Rattle.fast_check_parsed_source.specs.declared.tables.media_type.MediaType.{MediaType}
-use Rattle.fast_check_parsed_source.specs.declared.tables.media_type.MediaType.TheVariants.{TypeScript, Mts, Cts, Tsx, Dts, Dmts, Dcts}
-use Rattle.fast_check_parsed_source.specs.declared.tables.media_type.MediaType.TheVariants.{JavaScript, Mjs, Cjs, Jsx, Unknown}
+use Rattle.fast_check_parsed_source.specs.declared.tables.media_type.MediaType.TheVariants.{TypeScript, Mts, Cts, Tsx}
+use Rattle.fast_check_parsed_source.specs.declared.tables.media_type.MediaType.TheVariants.{Dts, Dmts, Dcts, JavaScript}
+use Rattle.fast_check_parsed_source.specs.declared.tables.media_type.MediaType.TheVariants.{Mjs, Cjs, Jsx, Unknown}
 use Rattle.fast_check_graph.specs.declared.module.Module.{Module}
 use Rattle.fast_check_graph.specs.declared.module.Module.TheVariants.{Js, Json, Wasm, Npm, Node, External}
 use Rattle.fast_check_read.specs.Pieces.{u64_of}
@@ -16,7 +17,8 @@ abbrev pub media_types : List (List ℕ × MediaType)
 media_types =
     (codes "TypeScript", TypeScript) ∷ (codes "Mts", Mts) ∷ (codes "Cts", Cts) ∷ (codes "Tsx", Tsx)
     ∷ (codes "Dts", Dts) ∷ (codes "Dmts", Dmts) ∷ (codes "Dcts", Dcts)
-    ∷ (codes "JavaScript", JavaScript) ∷ (codes "Mjs", Mjs) ∷ (codes "Cjs", Cjs) ∷ (codes "Jsx", Jsx) ∷ (codes "Unknown", Unknown) ∷ []
+    ∷ (codes "JavaScript", JavaScript) ∷ (codes "Mjs", Mjs) ∷ (codes "Cjs", Cjs) ∷ (codes "Jsx", Jsx) ∷
+    (codes "Unknown", Unknown) ∷ []
 
 abbrev pub named : {A : Type 0} → List (List ℕ × A) → List ℕ → Option A
 named [] name = None

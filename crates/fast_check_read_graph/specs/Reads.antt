@@ -1,7 +1,9 @@
 -- What a JSON value is read as, and what is left out.
-use Rattle.std.specs.Prelude.{◌≡◌, ℕ, List, [], Bool, Option, Some, None, option_map, option_and_then, Result, MatchResult}
+use Rattle.std.specs.Prelude.{◌≡◌, ℕ, List, [], Bool, Option, Some, None, option_map, option_and_then, Result}
+use Rattle.std.specs.Prelude.{MatchResult}
 use Rattle.std.specs.Result.{result_ok}
-use Rattle.serde_json.specs.Data.{Data, null, boolean, number, string, array, object, Items, no_items, item, Members, no_members, member}
+use Rattle.serde_json.specs.Data.{Data, null, boolean, number, string, array, object, Items, no_items, item, Members}
+use Rattle.serde_json.specs.Data.{no_members, member}
 use Rattle.serde_json.specs.Find.{get, as_array, as_object, as_str}
 use Rattle.url.specs.Parser.{parse_url}
 use Rattle.url.specs.Parts.{Parts}
@@ -13,9 +15,11 @@ use Rattle.fast_check_read.specs.declared.error.ReadError.TheVariants.{BadForm}
 use Rattle.fast_check_read.specs.Each.{each}
 use Rattle.fast_check_read.specs.Pieces.{u32_of, items_list, pair_of, range_of_data, optional_flag_of}
 
--- a call makes a value that is seen as what is expected, or answers `BadForm` where nothing is; it may run out of memory
+-- a call makes a value that is seen as what is expected, or answers `BadForm` where nothing is; it may run out of
+-- memory
 abbrev pub Reads : {A B : Type 0} → (B → A) → Option A → Result B ReadError → Type 0
-Reads seen expected result = MatchResult result (λ b. expected ≡ Some (seen b)) (λ error. error ≡ BadForm → expected ≡ None)
+Reads seen expected result = MatchResult result (λ b. expected ≡ Some (seen b))
+    (λ error. error ≡ BadForm → expected ≡ None)
 
 -- with what is there, if it is
 abbrev pub given : {A B : Type 0} → Option A → (A → Option B) → Option B
@@ -39,7 +43,8 @@ only_three (item a (item b no_items)) = None
 only_three (item a (item b (item c no_items))) = Some (a, b, c)
 only_three (item a (item b (item c (item d ds)))) = None
 
-abbrev pub three_of : {A B C : Type 0} → (Data → Option A) → (Data → Option B) → (Data → Option C) → Data → Option (A × B × C)
+abbrev pub three_of : {A B C : Type 0} → (Data → Option A) → (Data → Option B) → (Data → Option C) → Data →
+    Option (A × B × C)
 three_of first second third value =
     given (given (as_array value) only_three) (λ t.
     given (first t.0) (λ a.
@@ -80,7 +85,8 @@ flagged name value = optional_flag_of (get name value)
 
 -- the range of a node: 0 to 0 where it is left out
 abbrev pub ranged : List ℕ → Data → Option SourceRange
-ranged name value = or_default (record { start = record { 0 = 0 }; end = record { 0 = 0 } }) range_of_data (get name value)
+ranged name value = or_default (record { start = record { 0 = 0 }; end = record { 0 = 0 } }) range_of_data
+    (get name value)
 
 -- the one member of an object: its name and its content
 abbrev pub only_member : Members → Option (List ℕ × Data)

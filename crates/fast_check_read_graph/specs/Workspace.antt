@@ -9,7 +9,8 @@ use Rattle.fast_check_packages.specs.Package.{VersionParts}
 use Rattle.fast_check_read_graph.specs.Reads.{given, needed, optional, or_default, url_of}
 use Rattle.fast_check_read_graph.specs.Graph.{Exports, seen_exports, version_text_of, package_exports_of}
 
--- what contracts see of a member: where its export texts are joined to, its name, its version if it has one, and its export texts
+-- what contracts see of a member: where its export texts are joined to, its name, its version if it has one, and its
+-- export texts
 pub record SeenMember : Type 0 where
   pub base : Parts
   pub name : List ℕ

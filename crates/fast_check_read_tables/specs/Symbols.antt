@@ -7,8 +7,8 @@ use Rattle.fast_check_symbols.specs.declared.symbol_id.SymbolId.{SymbolId}
 use Rattle.fast_check_symbols.specs.declared.node.ReferenceNamespace.{ReferenceNamespace}
 use Rattle.fast_check_symbols.specs.declared.node.ReferenceNamespace.TheVariants.{Value, Type_, Both}
 use Rattle.fast_check_symbols.specs.Exports.{put_export}
-use Rattle.fast_check_read_graph.specs.Reads.{given, list_of, both_of, or_null, or_default, needed, listed, optional, flagged, ranged}
-use Rattle.fast_check_read_graph.specs.Reads.{variant_of, id_of, symbol_id_of}
+use Rattle.fast_check_read_graph.specs.Reads.{given, list_of, both_of, or_null, or_default, needed, listed, optional}
+use Rattle.fast_check_read_graph.specs.Reads.{flagged, ranged, variant_of, id_of, symbol_id_of}
 use Rattle.serde_json.specs.Find.{get}
 use Rattle.fast_check_read_tables.specs.Seen as seen
 use Rattle.fast_check_read_tables.specs.Seen.{FileName, Dep, Node, DeclKind, Decl, SeenSymbol}
@@ -23,8 +23,10 @@ names_of = list_of as_str
 abbrev pub dep_named : List ℕ → Data → Option Dep
 dep_named name content =
     if bytes_eq name (codes "Id") then option_map seen.DepId (id_of content)
-    else if bytes_eq name (codes "QualifiedId") then option_map (λ p. seen.QualifiedId p.0 p.1) (both_of id_of names_of content)
-    else if bytes_eq name (codes "ImportType") then option_map (λ p. seen.ImportType p.0 p.1) (both_of as_str names_of content)
+    else if bytes_eq name (codes "QualifiedId") then option_map (λ p. seen.QualifiedId p.0 p.1)
+    (both_of id_of names_of content)
+    else if bytes_eq name (codes "ImportType") then option_map (λ p. seen.ImportType p.0 p.1)
+    (both_of as_str names_of content)
     else None
 
 abbrev pub dep_of : Data → Option Dep
@@ -91,7 +93,8 @@ file_ref_of value =
 abbrev pub decl_kind_named : List ℕ → Data → Option DeclKind
 decl_kind_named name content =
     if bytes_eq name (codes "Target") then option_map seen.Target (id_of content)
-    else if bytes_eq name (codes "QualifiedTarget") then option_map (λ p. seen.QualifiedTarget p.0 p.1) (both_of id_of names_of content)
+    else if bytes_eq name (codes "QualifiedTarget") then option_map (λ p. seen.QualifiedTarget p.0 p.1)
+    (both_of id_of names_of content)
     else if bytes_eq name (codes "FileRef") then file_ref_of content
     else if bytes_eq name (codes "Definition") then option_map seen.Definition (or_null node_of content)
     else None

@@ -6,7 +6,8 @@ use Rattle.fast_check_requests.specs.Call.{called, File, IsReadRefusal}
 use Rattle.fast_check_requests.specs.Run.{RefusesCall}
 
 pub read_refused : {C : Type 0} (named : List ℕ → Option C) (Refuses : C → List ℕ → Refusal → Type 0) (words : List (List ℕ)) (file : File)
-    (command : C) (refusal : Refusal) → called named words ≡ Some command → IsReadRefusal file refusal → RefusesCall named Refuses words file refusal
+    (command : C) (refusal : Refusal) → called named words ≡ Some command → IsReadRefusal file refusal →
+    RefusesCall named Refuses words file refusal
 read_refused named Refuses words file command refusals.Unreadable is r = (command, is)
 read_refused named Refuses words file command refusals.OutOfMemory is r = (command, is, r)
 read_refused named Refuses words file command refusals.Usage is r = absurd r

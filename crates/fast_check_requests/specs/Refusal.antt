@@ -9,8 +9,9 @@ use Rattle.fast_check_read.specs.declared.input.InputFault.{InputFault}
 use Rattle.fast_check_read.specs.declared.input.InputFault.TheVariants as faults
 use Rattle.fast_check_requests.specs.declared.ending.Ending.{Ending}
 use Rattle.fast_check_requests.specs.declared.refusal.Refusal.{Refusal}
-use Rattle.fast_check_requests.specs.declared.refusal.Refusal.TheVariants.{Usage, Unreadable, NotJson, BadForm, TableFault, RangesNotAdmitted}
-use Rattle.fast_check_requests.specs.declared.refusal.Refusal.TheVariants.{InvalidExport, Unwritable, OutOfMemory}
+use Rattle.fast_check_requests.specs.declared.refusal.Refusal.TheVariants.{Usage, Unreadable, NotJson, BadForm}
+use Rattle.fast_check_requests.specs.declared.refusal.Refusal.TheVariants.{TableFault, RangesNotAdmitted, InvalidExport}
+use Rattle.fast_check_requests.specs.declared.refusal.Refusal.TheVariants.{Unwritable, OutOfMemory}
 
 -- what a line ends with
 abbrev pub line_end : List ℕ
@@ -36,7 +37,8 @@ line_of InvalidExport = codes "error: input refused: invalid-export" ++ line_end
 line_of Unwritable = codes "error: output refused" ++ line_end
 line_of OutOfMemory = codes "error: out of memory" ++ line_end
 
--- the status that the program ends with: 2 where the words or the input are refused, 3 where memory ran out, 4 where the answer is not taken
+-- the status that the program ends with: 2 where the words or the input are refused, 3 where memory ran out, 4 where
+-- the answer is not taken
 abbrev pub status_of : Refusal → ℕ
 status_of OutOfMemory = 3
 status_of (TableFault table_faults.OutOfMemory) = 3
@@ -53,6 +55,8 @@ abbrev pub refusal_of_error : ReadError → Refusal
 refusal_of_error read_errors.BadForm = BadForm
 refusal_of_error read_errors.OutOfMemory = OutOfMemory
 
--- the refusal gives the status, and its line is what is written, where that is taken: of the bytes that a stream held and holds then, what is known
+-- the refusal gives the status, and its line is what is written, where that is taken: of the bytes that a stream held
+-- and holds then, what is known
 abbrev pub IsTold : Refusal → Option (List ℕ) → Option (List ℕ) → Ending → Type 0
-IsTold refusal old new ending = (ending.status ≡ status_of refusal) × (IsTrue ending.is_told → Appends old new (line_of refusal))
+IsTold refusal old new ending = (ending.status ≡ status_of refusal) ×
+    (IsTrue ending.is_told → Appends old new (line_of refusal))

@@ -1,5 +1,6 @@
 -- What `transform` is asked, as JSON.
-use Rattle.std.specs.Prelude.{◌≡◌, ℕ, List, [], Bool, if◌then◌else◌, codes, Option, Some, None, option_map, Result, MatchResult}
+use Rattle.std.specs.Prelude.{◌≡◌, ℕ, List, [], Bool, if◌then◌else◌, codes, Option, Some, None, option_map, Result}
+use Rattle.std.specs.Prelude.{MatchResult}
 use Rattle.std.specs.List.{list_any}
 use Rattle.std.specs.Rc.{rc_str_bytes}
 use Rattle.serde_json.specs.Data.{Data}
@@ -79,7 +80,14 @@ source_of value =
     given (given (get (codes "program") value) program_of) (λ program.
     given (given (get (codes "comments") value) comments_of) (λ comments.
     given (context_or_zero (get (codes "unresolved_context") value)) (λ unresolved_context.
-    Some (record { media_type = media_type; text = text; program = program; comments = comments; unresolved_context = unresolved_context }))))))
+    Some (record {
+      media_type = media_type;
+      text = text;
+      program = program;
+      comments = comments;
+      unresolved_context =
+          unresolved_context;
+    }))))))
 
 -- an object of the members specifier and source, and of those of tables
 abbrev pub module_of : Data → Option Module
@@ -97,7 +105,14 @@ members_of_request value =
     given (optional_flag_of (get (codes "first") value)) (λ first.
     given (graph_member_of value) (λ graph.
     given (given (get (codes "module") value) module_of) (λ es_module.
-    Some (record { graph = graph; es_module = es_module; ranges = ranges; implementations = implementations; first = first }))))))
+    Some (record {
+      graph = graph;
+      es_module = es_module;
+      ranges = ranges;
+      implementations = implementations;
+      first =
+          first;
+    }))))))
 
 -- such an object, without a float anywhere
 abbrev pub request_of : Data → Option Request
@@ -136,4 +151,5 @@ pub record IsRequest (asked : Request) (made : TransformRequest) : Type 0 where
 
 -- a call makes a value of what is expected, or answers `BadForm` where nothing is; it may run out of memory
 abbrev pub Makes : {A B : Type 0} → (A → B → Type 0) → Option A → Result B ReadError → Type 0
-Makes {A} Is expected result = MatchResult result (λ b. (a : A) × (expected ≡ Some a) × Is a b) (λ error. error ≡ BadForm → expected ≡ None)
+Makes {A} Is expected result = MatchResult result (λ b. (a : A) × (expected ≡ Some a) × Is a b)
+    (λ error. error ≡ BadForm → expected ≡ None)

@@ -20,17 +20,22 @@ abbrev pub OfCall : {C : Type 0} → (List ℕ → Option C) → (C → List ℕ
 OfCall {C} named P words file = (command : C) × (called named words ≡ Some command) × OfFile (P command) file
 
 -- why the words or the file are refused: the words before all else
-abbrev pub RefusesCall : {C : Type 0} → (List ℕ → Option C) → (C → List ℕ → Refusal → Type 0) → List (List ℕ) → File → Refusal → Type 0
+abbrev pub RefusesCall : {C : Type 0} → (List ℕ → Option C) → (C → List ℕ → Refusal → Type 0) → List (List ℕ) → File →
+    Refusal → Type 0
 RefusesCall named Refuses words file refusals.Usage = called named words ≡ None
 RefusesCall {C} named Refuses words file refusals.Unreadable = (command : C) × (called named words ≡ Some command)
-RefusesCall {C} named Refuses words file refusals.OutOfMemory = OfCall named (λ (command : C) bytes. Unit {0}) words file
+RefusesCall {C} named Refuses words file refusals.OutOfMemory =
+    OfCall named (λ (command : C) bytes. Unit {0}) words file
 RefusesCall named Refuses words file refusal = OfCall named (λ command bytes. Refuses command bytes refusal) words file
 
 -- the answer to them, a line with its status, which is 0 or 1
-abbrev pub AnswersCall : {C : Type 0} → (List ℕ → Option C) → (C → List ℕ → List ℕ → ℕ → Type 0) → List (List ℕ) → File → List ℕ → ℕ → Type 0
-AnswersCall named Answers words file line status = (status < 2) × OfCall named (λ command bytes. Answers command bytes line status) words file
+abbrev pub AnswersCall : {C : Type 0} → (List ℕ → Option C) → (C → List ℕ → List ℕ → ℕ → Type 0) → List (List ℕ) →
+    File → List ℕ → ℕ → Type 0
+AnswersCall named Answers words file line status = (status < 2) ×
+    OfCall named (λ command bytes. Answers command bytes line status) words file
 
-abbrev pub HasAnswer : {C : Type 0} → (List ℕ → Option C) → (C → List ℕ → List ℕ → ℕ → Type 0) → List (List ℕ) → File → Type 0
+abbrev pub HasAnswer : {C : Type 0} → (List ℕ → Option C) → (C → List ℕ → List ℕ → ℕ → Type 0) → List (List ℕ) → File →
+    Type 0
 HasAnswer named Answers words file = (line : List ℕ) × (status : ℕ) × AnswersCall named Answers words file line status
 
 -- ---- the streams: what is known of the bytes that one held and holds then
@@ -39,4 +44,5 @@ HasAnswer named Answers words file = (line : List ℕ) × (status : ℕ) × Answ
 abbrev pub IsAnswered : {C : Type 0} → (List ℕ → Option C) → (C → List ℕ → List ℕ → ℕ → Type 0) → List (List ℕ) → File
     → Option (List ℕ) → Option (List ℕ) → Ending → Type 0
 IsAnswered named Answers words file old new ending =
-    IsTrue ending.is_told × ((line : List ℕ) × Appends old new line × AnswersCall named Answers words file line ending.status)
+    IsTrue ending.is_told ×
+    ((line : List ℕ) × Appends old new line × AnswersCall named Answers words file line ending.status)

@@ -9,7 +9,8 @@ use Rattle.fast_check_schema.specs.declared.order.TheConstants.{WRITTEN_ORDERS}
 use Rattle.fast_check_schema.specs.Order.{written_places}
 
 -- what an entry of a table of slices holds
-pub now_at : (rows : List (Bor (List ℕ))) (at : ℕ) (other : Bor (List ℕ)) → (get_or rows at other).now ≡ get_or (map (λ row. row.now) rows) at other.now
+pub now_at : (rows : List (Bor (List ℕ))) (at : ℕ) (other : Bor (List ℕ)) →
+    (get_or rows at other).now ≡ get_or (map (λ row. row.now) rows) at other.now
 now_at rows at other = sym (get_or-map (λ (row : Bor (List ℕ)). row.now) rows at other)
 
 -- the row of a kind is its order

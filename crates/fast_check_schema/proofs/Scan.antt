@@ -7,7 +7,8 @@ use Rattle.std.proofs.Math.ListN.{drop_of_length-le}
 
 module _ {A B : Type 0} (p : B → Bool) (row : A → B) (xs : List A) (i : ℕ) where
   from_here : (other : A) → i < length xs → map row (drop i xs) ≡ row (get_or xs i other) ∷ map row (drop (i + 1) xs)
-  from_here other within = ap (map row) (drop-cons xs i other within) ∙ ap (λ n. row (get_or xs i other) ∷ map row (drop n xs)) (sym (add-one i))
+  from_here other within = ap (map row) (drop-cons xs i other within) ∙
+      ap (λ n. row (get_or xs i other) ∷ map row (drop n xs)) (sym (add-one i))
 
   at_end : length xs ≤ i → map row (drop i xs) ≡ []
   at_end past = ap (map row) (drop_of_length-le xs past)
@@ -29,12 +30,14 @@ module _ {A B : Type 0} (p : B → Bool) (row : A → B) (xs : List A) (i : ℕ)
   none_left so_far past = so_far ∙ ap (find p) (at_end past)
 
   -- the same of whether a row passes at all
-  pub some_passes : (other : A) → list_any p (map row xs) ≡ list_any p (map row (drop i xs)) → i < length xs → p (row (get_or xs i other)) ≡ true
+  pub some_passes : (other : A) → list_any p (map row xs) ≡ list_any p (map row (drop i xs)) → i < length xs →
+      p (row (get_or xs i other)) ≡ true
       → list_any p (map row xs) ≡ true
   some_passes other so_far within passes =
       so_far ∙ ap (list_any p) (from_here other within) ∙ ap (λ t. t || list_any p (map row (drop (i + 1) xs))) passes
 
-  pub fails_here : (other : A) → list_any p (map row xs) ≡ list_any p (map row (drop i xs)) → i < length xs → p (row (get_or xs i other)) ≡ false
+  pub fails_here : (other : A) → list_any p (map row xs) ≡ list_any p (map row (drop i xs)) → i < length xs →
+      p (row (get_or xs i other)) ≡ false
       → list_any p (map row xs) ≡ list_any p (map row (drop (i + 1) xs))
   fails_here other so_far within fails =
       so_far ∙ ap (list_any p) (from_here other within) ∙ ap (λ t. t || list_any p (map row (drop (i + 1) xs))) fails

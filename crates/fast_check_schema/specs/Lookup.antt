@@ -32,7 +32,8 @@ abbrev pub is_admitted : ℕ → Kind → Form → Bool
 is_admitted levels kind (forms.Struct own) = own is kind
 is_admitted levels kind (forms.Marked own) = own is kind
 is_admitted zero kind (forms.Choice choice) = false
-is_admitted (suc levels) kind (forms.Choice choice) = list_any (λ v. is_admitted levels kind v.form) (variants_of choice)
+is_admitted (suc levels) kind (forms.Choice choice) = list_any (λ v. is_admitted levels kind v.form)
+    (variants_of choice)
 is_admitted levels kind _ = false
 
 -- the variant under which a node of the kind stands: choices stand within choices at most three deep
@@ -41,4 +42,5 @@ variant_by_kind kind variants = find (λ v. is_admitted 2 kind v.form) variants
 
 -- what a mark stands round: a pattern that is assigned to, or an expression that is a pattern
 abbrev pub marked_choice : Kind → Option Choice
-marked_choice kind = if kind is TargetPat then Some choices.Pat else (if kind is PatExpr then Some choices.Expr else None)
+marked_choice kind = if kind is TargetPat then Some choices.Pat else
+    (if kind is PatExpr then Some choices.Expr else None)

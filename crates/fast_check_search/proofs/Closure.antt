@@ -1,10 +1,12 @@
 -- The turns of the search, from its beginning to an account.
-use Rattle.std.proofs.Common.{◌≡◌, ◌∙◌, sym, ap, refl, subst, ℕ, ◌+◌, ◌<◌, ◌≤◌, Bool, true, List, [], ◌∷◌, ◌++◌, length, map, get_or, take, ⊎_elim, arith, length-append, append-nil, append_assoc}
+use Rattle.std.proofs.Common.{◌≡◌, ◌∙◌, sym, ap, refl, subst, ℕ, ◌+◌, ◌<◌, ◌≤◌, Bool, true, List, [], ◌∷◌, ◌++◌, length, map, get_or, take}
+use Rattle.std.proofs.Common.{⊎_elim, arith, length-append, append-nil, append_assoc}
 use Rattle.std.specs.List.{Contains, list_any}
 use Rattle.std.proofs.lemmas.Bool.{or_left, or_right, or_cases}
 use Rattle.std.proofs.lemmas.List.{take_more, take_all, take-append-le}
 use Rattle.std.proofs.lemmas.List.Folds.{list_any-append}
-use Rattle.std.proofs.lemmas.List.Elements.{Contains-get_or, Contains-push_cases, Contains-push, Contains-append_left, Contains-append_right, Contains-append_cases}
+use Rattle.std.proofs.lemmas.List.Elements.{Contains-get_or, Contains-push_cases, Contains-push, Contains-append_left}
+use Rattle.std.proofs.lemmas.List.Elements.{Contains-append_right, Contains-append_cases}
 use Rattle.fast_check_symbols.specs.Tables.{Tables}
 use Rattle.fast_check_name_demands.specs.demands.Demands.{Demand}
 use Rattle.fast_check_name_demands.specs.demands.Rules.{names}
@@ -24,8 +26,10 @@ any_more test xs more h = rw list_any-append (or_left (list_any test xs) (list_a
 -- what was covered stays covered
 pub covered_more : (account more : List Demand) (d : Demand) → IsCovered account d → IsCovered (account ++ more) d
 covered_more account more d h = ⊎_elim
-    (λ t. or_left (list_any (alike d) (account ++ more)) (list_any (alike (referred d)) (account ++ more)) (any_more (alike d) account more t))
-    (λ t. or_right (list_any (alike d) (account ++ more)) (list_any (alike (referred d)) (account ++ more)) (any_more (alike (referred d)) account more t))
+    (λ t. or_left (list_any (alike d) (account ++ more)) (list_any (alike (referred d)) (account ++ more))
+    (any_more (alike d) account more t))
+    (λ t. or_right (list_any (alike d) (account ++ more)) (list_any (alike (referred d)) (account ++ more))
+    (any_more (alike (referred d)) account more t))
     (or_cases (list_any (alike d) account) (list_any (alike (referred d)) account) h)
 
 pub grows_none : (asks asked : List Demand) → Grows asks asked asked
@@ -52,7 +56,8 @@ pub asked_more : (asks a b c : List Demand) (i : ℕ) (d : Demand) → i < lengt
     CoversEach (take i asks) b → Grows (d ∷ []) b c → IsCovered c d →
     Grows asks a c × CoversEach (take (i + 1) asks) c
 asked_more asks a b c i d lt e g h more now = (
-  grows_more asks a b c g (grows_within (d ∷ []) asks b c (λ x t. subst (Contains asks) (e ∙ Contains_only d x t) (Contains-get_or asks i d lt)) more),
+  grows_more asks a b c g
+      (grows_within (d ∷ []) asks b c (λ x t. subst (Contains asks) (e ∙ Contains_only d x t) (Contains-get_or asks i d lt)) more),
   (λ x inside. ⊎_elim
       (λ before. grows_covers (d ∷ []) b c x more (h x before))
       (λ here. subst (λ (y : Demand). IsCovered c y) (sym e ∙ here) now)
@@ -60,7 +65,8 @@ asked_more asks a b c i d lt e g h more now = (
 )
 
 -- a loop that has asked for all
-pub asked_all : (asks : List Demand) (i : ℕ) (account : List Demand) → length asks ≤ i → CoversEach (take i asks) account → CoversEach asks account
+pub asked_all : (asks : List Demand) (i : ℕ) (account : List Demand) → length asks ≤ i → CoversEach (take i asks) account →
+    CoversEach asks account
 asked_all asks i account le h = subst (λ (x : List Demand). CoversEach x account) (take_all i asks le) h
 
 -- what is found
@@ -91,7 +97,8 @@ nothing_found t found e f g h = record {
   outside = rw h (nothing_yet (files t));
 }
 
-found_more : (t : Tables) (account : List Demand) (d : Demand) (old new : Found) → IsFound t account old → Gains t d old new → IsFound t (account ++ d ∷ []) new
+found_more : (t : Tables) (account : List Demand) (d : Demand) (old new : Found) → IsFound t account old → Gains t d old new →
+    IsFound t (account ++ d ∷ []) new
 found_more t account d old new f g = record {
   public = yielded_more (ranges t) account d _ _ f.public g.public;
   implementing = yielded_more (implementations t) account d _ _ f.implementing g.implementing;
@@ -101,7 +108,8 @@ found_more t account d old new f g = record {
 
 module _ (t : Tables) (roots : List Demand) where
   -- after the first demands were asked for
-  pub begun : (asked : List Demand) (found : Found) → Grows roots [] asked → CoversEach roots asked → IsFound t [] found → IsOnTheWay t roots asked 0 found
+  pub begun : (asked : List Demand) (found : Found) → Grows roots [] asked → CoversEach roots asked → IsFound t [] found →
+      IsOnTheWay t roots asked 0 found
   begun asked found g h f = record {
     reached = omega arith;
     chained = λ d u. root (g.parts d (subst (λ (x : List Demand). Contains x d) g.is u));
@@ -110,7 +118,8 @@ module _ (t : Tables) (roots : List Demand) where
     found = f;
   }
 
-  module _ (asked after : List Demand) (next : ℕ) (d : Demand) (old new : Found) (w : IsOnTheWay t roots asked next old) (lt : next < length asked)
+  module _ (asked after : List Demand) (next : ℕ) (d : Demand) (old new : Found) (w : IsOnTheWay t roots asked next old)
+      (lt : next < length asked)
       (here : get_or asked next d ≡ d) where
     -- after the demand d, at next, was followed
     pub turned : Grows (names t d) asked after → CoversEach (names t d) after → Gains t d old new → IsOnTheWay t roots after (next + 1) new
@@ -132,10 +141,16 @@ module _ (t : Tables) (roots : List Demand) where
         }
 
   -- at the end
-  pub ended : (asked : List Demand) (next : ℕ) (found : Found) → length asked ≤ next → IsOnTheWay t roots asked next found → IsAccount t roots asked ×
+  pub ended : (asked : List Demand) (next : ℕ) (found : Found) → length asked ≤ next → IsOnTheWay t roots asked next found →
+      IsAccount t roots asked ×
       IsFound t asked found
   ended asked next found le w =
       let all : take next asked ≡ asked = take_all next asked le in (
-        record { chained = w.chained; has_roots = w.has_roots; closed = λ d e u v. w.closed d e (subst (λ (x : List Demand). Contains x d) (sym all) u) v },
+        record {
+          chained = w.chained;
+          has_roots = w.has_roots;
+          closed =
+              λ d e u v. w.closed d e (subst (λ (x : List Demand). Contains x d) (sym all) u) v;
+        },
         subst (λ (x : List Demand). IsFound t x found) all w.found,
       )

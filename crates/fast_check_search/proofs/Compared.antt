@@ -44,7 +44,8 @@ names_compare [] [] = refl
 names_compare [] (y ∷ ys) = refl
 names_compare (x ∷ xs) [] = refl
 names_compare (x ∷ xs) (y ∷ ys) = then_equal (string_cmp x y) (slice_cmp string_cmp xs ys) ∙
-    and_same (is_eq (string_cmp x y)) (bytes_eq (string_bytes x) (string_bytes y)) (is_eq (slice_cmp string_cmp xs ys)) (same_path (path_of xs) (path_of ys))
+    and_same (is_eq (string_cmp x y)) (bytes_eq (string_bytes x) (string_bytes y)) (is_eq (slice_cmp string_cmp xs ys))
+    (same_path (path_of xs) (path_of ys))
     (is_eq-slice_cmp (string_bytes x) (string_bytes y)) (names_compare xs ys)
 
 namespaces_compare : (a b : Namespace) → is_eq (namespace_order.cmp-value.it a b) ≡ same_namespace a b
@@ -69,11 +70,13 @@ asks_compare (Child n) (Path q y) = refl
 asks_compare (Path p x) (Reference m) = refl
 asks_compare (Path p x) (Child m) = refl
 asks_compare (Path p x) (Path q y) = then_equal (slice_cmp string_cmp p.now q.now) (extent_order.cmp-value.it x y) ∙
-    and_same (is_eq (slice_cmp string_cmp p.now q.now)) (same_path (path_of p.now) (path_of q.now)) (is_eq (extent_order.cmp-value.it x y)) (same_extent x y)
+    and_same (is_eq (slice_cmp string_cmp p.now q.now)) (same_path (path_of p.now) (path_of q.now)) (is_eq (extent_order.cmp-value.it x y))
+    (same_extent x y)
     (names_compare p.now q.now) (extents_compare x y)
 
 pub compares : (a b : SymbolDemand) → is_eq (order.cmp-value.it a b) ≡ same (demand_of a) (demand_of b)
-compares a b = then_equal (nat_cmp a.symbol.0 b.symbol.0) (ordering_then (ask_order.cmp-value.it a.ask b.ask) (nat_cmp a.referrer.0 b.referrer.0)) ∙
+compares a b =
+    then_equal (nat_cmp a.symbol.0 b.symbol.0) (ordering_then (ask_order.cmp-value.it a.ask b.ask) (nat_cmp a.referrer.0 b.referrer.0)) ∙
     and_same _ (a.symbol.0 == b.symbol.0) _ (same_asked (asked_of a.ask) (asked_of b.ask) && (a.referrer.0 == b.referrer.0))
     (numbers_compare a.symbol.0 b.symbol.0)
     (then_equal (ask_order.cmp-value.it a.ask b.ask) (nat_cmp a.referrer.0 b.referrer.0) ∙

@@ -1,5 +1,6 @@
 -- What holds of each element of a list, and elements of lists that are made of others.
-use Rattle.std.proofs.Common.{◌≡◌, sym, ap, refl, subst, Bool, true, false, cond, List, [], ◌∷◌, ◌++◌, map, Option, Some, None, ⊎_elim, inl, inr, ◌⊎◌, arith}
+use Rattle.std.proofs.Common.{◌≡◌, sym, ap, refl, subst, Bool, true, false, cond, List, [], ◌∷◌, ◌++◌, map, Option, Some, None, ⊎_elim, inl}
+use Rattle.std.proofs.Common.{inr, ◌⊎◌, arith}
 use Rattle.std.specs.List.{Contains, flat_map}
 use Rattle.std.proofs.lemmas.List.Elements.{Contains-push_cases, Contains-append_left, Contains-append_right, Contains-append_cases}
 use Rattle.fast_check_name_demands.specs.demands.Rules.{each_of}
@@ -26,7 +27,8 @@ contains_map {X} {Y} f (y ∷ ys) x c = ⊎_elim
     (λ there. Contains_later (f y) (map f ys) (f x) (contains_map f ys x there))
     (Contains_cases y ys x c)
 
-pub contains_flat_map : {X Y : Type 0} (f : X → List Y) (xs : List X) (x : X) (y : Y) → Contains xs x → Contains (f x) y → Contains (flat_map f xs) y
+pub contains_flat_map : {X Y : Type 0} (f : X → List Y) (xs : List X) (x : X) (y : Y) → Contains xs x → Contains (f x) y →
+    Contains (flat_map f xs) y
 contains_flat_map f [] x y c h = absurd (Contains_none x c)
 contains_flat_map {X} f (z ∷ zs) x y c h = ⊎_elim
     (λ here. Contains-append_left (f z) (flat_map f zs) y (subst (λ (w : X). Contains (f w) y) (sym here) h))
@@ -53,14 +55,17 @@ pub each_map : {X Y : Type 0} (P : Y → Type 0) (f : X → Y) (xs : List X) →
 each_map P f [] h = each_nil P
 each_map P f (x ∷ xs) h = each_cons P (f x) (map f xs) (h x (Contains_first x xs)) (each_map P f xs (λ y t. h y (Contains_later x xs y t)))
 
-pub each_flat : {X Y : Type 0} (P : Y → Type 0) (f : X → List Y) (xs : List X) → ((x : X) → Contains xs x → Each P (f x)) → Each P (flat_map f xs)
+pub each_flat : {X Y : Type 0} (P : Y → Type 0) (f : X → List Y) (xs : List X) → ((x : X) → Contains xs x → Each P (f x)) →
+    Each P (flat_map f xs)
 each_flat P f [] h = each_nil P
-each_flat P f (x ∷ xs) h = each_append P (f x) (flat_map f xs) (h x (Contains_first x xs)) (each_flat P f xs (λ y t. h y (Contains_later x xs y t)))
+each_flat P f (x ∷ xs) h = each_append P (f x) (flat_map f xs) (h x (Contains_first x xs))
+    (each_flat P f xs (λ y t. h y (Contains_later x xs y t)))
 
 pub each_cond : {X : Type 0} (P : X → Type 0) (b : Bool) (xs ys : List X) → Each P xs → Each P ys → Each P (cond b xs ys)
 each_cond P true xs ys f g = f
 each_cond P false xs ys f g = g
 
-pub each_each_of : {X Y : Type 0} (P : Y → Type 0) (f : X → List Y) (o : Option X) → ((x : X) → o ≡ Some x → Each P (f x)) → Each P (each_of f o)
+pub each_each_of : {X Y : Type 0} (P : Y → Type 0) (f : X → List Y) (o : Option X) → ((x : X) → o ≡ Some x → Each P (f x)) →
+    Each P (each_of f o)
 each_each_of P f None h = each_nil P
 each_each_of P f (Some x) h = h x refl

@@ -1,5 +1,6 @@
 -- Each demand that a search comes to is one of finitely many.
-use Rattle.std.proofs.Common.{◌≡◌, ◌∙◌, ap, refl, subst, ◌≤◌, Bool, true, false, cond, ◌&&◌, not, List, [], ◌∷◌, ◌++◌, length, map, Option, Some, None, ◌⊎◌, inl, inr, ⊎_elim, arith, string_bytes}
+use Rattle.std.proofs.Common.{◌≡◌, ◌∙◌, ap, refl, subst, ◌≤◌, Bool, true, false, cond, ◌&&◌, not, List, [], ◌∷◌, ◌++◌, length, map, Option}
+use Rattle.std.proofs.Common.{Some, None, ◌⊎◌, inl, inr, ⊎_elim, arith, string_bytes}
 use Rattle.std.specs.Prelude.{option_map, option_to_list}
 use Rattle.std.proofs.lemmas.Bool.{false≢true, or_left, or_right, or_cases}
 use Rattle.std.specs.Option.{option_or, option_and_then}
@@ -29,11 +30,19 @@ use Rattle.fast_check_name_demands.specs.demands.symbol_demands.declared.demand.
 use Rattle.fast_check_name_demands.specs.demands.symbol_demands.declared.demand.Extent.TheVariants.{Touched, Whole}
 use Rattle.fast_check_name_demands.specs.demands.Demands.{Demand, Asked, by_reference, as_child, by_path, same_symbol}
 use Rattle.fast_check_name_demands.specs.demands.Decls.{binds, is_implementation, has_alias, is_closed}
-use Rattle.fast_check_name_demands.specs.demands.Rules.{reference, child, qualified, references, children, references_in, named, each_of, bound, parent_at, parent_names, dep_names, deps_names, kind_names, decl_names, exports_names, members_names, symbol_names, parts_names, alias_names, member_named, symbol_is_named, member_names, prototype_names, export_names, is_prototype, first_names, path_names, asked_names, names}
+use Rattle.fast_check_name_demands.specs.demands.Rules.{reference, child, qualified, references, children, references_in, named, each_of}
+use Rattle.fast_check_name_demands.specs.demands.Rules.{bound, parent_at, parent_names, dep_names, deps_names, kind_names, decl_names}
+use Rattle.fast_check_name_demands.specs.demands.Rules.{exports_names, members_names, symbol_names, parts_names, alias_names, member_named}
+use Rattle.fast_check_name_demands.specs.demands.Rules.{symbol_is_named, member_names, prototype_names, export_names, is_prototype}
+use Rattle.fast_check_name_demands.specs.demands.Rules.{first_names, path_names, asked_names, names}
 use Rattle.fast_check_name_demands.specs.demands.Account.{Chained, root, step, alike}
-use Rattle.fast_check_search.specs.Universe.{demand_ids, symbol_ids, ids, suffixes, pieces, dep_paths, kind_paths, symbol_paths, asked_paths, written_paths, paths, both_extents, asks, asks_of, universe, limit, IsAskedInside, IsInside}
+use Rattle.fast_check_search.specs.Universe.{demand_ids, symbol_ids, ids, suffixes, pieces, dep_paths, kind_paths, symbol_paths}
+use Rattle.fast_check_search.specs.Universe.{asked_paths, written_paths, paths, both_extents, asks, asks_of, universe, limit, IsAskedInside}
+use Rattle.fast_check_search.specs.Universe.{IsInside}
 use Rattle.fast_check_search.proofs.Same.{alike_laws}
-use Rattle.fast_check_search.proofs.Each.{Contains_none, Contains_only, Contains_first, Contains_later, Contains_cases, contains_map, contains_flat_map, Each, each_nil, each_one, each_append, each_cons, each_map, each_flat, each_cond, each_each_of}
+use Rattle.fast_check_search.proofs.Each.{Contains_none, Contains_only, Contains_first, Contains_later, Contains_cases, contains_map}
+use Rattle.fast_check_search.proofs.Each.{contains_flat_map, Each, each_nil, each_one, each_append, each_cons, each_map, each_flat}
+use Rattle.fast_check_search.proofs.Each.{each_cond, each_each_of}
 
 -- options
 
@@ -80,7 +89,8 @@ looked_inside test [] x e = absurd (no x e)
     no x e = cc
 looked_inside {K} {X} test (y ∷ ys) x e = go (test y.0) (looked_inside test ys x) e
   where
-    go : (b : Bool) → (lookup test ys ≡ Some x → Contains (values_of ys) x) → cond b (Some y.1) (lookup test ys) ≡ Some x → Contains (values_of (y ∷ ys)) x
+    go : (b : Bool) → (lookup test ys ≡ Some x → Contains (values_of ys) x) → cond b (Some y.1) (lookup test ys) ≡ Some x →
+        Contains (values_of (y ∷ ys)) x
     go true below h = subst (λ (z : X). Contains (values_of (y ∷ ys)) z) (some_same y.1 x h) (Contains_first y.1 (values_of ys))
     go false below h = Contains_later y.1 (values_of ys) x (below h)
 
@@ -136,7 +146,8 @@ module _ (t : Tables) (roots : List Demand) where
   -- ids of the tables
 
   table_id : (s : Symbol) (x : SymbolId) → Contains t.symbols s → Contains (symbol_ids s) x → Contains I x
-  table_id s x h g = Contains-append_right (flat_map demand_ids roots) (flat_map symbol_ids t.symbols) x (contains_flat_map symbol_ids t.symbols s x h g)
+  table_id s x h g = Contains-append_right (flat_map demand_ids roots) (flat_map symbol_ids t.symbols) x
+      (contains_flat_map symbol_ids t.symbols s x h g)
 
   bound_id : (id : Id) (x : SymbolId) → bound t id ≡ Some x → Contains I x
   bound_id id x e = go (symbol_id_of t id) (mapped_some (λ s. s.id) (symbol_of_swc t id) x e)
@@ -158,7 +169,8 @@ module _ (t : Tables) (roots : List Demand) where
       (contains_flat_map symbol_paths t.symbols s p h (contains_flat_map (λ y. kind_paths y.kind) s.decls.items x p g k))
 
   path_inside : (p : Path) → Contains (written_paths t roots) p → Contains P p
-  path_inside p h = contains_flat_map pieces (written_paths t roots) p p h (Contains-append_left (suffixes p) (map (λ n. n ∷ []) p) p (whole_inside p))
+  path_inside p h = contains_flat_map pieces (written_paths t roots) p p h
+      (Contains-append_left (suffixes p) (map (λ n. n ∷ []) p) p (whole_inside p))
 
   name_inside : (p : Path) (n : Name) → Contains (written_paths t roots) p → Contains p n → Contains P (n ∷ [])
   name_inside p n h g = contains_flat_map pieces (written_paths t roots) p (n ∷ []) h
@@ -190,15 +202,19 @@ module _ (t : Tables) (roots : List Demand) where
   in_named x (n ∷ p) r h g k = in_qualified x (n ∷ p) Whole r h g k
 
   in_named_at : (id : Id) (p : Path) (r : SymbolId) → Contains I r → Contains P p → Each Q (each_of (λ x. named x p r ∷ []) (bound t id))
-  in_named_at id p r g k = each_each_of Q (λ x. named x p r ∷ []) (bound t id) (λ x e. each_one Q (named x p r) (in_named x p r (bound_id id x e) g k))
+  in_named_at id p r g k = each_each_of Q (λ x. named x p r ∷ []) (bound t id)
+      (λ x e. each_one Q (named x p r) (in_named x p r (bound_id id x e) g k))
 
   module _ (d : Demand) (i : Q d) where
     in_parent_at : (o : Option SymbolId) → ((x : SymbolId) → o ≡ Some x → Contains I x) → Each Q (parent_at d o)
     in_parent_at None h = each_nil Q
-    in_parent_at (Some x) h = each_cond Q (same_symbol x d.referrer) [] (references x d.symbol) (each_nil Q) (in_references x d.symbol (h x refl) i.symbol)
+    in_parent_at (Some x) h = each_cond Q (same_symbol x d.referrer) [] (references x d.symbol) (each_nil Q)
+        (in_references x d.symbol (h x refl) i.symbol)
 
-    in_dep : (n : ReferenceNamespace) (dep : SymbolDep) → ((p : Path) → Contains (dep_paths dep) p → Contains P p) → Each Q (dep_names t d.symbol n dep)
-    in_dep n (deps.Id id) h = each_each_of Q (λ x. references_in n x d.symbol) (bound t id) (λ x e. in_references_in n x d.symbol (bound_id id x e) i.symbol)
+    in_dep : (n : ReferenceNamespace) (dep : SymbolDep) → ((p : Path) → Contains (dep_paths dep) p → Contains P p) →
+        Each Q (dep_names t d.symbol n dep)
+    in_dep n (deps.Id id) h = each_each_of Q (λ x. references_in n x d.symbol) (bound t id)
+        (λ x e. in_references_in n x d.symbol (bound_id id x e) i.symbol)
     in_dep n (deps.QualifiedId id parts) h = in_named_at id (path_of parts.items) d.symbol i.symbol
         (h (path_of parts.items) (Contains_first (path_of parts.items) []))
     in_dep n (deps.ImportType specifier parts) h = each_nil Q
@@ -211,7 +227,8 @@ module _ (t : Tables) (roots : List Demand) where
         (h (path_of parts.items) (Contains_first (path_of parts.items) []))
     in_kind n parent (FileRef specifier name) f h = each_nil Q
     in_kind n parent (Definition None) f h = each_nil Q
-    in_kind n parent (Definition (Some node)) f h = each_append Q (parent_names d node.is_member parent) (deps_names t d.symbol node.deps.items)
+    in_kind n parent (Definition (Some node)) f h = each_append Q (parent_names d node.is_member parent)
+        (deps_names t d.symbol node.deps.items)
         (each_cond Q node.is_member (parent_at d parent) [] (in_parent_at parent f) (each_nil Q))
         (each_flat Q (λ x. dep_names t d.symbol x.namespace x.dep) node.deps.items
         (λ x g. in_dep x.namespace x.dep (λ p k. h p (contains_flat_map (λ y. dep_paths y.dep) node.deps.items x p g k))))
@@ -220,8 +237,10 @@ module _ (t : Tables) (roots : List Demand) where
         ((q : Path) → Contains (kind_paths k) q → Contains (written_paths t roots) q) → Each Q (alias_names t d p e k)
     in_alias p e (Target id) a h = each_each_of Q (λ x. qualified x p e d.referrer ∷ []) (bound t id)
         (λ x u. each_one Q (qualified x p e d.referrer) (in_qualified x p e d.referrer (bound_id id x u) i.referrer a))
-    in_alias p e (QualifiedTarget id parts) a h = each_each_of Q (λ x. qualified x p e d.referrer ∷ parts_names d x parts.items) (bound t id)
-        (λ x u. each_cons Q (qualified x p e d.referrer) (parts_names d x parts.items) (in_qualified x p e d.referrer (bound_id id x u) i.referrer a)
+    in_alias p e (QualifiedTarget id parts) a h = each_each_of Q (λ x. qualified x p e d.referrer ∷ parts_names d x parts.items)
+        (bound t id)
+        (λ x u. each_cons Q (qualified x p e d.referrer) (parts_names d x parts.items)
+        (in_qualified x p e d.referrer (bound_id id x u) i.referrer a)
         (each_map Q (λ part. qualified x (string_bytes part ∷ []) Whole d.referrer) parts.items
         (λ part g. in_qualified x (string_bytes part ∷ []) Whole d.referrer (bound_id id x u) i.referrer
         (name_inside (path_of parts.items) (string_bytes part) (h (path_of parts.items) (Contains_first (path_of parts.items) []))
@@ -261,10 +280,12 @@ module _ (t : Tables) (roots : List Demand) where
           (in_exports es (λ x h. f x (Contains_later e.1 (values_of es) x h)))
 
       in_symbol : (n : Namespace) → Each Q (symbol_names t d n s)
-      in_symbol n = each_cond Q s.is_private_member [] (flat_map (decl_names t d n s.parent_id) s.decls.items ++ exports_names d s.exports ++
+      in_symbol n =
+          each_cond Q s.is_private_member [] (flat_map (decl_names t d n s.parent_id) s.decls.items ++ exports_names d s.exports ++
           members_names d s.members.items)
           (each_nil Q)
-          (each_append Q (flat_map (decl_names t d n s.parent_id) s.decls.items ++ exports_names d s.exports) (members_names d s.members.items)
+          (each_append Q (flat_map (decl_names t d n s.parent_id) s.decls.items ++ exports_names d s.exports)
+          (members_names d s.members.items)
           (each_append Q (flat_map (decl_names t d n s.parent_id) s.decls.items) (exports_names d s.exports)
           (each_flat Q (decl_names t d n s.parent_id) s.decls.items
           (λ x g. each_cond Q (binds x n && not (is_implementation x)) (kind_names t d n s.parent_id x.kind) []
@@ -272,7 +293,8 @@ module _ (t : Tables) (roots : List Demand) where
           (in_exports s.exports export_id))
           (each_flat Q (λ m. children m d.symbol) s.members.items (λ m g. in_children m d.symbol (member_id m g) i.symbol)))
 
-      in_member : (below : Path) (e : Extent) (o : Option SymbolId) → ((x : SymbolId) → o ≡ Some x → Contains I x) → Each Q (member_names d below e o)
+      in_member : (below : Path) (e : Extent) (o : Option SymbolId) → ((x : SymbolId) → o ≡ Some x → Contains I x) →
+          Each Q (member_names d below e o)
       in_member [] Whole None h = each_nil Q
       in_member [] Whole (Some x) h = in_references x d.referrer (h x refl) i.referrer
       in_member [] Touched o h = each_nil Q
@@ -289,7 +311,8 @@ module _ (t : Tables) (roots : List Demand) where
       in_export below e closed None a h = each_cond Q closed [] (references d.symbol d.referrer) (each_nil Q)
           (in_references d.symbol d.referrer i.symbol i.referrer)
       in_export [] Whole closed (Some x) a h = in_references x d.referrer (h x refl) i.referrer
-      in_export [] Touched closed (Some x) a h = each_one Q (qualified x [] Touched d.referrer) (in_qualified x [] Touched d.referrer (h x refl) i.referrer a)
+      in_export [] Touched closed (Some x) a h = each_one Q (qualified x [] Touched d.referrer)
+          (in_qualified x [] Touched d.referrer (h x refl) i.referrer a)
       in_export (n ∷ below) e closed (Some x) a h = each_one Q (qualified x (n ∷ below) e d.referrer)
           (in_qualified x (n ∷ below) e d.referrer (h x refl) i.referrer a)
 
@@ -302,7 +325,8 @@ module _ (t : Tables) (roots : List Demand) where
           (λ x h. export_id x (looked_inside (bytes_eq n) s.exports x h)))
 
       in_path : (p : Path) (e : Extent) → Contains P p → Each Q (path_names t d p e s)
-      in_path p e a = each_cond Q (has_alias s.decls.items) (flat_map (λ x. alias_names t d p e x.kind) s.decls.items) (first_names t d p e s)
+      in_path p e a = each_cond Q (has_alias s.decls.items) (flat_map (λ x. alias_names t d p e x.kind) s.decls.items)
+          (first_names t d p e s)
           (each_flat Q (λ x. alias_names t d p e x.kind) s.decls.items (λ x g. in_alias p e x.kind a (λ q k. table_path s x q here g k)))
           (in_first p e a)
 
@@ -320,8 +344,10 @@ module _ (t : Tables) (roots : List Demand) where
     symbol = Contains-append_left (flat_map demand_ids roots) (flat_map symbol_ids t.symbols) d.symbol
         (contains_flat_map demand_ids roots d d.symbol h (Contains_first d.symbol (d.referrer ∷ [])));
     referrer = Contains-append_left (flat_map demand_ids roots) (flat_map symbol_ids t.symbols) d.referrer
-        (contains_flat_map demand_ids roots d d.referrer h (Contains_later d.symbol (d.referrer ∷ []) d.referrer (Contains_first d.referrer [])));
-    asked = go d.asked (λ p k. path_inside p (Contains-append_left (flat_map (λ x. asked_paths x.asked) roots) (flat_map symbol_paths t.symbols) p
+        (contains_flat_map demand_ids roots d d.referrer h
+        (Contains_later d.symbol (d.referrer ∷ []) d.referrer (Contains_first d.referrer [])));
+    asked = go d.asked
+        (λ p k. path_inside p (Contains-append_left (flat_map (λ x. asked_paths x.asked) roots) (flat_map symbol_paths t.symbols) p
         (contains_flat_map (λ x. asked_paths x.asked) roots d p h k)));
   }
     where
@@ -354,7 +380,8 @@ module _ (t : Tables) (roots : List Demand) where
       (contains_map (λ a. record { symbol = d.symbol; asked = a; referrer = d.referrer }) (asks t roots) d.asked (in_asks d.asked i.asked)))
 
   -- no more demands are asked for than there are
-  pub few_asked : (asked : List Demand) → ((d : Demand) → Contains asked d → Chained t roots d) → IsDistinct alike asked → length asked ≤ limit t roots
+  pub few_asked : (asked : List Demand) → ((d : Demand) → Contains asked d → Chained t roots d) → IsDistinct alike asked →
+      length asked ≤ limit t roots
   unfolding limit
   few_asked asked chained distinct = length-le_from_is_member alike_laws asked (universe t roots) distinct
       (λ q h. go q (chosen (alike q) asked h))

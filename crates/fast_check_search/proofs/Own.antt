@@ -13,10 +13,13 @@ use Rattle.fast_check_name_demands.specs.demands.symbol_demands.declared.demand.
 use Rattle.fast_check_name_demands.specs.demands.Demands.{Demand, Asked, by_reference, as_child, by_path}
 use Rattle.fast_check_name_demands.specs.demands.Decls.{binds, is_implementation, is_function}
 use Rattle.fast_check_name_demands.specs.demands.Rules.{each_of}
-use Rattle.fast_check_name_demands.specs.demands.Yields.{decl_ranges, is_within, outside, expando_ranges, decl_yields, symbol_ranges, asked_ranges, ranges, symbol_implementations, asked_implementations, implementations}
+use Rattle.fast_check_name_demands.specs.demands.Yields.{decl_ranges, is_within, outside, expando_ranges, decl_yields, symbol_ranges}
+use Rattle.fast_check_name_demands.specs.demands.Yields.{asked_ranges, ranges, symbol_implementations, asked_implementations}
+use Rattle.fast_check_name_demands.specs.demands.Yields.{implementations}
 use Rattle.fast_check_name_demands.specs.demands.Account.{IsYield}
 use Rattle.fast_check_search.specs.Turn.{AreTableRanges}
-use Rattle.fast_check_search.proofs.Each.{Contains_first, Contains_later, contains_map, contains_flat_map, Each, each_nil, each_append, each_cons, each_map, each_flat, each_cond, each_each_of}
+use Rattle.fast_check_search.proofs.Each.{Contains_first, Contains_later, contains_map, contains_flat_map, Each, each_nil, each_append}
+use Rattle.fast_check_search.proofs.Each.{each_cons, each_map, each_flat, each_cond, each_each_of}
 use Rattle.fast_check_search.proofs.Inside.{last_inside}
 
 each_filter : {X : Type 0} (P : X → Type 0) (test : X → Bool) (xs : List X) → Each P xs → Each P (filter test xs)
@@ -32,7 +35,8 @@ module _ (t : Tables) where
   Q = Contains (table_ranges t.symbols t.re_exports)
 
   own_decl : (s : Symbol) → Contains t.symbols s → Each (λ (x : SymbolDecl). Q x.range) s.decls.items
-  own_decl s h x g = Contains-append_left (flat_map (λ y. map (λ d. d.range) y.decls.items) t.symbols) (map (λ n. n.range) t.re_exports) x.range
+  own_decl s h x g = Contains-append_left (flat_map (λ y. map (λ d. d.range) y.decls.items) t.symbols)
+      (map (λ n. n.range) t.re_exports) x.range
       (contains_flat_map (λ y. map (λ d. d.range) y.decls.items) t.symbols s x.range h (contains_map (λ d. d.range) s.decls.items x g))
 
   own_all : (decls : List SymbolDecl) → Each (λ (x : SymbolDecl). Q x.range) decls → Each Q (decl_ranges decls)
@@ -42,14 +46,17 @@ module _ (t : Tables) where
   own_expandos r exports = each_flat Q (λ e. each_of (outside r) (symbol_of e.1 t.symbols)) exports
       (λ e _. each_each_of Q (outside r) (symbol_of e.1 t.symbols)
       (λ s u. own_all (filter (λ x. not (is_within r x.range)) s.decls.items)
-      (each_filter (λ (x : SymbolDecl). Q x.range) (λ x. not (is_within r x.range)) s.decls.items (own_decl s (last_inside (has_id e.1) t.symbols s u)))))
+      (each_filter (λ (x : SymbolDecl). Q x.range) (λ x. not (is_within r x.range)) s.decls.items
+      (own_decl s (last_inside (has_id e.1) t.symbols s u)))))
 
   own_symbol : (n : Namespace) (s : Symbol) → Contains t.symbols s → Each Q (symbol_ranges t n s)
   own_symbol n s h = each_cond Q s.is_private_member [] (flat_map (decl_yields t n s.exports) s.decls.items) (each_nil Q)
       (each_flat Q (decl_yields t n s.exports) s.decls.items
-      (λ x g. each_cond Q (binds x n) (x.range ∷ cond (is_function x && not (is_implementation x)) (expando_ranges t x.range s.exports) []) []
+      (λ x g. each_cond Q (binds x n)
+      (x.range ∷ cond (is_function x && not (is_implementation x)) (expando_ranges t x.range s.exports) []) []
       (each_cons Q x.range (cond (is_function x && not (is_implementation x)) (expando_ranges t x.range s.exports) []) (own_decl s h x g)
-      (each_cond Q (is_function x && not (is_implementation x)) (expando_ranges t x.range s.exports) [] (own_expandos x.range s.exports) (each_nil Q)))
+      (each_cond Q (is_function x && not (is_implementation x)) (expando_ranges t x.range s.exports) [] (own_expandos x.range s.exports)
+      (each_nil Q)))
       (each_nil Q)))
 
   own_asked : (a : Asked) (s : Symbol) → Contains t.symbols s → Each Q (asked_ranges t a s)
@@ -62,7 +69,8 @@ module _ (t : Tables) where
       (λ s e. own_asked d.asked s (last_inside (has_id d.symbol) t.symbols s e))
 
   own_implementing : (n : Namespace) (s : Symbol) → Contains t.symbols s → Each Q (symbol_implementations n s)
-  own_implementing n s h = each_cond Q s.is_private_member [] (decl_ranges (filter (λ x. binds x n && is_implementation x) s.decls.items)) (each_nil Q)
+  own_implementing n s h = each_cond Q s.is_private_member [] (decl_ranges (filter (λ x. binds x n && is_implementation x) s.decls.items))
+      (each_nil Q)
       (own_all (filter (λ x. binds x n && is_implementation x) s.decls.items)
       (each_filter (λ (x : SymbolDecl). Q x.range) (λ x. binds x n && is_implementation x) s.decls.items (own_decl s h)))
 
@@ -79,5 +87,6 @@ module _ (t : Tables) where
   pub own_found : (account : List Demand) (found : List SourceRange) → IsYield (ranges t) account found → AreTableRanges t found
   own_found account found y r h = let s = y.sound r h in own_ranges s.0 r s.2
 
-  pub own_found_implementations : (account : List Demand) (found : List SourceRange) → IsYield (implementations t) account found → AreTableRanges t found
+  pub own_found_implementations : (account : List Demand) (found : List SourceRange) → IsYield (implementations t) account found →
+      AreTableRanges t found
   own_found_implementations account found y r h = let s = y.sound r h in own_implementations s.0 r s.2

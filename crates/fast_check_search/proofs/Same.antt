@@ -61,7 +61,8 @@ pub same_is : (d e : Demand) → same d e ≡ true → d ≡ e
 same_is d e h =
     let t = and_parts (same_symbol d.symbol e.symbol) (same_asked d.asked e.asked && same_symbol d.referrer e.referrer) h in
     let u = and_parts (same_asked d.asked e.asked) (same_symbol d.referrer e.referrer) t.1 in
-    made d.symbol.0 e.symbol.0 d.asked e.asked d.referrer.0 e.referrer.0 (eqb-true d.symbol.0 e.symbol.0 t.0) (same_asks d.asked e.asked u.0)
+    made d.symbol.0 e.symbol.0 d.asked e.asked d.referrer.0 e.referrer.0 (eqb-true d.symbol.0 e.symbol.0 t.0)
+    (same_asks d.asked e.asked u.0)
     (eqb-true d.referrer.0 e.referrer.0 u.1)
 
 namespace_itself : (n : Namespace) → same_namespace n n ≡ true

@@ -1,13 +1,14 @@
 -- Inner: no contract of a public call cites what stands here.
--- All demands that a search may come to: of an id that the tables or the first demands mention, by such an id, and for what is
--- left of one of their paths, or one name of it.
+-- All demands that a search may come to: of an id that the tables or the first demands mention, by such an id, and for
+-- what is left of one of their paths, or one name of it.
 use Rattle.std.specs.Prelude.{ℕ, List, [], ◌∷◌, ◌++◌, map, length, Some, None, ⊤}
 use Rattle.std.specs.List.{flat_map, Contains}
 use Rattle.fast_check_names.specs.Names.{Path, path_of}
 use Rattle.fast_check_symbols.specs.declared.symbol_id.SymbolId.{SymbolId}
 use Rattle.fast_check_symbols.specs.declared.symbol.Symbol.{Symbol}
 use Rattle.fast_check_symbols.specs.declared.decl.SymbolDeclKind.{SymbolDeclKind}
-use Rattle.fast_check_symbols.specs.declared.decl.SymbolDeclKind.TheVariants.{Target, QualifiedTarget, FileRef, Definition}
+use Rattle.fast_check_symbols.specs.declared.decl.SymbolDeclKind.TheVariants.{Target, QualifiedTarget, FileRef}
+use Rattle.fast_check_symbols.specs.declared.decl.SymbolDeclKind.TheVariants.{Definition}
 use Rattle.fast_check_symbols.specs.declared.node.SymbolDep.{SymbolDep}
 use Rattle.fast_check_symbols.specs.declared.node.SymbolDep.TheVariants as deps
 use Rattle.fast_check_symbols.specs.Symbols.{mentioned_by}
@@ -69,7 +70,8 @@ abbrev pub both_extents : Path → List Asked
 both_extents p = by_path p Touched ∷ by_path p Whole ∷ []
 
 abbrev pub asks : Tables → List Demand → List Asked
-asks t roots = by_reference Value ∷ by_reference Type_ ∷ as_child Value ∷ as_child Type_ ∷ flat_map both_extents (paths t roots)
+asks t roots = by_reference Value ∷ by_reference Type_ ∷ as_child Value ∷ as_child Type_ ∷
+    flat_map both_extents (paths t roots)
 
 abbrev pub asks_of : SymbolId → SymbolId → List Asked → List Demand
 asks_of symbol referrer asked = map (λ a. record { symbol = symbol; asked = a; referrer = referrer }) asked

@@ -15,7 +15,8 @@ asked w = map demand_of w.demands.items
 
 -- the set has what tells the demands from others, and no demand is asked for twice
 pub record IsKept (w : Worklist) : Type 0 where
-  pub has : (k : SymbolDemand) → contains order.cmp-value.it w.done (key_of k) ≡ list_any (λ e. same (demand_of k) (essence e)) (asked w)
+  pub has : (k : SymbolDemand) → contains order.cmp-value.it w.done (key_of k) ≡ list_any
+      (λ e. same (demand_of k) (essence e)) (asked w)
   pub distinct : IsDistinct alike (asked w)
 
 -- what is new is of what was asked for

@@ -6,7 +6,8 @@ use Rattle.std.proofs.lemmas.Result.{IfOk-weaker}
 use Rattle.fast_check_syntax.specs.declared.tree.Tree.{Tree, Absent}
 use Rattle.fast_check_signatures.specs.declared.fault.Fault.{Fault}
 use Rattle.fast_check_signatures.specs.Seen.{Seen}
-use Rattle.fast_check_signatures.specs.Answers.{Answer, Adds, faultless, made, joined, settled, demanded, visited, with_tree, answer_to, answer_of}
+use Rattle.fast_check_signatures.specs.Answers.{Answer, Adds, faultless, made, joined, settled, demanded, visited, with_tree, answer_to}
+use Rattle.fast_check_signatures.specs.Answers.{answer_of}
 
 -- nothing is added
 pub adds_nothing : {A : Type 0} (given : A) (old : List Fault) → Adds (faultless given) given old old
@@ -22,7 +23,8 @@ pub adds_same : {A : Type 0} {a b : Answer A} {given : A} {old new : List Fault}
 adds_same e h = record { added = h.added; is = e ∙ h.is; faults = h.faults }
 
 -- what is made of what is given
-pub adds_made : {A B : Type 0} (f : A → B) {a : Answer A} {given : A} {old new : List Fault} → Adds a given old new → Adds (made f a) (f given) old new
+pub adds_made : {A B : Type 0} (f : A → B) {a : Answer A} {given : A} {old new : List Fault} → Adds a given old new →
+    Adds (made f a) (f given) old new
 adds_made f h = record { added = h.added; is = ap (made f) h.is; faults = h.faults }
 
 -- of two calls, the one after the other
@@ -39,7 +41,8 @@ pub adds_settled : {a : Answer (Option Tree)} {t : Tree} {old new : List Fault} 
 adds_settled h = adds_made (λ o. unwrap_or o Absent) h
 
 -- what has to stay: it does, or this is wrong besides
-pub adds_demanded : (fault : Fault) {a : Answer (Option Tree)} {t : Tree} {old new : List Fault} → Adds a (Some t) old new → Adds (demanded fault a) t old new
+pub adds_demanded : (fault : Fault) {a : Answer (Option Tree)} {t : Tree} {old new : List Fault} → Adds a (Some t) old new →
+    Adds (demanded fault a) t old new
 adds_demanded fault {t = t} h = record {
   added = h.added;
   is = ap (demanded fault) h.is ∙ (λ i. record { stays = t; faults = append-nil h.added i });
@@ -55,7 +58,8 @@ adds_missing fault {old = old} h = record {
 }
 
 -- a part of a node that stays, before the others
-pub adds_visited : {a : Answer (Option Tree)} {rest : Answer (Option (List Tree))} {t : Tree} {o : Option (List Tree)} {old mid new : List Fault} →
+pub adds_visited : {a : Answer (Option Tree)} {rest : Answer (Option (List Tree))} {t : Tree} {o : Option
+    (List Tree)} {old mid new : List Fault} →
     Adds a (Some t) old mid → Adds rest o mid new → Adds (visited a rest) (option_map (λ ts. t ∷ ts) o) old new
 adds_visited {old = old} g h = record {
   added = g.added ++ h.added;

@@ -22,19 +22,17 @@ use Rattle.fast_check_signatures.specs.declared.fault.Fault.{Fault}
 use Rattle.fast_check_signatures.specs.declared.fault.FaultKind.TheVariants.{MissingExplicitType, UnsupportedDefaultExportExpr}
 use Rattle.fast_check_signatures.specs.Functions.{return_type_missing}
 use Rattle.fast_check_signatures.specs.NewNodes.{function_body, arrow_body}
-use Rattle.fast_check_signatures.specs.Seen.{DeclaratorHead, DefaultHead, FunctionHead, ArrowHead, ClassHead, PropertyHead}
-use Rattle.fast_check_signatures.specs.Seen.{Seen, written, round, listed, declarator, default, function, typed_arrow, valued_arrow, class, property}
+use Rattle.fast_check_signatures.specs.Seen.{DeclaratorHead, DefaultHead, FunctionHead, ArrowHead, ClassHead, PropertyHead, Seen, written}
+use Rattle.fast_check_signatures.specs.Seen.{round, listed, declarator, default, function, typed_arrow, valued_arrow, class, property}
 use Rattle.fast_check_signatures.specs.Seen.{default_export, tested, faulty, refused, Seens, end, also, seens}
 use Rattle.fast_check_signatures.specs.Answers.{Answer, fault_at, made, joined, settled, unless_stays, demanded, before, visited, with_tree}
 use Rattle.fast_check_signatures.specs.Answers.{valued_declarator, signed_function, signed_arrow, kept_arrow, class_of, declared_property}
-use Rattle.fast_check_signatures.specs.Answers.{valued_property, class_answer, property_answer, default_export_answer}
-use Rattle.fast_check_signatures.specs.Answers.{round_answer, list_answer, declarator_answer, default_answer, function_answer, typed_arrow_answer}
-use Rattle.fast_check_signatures.specs.Answers.{valued_arrow_answer, tested_answer}
-use Rattle.fast_check_signatures.specs.Answers.{answer_to, parts_answer, items_answer, answer_of}
+use Rattle.fast_check_signatures.specs.Answers.{valued_property, class_answer, property_answer, default_export_answer, round_answer}
+use Rattle.fast_check_signatures.specs.Answers.{list_answer, declarator_answer, default_answer, function_answer, typed_arrow_answer}
+use Rattle.fast_check_signatures.specs.Answers.{valued_arrow_answer, tested_answer, answer_to, parts_answer, items_answer, answer_of}
 use Rattle.fast_check_signatures.proofs.NewNodesMoved.{function_body_moved, arrow_body_moved}
-use Rattle.fast_check_signatures.proofs.MovedParts.{moved_declarator, moved_default, moved_function, moved_arrow, moved_class, moved_property}
-use Rattle.fast_check_signatures.proofs.MovedParts.{moved_seen, moved_seens}
-use Rattle.fast_check_signatures.proofs.MovedParts.{seens_moved, range_field_moved, tree_chosen}
+use Rattle.fast_check_signatures.proofs.MovedParts.{moved_declarator, moved_default, moved_function, moved_arrow, moved_class}
+use Rattle.fast_check_signatures.proofs.MovedParts.{moved_property, moved_seen, moved_seens, seens_moved, range_field_moved, tree_chosen}
 
 abbrev pub moved_fault : Moves → Fault → Fault
 moved_fault m f = record { kind = f.kind; range = moved_range m f.range }
@@ -71,11 +69,13 @@ module _ (m : Moves) where
   settled_moved : (a : Answer (Option Tree)) → settled (moved_answer m a) ≡ moved_by (moved m) m (settled a)
   settled_moved a = λ i. record { stays = or_absent_moved a.stays i; faults = map (moved_fault m) a.faults }
 
-  unless_moved : (o : Option Tree) (fault : Fault) → unless_stays (option_map (moved m) o) (moved_fault m fault) ≡ map (moved_fault m) (unless_stays o fault)
+  unless_moved : (o : Option Tree) (fault : Fault) → unless_stays (option_map (moved m) o) (moved_fault m fault) ≡ map (moved_fault m)
+      (unless_stays o fault)
   unless_moved None fault = refl
   unless_moved (Some t) fault = refl
 
-  demanded_moved : (fault : Fault) (a : Answer (Option Tree)) → demanded (moved_fault m fault) (moved_answer m a) ≡ moved_by (moved m) m (demanded fault a)
+  demanded_moved : (fault : Fault) (a : Answer (Option Tree)) → demanded (moved_fault m fault) (moved_answer m a) ≡ moved_by (moved m) m
+      (demanded fault a)
   demanded_moved fault a = λ i. record {
     stays = or_absent_moved a.stays i;
     faults = (ap (λ fs. map (moved_fault m) a.faults ++ fs) (unless_moved a.stays fault)
@@ -90,20 +90,24 @@ module _ (m : Moves) where
   before_moved : (o : Option Tree) (faults : List Fault) (rest : Answer (Option (List Tree))) →
       before (option_map (moved m) o) (map (moved_fault m) faults) (moved_parts m rest) ≡ moved_parts m (before o faults rest)
   before_moved None faults rest = refl
-  before_moved (Some t) faults rest = λ i. record { stays = next_moved t rest.stays i; faults = sym (map-append (moved_fault m) faults rest.faults) i }
+  before_moved (Some t) faults rest =
+      λ i. record { stays = next_moved t rest.stays i; faults = sym (map-append (moved_fault m) faults rest.faults) i }
 
-  with_tree_moved : (o : Option Tree) (ts : List Tree) → with_tree (option_map (moved m) o) (map (moved m) ts) ≡ map (moved m) (with_tree o ts)
+  with_tree_moved : (o : Option Tree) (ts : List Tree) → with_tree (option_map (moved m) o) (map (moved m) ts) ≡ map (moved m)
+      (with_tree o ts)
   with_tree_moved None ts = refl
   with_tree_moved (Some t) ts = refl
 
-  round_moved : (kind : Kind) (o : Option (List Tree)) → option_map (node kind) (option_map (map (moved m)) o) ≡ option_map (moved m) (option_map (node kind) o)
+  round_moved : (kind : Kind) (o : Option (List Tree)) → option_map (node kind) (option_map (map (moved m)) o) ≡ option_map (moved m)
+      (option_map (node kind) o)
   round_moved kind None = refl
   round_moved kind (Some ts) = ap Some (sym (node_moved m kind ts))
 
 -- ---- nodes
 
 module _ (m : Moves) (ok : Keeps m) where
-  valued_declarator_moved : (d : DeclaratorHead) (value : Tree) → moved m (valued_declarator d value) ≡ valued_declarator (moved_declarator m d) (moved m value)
+  valued_declarator_moved : (d : DeclaratorHead) (value : Tree) →
+      moved m (valued_declarator d value) ≡ valued_declarator (moved_declarator m d) (moved m value)
   valued_declarator_moved d value = simp (node_moved, range_moved, flag_moved, absent_moved)
 
   assign_pat_moved : (span : SourceRange) (left right : Tree) → moved m (assign_pat span left right) ≡
@@ -112,29 +116,34 @@ module _ (m : Moves) (ok : Keeps m) where
 
   function_node_moved : (span : SourceRange) (params : List Tree) (ctxt : SyntaxContext) (body type_params type : Tree) →
       moved m (function_node span (list params) (list []) ctxt body false false type_params type) ≡
-      function_node (moved_range m span) (list (map (moved m) params)) (list []) (moved_scope m ctxt) (moved m body) false false (moved m type_params)
+      function_node (moved_range m span) (list (map (moved m) params)) (list []) (moved_scope m ctxt) (moved m body) false false
+      (moved m type_params)
       (moved m type)
   function_node_moved span params ctxt body type_params type = simp (node_moved, range_moved, context_moved, flag_moved)
 
   signed_function_moved : (f : FunctionHead) (type : Tree) (params : List Tree) →
       signed_function (moved_function m f) (moved m type) (map (moved m) params) ≡ moved m (signed_function f type params)
   signed_function_moved f type params =
-      let body = tree_chosen m f.lacks_body f.lacks_body Absent Absent (function_body (moved m type)) (function_body type) refl (sym (absent_moved m))
+      let body = tree_chosen m f.lacks_body f.lacks_body Absent Absent (function_body (moved m type)) (function_body type) refl
+      (sym (absent_moved m))
       (function_body_moved m ok type) in
-      (λ i. function_node (moved_range m f.span) (list (map (moved m) params)) (list []) (moved_scope m f.ctxt) (body i) false false (moved m f.type_params)
+      (λ i. function_node (moved_range m f.span) (list (map (moved m) params)) (list []) (moved_scope m f.ctxt) (body i) false false
+      (moved m f.type_params)
       (moved m type))
       ∙ sym (function_node_moved f.span params f.ctxt (if f.lacks_body then Absent else function_body type) f.type_params type)
 
   arrow_expr_moved : (a : ArrowHead) (params : List Tree) (body : Tree) (is_async : Bool) (type : Tree) →
       moved m (arrow_expr a.span a.ctxt (list params) body is_async a.is_generator a.type_params type) ≡
-      arrow_expr (moved_range m a.span) (moved_scope m a.ctxt) (list (map (moved m) params)) (moved m body) is_async a.is_generator (moved m a.type_params)
+      arrow_expr (moved_range m a.span) (moved_scope m a.ctxt) (list (map (moved m) params)) (moved m body) is_async a.is_generator
+      (moved m a.type_params)
       (moved m type)
   arrow_expr_moved a params body is_async type = simp (node_moved, range_moved, context_moved, flag_moved)
 
   signed_arrow_moved : (a : ArrowHead) (type : Tree) (params : List Tree) →
       signed_arrow (moved_arrow m a) (moved m type) (map (moved m) params) ≡ moved m (signed_arrow a type params)
   signed_arrow_moved a type params =
-      (λ i. arrow_expr (moved_range m a.span) (moved_scope m a.ctxt) (list (map (moved m) params)) (arrow_body_moved m ok type i) false a.is_generator
+      (λ i. arrow_expr (moved_range m a.span) (moved_scope m a.ctxt) (list (map (moved m) params))
+      (arrow_body_moved m ok type i) false a.is_generator
       (moved m a.type_params) (moved m type)) ∙ sym (arrow_expr_moved a params (arrow_body type) false type)
 
   kept_arrow_moved : (a : ArrowHead) (is_async : Bool) (value : Tree) (params : List Tree) →
@@ -147,10 +156,12 @@ module _ (m : Moves) (ok : Keeps m) where
       moved m (class_of c superclass members) ≡ class_of (moved_class m c) (moved m superclass) (map (moved m) members)
   class_of_moved c superclass members = simp (node_moved, range_moved, context_moved, flag_moved)
 
-  pub valued_property_moved : (p : PropertyHead) (value : Tree) → moved m (valued_property p value) ≡ valued_property (moved_property m p) (moved m value)
+  pub valued_property_moved : (p : PropertyHead) (value : Tree) →
+      moved m (valued_property p value) ≡ valued_property (moved_property m p) (moved m value)
   valued_property_moved p value = simp (node_moved, range_moved, flag_moved, absent_moved)
 
-  pub declared_property_moved : (p : PropertyHead) (type : Tree) → moved m (declared_property p type) ≡ declared_property (moved_property m p) (moved m type)
+  pub declared_property_moved : (p : PropertyHead) (type : Tree) →
+      moved m (declared_property p type) ≡ declared_property (moved_property m p) (moved m type)
   declared_property_moved p type = simp (node_moved, range_moved, flag_moved, absent_moved)
 
   export_default_expr_moved : (span : SourceRange) (value : Tree) →
@@ -159,7 +170,8 @@ module _ (m : Moves) (ok : Keeps m) where
 
   -- ---- answers
 
-  round_answer_moved : (kind : Kind) (a : Answer (Option (List Tree))) → round_answer kind (moved_parts m a) ≡ moved_answer m (round_answer kind a)
+  round_answer_moved : (kind : Kind) (a : Answer (Option (List Tree))) →
+      round_answer kind (moved_parts m a) ≡ moved_answer m (round_answer kind a)
   round_answer_moved kind a = made_moved m (option_map (node kind)) (option_map (node kind)) (option_map (map (moved m)))
       (option_map (moved m)) a (round_moved m kind a.stays)
 
@@ -176,7 +188,8 @@ module _ (m : Moves) (ok : Keeps m) where
       let make' : Tree → Option Tree = λ v. Some (valued_declarator (moved_declarator m d) v) in
       let place = range_field_moved m ok Ident-span _ (λ t. refl) d.ident in
       (λ i. made make' ((ap (λ p. demanded (fault_at MissingExplicitType p) (moved_answer m a)) place ∙ demanded_moved m fault a) i))
-      ∙ made_moved m make make' (moved m) (option_map (moved m)) (demanded fault a) (ap Some (sym (valued_declarator_moved d (demanded fault a).stays)))
+      ∙ made_moved m make make' (moved m) (option_map (moved m)) (demanded fault a)
+      (ap Some (sym (valued_declarator_moved d (demanded fault a).stays)))
 
   default_answer_moved : (d : DefaultHead) (a : Answer (Option Tree)) →
       default_answer (moved_default m d) (moved_answer m a) ≡ moved_answer m (default_answer d a)
@@ -185,7 +198,8 @@ module _ (m : Moves) (ok : Keeps m) where
       let make : Tree → Option Tree = λ v. Some (assign_pat d.span d.left v) in
       let make' : Tree → Option Tree = λ v. Some (assign_pat (moved_range m d.span) (moved m d.left) v) in
       ap (made make') (demanded_moved m fault a)
-      ∙ made_moved m make make' (moved m) (option_map (moved m)) (demanded fault a) (ap Some (sym (assign_pat_moved d.span d.left (demanded fault a).stays)))
+      ∙ made_moved m make make' (moved m) (option_map (moved m)) (demanded fault a)
+      (ap Some (sym (assign_pat_moved d.span d.left (demanded fault a).stays)))
 
   function_answer_moved : (f : FunctionHead) (a : Answer (Option Tree)) (b : Answer (List Tree)) →
       function_answer (moved_function m f) (moved_answer m a) (moved_items m b) ≡ moved_answer m (function_answer f a b)
@@ -193,7 +207,8 @@ module _ (m : Moves) (ok : Keeps m) where
       let make : Tree → List Tree → Option Tree = λ t ps. Some (signed_function f t ps) in
       let make' : Tree → List Tree → Option Tree = λ t ps. Some (signed_function (moved_function m f) t ps) in
       ap (λ type. joined make' type (moved_items m b)) (settled_moved m a)
-      ∙ joined_moved m make make' (moved m) (map (moved m)) (option_map (moved m)) (settled a) b (ap Some (signed_function_moved f (settled a).stays b.stays))
+      ∙ joined_moved m make make' (moved m) (map (moved m)) (option_map (moved m)) (settled a) b
+      (ap Some (signed_function_moved f (settled a).stays b.stays))
 
   typed_arrow_answer_moved : (h : ArrowHead) (a : Answer (Option Tree)) (b : Answer (List Tree)) →
       typed_arrow_answer (moved_arrow m h) (moved_answer m a) (moved_items m b) ≡ moved_answer m (typed_arrow_answer h a b)
@@ -201,7 +216,8 @@ module _ (m : Moves) (ok : Keeps m) where
       let make : Tree → List Tree → Option Tree = λ t ps. Some (signed_arrow h t ps) in
       let make' : Tree → List Tree → Option Tree = λ t ps. Some (signed_arrow (moved_arrow m h) t ps) in
       ap (λ type. joined make' type (moved_items m b)) (settled_moved m a)
-      ∙ joined_moved m make make' (moved m) (map (moved m)) (option_map (moved m)) (settled a) b (ap Some (signed_arrow_moved h (settled a).stays b.stays))
+      ∙ joined_moved m make make' (moved m) (map (moved m)) (option_map (moved m)) (settled a) b
+      (ap Some (signed_arrow_moved h (settled a).stays b.stays))
 
   valued_arrow_answer_moved : (h : ArrowHead) (is_async : Bool) (place : SourceRange) (a : Answer (Option Tree)) (b : Answer (List Tree)) →
       valued_arrow_answer (moved_arrow m h) is_async (moved_range m place) (moved_answer m a) (moved_items m b) ≡
@@ -220,7 +236,8 @@ module _ (m : Moves) (ok : Keeps m) where
       let make : Tree → List Tree → Option Tree = λ s ms. Some (class_of c s ms) in
       let make' : Tree → List Tree → Option Tree = λ s ms. Some (class_of (moved_class m c) s ms) in
       ap (λ superclass. joined make' superclass (moved_items m b)) (settled_moved m a)
-      ∙ joined_moved m make make' (moved m) (map (moved m)) (option_map (moved m)) (settled a) b (ap Some (sym (class_of_moved c (settled a).stays b.stays)))
+      ∙ joined_moved m make make' (moved m) (map (moved m)) (option_map (moved m)) (settled a) b
+      (ap Some (sym (class_of_moved c (settled a).stays b.stays)))
 
   property_answer_moved : (p : PropertyHead) (a : Answer (Option Tree)) →
       property_answer (moved_property m p) (moved_answer m a) ≡ moved_answer m (property_answer p a)
@@ -230,7 +247,8 @@ module _ (m : Moves) (ok : Keeps m) where
       let make' : Tree → Option Tree = λ v. Some (valued_property (moved_property m p) v) in
       (λ i. made make' ((ap (λ q. demanded (fault_at MissingExplicitType q) (moved_answer m a)) (range_of_node_moved m ok p.key)
       ∙ demanded_moved m fault a) i))
-      ∙ made_moved m make make' (moved m) (option_map (moved m)) (demanded fault a) (ap Some (sym (valued_property_moved p (demanded fault a).stays)))
+      ∙ made_moved m make make' (moved m) (option_map (moved m)) (demanded fault a)
+      (ap Some (sym (valued_property_moved p (demanded fault a).stays)))
 
   default_export_answer_moved : (span : SourceRange) (a : Answer (Option Tree)) →
       default_export_answer (moved_range m span) (moved_answer m a) ≡ moved_answer m (default_export_answer span a)
@@ -259,8 +277,10 @@ module _ (m : Moves) (ok : Keeps m) where
     answer_to_moved (written t) = refl
     answer_to_moved (round kind ss) = ap (round_answer kind) (parts_moved ss) ∙ round_answer_moved kind (parts_answer ss)
     answer_to_moved (listed ss) = ap list_answer (items_moved ss) ∙ list_answer_moved (items_answer ss)
-    answer_to_moved (declarator d value) = ap (declarator_answer (moved_declarator m d)) (answer_to_moved value) ∙ declarator_answer_moved d (answer_to value)
-    answer_to_moved (default d value) = ap (default_answer (moved_default m d)) (answer_to_moved value) ∙ default_answer_moved d (answer_to value)
+    answer_to_moved (declarator d value) = ap (declarator_answer (moved_declarator m d)) (answer_to_moved value) ∙
+        declarator_answer_moved d (answer_to value)
+    answer_to_moved (default d value) = ap (default_answer (moved_default m d)) (answer_to_moved value) ∙
+        default_answer_moved d (answer_to value)
     answer_to_moved (function f type params) =
         (λ i. function_answer (moved_function m f) (answer_to_moved type i) (items_moved params i))
         ∙ function_answer_moved f (answer_to type) (items_answer params)
@@ -273,12 +293,14 @@ module _ (m : Moves) (ok : Keeps m) where
     answer_to_moved (class c superclass members) =
         (λ i. class_answer (moved_class m c) (answer_to_moved superclass i) (items_moved members i))
         ∙ class_answer_moved c (answer_to superclass) (items_answer members)
-    answer_to_moved (property p value) = ap (property_answer (moved_property m p)) (answer_to_moved value) ∙ property_answer_moved p (answer_to value)
+    answer_to_moved (property p value) = ap (property_answer (moved_property m p)) (answer_to_moved value) ∙
+        property_answer_moved p (answer_to value)
     answer_to_moved (default_export span value) =
         ap (default_export_answer (moved_range m span)) (answer_to_moved value) ∙ default_export_answer_moved span (answer_to value)
     answer_to_moved (tested place value) =
         ap (tested_answer (option_map (moved_range m) place)) (answer_to_moved value) ∙ tested_answer_moved place (answer_to value)
-    answer_to_moved (faulty kind place) = λ i. record { stays = Some (sym (absent_moved m) i); faults = fault_at kind (moved_range m place) ∷ [] }
+    answer_to_moved (faulty kind place) =
+        λ i. record { stays = Some (sym (absent_moved m) i); faults = fault_at kind (moved_range m place) ∷ [] }
     answer_to_moved refused = refl
 
     parts_moved : (ss : Seens) → parts_answer (moved_seens m ss) ≡ moved_parts m (parts_answer ss)

@@ -1,5 +1,6 @@
 -- The equation of `expr_seen`.
-use Rattle.std.specs.Prelude.{◌≡◌, ℕ, zero, suc, ◌<◌, Bool, true, false, Option, Some, None, List, [], ◌∷◌, map, slice_get, refl, if◌then◌else◌}
+use Rattle.std.specs.Prelude.{◌≡◌, ℕ, zero, suc, ◌<◌, Bool, true, false, Option, Some, None, List, [], ◌∷◌, map, slice_get, refl}
+use Rattle.std.specs.Prelude.{if◌then◌else◌}
 use Rattle.std.specs.List.{list_all}
 use Rattle.std.proofs.Common.{arith, ap, ap₂, ◌∙◌, sym, subst}
 use Rattle.fast_check_syntax.specs.declared.kind.Kind.{Kind}
@@ -12,8 +13,8 @@ use Rattle.fast_check_syntax.specs.Descent.{by_descent_is, given, given_lower}
 use Rattle.fast_check_syntax.specs.Height.{height, height_part, height_at_most, height_one}
 use Rattle.fast_check_class_forms.specs.Functions.{Function-span, Function-params, Param-pat}
 use Rattle.fast_check_expression_forms.specs.Expressions.{ArrowExpr-span, ArrowExpr-params, ArrowExpr-body, ArrowExpr-return_type}
-use Rattle.fast_check_expression_forms.specs.Patterns.{ArrayPat-span, ArrayPat-type_ann, ObjectPat-span, ObjectPat-type_ann, AssignPat-span, AssignPat-left}
-use Rattle.fast_check_expression_forms.specs.Patterns.{AssignPat-right}
+use Rattle.fast_check_expression_forms.specs.Patterns.{ArrayPat-span, ArrayPat-type_ann, ObjectPat-span, ObjectPat-type_ann, AssignPat-span}
+use Rattle.fast_check_expression_forms.specs.Patterns.{AssignPat-left, AssignPat-right}
 use Rattle.fast_check_program_forms.specs.Names.{Ident-span, BindingIdent-id, BindingIdent-type_ann}
 use Rattle.fast_check_helpers.specs.declared.literal_type.DeclMutabilityKind.TheVariants.{Mutable}
 use Rattle.fast_check_helpers.specs.Builders.{never_value}
@@ -26,12 +27,12 @@ use Rattle.fast_check_signatures.specs.declared.rules.Slot.TheVariants as slots
 use Rattle.fast_check_signatures.specs.Bindings.{Bindings}
 use Rattle.fast_check_signatures.specs.Seen.{Seen, round, refused, seens}
 use Rattle.fast_check_signatures.specs.NewNodes.{never_array}
-use Rattle.fast_check_signatures.specs.Parameters.{Look, default_seen, emptied_array, emptied_object, by_shown, ident_default_seen, pattern_default_seen}
-use Rattle.fast_check_signatures.specs.Parameters.{assign_by_left, pat_by_kind, pat_seen, pats_seen}
-use Rattle.fast_check_signatures.specs.Functions.{or_own, signature_seen, return_type_seen, params_seen, function_seen, valued_arrow_seen, by_value}
-use Rattle.fast_check_signatures.specs.Functions.{arrow_by_type, arrow_seen}
-use Rattle.fast_check_signatures.specs.Expressions.{is_known, Rule, whole, parted, slotted, arrow, rule, expr_rule, slot_seen, slots_seen, by_rule, expr_form}
-use Rattle.fast_check_signatures.specs.Expressions.{expr_seen}
+use Rattle.fast_check_signatures.specs.Parameters.{Look, default_seen, emptied_array, emptied_object, by_shown, ident_default_seen}
+use Rattle.fast_check_signatures.specs.Parameters.{pattern_default_seen, assign_by_left, pat_by_kind, pat_seen, pats_seen}
+use Rattle.fast_check_signatures.specs.Functions.{or_own, signature_seen, return_type_seen, params_seen, function_seen, valued_arrow_seen}
+use Rattle.fast_check_signatures.specs.Functions.{by_value, arrow_by_type, arrow_seen}
+use Rattle.fast_check_signatures.specs.Expressions.{is_known, Rule, whole, parted, slotted, arrow, rule, expr_rule, slot_seen, slots_seen}
+use Rattle.fast_check_signatures.specs.Expressions.{by_rule, expr_form, expr_seen}
 
 -- ---- trees that are lower than a number says
 
@@ -46,7 +47,8 @@ parts_below : (limit : ℕ) (t : Tree) → height t < suc limit → Below limit 
 parts_below limit t h = all_below limit (parts t) (λ i u e. omega (arith, height_one t i u e, h))
 
 -- a field is lower than a number where its tree is at most as high
-field_below : (field : Tree → Tree) (n : ℕ) → ((t : Tree) → field t ≡ part n t) → (limit : ℕ) (t : Tree) → height t < limit → height (field t) < limit
+field_below : (field : Tree → Tree) (n : ℕ) → ((t : Tree) → field t ≡ part n t) → (limit : ℕ) (t : Tree) → height t < limit →
+    height (field t) < limit
 field_below field n reads limit t h = subst (λ u. height u < limit) (sym (reads t)) (omega (arith, height_at_most t n, h))
 
 patterns_below : (limit : ℕ) (params : List Tree) → Below limit params → Below limit (map (λ p. Param-pat p) params)
@@ -74,7 +76,8 @@ module _ (bindings : Bindings) (look other : Look) (limit : ℕ) (same : (u : Tr
   pattern_default_same type place emptied never pat h =
       choose (is_absent type) _ _ _ _ (λ e. ap (λ f. default_seen (AssignPat-span pat) place emptied (f None)) (default_same pat h)) refl
 
-  ident_default_same : (b : Bool) (pat : Tree) → height pat < limit → ident_default_seen bindings look b pat ≡ ident_default_seen bindings other b pat
+  ident_default_same : (b : Bool) (pat : Tree) → height pat < limit →
+      ident_default_seen bindings look b pat ≡ ident_default_seen bindings other b pat
   ident_default_same b pat h =
       choose (is_absent (BindingIdent-type_ann (AssignPat-left pat))) _ _ _ _
       (λ e. by_shown_same b pat h (inferred_type Mutable bindings.unresolved (AssignPat-right pat))) refl
@@ -83,12 +86,15 @@ module _ (bindings : Bindings) (look other : Look) (limit : ℕ) (same : (u : Tr
       assign_by_left bindings look kind b pat ≡ assign_by_left bindings other kind b pat
   by_left_same kinds.BindingIdent b pat h = ident_default_same b pat h
   by_left_same kinds.ArrayPat b pat h =
-      let left = AssignPat-left pat in pattern_default_same (ArrayPat-type_ann left) (ArrayPat-span left) (emptied_array left) never_array pat h
+      let left = AssignPat-left pat in pattern_default_same (ArrayPat-type_ann left) (ArrayPat-span left)
+      (emptied_array left) never_array pat h
   by_left_same kinds.ObjectPat b pat h =
-      let left = AssignPat-left pat in pattern_default_same (ObjectPat-type_ann left) (ObjectPat-span left) (emptied_object left) never_value pat h
+      let left = AssignPat-left pat in pattern_default_same (ObjectPat-type_ann left) (ObjectPat-span left)
+      (emptied_object left) never_value pat h
   by_left_same _ b pat h = refl
 
-  by_kind_same : (kind : Kind) (b : Bool) (pat : Tree) → height pat < limit → pat_by_kind bindings look kind b pat ≡ pat_by_kind bindings other kind b pat
+  by_kind_same : (kind : Kind) (b : Bool) (pat : Tree) → height pat < limit →
+      pat_by_kind bindings look kind b pat ≡ pat_by_kind bindings other kind b pat
   by_kind_same kinds.AssignPat b pat h = by_left_same (kind_of (AssignPat-left pat)) b pat h
   by_kind_same _ b pat h = refl
 
@@ -106,7 +112,8 @@ module _ (bindings : Bindings) (look other : Look) (limit : ℕ) (same : (u : Tr
       ap (λ pats. signature_seen t (return_type_seen bindings.unresolved kind place t) (params_seen params pats))
       (pats_same (map (λ p. Param-pat p) params) (patterns_below limit params below))
 
-  by_value_same : (t : Tree) (place : SourceRange) (pats : List Seen) → look (ArrowExpr-body t) ≡ other (ArrowExpr-body t) → (shown : Option Tree) →
+  by_value_same : (t : Tree) (place : SourceRange) (pats : List Seen) → look (ArrowExpr-body t) ≡ other (ArrowExpr-body t) →
+      (shown : Option Tree) →
       by_value bindings look t place pats shown ≡ by_value bindings other t place pats shown
   by_value_same t place pats e (Some type) = refl
   by_value_same t place pats e None = ap (λ f. valued_arrow_seen t place pats (f None)) e
@@ -172,11 +179,13 @@ module _ (bindings : Bindings) (t : Tree) where
       ap (λ ss. round kind (seens ss)) (all_same bindings look seen (height t) lower (parts t) (parts_below (height t) t (omega arith)))
   rule_same (slotted row) kind place e = ap (λ ss. round kind (seens ss)) (slots_same (no_leaf (slotted row) (λ p. cc) e) row 0 place)
   rule_same arrow kind place e =
-      arrow_same bindings look seen (height t) lower place t (omega arith) (in_field ArrowExpr-body _ (λ t. refl) (no_leaf arrow (λ p. cc) e))
+      arrow_same bindings look seen (height t) lower place t (omega arith)
+      (in_field ArrowExpr-body _ (λ t. refl) (no_leaf arrow (λ p. cc) e))
   rule_same _ kind place e = refl
 
 pub expr_seen_is : (bindings : Bindings) (t : Tree) (place : Option SourceRange) →
     expr_seen bindings t place ≡ expr_form bindings t (expr_seen bindings) place
 unfolding expr_seen
 expr_seen_is bindings t place =
-    ap (λ f. f place) (by_descent_is (λ place. refused) (expr_form bindings) t) ∙ rule_same bindings t (expr_rule bindings t) (kind_of t) place refl
+    ap (λ f. f place) (by_descent_is (λ place. refused) (expr_form bindings) t) ∙
+    rule_same bindings t (expr_rule bindings t) (kind_of t) place refl

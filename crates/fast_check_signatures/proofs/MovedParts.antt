@@ -8,8 +8,8 @@ use Rattle.fast_check_syntax.specs.Shape.{kind_of, part, parts, range_of, contex
 use Rattle.fast_check_syntax.specs.Moves.{Moves, Keeps, moved, moved_range}
 use Rattle.fast_check_syntax.proofs.Moved.{kind_of_moved, part_moved, parts_moved, range_of_moved}
 use Rattle.fast_check_helpers.proofs.GlobalCallsMoved.{moved_scope, context_of_moved}
-use Rattle.fast_check_signatures.specs.Seen.{DeclaratorHead, DefaultHead, FunctionHead, ArrowHead, ClassHead, PropertyHead}
-use Rattle.fast_check_signatures.specs.Seen.{Seen, written, round, listed, declarator, default, function, typed_arrow, valued_arrow, class, property}
+use Rattle.fast_check_signatures.specs.Seen.{DeclaratorHead, DefaultHead, FunctionHead, ArrowHead, ClassHead, PropertyHead, Seen, written}
+use Rattle.fast_check_signatures.specs.Seen.{round, listed, declarator, default, function, typed_arrow, valued_arrow, class, property}
 use Rattle.fast_check_signatures.specs.Seen.{default_export, tested, faulty, refused, Seens, end, also, seens}
 
 abbrev pub moved_declarator : Moves → DeclaratorHead → DeclaratorHead
@@ -80,7 +80,8 @@ module _ (m : Moves) where
   pub field_moved : (field : Tree → Tree) (n : ℕ) → ((t : Tree) → field t ≡ part n t) → (t : Tree) → field (moved m t) ≡ moved m (field t)
   field_moved field n reads t = reads (moved m t) ∙ (part_moved m n t ∙ ap (moved m) (sym (reads t)))
 
-  pub kind_moved_at : (field : Tree → Tree) (n : ℕ) → ((t : Tree) → field t ≡ part n t) → (t : Tree) → kind_of (field (moved m t)) ≡ kind_of (field t)
+  pub kind_moved_at : (field : Tree → Tree) (n : ℕ) → ((t : Tree) → field t ≡ part n t) → (t : Tree) →
+      kind_of (field (moved m t)) ≡ kind_of (field t)
   kind_moved_at field n reads t = ap kind_of (field_moved field n reads t) ∙ kind_of_moved m (field t)
 
   pub items_moved_at : (field : Tree → Tree) (n : ℕ) → ((t : Tree) → field t ≡ part n t) → (t : Tree) →

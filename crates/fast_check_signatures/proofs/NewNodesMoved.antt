@@ -7,8 +7,8 @@ use Rattle.fast_check_syntax.specs.declared.source.SyntaxContext.{SyntaxContext}
 use Rattle.fast_check_syntax.specs.declared.tree.Tree.{Tree}
 use Rattle.fast_check_syntax.specs.Shape.{◌is◌, parts, none_range, has_word}
 use Rattle.fast_check_syntax.specs.Moves.{Moves, Keeps, moved}
-use Rattle.fast_check_syntax.proofs.Moved.{node_moved, range_moved, none_moved, absent_moved, word_moved, flag_moved, text_moved, context_moved}
-use Rattle.fast_check_syntax.proofs.Moved.{kind_of_moved, part_moved, is_absent_moved, has_word_moved, range_of_moved}
+use Rattle.fast_check_syntax.proofs.Moved.{node_moved, range_moved, none_moved, absent_moved, word_moved, flag_moved, text_moved}
+use Rattle.fast_check_syntax.proofs.Moved.{context_moved, kind_of_moved, part_moved, is_absent_moved, has_word_moved, range_of_moved}
 use Rattle.fast_check_statement_forms.specs.Statements.{return_stmt}
 use Rattle.fast_check_type_forms.specs.Types.{TsKeywordType-kind, TsTypeRef-type_name, TsTypeRef-type_params}
 use Rattle.fast_check_type_forms.specs.TypeParams.{TsTypeAnn-type_ann, TsTypeParamInstantiation-params}
@@ -17,11 +17,13 @@ use Rattle.fast_check_helpers.specs.GlobalCalls.{is_global}
 use Rattle.fast_check_helpers.proofs.BuildersMoved.{ts_keyword_type_moved}
 use Rattle.fast_check_helpers.proofs.GlobalCallsMoved.{moved_scope, is_global_moved}
 use Rattle.fast_check_signatures.proofs.MovedParts.{field_moved, items_moved_at}
-use Rattle.fast_check_signatures.specs.NewNodes.{never_array, never_in_parens, never_array_in_parens, hash_private, empty_object_pat, new_block, returns_value, function_body, arrow_body}
-use Rattle.fast_check_signatures.specs.NewNodes.{promise_of, is_one, is_promise, promised, void_or_promise_void, or_undefined, param_ident, any_param}
+use Rattle.fast_check_signatures.specs.NewNodes.{never_array, never_in_parens, never_array_in_parens, hash_private, empty_object_pat}
+use Rattle.fast_check_signatures.specs.NewNodes.{new_block, returns_value, function_body, arrow_body, promise_of, is_one, is_promise}
+use Rattle.fast_check_signatures.specs.NewNodes.{promised, void_or_promise_void, or_undefined, param_ident, any_param}
 
 -- a choice of trees
-pub either_moved : (m : Moves) (b : Bool) (x x' y y' : Tree) → x ≡ moved m x' → y ≡ moved m y' → (if b then x else y) ≡ moved m (if b then x' else y')
+pub either_moved : (m : Moves) (b : Bool) (x x' y y' : Tree) → x ≡ moved m x' → y ≡ moved m y' →
+    (if b then x else y) ≡ moved m (if b then x' else y')
 either_moved m true x x' y y' p q = p
 either_moved m false x x' y y' p q = q
 
@@ -52,7 +54,8 @@ module _ (m : Moves) (ok : Keeps m) where
   never_array_in_parens_moved = simp (node_moved, range_moved, none_moved m ok, word_moved)
 
   pub hash_private_moved : moved m hash_private ≡ hash_private
-  hash_private_moved = simp (node_moved, range_moved, none_moved m ok, context_moved, text_moved, word_moved, flag_moved, absent_moved, ok.scope_zero)
+  hash_private_moved =
+      simp (node_moved, range_moved, none_moved m ok, context_moved, text_moved, word_moved, flag_moved, absent_moved, ok.scope_zero)
 
   pub empty_object_pat_moved : moved m empty_object_pat ≡ empty_object_pat
   empty_object_pat_moved = simp (node_moved, range_moved, none_moved m ok)
@@ -89,13 +92,15 @@ module _ (m : Moves) (ok : Keeps m) where
       ∙ items_moved_at m TsTypeParamInstantiation-params _ (λ t. refl) (TsTypeRef-type_params t))
       ∙ one_moved m (parts (TsTypeParamInstantiation-params (TsTypeRef-type_params t)))))
 
-  pub promised_moved : (u : SyntaxContext) (is_async : Bool) (t : Tree) → promised (moved_scope m u) is_async (moved m t) ≡ moved m (promised u is_async t)
+  pub promised_moved : (u : SyntaxContext) (is_async : Bool) (t : Tree) →
+      promised (moved_scope m u) is_async (moved m t) ≡ moved m (promised u is_async t)
   promised_moved u is_async t =
       ap (λ b. if is_async then (if b then moved m t else promise_of (moved m t)) else moved m t) (is_promise_moved u t)
       ∙ either_moved m is_async _ _ _ _ (either_moved m (is_promise u t) _ _ _ _ refl (sym (promise_of_moved t))) refl
 
   pub void_or_promise_void_moved : (is_async : Bool) → moved m (void_or_promise_void is_async) ≡ void_or_promise_void is_async
-  void_or_promise_void_moved true = promise_of_moved (ts_keyword_type TsVoidKeyword) ∙ ap promise_of (ts_keyword_type_moved m ok TsVoidKeyword)
+  void_or_promise_void_moved true = promise_of_moved (ts_keyword_type TsVoidKeyword) ∙
+      ap promise_of (ts_keyword_type_moved m ok TsVoidKeyword)
   void_or_promise_void_moved false = ts_keyword_type_moved m ok TsVoidKeyword
 
   pub or_undefined_moved : (t : Tree) → or_undefined (moved m t) ≡ moved m (or_undefined t)
@@ -105,5 +110,7 @@ module _ (m : Moves) (ok : Keeps m) where
   param_ident_moved place optional = simp (node_moved, range_moved, none_moved m ok, context_moved, flag_moved, text_moved, ok.scope_zero)
 
   pub any_param_moved : (place : ℕ) (is_rest : Bool) → moved m (any_param place is_rest) ≡ any_param place is_rest
-  any_param_moved place true = simp (node_moved, range_moved, none_moved m ok, context_moved, flag_moved, text_moved, word_moved, absent_moved, ok.scope_zero)
-  any_param_moved place false = simp (node_moved, range_moved, none_moved m ok, context_moved, flag_moved, text_moved, word_moved, ok.scope_zero)
+  any_param_moved place true =
+      simp (node_moved, range_moved, none_moved m ok, context_moved, flag_moved, text_moved, word_moved, absent_moved, ok.scope_zero)
+  any_param_moved place false =
+      simp (node_moved, range_moved, none_moved m ok, context_moved, flag_moved, text_moved, word_moved, ok.scope_zero)

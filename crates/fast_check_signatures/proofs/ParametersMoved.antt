@@ -36,7 +36,17 @@ module _ (m : Moves) (ok : Keeps m) where
 
   with_optional_moved : (optional : Bool) (id : Tree) → with_optional optional (moved m id) ≡ moved m (with_optional optional id)
   with_optional_moved optional id =
-      simp (node_moved, range_moved, context_moved, text_moved, flag_moved, part_moved, range_of_moved m ok, context_of_moved m ok, text_of_moved)
+      simp (
+        node_moved,
+        range_moved,
+        context_moved,
+        text_moved,
+        flag_moved,
+        part_moved,
+        range_of_moved m ok,
+        context_of_moved m ok,
+        text_of_moved,
+      )
 
   pub without_default_moved : (is_optional : Bool) (id type : Tree) →
       without_default is_optional (moved m id) (moved m type) ≡ moved m (without_default is_optional id type)

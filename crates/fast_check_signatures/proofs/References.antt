@@ -18,7 +18,8 @@ module _ (t : Tree) where
   abbrev look : Tree → Bool
   look = given false reference_form t
 
-  same_property : kind_of t ≡ kinds.MemberExpr → (k : Kind) → property_of_kind k (MemberExpr-prop t) look ≡ property_of_kind k (MemberExpr-prop t) is_reference
+  same_property : kind_of t ≡ kinds.MemberExpr → (k : Kind) → property_of_kind k (MemberExpr-prop t) look ≡ property_of_kind k
+      (MemberExpr-prop t) is_reference
   unfolding is_reference
   same_property e kinds.ComputedPropName = given_inner false reference_form t _ _ (λ l. cc)
   same_property e _ = refl
@@ -35,13 +36,15 @@ is_reference_is t = by_descent_is false reference_form t ∙ same_kind t (kind_o
 
 module _ (m : Moves) (look look' : Tree → Bool) (at : (u : Tree) → look' (moved m u) ≡ look u) where
   property_moved : (k : Kind) (prop : Tree) → property_of_kind k (moved m prop) look' ≡ property_of_kind k prop look
-  property_moved kinds.ComputedPropName prop = ap look' (field_moved m ComputedPropName-expr _ (λ t. refl) prop) ∙ at (ComputedPropName-expr prop)
+  property_moved kinds.ComputedPropName prop = ap look' (field_moved m ComputedPropName-expr _ (λ t. refl) prop) ∙
+      at (ComputedPropName-expr prop)
   property_moved _ prop = refl
 
   kind_moved : (k : Kind) (t : Tree) → reference_of_kind k (moved m t) look' ≡ reference_of_kind k t look
   kind_moved kinds.MemberExpr t =
       ap₂ ◌&&◌ (ap look' (field_moved m MemberExpr-obj _ (λ t. refl) t) ∙ at (MemberExpr-obj t))
-      (ap₂ (λ k prop. property_of_kind k prop look') (kind_moved_at m MemberExpr-prop _ (λ t. refl) t) (field_moved m MemberExpr-prop _ (λ t. refl) t)
+      (ap₂ (λ k prop. property_of_kind k prop look') (kind_moved_at m MemberExpr-prop _ (λ t. refl) t)
+      (field_moved m MemberExpr-prop _ (λ t. refl) t)
       ∙ property_moved (kind_of (MemberExpr-prop t)) (MemberExpr-prop t))
   kind_moved _ t = refl
 
@@ -50,4 +53,5 @@ module _ (m : Moves) (look look' : Tree → Bool) (at : (u : Tree) → look' (mo
 
 pub is_reference_moved : (m : Moves) (t : Tree) → is_reference (moved m t) ≡ is_reference t
 unfolding is_reference
-is_reference_moved m = by_descent_moved m (λ b b'. b' ≡ b) false false refl reference_form reference_form (λ t look look' at. form_moved m look look' at t)
+is_reference_moved m = by_descent_moved m (λ b b'. b' ≡ b) false false refl reference_form reference_form
+    (λ t look look' at. form_moved m look look' at t)

@@ -6,8 +6,8 @@ use Rattle.fast_check_syntax.specs.declared.kind.Kind.TheVariants as kinds
 use Rattle.fast_check_syntax.specs.declared.tree.Tree.{Tree}
 use Rattle.fast_check_syntax.specs.Shape.{kind_of}
 use Rattle.fast_check_signatures.specs.Bindings.{Bindings}
-use Rattle.fast_check_signatures.specs.Expressions.{is_among, is_plain, is_compound, freezes, makes_plain, known_by_kind, other_kinds, is_refused}
-use Rattle.fast_check_signatures.specs.Expressions.{Rule, not_at_all, rule, expr_rule}
+use Rattle.fast_check_signatures.specs.Expressions.{is_among, is_plain, is_compound, freezes, makes_plain, known_by_kind, other_kinds}
+use Rattle.fast_check_signatures.specs.Expressions.{is_refused, Rule, not_at_all, rule, expr_rule}
 
 abbrev refuses : Rule → Bool
 refuses not_at_all = true

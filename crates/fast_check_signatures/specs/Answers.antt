@@ -1,6 +1,7 @@
--- What becomes of what is seen: what stays of it, and the faults, by cases on what is seen. Nothing is asked outside, and nothing that is hidden is there to
--- be read.
-use Rattle.std.specs.Prelude.{◌≡◌, Bool, true, false, Option, Some, None, List, [], ◌∷◌, ◌++◌, is_some, unwrap_or, option_map, if◌then◌else◌}
+-- What becomes of what is seen: what stays of it, and the faults, by cases on what is seen. Nothing is asked outside,
+-- and nothing that is hidden is there to be read.
+use Rattle.std.specs.Prelude.{◌≡◌, Bool, true, false, Option, Some, None, List, [], ◌∷◌, ◌++◌, is_some, unwrap_or}
+use Rattle.std.specs.Prelude.{option_map, if◌then◌else◌}
 use Rattle.fast_check_syntax.specs.declared.kind.Kind.{Kind}
 use Rattle.fast_check_syntax.specs.declared.source.SourceRange.{SourceRange}
 use Rattle.fast_check_syntax.specs.declared.tree.Tree.{Tree, Absent}
@@ -16,16 +17,19 @@ use Rattle.fast_check_ranges.specs.Ranges.{range_of_node}
 use Rattle.fast_check_statement_forms.specs.Declarations.{var_declarator}
 use Rattle.fast_check_signatures.specs.declared.fault.Fault.{Fault}
 use Rattle.fast_check_signatures.specs.declared.fault.FaultKind.{FaultKind}
-use Rattle.fast_check_signatures.specs.declared.fault.FaultKind.TheVariants.{MissingExplicitType, UnsupportedDefaultExportExpr}
+use Rattle.fast_check_signatures.specs.declared.fault.FaultKind.TheVariants.{MissingExplicitType}
+use Rattle.fast_check_signatures.specs.declared.fault.FaultKind.TheVariants.{UnsupportedDefaultExportExpr}
 use Rattle.fast_check_signatures.specs.NewNodes.{function_body, arrow_body}
 use Rattle.fast_check_signatures.specs.Functions.{return_type_missing}
-use Rattle.fast_check_signatures.specs.Seen.{DeclaratorHead, DefaultHead, FunctionHead, ArrowHead, ClassHead, PropertyHead}
-use Rattle.fast_check_signatures.specs.Seen.{Seen, written, round, listed, declarator, default, function, typed_arrow, valued_arrow, class, property}
-use Rattle.fast_check_signatures.specs.Seen.{default_export, tested, faulty, refused, Seens, end, also, seens}
+use Rattle.fast_check_signatures.specs.Seen.{DeclaratorHead, DefaultHead, FunctionHead, ArrowHead, ClassHead}
+use Rattle.fast_check_signatures.specs.Seen.{PropertyHead, Seen, written, round, listed, declarator, default, function}
+use Rattle.fast_check_signatures.specs.Seen.{typed_arrow, valued_arrow, class, property, default_export, tested, faulty}
+use Rattle.fast_check_signatures.specs.Seen.{refused, Seens, end, also, seens}
 
 -- ---- answers
 
--- What stays, and the faults in reading order. Of an expression an optional tree stays, none where it may not; of what always stays a tree.
+-- What stays, and the faults in reading order. Of an expression an optional tree stays, none where it may not; of what
+-- always stays a tree.
 pub record Answer (A : Type 0) : Type 0 where
   pub stays : A
   pub faults : List Fault
@@ -85,30 +89,36 @@ valued_declarator d value = var_declarator d.span (binding_ident d.ident Absent)
 -- a function of this return type and these parameters, with a body that stands for its own
 abbrev pub signed_function : FunctionHead → Tree → List Tree → Tree
 signed_function f type params =
-    function_node f.span (list params) (list []) f.ctxt (if f.lacks_body then Absent else function_body type) false false f.type_params type
+    function_node f.span (list params) (list []) f.ctxt
+    (if f.lacks_body then Absent else function_body type) false false f.type_params type
 
 -- an arrow of this return type and these parameters, with a body that stands for its own
 abbrev pub signed_arrow : ArrowHead → Tree → List Tree → Tree
-signed_arrow a type params = arrow_expr a.span a.ctxt (list params) (arrow_body type) false a.is_generator a.type_params type
+signed_arrow a type params = arrow_expr a.span a.ctxt (list params)
+    (arrow_body type) false a.is_generator a.type_params type
 
 -- an arrow with this value, which gives its return type
 abbrev pub kept_arrow : ArrowHead → Bool → Tree → List Tree → Tree
-kept_arrow a is_async value params = arrow_expr a.span a.ctxt (list params) value is_async a.is_generator a.type_params Absent
+kept_arrow a is_async value params = arrow_expr a.span a.ctxt
+    (list params) value is_async a.is_generator a.type_params Absent
 
 -- a class of this superclass and these members, without decorators
 abbrev pub class_of : ClassHead → Tree → List Tree → Tree
 class_of c superclass members =
-    class_node c.span c.ctxt (list []) (list members) superclass c.is_abstract c.type_params c.super_type_params c.implements
+    class_node c.span c.ctxt (list [])
+    (list members) superclass c.is_abstract c.type_params c.super_type_params c.implements
 
 -- `declare key: type;`: a property of this type, without a value
 abbrev pub declared_property : PropertyHead → Tree → Tree
 declared_property p type =
-    class_prop p.span p.key Absent type p.is_static (list []) p.accessibility p.is_abstract p.is_optional false p.readonly true false
+    class_prop p.span p.key Absent type p.is_static
+    (list []) p.accessibility p.is_abstract p.is_optional false p.readonly true false
 
 -- `key = value;`: a property without type, which its value gives
 abbrev pub valued_property : PropertyHead → Tree → Tree
 valued_property p value =
-    class_prop p.span p.key value Absent p.is_static (list []) p.accessibility p.is_abstract p.is_optional p.is_override p.readonly false false
+    class_prop p.span p.key value Absent p.is_static
+    (list []) p.accessibility p.is_abstract p.is_optional p.is_override p.readonly false false
 
 -- ---- what is answered to what is seen
 
@@ -121,10 +131,12 @@ abbrev pub list_answer : Answer (List Tree) → Answer (Option Tree)
 list_answer = made (λ ts. Some (list ts))
 
 abbrev pub declarator_answer : DeclaratorHead → Answer (Option Tree) → Answer (Option Tree)
-declarator_answer d value = made (λ v. Some (valued_declarator d v)) (demanded (fault_at MissingExplicitType (Ident-span d.ident)) value)
+declarator_answer d value = made (λ v. Some (valued_declarator d v))
+    (demanded (fault_at MissingExplicitType (Ident-span d.ident)) value)
 
 abbrev pub default_answer : DefaultHead → Answer (Option Tree) → Answer (Option Tree)
-default_answer d value = made (λ v. Some (assign_pat d.span d.left v)) (demanded (fault_at MissingExplicitType d.place) value)
+default_answer d value = made (λ v. Some (assign_pat d.span d.left v))
+    (demanded (fault_at MissingExplicitType d.place) value)
 
 -- what is wrong with a return type comes before what is wrong with the parameters
 abbrev pub function_answer : FunctionHead → Answer (Option Tree) → Answer (List Tree) → Answer (Option Tree)
@@ -133,19 +145,23 @@ function_answer f type params = joined (λ t ps. Some (signed_function f t ps)) 
 abbrev pub typed_arrow_answer : ArrowHead → Answer (Option Tree) → Answer (List Tree) → Answer (Option Tree)
 typed_arrow_answer a type params = joined (λ t ps. Some (signed_arrow a t ps)) (settled type) params
 
-abbrev pub valued_arrow_answer : ArrowHead → Bool → SourceRange → Answer (Option Tree) → Answer (List Tree) → Answer (Option Tree)
+abbrev pub valued_arrow_answer : ArrowHead → Bool → SourceRange → Answer (Option Tree) → Answer (List Tree) →
+    Answer (Option Tree)
 valued_arrow_answer a is_async place value params =
-    joined (λ v ps. Some (kept_arrow a is_async v ps)) (demanded (fault_at (return_type_missing false is_async) place) value) params
+    joined (λ v ps. Some (kept_arrow a is_async v ps))
+    (demanded (fault_at (return_type_missing false is_async) place) value) params
 
 -- what is wrong with a superclass comes before what is wrong with the members
 abbrev pub class_answer : ClassHead → Answer (Option Tree) → Answer (List Tree) → Answer (Option Tree)
 class_answer c superclass members = joined (λ s ms. Some (class_of c s ms)) (settled superclass) members
 
 abbrev pub property_answer : PropertyHead → Answer (Option Tree) → Answer (Option Tree)
-property_answer p value = made (λ v. Some (valued_property p v)) (demanded (fault_at MissingExplicitType (range_of_node p.key)) value)
+property_answer p value = made (λ v. Some (valued_property p v))
+    (demanded (fault_at MissingExplicitType (range_of_node p.key)) value)
 
 abbrev pub default_export_answer : SourceRange → Answer (Option Tree) → Answer (Option Tree)
-default_export_answer span value = made (λ v. Some (export_default_expr span v)) (demanded (fault_at UnsupportedDefaultExportExpr span) value)
+default_export_answer span value = made (λ v. Some (export_default_expr span v))
+    (demanded (fault_at UnsupportedDefaultExportExpr span) value)
 
 -- nothing stays of what is tested alone
 abbrev pub tested_answer : Option SourceRange → Answer (Option Tree) → Answer (Option Tree)
@@ -161,7 +177,8 @@ abbrev mutual
   answer_to (default d value) = default_answer d (answer_to value)
   answer_to (function f type params) = function_answer f (answer_to type) (items_answer params)
   answer_to (typed_arrow a type params) = typed_arrow_answer a (answer_to type) (items_answer params)
-  answer_to (valued_arrow a is_async place value params) = valued_arrow_answer a is_async place (answer_to value) (items_answer params)
+  answer_to (valued_arrow a is_async place value params) =
+      valued_arrow_answer a is_async place (answer_to value) (items_answer params)
   answer_to (class c superclass members) = class_answer c (answer_to superclass) (items_answer members)
   answer_to (property p value) = property_answer p (answer_to value)
   answer_to (default_export span value) = default_export_answer span (answer_to value)

@@ -9,34 +9,45 @@ use Rattle.fast_check_syntax.specs.declared.source.SyntaxContext.{SyntaxContext}
 use Rattle.fast_check_syntax.specs.declared.tree.Tree.{Tree, Absent}
 use Rattle.fast_check_syntax.specs.Shape.{◌is◌, kind_of, parts, is_absent, has_word, list}
 use Rattle.fast_check_syntax.specs.Descent.{by_descent}
-use Rattle.fast_check_class_forms.specs.Classes.{Class-span, Class-ctxt, Class-decorators, Class-body, Class-super_class, Class-is_abstract, Class-type_params}
-use Rattle.fast_check_class_forms.specs.Classes.{Class-super_type_params, Class-implements, class as class_node, Constructor-span, Constructor-ctxt}
-use Rattle.fast_check_class_forms.specs.Classes.{Constructor-key, Constructor-params, Constructor-body, Constructor-accessibility, Constructor-is_optional}
-use Rattle.fast_check_class_forms.specs.Classes.{TsParamProp-span, TsParamProp-accessibility, TsParamProp-readonly, TsParamProp-param}
-use Rattle.fast_check_class_forms.specs.Fields.{ClassProp-span, ClassProp-key, ClassProp-value, ClassProp-type_ann, ClassProp-is_static, ClassProp-accessibility}
-use Rattle.fast_check_class_forms.specs.Fields.{ClassProp-is_abstract, ClassProp-is_optional, ClassProp-is_override, ClassProp-readonly}
-use Rattle.fast_check_class_forms.specs.Fields.{AutoAccessor-span, AutoAccessor-key, AutoAccessor-value, AutoAccessor-type_ann, AutoAccessor-is_static}
+use Rattle.fast_check_class_forms.specs.Classes.{Class-span, Class-ctxt, Class-decorators, Class-body}
+use Rattle.fast_check_class_forms.specs.Classes.{Class-super_class, Class-is_abstract, Class-type_params}
+use Rattle.fast_check_class_forms.specs.Classes.{Class-super_type_params, Class-implements, class as class_node}
+use Rattle.fast_check_class_forms.specs.Classes.{Constructor-span, Constructor-ctxt, Constructor-key}
+use Rattle.fast_check_class_forms.specs.Classes.{Constructor-params, Constructor-body, Constructor-accessibility}
+use Rattle.fast_check_class_forms.specs.Classes.{Constructor-is_optional, TsParamProp-span, TsParamProp-accessibility}
+use Rattle.fast_check_class_forms.specs.Classes.{TsParamProp-readonly, TsParamProp-param}
+use Rattle.fast_check_class_forms.specs.Fields.{ClassProp-span, ClassProp-key, ClassProp-value, ClassProp-type_ann}
+use Rattle.fast_check_class_forms.specs.Fields.{ClassProp-is_static, ClassProp-accessibility, ClassProp-is_abstract}
+use Rattle.fast_check_class_forms.specs.Fields.{ClassProp-is_optional, ClassProp-is_override, ClassProp-readonly}
+use Rattle.fast_check_class_forms.specs.Fields.{AutoAccessor-span, AutoAccessor-key, AutoAccessor-value}
+use Rattle.fast_check_class_forms.specs.Fields.{AutoAccessor-type_ann, AutoAccessor-is_static}
 use Rattle.fast_check_class_forms.specs.Fields.{AutoAccessor-accessibility}
 use Rattle.fast_check_class_forms.specs.Functions.{Param-pat, param}
-use Rattle.fast_check_class_forms.specs.Methods.{ClassMethod-span, ClassMethod-key, ClassMethod-function, ClassMethod-kind, ClassMethod-is_static}
-use Rattle.fast_check_class_forms.specs.Methods.{ClassMethod-accessibility, ClassMethod-is_abstract, ClassMethod-is_optional, ClassMethod-is_override}
-use Rattle.fast_check_expression_forms.specs.Calls.{MemberExpr-obj, MemberExpr-prop, CallExpr-span, CallExpr-ctxt, CallExpr-callee, CallExpr-args}
-use Rattle.fast_check_expression_forms.specs.Calls.{CallExpr-type_args, call_expr}
+use Rattle.fast_check_class_forms.specs.Methods.{ClassMethod-span, ClassMethod-key, ClassMethod-function}
+use Rattle.fast_check_class_forms.specs.Methods.{ClassMethod-kind, ClassMethod-is_static, ClassMethod-accessibility}
+use Rattle.fast_check_class_forms.specs.Methods.{ClassMethod-is_abstract, ClassMethod-is_optional}
+use Rattle.fast_check_class_forms.specs.Methods.{ClassMethod-is_override}
+use Rattle.fast_check_expression_forms.specs.Calls.{MemberExpr-obj, MemberExpr-prop, CallExpr-span, CallExpr-ctxt}
+use Rattle.fast_check_expression_forms.specs.Calls.{CallExpr-callee, CallExpr-args, CallExpr-type_args, call_expr}
 use Rattle.fast_check_expression_forms.specs.Expressions.{ExprOrSpread-spread, expr_or_spread}
 use Rattle.fast_check_expression_forms.specs.Patterns.{AssignPat-left, AssignPat-right}
 use Rattle.fast_check_expression_forms.specs.Properties.{ComputedPropName-expr}
-use Rattle.fast_check_program_forms.specs.Names.{Ident-span, Ident-sym, Ident-optional, BindingIdent-id, BindingIdent-type_ann}
+use Rattle.fast_check_program_forms.specs.Names.{Ident-span, Ident-sym, Ident-optional, BindingIdent-id}
+use Rattle.fast_check_program_forms.specs.Names.{BindingIdent-type_ann}
 use Rattle.fast_check_ranges.specs.Ranges.{range_of_node}
 use Rattle.fast_check_statement_forms.specs.Statements.{BlockStmt-stmts, ExprStmt-span, ExprStmt-expr}
 use Rattle.fast_check_helpers.specs.declared.literal_type.DeclMutabilityKind.{DeclMutabilityKind}
 use Rattle.fast_check_helpers.specs.declared.literal_type.DeclMutabilityKind.TheVariants.{Const, Mutable}
 use Rattle.fast_check_helpers.specs.Builders.{type_ann, any_type_ann, never_value}
 use Rattle.fast_check_helpers.specs.InferredType.{inferred_type}
-use Rattle.fast_check_signatures.specs.declared.fault.FaultKind.TheVariants.{MissingExplicitType, UnsupportedDestructuring, UnsupportedSuperClassExpr}
+use Rattle.fast_check_signatures.specs.declared.fault.FaultKind.TheVariants.{MissingExplicitType}
+use Rattle.fast_check_signatures.specs.declared.fault.FaultKind.TheVariants.{UnsupportedDestructuring}
+use Rattle.fast_check_signatures.specs.declared.fault.FaultKind.TheVariants.{UnsupportedSuperClassExpr}
 use Rattle.fast_check_signatures.specs.declared.function_kind.FunctionKind.{FunctionKind}
 use Rattle.fast_check_signatures.specs.declared.function_kind.FunctionKind.TheVariants.{DeclarationLike, Getter, Setter}
 use Rattle.fast_check_signatures.specs.Bindings.{Bindings}
-use Rattle.fast_check_signatures.specs.Seen.{ClassHead, PropertyHead, Seen, written, range, scope, flag, round, listed, class, property, faulty, refused, seens}
+use Rattle.fast_check_signatures.specs.Seen.{ClassHead, PropertyHead, Seen, written, range, scope, flag, round, listed}
+use Rattle.fast_check_signatures.specs.Seen.{class, property, faulty, refused, seens}
 use Rattle.fast_check_signatures.specs.NewNodes.{never_array_in_parens, expr_stmt, ident_name, new_block}
 use Rattle.fast_check_signatures.specs.Functions.{function_seen, implementation_seen, any_params_from, params_seen}
 use Rattle.fast_check_signatures.specs.Parameters.{pats_seen}
@@ -54,13 +65,15 @@ property_of_kind _ prop look = false
 
 abbrev pub reference_of_kind : Kind → Tree → (Tree → Bool) → Bool
 reference_of_kind kinds.Ident t look = true
-reference_of_kind kinds.MemberExpr t look = look (MemberExpr-obj t) && property_of_kind (kind_of (MemberExpr-prop t)) (MemberExpr-prop t) look
+reference_of_kind kinds.MemberExpr t look = look (MemberExpr-obj t) &&
+    property_of_kind (kind_of (MemberExpr-prop t)) (MemberExpr-prop t) look
 reference_of_kind _ t look = false
 
 abbrev pub reference_form : Tree → (Tree → Bool) → Bool
 reference_form t look = reference_of_kind (kind_of t) t look
 
--- whether an expression is an identifier, or a chain of members on one, each plain or computed by such an expression again
+-- whether an expression is an identifier, or a chain of members on one, each plain or computed by such an expression
+-- again
 unfoldable pub is_reference : Tree → Bool
 is_reference = by_descent false reference_form
 
@@ -68,7 +81,8 @@ is_reference = by_descent false reference_form
 abbrev pub superclass_seen : Tree → Seen
 superclass_seen superclass =
     if is_absent superclass then written Absent
-    else (if is_reference superclass then written superclass else faulty UnsupportedSuperClassExpr (range_of_node superclass))
+    else (if is_reference superclass then written superclass else faulty UnsupportedSuperClassExpr
+    (range_of_node superclass))
 
 -- ---- properties
 
@@ -176,12 +190,15 @@ type_or_none None = Absent
 -- `super(..);`
 abbrev pub is_super_call : Tree → Bool
 is_super_call stmt =
-    (kind_of stmt is kinds.ExprStmt) && ((kind_of (ExprStmt-expr stmt) is kinds.CallExpr) && (kind_of (CallExpr-callee (ExprStmt-expr stmt)) is kinds.Super))
+    (kind_of stmt is kinds.ExprStmt) &&
+    ((kind_of (ExprStmt-expr stmt) is kinds.CallExpr) &&
+    (kind_of (CallExpr-callee (ExprStmt-expr stmt)) is kinds.Super))
 
 -- an argument of it: `{} as never`, or `...([] as never[])`
 abbrev pub never_argument : Tree → Tree
 never_argument arg =
-    let spread = ExprOrSpread-spread arg in expr_or_spread spread (if is_absent spread then never_value else never_array_in_parens)
+    let spread = ExprOrSpread-spread arg in expr_or_spread spread
+    (if is_absent spread then never_value else never_array_in_parens)
 
 abbrev pub super_call : Tree → Tree
 super_call stmt =
@@ -200,10 +217,14 @@ constructor_body body = if is_absent body then Absent else new_block (super_call
 -- a constructor of these parameters
 abbrev pub constructor_of : Tree → List Seen → Seen
 constructor_of m params =
-    round kinds.Constructor (seens (range (Constructor-span m) ∷ scope (Constructor-ctxt m) ∷ written (Constructor-key m) ∷ listed (seens params) ∷
-    written (constructor_body (Constructor-body m)) ∷ written (Constructor-accessibility m) ∷ flag (Constructor-is_optional m) ∷ []))
+    round kinds.Constructor
+    (seens (range (Constructor-span m) ∷ scope (Constructor-ctxt m) ∷ written (Constructor-key m) ∷
+    listed (seens params) ∷
+    written (constructor_body (Constructor-body m)) ∷ written (Constructor-accessibility m) ∷
+    flag (Constructor-is_optional m) ∷ []))
 
--- a constructor whose parameter properties are given that are patterns: at the first of them it is at fault, and nowhere else
+-- a constructor whose parameter properties are given that are patterns: at the first of them it is at fault, and
+-- nowhere else
 abbrev pub unless_taken_apart : List Tree → Seen → Seen
 unless_taken_apart [] constructor = constructor
 unless_taken_apart (p ∷ ps) constructor = faulty UnsupportedDestructuring (range_of_node (param_target p))
@@ -212,13 +233,16 @@ unless_taken_apart (p ∷ ps) constructor = faulty UnsupportedDestructuring (ran
 
 -- what a method is, by the word for its kind
 abbrev pub method_kind : Tree → FunctionKind
-method_kind kind = if has_word words.Setter kind then Setter else (if has_word words.Getter kind then Getter else DeclarationLike)
+method_kind kind = if has_word words.Setter kind then Setter else
+    (if has_word words.Getter kind then Getter else DeclarationLike)
 
 -- a method over what is seen of its function
 abbrev pub method_of : Tree → Seen → Seen
 method_of m signature =
-    round kinds.ClassMethod (seens (range (ClassMethod-span m) ∷ written (ClassMethod-key m) ∷ signature ∷ written (ClassMethod-kind m) ∷
-    flag (ClassMethod-is_static m) ∷ written (ClassMethod-accessibility m) ∷ flag (ClassMethod-is_abstract m) ∷ flag (ClassMethod-is_optional m) ∷
+    round kinds.ClassMethod
+    (seens (range (ClassMethod-span m) ∷ written (ClassMethod-key m) ∷ signature ∷ written (ClassMethod-kind m) ∷
+    flag (ClassMethod-is_static m) ∷ written (ClassMethod-accessibility m) ∷ flag (ClassMethod-is_abstract m) ∷
+    flag (ClassMethod-is_optional m) ∷
     flag (ClassMethod-is_override m) ∷ []))
 
 -- a class, but for its superclass and its members
@@ -232,19 +256,23 @@ class_head t = record {
   implements = Class-implements t;
 }
 
--- ---- properties that parameters declare; `unresolved` is the scope number of the names that nothing in the module binds
+-- ---- properties that parameters declare; `unresolved` is the scope number of the names that nothing in the module
+-- binds
 
 module _ (unresolved : SyntaxContext) where
   -- the type that the default of a parameter shows, if it has one
   abbrev pub default_type : DeclMutabilityKind → Tree → Option Tree
-  default_type mutability pat = if kind_of pat is kinds.AssignPat then inferred_type mutability unresolved (AssignPat-right pat) else None
+  default_type mutability pat = if kind_of pat is kinds.AssignPat then inferred_type mutability unresolved
+      (AssignPat-right pat) else None
 
-  -- the type of a parameter property: a private one is of any type; else the written type, or the one that the default shows, or none
+  -- the type of a parameter property: a private one is of any type; else the written type, or the one that the default
+  -- shows, or none
   abbrev pub param_property_type : Tree → Tree
   param_property_type p =
       let type = BindingIdent-type_ann (param_target p) in
       if is_private (TsParamProp-accessibility p) then any_type_ann
-      else (if is_absent type then type_or_none (default_type (mutability_of_property (TsParamProp-readonly p)) (TsParamProp-param p)) else type)
+      else (if is_absent type then type_or_none
+      (default_type (mutability_of_property (TsParamProp-readonly p)) (TsParamProp-param p)) else type)
 
   -- `declare name: type;` for a parameter property
   abbrev pub param_property : Tree → Tree
@@ -253,7 +281,8 @@ module _ (unresolved : SyntaxContext) where
   -- the properties that a constructor declares by its parameters, if it is not at fault, and no other member
   abbrev pub declared_by_params : Tree → List Tree
   declared_by_params m =
-      if kind_of m is kinds.Constructor then unless_any (patterns_among (param_properties m)) (map param_property (param_properties m)) else []
+      if kind_of m is kinds.Constructor then unless_any (patterns_among (param_properties m))
+      (map param_property (param_properties m)) else []
 
 -- ---- what is seen of members
 
@@ -274,7 +303,8 @@ module _ (bindings : Bindings) (is_implementation : SourceRange → Bool) where
       let p = property_head m in
       if is_private p.accessibility then typed_property p any_type_ann
       else (if is_absent (ClassProp-type_ann m) then
-      untyped_property_seen p (ClassProp-value m) (inferred_type (mutability_of_property p.readonly) bindings.unresolved (ClassProp-value m))
+      untyped_property_seen p (ClassProp-value m)
+      (inferred_type (mutability_of_property p.readonly) bindings.unresolved (ClassProp-value m))
       else typed_property p (ClassProp-type_ann m))
 
   -- an accessor without a written type, by the type that its value shows; its value can't stay
@@ -287,14 +317,17 @@ module _ (bindings : Bindings) (is_implementation : SourceRange → Bool) where
   accessor_seen m =
       let p = accessor_head m in
       if is_private p.accessibility then typed_property p any_type_ann
-      else (if is_absent (AutoAccessor-type_ann m) then untyped_accessor_seen p (inferred_type Mutable bindings.unresolved (AutoAccessor-value m))
+      else (if is_absent (AutoAccessor-type_ann m) then untyped_accessor_seen p
+      (inferred_type Mutable bindings.unresolved (AutoAccessor-value m))
       else typed_property p (AutoAccessor-type_ann m))
 
-  -- the function of a method, a getter or a setter, by its signature; what is wrong with its return type is wrong at the key
+  -- the function of a method, a getter or a setter, by its signature; what is wrong with its return type is wrong at
+  -- the key
   abbrev pub method_function_seen : Tree → Seen
   method_function_seen m =
       if is_implementation (ClassMethod-span m) then implementation_seen (ClassMethod-function m)
-      else function_seen bindings (expr_seen bindings) (method_kind (ClassMethod-kind m)) (range_of_node (ClassMethod-key m)) (ClassMethod-function m)
+      else function_seen bindings (expr_seen bindings) (method_kind (ClassMethod-kind m))
+      (range_of_node (ClassMethod-key m)) (ClassMethod-function m)
 
   -- a method, a getter or a setter; a private one becomes a property of any type
   abbrev pub method_seen : Tree → Seen
@@ -314,7 +347,8 @@ module _ (bindings : Bindings) (is_implementation : SourceRange → Bool) where
 
   -- a constructor
   abbrev pub constructor_seen : Tree → Seen
-  constructor_seen m = unless_taken_apart (patterns_among (param_properties m)) (constructor_of m (constructor_params_seen m))
+  constructor_seen m = unless_taken_apart (patterns_among (param_properties m))
+      (constructor_of m (constructor_params_seen m))
 
   -- a member that stays, by its kind; an index signature stands as it is written
   abbrev pub member_of_kind : Kind → Tree → Seen
@@ -327,17 +361,22 @@ module _ (bindings : Bindings) (is_implementation : SourceRange → Bool) where
   abbrev pub member_seen : Tree → Seen
   member_seen m = member_of_kind (kind_of m) m
 
-  -- the members of a class: the mark for hash names, the properties that are declared by parameters, and what stays of the others
+  -- the members of a class: the mark for hash names, the properties that are declared by parameters, and what stays of
+  -- the others
   abbrev pub members_seen : List Tree → List Seen
   members_seen members =
-      let kept = kept_members members in map written (hash_mark members ++ flat_map (declared_by_params bindings.unresolved) kept) ++ map member_seen kept
+      let kept =
+      kept_members members in map written
+      (hash_mark members ++ flat_map (declared_by_params bindings.unresolved) kept) ++ map member_seen kept
 
   -- a class that is not ambient
   abbrev pub plain_class_seen : Tree → Seen
-  plain_class_seen t = class (class_head t) (superclass_seen (Class-super_class t)) (seens (members_seen (parts (Class-body t))))
+  plain_class_seen t = class (class_head t) (superclass_seen (Class-super_class t))
+      (seens (members_seen (parts (Class-body t))))
 
 -- an ambient class loses private members with computed keys, and no more
 abbrev pub ambient_class : Tree → Tree
 ambient_class t =
-    class_node (Class-span t) (Class-ctxt t) (Class-decorators t) (list (ambient_members (parts (Class-body t)))) (Class-super_class t) (Class-is_abstract t)
+    class_node (Class-span t) (Class-ctxt t) (Class-decorators t) (list (ambient_members (parts (Class-body t))))
+    (Class-super_class t) (Class-is_abstract t)
     (Class-type_params t) (Class-super_type_params t) (Class-implements t)

@@ -1,15 +1,17 @@
--- What is seen of functions and arrows: their parameters and their return type. A body is seen where it shows the return type, by the type that it names, by
--- its return class or by its value.
+-- What is seen of functions and arrows: their parameters and their return type. A body is seen where it shows the
+-- return type, by the type that it names, by its return class or by its value.
 use Rattle.std.specs.Prelude.{ℕ, suc, Bool, true, false, Option, Some, None, List, [], ◌∷◌, map, if◌then◌else◌}
 use Rattle.fast_check_syntax.specs.declared.kind.Kind.TheVariants.{Param, BlockStmt, RestPat}
 use Rattle.fast_check_syntax.specs.declared.source.SourceRange.{SourceRange}
 use Rattle.fast_check_syntax.specs.declared.source.SyntaxContext.{SyntaxContext}
 use Rattle.fast_check_syntax.specs.declared.tree.Tree.{Tree, Absent}
 use Rattle.fast_check_syntax.specs.Shape.{◌is◌, kind_of, parts, is_absent, list}
-use Rattle.fast_check_class_forms.specs.Functions.{Function-span, Function-params, Function-ctxt, Function-body, Function-is_generator, Function-is_async}
-use Rattle.fast_check_class_forms.specs.Functions.{Function-type_params, Function-return_type, Param-span, Param-pat}
-use Rattle.fast_check_expression_forms.specs.Expressions.{ArrowExpr-span, ArrowExpr-ctxt, ArrowExpr-params, ArrowExpr-body, ArrowExpr-is_async}
-use Rattle.fast_check_expression_forms.specs.Expressions.{ArrowExpr-is_generator, ArrowExpr-type_params, ArrowExpr-return_type}
+use Rattle.fast_check_class_forms.specs.Functions.{Function-span, Function-params, Function-ctxt, Function-body}
+use Rattle.fast_check_class_forms.specs.Functions.{Function-is_generator, Function-is_async, Function-type_params}
+use Rattle.fast_check_class_forms.specs.Functions.{Function-return_type, Param-span, Param-pat}
+use Rattle.fast_check_expression_forms.specs.Expressions.{ArrowExpr-span, ArrowExpr-ctxt, ArrowExpr-params}
+use Rattle.fast_check_expression_forms.specs.Expressions.{ArrowExpr-body, ArrowExpr-is_async, ArrowExpr-is_generator}
+use Rattle.fast_check_expression_forms.specs.Expressions.{ArrowExpr-type_params, ArrowExpr-return_type}
 use Rattle.fast_check_helpers.specs.declared.literal_type.DeclMutabilityKind.TheVariants.{Mutable}
 use Rattle.fast_check_helpers.specs.declared.return_class.ReturnStatementAnalysis.{ReturnStatementAnalysis}
 use Rattle.fast_check_helpers.specs.declared.return_class.ReturnStatementAnalysis.TheVariants as class
@@ -20,14 +22,17 @@ use Rattle.fast_check_helpers.specs.ReturnClass.{return_class}
 use Rattle.fast_check_signatures.specs.declared.fault.FaultKind.{FaultKind}
 use Rattle.fast_check_signatures.specs.declared.fault.FaultKind.TheVariants.{MissingExplicitReturnType}
 use Rattle.fast_check_signatures.specs.declared.function_kind.FunctionKind.{FunctionKind}
-use Rattle.fast_check_signatures.specs.declared.function_kind.FunctionKind.TheVariants.{DeclarationLike, ExpressionLike, Getter, Setter}
+use Rattle.fast_check_signatures.specs.declared.function_kind.FunctionKind.TheVariants.{DeclarationLike, ExpressionLike}
+use Rattle.fast_check_signatures.specs.declared.function_kind.FunctionKind.TheVariants.{Getter, Setter}
 use Rattle.fast_check_signatures.specs.Bindings.{Bindings}
-use Rattle.fast_check_signatures.specs.Seen.{FunctionHead, ArrowHead, Seen, written, range, round, function, typed_arrow, valued_arrow, faulty, seens}
+use Rattle.fast_check_signatures.specs.Seen.{FunctionHead, ArrowHead, Seen, written, range, round, function}
+use Rattle.fast_check_signatures.specs.Seen.{typed_arrow, valued_arrow, faulty, seens}
 use Rattle.fast_check_signatures.specs.NewNodes.{promised, void_or_promise_void, any_param}
 use Rattle.fast_check_signatures.specs.Parameters.{Look, pats_seen}
 
 abbrev pub return_type_missing : Bool → Bool → FaultKind
-return_type_missing is_definitely_void_or_never is_async = MissingExplicitReturnType is_definitely_void_or_never is_async
+return_type_missing is_definitely_void_or_never is_async =
+    MissingExplicitReturnType is_definitely_void_or_never is_async
 
 -- the return type of a body that returns nothing
 abbrev pub void_seen : Bool → Seen
@@ -58,13 +63,15 @@ named_seen unresolved is_async None classed = classed
 -- the return type that the body of a function shows; that of a generator names none
 abbrev pub body_seen : SyntaxContext → FunctionKind → Bool → Bool → SourceRange → Tree → Seen
 body_seen unresolved kind is_async is_generator place body =
-    named_seen unresolved is_async (named_return unresolved is_generator body) (class_seen kind is_async place (return_class body))
+    named_seen unresolved is_async (named_return unresolved is_generator body)
+    (class_seen kind is_async place (return_class body))
 
 abbrev pub is_setter : FunctionKind → Bool
 is_setter Setter = true
 is_setter _ = false
 
--- the return type of a function where none is written: that its body shows; of a generator it must be written, and a setter has none
+-- the return type of a function where none is written: that its body shows; of a generator it must be written, and a
+-- setter has none
 abbrev pub shown_return_seen : SyntaxContext → FunctionKind → SourceRange → Tree → Seen
 shown_return_seen unresolved kind place t =
     if is_setter kind then written Absent
@@ -75,19 +82,29 @@ shown_return_seen unresolved kind place t =
 -- the return type of a function: the written one, or that its body shows
 abbrev pub return_type_seen : SyntaxContext → FunctionKind → SourceRange → Tree → Seen
 return_type_seen unresolved kind place t =
-    if is_absent (Function-return_type t) then shown_return_seen unresolved kind place t else written (Function-return_type t)
+    if is_absent (Function-return_type t) then shown_return_seen unresolved kind place t else written
+    (Function-return_type t)
 
 -- a function, but for its return type and its parameters
 abbrev pub function_head : Tree → FunctionHead
-function_head t = record { span = Function-span t; ctxt = Function-ctxt t; lacks_body = is_absent (Function-body t); type_params = Function-type_params t }
+function_head t =
+    record {
+      span = Function-span t;
+      ctxt = Function-ctxt t;
+      lacks_body = is_absent (Function-body t);
+      type_params =
+          Function-type_params t;
+    }
 
 abbrev pub signature_seen : Tree → Seen → List Seen → Seen
 signature_seen t type params = function (function_head t) type (seens params)
 
--- the parameters of an implementation behind overloads: what they are is not seen, but how many they are and which is a rest
+-- the parameters of an implementation behind overloads: what they are is not seen, but how many they are and which is a
+-- rest
 abbrev pub any_params_from : ℕ → List Tree → List Seen
 any_params_from place [] = []
-any_params_from place (p ∷ ps) = written (any_param place (kind_of (Param-pat p) is RestPat)) ∷ any_params_from (suc place) ps
+any_params_from place (p ∷ ps) = written (any_param place (kind_of (Param-pat p) is RestPat)) ∷
+    any_params_from (suc place) ps
 
 -- an implementation behind overloads
 abbrev pub implementation_seen : Tree → Seen
@@ -103,7 +120,14 @@ params_seen _ _ = []
 
 -- an arrow, but for its return type, its parameters and its body
 abbrev pub arrow_head : Tree → ArrowHead
-arrow_head t = record { span = ArrowExpr-span t; ctxt = ArrowExpr-ctxt t; is_generator = ArrowExpr-is_generator t; type_params = ArrowExpr-type_params t }
+arrow_head t =
+    record {
+      span = ArrowExpr-span t;
+      ctxt = ArrowExpr-ctxt t;
+      is_generator = ArrowExpr-is_generator t;
+      type_params =
+          ArrowExpr-type_params t;
+    }
 
 -- an arrow whose return type is known
 abbrev pub typed_arrow_seen : Tree → List Seen → Seen → Seen
@@ -123,18 +147,21 @@ module _ (bindings : Bindings) (look : Look) where
   abbrev pub function_seen : FunctionKind → SourceRange → Tree → Seen
   function_seen kind place t =
       let params = parts (Function-params t) in
-      signature_seen t (return_type_seen bindings.unresolved kind place t) (params_seen params (pats_seen bindings look (map (λ p. Param-pat p) params)))
+      signature_seen t (return_type_seen bindings.unresolved kind place t)
+      (params_seen params (pats_seen bindings look (map (λ p. Param-pat p) params)))
 
   -- an arrow without a written return type, by the type that its value shows
   abbrev pub by_value : Tree → SourceRange → List Seen → Option Tree → Seen
-  by_value t place pats (Some type) = typed_arrow_seen t pats (written (type_ann (promised bindings.unresolved (ArrowExpr-is_async t) type)))
+  by_value t place pats (Some type) = typed_arrow_seen t pats
+      (written (type_ann (promised bindings.unresolved (ArrowExpr-is_async t) type)))
   by_value t place pats None = valued_arrow_seen t place pats (look (ArrowExpr-body t) None)
 
   abbrev pub untyped_arrow_seen : Tree → SourceRange → List Seen → Seen
   untyped_arrow_seen t place pats =
       let body = ArrowExpr-body t in
       if kind_of body is BlockStmt then
-      typed_arrow_seen t pats (body_seen bindings.unresolved ExpressionLike (ArrowExpr-is_async t) (ArrowExpr-is_generator t) place body)
+      typed_arrow_seen t pats
+      (body_seen bindings.unresolved ExpressionLike (ArrowExpr-is_async t) (ArrowExpr-is_generator t) place body)
       else by_value t place pats (inferred_type Mutable bindings.unresolved body)
 
   abbrev pub arrow_by_type : Tree → SourceRange → List Seen → Seen
@@ -144,4 +171,5 @@ module _ (bindings : Bindings) (look : Look) where
 
   -- an arrow
   abbrev pub arrow_seen : Option SourceRange → Tree → Seen
-  arrow_seen place t = arrow_by_type t (or_own place (ArrowExpr-span t)) (pats_seen bindings look (parts (ArrowExpr-params t)))
+  arrow_seen place t = arrow_by_type t (or_own place (ArrowExpr-span t))
+      (pats_seen bindings look (parts (ArrowExpr-params t)))

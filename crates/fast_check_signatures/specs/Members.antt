@@ -1,5 +1,7 @@
--- The members of a class that is not ambient: which of them stay, by what stands before them, and what they leave. One that goes leaves no word.
-use Rattle.std.specs.Prelude.{ℕ, Bool, true, false, not, ◌&&◌, Option, Some, None, List, [], ◌∷◌, ◌++◌, map, if◌then◌else◌}
+-- The members of a class that is not ambient: which of them stay, by what stands before them, and what they leave. One
+-- that goes leaves no word.
+use Rattle.std.specs.Prelude.{ℕ, Bool, true, false, not, ◌&&◌, Option, Some, None, List, [], ◌∷◌, ◌++◌, map}
+use Rattle.std.specs.Prelude.{if◌then◌else◌}
 use Rattle.std.specs.List.{list_any, filter}
 use Rattle.std.specs.Str.{bytes_eq}
 use Rattle.fast_check_syntax.specs.declared.kind.Kind.{Kind}
@@ -8,7 +10,8 @@ use Rattle.fast_check_syntax.specs.declared.kind.Word.TheVariants.{Private}
 use Rattle.fast_check_syntax.specs.declared.tree.Tree.{Tree}
 use Rattle.fast_check_syntax.specs.Shape.{◌is◌, kind_of, is_absent, has_word}
 use Rattle.fast_check_class_forms.specs.Classes.{Constructor-body, Constructor-accessibility}
-use Rattle.fast_check_class_forms.specs.Fields.{ClassProp-key, ClassProp-accessibility, AutoAccessor-key, AutoAccessor-accessibility}
+use Rattle.fast_check_class_forms.specs.Fields.{ClassProp-key, ClassProp-accessibility, AutoAccessor-key}
+use Rattle.fast_check_class_forms.specs.Fields.{AutoAccessor-accessibility}
 use Rattle.fast_check_class_forms.specs.Methods.{ClassMethod-key, ClassMethod-accessibility}
 use Rattle.fast_check_program_forms.specs.Literals.{Str-value, Number-raw, BigInt-raw}
 use Rattle.fast_check_program_forms.specs.Names.{IdentName-sym}
@@ -60,24 +63,31 @@ is_private_method_of name member =
 -- a private constructor that is no overload
 abbrev pub is_private_implementation : Tree → Bool
 is_private_implementation member =
-    (kind_of member is kinds.Constructor) && (is_private (Constructor-accessibility member) && not (is_absent (Constructor-body member)))
+    (kind_of member is kinds.Constructor) &&
+    (is_private (Constructor-accessibility member) && not (is_absent (Constructor-body member)))
 
 -- of the private methods of a name the first stays
 abbrev pub is_first_of_name : List Tree → Tree → Bool
 is_first_of_name earlier method =
-    not (is_computed (ClassMethod-key method)) && not (list_any (is_private_method_of (key_text (ClassMethod-key method))) earlier)
+    not (is_computed (ClassMethod-key method)) &&
+    not (list_any (is_private_method_of (key_text (ClassMethod-key method))) earlier)
 
 -- of the private constructors the first with a body
 abbrev pub is_first_implementation : List Tree → Tree → Bool
-is_first_implementation earlier constructor = not (is_absent (Constructor-body constructor)) && not (list_any is_private_implementation earlier)
+is_first_implementation earlier constructor = not (is_absent (Constructor-body constructor)) &&
+    not (list_any is_private_implementation earlier)
 
--- Whether a member stays behind the earlier ones. Hash-named members, static blocks, empty members, and private ones with computed keys go.
+-- Whether a member stays behind the earlier ones. Hash-named members, static blocks, empty members, and private ones
+-- with computed keys go.
 abbrev pub stays_by_kind : Kind → List Tree → Tree → Bool
-stays_by_kind kinds.Constructor earlier m = if is_private (Constructor-accessibility m) then is_first_implementation earlier m else true
-stays_by_kind kinds.ClassMethod earlier m = if is_private (ClassMethod-accessibility m) then is_first_of_name earlier m else true
+stays_by_kind kinds.Constructor earlier m = if is_private
+    (Constructor-accessibility m) then is_first_implementation earlier m else true
+stays_by_kind kinds.ClassMethod earlier m = if is_private
+    (ClassMethod-accessibility m) then is_first_of_name earlier m else true
 stays_by_kind kinds.ClassProp earlier m = not (is_private (ClassProp-accessibility m) && is_computed (ClassProp-key m))
 stays_by_kind kinds.AutoAccessor earlier m =
-    not (kind_of (AutoAccessor-key m) is kinds.PrivateName) && not (is_private (AutoAccessor-accessibility m) && is_computed (AutoAccessor-key m))
+    not (kind_of (AutoAccessor-key m) is kinds.PrivateName) &&
+    not (is_private (AutoAccessor-accessibility m) && is_computed (AutoAccessor-key m))
 stays_by_kind kinds.TsIndexSignature earlier m = true
 stays_by_kind _ earlier m = false
 
@@ -107,9 +117,11 @@ removed_members = each_behind if_removed []
 
 -- a private method, property or accessor with a computed key
 abbrev pub is_private_computed_kind : Kind → Tree → Bool
-is_private_computed_kind kinds.ClassMethod m = is_private (ClassMethod-accessibility m) && is_computed (ClassMethod-key m)
+is_private_computed_kind kinds.ClassMethod m = is_private (ClassMethod-accessibility m) &&
+    is_computed (ClassMethod-key m)
 is_private_computed_kind kinds.ClassProp m = is_private (ClassProp-accessibility m) && is_computed (ClassProp-key m)
-is_private_computed_kind kinds.AutoAccessor m = is_private (AutoAccessor-accessibility m) && is_computed (AutoAccessor-key m)
+is_private_computed_kind kinds.AutoAccessor m = is_private (AutoAccessor-accessibility m) &&
+    is_computed (AutoAccessor-key m)
 is_private_computed_kind _ m = false
 
 abbrev pub is_private_computed : Tree → Bool

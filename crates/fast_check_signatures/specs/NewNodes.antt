@@ -1,8 +1,10 @@
--- New nodes that stand for what is taken out of a signature. No text stands for them: their ranges and scope numbers are 0.
+-- New nodes that stand for what is taken out of a signature. No text stands for them: their ranges and scope numbers
+-- are 0.
 use Rattle.std.specs.Prelude.{ℕ, Bool, true, false, ◌&&◌, List, [], ◌∷◌, ◌++◌, codes, if◌then◌else◌}
 use Rattle.std.specs.Fmt.{decimal}
 use Rattle.fast_check_syntax.specs.declared.kind.Kind.TheVariants.{TsTypeRef, TsArrayType, ExprStmt, IdentName}
-use Rattle.fast_check_syntax.specs.declared.kind.Word.TheVariants.{TsVoidKeyword, TsNeverKeyword, TsUndefinedKeyword, TsUnknownKeyword}
+use Rattle.fast_check_syntax.specs.declared.kind.Word.TheVariants.{TsVoidKeyword, TsNeverKeyword, TsUndefinedKeyword}
+use Rattle.fast_check_syntax.specs.declared.kind.Word.TheVariants.{TsUnknownKeyword}
 use Rattle.fast_check_syntax.specs.declared.source.SourceRange.{SourceRange}
 use Rattle.fast_check_syntax.specs.declared.source.SyntaxContext.{SyntaxContext}
 use Rattle.fast_check_syntax.specs.declared.tree.Tree.{Tree, Absent, Range, Text}
@@ -15,9 +17,10 @@ use Rattle.fast_check_class_forms.specs.Functions.{param}
 use Rattle.fast_check_program_forms.specs.Names.{ident, binding_ident, private_name}
 use Rattle.fast_check_statement_forms.specs.Statements.{block_stmt, return_stmt}
 use Rattle.fast_check_type_forms.specs.Types.{ts_type_ref, ts_union_type, TsTypeRef-type_name, TsTypeRef-type_params}
-use Rattle.fast_check_type_forms.specs.TypeParams.{ts_type_param_instantiation, ts_type_ann, TsTypeAnn-span, TsTypeAnn-type_ann}
-use Rattle.fast_check_type_forms.specs.TypeParams.{TsTypeParamInstantiation-params}
-use Rattle.fast_check_helpers.specs.Builders.{ts_keyword_type, type_ann, any_type_ann, new_ident, never_value, is_void_type}
+use Rattle.fast_check_type_forms.specs.TypeParams.{ts_type_param_instantiation, ts_type_ann, TsTypeAnn-span}
+use Rattle.fast_check_type_forms.specs.TypeParams.{TsTypeAnn-type_ann, TsTypeParamInstantiation-params}
+use Rattle.fast_check_helpers.specs.Builders.{ts_keyword_type, type_ann, any_type_ann, new_ident, never_value}
+use Rattle.fast_check_helpers.specs.Builders.{is_void_type}
 use Rattle.fast_check_helpers.specs.GlobalCalls.{is_global}
 
 -- `elem_type[]`, `expr;` and a name, as nodes of their fields
@@ -68,7 +71,8 @@ arrow_body type = if returns_value type then never_in_parens else new_block []
 
 -- `Promise<type>`
 abbrev pub promise_of : Tree → Tree
-promise_of type = ts_type_ref none_range (new_ident (codes "Promise")) (ts_type_param_instantiation none_range (list (type ∷ [])))
+promise_of type = ts_type_ref none_range (new_ident (codes "Promise"))
+    (ts_type_param_instantiation none_range (list (type ∷ [])))
 
 abbrev pub is_one : List Tree → Bool
 is_one (t ∷ []) = true
@@ -87,12 +91,14 @@ promised unresolved is_async type =
 
 -- the return type of a function that returns nothing
 abbrev pub void_or_promise_void : Bool → Tree
-void_or_promise_void is_async = if is_async then promise_of (ts_keyword_type TsVoidKeyword) else ts_keyword_type TsVoidKeyword
+void_or_promise_void is_async = if is_async then promise_of
+    (ts_keyword_type TsVoidKeyword) else ts_keyword_type TsVoidKeyword
 
 -- `: type | undefined`, from `: type`
 abbrev pub or_undefined : Tree → Tree
 or_undefined type =
-    ts_type_ann (TsTypeAnn-span type) (ts_union_type none_range (list (TsTypeAnn-type_ann type ∷ ts_keyword_type TsUndefinedKeyword ∷ [])))
+    ts_type_ann (TsTypeAnn-span type)
+    (ts_union_type none_range (list (TsTypeAnn-type_ann type ∷ ts_keyword_type TsUndefinedKeyword ∷ [])))
 
 -- `paramN`, for the parameter at place N
 abbrev pub param_ident : ℕ → Bool → Tree
@@ -101,10 +107,12 @@ param_ident place optional = ident none_range no_scope (codes "param" ++ decimal
 -- `paramN?: any`, or `...paramN: any` for a rest
 abbrev pub any_param : ℕ → Bool → Tree
 any_param place is_rest =
-    param none_range (list []) (if is_rest then rest_pat none_range none_range (binding_ident (param_ident place false) Absent) any_type_ann
+    param none_range (list [])
+    (if is_rest then rest_pat none_range none_range (binding_ident (param_ident place false) Absent) any_type_ann
     else binding_ident (param_ident place true) any_type_ann)
 
 -- `#private!: unknown`
 abbrev pub hash_private : Tree
-hash_private = private_prop none_range no_scope (private_name none_range (codes "private")) Absent (type_ann (ts_keyword_type TsUnknownKeyword)) false (list [])
+hash_private = private_prop none_range no_scope (private_name none_range (codes "private")) Absent
+    (type_ann (ts_keyword_type TsUnknownKeyword)) false (list [])
     Absent false false false true

@@ -1,4 +1,5 @@
--- What is seen of parameters: their types and whether they may be left out; a default only where nothing else gives a type.
+-- What is seen of parameters: their types and whether they may be left out; a default only where nothing else gives a
+-- type.
 use Rattle.std.specs.Prelude.{Bool, true, false, Option, Some, None, List, [], ◌∷◌, if◌then◌else◌}
 use Rattle.std.specs.List.{list_all}
 use Rattle.fast_check_syntax.specs.declared.kind.Kind.{Kind}
@@ -6,21 +7,26 @@ use Rattle.fast_check_syntax.specs.declared.kind.Kind.TheVariants as kinds
 use Rattle.fast_check_syntax.specs.declared.source.SourceRange.{SourceRange}
 use Rattle.fast_check_syntax.specs.declared.tree.Tree.{Tree}
 use Rattle.fast_check_syntax.specs.Shape.{kind_of, is_absent, list}
-use Rattle.fast_check_expression_forms.specs.Patterns.{ArrayPat-span, ArrayPat-optional, ArrayPat-type_ann, array_pat, ObjectPat-span, ObjectPat-optional}
-use Rattle.fast_check_expression_forms.specs.Patterns.{ObjectPat-type_ann, object_pat, RestPat-span, RestPat-dot3_token, RestPat-arg, RestPat-type_ann}
-use Rattle.fast_check_expression_forms.specs.Patterns.{rest_pat, AssignPat-span, AssignPat-left, AssignPat-right, assign_pat}
+use Rattle.fast_check_expression_forms.specs.Patterns.{ArrayPat-span, ArrayPat-optional, ArrayPat-type_ann, array_pat}
+use Rattle.fast_check_expression_forms.specs.Patterns.{ObjectPat-span, ObjectPat-optional, ObjectPat-type_ann}
+use Rattle.fast_check_expression_forms.specs.Patterns.{object_pat, RestPat-span, RestPat-dot3_token, RestPat-arg}
+use Rattle.fast_check_expression_forms.specs.Patterns.{RestPat-type_ann, rest_pat, AssignPat-span, AssignPat-left}
+use Rattle.fast_check_expression_forms.specs.Patterns.{AssignPat-right, assign_pat}
 use Rattle.fast_check_ranges.specs.Ranges.{range_of_node}
-use Rattle.fast_check_program_forms.specs.Names.{Ident-span, Ident-ctxt, Ident-sym, ident, BindingIdent-id, BindingIdent-type_ann, binding_ident}
+use Rattle.fast_check_program_forms.specs.Names.{Ident-span, Ident-ctxt, Ident-sym, ident, BindingIdent-id}
+use Rattle.fast_check_program_forms.specs.Names.{BindingIdent-type_ann, binding_ident}
 use Rattle.fast_check_helpers.specs.declared.literal_type.DeclMutabilityKind.TheVariants.{Mutable}
 use Rattle.fast_check_helpers.specs.Builders.{type_ann, never_value}
 use Rattle.fast_check_helpers.specs.InferredType.{inferred_type}
 use Rattle.fast_check_helpers.specs.OptionalParams.{is_optional_param}
-use Rattle.fast_check_signatures.specs.declared.fault.FaultKind.TheVariants.{MissingExplicitType, UnsupportedDestructuring}
+use Rattle.fast_check_signatures.specs.declared.fault.FaultKind.TheVariants.{MissingExplicitType}
+use Rattle.fast_check_signatures.specs.declared.fault.FaultKind.TheVariants.{UnsupportedDestructuring}
 use Rattle.fast_check_signatures.specs.Bindings.{Bindings}
 use Rattle.fast_check_signatures.specs.Seen.{Seen, written, default, faulty}
 use Rattle.fast_check_signatures.specs.NewNodes.{never_array, empty_object_pat, or_undefined}
 
--- What is seen of an expression. A fault of a function stands at the place that is given, that of the parent that names it, or else at the function.
+-- What is seen of an expression. A fault of a function stands at the place that is given, that of the parent that names
+-- it, or else at the function.
 abbrev pub Look : Type 0
 Look = Tree → Option SourceRange → Seen
 
@@ -48,14 +54,16 @@ abbrev pub rest_arg : Tree → Tree
 rest_arg arg = arg_by_kind (kind_of arg) arg
 
 abbrev pub rest_seen : Tree → Seen
-rest_seen pat = typed (RestPat-type_ann pat) (RestPat-span pat) (rest_pat (RestPat-span pat) (RestPat-dot3_token pat) (rest_arg (RestPat-arg pat))
+rest_seen pat = typed (RestPat-type_ann pat) (RestPat-span pat)
+    (rest_pat (RestPat-span pat) (RestPat-dot3_token pat) (rest_arg (RestPat-arg pat))
     (RestPat-type_ann pat))
 
 -- an identifier with this mark
 abbrev pub with_optional : Bool → Tree → Tree
 with_optional optional id = ident (Ident-span id) (Ident-ctxt id) (Ident-sym id) optional
 
--- An identifier of a type that had a default: it may be left out where all parameters from it on may, and else takes `undefined` as well.
+-- An identifier of a type that had a default: it may be left out where all parameters from it on may, and else takes
+-- `undefined` as well.
 abbrev pub without_default : Bool → Tree → Tree → Tree
 without_default true id type = binding_ident (with_optional true id) type
 without_default false id type = binding_ident (with_optional false id) (or_undefined type)
@@ -67,7 +75,8 @@ default_seen span place left value = default (record { span = span; left = left;
 module _ (bindings : Bindings) (look : Look) where
   -- an identifier with a default, whose type is written, or shown by the default, or else left to it
   abbrev pub by_shown : Bool → Tree → Option Tree → Seen
-  by_shown is_optional pat (Some type) = written (without_default is_optional (BindingIdent-id (AssignPat-left pat)) (type_ann type))
+  by_shown is_optional pat (Some type) =
+      written (without_default is_optional (BindingIdent-id (AssignPat-left pat)) (type_ann type))
   by_shown is_optional pat None =
       let place = Ident-span (BindingIdent-id (AssignPat-left pat)) in
       default_seen (AssignPat-span pat) place (AssignPat-left pat) (look (AssignPat-right pat) (Some place))
@@ -75,7 +84,8 @@ module _ (bindings : Bindings) (look : Look) where
   abbrev pub ident_default_seen : Bool → Tree → Seen
   ident_default_seen is_optional pat =
       let id = AssignPat-left pat in
-      if is_absent (BindingIdent-type_ann id) then by_shown is_optional pat (inferred_type Mutable bindings.unresolved (AssignPat-right pat))
+      if is_absent (BindingIdent-type_ann id) then by_shown is_optional pat
+      (inferred_type Mutable bindings.unresolved (AssignPat-right pat))
       else written (without_default is_optional (BindingIdent-id id) (BindingIdent-type_ann id))
 
   -- a pattern with a default: behind a written type, `never` stands for the default
@@ -88,9 +98,11 @@ module _ (bindings : Bindings) (look : Look) where
   abbrev pub assign_by_left : Kind → Bool → Tree → Seen
   assign_by_left kinds.BindingIdent is_optional pat = ident_default_seen is_optional pat
   assign_by_left kinds.ArrayPat is_optional pat =
-      let left = AssignPat-left pat in pattern_default_seen (ArrayPat-type_ann left) (ArrayPat-span left) (emptied_array left) never_array pat
+      let left = AssignPat-left pat in pattern_default_seen (ArrayPat-type_ann left) (ArrayPat-span left)
+      (emptied_array left) never_array pat
   assign_by_left kinds.ObjectPat is_optional pat =
-      let left = AssignPat-left pat in pattern_default_seen (ObjectPat-type_ann left) (ObjectPat-span left) (emptied_object left) never_value pat
+      let left = AssignPat-left pat in pattern_default_seen (ObjectPat-type_ann left) (ObjectPat-span left)
+      (emptied_object left) never_value pat
   assign_by_left _ is_optional pat = faulty UnsupportedDestructuring (AssignPat-span pat)
 
   abbrev pub assign_seen : Bool → Tree → Seen
@@ -98,7 +110,8 @@ module _ (bindings : Bindings) (look : Look) where
 
   -- a parameter, and whether all from it on may be left out
   abbrev pub pat_by_kind : Kind → Bool → Tree → Seen
-  pat_by_kind kinds.BindingIdent is_optional pat = typed (BindingIdent-type_ann pat) (Ident-span (BindingIdent-id pat)) pat
+  pat_by_kind kinds.BindingIdent is_optional pat = typed (BindingIdent-type_ann pat)
+      (Ident-span (BindingIdent-id pat)) pat
   pat_by_kind kinds.AssignPat is_optional pat = assign_seen is_optional pat
   pat_by_kind kinds.RestPat is_optional pat = rest_seen pat
   pat_by_kind kinds.ArrayPat is_optional pat = typed (ArrayPat-type_ann pat) (ArrayPat-span pat) (emptied_array pat)

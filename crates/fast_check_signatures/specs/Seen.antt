@@ -13,7 +13,8 @@ pub record DeclaratorHead : Type 0 where
   pub ident : Tree
   pub definite : Bool
 
--- a parameter with a default, but for the default: what stands left of it, and the place where the type would be missing
+-- a parameter with a default, but for the default: what stands left of it, and the place where the type would be
+-- missing
 pub record DefaultHead : Type 0 where
   pub span : SourceRange
   pub left : Tree

@@ -3,8 +3,8 @@ use Rattle.std.specs.Prelude.{◌≡◌, ◌&&◌, Bool, true, false, not, ◌||
 use Rattle.std.specs.Prelude.{if◌then◌else◌}
 use Rattle.std.specs.List.{list_all}
 use Rattle.std.proofs.Common.{ap, ap₂, ◌∙◌, sym, subst, subst₂}
-use Rattle.fast_check_syntax.specs.declared.kind.Kind.TheVariants.{Module, BindingIdent, VarDeclarator, VarDecl, ExportDecl, FnDecl, ClassDecl, List as List'}
-use Rattle.fast_check_syntax.specs.declared.kind.Kind.TheVariants.{TsModuleDecl, TsModuleBlock, TsNamespaceDecl}
+use Rattle.fast_check_syntax.specs.declared.kind.Kind.TheVariants.{Module, BindingIdent, VarDeclarator, VarDecl, ExportDecl, FnDecl}
+use Rattle.fast_check_syntax.specs.declared.kind.Kind.TheVariants.{ClassDecl, List as List', TsModuleDecl, TsModuleBlock, TsNamespaceDecl}
 use Rattle.fast_check_syntax.specs.declared.kind.Word.TheVariants.{Const as ConstWord}
 use Rattle.fast_check_syntax.specs.declared.source.SourceRange.{SourceRange}
 use Rattle.fast_check_syntax.specs.declared.tree.Tree as tree
@@ -20,13 +20,14 @@ use Rattle.fast_check_ranges.specs.Ranges.{range_of_node}
 use Rattle.fast_check_program_forms.specs.Names.{Ident-span, binding_ident}
 use Rattle.fast_check_program_forms.specs.Programs.{Module-span, Module-shebang}
 use Rattle.fast_check_program_forms.specs.ModuleDecls.{ExportDecl-span, ExportDecl-decl}
-use Rattle.fast_check_statement_forms.specs.Declarations.{ClassDecl-ident, ClassDecl-declare, ClassDecl-class}
-use Rattle.fast_check_statement_forms.specs.Declarations.{FnDecl-ident, FnDecl-declare, FnDecl-function}
-use Rattle.fast_check_statement_forms.specs.Declarations.{VarDecl-span, VarDecl-ctxt, VarDecl-kind, VarDecl-declare, VarDecl-decls}
-use Rattle.fast_check_statement_forms.specs.Declarations.{VarDeclarator-span, VarDeclarator-name, VarDeclarator-init, VarDeclarator-definite}
-use Rattle.fast_check_statement_forms.specs.TsDeclarations.{TsModuleDecl-span, TsModuleDecl-declare, TsModuleDecl-global, TsModuleDecl-namespace}
-use Rattle.fast_check_statement_forms.specs.TsDeclarations.{TsModuleDecl-id, TsModuleDecl-body, TsModuleBlock-span, TsNamespaceDecl-span}
-use Rattle.fast_check_statement_forms.specs.TsDeclarations.{TsNamespaceDecl-declare, TsNamespaceDecl-global, TsNamespaceDecl-id}
+use Rattle.fast_check_statement_forms.specs.Declarations.{ClassDecl-ident, ClassDecl-declare, ClassDecl-class, FnDecl-ident, FnDecl-declare}
+use Rattle.fast_check_statement_forms.specs.Declarations.{FnDecl-function, VarDecl-span, VarDecl-ctxt, VarDecl-kind, VarDecl-declare}
+use Rattle.fast_check_statement_forms.specs.Declarations.{VarDecl-decls, VarDeclarator-span, VarDeclarator-name, VarDeclarator-init}
+use Rattle.fast_check_statement_forms.specs.Declarations.{VarDeclarator-definite}
+use Rattle.fast_check_statement_forms.specs.TsDeclarations.{TsModuleDecl-span, TsModuleDecl-declare, TsModuleDecl-global}
+use Rattle.fast_check_statement_forms.specs.TsDeclarations.{TsModuleDecl-namespace, TsModuleDecl-id, TsModuleDecl-body, TsModuleBlock-span}
+use Rattle.fast_check_statement_forms.specs.TsDeclarations.{TsNamespaceDecl-span, TsNamespaceDecl-declare, TsNamespaceDecl-global}
+use Rattle.fast_check_statement_forms.specs.TsDeclarations.{TsNamespaceDecl-id}
 use Rattle.fast_check_helpers.specs.declared.literal_type.DeclMutabilityKind.{DeclMutabilityKind}
 use Rattle.fast_check_helpers.specs.declared.literal_type.DeclMutabilityKind.TheVariants.{Const, Mutable}
 use Rattle.fast_check_signatures.specs.declared.fault.Fault.{Fault}
@@ -40,19 +41,20 @@ use Rattle.fast_check_helpers.proofs.BuildersMoved.{type_ann_moved, never_value_
 use Rattle.fast_check_skeleton.specs.Mutability.{mutability_of}
 use Rattle.fast_check_skeleton.specs.Namespaces.{innermost, block_items, items_inside, body_round}
 use Rattle.fast_check_signatures.specs.Seen.{Seen, written, range, scope, flag, round, listed, declarator, faulty, refused, seens}
-use Rattle.fast_check_skeleton.specs.Visible.{declared_ident, declared_type, declarator_head, typed_declarator, value_seen, untyped_seen, ident_declarator_seen}
-use Rattle.fast_check_skeleton.specs.Visible.{declarator_seen, is_ambient_statement, is_public_declarator, declarator_in, public_declarator, public_declarators}
-use Rattle.fast_check_skeleton.specs.Visible.{statement_seen, signature_of, function_decl_seen, public_function, is_ambient_class, class_in, class_decl_seen}
-use Rattle.fast_check_skeleton.specs.Visible.{public_class, is_public_using, using_place, decl_seen, exported_seen}
-use Rattle.fast_check_skeleton.specs.Visible.{item_look, body_seen, namespace_seen, seen_by_rule, item_seen, items_of, visible}
+use Rattle.fast_check_skeleton.specs.Visible.{declared_ident, declared_type, declarator_head, typed_declarator, value_seen, untyped_seen}
+use Rattle.fast_check_skeleton.specs.Visible.{ident_declarator_seen, declarator_seen, is_ambient_statement, is_public_declarator}
+use Rattle.fast_check_skeleton.specs.Visible.{declarator_in, public_declarator, public_declarators, statement_seen, signature_of}
+use Rattle.fast_check_skeleton.specs.Visible.{function_decl_seen, public_function, is_ambient_class, class_in, class_decl_seen}
+use Rattle.fast_check_skeleton.specs.Visible.{public_class, is_public_using, using_place, decl_seen, exported_seen, item_look, body_seen}
+use Rattle.fast_check_skeleton.specs.Visible.{namespace_seen, seen_by_rule, item_seen, items_of, visible}
 use Rattle.fast_check_signatures.specs.Answers.{answer_of}
 use Rattle.fast_check_signatures.specs.Classes.{plain_class_seen, ambient_class}
 use Rattle.fast_check_signatures.specs.Expressions.{expr_seen}
 use Rattle.fast_check_signatures.specs.Functions.{function_seen, implementation_seen}
 use Rattle.fast_check_skeleton.specs.SameValues.{SameBindings, Both, SameExpr}
 use Rattle.fast_check_skeleton.specs.SameValues as v
-use Rattle.fast_check_skeleton.proofs.AlikeTrees.{TreeAlike, image_alike, new_alike, absent_alike, range_leaf_alike, flag_leaf_alike, node_alike}
-use Rattle.fast_check_skeleton.proofs.AlikeTrees.{range_field_alike}
+use Rattle.fast_check_skeleton.proofs.AlikeTrees.{TreeAlike, image_alike, new_alike, absent_alike, range_leaf_alike, flag_leaf_alike}
+use Rattle.fast_check_skeleton.proofs.AlikeTrees.{node_alike, range_field_alike}
 use Rattle.fast_check_skeleton.proofs.AlikeSeen.{Alike, AllAlike, written_alike, same_written, range_alike, scope_alike, flag_alike}
 use Rattle.fast_check_skeleton.proofs.AlikeSeen.{alike_if, all_alike_if, faulty_alike, listed_alike, round_alike, append_alike}
 use Rattle.fast_check_signatures.proofs.Choices.{both_true}
@@ -63,15 +65,15 @@ use Rattle.fast_check_skeleton.proofs.AlikeClasses.{class_alike, ambient_class_a
 use Rattle.fast_check_skeleton.proofs.AlikeFunctions.{implementation_alike}
 use Rattle.fast_check_skeleton.specs.Skeleton.{transformed, skeleton_of, faults_of}
 use Rattle.fast_check_skeleton.specs.Hidden.{IsSilentDecl, IsSilent, SameHead, SameDeclarator, SameDeclarators, SameStatement}
-use Rattle.fast_check_skeleton.specs.Hidden.{SameFunctionDecl, SameClassDecl, SameDecl, SameNamespaceHead, SameInnerHead, SameItem, SameNamespace}
-use Rattle.fast_check_skeleton.specs.Hidden.{SameBody, SameItems, AgreeHidden}
+use Rattle.fast_check_skeleton.specs.Hidden.{SameFunctionDecl, SameClassDecl, SameDecl, SameNamespaceHead, SameInnerHead, SameItem}
+use Rattle.fast_check_skeleton.specs.Hidden.{SameNamespace, SameBody, SameItems, AgreeHidden}
 use Rattle.fast_check_skeleton.specs.Kinds.{is_standing}
 use Rattle.fast_check_skeleton.specs.Rules.{decl_rule, rule_of_kind, declares}
 use Rattle.fast_check_skeleton.specs.declared.rules.DeclRule.{DeclRule}
 use Rattle.fast_check_skeleton.specs.declared.rules.DeclRule.TheVariants.{Variables, Function, Class, Standing, Namespace, Using}
 use Rattle.fast_check_skeleton.proofs.Ruled.{assigned_rule, standing_rule, declared_rule, silent_rule, namespace_rule}
-use Rattle.fast_check_skeleton.proofs.Namespaces.{block_round, inner_round, body_of_block, body_of_inner, item_seen_is, no_global, namespace_if}
-use Rattle.fast_check_skeleton.proofs.Namespaces.{hidden_namespace, global_is, ambient_module_is}
+use Rattle.fast_check_skeleton.proofs.Namespaces.{block_round, inner_round, body_of_block, body_of_inner, item_seen_is, no_global}
+use Rattle.fast_check_skeleton.proofs.Namespaces.{namespace_if, hidden_namespace, global_is, ambient_module_is}
 use Rattle.fast_check_expression_forms.specs.Operators.{AssignExpr-span, AssignExpr-left}
 use Rattle.fast_check_statement_forms.specs.Statements.{ExprStmt-expr}
 use Rattle.fast_check_modules.specs.Expandos.{is_expando_assignment}
@@ -82,7 +84,8 @@ use Rattle.fast_check_expandos.specs.Assignments.{right_seen, missing_place, kep
 use Rattle.fast_check_expandos.specs.Expandos.{namespaces_seen}
 use Rattle.fast_check_expandos.proofs.PropertiesMoved.{moved_expando}
 use Rattle.fast_check_skeleton.specs.Visible.{properties_by_rule, item_properties}
-use Rattle.fast_check_skeleton.proofs.AgreeingAssignments.{PropertiesAlike, namespaces_alike as all_namespaces_alike, more_properties, assignments_alike, properties_alike}
+use Rattle.fast_check_skeleton.proofs.AgreeingAssignments.{PropertiesAlike, namespaces_alike as all_namespaces_alike, more_properties}
+use Rattle.fast_check_skeleton.proofs.AgreeingAssignments.{assignments_alike, properties_alike}
 use Rattle.fast_check_skeleton.proofs.AgreeingLinks.{silent_link, links_alike}
 use Rattle.fast_check_skeleton.proofs.AgreeingDefaults.{silent_default, defaults_alike}
 use Rattle.fast_check_skeleton.specs.SameLinks as l
@@ -145,13 +148,17 @@ module _ (around : Surroundings) where
   silent_item t (h.IsSilent.exported k s) = export_of t k ∙ ap (exported_seen t) (silent_decl (ExportDecl-span t) (ExportDecl-decl t) s)
   silent_item t (h.IsSilent.assigned k n e) =
       item_seen_is around t ∙ (ap (seen_by_rule around t) (assigned_rule t k n)
-      ∙ ap (λ p. if p then tested (missing_place around.objects (ExprStmt-expr t)) (right_seen around.bindings (ExprStmt-expr t)) ∷ [] else []) e)
-  silent_item t (h.IsSilent.linked s) = let e = silent_link around t s in item_seen_is around t ∙ (ap (seen_by_rule around t) e.is ∙ e.unseen)
-  silent_item t (h.IsSilent.default s) = let e = silent_default around t s in item_seen_is around t ∙ (ap (seen_by_rule around t) e.is ∙ e.unseen)
+      ∙ ap (λ p. if p then tested (missing_place around.objects (ExprStmt-expr t)) (right_seen around.bindings (ExprStmt-expr t)) ∷
+      [] else []) e)
+  silent_item t (h.IsSilent.linked s) = let e = silent_link around t s in item_seen_is around t ∙
+      (ap (seen_by_rule around t) e.is ∙ e.unseen)
+  silent_item t (h.IsSilent.default s) = let e = silent_default around t s in item_seen_is around t ∙
+      (ap (seen_by_rule around t) e.is ∙ e.unseen)
 
   -- nor does it declare a property
   pub silent_properties : (t : Tree) → IsSilent around t → item_properties around t ≡ []
-  silent_properties t (h.IsSilent.decl s) = ap (properties_by_rule around t) (declared_rule (kind_of t) t (silent_declares (range_of_node t) t s))
+  silent_properties t (h.IsSilent.decl s) = ap (properties_by_rule around t)
+      (declared_rule (kind_of t) t (silent_declares (range_of_node t) t s))
   silent_properties t (h.IsSilent.statement s) = ap (properties_by_rule around t) (silent_rule t s)
   silent_properties t (h.IsSilent.exported k s) = ap (λ j. properties_by_rule around t (rule_of_kind j t)) k
   silent_properties t (h.IsSilent.assigned k n e) =
@@ -186,12 +193,15 @@ module _ (r : Renaming) (ok : IsRenaming r) where
         ap (λ k. if k is BindingIdent then ident_declarator_seen around mutability d else faulty UnsupportedDestructuring
         (range_of_node (VarDeclarator-name d))) e
 
-    of_pattern : (around : Surroundings) (mutability : DeclMutabilityKind) (d : Tree) → kind_of (VarDeclarator-name d) is BindingIdent ≡ false →
+    of_pattern : (around : Surroundings) (mutability : DeclMutabilityKind) (d : Tree) →
+        kind_of (VarDeclarator-name d) is BindingIdent ≡ false →
         declarator_seen around mutability d ≡ faulty UnsupportedDestructuring (range_of_node (VarDeclarator-name d))
     of_pattern around mutability d e =
-        ap (λ b. if b then ident_declarator_seen around mutability d else faulty UnsupportedDestructuring (range_of_node (VarDeclarator-name d))) e
+        ap (λ b. if b then ident_declarator_seen around mutability d else faulty UnsupportedDestructuring
+        (range_of_node (VarDeclarator-name d))) e
 
-    head_alike : (t u : Tree) → SameHead r a b t u → moved_declarator (partners r) (declarator_head t) ≡ moved_declarator twice (declarator_head u)
+    head_alike : (t u : Tree) → SameHead r a b t u → moved_declarator (partners r) (declarator_head t) ≡ moved_declarator twice
+        (declarator_head u)
     head_alike t u d = λ i. record {
       span = range_to r ok (VarDeclarator-span t) (VarDeclarator-span u) d.span i;
       ident = tree_to r ok d.ident i;
@@ -202,11 +212,14 @@ module _ (r : Renaming) (ok : IsRenaming r) where
         Alike r ok (written (typed_declarator (declarator_head t) x)) (written (typed_declarator (declarator_head u) y))
     typed_alike t u x y d e =
         let parts_of : Tree → Tree → List Tree =
-        λ v type. tree.Range (VarDeclarator-span v) ∷ binding_ident (declared_ident v) type ∷ never_value ∷ tree.Flag (VarDeclarator-definite v) ∷ [] in
+        λ v type. tree.Range (VarDeclarator-span v) ∷ binding_ident (declared_ident v) type ∷ never_value ∷
+        tree.Flag (VarDeclarator-definite v) ∷ [] in
         written_alike r ok _ _ (node_alike r ok VarDeclarator (parts_of t x) (parts_of u y)
-        (λ i. range_leaf_alike r ok (VarDeclarator-span t) (VarDeclarator-span u) (range_to r ok (VarDeclarator-span t) (VarDeclarator-span u) d.span) i ∷
+        (λ i. range_leaf_alike r ok (VarDeclarator-span t) (VarDeclarator-span u)
+        (range_to r ok (VarDeclarator-span t) (VarDeclarator-span u) d.span) i ∷
         node_alike r ok BindingIdent (declared_ident t ∷ x ∷ []) (declared_ident u ∷ y ∷ []) (λ j. tree_to r ok d.ident j ∷ e j ∷ []) i ∷
-        new_alike r ok never_value never_value_moved i ∷ flag_leaf_alike r ok (VarDeclarator-definite t) (VarDeclarator-definite u) d.definite i ∷ []))
+        new_alike r ok never_value never_value_moved i ∷ flag_leaf_alike r ok (VarDeclarator-definite t)
+        (VarDeclarator-definite u) d.definite i ∷ []))
 
     abbrev UntypedAlike : Tree → Tree → Option Tree → Option Tree → Type 0
     UntypedAlike t u o o' = Alike r ok (untyped_seen a t o) (untyped_seen b u o')
@@ -220,7 +233,8 @@ module _ (r : Renaming) (ok : IsRenaming r) where
         (alike_if r ok (is_absent (declared_type t)) (is_absent (declared_type u))
         (untyped_seen a t (shown_of a mutability t)) (written (typed_declarator (declarator_head t) (declared_type t)))
         (untyped_seen b u (shown_of b mutability u)) (written (typed_declarator (declarator_head u) (declared_type u)))
-        (absent_same (declared_type t) (declared_type u) d.type) v (λ e. typed_alike t u (declared_type t) (declared_type u) d (tree_to r ok d.type)))
+        (absent_same (declared_type t) (declared_type u) d.type) v
+        (λ e. typed_alike t u (declared_type t) (declared_type u) d (tree_to r ok d.type)))
 
     shown_alike : (t u x y : Tree) → SameHead r a b t u → TreeAlike r ok x y → UntypedAlike t u (Some x) (Some y)
     shown_alike t u x y d e =
@@ -258,13 +272,15 @@ module _ (r : Renaming) (ok : IsRenaming r) where
         (expr_seen b.bindings value' (Some place')) (e ∙ sym f) (λ g. refl) (λ g. cc) in
         λ i. declarator (head_alike t u d i) (same i)
 
-    declarator_alike : SameBindings r a.bindings b.bindings → (mutability : DeclMutabilityKind) {t u : Tree} → SameDeclarator r a b mutability t u →
+    declarator_alike : SameBindings r a.bindings b.bindings → (mutability : DeclMutabilityKind) {t u : Tree} →
+        SameDeclarator r a b mutability t u →
         Alike r ok (declarator_seen a mutability t) (declarator_seen b mutability u)
     declarator_alike c mutability (h.SameDeclarator.typed {t = t} {u = u} d w) = declared mutability t u d (λ e. cc)
     declarator_alike c mutability (h.SameDeclarator.inferred {t = t} {u = u} x y d f g s) =
         declared mutability t u d (λ e. subst₂ (UntypedAlike t u) (sym f) (sym g) (shown_alike t u x y d (tree_to r ok s)))
     declarator_alike c mutability (h.SameDeclarator.absent {t = t} {u = u} d x y) =
-        declared mutability t u d (λ e. subst₂ (UntypedAlike t u) (sym (absent_shows mutability a.bindings.unresolved (VarDeclarator-init t) x))
+        declared mutability t u d
+        (λ e. subst₂ (UntypedAlike t u) (sym (absent_shows mutability a.bindings.unresolved (VarDeclarator-init t) x))
         (sym (absent_shows mutability b.bindings.unresolved (VarDeclarator-init u) y)) (none_alike t u d x y))
     declarator_alike c mutability (h.SameDeclarator.kept {t = t} {u = u} d f g s) =
         declared mutability t u d (λ e. subst₂ (UntypedAlike t u) (sym f) (sym g) (kept_alike c t u d s))
@@ -274,16 +290,20 @@ module _ (r : Renaming) (ok : IsRenaming r) where
 
     declarators_alike : (Same : Tree → Tree → Type 0) (s s' : Tree) →
         ((t u : Tree) → Same t u → Alike r ok (declarator_in a s t) (declarator_in b s' u)) →
-        (ts us : List Tree) → SameDeclarators r a b Same ts us → AllAlike r ok (flat_map (public_declarator a s) ts) (flat_map (public_declarator b s') us)
+        (ts us : List Tree) → SameDeclarators r a b Same ts us →
+        AllAlike r ok (flat_map (public_declarator a s) ts) (flat_map (public_declarator b s') us)
     declarators_alike Same s s' f [] [] l.SamePublic.end = refl
     declarators_alike Same s s' f (t ∷ ts) us (l.SamePublic.left q rest) =
-        subst (λ xs. AllAlike r ok (xs ++ flat_map (public_declarator a s) ts) (flat_map (public_declarator b s') us)) (sym (not_public a s t q))
+        subst (λ xs. AllAlike r ok (xs ++ flat_map (public_declarator a s) ts) (flat_map (public_declarator b s') us))
+        (sym (not_public a s t q))
         (declarators_alike Same s s' f ts us rest)
     declarators_alike Same s s' f ts (u ∷ us) (l.SamePublic.right q rest) =
-        subst (λ xs. AllAlike r ok (flat_map (public_declarator a s) ts) (xs ++ flat_map (public_declarator b s') us)) (sym (not_public b s' u q))
+        subst (λ xs. AllAlike r ok (flat_map (public_declarator a s) ts) (xs ++ flat_map (public_declarator b s') us))
+        (sym (not_public b s' u q))
         (declarators_alike Same s s' f ts us rest)
     declarators_alike Same s s' f (t ∷ ts) (u ∷ us) (l.SamePublic.next e x rest) =
-        append_alike r ok (public_declarator a s t) (flat_map (public_declarator a s) ts) (public_declarator b s' u) (flat_map (public_declarator b s') us)
+        append_alike r ok (public_declarator a s t) (flat_map (public_declarator a s) ts) (public_declarator b s' u)
+        (flat_map (public_declarator b s') us)
         (all_alike_if r ok (is_public_declarator a t) (is_public_declarator b u) (declarator_in a s t) (declarator_in b s' u) e (f t u x))
         (declarators_alike Same s s' f ts us rest)
 
@@ -294,27 +314,33 @@ module _ (r : Renaming) (ok : IsRenaming r) where
     statement_alike t u [] [] d p = refl
     statement_alike t u (x ∷ xs) (y ∷ ys) d p =
         ap (λ s. s ∷ []) (round_alike r ok VarDecl
-        (range (VarDecl-span t) ∷ scope (VarDecl-ctxt t) ∷ written (VarDecl-kind t) ∷ flag (VarDecl-declare t) ∷ listed (seens (x ∷ xs)) ∷ [])
-        (range (VarDecl-span u) ∷ scope (VarDecl-ctxt u) ∷ written (VarDecl-kind u) ∷ flag (VarDecl-declare u) ∷ listed (seens (y ∷ ys)) ∷ [])
+        (range (VarDecl-span t) ∷ scope (VarDecl-ctxt t) ∷ written (VarDecl-kind t) ∷ flag (VarDecl-declare t) ∷ listed (seens (x ∷ xs)) ∷
+        [])
+        (range (VarDecl-span u) ∷ scope (VarDecl-ctxt u) ∷ written (VarDecl-kind u) ∷ flag (VarDecl-declare u) ∷ listed (seens (y ∷ ys)) ∷
+        [])
         (λ i. range_alike r ok (VarDecl-span t) (VarDecl-span u) d.span i ∷ scope_alike r ok (VarDecl-ctxt t) (VarDecl-ctxt u) d.ctxt i ∷
-        same_written r ok d.kind i ∷ flag_alike r ok (VarDecl-declare t) (VarDecl-declare u) d.declare i ∷ listed_alike r ok (x ∷ xs) (y ∷ ys) p i ∷ []))
+        same_written r ok d.kind i ∷ flag_alike r ok (VarDecl-declare t) (VarDecl-declare u) d.declare i ∷
+        listed_alike r ok (x ∷ xs) (y ∷ ys) p i ∷ []))
     statement_alike t u [] (y ∷ ys) d p = cc
     statement_alike t u (x ∷ xs) [] d p = cc
 
     const_alike : (t u : Tree) → SameTree r t u → has_word ConstWord t ≡ has_word ConstWord u
-    const_alike t u s = sym (has_word_moved (partners r) ConstWord t) ∙ (ap (has_word ConstWord) (tree_to r ok s) ∙ has_word_moved twice ConstWord u)
+    const_alike t u s = sym (has_word_moved (partners r) ConstWord t) ∙
+        (ap (has_word ConstWord) (tree_to r ok s) ∙ has_word_moved twice ConstWord u)
 
     mutability_alike : (t u : Tree) → SameTree r t u → mutability_of t ≡ mutability_of u
     mutability_alike t u s = ap (λ c. if c then Const else Mutable) (const_alike t u s)
 
-    ambient_alike : (t u : Tree) → a.is_ambient ≡ b.is_ambient → VarDecl-declare t ≡ VarDecl-declare u → is_ambient_statement a t ≡ is_ambient_statement b u
+    ambient_alike : (t u : Tree) → a.is_ambient ≡ b.is_ambient → VarDecl-declare t ≡ VarDecl-declare u →
+        is_ambient_statement a t ≡ is_ambient_statement b u
     ambient_alike t u e f = ap₂ (λ x y. x || y) e f
 
     -- ---- functions
 
     -- what is seen of a function that is no implementation
     abbrev here : Surroundings → Tree → Seen
-    here around t = function_seen around.bindings (expr_seen around.bindings) DeclarationLike (Ident-span (FnDecl-ident t)) (FnDecl-function t)
+    here around t = function_seen around.bindings (expr_seen around.bindings) DeclarationLike (Ident-span (FnDecl-ident t))
+        (FnDecl-function t)
 
     abbrev signature_if : Surroundings → Tree → Bool → Seen → Seen
     signature_if around t is_implementation seen = if is_implementation then implementation_seen (FnDecl-function t) else seen
@@ -330,10 +356,12 @@ module _ (r : Renaming) (ok : IsRenaming r) where
         round_alike r ok FnDecl (written (FnDecl-ident t) ∷ flag (FnDecl-declare t) ∷ signature_of a p t ∷ [])
         (written (FnDecl-ident u) ∷ flag (FnDecl-declare u) ∷ signature_of b q u ∷ [])
         (λ i. same_written r ok d.ident i ∷ flag_alike r ok (FnDecl-declare t) (FnDecl-declare u) d.declare i ∷ s i ∷ []) in
-        subst₂ (λ x y. Alike r ok (if x then written t else function_form a p t) (if y then written u else function_form b q u)) (sym d.is_ambient)
+        subst₂ (λ x y. Alike r ok (if x then written t else function_form a p t) (if y then written u else function_form b q u))
+        (sym d.is_ambient)
         (sym d.is_ambient ∙ m) same
 
-    public_alike : (p q : SourceRange) (t u : Tree) → a.is_public p ≡ b.is_public q → Alike r ok (function_decl_seen a p t) (function_decl_seen b q u) →
+    public_alike : (p q : SourceRange) (t u : Tree) → a.is_public p ≡ b.is_public q →
+        Alike r ok (function_decl_seen a p t) (function_decl_seen b q u) →
         AllAlike r ok (public_function a p t) (public_function b q u)
     public_alike p q t u e s = all_alike_if r ok (a.is_public p) (b.is_public q) (function_decl_seen a p t) (function_decl_seen b q u) e s
 
@@ -345,9 +373,11 @@ module _ (r : Renaming) (ok : IsRenaming r) where
 
     abbrev class_if : Surroundings → Tree → Bool → Seen
     class_if around t is_ambient' =
-        if is_ambient' then written (ambient_class (ClassDecl-class t)) else plain_class_seen around.bindings around.is_implementation (ClassDecl-class t)
+        if is_ambient' then written (ambient_class (ClassDecl-class t)) else plain_class_seen around.bindings around.is_implementation
+        (ClassDecl-class t)
 
-    classes_alike : (p q : SourceRange) (t u : Tree) → SameClassDecl r a b t u → a.is_public p ≡ b.is_public q → Alike r ok (class_in a t) (class_in b u) →
+    classes_alike : (p q : SourceRange) (t u : Tree) → SameClassDecl r a b t u → a.is_public p ≡ b.is_public q →
+        Alike r ok (class_in a t) (class_in b u) →
         AllAlike r ok (public_class a p t) (public_class b q u)
     classes_alike p q t u d e s = all_alike_if r ok (a.is_public p) (b.is_public q) (class_decl_seen a t) (class_decl_seen b u) e
         (round_alike r ok ClassDecl (written (ClassDecl-ident t) ∷ flag (ClassDecl-declare t) ∷ class_in a t ∷ [])
@@ -368,10 +398,12 @@ module _ (r : Renaming) (ok : IsRenaming r) where
       alike = subst₂ (λ x y. AllAlike r ok (decl_seen a p t x) (decl_seen b q u y)) (sym e) (sym f) s;
     }
 
-    of_functions : (p q : SourceRange) (t u : Tree) → Both FnDecl t u → AllAlike r ok (public_function a p t) (public_function b q u) → DeclsAlike p q t u
+    of_functions : (p q : SourceRange) (t u : Tree) → Both FnDecl t u → AllAlike r ok (public_function a p t) (public_function b q u) →
+        DeclsAlike p q t u
     of_functions p q t u k s = by_rule p q t u Function (ap decl_rule k.left) (ap decl_rule k.right) refl s
 
-    of_classes : (p q : SourceRange) (t u : Tree) → Both ClassDecl t u → AllAlike r ok (public_class a p t) (public_class b q u) → DeclsAlike p q t u
+    of_classes : (p q : SourceRange) (t u : Tree) → Both ClassDecl t u → AllAlike r ok (public_class a p t) (public_class b q u) →
+        DeclsAlike p q t u
     of_classes p q t u k s = by_rule p q t u Class (ap decl_rule k.left) (ap decl_rule k.right) refl s
 
     of_variables : (p q : SourceRange) (t u : Tree) (Same : Tree → Tree → Type 0) → SameStatement r a b t u →
@@ -402,13 +434,15 @@ module _ (r : Renaming) (ok : IsRenaming r) where
             (written x) (declarator_seen a (declared_as t) x) (written y) (declarator_seen b (declared_as u) y)
             (ambient_alike t u m d.declare) (λ e. same_written r ok s) (λ e. cc)
     decl_alike c m p q t u (h.SameDecl.standing k d s e f) =
-        by_rule p q t u Standing (standing_rule (kind_of t) (ap is_standing d.left ∙ s)) (standing_rule (kind_of u) (ap is_standing d.right ∙ s)) refl
+        by_rule p q t u Standing (standing_rule (kind_of t) (ap is_standing d.left ∙ s))
+        (standing_rule (kind_of u) (ap is_standing d.right ∙ s)) refl
         (all_alike_if r ok (a.is_public p) (b.is_public q) (written t) (written u) e (same_written r ok f))
     decl_alike c m p q t u (h.SameDecl.function d e f g) =
         of_functions p q t u d.kinds (public_alike p q t u d.is_public (declared_function p q t u m d
         (subst₂ (λ x y. Alike r ok (signature_if a t x (here a t)) (signature_if b u y (here b u))) (sym e) (sym f)
         (function_alike r ok a.bindings b.bindings c g DeclarationLike (Ident-span (FnDecl-ident t)) (Ident-span (FnDecl-ident u))
-        (range_to r ok (Ident-span (FnDecl-ident t)) (Ident-span (FnDecl-ident u)) (ident_place (FnDecl-ident t) (FnDecl-ident u) d.ident))))))
+        (range_to r ok (Ident-span (FnDecl-ident t)) (Ident-span (FnDecl-ident u))
+        (ident_place (FnDecl-ident t) (FnDecl-ident u) d.ident))))))
     decl_alike c m p q t u (h.SameDecl.implementation d e f g) =
         of_functions p q t u d.kinds (public_alike p q t u d.is_public (declared_function p q t u m d
         (subst₂ (λ x y. Alike r ok (signature_if a t x (here a t)) (signature_if b u y (here b u))) (sym e) (sym f)
@@ -428,7 +462,8 @@ module _ (r : Renaming) (ok : IsRenaming r) where
         (ClassDecl-class u) s))))
     decl_alike c m p q t u (h.SameDecl.using k d e s) =
         by_rule p q t u Using (ap decl_rule k.left) (ap decl_rule k.right) refl
-        (all_alike_if r ok (is_public_using a p t) (is_public_using b q u) (faulty UnsupportedUsing (using_place t)) (faulty UnsupportedUsing (using_place u)) e
+        (all_alike_if r ok (is_public_using a p t) (is_public_using b q u) (faulty UnsupportedUsing (using_place t))
+        (faulty UnsupportedUsing (using_place u)) e
         (faulty_alike r ok UnsupportedUsing (using_place t) (using_place u) (range_to r ok (using_place t) (using_place u) s)))
     decl_alike c m p q t u (h.SameDecl.global k e f s) =
         by_rule p q t u Namespace (ap decl_rule k.left) (ap decl_rule k.right) refl
@@ -491,14 +526,17 @@ module _ (r : Renaming) (ok : IsRenaming r) where
   block_alike : (t u : Tree) (xs ys : List Seen) → SameRange r (TsModuleBlock-span t) (TsModuleBlock-span u) → AllAlike r ok xs ys →
       Alike r ok (block_round t xs) (block_round u ys)
   block_alike t u xs ys s e =
-      round_alike r ok TsModuleBlock (range (TsModuleBlock-span t) ∷ listed (seens xs) ∷ []) (range (TsModuleBlock-span u) ∷ listed (seens ys) ∷ [])
+      round_alike r ok TsModuleBlock (range (TsModuleBlock-span t) ∷ listed (seens xs) ∷ [])
+      (range (TsModuleBlock-span u) ∷ listed (seens ys) ∷ [])
       (λ i. range_alike r ok (TsModuleBlock-span t) (TsModuleBlock-span u) s i ∷ listed_alike r ok xs ys e i ∷ [])
 
   inner_alike : (t u : Tree) (x y : Seen) → SameInnerHead r t u → Alike r ok x y → Alike r ok (inner_round t x) (inner_round u y)
   inner_alike t u x y d e =
       round_alike r ok TsNamespaceDecl
-      (range (TsNamespaceDecl-span t) ∷ flag (TsNamespaceDecl-declare t) ∷ flag (TsNamespaceDecl-global t) ∷ written (TsNamespaceDecl-id t) ∷ x ∷ [])
-      (range (TsNamespaceDecl-span u) ∷ flag (TsNamespaceDecl-declare u) ∷ flag (TsNamespaceDecl-global u) ∷ written (TsNamespaceDecl-id u) ∷ y ∷ [])
+      (range (TsNamespaceDecl-span t) ∷ flag (TsNamespaceDecl-declare t) ∷ flag (TsNamespaceDecl-global t) ∷
+      written (TsNamespaceDecl-id t) ∷ x ∷ [])
+      (range (TsNamespaceDecl-span u) ∷ flag (TsNamespaceDecl-declare u) ∷ flag (TsNamespaceDecl-global u) ∷
+      written (TsNamespaceDecl-id u) ∷ y ∷ [])
       (λ i. range_alike r ok (TsNamespaceDecl-span t) (TsNamespaceDecl-span u) d.span i ∷
       flag_alike r ok (TsNamespaceDecl-declare t) (TsNamespaceDecl-declare u) d.declare i ∷
       flag_alike r ok (TsNamespaceDecl-global t) (TsNamespaceDecl-global u) d.global i ∷ same_written r ok d.id i ∷ e i ∷ [])
@@ -511,18 +549,22 @@ module _ (r : Renaming) (ok : IsRenaming r) where
       PropertiesAlike r ok (item_properties a t) (item_properties b u)
   no_properties a b t u e f = ap (map (moved_expando (partners r))) e ∙ sym (ap (map (moved_expando twice)) f)
 
-  declared_alike : {a b : Surroundings} {t u : Tree} → SameBindings r a.bindings b.bindings → a.is_ambient ≡ b.is_ambient → SameItem r a b t u →
+  declared_alike : {a b : Surroundings} {t u : Tree} → SameBindings r a.bindings b.bindings → a.is_ambient ≡ b.is_ambient →
+      SameItem r a b t u →
       PropertiesAlike r ok (item_properties a t) (item_properties b u)
   declared_alike c m (h.SameItem.decl {a = a} {b = b} {t = t} {u = u} d) =
       let e = decl_taken a b c m (range_of_node t) (range_of_node u) t u d in
-      no_properties a b t u (ap (properties_by_rule a t) (declared_rule (kind_of t) t e.0)) (ap (properties_by_rule b u) (declared_rule (kind_of u) u e.1))
+      no_properties a b t u (ap (properties_by_rule a t) (declared_rule (kind_of t) t e.0))
+      (ap (properties_by_rule b u) (declared_rule (kind_of u) u e.1))
   declared_alike c m (h.SameItem.exported {a = a} {b = b} {t = t} {u = u} k s d) =
-      no_properties a b t u (ap (λ j. properties_by_rule a t (rule_of_kind j t)) k.left) (ap (λ j. properties_by_rule b u (rule_of_kind j u)) k.right)
+      no_properties a b t u (ap (λ j. properties_by_rule a t (rule_of_kind j t)) k.left)
+      (ap (λ j. properties_by_rule b u (rule_of_kind j u)) k.right)
   declared_alike c m (h.SameItem.namespace {a = a} {b = b} {t = t} {u = u} d) =
       let k = namespace_kinds d in
       no_properties a b t u (ap (properties_by_rule a t) (namespace_rule t k.left)) (ap (properties_by_rule b u) (namespace_rule u k.right))
   declared_alike c m (h.SameItem.exported_namespace {a = a} {b = b} {t = t} {u = u} k s d) =
-      no_properties a b t u (ap (λ j. properties_by_rule a t (rule_of_kind j t)) k.left) (ap (λ j. properties_by_rule b u (rule_of_kind j u)) k.right)
+      no_properties a b t u (ap (λ j. properties_by_rule a t (rule_of_kind j t)) k.left)
+      (ap (λ j. properties_by_rule b u (rule_of_kind j u)) k.right)
   declared_alike c m (h.SameItem.linked {a = a} {b = b} {t = t} {u = u} d) =
       let e = links_alike r ok a b t u d in
       no_properties a b t u (ap (properties_by_rule a t) e.left) (ap (properties_by_rule b u) e.right)
@@ -530,8 +572,10 @@ module _ (r : Renaming) (ok : IsRenaming r) where
       let e = defaults_alike r ok a b c m t u d in
       no_properties a b t u (ap (properties_by_rule a t) e.left) (ap (properties_by_rule b u) e.right)
   declared_alike c m (h.SameItem.assigned {a = a} {b = b} {t = t} {u = u} d) =
-      subst₂ (λ x y. PropertiesAlike r ok (properties_by_rule a t x) (properties_by_rule b u y)) (sym (assigned_rule t d.kinds.left d.assignments.kinds.left))
-      (sym (assigned_rule u d.kinds.right d.assignments.kinds.right)) (properties_alike r ok a b (ExprStmt-expr t) (ExprStmt-expr u) d.assignments c)
+      subst₂ (λ x y. PropertiesAlike r ok (properties_by_rule a t x) (properties_by_rule b u y))
+      (sym (assigned_rule t d.kinds.left d.assignments.kinds.left))
+      (sym (assigned_rule u d.kinds.right d.assignments.kinds.right))
+      (properties_alike r ok a b (ExprStmt-expr t) (ExprStmt-expr u) d.assignments c)
   declared_alike c m (h.SameItem.refused {a = a} {b = b} {t = t} {u = u} kind e f s) =
       no_properties a b t u (ap (properties_by_rule a t) e) (ap (properties_by_rule b u) f)
 
@@ -539,9 +583,11 @@ module _ (r : Renaming) (ok : IsRenaming r) where
       SameItems r a b ts us → PropertiesAlike r ok (each_declared a ts) (each_declared b us)
   all_declared_alike c m h.SameItems.end = refl
   all_declared_alike c m (h.SameItems.left {a = a} {b = b} {t = t} {ts = ts} {us = us} q n rest) =
-      subst (λ xs. PropertiesAlike r ok (xs ++ each_declared a ts) (each_declared b us)) (sym (silent_properties a t q)) (all_declared_alike c m rest)
+      subst (λ xs. PropertiesAlike r ok (xs ++ each_declared a ts) (each_declared b us)) (sym (silent_properties a t q))
+      (all_declared_alike c m rest)
   all_declared_alike c m (h.SameItems.right {a = a} {b = b} {u = u} {ts = ts} {us = us} q n rest) =
-      subst (λ xs. PropertiesAlike r ok (each_declared a ts) (xs ++ each_declared b us)) (sym (silent_properties b u q)) (all_declared_alike c m rest)
+      subst (λ xs. PropertiesAlike r ok (each_declared a ts) (xs ++ each_declared b us)) (sym (silent_properties b u q))
+      (all_declared_alike c m rest)
   all_declared_alike c m (h.SameItems.next {a = a} {b = b} {t = t} {u = u} {ts = ts} {us = us} s rest) =
       more_properties r ok (item_properties a t) (each_declared a ts) (item_properties b u) (each_declared b us) (declared_alike c m s)
       (all_declared_alike c m rest)
@@ -581,14 +627,17 @@ module _ (r : Renaming) (ok : IsRenaming r) where
         (subst₂ (λ x y. AllAlike r ok (seen_by_rule a t x) (seen_by_rule b u y)) (sym e.left) (sym e.right) e.alike)
     item_alike c m (h.SameItem.assigned {a = a} {b = b} {t = t} {u = u} d) =
         subst₂ (AllAlike r ok) (sym (item_seen_is a t)) (sym (item_seen_is b u))
-        (subst₂ (λ x y. AllAlike r ok (seen_by_rule a t x) (seen_by_rule b u y)) (sym (assigned_rule t d.kinds.left d.assignments.kinds.left))
-        (sym (assigned_rule u d.kinds.right d.assignments.kinds.right)) (assignments_alike r ok a b (ExprStmt-expr t) (ExprStmt-expr u) d.assignments c))
+        (subst₂ (λ x y. AllAlike r ok (seen_by_rule a t x) (seen_by_rule b u y))
+        (sym (assigned_rule t d.kinds.left d.assignments.kinds.left))
+        (sym (assigned_rule u d.kinds.right d.assignments.kinds.right))
+        (assignments_alike r ok a b (ExprStmt-expr t) (ExprStmt-expr u) d.assignments c))
     item_alike c m (h.SameItem.refused {a = a} {b = b} {t = t} {u = u} kind e f s) =
         subst₂ (AllAlike r ok) (sym (item_seen_is a t)) (sym (item_seen_is b u))
         (subst₂ (λ x y. AllAlike r ok (seen_by_rule a t x) (seen_by_rule b u y)) (sym e) (sym f)
         (ap (λ x. faulty kind x ∷ []) (range_to r ok (range_of_node t) (range_of_node u) s)))
 
-    namespaces_alike : {a b : Surroundings} {p q : SourceRange} {t u : Tree} → SameBindings r a.bindings b.bindings → a.is_ambient ≡ b.is_ambient →
+    namespaces_alike : {a b : Surroundings} {p q : SourceRange} {t u : Tree} → SameBindings r a.bindings b.bindings →
+        a.is_ambient ≡ b.is_ambient →
         SameNamespace r a b p q t u → AllAlike r ok (namespace_seen item_look a p t) (namespace_seen item_look b q u)
     namespaces_alike c m (h.SameNamespace.bodies {a = a} {b = b} {p = p} {q = q} {t = t} {u = u} d s) =
         namespace_alike a b p q t u d (body_alike c (ap₂ (λ x y. x || y) m d.declare) s)
@@ -602,7 +651,8 @@ module _ (r : Renaming) (ok : IsRenaming r) where
         (with_namespaces a b (block_items t) (block_items u) (each_alike c m rest) (all_declared_alike c m rest)))
     body_alike c m (h.SameBody.inner {a = a} {b = b} {t = t} {u = u} d s) =
         subst₂ (Alike r ok) (sym (body_of_inner (body_seen item_look a) t (ap (λ k. k is TsNamespaceDecl) d.kinds.left)))
-        (sym (body_of_inner (body_seen item_look b) u (ap (λ k. k is TsNamespaceDecl) d.kinds.right))) (inner_alike t u _ _ d (body_alike c m s))
+        (sym (body_of_inner (body_seen item_look b) u (ap (λ k. k is TsNamespaceDecl) d.kinds.right)))
+        (inner_alike t u _ _ d (body_alike c m s))
 
     each_alike : {a b : Surroundings} {ts us : List Tree} → SameBindings r a.bindings b.bindings → a.is_ambient ≡ b.is_ambient →
         SameItems r a b ts us → AllAlike r ok (each_seen a ts) (each_seen b us)
@@ -617,7 +667,8 @@ module _ (r : Renaming) (ok : IsRenaming r) where
   module _ (a b : Surroundings) where
     visible_alike : (t u : Tree) → AgreeHidden r a b t u → AllAlike r ok (visible a t) (visible b u)
     visible_alike t u g =
-        with_namespaces a b (items_of t) (items_of u) (each_alike g.bindings g.is_ambient g.items) (all_declared_alike g.bindings g.is_ambient g.items)
+        with_namespaces a b (items_of t) (items_of u) (each_alike g.bindings g.is_ambient g.items)
+        (all_declared_alike g.bindings g.is_ambient g.items)
 
     -- ---- answers
 
@@ -642,8 +693,10 @@ module _ (r : Renaming) (ok : IsRenaming r) where
           record {
             body = subst₂ (SameTree r) (sym (part_node _ Module (module_parts a t))) (sym (part_node _ Module (module_parts b u)))
                 (tree_from r ok (list (transformed a t).stays) (list (transformed b u).stays)
-                (node_moved (partners r) List' (transformed a t).stays ∙ (ap (λ x. list x.stays) e ∙ sym (node_moved twice List' (transformed b u).stays))));
-            shebang = subst₂ (SameTree r) (sym (part_node _ Module (module_parts a t))) (sym (part_node _ Module (module_parts b u))) g.shebang;
+                (node_moved (partners r) List' (transformed a t).stays ∙
+                (ap (λ x. list x.stays) e ∙ sym (node_moved twice List' (transformed b u).stays))));
+            shebang = subst₂ (SameTree r) (sym (part_node _ Module (module_parts a t)))
+                (sym (part_node _ Module (module_parts b u))) g.shebang;
           },
           faults_from (transformed a t).faults (transformed b u).faults (ap (λ x. x.faults) e),
         )

@@ -1,5 +1,6 @@
 -- Assignments that agree are seen alike, and declare the same properties.
-use Rattle.std.specs.Prelude.{◌≡◌, ℕ, Bool, true, false, not, ◌&&◌, Option, Some, None, List, [], ◌∷◌, ◌++◌, map, option_map, refl, if◌then◌else◌}
+use Rattle.std.specs.Prelude.{◌≡◌, ℕ, Bool, true, false, not, ◌&&◌, Option, Some, None, List, [], ◌∷◌, ◌++◌, map, option_map, refl}
+use Rattle.std.specs.Prelude.{if◌then◌else◌}
 use Rattle.std.proofs.Common.{ap, ap₂, ◌∙◌, sym}
 use Rattle.fast_check_syntax.specs.declared.source.SourceRange.{SourceRange}
 use Rattle.fast_check_syntax.specs.declared.tree.Tree.{Tree}
@@ -22,7 +23,8 @@ use Rattle.fast_check_skeleton.proofs.AlikePresent.{expr_absent}
 use Rattle.fast_check_signatures.specs.Expressions.{expr_seen}
 use Rattle.fast_check_skeleton.proofs.AlikeTrees.{range_field_alike}
 use Rattle.fast_check_expandos.specs.declared.properties.ExpandoProperty.{ExpandoProperty}
-use Rattle.fast_check_expandos.specs.Assignments.{right_seen, is_declared, missing_place, assignment_seen, kept_property, declared_properties, mentioned_in}
+use Rattle.fast_check_expandos.specs.Assignments.{right_seen, is_declared, missing_place, assignment_seen, kept_property}
+use Rattle.fast_check_expandos.specs.Assignments.{declared_properties, mentioned_in}
 use Rattle.fast_check_expandos.specs.Expandos.{object_of, property_declarator, property_of, namespaces_seen}
 use Rattle.fast_check_expandos.proofs.Mentioned.{conflicts_same}
 use Rattle.fast_check_expandos.proofs.PropertiesMoved.{moved_expando, property_moved, namespaces_moved}
@@ -55,7 +57,8 @@ module _ (r : Renaming) (ok : IsRenaming r) where
   map_append f [] ys = refl
   map_append f (x ∷ xs) ys = ap (λ zs. f x ∷ zs) (map_append f xs ys)
 
-  pub more_properties : (ps qs us vs : List ExpandoProperty) → PropertiesAlike ps us → PropertiesAlike qs vs → PropertiesAlike (ps ++ qs) (us ++ vs)
+  pub more_properties : (ps qs us vs : List ExpandoProperty) → PropertiesAlike ps us → PropertiesAlike qs vs →
+      PropertiesAlike (ps ++ qs) (us ++ vs)
   more_properties ps qs us vs e f =
       map_append (moved_expando (partners r)) ps qs ∙ (ap₂ (λ x y. x ++ y) e f ∙ sym (map_append (moved_expando twice) us vs))
 
@@ -80,7 +83,8 @@ module _ (r : Renaming) (ok : IsRenaming r) where
 
     places_alike : SameForm r a b t u → PlacesAlike (missing_place a.objects t) (missing_place b.objects u)
     places_alike (s.expando e) =
-        place_if (is_expando_assignment t && not (is_declared a.objects left)) (is_expando_assignment u && not (is_declared b.objects left'))
+        place_if (is_expando_assignment t && not (is_declared a.objects left))
+        (is_expando_assignment u && not (is_declared b.objects left'))
         (ap₂ (λ x y. x && not y) (e.forms.0 ∙ sym e.forms.1) e.object.is_declared) e.target
     places_alike (s.other e f) =
         ap (λ x. option_map (moved_range (partners r)) (place_of left (x && not (is_declared a.objects left)))) e
@@ -91,13 +95,17 @@ module _ (r : Renaming) (ok : IsRenaming r) where
       right_alike =
           alike_if r ok (is_absent (AssignExpr-right t)) (is_absent (AssignExpr-right u)) refused
           (expr_seen a.bindings (AssignExpr-right t) (Some (range_of_node (AssignExpr-right t)))) refused
-          (expr_seen b.bindings (AssignExpr-right u) (Some (range_of_node (AssignExpr-right u)))) (expr_absent r ok a.bindings b.bindings d.right) (λ e. refl)
-          (λ e. expr_alike r ok a.bindings b.bindings c d.right (Some (range_of_node (AssignExpr-right t))) (Some (range_of_node (AssignExpr-right u)))
+          (expr_seen b.bindings (AssignExpr-right u) (Some (range_of_node (AssignExpr-right u))))
+          (expr_absent r ok a.bindings b.bindings d.right) (λ e. refl)
+          (λ e. expr_alike r ok a.bindings b.bindings c d.right (Some (range_of_node (AssignExpr-right t)))
+          (Some (range_of_node (AssignExpr-right u)))
           (ap Some (range_to r ok _ _ d.right_range)))
 
-      pub assignments_alike : AllAlike r ok (assignment_seen a.is_public a.bindings a.objects t) (assignment_seen b.is_public b.bindings b.objects u)
+      pub assignments_alike : AllAlike r ok (assignment_seen a.is_public a.bindings a.objects t)
+          (assignment_seen b.is_public b.bindings b.objects u)
       assignments_alike =
-          all_alike_if r ok (a.is_public (AssignExpr-span t)) (b.is_public (AssignExpr-span u)) (tested (missing_place a.objects t) (right_seen a.bindings t))
+          all_alike_if r ok (a.is_public (AssignExpr-span t)) (b.is_public (AssignExpr-span u))
+          (tested (missing_place a.objects t) (right_seen a.bindings t))
           (tested (missing_place b.objects u) (right_seen b.bindings u)) d.is_public (λ i. tested (places_alike d.form i) (right_alike i))
 
       stays_alike : option_map (moved (partners r)) (answer_to (right_seen a.bindings t)).stays ≡
@@ -117,7 +125,8 @@ module _ (r : Renaming) (ok : IsRenaming r) where
       SameNames o =
           map (a.objects.exports (object_of left)) (mentioned_in (object_of left).1 o) ≡ map exports (mentioned_in (object_of left).1 o)
 
-      kept_alike : SameExpando r a b t u → (o o' : Option Tree) → SameNames o → option_map (moved (partners r)) o ≡ option_map (moved twice) o' →
+      kept_alike : SameExpando r a b t u → (o o' : Option Tree) → SameNames o →
+          option_map (moved (partners r)) o ≡ option_map (moved twice) o' →
           PropertiesAlike (kept_property a.objects (AssignExpr-span t) left o) (kept_property b.objects (AssignExpr-span u) left' o')
       kept_alike d None None n e = refl
       kept_alike d (Some x) (Some y) n e =
@@ -127,7 +136,9 @@ module _ (r : Renaming) (ok : IsRenaming r) where
             declarator = property_declarator (AssignExpr-span t) left x;
             conflicts = conflicting;
           }) ∷ []) (conflicts_same (object_of left).1 (a.objects.exports (object_of left)) exports x n)
-          ∙ ap (λ p. p ∷ []) (sym (property_moved (partners r) (partners_keep r ok) exports (a.objects.has_export_keyword (object_of left)) (AssignExpr-span t)
+          ∙ ap (λ p. p ∷ [])
+          (sym (property_moved (partners r) (partners_keep r ok) exports (a.objects.has_export_keyword (object_of left))
+          (AssignExpr-span t)
           left x)
           ∙ ((λ i. property_of exports (d.object.has_export_keyword i) (range_to r ok (AssignExpr-span t) (AssignExpr-span u) d.span i)
           (tree_to r ok d.target i) (some_is e i))
@@ -135,21 +146,24 @@ module _ (r : Renaming) (ok : IsRenaming r) where
       kept_alike d (Some x) None n e = cc
       kept_alike d None (Some y) n e = cc
 
-      kept_if : (x y : Bool) → x ≡ y → (ps qs : List ExpandoProperty) → PropertiesAlike ps qs → PropertiesAlike (if x then ps else []) (if y then qs else [])
+      kept_if : (x y : Bool) → x ≡ y → (ps qs : List ExpandoProperty) → PropertiesAlike ps qs →
+          PropertiesAlike (if x then ps else []) (if y then qs else [])
       kept_if true true e ps qs f = f
       kept_if false false e ps qs f = refl
       kept_if true false e ps qs f = cc
       kept_if false true e ps qs f = cc
 
       abbrev Declared : Type 0
-      Declared = PropertiesAlike (declared_properties a.is_public a.bindings a.objects t) (declared_properties b.is_public b.bindings b.objects u)
+      Declared = PropertiesAlike (declared_properties a.is_public a.bindings a.objects t)
+          (declared_properties b.is_public b.bindings b.objects u)
 
       by_form : SameForm r a b t u → Declared
       by_form (s.expando e) =
           kept_if (a.is_public (AssignExpr-span t) && is_expando_assignment t) (b.is_public (AssignExpr-span u) && is_expando_assignment u)
           (ap₂ (λ x y. x && y) d.is_public (e.forms.0 ∙ sym e.forms.1)) _ _
           (kept_alike e (answer_to (right_seen a.bindings t)).stays (answer_to (right_seen b.bindings u)).stays e.exported stays_alike)
-      by_form (s.other e f) = ap (map (moved_expando (partners r))) (undeclared a t e) ∙ sym (ap (map (moved_expando twice)) (undeclared b u f))
+      by_form (s.other e f) = ap (map (moved_expando (partners r))) (undeclared a t e) ∙
+          sym (ap (map (moved_expando twice)) (undeclared b u f))
 
       pub properties_alike : Declared
       properties_alike = by_form d.form

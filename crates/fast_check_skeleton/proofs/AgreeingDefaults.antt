@@ -62,7 +62,8 @@ silent_default around t (s.IsSilentDefault.decl k d e) = go (kind_of (ExportDefa
     go : (j : Kind) → kind_of (ExportDefaultDecl-decl t) ≡ j → is_default_decl j ≡ true → IsUnseenDefault around t
     go kinds.ClassExpr q d = record { rule = Class; is = default_by_kind t kinds.ClassExpr k q; unseen = hidden _; goes = λ c. e }
     go kinds.FnExpr q d = record { rule = Function; is = default_by_kind t kinds.FnExpr k q; unseen = hidden _; goes = λ c. e }
-    go kinds.TsInterfaceDecl q d = record { rule = Interface; is = default_by_kind t kinds.TsInterfaceDecl k q; unseen = hidden _; goes = λ c. e }
+    go kinds.TsInterfaceDecl q d =
+        record { rule = Interface; is = default_by_kind t kinds.TsInterfaceDecl k q; unseen = hidden _; goes = λ c. e }
     go _ q d = cc
 
 -- ---- what agrees is seen alike
@@ -76,14 +77,18 @@ module _ (r : Renaming) (ok : IsRenaming r) (a b : Surroundings) where
     pub alike : AllAlike r ok (default_seen a t rule) (default_seen b u rule)
     pub begins : SameRange r (range_of_node t) (range_of_node u)
 
-  decls_alike : (k : Kind) (rule : DefaultRule) → default_rule k ≡ Default rule → (t u : Tree) → SameDefaultDecl r a b k t u → (x y : Seen) →
+  decls_alike : (k : Kind) (rule : DefaultRule) → default_rule k ≡ Default rule → (t u : Tree) → SameDefaultDecl r a b k t u →
+      (x y : Seen) →
       default_seen a t rule ≡ public_default a t x → default_seen b u rule ≡ public_default b u y → Alike r ok x y → DefaultsAlike t u
   decls_alike k rule q t u d x y p p' e = record {
     rule = rule;
     left = default_by_kind t k d.kinds.left d.decls.left ∙ q;
     right = default_by_kind u k d.kinds.right d.decls.right ∙ q;
-    alike = subst₂ (AllAlike r ok) (sym p) (sym p') (all_alike_if r ok (a.is_public (ExportDefaultDecl-span t)) (b.is_public (ExportDefaultDecl-span u))
-        _ _ d.is_public (round_alike r ok kinds.ExportDefaultDecl (range (ExportDefaultDecl-span t) ∷ x ∷ []) (range (ExportDefaultDecl-span u) ∷ y ∷ [])
+    alike = subst₂ (AllAlike r ok) (sym p) (sym p')
+        (all_alike_if r ok (a.is_public (ExportDefaultDecl-span t)) (b.is_public (ExportDefaultDecl-span u))
+        _ _ d.is_public
+        (round_alike r ok kinds.ExportDefaultDecl (range (ExportDefaultDecl-span t) ∷ x ∷ [])
+        (range (ExportDefaultDecl-span u) ∷ y ∷ [])
         (λ i. range_alike r ok (ExportDefaultDecl-span t) (ExportDefaultDecl-span u) d.span i ∷ e i ∷ [])));
     begins = subst₂ (SameRange r) (sym (range_of_default_decl t d.kinds.left)) (sym (range_of_default_decl u d.kinds.right)) d.span;
   }
@@ -130,8 +135,10 @@ module _ (r : Renaming) (ok : IsRenaming r) (a b : Surroundings) where
       let same : Alike r ok (function_form a place decl) (function_form b place' decl') =
       round_alike r ok kinds.FnExpr (written (FnExpr-ident decl) ∷ default_signature a place decl ∷ [])
       (written (FnExpr-ident decl') ∷ default_signature b place' decl' ∷ []) (λ i. same_written r ok d.ident i ∷ e i ∷ []) in
-      decls_alike kinds.FnExpr Function refl t u d.head (default_function_seen a place decl) (default_function_seen b place' decl') refl refl
-      (subst₂ (λ x y. Alike r ok (if x then written decl else function_form a place decl) (if y then written decl' else function_form b place' decl'))
+      decls_alike kinds.FnExpr Function refl t u d.head (default_function_seen a place decl)
+      (default_function_seen b place' decl') refl refl
+      (subst₂ (λ x y. Alike r ok (if x then written decl else function_form a place decl)
+      (if y then written decl' else function_form b place' decl'))
       (sym d.is_ambient) (sym d.is_ambient ∙ m) same)
 
   -- ---- all
@@ -155,12 +162,14 @@ module _ (r : Renaming) (ok : IsRenaming r) (a b : Surroundings) where
       (written (ClassExpr-ident decl) ∷ plain_class_seen a.bindings a.is_implementation (ClassExpr-class decl) ∷ [])
       (written (ClassExpr-ident decl') ∷ plain_class_seen b.bindings b.is_implementation (ClassExpr-class decl') ∷ [])
       (λ i. same_written r ok n i ∷
-      class_alike r ok a.bindings b.bindings a.is_implementation b.is_implementation c (ClassExpr-class decl) (ClassExpr-class decl') e i ∷ []))
+      class_alike r ok a.bindings b.bindings a.is_implementation b.is_implementation c (ClassExpr-class decl) (ClassExpr-class decl') e i ∷
+      []))
   defaults_alike c m t u (s.SameDefault.function d e f g) =
       let decl = ExportDefaultDecl-decl t in
       let decl' = ExportDefaultDecl-decl u in
       functions_alike m t u d (subst₂ (λ x y. Alike r ok (signature_if a decl x) (signature_if b decl' y)) (sym e) (sym f)
-      (function_alike r ok a.bindings b.bindings c g DeclarationLike (default_place decl) (default_place decl') (places_alike decl decl' d.ident g)))
+      (function_alike r ok a.bindings b.bindings c g DeclarationLike (default_place decl) (default_place decl')
+      (places_alike decl decl' d.ident g)))
   defaults_alike c m t u (s.SameDefault.implementation d e f g) =
       let decl = ExportDefaultDecl-decl t in
       let decl' = ExportDefaultDecl-decl u in
@@ -172,8 +181,10 @@ module _ (r : Renaming) (ok : IsRenaming r) (a b : Surroundings) where
       let place = ExportDefaultDecl-span t in
       let place' = ExportDefaultDecl-span u in
       decls_alike kinds.FnExpr Function refl t u d (default_function_seen a place decl) (default_function_seen b place' decl') refl refl
-      (subst₂ (λ x y. Alike r ok (if x then written decl else function_form a place decl) (if y then written decl' else function_form b place' decl'))
+      (subst₂ (λ x y. Alike r ok (if x then written decl else function_form a place decl)
+      (if y then written decl' else function_form b place' decl'))
       (sym e) (sym e ∙ m) (same_written r ok f))
   defaults_alike c m t u (s.SameDefault.interface d f) =
-      decls_alike kinds.TsInterfaceDecl Interface refl t u d (written (ExportDefaultDecl-decl t)) (written (ExportDefaultDecl-decl u)) refl refl
+      decls_alike kinds.TsInterfaceDecl Interface refl t u d (written (ExportDefaultDecl-decl t))
+      (written (ExportDefaultDecl-decl u)) refl refl
       (same_written r ok f)

@@ -13,9 +13,9 @@ use Rattle.fast_check_syntax.proofs.Moved.{absent_moved, text_moved}
 use Rattle.fast_check_syntax.proofs.Same.{tree_to, range_to}
 use Rattle.fast_check_program_forms.specs.Literals.{Str-span, Str-value}
 use Rattle.fast_check_program_forms.specs.ModuleDecls.{ImportDecl-span, ImportDecl-specifiers, ImportDecl-src, ImportDecl-type_only}
-use Rattle.fast_check_program_forms.specs.ModuleDecls.{ImportDecl-with, ImportDecl-phase}
-use Rattle.fast_check_program_forms.specs.ModuleDecls.{NamedExport-span, NamedExport-specifiers, NamedExport-src, NamedExport-type_only, NamedExport-with}
-use Rattle.fast_check_program_forms.specs.ModuleDecls.{ExportAll-span, ExportAll-src, ExportAll-type_only, ExportAll-with, TsImportEqualsDecl-span}
+use Rattle.fast_check_program_forms.specs.ModuleDecls.{ImportDecl-with, ImportDecl-phase, NamedExport-span, NamedExport-specifiers}
+use Rattle.fast_check_program_forms.specs.ModuleDecls.{NamedExport-src, NamedExport-type_only, NamedExport-with, ExportAll-span}
+use Rattle.fast_check_program_forms.specs.ModuleDecls.{ExportAll-src, ExportAll-type_only, ExportAll-with, TsImportEqualsDecl-span}
 use Rattle.fast_check_ranges.specs.Ranges.{range_of_node}
 use Rattle.fast_check_signatures.specs.Seen.{written}
 use Rattle.fast_check_skeleton.proofs.AlikeTrees.{TreeAlike, new_alike, absent_alike, range_leaf_alike, flag_leaf_alike, node_alike}
@@ -24,8 +24,8 @@ use Rattle.fast_check_skeleton.proofs.AlikeSeen.{AllAlike, same_written, written
 use Rattle.fast_check_skeleton.specs.declared.rules.ItemRule.TheVariants.{Linked}
 use Rattle.fast_check_skeleton.specs.declared.rules.LinkRule.{LinkRule}
 use Rattle.fast_check_skeleton.specs.declared.rules.LinkRule.TheVariants.{Import, Export, All, Alias}
-use Rattle.fast_check_skeleton.specs.Links.{is_public_specifier, public_specifiers, source_of, answered_source, with_specifiers, import_with, export_with}
-use Rattle.fast_check_skeleton.specs.Links.{all_exported, link_seen}
+use Rattle.fast_check_skeleton.specs.Links.{is_public_specifier, public_specifiers, source_of, answered_source, with_specifiers}
+use Rattle.fast_check_skeleton.specs.Links.{import_with, export_with, all_exported, link_seen}
 use Rattle.fast_check_skeleton.specs.Rules.{item_rule}
 use Rattle.fast_check_skeleton.specs.SameLinks.{IsSilentLink, SamePublic, SameSource, SameImport, SameNamedExport, SameExportAll, SameLink}
 use Rattle.fast_check_skeleton.specs.SameLinks as s
@@ -45,7 +45,12 @@ silent_link around t (s.IsSilentLink.import k e) =
 silent_link around t (s.IsSilentLink.export k e) =
     record { rule = Export; is = rule_by_kind t kinds.NamedExport k; unseen = ap (with_specifiers (export_with around t)) e }
 silent_link around t (s.IsSilentLink.all k e) =
-    record { rule = All; is = rule_by_kind t kinds.ExportAll k; unseen = ap (λ b. if b then written (all_exported around t) ∷ [] else []) e }
+    record {
+      rule = All;
+      is = rule_by_kind t kinds.ExportAll k;
+      unseen =
+          ap (λ b. if b then written (all_exported around t) ∷ [] else []) e;
+    }
 silent_link around t (s.IsSilentLink.alias k n e) =
     record { rule = Alias; is = alias_rule t k n; unseen = ap (λ b. if b then written t ∷ [] else []) e }
 
@@ -105,7 +110,8 @@ module _ (r : Renaming) (ok : IsRenaming r) where
       where
         go : (m n : Bool) → m ≡ n → TreeAlike r ok t u →
             (m ≡ false → TreeAlike r ok (source_of t (a.relative (Str-value t))) (source_of u (b.relative (Str-value u)))) →
-            TreeAlike r ok (if m then t else source_of t (a.relative (Str-value t))) (if n then u else source_of u (b.relative (Str-value u)))
+            TreeAlike r ok (if m then t else source_of t (a.relative (Str-value t)))
+            (if n then u else source_of u (b.relative (Str-value u)))
         go true true e f g = f
         go false false e f g = g refl
         go true false e f g = cc
@@ -114,14 +120,16 @@ module _ (r : Renaming) (ok : IsRenaming r) where
     import_alike : (t u : Tree) → SameImport r a b t u → AllAlike r ok (link_seen a t Import) (link_seen b u Import)
     import_alike t u d = with_alike (import_with a t) (import_with b u) go (public_specifiers a (ImportDecl-specifiers t))
         (public_specifiers b (ImportDecl-specifiers u))
-        (public_alike (is_public_specifier a) (is_public_specifier b) (parts (ImportDecl-specifiers t)) (parts (ImportDecl-specifiers u)) d.specifiers)
+        (public_alike (is_public_specifier a) (is_public_specifier b) (parts (ImportDecl-specifiers t))
+        (parts (ImportDecl-specifiers u)) d.specifiers)
       where
         parts_of : Surroundings → Tree → List Tree → List Tree
         parts_of around v specifiers = tree.Range (ImportDecl-span v) ∷ list specifiers ∷ answered_source around (ImportDecl-src v) ∷
             tree.Flag (ImportDecl-type_only v) ∷ ImportDecl-with v ∷ tree.Text (ImportDecl-phase v) ∷ []
 
         go : (ts us : List Tree) → TreesAlike ts us → TreeAlike r ok (import_with a t ts) (import_with b u us)
-        go ts us e = node_alike r ok kinds.ImportDecl (parts_of a t ts) (parts_of b u us) (λ i. span_alike (ImportDecl-span t) (ImportDecl-span u) d.span i ∷
+        go ts us e = node_alike r ok kinds.ImportDecl (parts_of a t ts) (parts_of b u us)
+            (λ i. span_alike (ImportDecl-span t) (ImportDecl-span u) d.span i ∷
             list_alike ts us e i ∷ source_alike (ImportDecl-src t) (ImportDecl-src u) d.src i ∷
             flag_leaf_alike r ok (ImportDecl-type_only t) (ImportDecl-type_only u) d.type_only i ∷ tree_to r ok d.with i ∷
             text_alike (ImportDecl-phase t) (ImportDecl-phase u) d.phase i ∷ [])
@@ -129,7 +137,8 @@ module _ (r : Renaming) (ok : IsRenaming r) where
     export_alike : (t u : Tree) → SameNamedExport r a b t u → AllAlike r ok (link_seen a t Export) (link_seen b u Export)
     export_alike t u d = with_alike (export_with a t) (export_with b u) go (public_specifiers a (NamedExport-specifiers t))
         (public_specifiers b (NamedExport-specifiers u))
-        (public_alike (is_public_specifier a) (is_public_specifier b) (parts (NamedExport-specifiers t)) (parts (NamedExport-specifiers u)) d.specifiers)
+        (public_alike (is_public_specifier a) (is_public_specifier b) (parts (NamedExport-specifiers t))
+        (parts (NamedExport-specifiers u)) d.specifiers)
       where
         parts_of : Surroundings → Tree → List Tree → List Tree
         parts_of around v specifiers = tree.Range (NamedExport-span v) ∷ list specifiers ∷ answered_source around (NamedExport-src v) ∷
@@ -148,7 +157,8 @@ module _ (r : Renaming) (ok : IsRenaming r) where
         flag_leaf_alike r ok (ExportAll-type_only t) (ExportAll-type_only u) d.type_only i ∷ tree_to r ok d.with i ∷ [])))
       where
         parts_of : Surroundings → Tree → List Tree
-        parts_of around v = tree.Range (ExportAll-span v) ∷ answered_source around (ExportAll-src v) ∷ tree.Flag (ExportAll-type_only v) ∷ ExportAll-with v ∷ []
+        parts_of around v = tree.Range (ExportAll-span v) ∷ answered_source around (ExportAll-src v) ∷ tree.Flag (ExportAll-type_only v) ∷
+            ExportAll-with v ∷ []
 
     -- the same is done with both, what is seen is alike, and they begin at partners
     pub record LinksAlike (t u : Tree) : Type 0 where
@@ -184,7 +194,8 @@ module _ (r : Renaming) (ok : IsRenaming r) where
       rule = Alias;
       left = alias_rule t k.left n;
       right = alias_rule u k.right m;
-      alike = all_alike_if r ok (a.is_public (TsImportEqualsDecl-span t)) (b.is_public (TsImportEqualsDecl-span u)) (written t) (written u) e
+      alike = all_alike_if r ok (a.is_public (TsImportEqualsDecl-span t)) (b.is_public (TsImportEqualsDecl-span u)) (written t)
+          (written u) e
           (same_written r ok d);
       begins = range_alike r ok t u d;
     }

@@ -1,5 +1,6 @@
 -- Classes that agree but for what is hidden are seen alike.
-use Rattle.std.specs.Prelude.{◌≡◌, Bool, true, false, ◌&&◌, Option, Some, None, unwrap_or, option_map, List, [], ◌∷◌, ◌++◌, map, flat_map, refl, if◌then◌else◌}
+use Rattle.std.specs.Prelude.{◌≡◌, Bool, true, false, ◌&&◌, Option, Some, None, unwrap_or, option_map, List, [], ◌∷◌, ◌++◌, map, flat_map}
+use Rattle.std.specs.Prelude.{refl, if◌then◌else◌}
 use Rattle.std.specs.List.{list_any, filter}
 use Rattle.std.proofs.Common.{ap, ap₂, ◌∙◌, sym, subst, subst₂, true≢false}
 use Rattle.std.proofs.lemmas.List.{map-append}
@@ -12,16 +13,18 @@ use Rattle.fast_check_syntax.specs.declared.tree.Tree.{Tree, Absent}
 use Rattle.fast_check_syntax.specs.Shape.{◌is◌, kind_of, parts, is_absent, has_word}
 use Rattle.fast_check_syntax.specs.Moves.{Moves, Renaming, IsRenaming, partners, twice, moved}
 use Rattle.fast_check_syntax.specs.Same.{SameTree, Each}
-use Rattle.fast_check_syntax.proofs.Moved.{node_moved, range_moved, text_moved, kind_of_moved, part_moved, range_of_moved, text_of_moved, flag_of_moved, has_word_moved}
+use Rattle.fast_check_syntax.proofs.Moved.{node_moved, range_moved, text_moved, kind_of_moved, part_moved, range_of_moved, text_of_moved}
+use Rattle.fast_check_syntax.proofs.Moved.{flag_of_moved, has_word_moved}
 use Rattle.fast_check_syntax.proofs.Partners.{partners-keep as partners_keep, twice-keeps as twice_keeps}
 use Rattle.fast_check_syntax.proofs.Same.{tree_to, range_to}
 use Rattle.fast_check_ranges.specs.Ranges.{range_of_node}
-use Rattle.fast_check_class_forms.specs.Classes.{Constructor-span, Constructor-ctxt, Constructor-key, Constructor-body, Constructor-accessibility}
-use Rattle.fast_check_class_forms.specs.Classes.{Constructor-is_optional}
-use Rattle.fast_check_class_forms.specs.Classes.{TsParamProp-accessibility, TsParamProp-readonly, TsParamProp-param}
+use Rattle.fast_check_class_forms.specs.Classes.{Constructor-span, Constructor-ctxt, Constructor-key, Constructor-body}
+use Rattle.fast_check_class_forms.specs.Classes.{Constructor-accessibility, Constructor-is_optional, TsParamProp-accessibility}
+use Rattle.fast_check_class_forms.specs.Classes.{TsParamProp-readonly, TsParamProp-param}
 use Rattle.fast_check_class_forms.specs.Fields.{ClassProp-key, ClassProp-accessibility, AutoAccessor-key, AutoAccessor-accessibility}
-use Rattle.fast_check_class_forms.specs.Methods.{ClassMethod-span, ClassMethod-key, ClassMethod-function, ClassMethod-kind, ClassMethod-is_static}
-use Rattle.fast_check_class_forms.specs.Methods.{ClassMethod-accessibility, ClassMethod-is_abstract, ClassMethod-is_optional, ClassMethod-is_override}
+use Rattle.fast_check_class_forms.specs.Methods.{ClassMethod-span, ClassMethod-key, ClassMethod-function, ClassMethod-kind}
+use Rattle.fast_check_class_forms.specs.Methods.{ClassMethod-is_static, ClassMethod-accessibility, ClassMethod-is_abstract}
+use Rattle.fast_check_class_forms.specs.Methods.{ClassMethod-is_optional, ClassMethod-is_override}
 use Rattle.fast_check_expression_forms.specs.Expressions.{ExprOrSpread-spread}
 use Rattle.fast_check_expression_forms.specs.Patterns.{AssignPat-right}
 use Rattle.fast_check_program_forms.specs.Names.{Ident-span, Ident-sym, Ident-optional, BindingIdent-type_ann}
@@ -38,43 +41,50 @@ use Rattle.fast_check_signatures.specs.Seen.{Seen, written, range, scope, flag, 
 use Rattle.fast_check_signatures.specs.NewNodes.{never_array_in_parens, ident_name, new_block, hash_private}
 use Rattle.fast_check_signatures.specs.Expressions.{expr_seen}
 use Rattle.fast_check_signatures.specs.Functions.{any_params_from, function_seen, implementation_seen}
-use Rattle.fast_check_signatures.specs.Members.{is_private, is_computed, is_hash_named, hash_mark, stays_behind, each_behind, if_kept, is_private_computed_kind}
-use Rattle.fast_check_signatures.specs.Members.{is_private_computed, ambient_members}
-use Rattle.fast_check_signatures.specs.Classes.{is_reference, superclass_seen, mutability_of_property, private_method_head}
-use Rattle.fast_check_signatures.specs.Classes.{param_target, takes_apart, param_properties, patterns_among, unless_any}
-use Rattle.fast_check_signatures.specs.Classes.{param_property_head, type_or_none, is_super_call, never_argument, super_call, constructor_body, constructor_of}
+use Rattle.fast_check_signatures.specs.Members.{is_private, is_computed, is_hash_named, hash_mark, stays_behind, each_behind, if_kept}
+use Rattle.fast_check_signatures.specs.Members.{is_private_computed_kind, is_private_computed, ambient_members}
+use Rattle.fast_check_signatures.specs.Classes.{is_reference, superclass_seen, mutability_of_property, private_method_head, param_target}
+use Rattle.fast_check_signatures.specs.Classes.{takes_apart, param_properties, patterns_among, unless_any, param_property_head}
+use Rattle.fast_check_signatures.specs.Classes.{type_or_none, is_super_call, never_argument, super_call, constructor_body, constructor_of}
 use Rattle.fast_check_signatures.specs.Classes.{unless_taken_apart, method_kind, class_head, method_function_seen, plain_params_seen}
-use Rattle.fast_check_signatures.specs.Classes.{constructor_params_seen, constructor_seen, member_of_kind, member_seen, default_type, param_property_type}
-use Rattle.fast_check_signatures.specs.Classes.{param_property, declared_by_params, members_seen, plain_class_seen, ambient_class}
+use Rattle.fast_check_signatures.specs.Classes.{constructor_params_seen, constructor_seen, member_of_kind, member_seen, default_type}
+use Rattle.fast_check_signatures.specs.Classes.{param_property_type, param_property, declared_by_params, members_seen, plain_class_seen}
+use Rattle.fast_check_signatures.specs.Classes.{ambient_class}
 use Rattle.fast_check_signatures.proofs.NewNodesMoved.{never_array_in_parens_moved, new_block_moved, hash_private_moved}
 use Rattle.fast_check_signatures.proofs.MovedParts.{moved_class, field_moved}
 use Rattle.fast_check_signatures.proofs.References.{is_reference_moved}
 use Rattle.fast_check_skeleton.specs.SameValues.{SameBindings, Both}
-use Rattle.fast_check_skeleton.specs.SameClasses.{SameParamType, SameParamProperty, SameSuperCall, SameSuperCalls, SameConstructorHead, SameConstructed}
-use Rattle.fast_check_skeleton.specs.SameClasses.{plain_params, SameConstructor, SameMethod, SameSigned, SameMember, SameMembers, SameSuperclass, SameClassHead}
-use Rattle.fast_check_skeleton.specs.SameClasses.{SameClass}
-use Rattle.fast_check_skeleton.specs.SameClasses.{SameAmbientMembers, SameAmbientClass}
+use Rattle.fast_check_skeleton.specs.SameClasses.{SameParamType, SameParamProperty, SameSuperCall, SameSuperCalls, SameConstructorHead}
+use Rattle.fast_check_skeleton.specs.SameClasses.{SameConstructed, plain_params, SameConstructor, SameMethod, SameSigned, SameMember}
+use Rattle.fast_check_skeleton.specs.SameClasses.{SameMembers, SameSuperclass, SameClassHead, SameClass, SameAmbientMembers}
+use Rattle.fast_check_skeleton.specs.SameClasses.{SameAmbientClass}
 use Rattle.fast_check_skeleton.specs.SameClasses as s
 use Rattle.fast_check_skeleton.proofs.AlikeTrees.{TreeAlike, scope_to, image_alike, same_read, new_alike, absent_alike, range_leaf_alike}
 use Rattle.fast_check_skeleton.proofs.AlikeTrees.{scope_leaf_alike, flag_leaf_alike, node_alike}
-use Rattle.fast_check_skeleton.proofs.AlikeSeen.{Alike, AllAlike, written_alike, same_written, range_alike, scope_alike, flag_alike, faulty_alike, alike_if}
-use Rattle.fast_check_skeleton.proofs.AlikeSeen.{append_alike, seens_alike, round_alike, listed_alike}
+use Rattle.fast_check_skeleton.proofs.AlikeSeen.{Alike, AllAlike, written_alike, same_written, range_alike, scope_alike, flag_alike}
+use Rattle.fast_check_skeleton.proofs.AlikeSeen.{faulty_alike, alike_if, append_alike, seens_alike, round_alike, listed_alike}
 use Rattle.fast_check_skeleton.proofs.AlikeFunctions.{any_params_alike, implementation_alike, signature_of_alike}
 use Rattle.fast_check_skeleton.proofs.Alike.{function_alike, params_alike}
 use Rattle.fast_check_skeleton.proofs.AlikeMembers.{silent, SameTaken, taken_left, taken_right, taken_next, private_alike, stays_alike}
-use Rattle.fast_check_skeleton.proofs.AlikeProperties.{nothing_alike, HeadAlike, declared_alike, any_alike, ann_alike, place_alike, by_privacy}
-use Rattle.fast_check_skeleton.proofs.AlikeProperties.{property_alike, accessor_alike}
+use Rattle.fast_check_skeleton.proofs.AlikeProperties.{nothing_alike, HeadAlike, declared_alike, any_alike, ann_alike, place_alike}
+use Rattle.fast_check_skeleton.proofs.AlikeProperties.{by_privacy, property_alike, accessor_alike}
 
 private_computed_by_kind : (m : Moves) (k : Kind) (t : Tree) → is_private_computed_kind k (moved m t) ≡ is_private_computed_kind k t
 private_computed_by_kind m kinds.ClassMethod t =
-    ap₂ (λ a k. is_private a && is_computed k) (field_moved m ClassMethod-accessibility _ (λ t. refl) t) (field_moved m ClassMethod-key _ (λ t. refl) t)
-    ∙ ap₂ (λ a k. a && (k is kinds.ComputedPropName)) (has_word_moved m words.Private (ClassMethod-accessibility t)) (kind_of_moved m (ClassMethod-key t))
+    ap₂ (λ a k. is_private a && is_computed k) (field_moved m ClassMethod-accessibility _ (λ t. refl) t)
+    (field_moved m ClassMethod-key _ (λ t. refl) t)
+    ∙ ap₂ (λ a k. a && (k is kinds.ComputedPropName)) (has_word_moved m words.Private (ClassMethod-accessibility t))
+    (kind_of_moved m (ClassMethod-key t))
 private_computed_by_kind m kinds.ClassProp t =
-    ap₂ (λ a k. is_private a && is_computed k) (field_moved m ClassProp-accessibility _ (λ t. refl) t) (field_moved m ClassProp-key _ (λ t. refl) t)
-    ∙ ap₂ (λ a k. a && (k is kinds.ComputedPropName)) (has_word_moved m words.Private (ClassProp-accessibility t)) (kind_of_moved m (ClassProp-key t))
+    ap₂ (λ a k. is_private a && is_computed k) (field_moved m ClassProp-accessibility _ (λ t. refl) t)
+    (field_moved m ClassProp-key _ (λ t. refl) t)
+    ∙ ap₂ (λ a k. a && (k is kinds.ComputedPropName)) (has_word_moved m words.Private (ClassProp-accessibility t))
+    (kind_of_moved m (ClassProp-key t))
 private_computed_by_kind m kinds.AutoAccessor t =
-    ap₂ (λ a k. is_private a && is_computed k) (field_moved m AutoAccessor-accessibility _ (λ t. refl) t) (field_moved m AutoAccessor-key _ (λ t. refl) t)
-    ∙ ap₂ (λ a k. a && (k is kinds.ComputedPropName)) (has_word_moved m words.Private (AutoAccessor-accessibility t)) (kind_of_moved m (AutoAccessor-key t))
+    ap₂ (λ a k. is_private a && is_computed k) (field_moved m AutoAccessor-accessibility _ (λ t. refl) t)
+    (field_moved m AutoAccessor-key _ (λ t. refl) t)
+    ∙ ap₂ (λ a k. a && (k is kinds.ComputedPropName)) (has_word_moved m words.Private (AutoAccessor-accessibility t))
+    (kind_of_moved m (AutoAccessor-key t))
 private_computed_by_kind m _ t = refl
 
 private_computed_moved : (m : Moves) (t : Tree) → is_private_computed (moved m t) ≡ is_private_computed t
@@ -83,7 +93,8 @@ private_computed_moved m t = ap (λ k. is_private_computed_kind k (moved m t)) (
 module _ (r : Renaming) (ok : IsRenaming r) where
   -- ---- choices
 
-  tree_if : (a b : Bool) (x x' y y' : Tree) → a ≡ b → TreeAlike r ok x y → TreeAlike r ok x' y' → TreeAlike r ok (if a then x else x') (if b then y else y')
+  tree_if : (a b : Bool) (x x' y y' : Tree) → a ≡ b → TreeAlike r ok x y → TreeAlike r ok x' y' →
+      TreeAlike r ok (if a then x else x') (if b then y else y')
   tree_if true true x x' y y' e p q = p
   tree_if false false x x' y y' e p q = q
   tree_if true false x x' y y' e p q = cc
@@ -133,11 +144,14 @@ module _ (r : Renaming) (ok : IsRenaming r) where
 
   -- ---- bodies of constructors
 
-  argument_alike : (t u : Tree) → SameTree r (ExprOrSpread-spread t) (ExprOrSpread-spread u) → TreeAlike r ok (never_argument t) (never_argument u)
+  argument_alike : (t u : Tree) → SameTree r (ExprOrSpread-spread t) (ExprOrSpread-spread u) →
+      TreeAlike r ok (never_argument t) (never_argument u)
   argument_alike t u e =
       let spread = tree_to r ok e in
-      let value = tree_if (is_absent (ExprOrSpread-spread t)) (is_absent (ExprOrSpread-spread u)) never_value never_array_in_parens never_value
-      never_array_in_parens (absent_alike r ok (ExprOrSpread-spread t) (ExprOrSpread-spread u) spread) (new_alike r ok never_value never_value_moved)
+      let value =
+      tree_if (is_absent (ExprOrSpread-spread t)) (is_absent (ExprOrSpread-spread u)) never_value never_array_in_parens never_value
+      never_array_in_parens (absent_alike r ok (ExprOrSpread-spread t) (ExprOrSpread-spread u) spread)
+      (new_alike r ok never_value never_value_moved)
       (new_alike r ok never_array_in_parens never_array_in_parens_moved) in
       node_alike r ok kinds.ExprOrSpread _ _ (λ i. spread i ∷ value i ∷ [])
 
@@ -178,7 +192,8 @@ module _ (r : Renaming) (ok : IsRenaming r) where
     super_calls_alike (t ∷ ts) (u ∷ us) (s.SameSuperCalls.next e j x rest) =
         subst₂ TreesAlike (sym (a_call t ts e)) (sym (a_call u us j)) (λ i. super_call_alike t u x i ∷ super_calls_alike ts us rest i)
 
-    body_alike : (t u : Tree) → is_absent t ≡ is_absent u → SameSuperCalls r c d f g (parts (BlockStmt-stmts t)) (parts (BlockStmt-stmts u)) →
+    body_alike : (t u : Tree) → is_absent t ≡ is_absent u → SameSuperCalls r c d f g (parts (BlockStmt-stmts t))
+        (parts (BlockStmt-stmts u)) →
         TreeAlike r ok (constructor_body t) (constructor_body u)
     body_alike t u e x =
         tree_if (is_absent t) (is_absent u) Absent (new_block (calls_of (parts (BlockStmt-stmts t)))) Absent
@@ -197,7 +212,8 @@ module _ (r : Renaming) (ok : IsRenaming r) where
     all_named [] (u ∷ us) e = absurd e
     all_named (t ∷ ts) [] e = absurd e
 
-    name_alike : (t u : Tree) → SameTree r t u → TreeAlike r ok (ident_name (Ident-span t) (Ident-sym t)) (ident_name (Ident-span u) (Ident-sym u))
+    name_alike : (t u : Tree) → SameTree r t u → TreeAlike r ok (ident_name (Ident-span t) (Ident-sym t))
+        (ident_name (Ident-span u) (Ident-sym u))
     name_alike t u e = image_alike r ok (λ id. ident_name (Ident-span id) (Ident-sym id))
         (λ m keeps t. simp (node_moved, range_moved, text_moved, part_moved, range_of_moved m keeps, text_of_moved)) t u (tree_to r ok e)
 
@@ -226,7 +242,8 @@ module _ (r : Renaming) (ok : IsRenaming r) where
     -- the type that a default shows
     abbrev ShownAlike : Tree → Tree → Type 0
     ShownAlike t u =
-        option_map (moved (partners r)) (default_type c.unresolved (mutability_of_property (TsParamProp-readonly t)) (TsParamProp-param t)) ≡
+        option_map (moved (partners r))
+        (default_type c.unresolved (mutability_of_property (TsParamProp-readonly t)) (TsParamProp-param t)) ≡
         option_map (moved twice) (default_type d.unresolved (mutability_of_property (TsParamProp-readonly u)) (TsParamProp-param u))
 
     of_default : (unresolved : SyntaxContext) (mutability : DeclMutabilityKind) (pat : Tree) → kind_of pat ≡ kinds.AssignPat →
@@ -267,31 +284,37 @@ module _ (r : Renaming) (ok : IsRenaming r) where
     abbrev ParamTypeAlike : Tree → Tree → Type 0
     ParamTypeAlike t u = TreeAlike r ok (param_property_type c.unresolved t) (param_property_type d.unresolved u)
 
-    types_alike : (t u : Tree) → SameTree r (TsParamProp-accessibility t) (TsParamProp-accessibility u) → SameTree r (param_type t) (param_type u) →
+    types_alike : (t u : Tree) → SameTree r (TsParamProp-accessibility t) (TsParamProp-accessibility u) →
+        SameTree r (param_type t) (param_type u) →
         (is_absent (param_type t) ≡ true → ShownAlike t u) → ParamTypeAlike t u
     types_alike t u a e h =
-        types_if (shown_type c.unresolved t) (shown_type d.unresolved u) (param_type t) (param_type u) (is_private (TsParamProp-accessibility t))
+        types_if (shown_type c.unresolved t) (shown_type d.unresolved u) (param_type t) (param_type u)
+        (is_private (TsParamProp-accessibility t))
         (is_private (TsParamProp-accessibility u)) (is_absent (param_type t)) (is_absent (param_type u)) (private_alike r ok _ _ a)
         (λ p. absent_alike r ok _ _ (tree_to r ok e)) (λ p n. type_or_none_alike _ _ (h n)) (λ p n. tree_to r ok e)
 
     param_type_alike : (t u : Tree) → SameTree r (TsParamProp-accessibility t) (TsParamProp-accessibility u) →
         TsParamProp-readonly t ≡ TsParamProp-readonly u → SameParamType r c d f g t u → ParamTypeAlike t u
     param_type_alike t u a o (s.SameParamType.any p) =
-        types_if (shown_type c.unresolved t) (shown_type d.unresolved u) (param_type t) (param_type u) (is_private (TsParamProp-accessibility t))
+        types_if (shown_type c.unresolved t) (shown_type d.unresolved u) (param_type t) (param_type u)
+        (is_private (TsParamProp-accessibility t))
         (is_private (TsParamProp-accessibility u)) (is_absent (param_type t)) (is_absent (param_type u)) (private_alike r ok _ _ a)
         (λ n. cc) (λ n. cc) (λ n. cc)
     param_type_alike t u a o (s.SameParamType.typed e w) = types_alike t u a e (λ n. cc)
     param_type_alike t u a o (s.SameParamType.inferred e k x) = types_alike t u a e (λ n.
-        shown_alike t u o (Some x.left) (Some x.right) (of_default c.unresolved _ _ k.left ∙ x.left_is) (of_default d.unresolved _ _ k.right ∙ x.right_is)
+        shown_alike t u o (Some x.left) (Some x.right) (of_default c.unresolved _ _ k.left ∙ x.left_is)
+        (of_default d.unresolved _ _ k.right ∙ x.right_is)
         (ap Some (tree_to r ok x.types)))
     param_type_alike t u a o (s.SameParamType.untyped e k n) = types_alike t u a e (λ m.
         shown_alike t u o None None (of_default c.unresolved _ _ k.left ∙ n.left) (of_default d.unresolved _ _ k.right ∙ n.right) refl)
     param_type_alike t u a o (s.SameParamType.bare e k) = types_alike t u a e (λ m.
         shown_alike t u o None None (no_default c.unresolved _ _ k.left) (no_default d.unresolved _ _ k.right) refl)
 
-    param_property_alike : (t u : Tree) → SameParamProperty r c d f g t u → TreeAlike r ok (param_property c.unresolved t) (param_property d.unresolved u)
+    param_property_alike : (t u : Tree) → SameParamProperty r c d f g t u →
+        TreeAlike r ok (param_property c.unresolved t) (param_property d.unresolved u)
     param_property_alike t u h =
-        declared_alike r ok (param_property_head t) (param_property_head u) (param_property_type c.unresolved t) (param_property_type d.unresolved u)
+        declared_alike r ok (param_property_head t) (param_property_head u) (param_property_type c.unresolved t)
+        (param_property_type d.unresolved u)
         (param_head_alike t u h)
         (param_type_alike t u h.accessibility h.readonly h.type)
 
@@ -314,10 +337,12 @@ module _ (r : Renaming) (ok : IsRenaming r) where
         AllAlike r ok xs ys → Alike r ok (constructor_of t xs) (constructor_of u ys)
     constructor_alike t u xs ys h x ps = round_alike r ok kinds.Constructor (constructor_parts t xs) (constructor_parts u ys) (λ i.
         range_alike r ok _ _ h.span i ∷ scope_alike r ok _ _ h.ctxt i ∷ same_written r ok h.key i ∷ listed_alike r ok xs ys ps i ∷
-        written_alike r ok _ _ (body_alike _ _ h.has_body x) i ∷ same_written r ok h.accessibility i ∷ flag_alike r ok _ _ h.is_optional i ∷ [])
+        written_alike r ok _ _ (body_alike _ _ h.has_body x) i ∷ same_written r ok h.accessibility i ∷ flag_alike r ok _ _ h.is_optional i ∷
+        [])
 
     -- parameters of constructors that are not private, by whether they are implementations behind overloads
-    params_if : (a b : Bool) (t u : Tree) → SameConstructorHead r c d f g t u → f (Constructor-span t) ≡ a → g (Constructor-span u) ≡ b → a ≡ b →
+    params_if : (a b : Bool) (t u : Tree) → SameConstructorHead r c d f g t u → f (Constructor-span t) ≡ a → g (Constructor-span u) ≡ b →
+        a ≡ b →
         (a ≡ true → AllAlike r ok (any_params_from 0 (plain_params r c d f g t)) (any_params_from 0 (plain_params r c d f g u))) →
         (a ≡ false → AllAlike r ok (plain_params_seen c f (plain_params r c d f g t)) (plain_params_seen d g (plain_params r c d f g u))) →
         AllAlike r ok (constructor_params_seen c f t) (constructor_params_seen d g u)
@@ -327,7 +352,8 @@ module _ (r : Renaming) (ok : IsRenaming r) where
 
     module _ (pair : SameBindings r c d) where
       constructed : (t u : Tree) → SameConstructorHead r c d f g t u → SameConstructed r c d f g t u →
-          AllAlike r ok (constructor_params_seen c f t) (constructor_params_seen d g u) → Alike r ok (constructor_seen c f t) (constructor_seen d g u)
+          AllAlike r ok (constructor_params_seen c f t) (constructor_params_seen d g u) →
+          Alike r ok (constructor_seen c f t) (constructor_seen d g u)
       constructed t u h x ps =
           let named' = all_named (param_properties t) (param_properties u) x.properties in
           let whole = constructor_of t (constructor_params_seen c f t) in
@@ -354,18 +380,22 @@ module _ (r : Renaming) (ok : IsRenaming r) where
       DeclaredAlike t u = AllAlike r ok (map written (declared_by_params c.unresolved t)) (map written (declared_by_params d.unresolved u))
 
       of_constructors : (t u : Tree) → Both kinds.Constructor t u →
-          AllAlike r ok (map written (unless_any (patterns_among (param_properties t)) (map (param_property c.unresolved) (param_properties t))))
-          (map written (unless_any (patterns_among (param_properties u)) (map (param_property d.unresolved) (param_properties u)))) → DeclaredAlike t u
+          AllAlike r ok
+          (map written (unless_any (patterns_among (param_properties t)) (map (param_property c.unresolved) (param_properties t))))
+          (map written (unless_any (patterns_among (param_properties u)) (map (param_property d.unresolved) (param_properties u)))) →
+          DeclaredAlike t u
       of_constructors t u b e =
           let made = unless_any (patterns_among (param_properties t)) (map (param_property c.unresolved) (param_properties t)) in
           let made' = unless_any (patterns_among (param_properties u)) (map (param_property d.unresolved) (param_properties u)) in
-          subst₂ (λ k j. AllAlike r ok (map written (if k is kinds.Constructor then made else [])) (map written (if j is kinds.Constructor then made' else [])))
+          subst₂ (λ k j. AllAlike r ok (map written (if k is kinds.Constructor then made else []))
+          (map written (if j is kinds.Constructor then made' else [])))
           (sym b.left) (sym b.right) e
 
       declares_named : (t u : Tree) → Both kinds.Constructor t u → SameConstructed r c d f g t u → DeclaredAlike t u
       declares_named t u b x =
           let named' = all_named (param_properties t) (param_properties u) x.properties in
-          of_constructors t u b (subst₂ (λ xs ys. AllAlike r ok (map written (unless_any xs (map (param_property c.unresolved) (param_properties t))))
+          of_constructors t u b
+          (subst₂ (λ xs ys. AllAlike r ok (map written (unless_any xs (map (param_property c.unresolved) (param_properties t))))
           (map written (unless_any ys (map (param_property d.unresolved) (param_properties u))))) (sym named'.0) (sym named'.1)
           (properties_alike (param_properties t) (param_properties u) x.properties))
 
@@ -374,7 +404,8 @@ module _ (r : Renaming) (ok : IsRenaming r) where
       declares t u b (s.SameConstructor.plain x e j ps) = declares_named t u b x
       declares t u b (s.SameConstructor.implementation x e j ps) = declares_named t u b x
       declares t u b (s.SameConstructor.destructured p q ps qs e j x) =
-          of_constructors t u b (subst₂ (λ xs ys. AllAlike r ok (map written (unless_any xs (map (param_property c.unresolved) (param_properties t))))
+          of_constructors t u b
+          (subst₂ (λ xs ys. AllAlike r ok (map written (unless_any xs (map (param_property c.unresolved) (param_properties t))))
           (map written (unless_any ys (map (param_property d.unresolved) (param_properties u))))) (sym e) (sym j) refl)
 
       declares_none : (k : Kind) (t u : Tree) → Both k t u → k is kinds.Constructor ≡ false → DeclaredAlike t u
@@ -396,14 +427,17 @@ module _ (r : Renaming) (ok : IsRenaming r) where
       here bindings m kind = function_seen bindings (expr_seen bindings) kind (range_of_node (ClassMethod-key m)) (ClassMethod-function m)
 
       abbrev signed_if : Bindings → Tree → Bool → Seen
-      signed_if bindings m b = if b then implementation_seen (ClassMethod-function m) else here bindings m (method_kind (ClassMethod-kind m))
+      signed_if bindings m b = if b then implementation_seen (ClassMethod-function m) else here bindings m
+          (method_kind (ClassMethod-kind m))
 
-      method_function_alike : (t u : Tree) → SameTree r (ClassMethod-key t) (ClassMethod-key u) → SameTree r (ClassMethod-kind t) (ClassMethod-kind u) →
+      method_function_alike : (t u : Tree) → SameTree r (ClassMethod-key t) (ClassMethod-key u) →
+          SameTree r (ClassMethod-kind t) (ClassMethod-kind u) →
           SameMethod r c d f g t u → Alike r ok (method_function_seen c f t) (method_function_seen d g u)
       method_function_alike t u k w (s.SameMethod.function e j x) =
           let kind = method_kind (ClassMethod-kind t) in
           subst₂ (λ a b. Alike r ok (signed_if c t a) (signed_if d u b)) (sym e) (sym j)
-          (subst (λ z. Alike r ok (here c t kind) (here d u z)) (kind_alike' _ _ w) (function_alike r ok c d pair x kind _ _ (place_alike r ok _ _ k)))
+          (subst (λ z. Alike r ok (here c t kind) (here d u z)) (kind_alike' _ _ w)
+          (function_alike r ok c d pair x kind _ _ (place_alike r ok _ _ k)))
       method_function_alike t u k w (s.SameMethod.setter e j q h n ps) =
           let kind = method_kind (ClassMethod-kind t) in
           let setter = ap (λ b. if b then Setter else (if has_word words.Getter (ClassMethod-kind t) then Getter else DeclarationLike)) q in
@@ -417,7 +451,8 @@ module _ (r : Renaming) (ok : IsRenaming r) where
 
       abbrev method_parts : Tree → Seen → List Seen
       method_parts m signature =
-          range (ClassMethod-span m) ∷ written (ClassMethod-key m) ∷ signature ∷ written (ClassMethod-kind m) ∷ flag (ClassMethod-is_static m) ∷
+          range (ClassMethod-span m) ∷ written (ClassMethod-key m) ∷ signature ∷ written (ClassMethod-kind m) ∷
+          flag (ClassMethod-is_static m) ∷
           written (ClassMethod-accessibility m) ∷ flag (ClassMethod-is_abstract m) ∷ flag (ClassMethod-is_optional m) ∷
           flag (ClassMethod-is_override m) ∷ []
 
@@ -425,21 +460,26 @@ module _ (r : Renaming) (ok : IsRenaming r) where
 
       pub member_alike : (t u : Tree) → SameMember r c d f g t u → Alike r ok (member_seen c f t) (member_seen d g u)
       member_alike t u (s.SameMember.constructor h x) =
-          subst₂ (λ k j. Alike r ok (member_of_kind c f k t) (member_of_kind d g j u)) (sym h.kinds.left) (sym h.kinds.right) (constructor_seen_alike t u h x)
+          subst₂ (λ k j. Alike r ok (member_of_kind c f k t) (member_of_kind d g j u)) (sym h.kinds.left) (sym h.kinds.right)
+          (constructor_seen_alike t u h x)
       member_alike t u (s.SameMember.private_method b h p) =
           subst₂ (λ k j. Alike r ok (member_of_kind c f k t) (member_of_kind d g j u)) (sym b.left) (sym b.right)
           (by_privacy r ok c d f g (private_method_head t) (private_method_head u) _ _ h (λ n. cc))
       member_alike t u (s.SameMember.method b h x) =
           subst₂ (λ k j. Alike r ok (member_of_kind c f k t) (member_of_kind d g j u)) (sym b.left) (sym b.right)
           (by_privacy r ok c d f g (private_method_head t) (private_method_head u) _ _ h (λ n.
-          round_alike r ok kinds.ClassMethod (method_parts t (method_function_seen c f t)) (method_parts u (method_function_seen d g u)) (λ i.
-          range_alike r ok _ _ h.span i ∷ same_written r ok h.key i ∷ method_function_alike t u h.key x.kind x.function i ∷ same_written r ok x.kind i ∷
+          round_alike r ok kinds.ClassMethod (method_parts t (method_function_seen c f t)) (method_parts u (method_function_seen d g u))
+          (λ i.
+          range_alike r ok _ _ h.span i ∷ same_written r ok h.key i ∷ method_function_alike t u h.key x.kind x.function i ∷
+          same_written r ok x.kind i ∷
           flag_alike r ok _ _ h.is_static i ∷ same_written r ok h.accessibility i ∷ flag_alike r ok _ _ h.is_abstract i ∷
           flag_alike r ok _ _ h.is_optional i ∷ flag_alike r ok _ _ x.is_override i ∷ [])))
       member_alike t u (s.SameMember.property b h x) =
-          subst₂ (λ k j. Alike r ok (member_of_kind c f k t) (member_of_kind d g j u)) (sym b.left) (sym b.right) (property_alike r ok c d f g pair t u h x)
+          subst₂ (λ k j. Alike r ok (member_of_kind c f k t) (member_of_kind d g j u)) (sym b.left) (sym b.right)
+          (property_alike r ok c d f g pair t u h x)
       member_alike t u (s.SameMember.accessor b h x) =
-          subst₂ (λ k j. Alike r ok (member_of_kind c f k t) (member_of_kind d g j u)) (sym b.left) (sym b.right) (accessor_alike r ok c d f g pair t u h x)
+          subst₂ (λ k j. Alike r ok (member_of_kind c f k t) (member_of_kind d g j u)) (sym b.left) (sym b.right)
+          (accessor_alike r ok c d f g pair t u h x)
       member_alike t u (s.SameMember.index_signature b x) =
           subst₂ (λ k j. Alike r ok (member_of_kind c f k t) (member_of_kind d g j u)) (sym b.left) (sym b.right) (same_written r ok x)
 
@@ -454,7 +494,8 @@ module _ (r : Renaming) (ok : IsRenaming r) where
       -- what is seen of members that stay, and what they declare
       record KeptAlike (ts us : List Tree) : Type 0 where
         seen : AllAlike r ok (map (member_seen c f) ts) (map (member_seen d g) us)
-        declared : AllAlike r ok (map written (flat_map (declared_by_params c.unresolved) ts)) (map written (flat_map (declared_by_params d.unresolved) us))
+        declared : AllAlike r ok (map written (flat_map (declared_by_params c.unresolved) ts))
+            (map written (flat_map (declared_by_params d.unresolved) us))
 
       abbrev kept_behind : List Tree → List Tree → List Tree
       kept_behind earlier ms = each_behind if_kept earlier ms
@@ -464,7 +505,9 @@ module _ (r : Renaming) (ok : IsRenaming r) where
       next_kept false false t u ts us e x rest = rest
       next_kept true true t u ts us e x rest = record {
         seen = λ i. member_alike t u x i ∷ rest.seen i;
-        declared = subst₂ (AllAlike r ok) (sym (map-append written (declared_by_params c.unresolved t) (flat_map (declared_by_params c.unresolved) ts)))
+        declared =
+            subst₂ (AllAlike r ok)
+            (sym (map-append written (declared_by_params c.unresolved t) (flat_map (declared_by_params c.unresolved) ts)))
             (sym (map-append written (declared_by_params d.unresolved u) (flat_map (declared_by_params d.unresolved) us)))
             (append_alike r ok _ _ _ _ (declared_by_alike t u x) rest.declared);
       }
@@ -489,8 +532,10 @@ module _ (r : Renaming) (ok : IsRenaming r) where
 
       -- ---- classes
 
-      mark_alike : (a b : Bool) → a ≡ b → AllAlike r ok (map written (if a then hash_private ∷ [] else [])) (map written (if b then hash_private ∷ [] else []))
-      mark_alike true true e = ap (λ x. x ∷ []) (written_alike r ok hash_private hash_private (new_alike r ok hash_private hash_private_moved))
+      mark_alike : (a b : Bool) → a ≡ b → AllAlike r ok (map written (if a then hash_private ∷ [] else []))
+          (map written (if b then hash_private ∷ [] else []))
+      mark_alike true true e =
+          ap (λ x. x ∷ []) (written_alike r ok hash_private hash_private (new_alike r ok hash_private hash_private_moved))
       mark_alike false false e = refl
       mark_alike true false e = cc
       mark_alike false true e = cc
@@ -504,7 +549,8 @@ module _ (r : Renaming) (ok : IsRenaming r) where
           (sym (map-append written (hash_mark us) (flat_map (declared_by_params d.unresolved) (kept_behind [] us))))
           (append_alike r ok _ _ _ _ (mark_alike _ _ h) kept.declared)) kept.seen
 
-      class_head_alike : (t u : Tree) → SameClassHead r c d f g t u → moved_class (partners r) (class_head t) ≡ moved_class twice (class_head u)
+      class_head_alike : (t u : Tree) → SameClassHead r c d f g t u →
+          moved_class (partners r) (class_head t) ≡ moved_class twice (class_head u)
       class_head_alike t u h = λ i. record {
         span = range_to r ok _ _ h.span i;
         ctxt = scope_to r ok _ _ h.ctxt i;
@@ -549,12 +595,14 @@ module _ (r : Renaming) (ok : IsRenaming r) where
     ambient_alike ts (u ∷ us) (s.SameAmbientMembers.right e rest) =
         subst (λ xs. TreesAlike (ambient_members ts) xs) (sym (ambient_if true true u us e)) (ambient_alike ts us rest)
     ambient_alike (t ∷ ts) (u ∷ us) (s.SameAmbientMembers.next e rest) =
-        subst₂ TreesAlike (sym (ambient_if (is_private_computed t) true t ts refl)) (sym (ambient_if (is_private_computed u) true u us refl))
+        subst₂ TreesAlike (sym (ambient_if (is_private_computed t) true t ts refl))
+        (sym (ambient_if (is_private_computed u) true u us refl))
         (ambient_next _ _ t u _ _ (computed_same t u e) (tree_to r ok e) (ambient_alike ts us rest))
 
     pub ambient_class_alike : (t u : Tree) → SameAmbientClass r c d f g t u → TreeAlike r ok (ambient_class t) (ambient_class u)
     ambient_class_alike t u h = node_alike r ok kinds.Class _ _ (λ i.
-        range_leaf_alike r ok _ _ (range_to r ok _ _ h.head.span) i ∷ scope_leaf_alike r ok _ _ h.head.ctxt i ∷ tree_to r ok h.decorators i ∷
+        range_leaf_alike r ok _ _ (range_to r ok _ _ h.head.span) i ∷ scope_leaf_alike r ok _ _ h.head.ctxt i ∷
+        tree_to r ok h.decorators i ∷
         node_alike r ok kinds.List _ _ (ambient_alike _ _ h.members) i ∷ tree_to r ok h.superclass i ∷
         flag_leaf_alike r ok _ _ h.head.is_abstract i ∷ tree_to r ok h.head.type_params i ∷ tree_to r ok h.head.super_type_params i ∷
         tree_to r ok h.head.implements i ∷ [])

@@ -14,8 +14,9 @@ use Rattle.fast_check_signatures.specs.declared.rules.TheConstants.{FREEZE, NEW}
 use Rattle.fast_check_signatures.specs.declared.rules.Slot.{Slot}
 use Rattle.fast_check_signatures.specs.Parameters.{Look}
 use Rattle.fast_check_signatures.specs.Functions.{arrow_seen}
-use Rattle.fast_check_signatures.specs.Expressions.{is_plain, is_compound, freezes, is_frozen, makes_plain, is_made, known_by_kind, is_known, Rule, whole, parted, slotted, arrow, not_at_all, other_rule}
-use Rattle.fast_check_signatures.specs.Expressions.{rule, is_refused, slot_seen, slots_seen, by_rule, expr_form}
+use Rattle.fast_check_signatures.specs.Expressions.{is_plain, is_compound, freezes, is_frozen, makes_plain, is_made, known_by_kind}
+use Rattle.fast_check_signatures.specs.Expressions.{is_known, Rule, whole, parted, slotted, arrow, not_at_all, other_rule, rule, is_refused}
+use Rattle.fast_check_signatures.specs.Expressions.{slot_seen, slots_seen, by_rule, expr_form}
 use Rattle.fast_check_signatures.proofs.Choices.{both_true}
 use Rattle.fast_check_signatures.proofs.Refused.{refused_rule}
 use Rattle.fast_check_skeleton.specs.SameValues.{Both}
@@ -86,9 +87,11 @@ module _ (r : Renaming) (ok : IsRenaming r) (c d : Bindings) (look look' : Look)
   compound_alike k b e alike = kind_alike k parted b (compound_rule k (is_known c t) e) (compound_rule k (is_known d u) e) alike
 
   -- of a kind that stays where it is known
-  known_alike : (k : Kind) (x : Rule) → Both k t u → rule k true ≡ x → known_by_kind k c t ≡ true → known_by_kind k d u ≡ true → RuleAlike x → FormAlike
+  known_alike : (k : Kind) (x : Rule) → Both k t u → rule k true ≡ x → known_by_kind k c t ≡ true → known_by_kind k d u ≡ true →
+      RuleAlike x → FormAlike
   known_alike k x b same e f alike =
-      kind_alike k x b (ap (rule k) (ap (λ j. known_by_kind j c t) b.left ∙ e) ∙ same) (ap (rule k) (ap (λ j. known_by_kind j d u) b.right ∙ f) ∙ same) alike
+      kind_alike k x b (ap (rule k) (ap (λ j. known_by_kind j c t) b.left ∙ e) ∙ same)
+      (ap (rule k) (ap (λ j. known_by_kind j d u) b.right ∙ f) ∙ same) alike
 
   pub frozen_alike : is_frozen c t ≡ true → is_frozen d u ≡ true → RuleAlike (slotted FREEZE) → FormAlike
   frozen_alike e f alike =

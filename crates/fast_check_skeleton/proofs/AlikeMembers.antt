@@ -18,9 +18,9 @@ use Rattle.fast_check_class_forms.specs.Classes.{Constructor-body, Constructor-a
 use Rattle.fast_check_class_forms.specs.Fields.{ClassProp-key, ClassProp-accessibility, AutoAccessor-key, AutoAccessor-accessibility}
 use Rattle.fast_check_class_forms.specs.Methods.{ClassMethod-key, ClassMethod-accessibility}
 use Rattle.fast_check_signatures.specs.Bindings.{Bindings}
-use Rattle.fast_check_signatures.specs.Members.{is_private, is_computed, text_of_key_kind, key_text, is_hash_named_kind, is_private_method_of}
-use Rattle.fast_check_signatures.specs.Members.{is_private_implementation, is_first_of_name, is_first_implementation, stays_by_kind, stays_behind}
-use Rattle.fast_check_signatures.specs.Members.{is_private_computed_kind}
+use Rattle.fast_check_signatures.specs.Members.{is_private, is_computed, text_of_key_kind, key_text, is_hash_named_kind}
+use Rattle.fast_check_signatures.specs.Members.{is_private_method_of, is_private_implementation, is_first_of_name, is_first_implementation}
+use Rattle.fast_check_signatures.specs.Members.{stays_by_kind, stays_behind, is_private_computed_kind}
 use Rattle.fast_check_signatures.proofs.Choices.{both_true}
 use Rattle.fast_check_skeleton.specs.SameValues.{Both}
 use Rattle.fast_check_skeleton.specs.SameClasses.{IsSilentMember, SamePropertyHead, SameMember}
@@ -40,19 +40,24 @@ is_not true e = cc
 -- what stands behind it stands behind the earlier ones alone: it takes no name that was not taken, and is not the first constructor
 pub record Silent (earlier : List Tree) (m : Tree) : Type 0 where
   pub goes : stays_behind earlier m ≡ false
-  pub names : (name : List ℕ) → (is_private_method_of name m || list_any (is_private_method_of name) earlier) ≡ list_any (is_private_method_of name) earlier
-  pub implementations : (is_private_implementation m || list_any is_private_implementation earlier) ≡ list_any is_private_implementation earlier
+  pub names : (name : List ℕ) → (is_private_method_of name m || list_any (is_private_method_of name) earlier) ≡ list_any
+      (is_private_method_of name) earlier
+  pub implementations : (is_private_implementation m || list_any is_private_implementation earlier) ≡
+      list_any is_private_implementation earlier
 
 -- a member that is no method and no constructor
-neither : (earlier : List Tree) (m : Tree) → stays_behind earlier m ≡ false → kind_of m is kinds.ClassMethod ≡ false → kind_of m is kinds.Constructor ≡ false →
+neither : (earlier : List Tree) (m : Tree) → stays_behind earlier m ≡ false → kind_of m is kinds.ClassMethod ≡ false →
+    kind_of m is kinds.Constructor ≡ false →
     Silent earlier m
 neither earlier m e n k = record {
   goes = e;
   names = λ name.
       ap (λ b. (b && (is_private (ClassMethod-accessibility m) &&
-      (not (is_computed (ClassMethod-key m)) && bytes_eq (key_text (ClassMethod-key m)) name))) || list_any (is_private_method_of name) earlier) n;
+      (not (is_computed (ClassMethod-key m)) && bytes_eq (key_text (ClassMethod-key m)) name))) ||
+      list_any (is_private_method_of name) earlier) n;
   implementations =
-      ap (λ b. (b && (is_private (Constructor-accessibility m) && not (is_absent (Constructor-body m)))) || list_any is_private_implementation earlier) k;
+      ap (λ b. (b && (is_private (Constructor-accessibility m) && not (is_absent (Constructor-body m)))) ||
+      list_any is_private_implementation earlier) k;
 }
 
 module _ (earlier : List Tree) (m : Tree) where
@@ -79,7 +84,8 @@ module _ (earlier : List Tree) (m : Tree) where
       ∙ ap (λ c. not c && not (list_any (is_private_method_of (key_text (ClassMethod-key m))) earlier)) b.1
   computed_goes kinds.ClassProp e = ap not e
   computed_goes kinds.AutoAccessor e =
-      ap (λ b. not (kind_of (AutoAccessor-key m) is kinds.PrivateName) && not b) e ∙ no_second (not (kind_of (AutoAccessor-key m) is kinds.PrivateName))
+      ap (λ b. not (kind_of (AutoAccessor-key m) is kinds.PrivateName) && not b) e ∙
+      no_second (not (kind_of (AutoAccessor-key m) is kinds.PrivateName))
   computed_goes _ e = cc
 
   computed_name : (k : Kind) (name : List ℕ) → is_private_computed_kind k m ≡ true →
@@ -97,7 +103,8 @@ module _ (earlier : List Tree) (m : Tree) where
 
   -- a private method of a name
   abbrev NamedMethod : List ℕ → Type 0
-  NamedMethod name = (kind_of m ≡ kinds.ClassMethod) × (is_private (ClassMethod-accessibility m) ≡ true) × (key_text (ClassMethod-key m) ≡ name)
+  NamedMethod name = (kind_of m ≡ kinds.ClassMethod) × (is_private (ClassMethod-accessibility m) ≡ true) ×
+      (key_text (ClassMethod-key m) ≡ name)
 
   named : (name : List ℕ) → is_private_method_of name m ≡ true → NamedMethod name
   named name e =
@@ -118,7 +125,8 @@ module _ (earlier : List Tree) (m : Tree) where
       (is_private_method_of other m || list_any (is_private_method_of other) earlier) ≡ list_any (is_private_method_of other) earlier
   again_name name other n e = go (is_private_method_of other m) refl
     where
-      go : (b : Bool) → is_private_method_of other m ≡ b → (b || list_any (is_private_method_of other) earlier) ≡ list_any (is_private_method_of other) earlier
+      go : (b : Bool) → is_private_method_of other m ≡ b → (b || list_any (is_private_method_of other) earlier) ≡ list_any
+          (is_private_method_of other) earlier
       go false q = refl
       go true q = sym (ap (λ text. list_any (is_private_method_of text) earlier) (sym (named other q).2 ∙ n.2) ∙ e)
 
@@ -132,7 +140,8 @@ module _ (earlier : List Tree) (m : Tree) where
       let a = both_true (kind_of m is kinds.Constructor) (is_private (Constructor-accessibility m) && bodied) e in
       (is_kind (kind_of m) kinds.Constructor a.0, (both_true (is_private (Constructor-accessibility m)) bodied a.1).0)
 
-  private_goes : kind_of m ≡ kinds.Constructor → is_private (Constructor-accessibility m) ≡ true → is_first_implementation earlier m ≡ false →
+  private_goes : kind_of m ≡ kinds.Constructor → is_private (Constructor-accessibility m) ≡ true →
+      is_first_implementation earlier m ≡ false →
       stays_behind earlier m ≡ false
   private_goes k p e = ap (λ k. stays_by_kind k earlier m) k ∙ (ap (λ p. if p then is_first_implementation earlier m else true) p ∙ e)
 
@@ -152,7 +161,8 @@ module _ (earlier : List Tree) (m : Tree) where
     goes = computed_goes (kind_of m) e;
     names = λ name. ap (λ b. b || list_any (is_private_method_of name) earlier) (computed_name (kind_of m) name e);
     implementations =
-        ap (λ b. (b && (is_private (Constructor-accessibility m) && not (is_absent (Constructor-body m)))) || list_any is_private_implementation earlier)
+        ap (λ b. (b && (is_private (Constructor-accessibility m) && not (is_absent (Constructor-body m)))) ||
+        list_any is_private_implementation earlier)
         (computed_constructor (kind_of m) e);
   }
   silent (s.again name e taken) = record {
@@ -186,11 +196,13 @@ pub record SameTaken (earlier earlier' : List Tree) : Type 0 where
   pub names : (name : List ℕ) → list_any (is_private_method_of name) earlier ≡ list_any (is_private_method_of name) earlier'
   pub implementations : list_any is_private_implementation earlier ≡ list_any is_private_implementation earlier'
 
-pub taken_left : (earlier earlier' : List Tree) (m : Tree) → IsSilentMember earlier m → SameTaken earlier earlier' → SameTaken (m ∷ earlier) earlier'
+pub taken_left : (earlier earlier' : List Tree) (m : Tree) → IsSilentMember earlier m → SameTaken earlier earlier' →
+    SameTaken (m ∷ earlier) earlier'
 taken_left earlier earlier' m q e = let gone = silent earlier m q in
     record { names = λ name. gone.names name ∙ e.names name; implementations = gone.implementations ∙ e.implementations }
 
-pub taken_right : (earlier earlier' : List Tree) (m : Tree) → IsSilentMember earlier' m → SameTaken earlier earlier' → SameTaken earlier (m ∷ earlier')
+pub taken_right : (earlier earlier' : List Tree) (m : Tree) → IsSilentMember earlier' m → SameTaken earlier earlier' →
+    SameTaken earlier (m ∷ earlier')
 taken_right earlier earlier' m q e = let gone = silent earlier' m q in
     record { names = λ name. e.names name ∙ sym (gone.names name); implementations = e.implementations ∙ sym gone.implementations }
 
@@ -220,7 +232,8 @@ module _ (r : Renaming) (ok : IsRenaming r) where
     pub names : (name : List ℕ) → is_private_method_of name t ≡ is_private_method_of name u
     pub implementations : is_private_implementation t ≡ is_private_implementation u
 
-  pub taken_next : (earlier earlier' : List Tree) (t u : Tree) → StaysAlike t u → SameTaken earlier earlier' → SameTaken (t ∷ earlier) (u ∷ earlier')
+  pub taken_next : (earlier earlier' : List Tree) (t u : Tree) → StaysAlike t u → SameTaken earlier earlier' →
+      SameTaken (t ∷ earlier) (u ∷ earlier')
   taken_next earlier earlier' t u h e = record {
     names = λ name. ap₂ (λ x y. x || y) (h.names name) (e.names name);
     implementations = ap₂ (λ x y. x || y) h.implementations e.implementations;
@@ -228,7 +241,8 @@ module _ (r : Renaming) (ok : IsRenaming r) where
 
   -- neither a method nor a constructor
   others : (k : Kind) (t u : Tree) → Both k t u → k is kinds.ClassMethod ≡ false → k is kinds.Constructor ≡ false →
-      ((earlier earlier' : List Tree) → SameTaken earlier earlier' → stays_by_kind k earlier t ≡ stays_by_kind k earlier' u) → StaysAlike t u
+      ((earlier earlier' : List Tree) → SameTaken earlier earlier' → stays_by_kind k earlier t ≡ stays_by_kind k earlier' u) →
+      StaysAlike t u
   others k t u b n j e = record {
     stays = λ earlier earlier' h.
         ap (λ x. stays_by_kind x earlier t) b.left ∙ (e earlier earlier' h ∙ sym (ap (λ x. stays_by_kind x earlier' u) b.right));
@@ -243,7 +257,8 @@ module _ (r : Renaming) (ok : IsRenaming r) where
 
       no_implementation : (m : Tree) → kind_of m ≡ k → is_private_implementation m ≡ false
       no_implementation m e =
-          ap (λ b. b && (is_private (Constructor-accessibility m) && not (is_absent (Constructor-body m)))) (ap (λ x. x is kinds.Constructor) e ∙ j)
+          ap (λ b. b && (is_private (Constructor-accessibility m) && not (is_absent (Constructor-body m))))
+          (ap (λ x. x is kinds.Constructor) e ∙ j)
 
   methods : (t u : Tree) → Both kinds.ClassMethod t u → SameTree r (ClassMethod-accessibility t) (ClassMethod-accessibility u) →
       SameTree r (ClassMethod-key t) (ClassMethod-key u) → StaysAlike t u
@@ -257,10 +272,13 @@ module _ (r : Renaming) (ok : IsRenaming r) where
             ∙ ((λ i. if private i then not (computed i) && not ((ap (λ n. list_any (is_private_method_of n) earlier) text ∙
             h.names (key_text (ClassMethod-key u))) i) else true)
             ∙ sym (ap (λ x. stays_by_kind x earlier' u) b.right));
-        names = λ name. λ i. ((ap (λ x. x is kinds.ClassMethod) (b.left ∙ sym b.right)) i) && (private i && (not (computed i) && bytes_eq (text i) name));
+        names = λ name. λ i. ((ap (λ x. x is kinds.ClassMethod) (b.left ∙ sym b.right)) i) &&
+            (private i && (not (computed i) && bytes_eq (text i) name));
         implementations =
             ap (λ x. (x is kinds.Constructor) && (is_private (Constructor-accessibility t) && not (is_absent (Constructor-body t)))) b.left
-            ∙ sym (ap (λ x. (x is kinds.Constructor) && (is_private (Constructor-accessibility u) && not (is_absent (Constructor-body u)))) b.right);
+            ∙ sym (ap
+            (λ x. (x is kinds.Constructor) &&
+            (is_private (Constructor-accessibility u) && not (is_absent (Constructor-body u)))) b.right);
       }
 
   constructors : (t u : Tree) → Both kinds.Constructor t u → SameTree r (Constructor-accessibility t) (Constructor-accessibility u) →
@@ -270,11 +288,13 @@ module _ (r : Renaming) (ok : IsRenaming r) where
       record {
         stays = λ earlier earlier' h.
             ap (λ x. stays_by_kind x earlier t) b.left
-            ∙ ((λ i. if private i then not (k i) && not (h.implementations i) else true) ∙ sym (ap (λ x. stays_by_kind x earlier' u) b.right));
+            ∙ ((λ i. if private i then not (k i) && not (h.implementations i) else true) ∙
+            sym (ap (λ x. stays_by_kind x earlier' u) b.right));
         names = λ name.
             ap (λ x. (x is kinds.ClassMethod) && (is_private (ClassMethod-accessibility t) && (not (is_computed (ClassMethod-key t)) &&
             bytes_eq (key_text (ClassMethod-key t)) name))) b.left
-            ∙ sym (ap (λ x. (x is kinds.ClassMethod) && (is_private (ClassMethod-accessibility u) && (not (is_computed (ClassMethod-key u)) &&
+            ∙ sym (ap
+            (λ x. (x is kinds.ClassMethod) && (is_private (ClassMethod-accessibility u) && (not (is_computed (ClassMethod-key u)) &&
             bytes_eq (key_text (ClassMethod-key u)) name))) b.right);
         implementations = λ i. ((ap (λ x. x is kinds.Constructor) (b.left ∙ sym b.right)) i) && (private i && not (k i));
       }

@@ -11,9 +11,10 @@ use Rattle.fast_check_syntax.specs.Moves.{Renaming, IsRenaming, partners, twice,
 use Rattle.fast_check_syntax.specs.Same.{SameTree, SameRange}
 use Rattle.fast_check_syntax.proofs.Partners.{partners-keep as partners_keep, twice-keeps as twice_keeps}
 use Rattle.fast_check_syntax.proofs.Same.{tree_to, range_to}
-use Rattle.fast_check_expression_forms.specs.Patterns.{ArrayPat-span, ArrayPat-optional, ArrayPat-type_ann, ObjectPat-span, ObjectPat-optional}
-use Rattle.fast_check_expression_forms.specs.Patterns.{ObjectPat-type_ann, RestPat-span, RestPat-dot3_token, RestPat-arg, RestPat-type_ann, rest_pat}
-use Rattle.fast_check_expression_forms.specs.Patterns.{AssignPat-span, AssignPat-left, AssignPat-right, assign_pat}
+use Rattle.fast_check_expression_forms.specs.Patterns.{ArrayPat-span, ArrayPat-optional, ArrayPat-type_ann, ObjectPat-span}
+use Rattle.fast_check_expression_forms.specs.Patterns.{ObjectPat-optional, ObjectPat-type_ann, RestPat-span, RestPat-dot3_token}
+use Rattle.fast_check_expression_forms.specs.Patterns.{RestPat-arg, RestPat-type_ann, rest_pat, AssignPat-span, AssignPat-left}
+use Rattle.fast_check_expression_forms.specs.Patterns.{AssignPat-right, assign_pat}
 use Rattle.fast_check_ranges.specs.Ranges.{range_of_node}
 use Rattle.fast_check_program_forms.specs.Names.{Ident-span, Ident-optional, BindingIdent-id, BindingIdent-type_ann}
 use Rattle.fast_check_helpers.specs.declared.literal_type.DeclMutabilityKind.TheVariants.{Mutable}
@@ -26,14 +27,15 @@ use Rattle.fast_check_signatures.specs.Bindings.{Bindings}
 use Rattle.fast_check_signatures.specs.declared.fault.FaultKind.TheVariants.{MissingExplicitType, UnsupportedDestructuring}
 use Rattle.fast_check_signatures.specs.Seen.{Seen, written, default, faulty}
 use Rattle.fast_check_signatures.specs.NewNodes.{never_array, empty_object_pat}
-use Rattle.fast_check_signatures.specs.Parameters.{Look, emptied_array, emptied_object, typed, arg_by_kind, rest_arg, without_default, default_seen, by_shown}
-use Rattle.fast_check_signatures.specs.Parameters.{pattern_default_seen, assign_by_left, pat_by_kind, pat_seen}
-use Rattle.fast_check_skeleton.specs.SameValues.{Both, SameShown, NoneShown, SameEmptied, SameGathered, pattern_type, is_parameter, takes_default, gathers_nothing}
+use Rattle.fast_check_signatures.specs.Parameters.{Look, emptied_array, emptied_object, typed, arg_by_kind, rest_arg, without_default}
+use Rattle.fast_check_signatures.specs.Parameters.{default_seen, by_shown, pattern_default_seen, assign_by_left, pat_by_kind, pat_seen}
+use Rattle.fast_check_skeleton.specs.SameValues.{Both, SameShown, NoneShown, SameEmptied, SameGathered, pattern_type, is_parameter}
+use Rattle.fast_check_skeleton.specs.SameValues.{takes_default, gathers_nothing}
 use Rattle.fast_check_skeleton.specs.SameValues as s
 use Rattle.fast_check_signatures.proofs.NewNodesMoved.{never_array_moved, empty_object_pat_moved}
 use Rattle.fast_check_signatures.proofs.ParametersMoved.{rest_arg_moved, without_default_moved}
-use Rattle.fast_check_skeleton.proofs.AlikeTrees.{TreeAlike, RangeAlike, image_alike, same_read, new_alike, field_alike, range_field_alike, absent_alike}
-use Rattle.fast_check_skeleton.proofs.AlikeTrees.{range_leaf_alike, flag_leaf_alike, node_alike, empty_list_alike}
+use Rattle.fast_check_skeleton.proofs.AlikeTrees.{TreeAlike, RangeAlike, image_alike, same_read, new_alike, field_alike, range_field_alike}
+use Rattle.fast_check_skeleton.proofs.AlikeTrees.{absent_alike, range_leaf_alike, flag_leaf_alike, node_alike, empty_list_alike}
 use Rattle.fast_check_skeleton.proofs.AlikeSeen.{Alike, written_alike, faulty_alike, alike_if}
 
 -- ---- what a parameter of each kind is seen as
@@ -48,7 +50,8 @@ module _ (bindings : Bindings) (look : Look) (is_optional : Bool) (pat : Tree) w
   default_of k e f = pat_of kinds.AssignPat e ∙ ap (λ k. assign_by_left bindings look k is_optional pat) f
 
   -- what can't be a parameter, and what can't have a default
-  unfit_pat : (k : Kind) → is_parameter k ≡ false → pat_by_kind bindings look k is_optional pat ≡ faulty UnsupportedDestructuring (range_of_node pat)
+  unfit_pat : (k : Kind) → is_parameter k ≡ false → pat_by_kind bindings look k is_optional pat ≡ faulty UnsupportedDestructuring
+      (range_of_node pat)
   unfit_pat kinds.BindingIdent e = cc
   unfit_pat kinds.AssignPat e = cc
   unfit_pat kinds.RestPat e = cc
@@ -97,7 +100,8 @@ module _ (r : Renaming) (ok : IsRenaming r) where
   abbrev pub PlaceAlike : Option SourceRange → Option SourceRange → Type 0
   PlaceAlike p q = option_map (moved_range (partners r)) p ≡ option_map (moved_range twice) q
 
-  typed_alike : (type type' : Tree) (a b : SourceRange) (t u : Tree) → TreeAlike r ok type type' → RangeAlike r ok a b → TreeAlike r ok t u →
+  typed_alike : (type type' : Tree) (a b : SourceRange) (t u : Tree) → TreeAlike r ok type type' → RangeAlike r ok a b →
+      TreeAlike r ok t u →
       Alike r ok (typed type a t) (typed type' b u)
   typed_alike type type' a b t u e f g =
       alike_if r ok (is_absent type) (is_absent type') (faulty MissingExplicitType a) (written t) (faulty MissingExplicitType b) (written u)
@@ -122,7 +126,8 @@ module _ (r : Renaming) (ok : IsRenaming r) where
       SameTree r (ObjectPat-type_ann t) (ObjectPat-type_ann u) →
       TreeAlike r ok (emptied_object t) (emptied_object u)
   object_emptied t u a o e =
-      node_alike r ok kinds.ObjectPat (tree.Range (ObjectPat-span t) ∷ list [] ∷ tree.Flag (ObjectPat-optional t) ∷ ObjectPat-type_ann t ∷ [])
+      node_alike r ok kinds.ObjectPat
+      (tree.Range (ObjectPat-span t) ∷ list [] ∷ tree.Flag (ObjectPat-optional t) ∷ ObjectPat-type_ann t ∷ [])
       (tree.Range (ObjectPat-span u) ∷ list [] ∷ tree.Flag (ObjectPat-optional u) ∷ ObjectPat-type_ann u ∷ [])
       (λ i. range_leaf_alike r ok (ObjectPat-span t) (ObjectPat-span u) (range_to r ok (ObjectPat-span t) (ObjectPat-span u) a) i ∷
       empty_list_alike r ok i ∷ flag_leaf_alike r ok (ObjectPat-optional t) (ObjectPat-optional u) o i ∷ tree_to r ok e i ∷ [])
@@ -133,7 +138,8 @@ module _ (r : Renaming) (ok : IsRenaming r) where
       node_alike r ok kinds.AssignPat (tree.Range a ∷ t ∷ never ∷ []) (tree.Range b ∷ u ∷ never ∷ [])
       (λ i. range_leaf_alike r ok a b (range_to r ok a b s) i ∷ e i ∷ f i ∷ [])
 
-  default_alike : (a b p q : SourceRange) (left left' : Tree) (value value' : Seen) → SameRange r a b → RangeAlike r ok p q → TreeAlike r ok left left' →
+  default_alike : (a b p q : SourceRange) (left left' : Tree) (value value' : Seen) → SameRange r a b → RangeAlike r ok p q →
+      TreeAlike r ok left left' →
       Alike r ok value value' →
       Alike r ok (default_seen a p left value) (default_seen b q left' value')
   default_alike a b p q left left' value value' s e f g =
@@ -141,9 +147,11 @@ module _ (r : Renaming) (ok : IsRenaming r) where
 
   module _ (c d : Bindings) where
     emptied_arg_alike : (t u : Tree) → SameEmptied r c d t u → TreeAlike r ok (rest_arg t) (rest_arg u)
-    emptied_arg_alike t u (s.array k a o e) = subst₂ (TreeAlike r ok) (sym (ap (λ k. arg_by_kind k t) k.left)) (sym (ap (λ k. arg_by_kind k u) k.right))
+    emptied_arg_alike t u (s.array k a o e) = subst₂ (TreeAlike r ok) (sym (ap (λ k. arg_by_kind k t) k.left))
+        (sym (ap (λ k. arg_by_kind k u) k.right))
         (array_emptied t u a o e)
-    emptied_arg_alike t u (s.object k a o e) = subst₂ (TreeAlike r ok) (sym (ap (λ k. arg_by_kind k t) k.left)) (sym (ap (λ k. arg_by_kind k u) k.right))
+    emptied_arg_alike t u (s.object k a o e) = subst₂ (TreeAlike r ok) (sym (ap (λ k. arg_by_kind k t) k.left))
+        (sym (ap (λ k. arg_by_kind k u) k.right))
         (object_emptied t u a o e)
 
     rest_arg_alike : (t u : Tree) → SameGathered r c d t u → TreeAlike r ok (rest_arg t) (rest_arg u)
@@ -168,7 +176,8 @@ module _ (r : Renaming) (ok : IsRenaming r) where
     pub assign_optional : (t u : Tree) → Both kinds.AssignPat t u → is_optional_param t ≡ is_optional_param u
     assign_optional t u k = ap (optional_at t) k.left ∙ sym (ap (optional_at u) k.right)
 
-    pub unfit_same : (t u : Tree) → is_parameter (kind_of t) ≡ false → is_parameter (kind_of u) ≡ false → is_optional_param t ≡ is_optional_param u
+    pub unfit_same : (t u : Tree) → is_parameter (kind_of t) ≡ false → is_parameter (kind_of u) ≡ false →
+        is_optional_param t ≡ is_optional_param u
     unfit_same t u e f = unfit_optional t (kind_of t) e ∙ sym (unfit_optional u (kind_of u) f)
 
     -- ---- what is seen, whatever is seen of expressions, but for defaults that are to stay
@@ -186,23 +195,27 @@ module _ (r : Renaming) (ok : IsRenaming r) where
       bare_alike t u k e =
           let same = tree_to r ok e in
           subst₂ (Alike r ok) (sym (pat_of c look b t kinds.BindingIdent k.left)) (sym (pat_of d look' b u kinds.BindingIdent k.right))
-          (typed_alike (BindingIdent-type_ann t) (BindingIdent-type_ann u) (Ident-span (BindingIdent-id t)) (Ident-span (BindingIdent-id u)) t u
+          (typed_alike (BindingIdent-type_ann t) (BindingIdent-type_ann u) (Ident-span (BindingIdent-id t))
+          (Ident-span (BindingIdent-id u)) t u
           (field_alike r ok BindingIdent-type_ann _ (λ t. refl) t u same)
-          (range_field_alike r ok Ident-span _ (λ t. refl) (BindingIdent-id t) (BindingIdent-id u) (field_alike r ok BindingIdent-id _ (λ t. refl) t u same))
+          (range_field_alike r ok Ident-span _ (λ t. refl) (BindingIdent-id t) (BindingIdent-id u)
+          (field_alike r ok BindingIdent-id _ (λ t. refl) t u same))
           same)
 
       pub taken_apart_alike : (t u : Tree) → is_parameter (kind_of t) ≡ false → is_parameter (kind_of u) ≡ false →
           SameRange r (range_of_node t) (range_of_node u) → PatAlike t u
       taken_apart_alike t u e f a =
           subst₂ (Alike r ok) (sym (unfit_pat c look b t (kind_of t) e)) (sym (unfit_pat d look' b u (kind_of u) f))
-          (faulty_alike r ok UnsupportedDestructuring (range_of_node t) (range_of_node u) (range_to r ok (range_of_node t) (range_of_node u) a))
+          (faulty_alike r ok UnsupportedDestructuring (range_of_node t) (range_of_node u)
+          (range_to r ok (range_of_node t) (range_of_node u) a))
 
       pub default_taken_apart_alike : (t u : Tree) → Both kinds.AssignPat t u → takes_default (kind_of (AssignPat-left t)) ≡ false →
           takes_default (kind_of (AssignPat-left u)) ≡ false → SameRange r (AssignPat-span t) (AssignPat-span u) → PatAlike t u
       default_taken_apart_alike t u k e f a =
           subst₂ (Alike r ok) (sym (pat_of c look b t kinds.AssignPat k.left ∙ unfit_left c look b t (kind_of (AssignPat-left t)) e))
           (sym (pat_of d look' b u kinds.AssignPat k.right ∙ unfit_left d look' b u (kind_of (AssignPat-left u)) f))
-          (faulty_alike r ok UnsupportedDestructuring (AssignPat-span t) (AssignPat-span u) (range_to r ok (AssignPat-span t) (AssignPat-span u) a))
+          (faulty_alike r ok UnsupportedDestructuring (AssignPat-span t) (AssignPat-span u)
+          (range_to r ok (AssignPat-span t) (AssignPat-span u) a))
 
       pub emptied_alike : (t u : Tree) → SameEmptied r c d t u → PatAlike t u
       emptied_alike t u (s.array k a o e) =
@@ -211,7 +224,8 @@ module _ (r : Renaming) (ok : IsRenaming r) where
           (tree_to r ok e) (range_to r ok (ArrayPat-span t) (ArrayPat-span u) a) (array_emptied t u a o e))
       emptied_alike t u (s.object k a o e) =
           subst₂ (Alike r ok) (sym (pat_of c look b t kinds.ObjectPat k.left)) (sym (pat_of d look' b u kinds.ObjectPat k.right))
-          (typed_alike (ObjectPat-type_ann t) (ObjectPat-type_ann u) (ObjectPat-span t) (ObjectPat-span u) (emptied_object t) (emptied_object u)
+          (typed_alike (ObjectPat-type_ann t) (ObjectPat-type_ann u) (ObjectPat-span t) (ObjectPat-span u) (emptied_object t)
+          (emptied_object u)
           (tree_to r ok e) (range_to r ok (ObjectPat-span t) (ObjectPat-span u) a) (object_emptied t u a o e))
 
       pub rest_alike : (t u : Tree) → Both kinds.RestPat t u → SameRange r (RestPat-span t) (RestPat-span u) →
@@ -223,10 +237,12 @@ module _ (r : Renaming) (ok : IsRenaming r) where
           (rest_pat (RestPat-span t) (RestPat-dot3_token t) (rest_arg (RestPat-arg t)) (RestPat-type_ann t))
           (rest_pat (RestPat-span u) (RestPat-dot3_token u) (rest_arg (RestPat-arg u)) (RestPat-type_ann u))
           (tree_to r ok e) (range_to r ok (RestPat-span t) (RestPat-span u) a)
-          (node_alike r ok kinds.RestPat (tree.Range (RestPat-span t) ∷ tree.Range (RestPat-dot3_token t) ∷ rest_arg (RestPat-arg t) ∷ RestPat-type_ann t ∷ [])
+          (node_alike r ok kinds.RestPat
+          (tree.Range (RestPat-span t) ∷ tree.Range (RestPat-dot3_token t) ∷ rest_arg (RestPat-arg t) ∷ RestPat-type_ann t ∷ [])
           (tree.Range (RestPat-span u) ∷ tree.Range (RestPat-dot3_token u) ∷ rest_arg (RestPat-arg u) ∷ RestPat-type_ann u ∷ [])
           (λ i. range_leaf_alike r ok (RestPat-span t) (RestPat-span u) (range_to r ok (RestPat-span t) (RestPat-span u) a) i ∷
-          range_leaf_alike r ok (RestPat-dot3_token t) (RestPat-dot3_token u) (range_to r ok (RestPat-dot3_token t) (RestPat-dot3_token u) dots) i ∷
+          range_leaf_alike r ok (RestPat-dot3_token t) (RestPat-dot3_token u)
+          (range_to r ok (RestPat-dot3_token t) (RestPat-dot3_token u) dots) i ∷
           rest_arg_alike (RestPat-arg t) (RestPat-arg u) arg i ∷ tree_to r ok e i ∷ [])))
 
       -- ---- identifiers with defaults
@@ -246,9 +262,12 @@ module _ (r : Renaming) (ok : IsRenaming r) where
           let id' = BindingIdent-id (AssignPat-left u) in
           let type = BindingIdent-type_ann (AssignPat-left t) in
           let type' = BindingIdent-type_ann (AssignPat-left u) in
-          let f : TreeAlike r ok id id' = field_alike r ok BindingIdent-id _ (λ t. refl) (AssignPat-left t) (AssignPat-left u) (tree_to r ok e) in
-          let g : TreeAlike r ok type type' = field_alike r ok BindingIdent-type_ann _ (λ t. refl) (AssignPat-left t) (AssignPat-left u) (tree_to r ok e) in
-          subst₂ (Alike r ok) (sym (default_of c look b t kinds.BindingIdent k.left j.left)) (sym (default_of d look' b u kinds.BindingIdent k.right j.right))
+          let f : TreeAlike r ok id id' = field_alike r ok BindingIdent-id _ (λ t. refl) (AssignPat-left t) (AssignPat-left u)
+          (tree_to r ok e) in
+          let g : TreeAlike r ok type type' = field_alike r ok BindingIdent-type_ann _ (λ t. refl) (AssignPat-left t) (AssignPat-left u)
+          (tree_to r ok e) in
+          subst₂ (Alike r ok) (sym (default_of c look b t kinds.BindingIdent k.left j.left))
+          (sym (default_of d look' b u kinds.BindingIdent k.right j.right))
           (alike_if r ok (is_absent type) (is_absent type')
           (shown c look t (inferred_type Mutable c.unresolved (AssignPat-right t))) (written (without_default b id type))
           (shown d look' u (inferred_type Mutable d.unresolved (AssignPat-right u))) (written (without_default b id' type'))
@@ -266,7 +285,8 @@ module _ (r : Renaming) (ok : IsRenaming r) where
       shown_default_alike t u k j e h =
           let id = BindingIdent-id (AssignPat-left t) in
           let id' = BindingIdent-id (AssignPat-left u) in
-          let f : TreeAlike r ok id id' = field_alike r ok BindingIdent-id _ (λ t. refl) (AssignPat-left t) (AssignPat-left u) (tree_to r ok e) in
+          let f : TreeAlike r ok id id' = field_alike r ok BindingIdent-id _ (λ t. refl) (AssignPat-left t) (AssignPat-left u)
+          (tree_to r ok e) in
           let g : TreeAlike r ok (type_ann h.left) (type_ann h.right) =
           image_alike r ok type_ann (λ m keeps t. sym (type_ann_moved m keeps t)) h.left h.right (tree_to r ok h.types) in
           ident_default_alike t u k j e (λ q.
@@ -276,7 +296,8 @@ module _ (r : Renaming) (ok : IsRenaming r) where
 
       pub kept_default_alike : (t u : Tree) → Both kinds.AssignPat t u → Both kinds.BindingIdent (AssignPat-left t) (AssignPat-left u) →
           SameRange r (AssignPat-span t) (AssignPat-span u) →
-          SameTree r (AssignPat-left t) (AssignPat-left u) → NoneShown r c d (AssignPat-right t) (AssignPat-right u) → DefaultAlike t u → PatAlike t u
+          SameTree r (AssignPat-left t) (AssignPat-left u) → NoneShown r c d (AssignPat-right t) (AssignPat-right u) → DefaultAlike t u →
+          PatAlike t u
       kept_default_alike t u k j a e h v =
           let place = Ident-span (BindingIdent-id (AssignPat-left t)) in
           let place' = Ident-span (BindingIdent-id (AssignPat-left u)) in
@@ -286,11 +307,13 @@ module _ (r : Renaming) (ok : IsRenaming r) where
           ident_default_alike t u k j e (λ q.
           subst₂ (λ x y. Alike r ok (shown c look t x) (shown d look' u y)) (sym h.left) (sym h.right)
           (default_alike (AssignPat-span t) (AssignPat-span u) place place' (AssignPat-left t) (AssignPat-left u)
-          (look (AssignPat-right t) (Some place)) (look' (AssignPat-right u) (Some place')) a f (tree_to r ok e) (v (Some place) (Some place') (ap Some f))))
+          (look (AssignPat-right t) (Some place)) (look' (AssignPat-right u) (Some place')) a f (tree_to r ok e)
+          (v (Some place) (Some place') (ap Some f))))
 
       -- ---- patterns with defaults
 
-      pattern_default_alike : (t u type type' : Tree) (p q : SourceRange) (x y never : Tree) → SameRange r (AssignPat-span t) (AssignPat-span u) →
+      pattern_default_alike : (t u type type' : Tree) (p q : SourceRange) (x y never : Tree) →
+          SameRange r (AssignPat-span t) (AssignPat-span u) →
           TreeAlike r ok type type' → RangeAlike r ok p q → TreeAlike r ok x y → TreeAlike r ok never never →
           (is_absent type ≡ true → Alike r ok (look (AssignPat-right t) None) (look' (AssignPat-right u) None)) →
           Alike r ok (pattern_default_seen c look type p x never t) (pattern_default_seen d look' type' q y never u)
@@ -299,19 +322,23 @@ module _ (r : Renaming) (ok : IsRenaming r) where
           (default_seen (AssignPat-span t) p x (look (AssignPat-right t) None)) (written (assign_pat (AssignPat-span t) x never))
           (default_seen (AssignPat-span u) q y (look' (AssignPat-right u) None)) (written (assign_pat (AssignPat-span u) y never))
           (absent_alike r ok type type' e)
-          (λ w. default_alike (AssignPat-span t) (AssignPat-span u) p q x y (look (AssignPat-right t) None) (look' (AssignPat-right u) None) a f g (v w))
+          (λ w. default_alike (AssignPat-span t) (AssignPat-span u) p q x y (look (AssignPat-right t) None)
+          (look' (AssignPat-right u) None) a f g (v w))
           (λ w. written_alike r ok (assign_pat (AssignPat-span t) x never) (assign_pat (AssignPat-span u) y never)
           (assign_pat_alike (AssignPat-span t) (AssignPat-span u) x y never a g n))
 
       -- by the written type, or else by the default
       emptied_default_alike : (t u : Tree) → Both kinds.AssignPat t u → SameRange r (AssignPat-span t) (AssignPat-span u) →
           SameEmptied r c d (AssignPat-left t) (AssignPat-left u) →
-          (is_absent (pattern_type (AssignPat-left t)) ≡ true → Alike r ok (look (AssignPat-right t) None) (look' (AssignPat-right u) None)) → PatAlike t u
+          (is_absent (pattern_type (AssignPat-left t)) ≡ true → Alike r ok (look (AssignPat-right t) None)
+          (look' (AssignPat-right u) None)) → PatAlike t u
       emptied_default_alike t u k a (s.array j o f e) v =
           let left = AssignPat-left t in
           let left' = AssignPat-left u in
-          subst₂ (Alike r ok) (sym (default_of c look b t kinds.ArrayPat k.left j.left)) (sym (default_of d look' b u kinds.ArrayPat k.right j.right))
-          (pattern_default_alike t u (ArrayPat-type_ann left) (ArrayPat-type_ann left') (ArrayPat-span left) (ArrayPat-span left') (emptied_array left)
+          subst₂ (Alike r ok) (sym (default_of c look b t kinds.ArrayPat k.left j.left))
+          (sym (default_of d look' b u kinds.ArrayPat k.right j.right))
+          (pattern_default_alike t u (ArrayPat-type_ann left) (ArrayPat-type_ann left') (ArrayPat-span left) (ArrayPat-span left')
+          (emptied_array left)
           (emptied_array left') never_array
           a (tree_to r ok e) (range_to r ok (ArrayPat-span left) (ArrayPat-span left') o) (array_emptied left left' o f e)
           (new_alike r ok never_array never_array_moved)
@@ -319,8 +346,10 @@ module _ (r : Renaming) (ok : IsRenaming r) where
       emptied_default_alike t u k a (s.object j o f e) v =
           let left = AssignPat-left t in
           let left' = AssignPat-left u in
-          subst₂ (Alike r ok) (sym (default_of c look b t kinds.ObjectPat k.left j.left)) (sym (default_of d look' b u kinds.ObjectPat k.right j.right))
-          (pattern_default_alike t u (ObjectPat-type_ann left) (ObjectPat-type_ann left') (ObjectPat-span left) (ObjectPat-span left') (emptied_object left)
+          subst₂ (Alike r ok) (sym (default_of c look b t kinds.ObjectPat k.left j.left))
+          (sym (default_of d look' b u kinds.ObjectPat k.right j.right))
+          (pattern_default_alike t u (ObjectPat-type_ann left) (ObjectPat-type_ann left') (ObjectPat-span left) (ObjectPat-span left')
+          (emptied_object left)
           (emptied_object left') never_value
           a (tree_to r ok e) (range_to r ok (ObjectPat-span left) (ObjectPat-span left') o) (object_emptied left left' o f e)
           (new_alike r ok never_value never_value_moved)

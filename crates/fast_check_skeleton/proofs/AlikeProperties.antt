@@ -31,8 +31,8 @@ use Rattle.fast_check_signatures.proofs.MovedParts.{moved_property}
 use Rattle.fast_check_skeleton.specs.SameValues.{SameBindings, SameExpr}
 use Rattle.fast_check_skeleton.specs.SameClasses.{SamePropertyHead, SameProperty, SameAccessor}
 use Rattle.fast_check_skeleton.specs.SameClasses as s
-use Rattle.fast_check_skeleton.proofs.AlikeTrees.{TreeAlike, RangeAlike, image_alike, new_alike, absent_alike, range_leaf_alike, flag_leaf_alike}
-use Rattle.fast_check_skeleton.proofs.AlikeTrees.{node_alike, empty_list_alike}
+use Rattle.fast_check_skeleton.proofs.AlikeTrees.{TreeAlike, RangeAlike, image_alike, new_alike, absent_alike, range_leaf_alike}
+use Rattle.fast_check_skeleton.proofs.AlikeTrees.{flag_leaf_alike, node_alike, empty_list_alike}
 use Rattle.fast_check_skeleton.proofs.AlikeSeen.{Alike, written_alike, faulty_alike, alike_if}
 use Rattle.fast_check_skeleton.proofs.AlikePresent.{absent_shows, expr_absent}
 use Rattle.fast_check_skeleton.proofs.AlikeMembers.{private_alike}
@@ -53,12 +53,15 @@ module _ (r : Renaming) (ok : IsRenaming r) where
     pub readonly : p.readonly ≡ q.readonly
 
   -- so are the properties of types that agree
-  pub declared_alike : (p q : PropertyHead) (x y : Tree) → HeadAlike p q → TreeAlike r ok x y → TreeAlike r ok (declared_property p x) (declared_property q y)
+  pub declared_alike : (p q : PropertyHead) (x y : Tree) → HeadAlike p q → TreeAlike r ok x y →
+      TreeAlike r ok (declared_property p x) (declared_property q y)
   declared_alike p q x y h e = node_alike r ok kinds.ClassProp _ _ (λ i.
-      range_leaf_alike r ok p.span q.span h.span i ∷ h.key i ∷ nothing_alike i ∷ e i ∷ flag_leaf_alike r ok p.is_static q.is_static h.is_static i ∷
+      range_leaf_alike r ok p.span q.span h.span i ∷ h.key i ∷ nothing_alike i ∷ e i ∷
+      flag_leaf_alike r ok p.is_static q.is_static h.is_static i ∷
       empty_list_alike r ok i ∷ h.accessibility i ∷ flag_leaf_alike r ok p.is_abstract q.is_abstract h.is_abstract i ∷
       flag_leaf_alike r ok p.is_optional q.is_optional h.is_optional i ∷ flag_leaf_alike r ok false false refl i ∷
-      flag_leaf_alike r ok p.readonly q.readonly h.readonly i ∷ flag_leaf_alike r ok true true refl i ∷ flag_leaf_alike r ok false false refl i ∷ [])
+      flag_leaf_alike r ok p.readonly q.readonly h.readonly i ∷ flag_leaf_alike r ok true true refl i ∷
+      flag_leaf_alike r ok false false refl i ∷ [])
 
   pub any_alike : TreeAlike r ok any_type_ann any_type_ann
   any_alike = new_alike r ok any_type_ann any_type_ann_moved
@@ -68,7 +71,8 @@ module _ (r : Renaming) (ok : IsRenaming r) where
 
   pub place_alike : (t u : Tree) → SameTree r t u → RangeAlike r ok (range_of_node t) (range_of_node u)
   place_alike t u e =
-      sym (range_of_node_moved (partners r) (partners_keep r ok) t) ∙ (ap range_of_node (tree_to r ok e) ∙ range_of_node_moved twice twice_keeps u)
+      sym (range_of_node_moved (partners r) (partners_keep r ok) t) ∙
+      (ap range_of_node (tree_to r ok e) ∙ range_of_node_moved twice twice_keeps u)
 
   module _ (c d : Bindings) (f g : SourceRange → Bool) where
     pub heads_alike : (p q : PropertyHead) → SamePropertyHead r c d f g p q → HeadAlike p q
@@ -87,11 +91,13 @@ module _ (r : Renaming) (ok : IsRenaming r) where
     typed_alike p q x y h e = written_alike r ok _ _ (declared_alike p q x y (heads_alike p q h) e)
 
     -- private ones are of any type, and others as they are seen
-    pub by_privacy : (p q : PropertyHead) (x y : Seen) → SamePropertyHead r c d f g p q → (is_private p.accessibility ≡ false → Alike r ok x y) →
+    pub by_privacy : (p q : PropertyHead) (x y : Seen) → SamePropertyHead r c d f g p q →
+        (is_private p.accessibility ≡ false → Alike r ok x y) →
         Alike r ok (if is_private p.accessibility then typed_property p any_type_ann else x)
         (if is_private q.accessibility then typed_property q any_type_ann else y)
     by_privacy p q x y h e =
-        alike_if r ok (is_private p.accessibility) (is_private q.accessibility) (typed_property p any_type_ann) x (typed_property q any_type_ann) y
+        alike_if r ok (is_private p.accessibility) (is_private q.accessibility) (typed_property p any_type_ann) x
+        (typed_property q any_type_ann) y
         (private_alike r ok p.accessibility q.accessibility h.accessibility) (λ b. typed_alike p q any_type_ann any_type_ann h any_alike) e
 
     -- a written type stays, and others are as they are seen
@@ -106,20 +112,23 @@ module _ (r : Renaming) (ok : IsRenaming r) where
       value_alike : (p q : SourceRange) (t u : Tree) → RangeAlike r ok p q → SameExpr r c d t u →
           Alike r ok (member_value_seen c f p t) (member_value_seen d g q u)
       value_alike p q t u e x =
-          alike_if r ok (is_absent t) (is_absent u) refused (expr_seen c t (Some p)) refused (expr_seen d u (Some q)) (expr_absent r ok c d x) (λ a. refl)
+          alike_if r ok (is_absent t) (is_absent u) refused (expr_seen c t (Some p)) refused (expr_seen d u (Some q))
+          (expr_absent r ok c d x) (λ a. refl)
           (λ a. expr_alike r ok c d pair x (Some p) (Some q) (ap Some e))
 
       nothing_seen : (p q : SourceRange) (t u : Tree) → is_absent t ≡ true → is_absent u ≡ true →
           Alike r ok (member_value_seen c f p t) (member_value_seen d g q u)
       nothing_seen p q t u e j =
-          alike_if r ok (is_absent t) (is_absent u) refused (expr_seen c t (Some p)) refused (expr_seen d u (Some q)) (e ∙ sym j) (λ a. refl) (λ a. cc)
+          alike_if r ok (is_absent t) (is_absent u) refused (expr_seen c t (Some p)) refused (expr_seen d u (Some q)) (e ∙ sym j)
+          (λ a. refl) (λ a. cc)
 
       -- ---- properties
 
       module _ (t u : Tree) (h : SamePropertyHead r c d f g (property_head t) (property_head u)) where
         abbrev UntypedAlike : Option Tree → Option Tree → Type 0
         UntypedAlike x y =
-            Alike r ok (untyped_property_seen c f (property_head t) (ClassProp-value t) x) (untyped_property_seen d g (property_head u) (ClassProp-value u) y)
+            Alike r ok (untyped_property_seen c f (property_head t) (ClassProp-value t) x)
+            (untyped_property_seen d g (property_head u) (ClassProp-value u) y)
 
         abbrev mutability : Tree → DeclMutabilityKind
         mutability m = mutability_of_property (ClassProp-readonly m)
@@ -128,7 +137,8 @@ module _ (r : Renaming) (ok : IsRenaming r) where
         shown bindings m value = inferred_type (mutability m) bindings.unresolved value
 
         valued : SameTree r (ClassProp-type_ann t) (ClassProp-type_ann u) →
-            UntypedAlike (shown c t (ClassProp-value t)) (shown d u (ClassProp-value u)) → Alike r ok (property_seen c f t) (property_seen d g u)
+            UntypedAlike (shown c t (ClassProp-value t)) (shown d u (ClassProp-value u)) →
+            Alike r ok (property_seen c f t) (property_seen d g u)
         valued e x = by_privacy (property_head t) (property_head u) _ _ h
             (λ n. by_type (property_head t) (property_head u) (ClassProp-type_ann t) (ClassProp-type_ann u) _ _ h e (λ a. x))
 
@@ -151,13 +161,16 @@ module _ (r : Renaming) (ok : IsRenaming r) where
           readonly = h.readonly i;
         }
 
-        kept_alike : ClassProp-is_override t ≡ ClassProp-is_override u → SameExpr r c d (ClassProp-value t) (ClassProp-value u) → UntypedAlike None None
+        kept_alike : ClassProp-is_override t ≡ ClassProp-is_override u → SameExpr r c d (ClassProp-value t) (ClassProp-value u) →
+            UntypedAlike None None
         kept_alike o x =
             let p = property_head t in let q = property_head u in
-            let value = value_alike (range_of_node p.key) (range_of_node q.key) (ClassProp-value t) (ClassProp-value u) (place_alike p.key q.key h.key) x in
+            let value = value_alike (range_of_node p.key) (range_of_node q.key) (ClassProp-value t) (ClassProp-value u)
+            (place_alike p.key q.key h.key) x in
             λ i. property (property_head_alike o i) (value i)
 
-        none_alike : ClassProp-is_override t ≡ ClassProp-is_override u → is_absent (ClassProp-value t) ≡ true → is_absent (ClassProp-value u) ≡ true →
+        none_alike : ClassProp-is_override t ≡ ClassProp-is_override u →
+            is_absent (ClassProp-value t) ≡ true → is_absent (ClassProp-value u) ≡ true →
             UntypedAlike None None
         none_alike o e j =
             let p = property_head t in let q = property_head u in
@@ -184,14 +197,16 @@ module _ (r : Renaming) (ok : IsRenaming r) where
         AccessorAlike x y = Alike r ok (untyped_accessor_seen c f (accessor_head t) x) (untyped_accessor_seen d g (accessor_head u) y)
 
         accessor_valued : SameTree r (AutoAccessor-type_ann t) (AutoAccessor-type_ann u) →
-            AccessorAlike (inferred_type Mutable c.unresolved (AutoAccessor-value t)) (inferred_type Mutable d.unresolved (AutoAccessor-value u)) →
+            AccessorAlike (inferred_type Mutable c.unresolved (AutoAccessor-value t))
+            (inferred_type Mutable d.unresolved (AutoAccessor-value u)) →
             Alike r ok (accessor_seen c f t) (accessor_seen d g u)
         accessor_valued e x = by_privacy (accessor_head t) (accessor_head u) _ _ h
             (λ n. by_type (accessor_head t) (accessor_head u) (AutoAccessor-type_ann t) (AutoAccessor-type_ann u) _ _ h e (λ a. x))
 
         accessor_shown : (x y : Option Tree) → option_map (moved (partners r)) x ≡ option_map (moved twice) y → AccessorAlike x y
         accessor_shown (Some x) (Some y) q =
-            typed_alike (accessor_head t) (accessor_head u) (type_ann x) (type_ann y) h (ann_alike x y (ap (λ z. unwrap_or z (moved twice y)) q))
+            typed_alike (accessor_head t) (accessor_head u) (type_ann x) (type_ann y) h
+            (ann_alike x y (ap (λ z. unwrap_or z (moved twice y)) q))
         accessor_shown None None q = faulty_alike r ok MissingExplicitType _ _ (place_alike _ _ h.key)
         accessor_shown (Some x) None q = cc
         accessor_shown None (Some y) q = cc

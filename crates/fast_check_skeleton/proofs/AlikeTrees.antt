@@ -26,12 +26,14 @@ module _ (r : Renaming) (ok : IsRenaming r) where
   scope_to c d p = λ i. record { 0 = to_partner r.scopes ok.scopes c.0 d.0 p i }
 
   -- what becomes of trees in a way that commutes with moves
-  pub image_alike : (f : Tree → Tree) → ((m : Moves) → Keeps m → (t : Tree) → f (moved m t) ≡ moved m (f t)) → (t u : Tree) → TreeAlike t u →
+  pub image_alike : (f : Tree → Tree) → ((m : Moves) → Keeps m → (t : Tree) → f (moved m t) ≡ moved m (f t)) → (t u : Tree) →
+      TreeAlike t u →
       TreeAlike (f t) (f u)
   image_alike f moves t u e = sym (moves (partners r) (partners_keep r ok) t) ∙ (ap f e ∙ moves twice twice_keeps u)
 
   -- what is read of trees, and stays under moves
-  pub same_read : {A : Type 0} (f : Tree → A) → ((m : Moves) → Keeps m → (t : Tree) → f (moved m t) ≡ f t) → (t u : Tree) → TreeAlike t u → f t ≡ f u
+  pub same_read : {A : Type 0} (f : Tree → A) → ((m : Moves) → Keeps m → (t : Tree) → f (moved m t) ≡ f t) → (t u : Tree) → TreeAlike t u →
+      f t ≡ f u
   same_read f stays t u e = sym (stays (partners r) (partners_keep r ok) t) ∙ (ap f e ∙ stays twice twice_keeps u)
 
   -- a new node
@@ -39,13 +41,16 @@ module _ (r : Renaming) (ok : IsRenaming r) where
   new_alike t stays = stays (partners r) (partners_keep r ok) ∙ sym (stays twice twice_keeps)
 
   -- a field, with the place where it reads
-  pub field_alike : (field : Tree → Tree) (n : ℕ) → ((t : Tree) → field t ≡ part n t) → (t u : Tree) → TreeAlike t u → TreeAlike (field t) (field u)
+  pub field_alike : (field : Tree → Tree) (n : ℕ) → ((t : Tree) → field t ≡ part n t) → (t u : Tree) → TreeAlike t u →
+      TreeAlike (field t) (field u)
   field_alike field n reads t u e = image_alike field (λ m keeps t. field_moved m field n reads t) t u e
 
-  pub range_field_alike : (field : Tree → SourceRange) (n : ℕ) → ((t : Tree) → field t ≡ range_of (part n t)) → (t u : Tree) → TreeAlike t u →
+  pub range_field_alike : (field : Tree → SourceRange) (n : ℕ) → ((t : Tree) → field t ≡ range_of (part n t)) → (t u : Tree) →
+      TreeAlike t u →
       RangeAlike (field t) (field u)
   range_field_alike field n reads t u e =
-      sym (range_field_moved (partners r) (partners_keep r ok) field n reads t) ∙ (ap field e ∙ range_field_moved twice twice_keeps field n reads u)
+      sym (range_field_moved (partners r) (partners_keep r ok) field n reads t) ∙
+      (ap field e ∙ range_field_moved twice twice_keeps field n reads u)
 
   pub absent_alike : (t u : Tree) → TreeAlike t u → is_absent t ≡ is_absent u
   absent_alike t u e = same_read is_absent (λ m keeps t. is_absent_moved m t) t u e

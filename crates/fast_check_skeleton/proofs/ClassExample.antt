@@ -13,7 +13,8 @@ use Rattle.fast_check_syntax.specs.Shape.{parts, none_range, list, has_word, wor
 use Rattle.fast_check_syntax.specs.Moves.{Moves, Keeps, IsRenaming, IsPair, moved}
 use Rattle.fast_check_syntax.specs.Same.{SameTree, SameRange}
 use Rattle.fast_check_syntax.proofs.Made.{kind_of_node, parts_node, part_node, is_absent_node, flag_of_flag, range_of_range}
-use Rattle.fast_check_syntax.proofs.Moved.{node_moved, absent_moved, word_moved, text_moved, context_moved, flag_moved, range_moved, none_moved}
+use Rattle.fast_check_syntax.proofs.Moved.{node_moved, absent_moved, word_moved, text_moved, context_moved, flag_moved, range_moved}
+use Rattle.fast_check_syntax.proofs.Moved.{none_moved}
 use Rattle.fast_check_syntax.proofs.Same.{tree_from}
 use Rattle.fast_check_class_forms.specs.Classes.{Class-body}
 use Rattle.fast_check_class_forms.specs.Functions.{Function-params}
@@ -32,8 +33,9 @@ use Rattle.fast_check_skeleton.specs.Hidden.{AgreeHidden, SameFunctionDecl, Same
 use Rattle.fast_check_skeleton.specs.Hidden as h
 use Rattle.fast_check_skeleton.specs.Visible.{items_of}
 use Rattle.fast_check_skeleton.specs.Skeleton.{skeleton_of}
-use Rattle.fast_check_skeleton.specs.ClassExample.{void_function, function_f, method_m, class_of_members, class_c, static_block, empty_statement, parameter}
-use Rattle.fast_check_skeleton.specs.ClassExample.{module_of, first, second, no_places, no_classes, all_public, property_m, ClassExample}
+use Rattle.fast_check_skeleton.specs.ClassExample.{void_function, function_f, method_m, class_of_members, class_c, static_block}
+use Rattle.fast_check_skeleton.specs.ClassExample.{empty_statement, parameter, module_of, first, second, no_places, no_classes, all_public}
+use Rattle.fast_check_skeleton.specs.ClassExample.{property_m, ClassExample}
 use Rattle.fast_check_skeleton.proofs.TypedFunctions.{absent}
 use Rattle.fast_check_skeleton.specs.Example.{at}
 use Rattle.fast_check_skeleton.proofs.Namespaces.{item_seen_is}
@@ -69,7 +71,9 @@ same_private : Same (tree.Word words.Private) (tree.Word words.Private)
 same_private = new_same (tree.Word words.Private) (λ m ok. word_moved m words.Private)
 
 pub same_ident : (text : List ℕ) → Same (new_ident text) (new_ident text)
-same_ident text = new_same (new_ident text) (λ m ok. simp (node_moved, range_moved, none_moved m ok, context_moved, text_moved, flag_moved, ok.scope_zero))
+same_ident text =
+    new_same (new_ident text)
+    (λ m ok. simp (node_moved, range_moved, none_moved m ok, context_moved, text_moved, flag_moved, ok.scope_zero))
 
 same_name : (text : List ℕ) → Same (ident_name none_range text) (ident_name none_range text)
 same_name text = new_same (ident_name none_range text) (λ m ok. simp (node_moved, range_moved, none_moved m ok, text_moved))
@@ -119,7 +123,8 @@ functions ss ts = v.SameFunction.typed_function (function_head [] [] ss ts) (fun
 function_made : (ss : List Tree) → FnDecl-function (function_f ss) ≡ void_function [] ss
 function_made ss = part_node _ _ _
 
-function_decls : (p q : SourceRange) (ss ts : List Tree) → SameFunctionDecl no_places all_public all_public p q (function_f ss) (function_f ts)
+function_decls : (p q : SourceRange) (ss ts : List Tree) → SameFunctionDecl no_places all_public all_public p q (function_f ss)
+    (function_f ts)
 function_decls p q ss ts = record {
   kinds = record { left = kind_of_node _ _; right = kind_of_node _ _ };
   is_public = refl;
@@ -190,9 +195,11 @@ classes : SameClass no_places no_classes no_classes f f (class_of_members first_
 classes = record {
   head = class_heads first_members second_members;
   superclass = s.SameSuperclass.same (are_same _ _ Absent (part_node _ _ _) (part_node _ _ _) same_absent);
-  hash_named = subst₂ (λ x y. list_any is_hash_named x ≡ list_any is_hash_named y) (sym (body_made first_members)) (sym (body_made second_members))
+  hash_named = subst₂ (λ x y. list_any is_hash_named x ≡ list_any is_hash_named y) (sym (body_made first_members))
+      (sym (body_made second_members))
       neither_hashed;
-  members = subst₂ (SameMembers no_places no_classes no_classes f f [] []) (sym (body_made first_members)) (sym (body_made second_members)) members;
+  members = subst₂ (SameMembers no_places no_classes no_classes f f [] []) (sym (body_made first_members))
+      (sym (body_made second_members)) members;
 }
 
 class_made : (ms : List Tree) → ClassDecl-class (class_c ms) ≡ class_of_members ms
@@ -224,10 +231,12 @@ agree = record {
 }
 
 first_is : skeleton_of all_public first ≡ module_of (function_f [] ∷ class_c (property_m ∷ []) ∷ [])
-first_is = simp (item_seen_is, parts_node, kind_of_node, range_of_range, flag_of_flag, context_of_context, is_absent_node, absent, word_read)
+first_is =
+    simp (item_seen_is, parts_node, kind_of_node, range_of_range, flag_of_flag, context_of_context, is_absent_node, absent, word_read)
 
 second_is : skeleton_of all_public second ≡ module_of (function_f [] ∷ class_c (property_m ∷ []) ∷ [])
-second_is = simp (item_seen_is, parts_node, kind_of_node, range_of_range, flag_of_flag, context_of_context, is_absent_node, absent, word_read)
+second_is =
+    simp (item_seen_is, parts_node, kind_of_node, range_of_range, flag_of_flag, context_of_context, is_absent_node, absent, word_read)
 
 pub class_example : ClassExample
 class_example = record { one_to_one = is_renaming; agree = agree; first_skeleton = first_is; second_skeleton = second_is }

@@ -28,9 +28,9 @@ use Rattle.fast_check_skeleton.specs.Surroundings.{Surroundings, inside}
 use Rattle.fast_check_skeleton.specs.Namespaces.{is_namespace, innermost, block_items, items_inside}
 use Rattle.fast_check_signatures.specs.Seen.{Seen}
 use Rattle.fast_check_skeleton.specs.Visible.{is_ambient_class, item_seen}
-use Rattle.fast_check_skeleton.specs.KeptComments.{start_of_unseen, starts_of_removed, starts_in_decl, starts_in_default, starts_inside, removed_start}
-use Rattle.fast_check_skeleton.specs.KeptComments.{starts_in_namespace, starts_in_body, starts_below, start_look, removed_from, removed_starts, without_all_leading}
-use Rattle.fast_check_skeleton.specs.KeptComments.{kept_comments}
+use Rattle.fast_check_skeleton.specs.KeptComments.{start_of_unseen, starts_of_removed, starts_in_decl, starts_in_default, starts_inside}
+use Rattle.fast_check_skeleton.specs.KeptComments.{removed_start, starts_in_namespace, starts_in_body, starts_below, start_look}
+use Rattle.fast_check_skeleton.specs.KeptComments.{removed_from, removed_starts, without_all_leading, kept_comments}
 use Rattle.fast_check_skeleton.specs.SameComments.{all_comments_at, SameComment, SameAtPairs, SameComments}
 use Rattle.fast_check_skeleton.specs.Hidden.{SameDecl, SameNamespaceHead, SameItem, SameNamespace, SameBody, SameItems, AgreeHidden}
 use Rattle.fast_check_skeleton.specs.SameClasses.{HasNoPartner, IsNoPartner}
@@ -48,13 +48,17 @@ use Rattle.fast_check_skeleton.specs.declared.rules.ItemRule.{ItemRule}
 use Rattle.fast_check_skeleton.specs.declared.rules.ItemRule.TheVariants.{Declared, Exported, Linked, Default, Refused, Assigned}
 use Rattle.fast_check_skeleton.specs.declared.rules.DeclRule.TheVariants.{Namespace}
 use Rattle.fast_check_skeleton.specs.Rules.{decl_rule, default_rule, rule_of_kind, item_rule}
-use Rattle.fast_check_skeleton.proofs.Ruled.{assigned_rule, rule_by_kind, default_by_kind, declared_rule, silent_rule, namespace_rule, exported_namespace_rule}
-use Rattle.fast_check_skeleton.proofs.Namespaces.{innermost_block, innermost_inner, removed_start_is, global_no_namespace, ambient_no_namespace}
+use Rattle.fast_check_skeleton.proofs.Ruled.{assigned_rule, rule_by_kind, default_by_kind, declared_rule, silent_rule, namespace_rule}
+use Rattle.fast_check_skeleton.proofs.Ruled.{exported_namespace_rule}
+use Rattle.fast_check_skeleton.proofs.Namespaces.{innermost_block, innermost_inner, removed_start_is, global_no_namespace}
+use Rattle.fast_check_skeleton.proofs.Namespaces.{ambient_no_namespace}
 use Rattle.fast_check_skeleton.proofs.AgreeingLinks.{silent_link, links_alike}
 use Rattle.fast_check_skeleton.proofs.AgreeingDefaults.{silent_default, defaults_alike}
 use Rattle.fast_check_skeleton.proofs.RemovedMembers.{is_among, one_start, no_left, no_right, class_removed}
-use Rattle.fast_check_skeleton.proofs.Agreeing.{silent_declares, silent_item, ambient_class_same, decl_taken, namespace_kinds, item_alike, same_trees}
-use Rattle.fast_check_skeleton.proofs.ItemRanges.{range_of_variables, range_of_function, range_of_class, range_of_module, range_of_using, range_of_export, range_alike}
+use Rattle.fast_check_skeleton.proofs.Agreeing.{silent_declares, silent_item, ambient_class_same, decl_taken, namespace_kinds, item_alike}
+use Rattle.fast_check_skeleton.proofs.Agreeing.{same_trees}
+use Rattle.fast_check_skeleton.proofs.ItemRanges.{range_of_variables, range_of_function, range_of_class, range_of_module, range_of_using}
+use Rattle.fast_check_skeleton.proofs.ItemRanges.{range_of_export, range_alike}
 
 -- ---- what is left at a position
 
@@ -70,7 +74,8 @@ at_one s p n e f = go (is_eq (nat_cmp p n)) refl
         sym (eq-eqb s p (s_is ∙ sym p_is)) ∙ e
 
 -- at the position nothing, at another what stood there
-without_at : (p : ℕ) (s : SourcePos) (places : Places) → all_comments_at p (without_comments s places) ≡ (if s.0 == p then [] else all_comments_at p places)
+without_at : (p : ℕ) (s : SourcePos) (places : Places) → all_comments_at p
+    (without_comments s places) ≡ (if s.0 == p then [] else all_comments_at p places)
 without_at p s [] = go (s.0 == p)
   where
     go : (m : Bool) → all_comments_at p [] ≡ (if m then [] else all_comments_at p [])
@@ -79,9 +84,11 @@ without_at p s [] = go (s.0 == p)
 without_at p s (x ∷ xs) =
     go (s.0 == p) (is_place_at s x) (λ e. ap (λ n. is_eq (nat_cmp n x.0.0)) (eqb-true s.0 p e)) (at_one s.0 p x.0.0) (without_at p s xs)
   where
-    go : (m u : Bool) → (m ≡ true → u ≡ is_place_at (record { 0 = p }) x) → (m ≡ false → u ≡ true → is_place_at (record { 0 = p }) x ≡ false) →
+    go : (m u : Bool) → (m ≡ true → u ≡ is_place_at (record { 0 = p }) x) →
+        (m ≡ false → u ≡ true → is_place_at (record { 0 = p }) x ≡ false) →
         all_comments_at p (without_comments s xs) ≡ (if m then [] else all_comments_at p xs) →
-        all_comments_at p (cond (not u) (x ∷ without_comments s xs) (without_comments s xs)) ≡ (if m then [] else all_comments_at p (x ∷ xs))
+        all_comments_at p (cond (not u) (x ∷ without_comments s xs) (without_comments s xs)) ≡
+        (if m then [] else all_comments_at p (x ∷ xs))
     go true true f g e = e
     go true false f g e = ap (λ b. (if b then x.1 else []) ++ all_comments_at p (without_comments s xs)) (sym (f refl)) ∙ e
     go false true f g e = e ∙ ap (λ b. (if b then x.1 else []) ++ all_comments_at p xs) (sym (g refl refl))
@@ -92,9 +99,11 @@ all_without : (p : ℕ) (starts : List SourcePos) (c : Comments) →
     all_comments_at p (without_all_leading starts c).leading ≡ (if is_among p starts then [] else all_comments_at p c.leading)
 all_without p [] c = refl
 all_without p (s ∷ ss) c =
-    all_without p ss (without_leading s c) ∙ (ap (λ cs. if is_among p ss then [] else cs) (without_at p s c.leading) ∙ go (is_among p ss) (s.0 == p))
+    all_without p ss (without_leading s c) ∙
+    (ap (λ cs. if is_among p ss then [] else cs) (without_at p s c.leading) ∙ go (is_among p ss) (s.0 == p))
   where
-    go : (m n : Bool) → (if m then [] else (if n then [] else all_comments_at p c.leading)) ≡ (if n || m then [] else all_comments_at p c.leading)
+    go : (m n : Bool) → (if m then [] else (if n then [] else all_comments_at p c.leading)) ≡
+        (if n || m then [] else all_comments_at p c.leading)
     go true true = refl
     go true false = refl
     go false true = refl
@@ -128,14 +137,16 @@ silent_decl_inside : (around : Surroundings) (place : SourceRange) (t : Tree) �
     starts_in_decl around place t (decl_rule (kind_of t)) ≡ []
 silent_decl_inside around place t (h.IsSilentDecl.namespace k n e) = nothing_inside around place t TsModuleDecl k refl
 silent_decl_inside around place t (h.IsSilentDecl.variable k e) = nothing_inside around place t VarDecl k refl
-silent_decl_inside around place t (h.IsSilentDecl.standing k e) = nothing_inside around place t (kind_of t) refl (standing_no_class (kind_of t) k)
+silent_decl_inside around place t (h.IsSilentDecl.standing k e) =
+    nothing_inside around place t (kind_of t) refl (standing_no_class (kind_of t) k)
 silent_decl_inside around place t (h.IsSilentDecl.function k e) = nothing_inside around place t FnDecl k refl
 silent_decl_inside around place t (h.IsSilentDecl.class k e) =
     ap (λ j. starts_in_decl around place t (decl_rule j)) k
     ∙ ap (λ b. if b && not (is_ambient_class around t) then starts_of_removed (ClassDecl-class t) else []) e
 silent_decl_inside around place t (h.IsSilentDecl.using k e) = nothing_inside around place t UsingDecl k refl
 
-silent_default_inside : (around : Surroundings) (t : Tree) (rule : DefaultRule) → (rule ≡ Class → around.is_public (ExportDefaultDecl-span t) ≡ false) →
+silent_default_inside : (around : Surroundings) (t : Tree) (rule : DefaultRule) →
+    (rule ≡ Class → around.is_public (ExportDefaultDecl-span t) ≡ false) →
     starts_in_default around t rule ≡ []
 silent_default_inside around t Class e = ap (λ b. if b then starts_of_removed (ClassExpr-class (ExportDefaultDecl-decl t)) else []) (e refl)
 silent_default_inside around t Value e = refl
@@ -144,7 +155,8 @@ silent_default_inside around t Interface e = refl
 
 silent_inside : (around : Surroundings) (t : Tree) → h.IsSilent around t → starts_inside around t (item_rule t) ≡ []
 silent_inside around t (h.IsSilent.decl s) =
-    ap (starts_inside around t) (declared_rule (kind_of t) t (silent_declares around (range_of_node t) t s)) ∙ silent_decl_inside around (range_of_node t) t s
+    ap (starts_inside around t) (declared_rule (kind_of t) t (silent_declares around (range_of_node t) t s)) ∙
+    silent_decl_inside around (range_of_node t) t s
 silent_inside around t (h.IsSilent.statement s) = ap (starts_inside around t) (silent_rule t s)
 silent_inside around t (h.IsSilent.exported k s) =
     ap (λ j. starts_inside around t (rule_of_kind j t)) k ∙ silent_decl_inside around (ExportDecl-span t) (ExportDecl-decl t) s
@@ -189,7 +201,8 @@ refused_below around place t k n = module_below around place t k ∙ ap (λ x. s
 silent_decl_below : (around : Surroundings) (place : SourceRange) (t : Tree) → h.IsSilentDecl around place t →
     starts_in_body start_look around place t (decl_rule (kind_of t)) ≡ []
 silent_decl_below around place t (h.IsSilentDecl.variable k e) = none_below around place t VarDecl k refl
-silent_decl_below around place t (h.IsSilentDecl.standing k e) = none_below around place t (kind_of t) refl (standing_no_module (kind_of t) k)
+silent_decl_below around place t (h.IsSilentDecl.standing k e) =
+    none_below around place t (kind_of t) refl (standing_no_module (kind_of t) k)
 silent_decl_below around place t (h.IsSilentDecl.function k e) = none_below around place t FnDecl k refl
 silent_decl_below around place t (h.IsSilentDecl.class k e) = none_below around place t ClassDecl k refl
 silent_decl_below around place t (h.IsSilentDecl.using k e) = none_below around place t UsingDecl k refl
@@ -210,14 +223,16 @@ silent_below around t (h.IsSilent.default s) = ap (starts_below start_look aroun
 -- ---- where items begin
 
 module _ (r : Renaming) (ok : IsRenaming r) where
-  of_variables : (t u : Tree) → Both VarDecl t u → SameRange r (VarDecl-span t) (VarDecl-span u) → SameRange r (range_of_node t) (range_of_node u)
+  of_variables : (t u : Tree) → Both VarDecl t u → SameRange r (VarDecl-span t) (VarDecl-span u) →
+      SameRange r (range_of_node t) (range_of_node u)
   of_variables t u k s = subst₂ (SameRange r) (sym (range_of_variables t k.left)) (sym (range_of_variables u k.right)) s
 
   of_functions : (t u : Tree) → Both FnDecl t u → SameRange r (Function-span (FnDecl-function t)) (Function-span (FnDecl-function u)) →
       SameRange r (range_of_node t) (range_of_node u)
   of_functions t u k s = subst₂ (SameRange r) (sym (range_of_function t k.left)) (sym (range_of_function u k.right)) s
 
-  of_modules : (t u : Tree) → Both TsModuleDecl t u → SameRange r (TsModuleDecl-span t) (TsModuleDecl-span u) → SameRange r (range_of_node t) (range_of_node u)
+  of_modules : (t u : Tree) → Both TsModuleDecl t u → SameRange r (TsModuleDecl-span t) (TsModuleDecl-span u) →
+      SameRange r (range_of_node t) (range_of_node u)
   of_modules t u k s = subst₂ (SameRange r) (sym (range_of_module t k.left)) (sym (range_of_module u k.right)) s
 
   of_classes : (t u : Tree) → Both ClassDecl t u → SameRange r (Class-span (ClassDecl-class t)) (Class-span (ClassDecl-class u)) →
@@ -242,7 +257,8 @@ module _ (r : Renaming) (ok : IsRenaming r) where
     item_begins : SameBindings r a.bindings b.bindings → a.is_ambient ≡ b.is_ambient → (t u : Tree) → SameItem r a b t u →
         SameRange r (range_of_node t) (range_of_node u)
     item_begins c m t u (h.SameItem.decl d) = decl_begins (range_of_node t) (range_of_node u) t u d
-    item_begins c m t u (h.SameItem.exported k s d) = subst₂ (SameRange r) (sym (range_of_export t k.left)) (sym (range_of_export u k.right)) s
+    item_begins c m t u (h.SameItem.exported k s d) = subst₂ (SameRange r) (sym (range_of_export t k.left))
+        (sym (range_of_export u k.right)) s
     item_begins c m t u (h.SameItem.namespace (h.SameNamespace.bodies d s)) = of_modules t u d.kinds d.span
     item_begins c m t u (h.SameItem.exported_namespace k s d) =
         subst₂ (SameRange r) (sym (range_of_export t k.left)) (sym (range_of_export u k.right)) s
@@ -256,7 +272,8 @@ module _ (r : Renaming) (ok : IsRenaming r) where
     module _ (p q : ℕ) (pair : IsPair r.starts p q) where
       unseen_alike : (t u : Tree) (ss ts : List Seen) → SameRange r (range_of_node t) (range_of_node u) → AllAlike r ok ss ts →
           is_among p (start_of_unseen t ss) ≡ is_among q (start_of_unseen u ts)
-      unseen_alike t u [] [] s e = ap (λ m. m || false) (one_start r ok p q (range_of_node t).start.0 (range_of_node u).start.0 pair s.start)
+      unseen_alike t u [] [] s e =
+          ap (λ m. m || false) (one_start r ok p q (range_of_node t).start.0 (range_of_node u).start.0 pair s.start)
       unseen_alike t u (x ∷ xs) (y ∷ ys) s e = refl
       unseen_alike t u [] (y ∷ ys) s e = cc
       unseen_alike t u (x ∷ xs) [] s e = cc
@@ -278,7 +295,8 @@ module _ (r : Renaming) (ok : IsRenaming r) where
 
       -- inside of declarations that agree
       abbrev InsideAlike : SourceRange → SourceRange → Tree → Tree → Type 0
-      InsideAlike x y t u = is_among p (starts_in_decl a x t (decl_rule (kind_of t))) ≡ is_among q (starts_in_decl b y u (decl_rule (kind_of u)))
+      InsideAlike x y t u = is_among p (starts_in_decl a x t (decl_rule (kind_of t))) ≡ is_among q
+          (starts_in_decl b y u (decl_rule (kind_of u)))
 
       none_inside : (x y : SourceRange) (t u : Tree) (k : Kind) → Both k t u → is_class_kind k ≡ false → InsideAlike x y t u
       none_inside x y t u k d n =
@@ -296,10 +314,12 @@ module _ (r : Renaming) (ok : IsRenaming r) where
 
       class_inside : (x y : SourceRange) (t u : Tree) → a.is_ambient ≡ b.is_ambient → h.SameClassDecl r a b t u →
           a.is_public x ≡ b.is_public y →
-          (is_ambient_class a t ≡ false → is_among p (starts_of_removed (ClassDecl-class t)) ≡ is_among q (starts_of_removed (ClassDecl-class u))) →
+          (is_ambient_class a t ≡ false → is_among p (starts_of_removed (ClassDecl-class t)) ≡ is_among q
+          (starts_of_removed (ClassDecl-class u))) →
           InsideAlike x y t u
       class_inside x y t u m d f e =
-          subst₂ (λ k j. is_among p (starts_in_decl a x t (decl_rule k)) ≡ is_among q (starts_in_decl b y u (decl_rule j))) (sym d.kinds.left)
+          subst₂ (λ k j. is_among p (starts_in_decl a x t (decl_rule k)) ≡ is_among q (starts_in_decl b y u (decl_rule j)))
+          (sym d.kinds.left)
           (sym d.kinds.right) (inside_if (a.is_public x) (b.is_public y) (is_ambient_class a t) (is_ambient_class b u) _ _ f
           (ambient_class_same r ok a b t u m d.declare) e)
 
@@ -330,21 +350,24 @@ module _ (r : Renaming) (ok : IsRenaming r) where
       decl_inside x y t u m (h.SameDecl.implementation d e f g) = none_inside x y t u FnDecl d.kinds refl
       decl_inside x y t u m (h.SameDecl.ambient_function k e f g) = none_inside x y t u FnDecl k refl
       decl_inside x y t u m (h.SameDecl.class d e n s) = class_inside x y t u m d e (λ k.
-          class_removed r ok a.bindings b.bindings a.is_implementation b.is_implementation p q pair (ClassDecl-class t) (ClassDecl-class u) s)
+          class_removed r ok a.bindings b.bindings a.is_implementation b.is_implementation p q pair (ClassDecl-class t)
+          (ClassDecl-class u) s)
       decl_inside x y t u m (h.SameDecl.ambient_class d e n s) = class_inside x y t u m d e (λ k. cc)
       decl_inside x y t u m (h.SameDecl.using k s e f) = none_inside x y t u UsingDecl k refl
       decl_inside x y t u m (h.SameDecl.global k e f s) = none_inside x y t u TsModuleDecl k refl
       decl_inside x y t u m (h.SameDecl.ambient_module k e f n n' s s') = none_inside x y t u TsModuleDecl k refl
 
       -- inside of default exports that agree
-      default_inside : (t u : Tree) → SameDefault r a b t u → is_among p (starts_inside a t (item_rule t)) ≡ is_among q (starts_inside b u (item_rule u))
+      default_inside : (t u : Tree) → SameDefault r a b t u → is_among p (starts_inside a t (item_rule t)) ≡ is_among q
+          (starts_inside b u (item_rule u))
       default_inside t u (defaults.SameDefault.value k e f g) =
           by_rules t u (Default Value) (rule_by_kind t kinds.ExportDefaultExpr k.left) (rule_by_kind u kinds.ExportDefaultExpr k.right) refl
       default_inside t u (defaults.SameDefault.class h n e) =
           by_rules t u (Default Class) (default_by_kind t kinds.ClassExpr h.kinds.left h.decls.left)
           (default_by_kind u kinds.ClassExpr h.kinds.right h.decls.right)
           (among_if (a.is_public (ExportDefaultDecl-span t)) (b.is_public (ExportDefaultDecl-span u)) _ _ h.is_public
-          (class_removed r ok a.bindings b.bindings a.is_implementation b.is_implementation p q pair (ClassExpr-class (ExportDefaultDecl-decl t))
+          (class_removed r ok a.bindings b.bindings a.is_implementation b.is_implementation p q pair
+          (ClassExpr-class (ExportDefaultDecl-decl t))
           (ClassExpr-class (ExportDefaultDecl-decl u)) e))
       default_inside t u (defaults.SameDefault.function h e f g) = no_class t u kinds.FnExpr Function h.head refl refl
       default_inside t u (defaults.SameDefault.implementation h e f g) = no_class t u kinds.FnExpr Function h.head refl refl
@@ -358,7 +381,8 @@ module _ (r : Renaming) (ok : IsRenaming r) where
           subst₂ (λ x y. is_among p (starts_inside a t x) ≡ is_among q (starts_inside b u y)) (sym (declared_rule (kind_of t) t e.0))
           (sym (declared_rule (kind_of u) u e.1)) (decl_inside (range_of_node t) (range_of_node u) t u m d)
       item_inside c m t u (h.SameItem.exported k s d) =
-          subst₂ (λ x y. is_among p (starts_inside a t (rule_of_kind x t)) ≡ is_among q (starts_inside b u (rule_of_kind y u))) (sym k.left) (sym k.right)
+          subst₂ (λ x y. is_among p (starts_inside a t (rule_of_kind x t)) ≡ is_among q (starts_inside b u (rule_of_kind y u))) (sym k.left)
+          (sym k.right)
           (decl_inside (ExportDecl-span t) (ExportDecl-span u) (ExportDecl-decl t) (ExportDecl-decl u) m d)
       item_inside c m t u (h.SameItem.namespace d) =
           let k = namespace_kinds r ok d in
@@ -369,7 +393,8 @@ module _ (r : Renaming) (ok : IsRenaming r) where
       item_inside c m t u (h.SameItem.linked d) = let e = links_alike r ok a b t u d in by_rules t u (Linked e.rule) e.left e.right refl
       item_inside c m t u (h.SameItem.default d) = default_inside t u d
       item_inside c m t u (h.SameItem.assigned d) =
-          by_rules t u Assigned (assigned_rule t d.kinds.left d.assignments.kinds.left) (assigned_rule u d.kinds.right d.assignments.kinds.right)
+          by_rules t u Assigned (assigned_rule t d.kinds.left d.assignments.kinds.left)
+          (assigned_rule u d.kinds.right d.assignments.kinds.right)
           (among_if _ _ ((range_of_node t).start ∷ []) ((range_of_node u).start ∷ []) d.assignments.is_public
           (ap (λ n. n || false) (one_start r ok p q (range_of_node t).start.0 (range_of_node u).start.0 pair d.range.start)))
       item_inside c m t u (h.SameItem.refused kind e f s) = by_rules t u (Refused kind) e f refl
@@ -404,16 +429,20 @@ module _ (r : Renaming) (ok : IsRenaming r) where
       below_by_rules t u rule e f s =
           subst₂ (λ x y. is_among p (starts_below start_look a t x) ≡ is_among q (starts_below start_look b u y)) (sym e) (sym f) s
 
-      all_removed : (t u : Tree) → is_among p (starts_below start_look a t (item_rule t)) ≡ is_among q (starts_below start_look b u (item_rule u)) →
+      all_removed : (t u : Tree) → is_among p (starts_below start_look a t (item_rule t)) ≡ is_among q
+          (starts_below start_look b u (item_rule u)) →
           is_among p (start_of_unseen t (item_seen a t)) ≡ is_among q (start_of_unseen u (item_seen b u)) →
           is_among p (starts_inside a t (item_rule t)) ≡ is_among q (starts_inside b u (item_rule u)) →
           is_among p (removed_start a t) ≡ is_among q (removed_start b u)
       all_removed t u e f g =
           ap (is_among p) (removed_start_is a t)
-          ∙ (among_parts p (starts_below start_look a t (item_rule t)) (start_of_unseen t (item_seen a t) ++ starts_inside a t (item_rule t))
-          ∙ (ap₂ (λ x y. x || y) e (among_parts p (start_of_unseen t (item_seen a t)) (starts_inside a t (item_rule t)) ∙ (ap₂ (λ x y. x || y) f g
+          ∙ (among_parts p (starts_below start_look a t (item_rule t))
+          (start_of_unseen t (item_seen a t) ++ starts_inside a t (item_rule t))
+          ∙ (ap₂ (λ x y. x || y) e
+          (among_parts p (start_of_unseen t (item_seen a t)) (starts_inside a t (item_rule t)) ∙ (ap₂ (λ x y. x || y) f g
           ∙ sym (among_parts q (start_of_unseen u (item_seen b u)) (starts_inside b u (item_rule u)))))
-          ∙ (sym (among_parts q (starts_below start_look b u (item_rule u)) (start_of_unseen u (item_seen b u) ++ starts_inside b u (item_rule u)))
+          ∙ (sym (among_parts q (starts_below start_look b u (item_rule u))
+          (start_of_unseen u (item_seen b u) ++ starts_inside b u (item_rule u)))
           ∙ sym (ap (is_among q) (removed_start_is b u)))))
 
       among_more : (n : ℕ) (around : Surroundings) (t : Tree) (ts : List Tree) →
@@ -429,7 +458,8 @@ module _ (r : Renaming) (ok : IsRenaming r) where
 
   module _ (p q : ℕ) (pair : IsPair r.starts p q) where
     item_removed : (a b : Surroundings) (t u : Tree) → SameBindings r a.bindings b.bindings → a.is_ambient ≡ b.is_ambient →
-        SameItem r a b t u → is_among p (starts_below start_look a t (item_rule t)) ≡ is_among q (starts_below start_look b u (item_rule u)) →
+        SameItem r a b t u → is_among p (starts_below start_look a t (item_rule t)) ≡ is_among q
+        (starts_below start_look b u (item_rule u)) →
         is_among p (removed_start a t) ≡ is_among q (removed_start b u)
     item_removed a b t u c m s below =
         all_removed a b p q pair t u below
@@ -438,7 +468,8 @@ module _ (r : Renaming) (ok : IsRenaming r) where
 
     mutual
       item_below : {a b : Surroundings} {t u : Tree} → SameBindings r a.bindings b.bindings → a.is_ambient ≡ b.is_ambient →
-          SameItem r a b t u → is_among p (starts_below start_look a t (item_rule t)) ≡ is_among q (starts_below start_look b u (item_rule u))
+          SameItem r a b t u → is_among p (starts_below start_look a t (item_rule t)) ≡ is_among q
+          (starts_below start_look b u (item_rule u))
       item_below c m (h.SameItem.decl {a = a} {b = b} {t = t} {u = u} d) =
           let e = decl_taken r ok a b c m (range_of_node t) (range_of_node u) t u d in
           let f = decl_below a b p q pair (range_of_node t) (range_of_node u) t u d in
@@ -450,10 +481,12 @@ module _ (r : Renaming) (ok : IsRenaming r) where
           (ap (λ x. starts_below start_look b u (rule_of_kind x u)) k.right ∙ f.1)
       item_below c m (h.SameItem.namespace {a = a} {b = b} {t = t} {u = u} d) =
           let k = namespace_kinds r ok d in
-          below_by_rules a b p q pair t u (Declared Namespace) (namespace_rule t k.left) (namespace_rule u k.right) (namespaces_removed c m d)
+          below_by_rules a b p q pair t u (Declared Namespace) (namespace_rule t k.left) (namespace_rule u k.right)
+          (namespaces_removed c m d)
       item_below c m (h.SameItem.exported_namespace {a = a} {b = b} {t = t} {u = u} k s d) =
           let n = namespace_kinds r ok d in
-          below_by_rules a b p q pair t u (Exported Namespace) (exported_namespace_rule t k.left n.left) (exported_namespace_rule u k.right n.right)
+          below_by_rules a b p q pair t u (Exported Namespace) (exported_namespace_rule t k.left n.left)
+          (exported_namespace_rule u k.right n.right)
           (namespaces_removed c m d)
       item_below c m (h.SameItem.linked {a = a} {b = b} {t = t} {u = u} d) =
           let e = links_alike r ok a b t u d in below_by_rules a b p q pair t u (Linked e.rule) e.left e.right refl
@@ -462,7 +495,8 @@ module _ (r : Renaming) (ok : IsRenaming r) where
       item_below c m (h.SameItem.assigned {a = a} {b = b} {t = t} {u = u} d) =
           below_by_rules a b p q pair t u Assigned (assigned_rule t d.kinds.left d.assignments.kinds.left)
           (assigned_rule u d.kinds.right d.assignments.kinds.right) refl
-      item_below c m (h.SameItem.refused {a = a} {b = b} {t = t} {u = u} kind e f s) = below_by_rules a b p q pair t u (Refused kind) e f refl
+      item_below c m (h.SameItem.refused {a = a} {b = b} {t = t} {u = u} kind e f s) =
+          below_by_rules a b p q pair t u (Refused kind) e f refl
 
       namespaces_removed : {a b : Surroundings} {x y : SourceRange} {t u : Tree} → SameBindings r a.bindings b.bindings →
           a.is_ambient ≡ b.is_ambient → SameNamespace r a b x y t u →
@@ -471,20 +505,24 @@ module _ (r : Renaming) (ok : IsRenaming r) where
           namespace_removed a b p q pair x y t u d (body_removed c (ap₂ (λ x y. x || y) m d.declare) s)
 
       body_removed : {a b : Surroundings} {t u : Tree} → SameBindings r a.bindings b.bindings → a.is_ambient ≡ b.is_ambient →
-          SameBody r a b t u → is_among p (removed_from a (block_items (innermost t))) ≡ is_among q (removed_from b (block_items (innermost u)))
+          SameBody r a b t u → is_among p (removed_from a (block_items (innermost t))) ≡ is_among q
+          (removed_from b (block_items (innermost u)))
       body_removed c m (h.SameBody.block {a = a} {b = b} {t = t} {u = u} n s rest) =
-          subst₂ (λ x y. is_among p (removed_from a (block_items x)) ≡ is_among q (removed_from b (block_items y))) (sym (innermost_block t n.left))
+          subst₂ (λ x y. is_among p (removed_from a (block_items x)) ≡ is_among q (removed_from b (block_items y)))
+          (sym (innermost_block t n.left))
           (sym (innermost_block u n.right)) (removed_alike c m rest)
       body_removed c m (h.SameBody.inner {a = a} {b = b} {t = t} {u = u} d s) =
           subst₂ (λ x y. is_among p (removed_from a (block_items x)) ≡ is_among q (removed_from b (block_items y)))
-          (sym (innermost_inner t (ap (λ k. k is TsNamespaceDecl) d.kinds.left))) (sym (innermost_inner u (ap (λ k. k is TsNamespaceDecl) d.kinds.right)))
+          (sym (innermost_inner t (ap (λ k. k is TsNamespaceDecl) d.kinds.left)))
+          (sym (innermost_inner u (ap (λ k. k is TsNamespaceDecl) d.kinds.right)))
           (body_removed c m s)
 
       removed_alike : {a b : Surroundings} {ts us : List Tree} → SameBindings r a.bindings b.bindings → a.is_ambient ≡ b.is_ambient →
           SameItems r a b ts us → is_among p (removed_from a ts) ≡ is_among q (removed_from b us)
       removed_alike c m h.SameItems.end = refl
       removed_alike c m (h.SameItems.left {a = a} {b = b} {t = t} {ts = ts} {us = us} s n rest) =
-          among_more a b p q pair p a t ts ∙ (ap (λ x. x || is_among p (removed_from a ts)) (removed_left a b p q pair t s n) ∙ removed_alike c m rest)
+          among_more a b p q pair p a t ts ∙
+          (ap (λ x. x || is_among p (removed_from a ts)) (removed_left a b p q pair t s n) ∙ removed_alike c m rest)
       removed_alike c m (h.SameItems.right {a = a} {b = b} {u = u} {ts = ts} {us = us} s n rest) =
           removed_alike c m rest
           ∙ sym (among_more a b p q pair q b u us ∙ ap (λ x. x || is_among q (removed_from b us)) (removed_right a b p q pair u s n))
@@ -495,7 +533,8 @@ module _ (r : Renaming) (ok : IsRenaming r) where
   module _ (a b : Surroundings) where
     -- ---- the comments that stay
 
-    each_if : (m n : Bool) (xs ys : List Comment) → m ≡ n → Each (SameComment r) xs ys → Each (SameComment r) (if m then [] else xs) (if n then [] else ys)
+    each_if : (m n : Bool) (xs ys : List Comment) → m ≡ n → Each (SameComment r) xs ys →
+        Each (SameComment r) (if m then [] else xs) (if n then [] else ys)
     each_if true true xs ys e s = tt
     each_if false false xs ys e s = s
     each_if true false xs ys e s = cc
@@ -505,8 +544,10 @@ module _ (r : Renaming) (ok : IsRenaming r) where
         SameComments r (kept_comments a t c) (kept_comments b u d)
     same_comments t u c d g s = record {
       leading = λ p q pair.
-          subst₂ (Each (SameComment r)) (sym (all_without p (removed_starts a t) (kept c))) (sym (all_without q (removed_starts b u) (kept d)))
-          (each_if (is_among p (removed_starts a t)) (is_among q (removed_starts b u)) (all_comments_at p (kept c).leading) (all_comments_at q (kept d).leading)
+          subst₂ (Each (SameComment r)) (sym (all_without p (removed_starts a t) (kept c)))
+          (sym (all_without q (removed_starts b u) (kept d)))
+          (each_if (is_among p (removed_starts a t)) (is_among q (removed_starts b u)) (all_comments_at p (kept c).leading)
+          (all_comments_at q (kept d).leading)
           (removed_alike p q pair g.bindings g.is_ambient g.items) (s.leading p q pair));
       trailing = subst₂ (SameAtPairs r r.ends) (sym (trailing_stay (removed_starts a t) (kept c)))
           (sym (trailing_stay (removed_starts b u) (kept d))) s.trailing;

@@ -6,9 +6,11 @@ use Rattle.fast_check_syntax.specs.declared.tree.Tree.{Tree}
 use Rattle.fast_check_syntax.specs.Descent.{is_lower, by_descent, by_descent_is, given}
 use Rattle.fast_check_syntax.specs.Height.{height}
 
-module _ {A : Type 0} (none : A) (form : Tree → (Tree → A) → A) (P : A → Type 0) (of_none : P none) (of_form : (t : Tree) (look : Tree → A) →
+module _ {A : Type 0} (none : A) (form : Tree → (Tree → A) → A) (P : A → Type 0) (of_none : P none)
+    (of_form : (t : Tree) (look : Tree → A) →
     ((u : Tree) → P (look u)) → P (form t look)) where
-  given_holds : (t u : Tree) (b : Bool) → is_lower u t ≡ b → (height u < height t → P (by_descent none form u)) → P (if b then by_descent none form u else none)
+  given_holds : (t u : Tree) (b : Bool) → is_lower u t ≡ b → (height u < height t → P (by_descent none form u)) →
+      P (if b then by_descent none form u else none)
   given_holds t u false e held = of_none
   given_holds t u true e held = held (ltb-true (height u) (height t) e)
 

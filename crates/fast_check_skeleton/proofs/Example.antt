@@ -2,8 +2,8 @@
 use Rattle.std.specs.Prelude.{◌≡◌, ℕ, Bool, false, List, [], ◌∷◌, refl, ◌↔◌, slice_get, unwrap_or}
 use Rattle.std.proofs.Common.{inl, inr, arith, ap, ◌∙◌, sym, subst, subst₂}
 use Rattle.fast_check_syntax.specs.declared.kind.Kind.{Kind}
-use Rattle.fast_check_syntax.specs.declared.kind.Kind.TheVariants.{Module, VarDecl, VarDeclarator, ExportDecl, BindingIdent, TsTypeAnn, TsKeywordType}
-use Rattle.fast_check_syntax.specs.declared.kind.Kind.TheVariants.{List as List'}
+use Rattle.fast_check_syntax.specs.declared.kind.Kind.TheVariants.{Module, VarDecl, VarDeclarator, ExportDecl, BindingIdent, TsTypeAnn}
+use Rattle.fast_check_syntax.specs.declared.kind.Kind.TheVariants.{TsKeywordType, List as List'}
 use Rattle.fast_check_syntax.specs.declared.kind.Word.TheVariants as words
 use Rattle.fast_check_syntax.specs.declared.source.SourceRange.{SourceRange}
 use Rattle.fast_check_syntax.specs.declared.source.SyntaxContext.{SyntaxContext}
@@ -27,16 +27,17 @@ use Rattle.fast_check_skeleton.specs.Surroundings.{Surroundings}
 use Rattle.fast_check_skeleton.specs.Mutability.{mutability_of}
 use Rattle.fast_check_ranges.specs.Ranges.{range_of_node}
 use Rattle.fast_check_skeleton.specs.Visible.{declared_ident, declared_type, is_public_declarator, items_of}
-use Rattle.fast_check_skeleton.specs.Hidden.{AgreeHidden, SameHead, SameDeclarator, SameDeclarators, SameStatement, SameDecl, SameItem, SameItems}
+use Rattle.fast_check_skeleton.specs.Hidden.{AgreeHidden, SameHead, SameDeclarator, SameDeclarators, SameStatement, SameDecl, SameItem}
+use Rattle.fast_check_skeleton.specs.Hidden.{SameItems}
 use Rattle.fast_check_skeleton.specs.SameClasses.{IsNoPartner}
 use Rattle.fast_check_skeleton.specs.Hidden as h
 use Rattle.fast_check_skeleton.specs.SameLinks as l
 use Rattle.fast_check_skeleton.specs.KeptComments.{kept_comments}
 use Rattle.fast_check_skeleton.specs.SameComments.{all_comments_at, SameComment, SameComments}
 use Rattle.fast_check_skeleton.specs.Skeleton.{skeleton_of}
-use Rattle.fast_check_skeleton.specs.Example.{at, scope, name, annotation, declarator, statement, exported, documented, before_tokens, with_trailing}
-use Rattle.fast_check_skeleton.specs.Example.{text_value, first, first_comments, hidden_function, name_value, second, second_comments, renaming, around}
-use Rattle.fast_check_skeleton.specs.Example.{Example}
+use Rattle.fast_check_skeleton.specs.Example.{at, scope, name, annotation, declarator, statement, exported, documented, before_tokens}
+use Rattle.fast_check_skeleton.specs.Example.{with_trailing, text_value, first, first_comments, hidden_function, name_value, second}
+use Rattle.fast_check_skeleton.specs.Example.{second_comments, renaming, around, Example}
 use Rattle.fast_check_skeleton.proofs.Namespaces.{item_seen_is, removed_start_is}
 use Rattle.fast_check_skeleton.proofs.CommentsAlike.{two_worlds}
 
@@ -161,7 +162,8 @@ heads = record {
 -- a type is written, so the values do not count
 is_typed : is_absent (declared_type first_declarator) ≡ false
 is_typed = ap is_absent (type_made (at 23 38) (name 23 2) (annotation 23) text_value false) ∙
-    is_absent_node TsTypeAnn (tree.Range (at 24 32) ∷ node TsKeywordType (tree.Range (at 26 32) ∷ tree.Word words.TsStringKeyword ∷ []) ∷ [])
+    is_absent_node TsTypeAnn
+    (tree.Range (at 24 32) ∷ node TsKeywordType (tree.Range (at 26 32) ∷ tree.Word words.TsStringKeyword ∷ []) ∷ [])
 
 abbrev first_statement : Tree
 first_statement = statement 17 2 text_value 38
@@ -180,7 +182,8 @@ statements = record {
       (sym (span_made VarDecl (at 42 62) (tree.Context (scope 0) ∷ const ∷ tree.Flag false ∷ list (second_declarator ∷ []) ∷ [])))
       (record { start = inr (inr (inr (inl (refl, refl)))); end = inr (inr (inr (inr (inr (inl (refl, refl)))))) });
   ctxt = subst₂ (λ (x y : SyntaxContext). IsPair renaming.scopes x.0 y.0)
-      (sym (ctxt_made (at 17 39) (scope 0) const false (first_declarator ∷ []))) (sym (ctxt_made (at 42 62) (scope 0) const false (second_declarator ∷ [])))
+      (sym (ctxt_made (at 17 39) (scope 0) const false (first_declarator ∷ [])))
+      (sym (ctxt_made (at 42 62) (scope 0) const false (second_declarator ∷ [])))
       (inl (refl, refl));
   kind = subst₂ Same (sym (kind_made (at 17 39) (scope 0) const false (first_declarator ∷ [])))
       (sym (kind_made (at 42 62) (scope 0) const false (second_declarator ∷ [])))
@@ -192,7 +195,8 @@ statements = record {
 decls : (p q : SourceRange) → SameDecl renaming a b p q first_statement second_statement
 decls p q = h.SameDecl.variable statements (declare_made (at 17 39) (scope 0) const false (first_declarator ∷ []))
     (subst₂ (SameDeclarators renaming a b (SameDeclarator renaming a b (mutability_of (VarDecl-kind first_statement))))
-    (sym (decls_made (at 17 39) (scope 0) const false (first_declarator ∷ []))) (sym (decls_made (at 42 62) (scope 0) const false (second_declarator ∷ [])))
+    (sym (decls_made (at 17 39) (scope 0) const false (first_declarator ∷ [])))
+    (sym (decls_made (at 42 62) (scope 0) const false (second_declarator ∷ [])))
     (l.SamePublic.next both_public (h.SameDeclarator.typed heads is_typed) l.SamePublic.end))
 
 abbrev first_export : SourceRange
@@ -203,9 +207,11 @@ second_export = ExportDecl-span (exported 35 3 name_value 61)
 
 exports : SameItem renaming a b (exported 10 2 text_value 38) (exported 35 3 name_value 61)
 exports = h.SameItem.exported (record { left = simp kind_of_node; right = simp kind_of_node })
-    (subst₂ (SameRange renaming) (sym (span_made ExportDecl (at 10 39) (first_statement ∷ []))) (sym (span_made ExportDecl (at 35 62) (second_statement ∷ [])))
+    (subst₂ (SameRange renaming) (sym (span_made ExportDecl (at 10 39) (first_statement ∷ [])))
+    (sym (span_made ExportDecl (at 35 62) (second_statement ∷ [])))
     (record { start = inr (inr (inl (refl, refl))); end = inr (inr (inr (inr (inr (inl (refl, refl)))))) }))
-    (subst₂ (SameDecl renaming a b first_export second_export) (sym (decl_made (at 10 39) first_statement)) (sym (decl_made (at 35 62) second_statement))
+    (subst₂ (SameDecl renaming a b first_export second_export) (sym (decl_made (at 10 39) first_statement))
+    (sym (decl_made (at 35 62) second_statement))
     (decls first_export second_export))
 
 begins_at : range_of_node hidden_function ≡ at 10 25
@@ -237,7 +243,8 @@ skeleton_is = simp (item_seen_is, parts_node, kind_of_node, range_of_range, flag
 -- ---- the comments
 
 abbrev SameLeading : ℕ → ℕ → Type 0
-SameLeading p q = Each (SameComment renaming) (all_comments_at p (kept first_comments).leading) (all_comments_at q (kept second_comments).leading)
+SameLeading p q = Each (SameComment renaming) (all_comments_at p (kept first_comments).leading)
+    (all_comments_at q (kept second_comments).leading)
 
 is_at : (p q x y : ℕ) → (p ≡ x) × (q ≡ y) → SameLeading p q → SameLeading x y
 is_at p q x y e s = subst₂ SameLeading e.0 e.1 s
@@ -247,7 +254,8 @@ agree_leading : (x y : ℕ) → IsPair renaming.starts x y → SameLeading x y
 agree_leading x y (inl e) = is_at 0 0 x y e tt
 agree_leading x y (inr (inl e)) = is_at 1 26 x y e tt
 agree_leading x y (inr (inr (inl e))) =
-    is_at 10 35 x y e (record { kind = refl; span = record { start = inr (inl (refl, refl)); end = inr (inl (refl, refl)) }; text = refl }, tt)
+    is_at 10 35 x y e
+    (record { kind = refl; span = record { start = inr (inl (refl, refl)); end = inr (inl (refl, refl)) }; text = refl }, tt)
 agree_leading x y (inr (inr (inr (inl e)))) = is_at 17 42 x y e tt
 agree_leading x y (inr (inr (inr (inr (inl e))))) = is_at 23 48 x y e tt
 agree_leading x y (inr (inr (inr (inr (inr (inl e)))))) = is_at 24 49 x y e tt
@@ -258,7 +266,8 @@ agree_comments : SameComments renaming (kept first_comments) (kept second_commen
 agree_comments = record { leading = agree_leading; trailing = λ p q pair. tt }
 
 other_text : SameComments renaming (kept first_comments) (kept (before_tokens (documented 122 26 ∷ []))) → ⊥
-other_text s = let e : 120 ≡ 122 = ap (λ text. unwrap_or (slice_get text 2) 0) (s.leading 10 35 (inr (inr (inl (refl, refl))))).0.text in omega (arith, e)
+other_text s = let e : 120 ≡ 122 = ap (λ text. unwrap_or (slice_get text 2) 0)
+    (s.leading 10 35 (inr (inr (inl (refl, refl))))).0.text in omega (arith, e)
 
 other_trailing : SameComments renaming (kept with_trailing) (kept second_comments) → ⊥
 other_trailing s = s.trailing 39 62 (inr (inr (inr (inr (inr (inl (refl, refl)))))))

@@ -42,9 +42,10 @@ use Rattle.fast_check_skeleton.specs.SameAssignments as forms
 use Rattle.fast_check_skeleton.specs.Skeleton.{skeleton_of}
 use Rattle.fast_check_skeleton.specs.Visible.{item_look, item_seen, seen_by_rule, properties_by_rule, item_properties, body_seen, visible}
 use Rattle.fast_check_skeleton.specs.ClassExample.{function_f, empty_statement, module_of, no_places, no_classes, all_public}
-use Rattle.fast_check_skeleton.specs.ExpandoExample.{as_number, target, assignment, assigned, first, second, namespace_f, answered, all_exported}
-use Rattle.fast_check_skeleton.specs.ExpandoExample.{ExpandoExample}
-use Rattle.fast_check_skeleton.proofs.ClassExample.{is_renaming, Same, new_same, same_absent, at_places, are_same, function_items, items_made, word_read}
+use Rattle.fast_check_skeleton.specs.ExpandoExample.{as_number, target, assignment, assigned, first, second, namespace_f, answered}
+use Rattle.fast_check_skeleton.specs.ExpandoExample.{all_exported, ExpandoExample}
+use Rattle.fast_check_skeleton.proofs.ClassExample.{is_renaming, Same, new_same, same_absent, at_places, are_same, function_items}
+use Rattle.fast_check_skeleton.proofs.ClassExample.{items_made, word_read}
 use Rattle.fast_check_skeleton.proofs.Example.{context_of_context}
 use Rattle.fast_check_skeleton.proofs.ModuleExample.{text_of_text}
 use Rattle.fast_check_skeleton.proofs.Namespaces.{item_seen_is}
@@ -55,7 +56,8 @@ same_number : Same (ts_keyword_type words.TsNumberKeyword) (ts_keyword_type word
 same_number = new_same (ts_keyword_type words.TsNumberKeyword) (λ m ok. simp (node_moved, range_moved, none_moved m ok, word_moved))
 
 pub same_target : Same target target
-same_target = new_same target (λ m ok. simp (node_moved, range_moved, none_moved m ok, context_moved, text_moved, flag_moved, ok.scope_zero))
+same_target =
+    new_same target (λ m ok. simp (node_moved, range_moved, none_moved m ok, context_moved, text_moved, flag_moved, ok.scope_zero))
 
 values : (x y : Tree) → SameExpr no_places no_classes no_classes (as_number x) (as_number y)
 values x y = v.SameExpr.as_type (record { left = kind_of_node _ _; right = kind_of_node _ _ })
@@ -96,7 +98,8 @@ pub both_assigned : (x y : Tree) → SameItem no_places all_public all_public (a
 both_assigned x y = h.SameItem.assigned (record {
   kinds = record { left = kind_of_node _ _; right = kind_of_node _ _ };
   range = at_places _ _ (simp (kind_of_node, part_node, range_of_range)) (simp (kind_of_node, part_node, range_of_range));
-  assignments = subst₂ (SameAssignment no_places all_public all_public) (sym (assignment_made (as_number x))) (sym (assignment_made (as_number y)))
+  assignments = subst₂ (SameAssignment no_places all_public all_public) (sym (assignment_made (as_number x)))
+      (sym (assignment_made (as_number y)))
       (assignments x y);
 })
 
@@ -212,19 +215,23 @@ object_name = simp (part_node, text_of_text)
 abbrev pair : List Tree → Tree → List Tree
 pair ss x = function_f ss ∷ assigned (as_number x) ∷ []
 
-stay : (ss : List Tree) (x : Tree) → FunctionStays ss → (answer_of (visible all_public (module_of (pair ss x)))).stays ≡ function_f [] ∷ namespace_f ∷ []
+stay : (ss : List Tree) (x : Tree) → FunctionStays ss → (answer_of (visible all_public (module_of (pair ss x)))).stays ≡ function_f [] ∷
+    namespace_f ∷ []
 stay ss x stays =
     let f = item_seen all_public (function_f ss) in
     let a = item_seen all_public (assigned (as_number x)) in
     ap (λ items. (answer_of (body_seen item_look all_public items)).stays) (items_made (pair ss x))
     ∙ (ap (λ answer. answer.stays) (answer_append (f ++ (a ++ [])) (namespaces_seen (flat_map (item_properties all_public) (pair ss x))))
     ∙ (λ i. both i ++ (answer_of (namespaces_seen (no_properties ss i ++ (properties_are x i ++ [])))).stays)
-    ∙ ap (λ name. function_f [] ∷ namespace_decl name (property_declarator none_range target (as_number never_in_parens) ∷ []) ∷ []) object_name)
+    ∙ ap (λ name. function_f [] ∷ namespace_decl name (property_declarator none_range target (as_number never_in_parens) ∷ []) ∷
+    []) object_name)
   where
     both :
-        (answer_of (item_seen all_public (function_f ss) ++ (item_seen all_public (assigned (as_number x)) ++ []))).stays ≡ function_f [] ∷ []
+        (answer_of (item_seen all_public (function_f ss) ++ (item_seen all_public (assigned (as_number x)) ++ []))).stays ≡ function_f [] ∷
+        []
     both =
-        ap (λ answer. answer.stays) (answer_append (item_seen all_public (function_f ss)) (item_seen all_public (assigned (as_number x)) ++ []))
+        ap (λ answer. answer.stays)
+        (answer_append (item_seen all_public (function_f ss)) (item_seen all_public (assigned (as_number x)) ++ []))
         ∙ ((λ i. stays i ++ (answer_of (append-nil (item_seen all_public (assigned (as_number x))) i)).stays)
         ∙ ap (λ answer. function_f [] ∷ answer.stays) (assigned_answer x))
 

@@ -1,6 +1,6 @@
 -- The law on `#private` holds.
-use Rattle.std.specs.Prelude.{◌≡◌, Bool, true, false, IfSome, Option, Some, None, List, [], ◌∷◌, ◌++◌, map, flat_map, refl, unwrap_or, option_map}
-use Rattle.std.specs.Prelude.{if◌then◌else◌}
+use Rattle.std.specs.Prelude.{◌≡◌, Bool, true, false, IfSome, Option, Some, None, List, [], ◌∷◌, ◌++◌, map, flat_map, refl, unwrap_or}
+use Rattle.std.specs.Prelude.{option_map, if◌then◌else◌}
 use Rattle.std.specs.List.{filter}
 use Rattle.std.proofs.Common.{ap, ap₂, ◌∙◌, subst}
 use Rattle.std.proofs.lemmas.List.{append_assoc}
@@ -12,24 +12,27 @@ use Rattle.fast_check_syntax.specs.declared.tree.Tree.{Tree, Absent, roll-Tree, 
 use Rattle.fast_check_syntax.specs.declared.tree.Tree.TheOpen.{Tree-F}
 use Rattle.fast_check_syntax.specs.Shape.{◌is◌, kind_at, kind_of, parts, is_absent, node, list, OfAll}
 use Rattle.fast_check_syntax.proofs.Made.{kind_of_node, parts_node, part_node}
-use Rattle.fast_check_class_forms.specs.Classes.{Class-body, Class-super_class, Constructor-span, Constructor-ctxt, Constructor-key, Constructor-body}
-use Rattle.fast_check_class_forms.specs.Classes.{Constructor-accessibility, Constructor-is_optional}
+use Rattle.fast_check_class_forms.specs.Classes.{Class-body, Class-super_class, Constructor-span, Constructor-ctxt, Constructor-key}
+use Rattle.fast_check_class_forms.specs.Classes.{Constructor-body, Constructor-accessibility, Constructor-is_optional}
 use Rattle.fast_check_class_forms.specs.Fields.{ClassProp-value, ClassProp-type_ann, AutoAccessor-value, AutoAccessor-type_ann}
-use Rattle.fast_check_class_forms.specs.Methods.{ClassMethod-span, ClassMethod-key, ClassMethod-kind, ClassMethod-is_static, ClassMethod-accessibility}
-use Rattle.fast_check_class_forms.specs.Methods.{ClassMethod-is_abstract, ClassMethod-is_optional, ClassMethod-is_override}
+use Rattle.fast_check_class_forms.specs.Methods.{ClassMethod-span, ClassMethod-key, ClassMethod-kind, ClassMethod-is_static}
+use Rattle.fast_check_class_forms.specs.Methods.{ClassMethod-accessibility, ClassMethod-is_abstract, ClassMethod-is_optional}
+use Rattle.fast_check_class_forms.specs.Methods.{ClassMethod-is_override}
 use Rattle.fast_check_helpers.specs.declared.literal_type.DeclMutabilityKind.TheVariants.{Mutable}
 use Rattle.fast_check_helpers.specs.Builders.{type_ann, any_type_ann}
 use Rattle.fast_check_helpers.specs.InferredType.{inferred_type}
 use Rattle.fast_check_signatures.specs.Bindings.{Bindings}
 use Rattle.fast_check_signatures.specs.Seen.{PropertyHead, Seen, written, range, scope, flag, listed, seens}
-use Rattle.fast_check_signatures.specs.Answers.{settled, with_tree, class_of, declared_property, valued_property, answer_to, parts_answer, answer_of}
-use Rattle.fast_check_signatures.specs.Members.{is_private, is_hash_named_kind, is_hash_named, hash_mark, stays_by_kind, stays_behind, each_behind, if_kept}
-use Rattle.fast_check_signatures.specs.Members.{kept_members}
-use Rattle.fast_check_signatures.specs.Classes.{superclass_seen, typed_property, mutability_of_property, property_head, accessor_head, private_method_head}
-use Rattle.fast_check_signatures.specs.Classes.{param_properties, patterns_among, param_property_head, constructor_body, method_function_seen}
-use Rattle.fast_check_signatures.specs.Classes.{unless_any, constructor_of, unless_taken_apart, class_head, untyped_property_seen, property_seen}
-use Rattle.fast_check_signatures.specs.Classes.{untyped_accessor_seen, accessor_seen, method_seen, constructor_params_seen, constructor_seen, member_of_kind}
-use Rattle.fast_check_signatures.specs.Classes.{member_seen, param_property_type, param_property, declared_by_params, members_seen}
+use Rattle.fast_check_signatures.specs.Answers.{settled, with_tree, class_of, declared_property, valued_property, answer_to, parts_answer}
+use Rattle.fast_check_signatures.specs.Answers.{answer_of}
+use Rattle.fast_check_signatures.specs.Members.{is_private, is_hash_named_kind, is_hash_named, hash_mark, stays_by_kind, stays_behind}
+use Rattle.fast_check_signatures.specs.Members.{each_behind, if_kept, kept_members}
+use Rattle.fast_check_signatures.specs.Classes.{superclass_seen, typed_property, mutability_of_property, property_head, accessor_head}
+use Rattle.fast_check_signatures.specs.Classes.{private_method_head, param_properties, patterns_among, param_property_head}
+use Rattle.fast_check_signatures.specs.Classes.{constructor_body, method_function_seen, unless_any, constructor_of, unless_taken_apart}
+use Rattle.fast_check_signatures.specs.Classes.{class_head, untyped_property_seen, property_seen, untyped_accessor_seen, accessor_seen}
+use Rattle.fast_check_signatures.specs.Classes.{method_seen, constructor_params_seen, constructor_seen, member_of_kind, member_seen}
+use Rattle.fast_check_signatures.specs.Classes.{param_property_type, param_property, declared_by_params, members_seen}
 use Rattle.fast_check_signatures.proofs.Adding.{answer_append}
 use Rattle.fast_check_signatures.proofs.Choices.{of_choice}
 use Rattle.fast_check_skeleton.specs.HashMark.{IsMarked, HashMarked}
@@ -75,7 +78,8 @@ written_stay (t ∷ ts) = ap (λ us. t ∷ us) (written_stay ts)
 module _ (bindings : Bindings) (is_implementation : SourceRange → Bool) where
   -- ---- members
 
-  untyped_plain : (p : PropertyHead) (value : Tree) (o : Option Tree) → PlainSeen (untyped_property_seen bindings is_implementation p value o)
+  untyped_plain : (p : PropertyHead) (value : Tree) (o : Option Tree) →
+      PlainSeen (untyped_property_seen bindings is_implementation p value o)
   untyped_plain p value (Some type) = property_plain p (type_ann type)
   untyped_plain p value None = valued_plain p _
 
@@ -95,7 +99,8 @@ module _ (bindings : Bindings) (is_implementation : SourceRange → Bool) where
   accessor_seen_plain m =
       of_choice PlainSeen (is_private (accessor_head m).accessibility) _ _ (λ e. property_plain (accessor_head m) any_type_ann)
       (λ e. of_choice PlainSeen (is_absent (AutoAccessor-type_ann m))
-      (untyped_accessor_seen bindings is_implementation (accessor_head m) (inferred_type Mutable bindings.unresolved (AutoAccessor-value m)))
+      (untyped_accessor_seen bindings is_implementation (accessor_head m)
+      (inferred_type Mutable bindings.unresolved (AutoAccessor-value m)))
       (typed_property (accessor_head m) (AutoAccessor-type_ann m))
       (λ n. shown_plain (accessor_head m) (inferred_type Mutable bindings.unresolved (AutoAccessor-value m)))
       (λ w. property_plain (accessor_head m) (AutoAccessor-type_ann m)))
@@ -103,8 +108,10 @@ module _ (bindings : Bindings) (is_implementation : SourceRange → Bool) where
   -- what is seen of a method that is not private, and of a constructor, part by part
   abbrev method_parts : Tree → List Seen
   method_parts m =
-      range (ClassMethod-span m) ∷ written (ClassMethod-key m) ∷ method_function_seen bindings is_implementation m ∷ written (ClassMethod-kind m) ∷
-      flag (ClassMethod-is_static m) ∷ written (ClassMethod-accessibility m) ∷ flag (ClassMethod-is_abstract m) ∷ flag (ClassMethod-is_optional m) ∷
+      range (ClassMethod-span m) ∷ written (ClassMethod-key m) ∷ method_function_seen bindings is_implementation m ∷
+      written (ClassMethod-kind m) ∷
+      flag (ClassMethod-is_static m) ∷ written (ClassMethod-accessibility m) ∷ flag (ClassMethod-is_abstract m) ∷
+      flag (ClassMethod-is_optional m) ∷
       flag (ClassMethod-is_override m) ∷ []
 
   abbrev constructor_parts : Tree → List Seen
@@ -121,7 +128,8 @@ module _ (bindings : Bindings) (is_implementation : SourceRange → Bool) where
   constructor_seen_plain : (m : Tree) → PlainSeen (constructor_seen bindings is_implementation m)
   constructor_seen_plain m = go (patterns_among (param_properties m))
     where
-      go : (apart : List Tree) → PlainSeen (unless_taken_apart apart (constructor_of m (constructor_params_seen bindings is_implementation m)))
+      go : (apart : List Tree) →
+          PlainSeen (unless_taken_apart apart (constructor_of m (constructor_params_seen bindings is_implementation m)))
       go [] = of_node kinds.Constructor (parts_answer (seens (constructor_parts m))).stays (λ t. refl)
       go (p ∷ ps) = plain_absent
 
@@ -141,13 +149,16 @@ module _ (bindings : Bindings) (is_implementation : SourceRange → Bool) where
       go None p = h
       go (Some t) p = (p, h)
 
-  kept_plain : (earlier ms : List Tree) → OfAll Plain (answer_of (map (member_seen bindings is_implementation) (each_behind if_kept earlier ms))).stays
+  kept_plain : (earlier ms : List Tree) →
+      OfAll Plain (answer_of (map (member_seen bindings is_implementation) (each_behind if_kept earlier ms))).stays
   kept_plain earlier [] = tt
   kept_plain earlier (m ∷ ms) = go (stays_behind earlier m) refl (kept_plain (m ∷ earlier) ms)
     where
       go : (b : Bool) → stays_behind earlier m ≡ b →
           OfAll Plain (answer_of (map (member_seen bindings is_implementation) (each_behind if_kept (m ∷ earlier) ms))).stays →
-          OfAll Plain (answer_of (map (member_seen bindings is_implementation) ((if b then m ∷ [] else []) ++ each_behind if_kept (m ∷ earlier) ms))).stays
+          OfAll Plain
+          (answer_of
+          (map (member_seen bindings is_implementation) ((if b then m ∷ [] else []) ++ each_behind if_kept (m ∷ earlier) ms))).stays
       go true e rest = with_plain (member_seen bindings is_implementation m)
           (map (member_seen bindings is_implementation) (each_behind if_kept (m ∷ earlier) ms))
           (by_kind (kind_of m) earlier m refl e) rest

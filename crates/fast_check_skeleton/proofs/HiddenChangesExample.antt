@@ -8,7 +8,8 @@ use Rattle.fast_check_syntax.specs.declared.source.SourceRange.{SourceRange}
 use Rattle.fast_check_syntax.specs.declared.tree.Tree.{Tree, Absent}
 use Rattle.fast_check_syntax.specs.Shape.{none_range, list, parts}
 use Rattle.fast_check_syntax.proofs.Made.{kind_of_node, parts_node, part_node, is_absent_node, flag_of_flag, range_of_range}
-use Rattle.fast_check_syntax.proofs.Moved.{node_moved, absent_moved, range_moved, none_moved, context_moved, text_moved, flag_moved, word_moved}
+use Rattle.fast_check_syntax.proofs.Moved.{node_moved, absent_moved, range_moved, none_moved, context_moved, text_moved, flag_moved}
+use Rattle.fast_check_syntax.proofs.Moved.{word_moved}
 use Rattle.fast_check_class_forms.specs.Classes.{Class-body}
 use Rattle.fast_check_class_forms.specs.Functions.{Function-params, Param-span, param}
 use Rattle.fast_check_expression_forms.specs.Operators.{AssignExpr-right}
@@ -34,11 +35,12 @@ use Rattle.fast_check_skeleton.specs.Hidden as h
 use Rattle.fast_check_skeleton.specs.SameAssignments.{SameAssignment}
 use Rattle.fast_check_skeleton.specs.SameAssignments as forms
 use Rattle.fast_check_skeleton.specs.ClassExample.{void_function, empty_statement, no_places, no_classes, all_public}
-use Rattle.fast_check_skeleton.specs.HiddenChangesExample.{name_a, name_n, name_p, number_type, numbers_type, pattern, typed_default, shown_default}
-use Rattle.fast_check_skeleton.specs.HiddenChangesExample.{parameters, function_of, decorated, class_of, decorator, assignment_z, assigned_z, call, sequence}
-use Rattle.fast_check_skeleton.specs.HiddenChangesExample.{first, second, HiddenChangesExample}
-use Rattle.fast_check_skeleton.proofs.ClassExample.{is_renaming, Same, SamePlace, new_same, same_absent, same_none, same_ident, at_places, in_scopes, are_same, function_head}
-use Rattle.fast_check_skeleton.proofs.ClassExample.{function_return, f, members, first_members, second_members, neither_hashed, items_made}
+use Rattle.fast_check_skeleton.specs.HiddenChangesExample.{name_a, name_n, name_p, number_type, numbers_type, pattern, typed_default}
+use Rattle.fast_check_skeleton.specs.HiddenChangesExample.{shown_default, parameters, function_of, decorated, class_of, decorator}
+use Rattle.fast_check_skeleton.specs.HiddenChangesExample.{assignment_z, assigned_z, call, sequence, first, second, HiddenChangesExample}
+use Rattle.fast_check_skeleton.proofs.ClassExample.{is_renaming, Same, SamePlace, new_same, same_absent, same_none, same_ident, at_places}
+use Rattle.fast_check_skeleton.proofs.ClassExample.{in_scopes, are_same, function_head, function_return, f, members, first_members}
+use Rattle.fast_check_skeleton.proofs.ClassExample.{second_members, neither_hashed, items_made}
 use Rattle.fast_check_skeleton.proofs.ExpandoExample.{both_assigned}
 use Rattle.fast_check_skeleton.proofs.Example.{context_of_context}
 use Rattle.fast_check_skeleton.proofs.ModuleExample.{text_of_text}
@@ -93,7 +95,8 @@ all_parameters : (es ds : List Tree) (x y : List ℕ) → SameParams no_places n
 all_parameters es ds x y =
     v.SameParams.next_param (placed _ _) (subst₂ SamePat' (sym (part_node _ _ _)) (sym (part_node _ _ _)) (patterns es ds))
     (v.SameParams.next_param (placed _ _) (subst₂ SamePat' (sym (part_node _ _ _)) (sym (part_node _ _ _)) (typed_defaults x y))
-    (v.SameParams.next_param (placed _ _) (subst₂ SamePat' (sym (part_node _ _ _)) (sym (part_node _ _ _)) (shown_defaults x y)) v.SameParams.no_params))
+    (v.SameParams.next_param (placed _ _)
+    (subst₂ SamePat' (sym (part_node _ _ _)) (sym (part_node _ _ _)) (shown_defaults x y)) v.SameParams.no_params))
 
 -- ---- the function
 
@@ -122,7 +125,8 @@ function_made es x ss = part_node _ _ _
 function_items : (es ds : List Tree) (x y : List ℕ) (ss ts : List Tree) →
     SameItem no_places all_public all_public (function_of es x ss) (function_of ds y ts)
 function_items es ds x y ss ts = h.SameItem.decl (h.SameDecl.function (function_decls _ _ es ds x y ss ts) refl refl
-    (subst₂ (SameFunction no_places no_classes no_classes) (sym (function_made es x ss)) (sym (function_made ds y ts)) (functions es ds x y ss ts)))
+    (subst₂ (SameFunction no_places no_classes no_classes) (sym (function_made es x ss)) (sym (function_made ds y ts))
+    (functions es ds x y ss ts)))
 
 -- ---- the class
 
@@ -143,9 +147,11 @@ classes : (cs ds : List Tree) → SameClass no_places no_classes no_classes f f 
 classes cs ds = record {
   head = class_heads cs ds first_members second_members;
   superclass = s.SameSuperclass.same (are_same _ _ Absent (part_node _ _ _) (part_node _ _ _) same_absent);
-  hash_named = subst₂ (λ x y. list_any is_hash_named x ≡ list_any is_hash_named y) (sym (body_made cs first_members)) (sym (body_made ds second_members))
+  hash_named = subst₂ (λ x y. list_any is_hash_named x ≡ list_any is_hash_named y) (sym (body_made cs first_members))
+      (sym (body_made ds second_members))
       neither_hashed;
-  members = subst₂ (SameMembers no_places no_classes no_classes f f [] []) (sym (body_made cs first_members)) (sym (body_made ds second_members)) members;
+  members = subst₂ (SameMembers no_places no_classes no_classes f f [] []) (sym (body_made cs first_members))
+      (sym (body_made ds second_members)) members;
 }
 
 class_made : (ds ms : List Tree) → ClassDecl-class (class_of ds ms) ≡ decorated ds ms
@@ -160,7 +166,8 @@ class_decls cs ds ms ns = record {
 
 class_items : (cs ds : List Tree) → SameItem no_places all_public all_public (class_of cs first_members) (class_of ds second_members)
 class_items cs ds = h.SameItem.decl (h.SameDecl.class (class_decls cs ds first_members second_members) refl (simp (part_node, flag_of_flag))
-    (subst₂ (SameClass no_places no_classes no_classes f f) (sym (class_made cs first_members)) (sym (class_made ds second_members)) (classes cs ds)))
+    (subst₂ (SameClass no_places no_classes no_classes f f) (sym (class_made cs first_members)) (sym (class_made ds second_members))
+    (classes cs ds)))
 
 -- ---- the values that may not stay
 
@@ -193,7 +200,8 @@ refused_items : SameItem no_places all_public all_public (assigned_z call) (assi
 refused_items = h.SameItem.assigned (record {
   kinds = record { left = kind_of_node _ _; right = kind_of_node _ _ };
   range = at_places _ _ (simp (kind_of_node, part_node, range_of_range)) (simp (kind_of_node, part_node, range_of_range));
-  assignments = subst₂ (SameAssignment no_places all_public all_public) (sym (assignment_made call)) (sym (assignment_made sequence)) assignments;
+  assignments = subst₂ (SameAssignment no_places all_public all_public) (sym (assignment_made call))
+      (sym (assignment_made sequence)) assignments;
 })
 
 -- ---- the modules
@@ -203,7 +211,8 @@ agree = record {
   bindings = record { unresolved = inl (refl, refl) };
   is_ambient = refl;
   items = subst₂ (SameItems no_places all_public all_public) (sym (items_made _)) (sym (items_made _))
-      (h.SameItems.next (function_items (name_a ∷ []) [] (49 ∷ []) (50 ∷ []) [] (empty_statement ∷ [])) (h.SameItems.next (both_assigned _ _)
+      (h.SameItems.next (function_items (name_a ∷ []) [] (49 ∷ []) (50 ∷ []) [] (empty_statement ∷ []))
+      (h.SameItems.next (both_assigned _ _)
       (h.SameItems.next (class_items (decorator ∷ []) []) (h.SameItems.next refused_items h.SameItems.end))));
   shebang = are_same _ _ Absent (part_node _ _ _) (part_node _ _ _) same_absent;
 }

@@ -27,7 +27,8 @@ unmarked t e f =
     ap (λ u. if kind_of u is kinds.PatExpr then PatExpr-expr u else u) (ap (λ b. if b then TargetPat-pat t else t) e)
     ∙ ap (λ b. if b then PatExpr-expr t else t) f
 
-of_form : (t : Tree) (k : Kind) → kind_of t ≡ k → k is kinds.TargetPat ≡ false → k is kinds.PatExpr ≡ false → range_of_node t ≡ range_of_form t
+of_form : (t : Tree) (k : Kind) → kind_of t ≡ k → k is kinds.TargetPat ≡ false → k is kinds.PatExpr ≡ false →
+    range_of_node t ≡ range_of_form t
 of_form t k e n m = ap range_of_form (unmarked t (ap (λ j. j is kinds.TargetPat) e ∙ n) (ap (λ j. j is kinds.PatExpr) e ∙ m))
 
 pub range_of_variables : (t : Tree) → kind_of t ≡ kinds.VarDecl → range_of_node t ≡ VarDecl-span t
@@ -81,4 +82,5 @@ range_of_accessor t e = of_form t kinds.AutoAccessor e refl refl ∙ rw e refl
 pub range_alike : (r : Renaming) → IsRenaming r → (t u : Tree) → SameTree r t u → SameRange r (range_of_node t) (range_of_node u)
 range_alike r ok t u s =
     range_from r ok (range_of_node t) (range_of_node u)
-    (sym (range_of_node_moved (partners r) (partners_keep r ok) t) ∙ (ap range_of_node (tree_to r ok s) ∙ range_of_node_moved twice twice_keeps u))
+    (sym (range_of_node_moved (partners r) (partners_keep r ok) t) ∙
+    (ap range_of_node (tree_to r ok s) ∙ range_of_node_moved twice twice_keeps u))

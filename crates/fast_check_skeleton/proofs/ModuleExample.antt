@@ -21,15 +21,19 @@ use Rattle.fast_check_skeleton.specs.SameLinks as l
 use Rattle.fast_check_skeleton.specs.Skeleton.{skeleton_of}
 use Rattle.fast_check_skeleton.specs.ClassExample.{void_function, empty_statement, no_places, no_classes}
 use Rattle.fast_check_skeleton.specs.ModuleExample as e
-use Rattle.fast_check_skeleton.specs.ModuleExample.{written_source, import_of, default_function, first, second, around, answered, ModuleExample}
-use Rattle.fast_check_skeleton.proofs.ClassExample.{is_renaming, Same, new_same, same_absent, at_places, are_same, functions, word_read, items_made}
+use Rattle.fast_check_skeleton.specs.ModuleExample.{written_source, import_of, default_function, first, second, around, answered}
+use Rattle.fast_check_skeleton.specs.ModuleExample.{ModuleExample}
+use Rattle.fast_check_skeleton.proofs.ClassExample.{is_renaming, Same, new_same, same_absent, at_places, are_same, functions, word_read}
+use Rattle.fast_check_skeleton.proofs.ClassExample.{items_made}
 use Rattle.fast_check_skeleton.proofs.Namespaces.{item_seen_is}
 use Rattle.fast_check_skeleton.proofs.Example.{context_of_context}
 
 -- ---- the import
 
 same_specifier : Same e.x e.x
-same_specifier = new_same e.x (λ m ok. simp (node_moved, range_moved, none_moved m ok, context_moved, text_moved, flag_moved, absent_moved, ok.scope_zero))
+same_specifier =
+    new_same e.x
+    (λ m ok. simp (node_moved, range_moved, none_moved m ok, context_moved, text_moved, flag_moved, absent_moved, ok.scope_zero))
 
 same_source : Same written_source written_source
 same_source = new_same written_source (λ m ok. simp (node_moved, range_moved, none_moved m ok, text_moved, absent_moved))
@@ -47,7 +51,9 @@ h_hidden : is_public_specifier around e.h ≡ false
 h_hidden = simp (kind_of_node, part_node, range_of_range)
 
 specifiers : SamePublic (is_public_specifier around) (is_public_specifier around) Same first_specifiers second_specifiers
-specifiers = l.SamePublic.left h_hidden (l.SamePublic.next refl same_specifier (l.SamePublic.right g_hidden (l.SamePublic.right h_hidden l.SamePublic.end)))
+specifiers =
+    l.SamePublic.left h_hidden
+    (l.SamePublic.next refl same_specifier (l.SamePublic.right g_hidden (l.SamePublic.right h_hidden l.SamePublic.end)))
 
 specifiers_made : (ts : List Tree) → parts (ImportDecl-specifiers (import_of ts written_source)) ≡ ts
 specifiers_made ts = simp parts_node
@@ -101,7 +107,8 @@ agree = record {
   bindings = record { unresolved = inl (refl, refl) };
   is_ambient = refl;
   items = subst₂ (SameItems no_places around around) (sym (items_made _)) (sym (items_made _))
-      (h.SameItems.next (h.SameItem.linked (l.SameLink.import imports)) (h.SameItems.next (defaults [] (empty_statement ∷ [])) h.SameItems.end));
+      (h.SameItems.next (h.SameItem.linked (l.SameLink.import imports))
+      (h.SameItems.next (defaults [] (empty_statement ∷ [])) h.SameItems.end));
   shebang = are_same _ _ Absent (part_node _ _ _) (part_node _ _ _) same_absent;
 }
 
@@ -110,13 +117,38 @@ unfolding roll-Tree denote.Hole.Carrier.roll
 text_of_text text = ap text_at (out-roll-Tree (Tree-F.Text text))
 
 first_is : skeleton_of around first ≡ answered
-first_is = simp (item_seen_is, parts_node, kind_of_node, range_of_range, flag_of_flag, context_of_context, text_of_text, is_absent_node, absent, word_read)
+first_is =
+    simp (
+      item_seen_is,
+      parts_node,
+      kind_of_node,
+      range_of_range,
+      flag_of_flag,
+      context_of_context,
+      text_of_text,
+      is_absent_node,
+      absent,
+      word_read,
+    )
 
 second_is : skeleton_of around second ≡ answered
-second_is = simp (item_seen_is, parts_node, kind_of_node, range_of_range, flag_of_flag, context_of_context, text_of_text, is_absent_node, absent, word_read)
+second_is =
+    simp (
+      item_seen_is,
+      parts_node,
+      kind_of_node,
+      range_of_range,
+      flag_of_flag,
+      context_of_context,
+      text_of_text,
+      is_absent_node,
+      absent,
+      word_read,
+    )
 
 other_source : SameSource no_places around e.unresolving written_source written_source → ⊥
 other_source s = let e = s.relative (is_absent_node _ _) in cc
 
 pub module_example : ModuleExample
-module_example = record { one_to_one = is_renaming; agree = agree; first_skeleton = first_is; second_skeleton = second_is; other_source = other_source }
+module_example =
+    record { one_to_one = is_renaming; agree = agree; first_skeleton = first_is; second_skeleton = second_is; other_source = other_source }

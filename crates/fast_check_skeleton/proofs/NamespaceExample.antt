@@ -7,8 +7,9 @@ use Rattle.fast_check_syntax.specs.declared.tree.Tree.{Tree, Absent}
 use Rattle.fast_check_syntax.specs.Shape.{◌is◌, kind_of, parts}
 use Rattle.fast_check_syntax.specs.Moves.{IsPair}
 use Rattle.fast_check_syntax.proofs.Made.{kind_of_node, parts_node, part_node, is_absent_node, flag_of_flag, range_of_range}
-use Rattle.fast_check_statement_forms.specs.TsDeclarations.{TsModuleDecl-span, TsModuleDecl-declare, TsModuleDecl-global, TsModuleDecl-namespace}
-use Rattle.fast_check_statement_forms.specs.TsDeclarations.{TsModuleDecl-id, TsModuleDecl-body, TsNamespaceDecl-body}
+use Rattle.fast_check_statement_forms.specs.TsDeclarations.{TsModuleDecl-span, TsModuleDecl-declare, TsModuleDecl-global}
+use Rattle.fast_check_statement_forms.specs.TsDeclarations.{TsModuleDecl-namespace, TsModuleDecl-id, TsModuleDecl-body}
+use Rattle.fast_check_statement_forms.specs.TsDeclarations.{TsNamespaceDecl-body}
 use Rattle.fast_check_helpers.specs.Builders.{new_ident}
 use Rattle.fast_check_ranges.specs.Ranges.{range_of_node}
 use Rattle.fast_check_skeleton.specs.SameClasses.{IsNoPartner}
@@ -25,8 +26,8 @@ use Rattle.fast_check_skeleton.specs.Surroundings.{Surroundings, inside}
 use Rattle.fast_check_skeleton.specs.Visible.{item_look, body_seen, item_seen, seen_by_rule}
 use Rattle.fast_check_skeleton.proofs.Agreeing.{silent_item, silent_properties}
 use Rattle.fast_check_skeleton.proofs.ClassExample.{is_renaming, same_absent, same_ident, at_places, are_same, items_made}
-use Rattle.fast_check_skeleton.proofs.Namespaces.{inner_round, block_round, innermost_block, innermost_inner, body_of_block, body_of_inner, item_seen_is}
-use Rattle.fast_check_skeleton.proofs.Namespaces.{namespace_if}
+use Rattle.fast_check_skeleton.proofs.Namespaces.{inner_round, block_round, innermost_block, innermost_inner, body_of_block, body_of_inner}
+use Rattle.fast_check_skeleton.proofs.Namespaces.{item_seen_is, namespace_if}
 use Rattle.fast_check_skeleton.proofs.Ruled.{namespace_rule}
 
 -- ---- what they are made of
@@ -64,7 +65,8 @@ module _ (a b : Surroundings) where
   blocks : SameBody no_places a b (block []) (block (hidden ∷ []))
   blocks = h.SameBody.block (record { left = block_kind []; right = block_kind (hidden ∷ []) })
       (at_places _ _ (simp (part_node, range_of_range)) (simp (part_node, range_of_range)))
-      (subst₂ (SameItems no_places a b) (sym (block_made [])) (sym (block_made (hidden ∷ []))) (h.SameItems.right (silent b) alone h.SameItems.end))
+      (subst₂ (SameItems no_places a b) (sym (block_made [])) (sym (block_made (hidden ∷ [])))
+      (h.SameItems.right (silent b) alone h.SameItems.end))
 
   inner_heads : (ts us : List Tree) → SameInnerHead no_places (inner ts) (inner us)
   inner_heads ts us = record {
@@ -79,7 +81,8 @@ module _ (a b : Surroundings) where
   bodies = h.SameBody.inner (inner_heads [] (hidden ∷ []))
       (subst₂ (SameBody no_places a b) (sym (inner_made [])) (sym (inner_made (hidden ∷ []))) blocks)
 
-heads : (ts us : List Tree) → SameNamespaceHead no_places all_public all_public (range_of_node (namespace_n ts)) (range_of_node (namespace_n us))
+heads : (ts us : List Tree) → SameNamespaceHead no_places all_public all_public (range_of_node (namespace_n ts))
+    (range_of_node (namespace_n us))
     (namespace_n ts) (namespace_n us)
 heads ts us = record {
   kinds = record { left = kind_of_node _ _; right = kind_of_node _ _ };
@@ -101,7 +104,8 @@ agree : AgreeHidden no_places all_public all_public first second
 agree = record {
   bindings = record { unresolved = inl (refl, refl) };
   is_ambient = refl;
-  items = subst₂ (SameItems no_places all_public all_public) (sym (items_made _)) (sym (items_made _)) (h.SameItems.next namespaces h.SameItems.end);
+  items = subst₂ (SameItems no_places all_public all_public) (sym (items_made _)) (sym (items_made _))
+      (h.SameItems.next namespaces h.SameItems.end);
   shebang = are_same _ _ Absent (part_node _ _ _) (part_node _ _ _) same_absent;
 }
 
@@ -110,7 +114,8 @@ agree = record {
 inside_is : (ts : List Tree) → items_inside (namespace_n ts) ≡ ts
 inside_is ts =
     ap (λ t. block_items (innermost t)) (body_made ts)
-    ∙ (ap block_items (innermost_inner (inner ts) (inner_kind ts) ∙ (ap innermost (inner_made ts) ∙ innermost_block (block ts) (block_kind ts)))
+    ∙ (ap block_items
+    (innermost_inner (inner ts) (inner_kind ts) ∙ (ap innermost (inner_made ts) ∙ innermost_block (block ts) (block_kind ts)))
     ∙ block_made ts)
 
 body_is : (ts : List Tree) → body_round [] (TsModuleDecl-body (namespace_n ts)) ≡ inner_round (inner ts) (block_round (block ts) [])
@@ -135,7 +140,8 @@ seen_as ts e =
     ∙ ap (λ body. round_body decl body ∷ []) (body_is ts))))
 
 nothing_hidden : (around : Surroundings) → body_seen item_look around (hidden ∷ []) ≡ []
-nothing_hidden around = λ i. (silent_item around hidden (silent around) i ++ []) ++ namespaces_seen (silent_properties around hidden (silent around) i ++ [])
+nothing_hidden around = λ i. (silent_item around hidden (silent around) i ++ []) ++ namespaces_seen
+    (silent_properties around hidden (silent around) i ++ [])
 
 first_is : skeleton_of all_public first ≡ first
 first_is = simp (seen_as [] refl, parts_node, kind_of_node, range_of_range, flag_of_flag)

@@ -1,5 +1,6 @@
 -- Items and namespaces, level by level: what is given of the lower items is what they give by themselves.
-use Rattle.std.specs.Prelude.{◌≡◌, ℕ, zero, suc, ◌<◌, ◌≤◌, Bool, true, false, not, ◌&&◌, Some, List, [], ◌∷◌, ◌++◌, slice_get, refl, if◌then◌else◌}
+use Rattle.std.specs.Prelude.{◌≡◌, ℕ, zero, suc, ◌<◌, ◌≤◌, Bool, true, false, not, ◌&&◌, Some, List, [], ◌∷◌, ◌++◌, slice_get, refl}
+use Rattle.std.specs.Prelude.{if◌then◌else◌}
 use Rattle.std.specs.List.{flat_map}
 use Rattle.std.proofs.Common.{arith, ap, ap₂, ◌∙◌, sym, subst}
 use Rattle.fast_check_syntax.specs.declared.kind.Kind.TheVariants.{TsModuleBlock, TsNamespaceDecl}
@@ -12,8 +13,9 @@ use Rattle.fast_check_syntax.specs.Height.{height, height_part, height_at_most, 
 use Rattle.fast_check_ranges.specs.Ranges.{range_of_node}
 use Rattle.fast_check_program_forms.specs.ModuleDecls.{ExportDecl-span, ExportDecl-decl}
 use Rattle.fast_check_statement_forms.specs.TsDeclarations.{TsModuleDecl-span, TsModuleDecl-global, TsModuleDecl-id, TsModuleDecl-body}
-use Rattle.fast_check_statement_forms.specs.TsDeclarations.{TsModuleBlock-span, TsModuleBlock-body, TsNamespaceDecl-span, TsNamespaceDecl-declare}
-use Rattle.fast_check_statement_forms.specs.TsDeclarations.{TsNamespaceDecl-global, TsNamespaceDecl-id, TsNamespaceDecl-body}
+use Rattle.fast_check_statement_forms.specs.TsDeclarations.{TsModuleBlock-span, TsModuleBlock-body, TsNamespaceDecl-span}
+use Rattle.fast_check_statement_forms.specs.TsDeclarations.{TsNamespaceDecl-declare, TsNamespaceDecl-global, TsNamespaceDecl-id}
+use Rattle.fast_check_statement_forms.specs.TsDeclarations.{TsNamespaceDecl-body}
 use Rattle.fast_check_signatures.specs.declared.fault.FaultKind.TheVariants.{UnsupportedGlobalModule, UnsupportedAmbientModule}
 use Rattle.fast_check_signatures.specs.Seen.{Seen, written, range, flag, round, listed, faulty, refused, seens}
 use Rattle.fast_check_skeleton.specs.declared.rules.DeclRule.{DeclRule}
@@ -22,12 +24,13 @@ use Rattle.fast_check_skeleton.specs.declared.rules.ItemRule.{ItemRule}
 use Rattle.fast_check_skeleton.specs.declared.rules.ItemRule.TheVariants.{Declared, Exported}
 use Rattle.fast_check_skeleton.specs.KeptComments.{starts_inside, start_of_unseen, starts_in_body, starts_below, start_form, start_look}
 use Rattle.fast_check_skeleton.specs.KeptComments.{removed_start}
-use Rattle.fast_check_skeleton.specs.Namespaces.{is_ambient_module, is_namespace, innermost_form, innermost, block_items, items_inside, body_form, body_round}
-use Rattle.fast_check_skeleton.specs.Namespaces.{namespace_round}
+use Rattle.fast_check_skeleton.specs.Namespaces.{is_ambient_module, is_namespace, innermost_form, innermost, block_items, items_inside}
+use Rattle.fast_check_skeleton.specs.Namespaces.{body_form, body_round, namespace_round}
 use Rattle.fast_check_skeleton.specs.Rules.{item_rule}
 use Rattle.fast_check_skeleton.specs.Surroundings.{Surroundings, inside}
 use Rattle.fast_check_expandos.specs.Expandos.{namespaces_seen}
-use Rattle.fast_check_skeleton.specs.Visible.{item_properties, body_seen, namespace_seen, decl_form, exported_seen, form_by_rule, item_form, item_look, item_seen, seen_by_rule}
+use Rattle.fast_check_skeleton.specs.Visible.{item_properties, body_seen, namespace_seen, decl_form, exported_seen, form_by_rule, item_form}
+use Rattle.fast_check_skeleton.specs.Visible.{item_look, item_seen, seen_by_rule}
 
 -- ---- bodies of namespaces
 
@@ -56,7 +59,8 @@ pub body_round_is : (items : List Seen) (t : Tree) →
 unfolding body_round
 body_round_is items t = by_descent_is refused (body_form items) t ∙ go (is_inner t) refl
   where
-    go : (b : Bool) → is_inner t ≡ b → (if b then inner_round t (given refused (body_form items) t (TsNamespaceDecl-body t)) else block_round t items) ≡
+    go : (b : Bool) → is_inner t ≡ b →
+        (if b then inner_round t (given refused (body_form items) t (TsNamespaceDecl-body t)) else block_round t items) ≡
         (if b then inner_round t (body_round items (TsNamespaceDecl-body t)) else block_round t items)
     go false e = refl
     go true e = ap (inner_round t) (given_part refused (body_form items) t 4 (λ l. let k = is_kind (kind_of t) TsNamespaceDecl e in cc))
@@ -91,7 +95,8 @@ up_to : (n : ℕ) (t : Tree) → height t < n → height (innermost t) ≤ heigh
 up_to zero t h = absurd (omega arith)
 up_to (suc n) t h = subst (λ u. height u ≤ height t) (sym (innermost_is t)) (go (is_inner t) refl (up_to n (TsNamespaceDecl-body t)))
   where
-    go : (b : Bool) → is_inner t ≡ b → (height (TsNamespaceDecl-body t) < n → height (innermost (TsNamespaceDecl-body t)) ≤ height (TsNamespaceDecl-body t)) →
+    go : (b : Bool) → is_inner t ≡ b →
+        (height (TsNamespaceDecl-body t) < n → height (innermost (TsNamespaceDecl-body t)) ≤ height (TsNamespaceDecl-body t)) →
         height (if b then innermost (TsNamespaceDecl-body t) else t) ≤ height t
     go false e below = omega arith
     go true e below =
@@ -103,7 +108,8 @@ pub innermost_at_most : (t : Tree) → height (innermost t) ≤ height t
 innermost_at_most t = up_to (suc (height t)) t (omega arith)
 
 -- each part of a tree is lower than it
-all_below : (limit : ℕ) (ts : List Tree) → ((i : ℕ) (u : Tree) → slice_get ts i ≡ Some u → height u < limit) → OfAll (λ u. height u < limit) ts
+all_below : (limit : ℕ) (ts : List Tree) → ((i : ℕ) (u : Tree) → slice_get ts i ≡ Some u → height u < limit) →
+    OfAll (λ u. height u < limit) ts
 all_below limit [] below = tt
 all_below limit (t ∷ ts) below = (below zero t refl, all_below limit ts (λ i. below (suc i)))
 
@@ -134,7 +140,8 @@ module _ (around : Surroundings) (item : Tree) where
   same_each here (t ∷ ts) below =
       ap₂ (λ x y. x ++ y) (ap (λ f. f here) (given_lower (λ around. []) item_form item t below.0)) (same_each here ts below.1)
 
-  same_items : (here : Surroundings) (ts : List Tree) → OfAll (λ u. height u < height item) ts → body_seen look here ts ≡ body_seen item_look here ts
+  same_items : (here : Surroundings) (ts : List Tree) → OfAll (λ u. height u < height item) ts →
+      body_seen look here ts ≡ body_seen item_look here ts
   same_items here ts below = ap (λ xs. xs ++ namespaces_seen (flat_map (item_properties here) ts)) (same_each here ts below)
 
   same_decl : (place : SourceRange) (decl : Tree) → height decl ≤ height item → (rule : DeclRule) →
@@ -148,7 +155,8 @@ module _ (around : Surroundings) (item : Tree) where
 
   same_by_rule : (rule : ItemRule) → form_by_rule look around item rule ≡ seen_by_rule around item rule
   same_by_rule (Declared rule) = same_decl (range_of_node item) item (omega arith) rule
-  same_by_rule (Exported rule) = ap (exported_seen item) (same_decl (ExportDecl-span item) (ExportDecl-decl item) (height_at_most item 1) rule)
+  same_by_rule (Exported rule) =
+      ap (exported_seen item) (same_decl (ExportDecl-span item) (ExportDecl-decl item) (height_at_most item 1) rule)
   same_by_rule _ = refl
 
 -- the equation of `item_seen`
@@ -183,7 +191,8 @@ module _ (around : Surroundings) (item : Tree) where
 
 -- the equation of `removed_start`
 pub removed_start_is : (around : Surroundings) (item : Tree) → removed_start around item ≡
-    starts_below start_look around item (item_rule item) ++ (start_of_unseen item (item_seen around item) ++ starts_inside around item (item_rule item))
+    starts_below start_look around item
+    (item_rule item) ++ (start_of_unseen item (item_seen around item) ++ starts_inside around item (item_rule item))
 unfolding start_look
 removed_start_is around item =
     ap (λ f. f around) (by_descent_is (λ around. []) start_form item)
@@ -225,12 +234,14 @@ ambient_no_namespace decl e = go (TsModuleDecl-global decl) (is_ambient_module d
     go false true f = refl
     go false false f = cc
 
-pub namespace_if : (around : Surroundings) (place : SourceRange) (decl : Tree) → is_namespace decl ≡ true → namespace_seen item_look around place decl ≡
+pub namespace_if : (around : Surroundings) (place : SourceRange) (decl : Tree) → is_namespace decl ≡ true →
+    namespace_seen item_look around place decl ≡
     (if around.is_public place then namespace_round (body_seen item_look (inside around decl) (items_inside decl)) decl ∷ [] else [])
 namespace_if around place decl e =
     λ i. module_if around place decl (no_global decl e i) (no_ambient_module decl e i) (around.is_public place)
 
-pub hidden_namespace : (around : Surroundings) (place : SourceRange) (decl : Tree) → is_namespace decl ≡ true → around.is_public place ≡ false →
+pub hidden_namespace : (around : Surroundings) (place : SourceRange) (decl : Tree) → is_namespace decl ≡ true →
+    around.is_public place ≡ false →
     namespace_seen item_look around place decl ≡ []
 hidden_namespace around place decl e p =
     λ i. module_if around place decl (no_global decl e i) (no_ambient_module decl e i) (p i)
@@ -240,6 +251,7 @@ pub global_is : (around : Surroundings) (place : SourceRange) (decl : Tree) → 
     namespace_seen item_look around place decl ≡ faulty UnsupportedGlobalModule (TsModuleDecl-span decl) ∷ []
 global_is around place decl e = ap (λ g. module_if around place decl g (is_ambient_module decl) (around.is_public place)) e
 
-pub ambient_module_is : (around : Surroundings) (place : SourceRange) (decl : Tree) → TsModuleDecl-global decl ≡ false → is_ambient_module decl ≡ true →
+pub ambient_module_is : (around : Surroundings) (place : SourceRange) (decl : Tree) → TsModuleDecl-global decl ≡ false →
+    is_ambient_module decl ≡ true →
     namespace_seen item_look around place decl ≡ faulty UnsupportedAmbientModule (range_of_node (TsModuleDecl-id decl)) ∷ []
 ambient_module_is around place decl e f = λ i. module_if around place decl (e i) (f i) (around.is_public place)

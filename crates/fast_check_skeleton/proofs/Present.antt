@@ -15,7 +15,8 @@ use Rattle.fast_check_signatures.specs.Seen.{Seen, seens}
 use Rattle.fast_check_signatures.specs.Answers.{answer_to, parts_answer}
 use Rattle.fast_check_signatures.specs.Parameters.{Look, pats_seen}
 use Rattle.fast_check_signatures.specs.Functions.{or_own, by_value, arrow_by_type}
-use Rattle.fast_check_signatures.specs.Expressions.{Rule, whole, parted, slotted, arrow, not_at_all, expr_rule, slots_seen, by_rule, expr_seen}
+use Rattle.fast_check_signatures.specs.Expressions.{Rule, whole, parted, slotted, arrow, not_at_all, expr_rule, slots_seen, by_rule}
+use Rattle.fast_check_signatures.specs.Expressions.{expr_seen}
 use Rattle.fast_check_signatures.proofs.Choices.{of_choice}
 use Rattle.fast_check_signatures.proofs.Looks.{expr_seen_is}
 
@@ -48,4 +49,5 @@ module _ (bindings : Bindings) (look : Look) (t : Tree) (there : is_absent t ≡
 
 pub stays_there : (bindings : Bindings) (t : Tree) (place : Option SourceRange) → is_absent t ≡ false → There (expr_seen bindings t place)
 stays_there bindings t place n =
-    subst There (sym (expr_seen_is bindings t place)) (rule_there bindings (expr_seen bindings) t n place (expr_rule bindings t) (kind_of t))
+    subst There (sym (expr_seen_is bindings t place))
+    (rule_there bindings (expr_seen bindings) t n place (expr_rule bindings t) (kind_of t))

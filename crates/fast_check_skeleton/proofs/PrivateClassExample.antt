@@ -16,7 +16,8 @@ use Rattle.fast_check_program_forms.specs.ModuleDecls.{ExportDecl-decl}
 use Rattle.fast_check_statement_forms.specs.Declarations.{VarDecl-kind, VarDecl-decls}
 use Rattle.fast_check_helpers.specs.Builders.{new_ident, ts_keyword_type, type_ann, never_value}
 use Rattle.fast_check_signatures.specs.Bindings.{Bindings}
-use Rattle.fast_check_signatures.specs.Expressions.{is_plain, is_compound, is_among, other_kinds, freezes, is_made, known_by_kind, is_known, is_refused, makes_plain}
+use Rattle.fast_check_signatures.specs.Expressions.{is_plain, is_compound, is_among, other_kinds, freezes, is_made, known_by_kind, is_known}
+use Rattle.fast_check_signatures.specs.Expressions.{is_refused, makes_plain}
 use Rattle.fast_check_skeleton.proofs.TypedFunctions.{absent}
 use Rattle.fast_check_signatures.proofs.Choices.{both_true}
 use Rattle.fast_check_skeleton.specs.SameClasses.{HasNoPartner}
@@ -25,14 +26,16 @@ use Rattle.fast_check_skeleton.specs.SameValues as v
 use Rattle.fast_check_skeleton.specs.Mutability.{mutability_of}
 use Rattle.fast_check_skeleton.specs.Visible.{is_public_declarator}
 use Rattle.fast_check_skeleton.specs.Surroundings.{Surroundings}
-use Rattle.fast_check_skeleton.specs.Hidden.{AgreeHidden, SameHead, SameDeclarator, SameDeclarators, SameStatement, SameDecl, SameItem, SameItems}
+use Rattle.fast_check_skeleton.specs.Hidden.{AgreeHidden, SameHead, SameDeclarator, SameDeclarators, SameStatement, SameDecl, SameItem}
+use Rattle.fast_check_skeleton.specs.Hidden.{SameItems}
 use Rattle.fast_check_skeleton.specs.Hidden as h
 use Rattle.fast_check_skeleton.specs.SameLinks as l
 use Rattle.fast_check_skeleton.specs.Skeleton.{skeleton_of}
 use Rattle.fast_check_skeleton.specs.ClassExample.{module_of, no_places, no_classes}
-use Rattle.fast_check_skeleton.specs.PrivateClassExample.{class_h, declarator_x, statement_x, export_x, one, new_h, first, second, class_h_known, around}
-use Rattle.fast_check_skeleton.specs.PrivateClassExample.{PrivateClassExample}
-use Rattle.fast_check_skeleton.proofs.ClassExample.{is_renaming, Same, new_same, same_absent, same_ident, at_places, in_scopes, are_same, items_made}
+use Rattle.fast_check_skeleton.specs.PrivateClassExample.{class_h, declarator_x, statement_x, export_x, one, new_h, first, second}
+use Rattle.fast_check_skeleton.specs.PrivateClassExample.{class_h_known, around, PrivateClassExample}
+use Rattle.fast_check_skeleton.proofs.ClassExample.{is_renaming, Same, new_same, same_absent, same_ident, at_places, in_scopes, are_same}
+use Rattle.fast_check_skeleton.proofs.ClassExample.{items_made}
 use Rattle.fast_check_skeleton.proofs.Example.{context_of_context}
 use Rattle.fast_check_skeleton.proofs.ModuleExample.{text_of_text}
 use Rattle.fast_check_skeleton.proofs.Namespaces.{item_seen_is}
@@ -57,7 +60,8 @@ begins_alone n p = let q : IsPair no_places.starts 7 n = subst (λ s. IsPair no_
 -- ---- the statement agrees
 
 same_type : Same (type_ann (ts_keyword_type words.TsNumberKeyword)) (type_ann (ts_keyword_type words.TsNumberKeyword))
-same_type = new_same (type_ann (ts_keyword_type words.TsNumberKeyword)) (λ m ok. simp (node_moved, range_moved, none_moved m ok, word_moved))
+same_type = new_same (type_ann (ts_keyword_type words.TsNumberKeyword))
+    (λ m ok. simp (node_moved, range_moved, none_moved m ok, word_moved))
 
 same_const : Same (tree.Word words.Const) (tree.Word words.Const)
 same_const = new_same (tree.Word words.Const) (λ m ok. word_moved m words.Const)
@@ -71,7 +75,8 @@ heads = record {
   type = are_same _ _ (type_ann (ts_keyword_type words.TsNumberKeyword)) (simp part_node) (simp part_node) same_type;
 }
 
-public_same : l.SamePublic (is_public_declarator a) (is_public_declarator b) (SameDeclarator no_places a b (mutability_of (VarDecl-kind (statement_x one))))
+public_same : l.SamePublic (is_public_declarator a) (is_public_declarator b)
+    (SameDeclarator no_places a b (mutability_of (VarDecl-kind (statement_x one))))
     (declarator_x one ∷ []) (declarator_x one ∷ [])
 public_same = l.SamePublic.next refl (h.SameDeclarator.typed heads (simp (part_node, is_absent_node))) l.SamePublic.end
 
@@ -89,7 +94,8 @@ decls_made = simp parts_node
 
 decls : (p q : SourceRange) → SameDecl no_places a b p q (statement_x one) (statement_x one)
 decls p q = h.SameDecl.variable statements (simp (part_node, flag_of_flag))
-    (subst₂ (SameDeclarators no_places a b (SameDeclarator no_places a b (mutability_of (VarDecl-kind (statement_x one))))) (sym decls_made) (sym decls_made)
+    (subst₂ (SameDeclarators no_places a b (SameDeclarator no_places a b (mutability_of (VarDecl-kind (statement_x one))))) (sym decls_made)
+    (sym decls_made)
     public_same)
 
 exports : SameItem no_places a b (export_x one) (export_x one)
@@ -105,7 +111,8 @@ agree = record {
   bindings = record { unresolved = inl (refl, refl) };
   is_ambient = refl;
   items = subst₂ (SameItems no_places a b) (sym (items_made _)) (sym (items_made _))
-      (h.SameItems.left (h.IsSilent.decl (h.IsSilentDecl.class (kind_of_node _ _) not_public)) begins_alone (h.SameItems.next exports h.SameItems.end));
+      (h.SameItems.left (h.IsSilent.decl (h.IsSilentDecl.class (kind_of_node _ _) not_public)) begins_alone
+      (h.SameItems.next exports h.SameItems.end));
   shebang = are_same _ _ Absent (part_node _ _ _) (part_node _ _ _) same_absent;
 }
 
@@ -126,7 +133,8 @@ made_known c t e made =
     λ i. not (is_plain (e i) || (is_compound (e i) || (is_among other_kinds (e i) || known i)))
 
 -- a call that is known on one side agrees with none that is not
-no_agreement : (c d : Bindings) {t u : Tree} → kind_of t ≡ kinds.NewExpr → is_made c t ≡ true → is_made d u ≡ false → SameExpr no_places c d t u → ⊥
+no_agreement : (c d : Bindings) {t u : Tree} → kind_of t ≡ kinds.NewExpr → is_made c t ≡ true → is_made d u ≡ false →
+    SameExpr no_places c d t u → ⊥
 no_agreement c d k e n (v.SameExpr.plain {t = t} {u = u} p x) = not_kind kinds.NewExpr is_plain t k refl p
 no_agreement c d k e n (v.SameExpr.refused {t = t} {u = u} x y) = true≢false (sym x ∙ made_known c t k e)
 no_agreement c d k e n (v.SameExpr.compound {t = t} {u = u} j x y z) =

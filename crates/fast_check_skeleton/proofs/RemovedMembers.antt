@@ -48,10 +48,14 @@ module _ (r : Renaming) (ok : IsRenaming r) where
     member_begins : (t u : Tree) → SameMember r c d f g t u → SameRange r (range_of_node t) (range_of_node u)
     member_begins t u (s.SameMember.constructor h x) =
         subst₂ (SameRange r) (sym (range_of_constructor t h.kinds.left)) (sym (range_of_constructor u h.kinds.right)) h.span
-    member_begins t u (s.SameMember.private_method k h p) = subst₂ (SameRange r) (sym (range_of_method t k.left)) (sym (range_of_method u k.right)) h.span
-    member_begins t u (s.SameMember.method k h x) = subst₂ (SameRange r) (sym (range_of_method t k.left)) (sym (range_of_method u k.right)) h.span
-    member_begins t u (s.SameMember.property k h x) = subst₂ (SameRange r) (sym (range_of_property t k.left)) (sym (range_of_property u k.right)) h.span
-    member_begins t u (s.SameMember.accessor k h x) = subst₂ (SameRange r) (sym (range_of_accessor t k.left)) (sym (range_of_accessor u k.right)) h.span
+    member_begins t u (s.SameMember.private_method k h p) = subst₂ (SameRange r) (sym (range_of_method t k.left))
+        (sym (range_of_method u k.right)) h.span
+    member_begins t u (s.SameMember.method k h x) = subst₂ (SameRange r) (sym (range_of_method t k.left))
+        (sym (range_of_method u k.right)) h.span
+    member_begins t u (s.SameMember.property k h x) = subst₂ (SameRange r) (sym (range_of_property t k.left))
+        (sym (range_of_property u k.right)) h.span
+    member_begins t u (s.SameMember.accessor k h x) = subst₂ (SameRange r) (sym (range_of_accessor t k.left))
+        (sym (range_of_accessor u k.right)) h.span
     member_begins t u (s.SameMember.index_signature k x) = range_alike r ok t u x
 
     module _ (p q : ℕ) (pair : IsPair r.starts p q) where
@@ -91,4 +95,5 @@ module _ (r : Renaming) (ok : IsRenaming r) where
 
       pub class_removed : (t u : Tree) → SameClass r c d f g t u → is_among p (starts_of_removed t) ≡ is_among q (starts_of_removed u)
       class_removed t u h =
-          members_removed [] [] (parts (Class-body t)) (parts (Class-body u)) (record { names = λ name. refl; implementations = refl }) h.members
+          members_removed [] [] (parts (Class-body t)) (parts (Class-body u))
+          (record { names = λ name. refl; implementations = refl }) h.members

@@ -67,7 +67,8 @@ pub rule_by_kind : (t : Tree) (k : Kind) → kind_of t ≡ k → item_rule t ≡
 rule_by_kind t k e = ap (λ j. rule_of_kind j t) e
 
 -- of the default export of a declaration, by the kind of this
-pub default_by_kind : (t : Tree) (k : Kind) → kind_of t ≡ kinds.ExportDefaultDecl → kind_of (ExportDefaultDecl-decl t) ≡ k → item_rule t ≡ default_rule k
+pub default_by_kind : (t : Tree) (k : Kind) → kind_of t ≡ kinds.ExportDefaultDecl → kind_of (ExportDefaultDecl-decl t) ≡ k →
+    item_rule t ≡ default_rule k
 default_by_kind t k e d = rule_by_kind t kinds.ExportDefaultDecl e ∙ ap default_rule d
 
 -- of `import A = B.C`
@@ -78,7 +79,8 @@ alias_rule t e n = rule_by_kind t kinds.TsImportEqualsDecl e ∙ ap (λ b. if b 
 pub namespace_rule : (t : Tree) → kind_of t ≡ kinds.TsModuleDecl → item_rule t ≡ Declared Namespace
 namespace_rule t e = rule_by_kind t kinds.TsModuleDecl e
 
-pub exported_namespace_rule : (t : Tree) → kind_of t ≡ kinds.ExportDecl → kind_of (ExportDecl-decl t) ≡ kinds.TsModuleDecl → item_rule t ≡ Exported Namespace
+pub exported_namespace_rule : (t : Tree) → kind_of t ≡ kinds.ExportDecl → kind_of (ExportDecl-decl t) ≡ kinds.TsModuleDecl →
+    item_rule t ≡ Exported Namespace
 exported_namespace_rule t e d = rule_by_kind t kinds.ExportDecl e ∙ ap (λ k. Exported (decl_rule k)) d
 
 -- of an assignment that is a statement
@@ -111,7 +113,8 @@ expression_by_kind : (k : Kind) → is_silent (expr_stmt_rule k) ≡ not (k is k
 expression_by_kind kinds.AssignExpr = refl
 expression_by_kind _ = refl
 
-silent_by_kind : (k : Kind) (t : Tree) → (is_statement k || ((k is kinds.ExprStmt) && not (kind_of (ExprStmt-expr t) is kinds.AssignExpr))) ≡ true →
+silent_by_kind : (k : Kind) (t : Tree) →
+    (is_statement k || ((k is kinds.ExprStmt) && not (kind_of (ExprStmt-expr t) is kinds.AssignExpr))) ≡ true →
     is_silent (rule_of_kind k t) ≡ true
 silent_by_kind kinds.BlockStmt t e = refl
 silent_by_kind kinds.EmptyStmt t e = refl

@@ -37,7 +37,8 @@ use Rattle.fast_check_skeleton.specs.SameAssignments.{SameExpando, SameAssignmen
 use Rattle.fast_check_skeleton.specs.SameAssignments as forms
 use Rattle.fast_check_skeleton.specs.ClassExample.{void_function, function_f, empty_statement, no_places, no_classes}
 use Rattle.fast_check_skeleton.specs.ExpandoExample.{target, assignment, assigned}
-use Rattle.fast_check_skeleton.specs.SilentAssignmentExample.{name_b, name_c, silent, first, second, exporting_b, around, SilentAssignmentExample}
+use Rattle.fast_check_skeleton.specs.SilentAssignmentExample.{name_b, name_c, silent, first, second, exporting_b, around}
+use Rattle.fast_check_skeleton.specs.SilentAssignmentExample.{SilentAssignmentExample}
 use Rattle.fast_check_skeleton.proofs.ClassExample.{is_renaming, same_absent, same_ident, at_places, are_same, functions, items_made}
 use Rattle.fast_check_skeleton.proofs.ExpandoExample.{same_target, left_made, right_made, assignment_made, is_one}
 use Rattle.fast_check_skeleton.proofs.Example.{context_of_context}
@@ -60,11 +61,13 @@ range_mentions r = leaf_mentions (tree.Range r) (ap kind_at (out-roll-Tree (Tree
 
 scope_mentions : (c : SyntaxContext) → references no_scope (λ name. true) (tree.Context c) ≡ []
 unfolding roll-Tree denote.Hole.Carrier.roll
-scope_mentions c = leaf_mentions (tree.Context c) (ap kind_at (out-roll-Tree (Tree-F.Context c))) (ap parts_at (out-roll-Tree (Tree-F.Context c)))
+scope_mentions c = leaf_mentions (tree.Context c) (ap kind_at (out-roll-Tree (Tree-F.Context c)))
+    (ap parts_at (out-roll-Tree (Tree-F.Context c)))
 
 text_mentions : (text : List ℕ) → references no_scope (λ name. true) (tree.Text text) ≡ []
 unfolding roll-Tree denote.Hole.Carrier.roll
-text_mentions text = leaf_mentions (tree.Text text) (ap kind_at (out-roll-Tree (Tree-F.Text text))) (ap parts_at (out-roll-Tree (Tree-F.Text text)))
+text_mentions text = leaf_mentions (tree.Text text) (ap kind_at (out-roll-Tree (Tree-F.Text text)))
+    (ap parts_at (out-roll-Tree (Tree-F.Text text)))
 
 flag_mentions : (f : Bool) → references no_scope (λ name. true) (tree.Flag f) ≡ []
 unfolding roll-Tree denote.Hole.Carrier.roll
@@ -107,7 +110,8 @@ expandos = record {
   span = at_places _ _ (simp (part_node, range_of_range)) (simp (part_node, range_of_range));
   target = are_same _ _ target (left_made name_c) (left_made name_c) same_target;
   object = record {
-    is_declared = ap (λ target. bytes_eq (property_name target) (98 ∷ [])) (left_made name_c) ∙ ap (λ name. bytes_eq name (98 ∷ [])) property_is;
+    is_declared = ap (λ target. bytes_eq (property_name target) (98 ∷ [])) (left_made name_c) ∙
+        ap (λ name. bytes_eq name (98 ∷ [])) property_is;
     has_export_keyword = refl;
   };
   exported = ap (map (λ name. bytes_eq name (98 ∷ []))) (names_are (99 ∷ [])) ∙ sym (ap (map (λ name. false)) (names_are (99 ∷ [])));
@@ -177,7 +181,8 @@ agree = record {
 other_value : SameExpando no_places a b (assignment name_b) (assignment name_b) → ⊥
 other_value s =
     let e : true ∷ [] ≡ false ∷ [] =
-    sym (ap (map (λ name. bytes_eq name (98 ∷ []))) (names_are (98 ∷ []))) ∙ (s.exported ∙ ap (map (λ name. false)) (names_are (98 ∷ []))) in cc
+    sym (ap (map (λ name. bytes_eq name (98 ∷ []))) (names_are (98 ∷ []))) ∙
+    (s.exported ∙ ap (map (λ name. false)) (names_are (98 ∷ []))) in cc
 
 pub silent_assignment_example : SilentAssignmentExample
 silent_assignment_example = record { one_to_one = is_renaming; agree = agree; other_value = other_value }

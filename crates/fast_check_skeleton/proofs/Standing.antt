@@ -1,6 +1,6 @@
 -- A skeleton stands in the grammar: where there is no fault, each declarator has its type.
-use Rattle.std.specs.Prelude.{◌≡◌, ℕ, zero, suc, ◌<◌, ◌≤◌, Bool, true, false, not, ◌&&◌, ◌||◌, IsTrue, ◌⊎◌, Option, Some, None, List, [], ◌∷◌, refl}
-use Rattle.std.specs.Prelude.{if◌then◌else◌}
+use Rattle.std.specs.Prelude.{◌≡◌, ℕ, zero, suc, ◌<◌, ◌≤◌, Bool, true, false, not, ◌&&◌, ◌||◌, IsTrue, ◌⊎◌, Option, Some, None, List, []}
+use Rattle.std.specs.Prelude.{◌∷◌, refl, if◌then◌else◌}
 use Rattle.std.proofs.Common.{arith, ap, ◌∙◌, sym, subst, subst₂, inl, inr, append-nil}
 use Rattle.fast_check_syntax.specs.declared.kind.Kind.{Kind}
 use Rattle.fast_check_syntax.specs.declared.kind.Kind.TheVariants as kinds
@@ -13,24 +13,28 @@ use Rattle.fast_check_syntax.specs.Shape.{◌is◌, kind_of, parts, is_absent, f
 use Rattle.fast_check_syntax.proofs.Made.{kind_of_node, parts_node, part_node, is_absent_node, flag_of_flag}
 use Rattle.fast_check_program_forms.specs.Names.{Ident-span}
 use Rattle.fast_check_expression_forms.specs.Expressions.{ClassExpr-ident, ClassExpr-class, FnExpr-ident, FnExpr-function}
-use Rattle.fast_check_program_forms.specs.ModuleDecls.{ExportDecl-span, ExportDecl-decl, ImportDecl-specifiers, NamedExport-specifiers, ExportAll-span}
-use Rattle.fast_check_program_forms.specs.ModuleDecls.{TsImportEqualsDecl-span, ExportDefaultExpr-span, ExportDefaultExpr-expr, ExportDefaultDecl-span}
-use Rattle.fast_check_program_forms.specs.ModuleDecls.{ExportDefaultDecl-decl, export_default_expr}
+use Rattle.fast_check_program_forms.specs.ModuleDecls.{ExportDecl-span, ExportDecl-decl, ImportDecl-specifiers, NamedExport-specifiers}
+use Rattle.fast_check_program_forms.specs.ModuleDecls.{ExportAll-span, TsImportEqualsDecl-span, ExportDefaultExpr-span}
+use Rattle.fast_check_program_forms.specs.ModuleDecls.{ExportDefaultExpr-expr, ExportDefaultDecl-span, ExportDefaultDecl-decl}
+use Rattle.fast_check_program_forms.specs.ModuleDecls.{export_default_expr}
 use Rattle.fast_check_program_forms.specs.Programs.{Module-span, Module-shebang}
-use Rattle.fast_check_statement_forms.specs.Declarations.{ClassDecl-ident, ClassDecl-declare, ClassDecl-class, class_decl}
-use Rattle.fast_check_statement_forms.specs.Declarations.{FnDecl-ident, FnDecl-declare, FnDecl-function, fn_decl}
-use Rattle.fast_check_statement_forms.specs.Declarations.{VarDecl-span, VarDecl-ctxt, VarDecl-kind, VarDecl-declare, VarDecl-decls, var_decl}
-use Rattle.fast_check_statement_forms.specs.Declarations.{VarDeclarator-name, VarDeclarator-init}
+use Rattle.fast_check_statement_forms.specs.Declarations.{ClassDecl-ident, ClassDecl-declare, ClassDecl-class, class_decl, FnDecl-ident}
+use Rattle.fast_check_statement_forms.specs.Declarations.{FnDecl-declare, FnDecl-function, fn_decl, VarDecl-span, VarDecl-ctxt}
+use Rattle.fast_check_statement_forms.specs.Declarations.{VarDecl-kind, VarDecl-declare, VarDecl-decls, var_decl, VarDeclarator-name}
+use Rattle.fast_check_statement_forms.specs.Declarations.{VarDeclarator-init}
 use Rattle.fast_check_statement_forms.specs.Statements.{ExprStmt-expr}
 use Rattle.fast_check_helpers.specs.Builders.{type_ann, never_value}
 use Rattle.fast_check_helpers.specs.declared.literal_type.DeclMutabilityKind.{DeclMutabilityKind}
 use Rattle.fast_check_helpers.specs.InferredType.{inferred_type}
 use Rattle.fast_check_statement_forms.specs.TsDeclarations.{TsModuleDecl-span, TsModuleDecl-declare, TsModuleDecl-global, TsModuleDecl-id}
 use Rattle.fast_check_ranges.specs.Ranges.{range_of_node}
-use Rattle.fast_check_signatures.specs.declared.fault.FaultKind.TheVariants.{UnsupportedGlobalModule, UnsupportedAmbientModule, MissingExplicitType, UnsupportedDefaultExportExpr, UnsupportedUsing}
+use Rattle.fast_check_signatures.specs.declared.fault.FaultKind.TheVariants.{UnsupportedGlobalModule, UnsupportedAmbientModule}
+use Rattle.fast_check_signatures.specs.declared.fault.FaultKind.TheVariants.{MissingExplicitType, UnsupportedDefaultExportExpr}
+use Rattle.fast_check_signatures.specs.declared.fault.FaultKind.TheVariants.{UnsupportedUsing}
 use Rattle.fast_check_signatures.specs.declared.function_kind.FunctionKind.TheVariants.{DeclarationLike}
 use Rattle.fast_check_signatures.specs.Seen.{Seen, written, range, scope, flag, round, listed, faulty, seens}
-use Rattle.fast_check_signatures.specs.Answers.{Answer, faultless, joined, visited, with_tree, round_answer, fault_at, answer_to, parts_answer, answer_of}
+use Rattle.fast_check_signatures.specs.Answers.{Answer, faultless, joined, visited, with_tree, round_answer, fault_at, answer_to}
+use Rattle.fast_check_signatures.specs.Answers.{parts_answer, answer_of}
 use Rattle.fast_check_signatures.specs.Expressions.{expr_seen}
 use Rattle.fast_check_signatures.proofs.Choices.{of_choice, no_left, not_empty}
 use Rattle.fast_check_skeleton.specs.TypedGrammar.{IsLeavable, IsTypedFunction}
@@ -42,7 +46,8 @@ use Rattle.fast_check_skeleton.proofs.TypedClasses.{ambient_stands, class_stays}
 use Rattle.fast_check_skeleton.proofs.Present.{stays_there}
 use Rattle.fast_check_skeleton.proofs.Typed.{expr_stays, function_is_typed, implementation_is_typed}
 use Rattle.fast_check_skeleton.specs.declared.rules.DeclRule.{DeclRule}
-use Rattle.fast_check_skeleton.specs.declared.rules.DeclRule.TheVariants.{Variables, Function, Class, Standing, Namespace, Using, NoDeclaration}
+use Rattle.fast_check_skeleton.specs.declared.rules.DeclRule.TheVariants.{Variables, Function, Class, Standing, Namespace, Using}
+use Rattle.fast_check_skeleton.specs.declared.rules.DeclRule.TheVariants.{NoDeclaration}
 use Rattle.fast_check_skeleton.specs.declared.rules.DefaultRule.{DefaultRule}
 use Rattle.fast_check_skeleton.specs.declared.rules.DefaultRule.TheVariants as defaults
 use Rattle.fast_check_skeleton.specs.declared.rules.DefaultRule.TheVariants.{Value, Interface}
@@ -58,14 +63,16 @@ use Rattle.fast_check_skeleton.specs.Mutability.{mutability_of}
 use Rattle.fast_check_skeleton.specs.Rules.{decl_rule, expr_stmt_rule, default_rule, is_require, rule_of_kind}
 use Rattle.fast_check_skeleton.specs.Surroundings.{Surroundings, inside}
 use Rattle.fast_check_skeleton.specs.Namespaces.{is_ambient_module, is_namespace, items_inside, namespace_round, namespace_with}
-use Rattle.fast_check_skeleton.specs.Visible.{declared_ident, declared_type, value_seen, untyped_seen}
-use Rattle.fast_check_skeleton.specs.Visible.{declarator_seen, is_ambient_statement, is_public_declarator, declarator_in, public_declarator, public_declarators}
-use Rattle.fast_check_skeleton.specs.Visible.{statement_seen, signature_of, function_decl_seen, public_function, is_ambient_class, class_in, class_decl_seen}
-use Rattle.fast_check_skeleton.specs.Visible.{public_class, is_public_using, using_place, ItemLook, body_seen, namespace_seen, decl_form, exported_seen}
-use Rattle.fast_check_skeleton.specs.Visible.{form_by_rule, item_look, item_seen, decl_seen, seen_by_rule, items_of}
+use Rattle.fast_check_skeleton.specs.Visible.{declared_ident, declared_type, value_seen, untyped_seen, declarator_seen}
+use Rattle.fast_check_skeleton.specs.Visible.{is_ambient_statement, is_public_declarator, declarator_in, public_declarator}
+use Rattle.fast_check_skeleton.specs.Visible.{public_declarators, statement_seen, signature_of, function_decl_seen, public_function}
+use Rattle.fast_check_skeleton.specs.Visible.{is_ambient_class, class_in, class_decl_seen, public_class, is_public_using, using_place}
+use Rattle.fast_check_skeleton.specs.Visible.{ItemLook, body_seen, namespace_seen, decl_form, exported_seen, form_by_rule, item_look}
+use Rattle.fast_check_skeleton.specs.Visible.{item_seen, decl_seen, seen_by_rule, items_of}
 use Rattle.fast_check_skeleton.specs.Skeleton.{transformed, skeleton_of, faults_of}
 use Rattle.fast_check_skeleton.specs.Grammar.{IsTypedDeclarator, IsTypedStatement, IsTypedFunctionDecl, IsTypedClassDecl, IsTypedDecl}
-use Rattle.fast_check_skeleton.specs.Grammar.{IsTypedDefaultDecl, IsLink, IsPlainItem, IsTypedItem, IsTypedNamespace, AllTypedItems, IsSkeleton}
+use Rattle.fast_check_skeleton.specs.Grammar.{IsTypedDefaultDecl, IsLink, IsPlainItem, IsTypedItem, IsTypedNamespace, AllTypedItems}
+use Rattle.fast_check_skeleton.specs.Grammar.{IsSkeleton}
 use Rattle.fast_check_skeleton.specs.Grammar as g
 use Rattle.fast_check_skeleton.proofs.StandingNamespaces.{namespace_is, namespace_typed}
 use Rattle.fast_check_skeleton.specs.Rules.{is_assigned}
@@ -100,7 +107,8 @@ module _ (around : Surroundings) (mutability : DeclMutabilityKind) (d : Tree) wh
   value_stays : Stays Gives (answer_to (value_seen around name_place value))
   value_stays =
       of_choice (λ s. Stays Gives (answer_to s)) (is_absent value) _ _ (λ e f. tt)
-      (λ e f. both_some (λ v. is_absent v ≡ false) (IsLeavable around.bindings) (answer_to (expr_seen around.bindings value (Some name_place))).stays
+      (λ e f. both_some (λ v. is_absent v ≡ false) (IsLeavable around.bindings)
+      (answer_to (expr_seen around.bindings value (Some name_place))).stays
       (stays_there around.bindings value (Some name_place) e) (expr_stays around.bindings value (Some name_place) f))
 
   untyped_stays : (o : Option Tree) → StaysTyped (untyped_seen around d o)
@@ -112,7 +120,8 @@ module _ (around : Surroundings) (mutability : DeclMutabilityKind) (d : Tree) wh
   declarator_stays : StaysTyped (declarator_seen around mutability d)
   declarator_stays =
       of_choice StaysTyped (kind_of (VarDeclarator-name d) is BindingIdent) _ _
-      (λ e. of_choice StaysTyped (is_absent (declared_type d)) _ _ (λ absent. untyped_stays (inferred_type mutability around.bindings.unresolved value))
+      (λ e. of_choice StaysTyped (is_absent (declared_type d)) _ _
+      (λ absent. untyped_stays (inferred_type mutability around.bindings.unresolved value))
       (λ present f. typed around.bindings _ _ _ (declared_type d) never_value (inl (present, refl))))
       (λ e f. not_empty f)
 
@@ -127,7 +136,8 @@ module _ (around : Surroundings) (mutability : DeclMutabilityKind) (d : Tree) wh
   pub declarator_one : IsOne (declarator_seen around mutability d)
   declarator_one =
       of_choice IsOne (kind_of (VarDeclarator-name d) is BindingIdent) _ _
-      (λ e. of_choice IsOne (is_absent (declared_type d)) _ _ (λ absent. untyped_one (inferred_type mutability around.bindings.unresolved value))
+      (λ e. of_choice IsOne (is_absent (declared_type d)) _ _
+      (λ absent. untyped_one (inferred_type mutability around.bindings.unresolved value))
       (λ present. (_, refl)))
       (λ e. (Absent, refl))
 
@@ -137,10 +147,12 @@ module _ (around : Surroundings) where
   abbrev Typed' : Tree → Type 0
   Typed' = IsTypedDeclarator around.bindings
 
-  declarators_stay : (statement : Tree) → is_ambient_statement around statement ≡ false → AllStay Typed' (public_declarators around statement)
+  declarators_stay : (statement : Tree) → is_ambient_statement around statement ≡ false →
+      AllStay Typed' (public_declarators around statement)
   declarators_stay statement n = all_flat Typed' (public_declarator around statement) (parts (VarDecl-decls statement))
       (λ d. all_if Typed' (is_public_declarator around d) (declarator_in around statement d)
-      (let P : Bool → Type 0 = λ a. Stays Typed' (answer_to (if a then written d else declarator_seen around (mutability_of (VarDecl-kind statement)) d)) in
+      (let P : Bool → Type 0 =
+      λ a. Stays Typed' (answer_to (if a then written d else declarator_seen around (mutability_of (VarDecl-kind statement)) d)) in
       subst P (sym n) (declarator_stays around (mutability_of (VarDecl-kind statement)) d)))
 
   abbrev made_parts : Tree → List Tree → List Tree
@@ -148,7 +160,8 @@ module _ (around : Surroundings) where
       tree.Flag (VarDecl-declare statement) ∷ list ds ∷ []
 
   abbrev made : Tree → List Tree → Tree
-  made statement ds = var_decl (VarDecl-span statement) (VarDecl-ctxt statement) (VarDecl-kind statement) (VarDecl-declare statement) (list ds)
+  made statement ds = var_decl (VarDecl-span statement) (VarDecl-ctxt statement) (VarDecl-kind statement) (VarDecl-declare statement)
+      (list ds)
 
   abbrev statement_form : Tree → List Seen → Seen
   statement_form statement ds =
@@ -157,10 +170,13 @@ module _ (around : Surroundings) where
 
   -- what stands of a statement
   pub statement_is : (statement : Tree) (ds : List Seen) →
-      answer_to (statement_form statement ds) ≡ (record { stays = Some (made statement (answer_of ds).stays); faults = (answer_of ds).faults })
-  statement_is statement ds = λ i. record { stays = Some (made statement (answer_of ds).stays); faults = append-nil (answer_of ds).faults i }
+      answer_to
+      (statement_form statement ds) ≡ (record { stays = Some (made statement (answer_of ds).stays); faults = (answer_of ds).faults })
+  statement_is statement ds =
+      λ i. record { stays = Some (made statement (answer_of ds).stays); faults = append-nil (answer_of ds).faults i }
 
-  ambient_or_typed : (statement : Tree) (ds : List Tree) (a : Bool) → is_ambient_statement around statement ≡ a → (a ≡ false → OfAll Typed' ds) →
+  ambient_or_typed : (statement : Tree) (ds : List Tree) (a : Bool) → is_ambient_statement around statement ≡ a →
+      (a ≡ false → OfAll Typed' ds) →
       IsTrue (around.is_ambient || VarDecl-declare (node VarDecl (made_parts statement ds))) ⊎
       OfAll Typed' (parts (VarDecl-decls (node VarDecl (made_parts statement ds))))
   ambient_or_typed statement ds true q p =
@@ -173,13 +189,15 @@ module _ (around : Surroundings) where
   abbrev Statement : Tree → Type 0
   Statement = IsTypedStatement around.bindings around.is_ambient
 
-  statement_stays : (statement : Tree) (ds : List Seen) → (is_ambient_statement around statement ≡ false → Holds (OfAll Typed') (answer_of ds)) →
+  statement_stays : (statement : Tree) (ds : List Seen) →
+      (is_ambient_statement around statement ≡ false → Holds (OfAll Typed') (answer_of ds)) →
       AllStay Statement (statement_seen statement ds)
   statement_stays statement [] p = tt
   statement_stays statement (d ∷ ds) p = (
     λ f. record {
       kind = kind_of_node VarDecl (made_parts statement (answer_of (d ∷ ds)).stays);
-      declarators = ambient_or_typed statement (answer_of (d ∷ ds)).stays (is_ambient_statement around statement) refl (λ n. p n (no_left _ [] f));
+      declarators = ambient_or_typed statement (answer_of (d ∷ ds)).stays (is_ambient_statement around statement) refl
+          (λ n. p n (no_left _ [] f));
     },
     tt,
   )
@@ -189,7 +207,8 @@ module _ (around : Surroundings) where
   abbrev Function' : Tree → Type 0
   Function' = IsTypedFunctionDecl around.bindings around.is_ambient
 
-  function_made : (decl function : Tree) → IsTypedFunction around.bindings function → Function' (fn_decl (FnDecl-ident decl) (FnDecl-declare decl) function)
+  function_made : (decl function : Tree) → IsTypedFunction around.bindings function →
+      Function' (fn_decl (FnDecl-ident decl) (FnDecl-declare decl) function)
   function_made decl function h =
       let same : FnDecl-function (fn_decl (FnDecl-ident decl) (FnDecl-declare decl) function) ≡ function = part_node _ _ _ in
       record { kind = kind_of_node _ _; function = inr (subst (IsTypedFunction around.bindings) (sym same) h) }
@@ -197,7 +216,8 @@ module _ (around : Surroundings) where
   abbrev signed : Tree → Seen → Seen
   signed decl s = round FnDecl (seens (written (FnDecl-ident decl) ∷ flag (FnDecl-declare decl) ∷ s ∷ []))
 
-  signed_stays : (decl : Tree) (s : Seen) → Stays (IsTypedFunction around.bindings) (answer_to s) → Stays Function' (answer_to (signed decl s))
+  signed_stays : (decl : Tree) (s : Seen) → Stays (IsTypedFunction around.bindings) (answer_to s) →
+      Stays Function' (answer_to (signed decl s))
   signed_stays decl s p =
       let ident = FnDecl-ident decl in
       let declare = tree.Flag (FnDecl-declare decl) in
@@ -206,9 +226,11 @@ module _ (around : Surroundings) where
       (parts_answer (seens (written ident ∷ written declare ∷ s ∷ [])))
       (written_before (λ ts. Function' (node FnDecl ts)) ident (visited (faultless (Some declare)) last)
       (written_before (λ ts. Function' (node FnDecl (ident ∷ ts))) declare last
-      (last_stays (IsTypedFunction around.bindings) (λ ts. Function' (node FnDecl (ident ∷ declare ∷ ts))) (function_made decl) (answer_to s) p)))
+      (last_stays (IsTypedFunction around.bindings) (λ ts. Function' (node FnDecl (ident ∷ declare ∷ ts))) (function_made decl)
+      (answer_to s) p)))
 
-  signature_stays : (place : SourceRange) (decl : Tree) → Stays (IsTypedFunction around.bindings) (answer_to (signature_of around place decl))
+  signature_stays : (place : SourceRange) (decl : Tree) → Stays (IsTypedFunction around.bindings)
+      (answer_to (signature_of around place decl))
   signature_stays place decl =
       of_choice (λ s. Stays (IsTypedFunction around.bindings) (answer_to s)) (around.is_implementation place) _ _
       (λ e f. implementation_is_typed around.bindings (FnDecl-function decl))
@@ -217,7 +239,8 @@ module _ (around : Surroundings) where
   function_stays : (place : SourceRange) (decl : Tree) → kind_of decl ≡ FnDecl → AllStay Function' (public_function around place decl)
   function_stays place decl k = all_if Function' (around.is_public place) (function_decl_seen around place decl) (go around.is_ambient refl)
     where
-      go : (b : Bool) → around.is_ambient ≡ b → Stays Function' (answer_to (if b then written decl else signed decl (signature_of around place decl)))
+      go : (b : Bool) → around.is_ambient ≡ b →
+          Stays Function' (answer_to (if b then written decl else signed decl (signature_of around place decl)))
       go true q = λ f. record { kind = k; function = inl q }
       go false q = signed_stays decl (signature_of around place decl) (signature_stays place decl)
 
@@ -235,10 +258,12 @@ module _ (around : Surroundings) where
   class_made decl class h =
       let made = class_decl (ClassDecl-ident decl) (ClassDecl-declare decl) class in
       let same : ClassDecl-class made ≡ class = part_node _ _ _ in
-      let declare : ClassDecl-declare made ≡ ClassDecl-declare decl = ap flag_of (part_node _ _ _) ∙ flag_of_flag (ClassDecl-declare decl) in
+      let declare : ClassDecl-declare made ≡ ClassDecl-declare decl = ap flag_of (part_node _ _ _) ∙
+      flag_of_flag (ClassDecl-declare decl) in
       record {
         kind = kind_of_node _ _;
-        class = subst₂ (λ d c. (IsTrue (around.is_ambient || d) × IsAmbientClass c) ⊎ IsTypedClass around.bindings c) (sym declare) (sym same) h;
+        class = subst₂ (λ d c. (IsTrue (around.is_ambient || d) × IsAmbientClass c) ⊎ IsTypedClass around.bindings c) (sym declare)
+            (sym same) h;
       }
 
   abbrev classed : Tree → Seen → Seen
@@ -287,19 +312,23 @@ module _ (around : Surroundings) where
   is_plain Namespace = false
   is_plain _ = true
 
-  decl_stays : (look : ItemLook) (place : SourceRange) (decl : Tree) (rule : DeclRule) → decl_rule (kind_of decl) ≡ rule → is_plain rule ≡ true →
+  decl_stays : (look : ItemLook) (place : SourceRange) (decl : Tree) (rule : DeclRule) → decl_rule (kind_of decl) ≡ rule →
+      is_plain rule ≡ true →
       AllStay IsDecl (decl_form look around place decl rule)
   decl_stays look place decl Variables q n =
       all_weaker Statement IsDecl (λ t h. inl h) (statement_seen decl (public_declarators around decl))
-      (statement_stays decl (public_declarators around decl) (λ n. all_hold Typed' (public_declarators around decl) (declarators_stay decl n)))
+      (statement_stays decl (public_declarators around decl)
+      (λ n. all_hold Typed' (public_declarators around decl) (declarators_stay decl n)))
   decl_stays look place decl Function q n =
-      all_weaker Function' IsDecl (λ t h. inr (inl h)) (public_function around place decl) (function_stays place decl (function_kind (kind_of decl) q))
+      all_weaker Function' IsDecl (λ t h. inr (inl h)) (public_function around place decl)
+      (function_stays place decl (function_kind (kind_of decl) q))
   decl_stays look place decl Class q n =
       all_weaker Class' IsDecl (λ t h. inr (inr (inl h))) (public_class around place decl) (class_decl_stays place decl)
   decl_stays look place decl Standing q n =
       all_if IsDecl (around.is_public place) (written decl) (λ f. inr (inr (inr (standing_kind (kind_of decl) q))))
   decl_stays look place decl Namespace q n = cc
-  decl_stays look place decl Using q n = all_if IsDecl (is_public_using around place decl) (faulty UnsupportedUsing (using_place decl)) (λ f. not_empty f)
+  decl_stays look place decl Using q n = all_if IsDecl (is_public_using around place decl) (faulty UnsupportedUsing (using_place decl))
+      (λ f. not_empty f)
   decl_stays look place decl NoDeclaration q n = tt
 
   -- namespaces, where what is seen of the lower items stays
@@ -312,9 +341,12 @@ module _ (around : Surroundings) where
       items = body_seen item_look (inside around decl) (items_inside decl)
 
       stays : is_namespace decl ≡ true → Stays IsNamespace (answer_to (namespace_round items decl))
-      stays e = subst (Stays IsNamespace) (sym (namespace_is items decl)) (λ f. namespace_typed around.bindings around.is_ambient decl (answer_of items).stays
-          e (body_stands (inside around decl) (items_inside decl) (all_below (IsTypedItem around.bindings (around.is_ambient || TsModuleDecl-declare decl))
-          (λ u. item_look u (inside around decl)) limit (items_inside decl) (items_below limit decl low) (λ u l. h u (inside around decl) l)) f))
+      stays e = subst (Stays IsNamespace) (sym (namespace_is items decl))
+          (λ f. namespace_typed around.bindings around.is_ambient decl (answer_of items).stays
+          e (body_stands (inside around decl) (items_inside decl)
+          (all_below (IsTypedItem around.bindings (around.is_ambient || TsModuleDecl-declare decl))
+          (λ u. item_look u (inside around decl)) limit (items_inside decl) (items_below limit decl low)
+          (λ u l. h u (inside around decl) l)) f))
 
       go : (x y : Bool) → TsModuleDecl-global decl ≡ x → is_ambient_module decl ≡ y → AllStay IsNamespace
           (if x then faulty UnsupportedGlobalModule (TsModuleDecl-span decl) ∷ []
@@ -352,7 +384,8 @@ module _ (around : Surroundings) where
 
   namespace_one : (look : ItemLook) (place : SourceRange) (decl : Tree) → OneTree (namespace_seen look around place decl)
   namespace_one look place decl =
-      of_choice OneTree (TsModuleDecl-global decl) _ _ (λ e. (Absent, refl)) (λ e. of_choice OneTree (is_ambient_module decl) _ _ (λ e. (Absent, refl))
+      of_choice OneTree (TsModuleDecl-global decl) _ _ (λ e. (Absent, refl))
+      (λ e. of_choice OneTree (is_ambient_module decl) _ _ (λ e. (Absent, refl))
       (λ e. one_if (around.is_public place) (namespace_round (body_seen look (inside around decl) (items_inside decl)) decl) (
         namespace_with (answer_of (body_seen look (inside around decl) (items_inside decl))).stays decl,
         ap (λ a. a.stays) (namespace_is (body_seen look (inside around decl) (items_inside decl)) decl),
@@ -376,14 +409,16 @@ module _ (around : Surroundings) where
   exported export decl = node ExportDecl (tree.Range (ExportDecl-span export) ∷ decl ∷ [])
 
   abbrev export_with : Tree → Answer (Option Tree) → Answer (Option Tree)
-  export_with export a = round_answer ExportDecl (visited (faultless (Some (tree.Range (ExportDecl-span export)))) (visited a (faultless (Some []))))
+  export_with export a =
+      round_answer ExportDecl (visited (faultless (Some (tree.Range (ExportDecl-span export)))) (visited a (faultless (Some []))))
 
   -- what stands of an export of one form
   export_answer : (export : Tree) (s : Seen) (one : OneTree (s ∷ [])) →
       answer_to (round ExportDecl (seens (range (ExportDecl-span export) ∷ s ∷ []))) ≡
       (record { stays = Some (exported export one.0); faults = (answer_to s).faults })
   export_answer export s one =
-      let same : answer_to s ≡ record { stays = Some one.0; faults = (answer_to s).faults } = λ i. record { stays = one.1 i; faults = (answer_to s).faults } in
+      let same : answer_to s ≡ record { stays = Some one.0; faults = (answer_to s).faults } =
+      λ i. record { stays = one.1 i; faults = (answer_to s).faults } in
       ap (export_with export) same ∙ (λ i. record { stays = Some (exported export one.0); faults = append-nil (answer_to s).faults i })
 
   pub export_one : (export : Tree) (ss : List Seen) → OneTree ss → OneTree (exported_seen export ss)
@@ -401,7 +436,8 @@ module _ (around : Surroundings) where
   exported_stays export decl h =
       let same : ExportDecl-decl (exported export decl) ≡ decl = part_node _ _ _ in inr (inl (kind_of_node _ _, subst IsDecl (sym same) h))
 
-  export_stays : (D I : Tree → Type 0) (export : Tree) → ((decl : Tree) → D decl → I (exported export decl)) → (ss : List Seen) → OneTree ss →
+  export_stays : (D I : Tree → Type 0) (export : Tree) → ((decl : Tree) → D decl → I (exported export decl)) → (ss : List Seen) →
+      OneTree ss →
       AllStay D ss → AllStay I (exported_seen export ss)
   export_stays D I export made [] one p = tt
   export_stays D I export made (s ∷ []) one p =
@@ -424,7 +460,8 @@ module _ (around : Surroundings) where
   link : (t : Tree) → IsLink t → IsPlain t
   link t h = inr (inr (inr h))
 
-  with_stays : (make : List Tree → Tree) → ((ts : List Tree) → IsPlain (make ts)) → (ts : List Tree) → AllStay IsPlain (with_specifiers make ts)
+  with_stays : (make : List Tree → Tree) → ((ts : List Tree) → IsPlain (make ts)) → (ts : List Tree) →
+      AllStay IsPlain (with_specifiers make ts)
   with_stays make p [] = tt
   with_stays make p (t ∷ ts) = ((λ f. p (t ∷ ts)), tt)
 
@@ -434,14 +471,17 @@ module _ (around : Surroundings) where
 
   names_stay : (item : Tree) → AllStay IsPlain (link_seen around item Export)
   names_stay item =
-      with_stays (l.export_with around item) (λ ts. link _ (inr (inl (kind_of_node _ _)))) (public_specifiers around (NamedExport-specifiers item))
+      with_stays (l.export_with around item) (λ ts. link _ (inr (inl (kind_of_node _ _))))
+      (public_specifiers around (NamedExport-specifiers item))
 
   all_stays : (item : Tree) → AllStay IsPlain (link_seen around item All)
   all_stays item = all_if IsPlain (around.is_public (ExportAll-span item)) (written (all_exported around item))
       (λ f. link _ (inr (inr (inl (kind_of_node _ _)))))
 
-  alias_stays : (item : Tree) → kind_of item ≡ kinds.TsImportEqualsDecl → is_require item ≡ false → AllStay IsPlain (link_seen around item Alias)
-  alias_stays item k n = all_if IsPlain (around.is_public (TsImportEqualsDecl-span item)) (written item) (λ f. link item (inr (inr (inr (k, n)))))
+  alias_stays : (item : Tree) → kind_of item ≡ kinds.TsImportEqualsDecl → is_require item ≡ false →
+      AllStay IsPlain (link_seen around item Alias)
+  alias_stays item k n = all_if IsPlain (around.is_public (TsImportEqualsDecl-span item)) (written item)
+      (λ f. link item (inr (inr (inr (k, n)))))
 
   with_one : (make : List Tree → Tree) (ts : List Tree) → OneTree (with_specifiers make ts)
   with_one make [] = tt
@@ -459,7 +499,8 @@ module _ (around : Surroundings) where
   abbrev pair : Kind → Tree → Seen → Seen
   pair kind t s = round kind (seens (written t ∷ s ∷ []))
 
-  pair_stays : (kind : Kind) (P Q : Tree → Type 0) (t : Tree) (s : Seen) → ((u : Tree) → P u → Q (node kind (t ∷ u ∷ []))) → Stays P (answer_to s) →
+  pair_stays : (kind : Kind) (P Q : Tree → Type 0) (t : Tree) (s : Seen) → ((u : Tree) → P u → Q (node kind (t ∷ u ∷ []))) →
+      Stays P (answer_to s) →
       Stays Q (answer_to (pair kind t s))
   pair_stays kind P Q t s f p =
       let last = visited (answer_to s) (faultless (Some [])) in
@@ -468,7 +509,8 @@ module _ (around : Surroundings) where
 
   pair_one : (kind : Kind) (t : Tree) (s : Seen) → OneTree (s ∷ []) → OneTree (pair kind t s ∷ [])
   pair_one kind t s one =
-      let same : answer_to s ≡ record { stays = Some one.0; faults = (answer_to s).faults } = λ i. record { stays = one.1 i; faults = (answer_to s).faults } in
+      let same : answer_to s ≡ record { stays = Some one.0; faults = (answer_to s).faults } =
+      λ i. record { stays = one.1 i; faults = (answer_to s).faults } in
       (_, ap (λ a. (round_answer kind (visited (faultless (Some t)) (visited a (faultless (Some []))))).stays) same)
 
   abbrev IsDefaultDecl : Tree → Type 0
@@ -482,7 +524,8 @@ module _ (around : Surroundings) where
   default_value_stays : (item : Tree) → Stays IsPlain (answer_to (default_value_seen around item))
   default_value_stays item =
       let value = ExportDefaultExpr-expr item in
-      λ f. default_value_made _ _ (demanded_holds (IsLeavable around.bindings) (fault_at UnsupportedDefaultExportExpr (ExportDefaultExpr-span item))
+      λ f. default_value_made _ _
+      (demanded_holds (IsLeavable around.bindings) (fault_at UnsupportedDefaultExportExpr (ExportDefaultExpr-span item))
       (answer_to (expr_seen around.bindings value None)) (expr_stays around.bindings value None) f)
 
   default_made : (span : SourceRange) (decl : Tree) → IsDefaultDecl decl → IsPlain (node ExportDefaultDecl (tree.Range span ∷ decl ∷ []))
@@ -510,17 +553,20 @@ module _ (around : Surroundings) where
       Stays IsDefaultDecl (answer_to (default_function_seen around place decl))
   default_function_stays place decl k =
       of_choice (λ s. Stays IsDefaultDecl (answer_to s)) around.is_ambient _ _ (λ e f. inr (inl (k, inl e)))
-      (λ e. pair_stays kinds.FnExpr (IsTypedFunction around.bindings) IsDefaultDecl (FnExpr-ident decl) (default_signature around place decl) made'
+      (λ e. pair_stays kinds.FnExpr (IsTypedFunction around.bindings) IsDefaultDecl (FnExpr-ident decl)
+      (default_signature around place decl) made'
       (of_choice (λ s. Stays (IsTypedFunction around.bindings) (answer_to s)) (around.is_implementation place) _ _
       (λ e f. implementation_is_typed around.bindings (FnExpr-function decl))
       (λ e. function_is_typed around.bindings DeclarationLike (default_place decl) (FnExpr-function decl) refl)))
     where
-      made' : (function : Tree) → IsTypedFunction around.bindings function → IsDefaultDecl (node kinds.FnExpr (FnExpr-ident decl ∷ function ∷ []))
+      made' : (function : Tree) → IsTypedFunction around.bindings function →
+          IsDefaultDecl (node kinds.FnExpr (FnExpr-ident decl ∷ function ∷ []))
       made' function h =
           let same : FnExpr-function (node kinds.FnExpr (FnExpr-ident decl ∷ function ∷ [])) ≡ function = part_node _ _ _ in
           inr (inl (kind_of_node _ _, inr (subst (IsTypedFunction around.bindings) (sym same) h)))
 
-  default_stays : (item : Tree) (k : Kind) → kind_of (ExportDefaultDecl-decl item) ≡ k → AllStay IsPlain (seen_by_rule around item (default_rule k))
+  default_stays : (item : Tree) (k : Kind) → kind_of (ExportDefaultDecl-decl item) ≡ k →
+      AllStay IsPlain (seen_by_rule around item (default_rule k))
   default_stays item kinds.ClassExpr q =
       let decl = ExportDefaultDecl-decl item in public_default_stays item (default_class_seen around decl) (default_class_stays decl)
   default_stays item kinds.FnExpr q =
@@ -561,7 +607,8 @@ module _ (around : Surroundings) where
   pub item_one : (item : Tree) (rule : ItemRule) → is_assigned rule ≡ false → OneTree (seen_by_rule around item rule)
   item_one item (Declared rule) e = decl_one (range_of_node item) item rule
   item_one item (Exported rule) e =
-      export_one item (decl_seen around (ExportDecl-span item) (ExportDecl-decl item) rule) (decl_one (ExportDecl-span item) (ExportDecl-decl item) rule)
+      export_one item (decl_seen around (ExportDecl-span item) (ExportDecl-decl item) rule)
+      (decl_one (ExportDecl-span item) (ExportDecl-decl item) rule)
   item_one item (Linked rule) e = link_one item rule
   item_one item (Default rule) e = default_one item rule
   item_one item (Refused kind) e = (Absent, refl)
@@ -572,7 +619,8 @@ module _ (around : Surroundings) where
   as_items ss p = all_weaker IsPlain IsItem (λ t h. g.IsTypedItem.plain h) ss p
 
 -- an item, where what is seen of the lower items stays
-module _ (limit : ℕ) (stay : (u : Tree) (here : Surroundings) → height u < limit → AllStay (IsTypedItem here.bindings here.is_ambient) (item_look u here))
+module _ (limit : ℕ)
+    (stay : (u : Tree) (here : Surroundings) → height u < limit → AllStay (IsTypedItem here.bindings here.is_ambient) (item_look u here))
     (around : Surroundings) (item : Tree) (low : height item ≤ limit) where
   abbrev Form : ItemRule → Type 0
   Form rule = AllStay (IsItem around) (form_by_rule item_look around item rule)
@@ -607,7 +655,8 @@ module _ (limit : ℕ) (stay : (u : Tree) (here : Surroundings) → height u < l
   exports kinds.TsModuleDecl q =
       let place = ExportDecl-span item in
       let decl = ExportDecl-decl item in
-      export_stays around (IsNamespace around) (IsItem around) item (exported_namespace_stays around item) (namespace_seen item_look around place decl)
+      export_stays around (IsNamespace around) (IsItem around) item (exported_namespace_stays around item)
+      (namespace_seen item_look around place decl)
       (namespace_one around item_look place decl) (namespace_stays around limit stay place decl (omega (arith, height_at_most item 1, low)))
   exports k q = export_of k q refl
 
@@ -621,7 +670,8 @@ module _ (limit : ℕ) (stay : (u : Tree) (here : Surroundings) → height u < l
   form_stays kinds.TsExportAssignment q = ((λ f. not_empty f), tt)
   form_stays kinds.TsNamespaceExportDecl q = ((λ f. not_empty f), tt)
   form_stays kinds.ExportDefaultExpr q =
-      as_items around _ (all_if (IsPlain around) (is_public_value around item) (default_value_seen around item) (default_value_stays around item))
+      as_items around _
+      (all_if (IsPlain around) (is_public_value around item) (default_value_seen around item) (default_value_stays around item))
   form_stays kinds.ExportDefaultDecl q = default_form (kind_of (ExportDefaultDecl-decl item)) refl
     where
       default_form : (k : Kind) → kind_of (ExportDefaultDecl-decl item) ≡ k → Form (default_rule k)
@@ -631,7 +681,8 @@ module _ (limit : ℕ) (stay : (u : Tree) (here : Surroundings) → height u < l
       default_form _ d = tt
   form_stays kinds.ExprStmt q = expression (kind_of (ExprStmt-expr item))
   form_stays kinds.TsModuleDecl q =
-      all_weaker (IsNamespace around) (IsItem around) (λ t h. g.IsTypedItem.declared h) (namespace_seen item_look around (range_of_node item) item)
+      all_weaker (IsNamespace around) (IsItem around) (λ t h. g.IsTypedItem.declared h)
+      (namespace_seen item_look around (range_of_node item) item)
       (namespace_stays around limit stay (range_of_node item) item low)
   form_stays k q = declared k q refl
 
@@ -648,7 +699,8 @@ module _ (around : Surroundings) where
   abbrev module_parts : Tree → List Tree
   module_parts program = tree.Range (Module-span program) ∷ list (transformed around program).stays ∷ Module-shebang program ∷ []
 
-  pub skeleton_stands : (program : Tree) → faults_of around program ≡ [] → IsSkeleton around.bindings around.is_ambient (skeleton_of around program)
+  pub skeleton_stands : (program : Tree) → faults_of around program ≡ [] →
+      IsSkeleton around.bindings around.is_ambient (skeleton_of around program)
   skeleton_stands program e = record {
     kind = kind_of_node Module (module_parts program);
     items = subst (AllTypedItems around.bindings around.is_ambient)

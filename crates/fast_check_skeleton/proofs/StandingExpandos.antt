@@ -1,5 +1,6 @@
 -- The namespaces of expando properties stand in the grammar, where nothing is wrong with the right sides of their assignments.
-use Rattle.std.specs.Prelude.{◌≡◌, ℕ, ◌<◌, Bool, true, false, ◌&&◌, ◌||◌, Option, Some, None, IfSome, List, [], ◌∷◌, ◌++◌, map, refl, if◌then◌else◌}
+use Rattle.std.specs.Prelude.{◌≡◌, ℕ, ◌<◌, Bool, true, false, ◌&&◌, ◌||◌, Option, Some, None, IfSome, List, [], ◌∷◌, ◌++◌, map, refl}
+use Rattle.std.specs.Prelude.{if◌then◌else◌}
 use Rattle.std.proofs.Common.{ap, ◌∙◌, sym, subst, subst₂, inl, inr}
 use Rattle.std.specs.List.{flat_map, list_any}
 use Rattle.fast_check_syntax.specs.declared.atom.Id.{Id}
@@ -39,7 +40,8 @@ use Rattle.fast_check_skeleton.proofs.Typed.{expr_stays}
 use Rattle.fast_check_expandos.specs.declared.properties.ExpandoProperty.{ExpandoProperty}
 use Rattle.fast_check_expandos.specs.declared.references.Reference.{Reference}
 use Rattle.fast_check_expandos.specs.Assignments.{right_seen, missing_place, assignment_seen, kept_property, declared_properties}
-use Rattle.fast_check_expandos.specs.Expandos.{exported_variables, namespace_decl, namespace_item, conflict_seen, namespace_seen, by_object, namespaces_seen}
+use Rattle.fast_check_expandos.specs.Expandos.{exported_variables, namespace_decl, namespace_item, conflict_seen, namespace_seen, by_object}
+use Rattle.fast_check_expandos.specs.Expandos.{namespaces_seen}
 use Rattle.fast_check_expandos.specs.Groups.{others, items_of}
 use Rattle.fast_check_skeleton.specs.Grammar.{HasTypedValue, IsTypedDeclarator, IsTypedItem, IsTypedNamespace, IsTypedBody, AllTypedItems}
 use Rattle.fast_check_skeleton.specs.Grammar as g
@@ -52,7 +54,8 @@ use Rattle.fast_check_skeleton.proofs.Namespaces.{item_seen_is}
 use Rattle.fast_check_skeleton.proofs.StandingNamespaces.{items_stand}
 
 -- a declarator of an identifier with a type and a value that go together
-pub typed : (bindings : Bindings) (span : SourceRange) (ident : Tree) (definite : Bool) (type value : Tree) → HasTypedValue bindings type value →
+pub typed : (bindings : Bindings) (span : SourceRange) (ident : Tree) (definite : Bool) (type value : Tree) →
+    HasTypedValue bindings type value →
     IsTypedDeclarator bindings (var_declarator span (binding_ident ident type) value definite)
 typed bindings span ident definite type value e =
     let made = var_declarator span (binding_ident ident type) value definite in
@@ -105,7 +108,8 @@ module _ (bindings : Bindings) where
   declarators_typed (p ∷ ps) h = (h.0, declarators_typed ps h.1)
 
   module _ (is_ambient : Bool) where
-    variables_typed : (inner : Bool) (ds : List Tree) → OfAll (IsTypedDeclarator bindings) ds → IsTypedItem bindings inner (exported_variables ds)
+    variables_typed : (inner : Bool) (ds : List Tree) → OfAll (IsTypedDeclarator bindings) ds →
+        IsTypedItem bindings inner (exported_variables ds)
     variables_typed inner ds h =
         let decl = var_decl none_range (record { 0 = 0 }) (tree.Word words.Var) false (list ds) in
         let same : ExportDecl-decl (exported_variables ds) ≡ decl = part_node _ _ _ in
@@ -156,10 +160,12 @@ module _ (bindings : Bindings) where
         (conflicts_stay object (flat_map (λ p. p.conflicts) ps))
         ((λ f. item_typed (list_any (λ p. p.is_exported) ps) object.0 (map (λ p. p.declarator) ps) (declarators_typed ps h)), tt)
 
-    each_stays : (es : List (Id × List ExpandoProperty)) → EachTyped es → AllStay (IsTypedItem bindings is_ambient) (flat_map namespace_seen es)
+    each_stays : (es : List (Id × List ExpandoProperty)) → EachTyped es →
+        AllStay (IsTypedItem bindings is_ambient) (flat_map namespace_seen es)
     each_stays [] h = tt
     each_stays (e ∷ es) h =
-        all_append (IsTypedItem bindings is_ambient) (namespace_seen e) (flat_map namespace_seen es) (namespace_stays e h.0) (each_stays es h.1)
+        all_append (IsTypedItem bindings is_ambient) (namespace_seen e) (flat_map namespace_seen es) (namespace_stays e h.0)
+        (each_stays es h.1)
 
     pub namespaces_stay : (ps : List ExpandoProperty) → AllTyped ps → AllStay (IsTypedItem bindings is_ambient) (namespaces_seen ps)
     namespaces_stay ps h = each_stays (by_object ps) (groups_typed ps h)
@@ -192,8 +198,10 @@ module _ (around : Surroundings) (assignment : Tree) where
   kept_typed (Some v) h = (typed around.bindings _ _ _ Absent v (inr h), tt)
 
   declared_if : (p x : Bool) → around.is_public (AssignExpr-span assignment) ≡ p →
-      (answer_of (if p then tested (missing_place around.objects assignment) (right_seen around.bindings assignment) ∷ [] else [])).faults ≡ [] →
-      AllTyped around.bindings (if p && x then kept_property around.objects (AssignExpr-span assignment) (AssignExpr-left assignment) answered.stays else [])
+      (answer_of (if p then tested (missing_place around.objects assignment) (right_seen around.bindings assignment) ∷ [] else [])).faults ≡
+      [] →
+      AllTyped around.bindings
+      (if p && x then kept_property around.objects (AssignExpr-span assignment) (AssignExpr-left assignment) answered.stays else [])
   declared_if false x e f = tt
   declared_if true false e f = tt
   declared_if true true e f =
@@ -224,7 +232,8 @@ module _ (here : Surroundings) where
   items_append [] us g.AllTypedItems.no_items k = k
   items_append (t ∷ ts) us (g.AllTypedItems.next_item h hs) k = g.AllTypedItems.next_item h (items_append ts us hs k)
 
-  by_rule : (u : Tree) (rule : ItemRule) → (answer_of (seen_by_rule here u rule)).faults ≡ [] → AllTyped here.bindings (properties_by_rule here u rule)
+  by_rule : (u : Tree) (rule : ItemRule) → (answer_of (seen_by_rule here u rule)).faults ≡ [] →
+      AllTyped here.bindings (properties_by_rule here u rule)
   by_rule u Assigned e = declared_typed here (ExprStmt-expr u) e
   by_rule u _ e = tt
 

@@ -9,10 +9,11 @@ use Rattle.fast_check_syntax.specs.Shape.{◌is◌, is_kind, kind_of, parts, is_
 use Rattle.fast_check_syntax.specs.Descent.{by_descent_is, given, given_part}
 use Rattle.fast_check_syntax.specs.Height.{height, height_part}
 use Rattle.fast_check_syntax.proofs.Made.{part_node, parts_node, kind_of_node, is_absent_node, flag_of_flag}
-use Rattle.fast_check_statement_forms.specs.TsDeclarations.{TsModuleDecl-span, TsModuleDecl-declare, TsModuleDecl-global, TsModuleDecl-namespace}
-use Rattle.fast_check_statement_forms.specs.TsDeclarations.{TsModuleDecl-id, TsModuleDecl-body, TsModuleBlock-span, TsModuleBlock-body}
-use Rattle.fast_check_statement_forms.specs.TsDeclarations.{TsNamespaceDecl-span, TsNamespaceDecl-declare, TsNamespaceDecl-global, TsNamespaceDecl-id}
-use Rattle.fast_check_statement_forms.specs.TsDeclarations.{TsNamespaceDecl-body, ts_module_block}
+use Rattle.fast_check_statement_forms.specs.TsDeclarations.{TsModuleDecl-span, TsModuleDecl-declare, TsModuleDecl-global}
+use Rattle.fast_check_statement_forms.specs.TsDeclarations.{TsModuleDecl-namespace, TsModuleDecl-id, TsModuleDecl-body, TsModuleBlock-span}
+use Rattle.fast_check_statement_forms.specs.TsDeclarations.{TsModuleBlock-body, TsNamespaceDecl-span, TsNamespaceDecl-declare}
+use Rattle.fast_check_statement_forms.specs.TsDeclarations.{TsNamespaceDecl-global, TsNamespaceDecl-id, TsNamespaceDecl-body}
+use Rattle.fast_check_statement_forms.specs.TsDeclarations.{ts_module_block}
 use Rattle.fast_check_signatures.specs.Bindings.{Bindings}
 use Rattle.fast_check_signatures.specs.Seen.{Seen}
 use Rattle.fast_check_signatures.specs.Answers.{Answer, answer_to, answer_of, faultless, round_answer, visited}
@@ -20,11 +21,13 @@ use Rattle.fast_check_skeleton.proofs.Staying.{Holds, items_hold}
 use Rattle.fast_check_skeleton.proofs.StayingLists.{AllStay}
 use Rattle.fast_check_skeleton.specs.Grammar.{IsTypedItem, IsTypedNamespace, IsTypedBody, AllTypedItems}
 use Rattle.fast_check_skeleton.specs.Grammar as g
-use Rattle.fast_check_skeleton.specs.Namespaces.{is_namespace, body_round, namespace_round, inner_namespace, with_form, body_with, namespace_with}
+use Rattle.fast_check_skeleton.specs.Namespaces.{is_namespace, body_round, namespace_round, inner_namespace, with_form, body_with}
+use Rattle.fast_check_skeleton.specs.Namespaces.{namespace_with}
 use Rattle.fast_check_skeleton.proofs.Namespaces.{is_inner, inner_round, block_round, body_round_is, no_global, no_ambient_module}
 
 abbrev inner_with : Tree → Tree → Tree
-inner_with t body = inner_namespace (TsNamespaceDecl-span t) (TsNamespaceDecl-declare t) (TsNamespaceDecl-global t) (TsNamespaceDecl-id t) body
+inner_with t body = inner_namespace (TsNamespaceDecl-span t) (TsNamespaceDecl-declare t) (TsNamespaceDecl-global t)
+    (TsNamespaceDecl-id t) body
 
 abbrev block_with : Tree → List Tree → Tree
 block_with t items = ts_module_block (TsModuleBlock-span t) (list items)
@@ -35,7 +38,8 @@ pub body_with_is : (items : List Tree) (t : Tree) →
 unfolding body_with
 body_with_is items t = by_descent_is Absent (with_form items) t ∙ go (is_inner t) refl
   where
-    go : (b : Bool) → is_inner t ≡ b → (if b then inner_with t (given Absent (with_form items) t (TsNamespaceDecl-body t)) else block_with t items) ≡
+    go : (b : Bool) → is_inner t ≡ b →
+        (if b then inner_with t (given Absent (with_form items) t (TsNamespaceDecl-body t)) else block_with t items) ≡
         (if b then inner_with t (body_with items (TsNamespaceDecl-body t)) else block_with t items)
     go false e = refl
     go true e = ap (inner_with t) (given_part Absent (with_form items) t 4 (λ l. let k = is_kind (kind_of t) TsNamespaceDecl e in cc))
@@ -52,10 +56,12 @@ block_answer t items = λ i. record { stays = Some (block_with t (answer_of item
 abbrev inner_answer_of : Tree → Answer (Option Tree) → Answer (Option Tree)
 inner_answer_of t a =
     round_answer TsNamespaceDecl (visited (faultless (Some (tree.Range (TsNamespaceDecl-span t)))) (visited (faultless (Some (tree.Flag
-    (TsNamespaceDecl-declare t)))) (visited (faultless (Some (tree.Flag (TsNamespaceDecl-global t)))) (visited (faultless (Some (TsNamespaceDecl-id t)))
+    (TsNamespaceDecl-declare t))))
+    (visited (faultless (Some (tree.Flag (TsNamespaceDecl-global t)))) (visited (faultless (Some (TsNamespaceDecl-id t)))
     (visited a (faultless (Some [])))))))
 
-inner_answer : (t u : Tree) (s : Seen) (items : List Seen) → answer_to s ≡ One u items → answer_to (inner_round t s) ≡ One (inner_with t u) items
+inner_answer : (t u : Tree) (s : Seen) (items : List Seen) → answer_to s ≡ One u items →
+    answer_to (inner_round t s) ≡ One (inner_with t u) items
 inner_answer t u s items e =
     ap (inner_answer_of t) e ∙ (λ i. record { stays = Some (inner_with t u); faults = append-nil (answer_of items).faults i })
 
@@ -72,10 +78,12 @@ module _ (items : List Seen) where
 
   by_kind : (t : Tree) (b : Bool) → (b ≡ true → Answered (TsNamespaceDecl-body t)) →
       answer_to (if b then inner_round t (body_round items (TsNamespaceDecl-body t)) else block_round t items) ≡
-      One (if b then inner_with t (body_with (answer_of items).stays (TsNamespaceDecl-body t)) else block_with t (answer_of items).stays) items
+      One (if b then inner_with t (body_with (answer_of items).stays (TsNamespaceDecl-body t)) else block_with t
+      (answer_of items).stays) items
   by_kind t false below = block_answer t items
   by_kind t true below =
-      inner_answer t (body_with (answer_of items).stays (TsNamespaceDecl-body t)) (body_round items (TsNamespaceDecl-body t)) items (below refl)
+      inner_answer t (body_with (answer_of items).stays (TsNamespaceDecl-body t)) (body_round items (TsNamespaceDecl-body t)) items
+      (below refl)
 
   answered_to : (n : ℕ) (t : Tree) → height t < n → Answered t
   answered_to zero t h = absurd (omega arith)
@@ -95,7 +103,9 @@ namespace_answer_of t a =
 
 -- of a namespace
 pub namespace_is : (items : List Seen) (decl : Tree) →
-    answer_to (namespace_round items decl) ≡ (record { stays = Some (namespace_with (answer_of items).stays decl); faults = (answer_of items).faults })
+    answer_to
+    (namespace_round items decl) ≡
+    (record { stays = Some (namespace_with (answer_of items).stays decl); faults = (answer_of items).faults })
 namespace_is items decl =
     ap (namespace_answer_of decl) (body_is items (TsModuleDecl-body decl))
     ∙ (λ i. record { stays = Some (namespace_with (answer_of items).stays decl); faults = append-nil (answer_of items).faults i })
@@ -111,7 +121,8 @@ module _ (bindings : Bindings) (is_ambient : Bool) where
 
   pub items_stand : (ss : List Seen) → AllStay Item ss → Holds Items (answer_of ss)
   items_stand [] h = λ f. g.AllTypedItems.no_items
-  items_stand (s ∷ ss) h = items_hold Item Items (λ t ts p q. g.AllTypedItems.next_item p q) (answer_to s) (answer_of ss) h.0 (items_stand ss h.1)
+  items_stand (s ∷ ss) h = items_hold Item Items (λ t ts p q. g.AllTypedItems.next_item p q) (answer_to s) (answer_of ss) h.0
+      (items_stand ss h.1)
 
   module _ (ts : List Tree) (typed : Items ts) where
     block_typed : (t : Tree) → IsTypedBody bindings is_ambient (block_with t ts)
@@ -150,7 +161,8 @@ body_present ts t = ap is_absent (body_with_is ts t) ∙ go (is_inner t)
 still_namespace : (decl : Tree) (ts : List Tree) → is_namespace decl ≡ true → is_namespace (namespace_with ts decl) ≡ true
 still_namespace decl ts e =
     let made = namespace_with ts decl in
-    let global : TsModuleDecl-global made ≡ false = ap flag_of (part_node _ _ _) ∙ (flag_of_flag (TsModuleDecl-global decl) ∙ no_global decl e) in
+    let global : TsModuleDecl-global made ≡ false = ap flag_of (part_node _ _ _) ∙
+    (flag_of_flag (TsModuleDecl-global decl) ∙ no_global decl e) in
     let id : TsModuleDecl-id made ≡ TsModuleDecl-id decl = part_node _ _ _ in
     let body : TsModuleDecl-body made ≡ body_with ts (TsModuleDecl-body decl) = part_node _ _ _ in
     (λ i. not (global i) && not ((kind_of (id i) is Str) || (ap is_absent body ∙ body_present ts (TsModuleDecl-body decl)) i))
@@ -164,7 +176,8 @@ pub namespace_typed : (bindings : Bindings) (is_ambient : Bool) (decl : Tree) (t
     AllTypedItems bindings (is_ambient || TsModuleDecl-declare decl) ts → IsTypedNamespace bindings is_ambient (namespace_with ts decl)
 namespace_typed bindings is_ambient decl ts e typed =
     let made = namespace_with ts decl in
-    let declare : TsModuleDecl-declare made ≡ TsModuleDecl-declare decl = ap flag_of (part_node _ _ _) ∙ flag_of_flag (TsModuleDecl-declare decl) in
+    let declare : TsModuleDecl-declare made ≡ TsModuleDecl-declare decl = ap flag_of (part_node _ _ _) ∙
+    flag_of_flag (TsModuleDecl-declare decl) in
     let body : TsModuleDecl-body made ≡ body_with ts (TsModuleDecl-body decl) = part_node _ _ _ in
     g.IsTypedNamespace.namespace (kind_of_node _ _) (still_namespace decl ts e)
     (subst₂ (λ d b. IsTypedBody bindings (is_ambient || d) b) (sym declare) (sym body)

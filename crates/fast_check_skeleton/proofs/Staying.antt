@@ -16,7 +16,8 @@ Holds P a = a.faults ≡ [] → P a.stays
 abbrev pub Stays : {A : Type 0} → (A → Type 0) → Answer (Option A) → Type 0
 Stays P a = Holds (λ o. IfSome o P) a
 
-mapped : {A B : Type 0} (P : A → Type 0) (R : B → Type 0) (f : A → B) → ((x : A) → P x → R (f x)) → (o : Option A) → IfSome o P → IfSome (option_map f o) R
+mapped : {A B : Type 0} (P : A → Type 0) (R : B → Type 0) (f : A → B) → ((x : A) → P x → R (f x)) → (o : Option A) → IfSome o P →
+    IfSome (option_map f o) R
 mapped P R f made None p = tt
 mapped P R f made (Some x) p = made x p
 
@@ -28,7 +29,8 @@ visited_stays P Q R made a rest p q = go a.stays a.faults p
   where
     go : (o : Option Tree) (fs : List Fault) → (fs ≡ [] → IfSome o P) → Stays R (before o fs rest)
     go None fs p f = tt
-    go (Some t) fs p f = mapped Q R (λ ts. t ∷ ts) (λ ts. made t ts (p (no_left fs rest.faults f))) rest.stays (q (no_right fs rest.faults f))
+    go (Some t) fs p f = mapped Q R (λ ts. t ∷ ts) (λ ts. made t ts (p (no_left fs rest.faults f))) rest.stays
+        (q (no_right fs rest.faults f))
 
 pub round_stays : (kind : Kind) (Q : List Tree → Type 0) (R : Tree → Type 0) → ((ts : List Tree) → Q ts → R (node kind ts)) →
     (a : Answer (Option (List Tree))) → Stays Q a → Stays R (round_answer kind a)
@@ -55,7 +57,8 @@ demanded_holds P fault a p = go a.stays a.faults p
 
 -- ---- two answers, as one tree
 
-pub joined_stays : {A B : Type 0} (P : A → Type 0) (Q : B → Type 0) (R : Tree → Type 0) (f : A → B → Tree) → ((x : A) (y : B) → P x → Q y → R (f x y)) →
+pub joined_stays : {A B : Type 0} (P : A → Type 0) (Q : B → Type 0) (R : Tree → Type 0) (f : A → B → Tree) →
+    ((x : A) (y : B) → P x → Q y → R (f x y)) →
     (a : Answer A) (b : Answer B) → Holds P a → Holds Q b → Stays R (joined (λ x y. Some (f x y)) a b)
 joined_stays P Q R f made a b p q e = made a.stays b.stays (p (no_left a.faults b.faults e)) (q (no_right a.faults b.faults e))
 

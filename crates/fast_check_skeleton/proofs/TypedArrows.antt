@@ -6,8 +6,8 @@ use Rattle.fast_check_syntax.specs.declared.source.SourceRange.{SourceRange}
 use Rattle.fast_check_syntax.specs.declared.tree.Tree.{Tree}
 use Rattle.fast_check_syntax.specs.Shape.{◌is◌, kind_of, parts, flag_of, is_absent, list}
 use Rattle.fast_check_syntax.proofs.Made.{kind_of_node, parts_node, part_node, is_absent_node, flag_of_flag}
-use Rattle.fast_check_expression_forms.specs.Expressions.{ArrowExpr-span, ArrowExpr-params, ArrowExpr-body, ArrowExpr-is_async, ArrowExpr-is_generator}
-use Rattle.fast_check_expression_forms.specs.Expressions.{ArrowExpr-return_type}
+use Rattle.fast_check_expression_forms.specs.Expressions.{ArrowExpr-span, ArrowExpr-params, ArrowExpr-body, ArrowExpr-is_async}
+use Rattle.fast_check_expression_forms.specs.Expressions.{ArrowExpr-is_generator, ArrowExpr-return_type}
 use Rattle.fast_check_helpers.specs.declared.literal_type.DeclMutabilityKind.TheVariants.{Mutable}
 use Rattle.fast_check_helpers.specs.Builders.{type_ann}
 use Rattle.fast_check_helpers.specs.InferredType.{inferred_type}
@@ -16,9 +16,8 @@ use Rattle.fast_check_signatures.specs.declared.function_kind.FunctionKind.TheVa
 use Rattle.fast_check_signatures.specs.Seen.{ArrowHead, Seen, written}
 use Rattle.fast_check_signatures.specs.NewNodes.{arrow_body, promised}
 use Rattle.fast_check_signatures.specs.Parameters.{Look, pats_seen}
-use Rattle.fast_check_signatures.specs.Functions.{return_type_missing, body_seen, arrow_head, typed_arrow_seen, valued_arrow_seen, or_own, by_value}
-use Rattle.fast_check_signatures.specs.Functions.{arrow_by_type}
-use Rattle.fast_check_signatures.specs.Functions.{arrow_seen}
+use Rattle.fast_check_signatures.specs.Functions.{return_type_missing, body_seen, arrow_head, typed_arrow_seen, valued_arrow_seen, or_own}
+use Rattle.fast_check_signatures.specs.Functions.{by_value, arrow_by_type, arrow_seen}
 use Rattle.fast_check_signatures.specs.Answers.{fault_at, settled, demanded, signed_arrow, kept_arrow, answer_to, answer_of}
 use Rattle.fast_check_signatures.proofs.Choices.{of_choice}
 use Rattle.fast_check_skeleton.specs.TypedGrammar.{IsLeavable, AllTypedPats}
@@ -37,7 +36,8 @@ module _ (bindings : Bindings) where
   abbrev PatsHold : List Seen → Type 0
   PatsHold pats = Holds (AllTypedPats bindings) (answer_of pats)
 
-  typed : (a : ArrowHead) (type : Tree) (params : List Tree) → is_absent type ≡ false → AllTypedPats bindings params → Leavable (signed_arrow a type params)
+  typed : (a : ArrowHead) (type : Tree) (params : List Tree) → is_absent type ≡ false → AllTypedPats bindings params →
+      Leavable (signed_arrow a type params)
   typed a type params present pats =
       let made = signed_arrow a type params in
       let same_params : ArrowExpr-params made ≡ list params = part_node _ _ _ in
@@ -79,7 +79,8 @@ module _ (bindings : Bindings) where
         typed_stays t pats (written (type_ann (promised bindings.unresolved (ArrowExpr-is_async t) type))) hold (λ f. is_absent_node _ _)
     by_value_stays t place pats hold None = valued_stays t place pats (look (ArrowExpr-body t) None) hold (stays (ArrowExpr-body t) None)
 
-    by_type_stays : (t : Tree) (place : SourceRange) (pats : List Seen) → PatsHold pats → StaysLeavable (arrow_by_type bindings look t place pats)
+    by_type_stays : (t : Tree) (place : SourceRange) (pats : List Seen) → PatsHold pats →
+        StaysLeavable (arrow_by_type bindings look t place pats)
     by_type_stays t place pats hold = let body = ArrowExpr-body t in
         of_choice StaysLeavable (is_absent (ArrowExpr-return_type t)) _ _ (λ untyped.
         of_choice StaysLeavable (kind_of body is BlockStmt) _ _

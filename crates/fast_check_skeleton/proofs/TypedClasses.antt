@@ -1,5 +1,6 @@
 -- Each class that stands without a fault is in the grammar.
-use Rattle.std.specs.Prelude.{◌≡◌, Bool, true, false, not, ◌&&◌, ◌⊎◌, Option, Some, None, List, [], ◌∷◌, ◌++◌, map, flat_map, refl, if◌then◌else◌}
+use Rattle.std.specs.Prelude.{◌≡◌, Bool, true, false, not, ◌&&◌, ◌⊎◌, Option, Some, None, List, [], ◌∷◌, ◌++◌, map, flat_map, refl}
+use Rattle.std.specs.Prelude.{if◌then◌else◌}
 use Rattle.std.specs.List.{list_all, list_any, filter}
 use Rattle.std.proofs.Common.{ap, ap₂, ◌∙◌, sym, subst, subst₂, inl, inr}
 use Rattle.fast_check_syntax.specs.declared.kind.Kind.{Kind}
@@ -11,13 +12,16 @@ use Rattle.fast_check_syntax.specs.declared.tree.Tree.{Tree, Absent}
 use Rattle.fast_check_syntax.specs.Shape.{◌is◌, kind_of, parts, is_absent, flag_of, has_word, node, list, OfAll}
 use Rattle.fast_check_syntax.proofs.Made.{kind_of_node, parts_node, part_node, flag_of_flag}
 use Rattle.fast_check_ranges.specs.Ranges.{range_of_node}
-use Rattle.fast_check_class_forms.specs.Classes.{Class-body, Class-super_class, Class-decorators, Constructor-span, Constructor-ctxt, Constructor-key}
-use Rattle.fast_check_class_forms.specs.Classes.{Constructor-params, Constructor-body, Constructor-accessibility, Constructor-is_optional}
+use Rattle.fast_check_class_forms.specs.Classes.{Class-body, Class-super_class, Class-decorators, Constructor-span, Constructor-ctxt}
+use Rattle.fast_check_class_forms.specs.Classes.{Constructor-key, Constructor-params, Constructor-body, Constructor-accessibility}
+use Rattle.fast_check_class_forms.specs.Classes.{Constructor-is_optional}
 use Rattle.fast_check_class_forms.specs.Fields.{ClassProp-value, ClassProp-type_ann, AutoAccessor-value, AutoAccessor-type_ann}
 use Rattle.fast_check_class_forms.specs.Functions.{Param-pat}
-use Rattle.fast_check_class_forms.specs.Methods.{ClassMethod-span, ClassMethod-key, ClassMethod-function, ClassMethod-kind, ClassMethod-is_static}
-use Rattle.fast_check_class_forms.specs.Methods.{ClassMethod-accessibility, ClassMethod-is_abstract, ClassMethod-is_optional, ClassMethod-is_override}
-use Rattle.fast_check_expression_forms.specs.Calls.{CallExpr-span, CallExpr-ctxt, CallExpr-callee, CallExpr-args, CallExpr-type_args, call_expr}
+use Rattle.fast_check_class_forms.specs.Methods.{ClassMethod-span, ClassMethod-key, ClassMethod-function, ClassMethod-kind}
+use Rattle.fast_check_class_forms.specs.Methods.{ClassMethod-is_static, ClassMethod-accessibility, ClassMethod-is_abstract}
+use Rattle.fast_check_class_forms.specs.Methods.{ClassMethod-is_optional, ClassMethod-is_override}
+use Rattle.fast_check_expression_forms.specs.Calls.{CallExpr-span, CallExpr-ctxt, CallExpr-callee, CallExpr-args, CallExpr-type_args}
+use Rattle.fast_check_expression_forms.specs.Calls.{call_expr}
 use Rattle.fast_check_expression_forms.specs.Expressions.{ExprOrSpread-spread, ExprOrSpread-expr}
 use Rattle.fast_check_statement_forms.specs.Statements.{BlockStmt-stmts, ExprStmt-expr}
 use Rattle.fast_check_helpers.specs.Builders.{type_ann, any_type_ann, never_value}
@@ -31,20 +35,22 @@ use Rattle.fast_check_signatures.specs.Seen.{ClassHead, PropertyHead, Seen, writ
 use Rattle.fast_check_signatures.specs.NewNodes.{never_array_in_parens, hash_private}
 use Rattle.fast_check_signatures.specs.Expressions.{expr_seen}
 use Rattle.fast_check_signatures.specs.Functions.{any_params_from, function_seen, implementation_seen}
-use Rattle.fast_check_signatures.specs.Members.{is_private, is_hash_named, hash_mark, stays_by_kind, stays_behind, each_behind, if_kept, kept_members}
-use Rattle.fast_check_signatures.specs.Members.{is_private_computed, ambient_members}
-use Rattle.fast_check_signatures.specs.Classes.{is_reference, superclass_seen, typed_property, mutability_of_property, property_head, accessor_head}
-use Rattle.fast_check_signatures.specs.Classes.{private_method_head, plain_param, param_properties, patterns_among, unless_any, is_super_call}
-use Rattle.fast_check_signatures.specs.Classes.{never_argument, super_call, super_calls, constructor_body, constructor_of, unless_taken_apart, method_kind}
-use Rattle.fast_check_signatures.specs.Classes.{method_of, class_head, member_value_seen, untyped_property_seen, property_seen, untyped_accessor_seen}
-use Rattle.fast_check_signatures.specs.Classes.{accessor_seen, method_function_seen, method_seen, plain_params_seen, constructor_params_seen, constructor_seen}
-use Rattle.fast_check_signatures.specs.Classes.{member_of_kind, member_seen, param_property_head, param_property_type, param_property}
-use Rattle.fast_check_signatures.specs.Classes.{declared_by_params, members_seen, plain_class_seen, ambient_class}
-use Rattle.fast_check_signatures.specs.Answers.{Answer, settled, faultless, visited, list_answer, fault_at, class_of, declared_property, valued_property}
-use Rattle.fast_check_signatures.specs.Answers.{answer_to, parts_answer, answer_of}
+use Rattle.fast_check_signatures.specs.Members.{is_private, is_hash_named, hash_mark, stays_by_kind, stays_behind, each_behind, if_kept}
+use Rattle.fast_check_signatures.specs.Members.{kept_members, is_private_computed, ambient_members}
+use Rattle.fast_check_signatures.specs.Classes.{is_reference, superclass_seen, typed_property, mutability_of_property, property_head}
+use Rattle.fast_check_signatures.specs.Classes.{accessor_head, private_method_head, plain_param, param_properties, patterns_among}
+use Rattle.fast_check_signatures.specs.Classes.{unless_any, is_super_call, never_argument, super_call, super_calls, constructor_body}
+use Rattle.fast_check_signatures.specs.Classes.{constructor_of, unless_taken_apart, method_kind, method_of, class_head, member_value_seen}
+use Rattle.fast_check_signatures.specs.Classes.{untyped_property_seen, property_seen, untyped_accessor_seen, accessor_seen}
+use Rattle.fast_check_signatures.specs.Classes.{method_function_seen, method_seen, plain_params_seen, constructor_params_seen}
+use Rattle.fast_check_signatures.specs.Classes.{constructor_seen, member_of_kind, member_seen, param_property_head, param_property_type}
+use Rattle.fast_check_signatures.specs.Classes.{param_property, declared_by_params, members_seen, plain_class_seen, ambient_class}
+use Rattle.fast_check_signatures.specs.Answers.{Answer, settled, faultless, visited, list_answer, fault_at, class_of, declared_property}
+use Rattle.fast_check_signatures.specs.Answers.{valued_property, answer_to, parts_answer, answer_of}
 use Rattle.fast_check_signatures.proofs.Choices.{of_choice, both_true, not_empty}
 use Rattle.fast_check_skeleton.specs.TypedGrammar.{IsLeavable, IsTypedFunction, AllTypedParams}
-use Rattle.fast_check_skeleton.specs.ClassGrammar.{IsNeverArgument, IsNeverSuper, IsSuperBody, IsAmbientClass, IsTypedSetter, IsTypedMember, IsTypedClass}
+use Rattle.fast_check_skeleton.specs.ClassGrammar.{IsNeverArgument, IsNeverSuper, IsSuperBody, IsAmbientClass, IsTypedSetter, IsTypedMember}
+use Rattle.fast_check_skeleton.specs.ClassGrammar.{IsTypedClass}
 use Rattle.fast_check_skeleton.proofs.Staying.{Holds, Stays, visited_stays, round_stays, written_before, demanded_holds, joined_stays}
 use Rattle.fast_check_skeleton.proofs.StayingLists.{AllStay, all_append, all_hold, some_weaker, both_some}
 use Rattle.fast_check_skeleton.proofs.TypedFunctions.{absent, ParamsHold, any_params_hold, params_hold, setter_stays}
@@ -76,7 +82,8 @@ never_super stmt e =
     let called : kind_of (made_call call) ≡ kinds.CallExpr = kind_of_node _ _ in
     let inner : kind_of made ≡ kinds.CallExpr = ap kind_of same ∙ called in
     let callee : CallExpr-callee made ≡ CallExpr-callee call = ap CallExpr-callee same ∙ part_node _ _ _ in
-    let a = both_true (kind_of stmt is kinds.ExprStmt) ((kind_of call is kinds.CallExpr) && (kind_of (CallExpr-callee call) is kinds.Super)) e in
+    let a = both_true (kind_of stmt is kinds.ExprStmt)
+    ((kind_of call is kinds.CallExpr) && (kind_of (CallExpr-callee call) is kinds.Super)) e in
     let b = both_true (kind_of call is kinds.CallExpr) (kind_of (CallExpr-callee call) is kinds.Super) a.1 in
     let args : parts (CallExpr-args made) ≡ map never_argument (parts (CallExpr-args call)) =
     ap parts (ap CallExpr-args same ∙ part_node _ _ _) ∙ parts_node _ _ in
@@ -133,7 +140,8 @@ module _ (bindings : Bindings) (is_implementation : SourceRange → Bool) where
   declared_stands : (p : PropertyHead) (type : Tree) → Member (declared_property p type)
   declared_stands p type =
       let value : ClassProp-value (declared_property p type) ≡ Absent = part_node _ _ _ in
-      IsTypedMember.declared (kind_of_node _ _) (part_node _ _ _) (ap is_absent value ∙ absent) (ap flag_of (part_node _ _ _) ∙ flag_of_flag true)
+      IsTypedMember.declared (kind_of_node _ _) (part_node _ _ _) (ap is_absent value ∙ absent)
+      (ap flag_of (part_node _ _ _) ∙ flag_of_flag true)
       (ap flag_of (part_node _ _ _) ∙ flag_of_flag false)
 
   -- a value that gives a type
@@ -145,7 +153,8 @@ module _ (bindings : Bindings) (is_implementation : SourceRange → Bool) where
       let same : ClassProp-value (valued_property p value) ≡ value = part_node _ _ _ in
       let type : ClassProp-type_ann (valued_property p value) ≡ Absent = part_node _ _ _ in
       IsTypedMember.valued (kind_of_node _ _) (part_node _ _ _) (ap is_absent type ∙ absent) (ap is_absent same ∙ h.0)
-      (subst (IsLeavable bindings) (sym same) h.1) (ap flag_of (part_node _ _ _) ∙ flag_of_flag false) (ap flag_of (part_node _ _ _) ∙ flag_of_flag false)
+      (subst (IsLeavable bindings) (sym same) h.1) (ap flag_of (part_node _ _ _) ∙ flag_of_flag false)
+      (ap flag_of (part_node _ _ _) ∙ flag_of_flag false)
 
   value_stays : (place : SourceRange) (value : Tree) → Stays Gives (answer_to (member_value_seen bindings is_implementation place value))
   value_stays place value =
@@ -153,7 +162,8 @@ module _ (bindings : Bindings) (is_implementation : SourceRange → Bool) where
       (λ e f. both_some (λ v. is_absent v ≡ false) (IsLeavable bindings) (answer_to (expr_seen bindings value (Some place))).stays
       (stays_there bindings value (Some place) e) (expr_stays bindings value (Some place) f))
 
-  untyped_stays : (p : PropertyHead) (value : Tree) (o : Option Tree) → StaysMember (untyped_property_seen bindings is_implementation p value o)
+  untyped_stays : (p : PropertyHead) (value : Tree) (o : Option Tree) →
+      StaysMember (untyped_property_seen bindings is_implementation p value o)
   untyped_stays p value (Some type) = λ f. declared_stands p (type_ann type)
   untyped_stays p value None =
       λ f. valued_stands p _ (demanded_holds Gives (fault_at MissingExplicitType (range_of_node p.key))
@@ -177,7 +187,8 @@ module _ (bindings : Bindings) (is_implementation : SourceRange → Bool) where
       of_choice StaysMember (is_private p.accessibility) _ _ (λ e f. declared_stands p any_type_ann)
       (λ e. of_choice StaysMember (is_absent (AutoAccessor-type_ann m))
       (untyped_accessor_seen bindings is_implementation p (inferred_type Mutable bindings.unresolved (AutoAccessor-value m)))
-      (typed_property p (AutoAccessor-type_ann m)) (λ n. accessor_shown p (inferred_type Mutable bindings.unresolved (AutoAccessor-value m)))
+      (typed_property p (AutoAccessor-type_ann m))
+      (λ n. accessor_shown p (inferred_type Mutable bindings.unresolved (AutoAccessor-value m)))
       (λ w f. declared_stands p (AutoAccessor-type_ann m)))
 
   -- ---- methods
@@ -188,7 +199,8 @@ module _ (bindings : Bindings) (is_implementation : SourceRange → Bool) where
   typed_fits : (kind : Tree) (s : Seen) → Stays (IsTypedFunction bindings) (answer_to s) → Stays (IsMethodFunction kind) (answer_to s)
   typed_fits kind s h = λ f. some_weaker (IsTypedFunction bindings) (IsMethodFunction kind) (λ t h. inl h) (answer_to s).stays (h f)
 
-  method_function_stays : (m : Tree) → Stays (IsMethodFunction (ClassMethod-kind m)) (answer_to (method_function_seen bindings is_implementation m))
+  method_function_stays : (m : Tree) → Stays (IsMethodFunction (ClassMethod-kind m))
+      (answer_to (method_function_seen bindings is_implementation m))
   method_function_stays m =
       let kind = ClassMethod-kind m in
       let place = range_of_node (ClassMethod-key m) in
@@ -232,8 +244,10 @@ module _ (bindings : Bindings) (is_implementation : SourceRange → Bool) where
       (visited (faultless (Some span)) (visited (faultless (Some key)) (visited (answer_to s) rest)))
       (written_before (λ ts. Member (node kinds.ClassMethod ts)) span (visited (faultless (Some key)) (visited (answer_to s) rest))
       (written_before (λ ts. Member (node kinds.ClassMethod (span ∷ ts))) key (visited (answer_to s) rest)
-      (visited_stays (IsMethodFunction (ClassMethod-kind m)) (λ ts. ts ≡ method_rest m) (λ ts. Member (node kinds.ClassMethod (span ∷ key ∷ ts)))
-      (λ t ts h e. subst (λ us. Member (node kinds.ClassMethod (span ∷ key ∷ t ∷ us))) (sym e) (method_stands m t n h)) (answer_to s) rest p (λ f. refl))))
+      (visited_stays (IsMethodFunction (ClassMethod-kind m)) (λ ts. ts ≡ method_rest m)
+      (λ ts. Member (node kinds.ClassMethod (span ∷ key ∷ ts)))
+      (λ t ts h e. subst (λ us. Member (node kinds.ClassMethod (span ∷ key ∷ t ∷ us))) (sym e) (method_stands m t n h)) (answer_to s) rest p
+      (λ f. refl))))
 
   method_stays : (m : Tree) → StaysMember (method_seen bindings is_implementation m)
   method_stays m =
@@ -255,7 +269,8 @@ module _ (bindings : Bindings) (is_implementation : SourceRange → Bool) where
 
   abbrev made_constructor : Tree → Tree → Tree
   made_constructor m params =
-      node kinds.Constructor (tree.Range (Constructor-span m) ∷ tree.Context (Constructor-ctxt m) ∷ Constructor-key m ∷ params ∷ constructor_rest m)
+      node kinds.Constructor
+      (tree.Range (Constructor-span m) ∷ tree.Context (Constructor-ctxt m) ∷ Constructor-key m ∷ params ∷ constructor_rest m)
 
   abbrev AreParams : Tree → Type 0
   AreParams params = AllTypedParams bindings (parts params)
@@ -264,7 +279,8 @@ module _ (bindings : Bindings) (is_implementation : SourceRange → Bool) where
   constructor_stands m params h =
       let body : Constructor-body (made_constructor m params) ≡ constructor_body (Constructor-body m) = part_node _ _ _ in
       let same : Constructor-params (made_constructor m params) ≡ params = part_node _ _ _ in
-      IsTypedMember.constructor (kind_of_node _ _) (subst IsBody (sym body) (body_stands (Constructor-body m))) (subst AreParams (sym same) h)
+      IsTypedMember.constructor (kind_of_node _ _) (subst IsBody (sym body) (body_stands (Constructor-body m)))
+      (subst AreParams (sym same) h)
 
   list_stays : (params : List Seen) → ParamsHold bindings params → Stays AreParams (list_answer (answer_of params))
   list_stays params h = λ f. subst (AllTypedParams bindings) (sym (parts_node _ _)) (h f)
@@ -278,7 +294,8 @@ module _ (bindings : Bindings) (is_implementation : SourceRange → Bool) where
       let rest = parts_answer (seens (map written (constructor_rest m))) in
       round_stays kinds.Constructor (λ ts. Member (node kinds.Constructor ts)) Member (λ ts h. h)
       (visited (faultless (Some span)) (visited (faultless (Some ctxt)) (visited (faultless (Some key)) (visited ps rest))))
-      (written_before (λ ts. Member (node kinds.Constructor ts)) span (visited (faultless (Some ctxt)) (visited (faultless (Some key)) (visited ps rest)))
+      (written_before (λ ts. Member (node kinds.Constructor ts)) span
+      (visited (faultless (Some ctxt)) (visited (faultless (Some key)) (visited ps rest)))
       (written_before (λ ts. Member (node kinds.Constructor (span ∷ ts))) ctxt (visited (faultless (Some key)) (visited ps rest))
       (written_before (λ ts. Member (node kinds.Constructor (span ∷ ctxt ∷ ts))) key (visited ps rest)
       (visited_stays AreParams (λ ts. ts ≡ constructor_rest m) (λ ts. Member (node kinds.Constructor (span ∷ ctxt ∷ key ∷ ts)))
@@ -288,7 +305,8 @@ module _ (bindings : Bindings) (is_implementation : SourceRange → Bool) where
   constructor_stays : (m : Tree) → StaysMember (constructor_seen bindings is_implementation m)
   constructor_stays m = go (patterns_among (param_properties m))
     where
-      go : (apart : List Tree) → StaysMember (unless_taken_apart apart (constructor_of m (constructor_params_seen bindings is_implementation m)))
+      go : (apart : List Tree) →
+          StaysMember (unless_taken_apart apart (constructor_of m (constructor_params_seen bindings is_implementation m)))
       go [] = constructed_stays m (constructor_params_seen bindings is_implementation m) (constructor_params_hold m)
       go (p ∷ ps) = λ f. not_empty f
 
@@ -307,7 +325,8 @@ module _ (bindings : Bindings) (is_implementation : SourceRange → Bool) where
   kept_stay earlier [] = tt
   kept_stay earlier (m ∷ ms) = go (stays_behind earlier m) refl (kept_stay (m ∷ earlier) ms)
     where
-      go : (b : Bool) → stays_behind earlier m ≡ b → AllStay Member (map (member_seen bindings is_implementation) (each_behind if_kept (m ∷ earlier) ms)) →
+      go : (b : Bool) → stays_behind earlier m ≡ b → AllStay Member
+          (map (member_seen bindings is_implementation) (each_behind if_kept (m ∷ earlier) ms)) →
           AllStay Member (map (member_seen bindings is_implementation) ((if b then m ∷ [] else []) ++ each_behind if_kept (m ∷ earlier) ms))
       go true e rest = (by_kind (kind_of m) earlier m refl e, rest)
       go false e rest = rest
@@ -326,10 +345,12 @@ module _ (bindings : Bindings) (is_implementation : SourceRange → Bool) where
 
   param_properties_stand : (ps : List Tree) → OfAll Member (map (param_property bindings.unresolved) ps)
   param_properties_stand [] = tt
-  param_properties_stand (p ∷ ps) = (declared_stands (param_property_head p) (param_property_type bindings.unresolved p), param_properties_stand ps)
+  param_properties_stand (p ∷ ps) =
+      (declared_stands (param_property_head p) (param_property_type bindings.unresolved p), param_properties_stand ps)
 
   declared_by_stand : (m : Tree) → OfAll Member (declared_by_params bindings.unresolved m)
-  declared_by_stand m = of_choice (OfAll Member) (kind_of m is kinds.Constructor) _ _ (λ e. go (patterns_among (param_properties m))) (λ e. tt)
+  declared_by_stand m = of_choice (OfAll Member) (kind_of m is kinds.Constructor) _ _ (λ e. go (patterns_among (param_properties m)))
+      (λ e. tt)
     where
       go : (apart : List Tree) → OfAll Member (unless_any apart (map (param_property bindings.unresolved) (param_properties m)))
       go [] = param_properties_stand (param_properties m)
@@ -343,7 +364,8 @@ module _ (bindings : Bindings) (is_implementation : SourceRange → Bool) where
   members_stay ms =
       let made = hash_mark ms ++ flat_map (declared_by_params bindings.unresolved) (kept_members ms) in
       all_append Member (map written made) (map (member_seen bindings is_implementation) (kept_members ms))
-      (written_stay made (all_of (hash_mark ms) _ (mark_stands (list_any is_hash_named ms)) (all_declared (kept_members ms)))) (kept_stay [] ms)
+      (written_stay made (all_of (hash_mark ms) _ (mark_stands (list_any is_hash_named ms)) (all_declared (kept_members ms))))
+      (kept_stay [] ms)
 
   -- ---- classes
 

@@ -55,7 +55,8 @@ no_return_shows : (kind : FunctionKind) (is_async : Bool) (place : SourceRange) 
 no_return_shows DeclarationLike is_async place f = is_absent_node _ _
 no_return_shows _ is_async place f = not_empty f
 
-class_shows : (kind : FunctionKind) (is_async : Bool) (place : SourceRange) (c : ReturnStatementAnalysis) → IsType (class_seen kind is_async place c)
+class_shows : (kind : FunctionKind) (is_async : Bool) (place : SourceRange) (c : ReturnStatementAnalysis) →
+    IsType (class_seen kind is_async place c)
 class_shows kind is_async place class.Void f = void_class_shows kind is_async place f
 class_shows kind is_async place class.None f = no_return_shows kind is_async place f
 class_shows kind is_async place class.Single f = not_empty f
@@ -133,17 +134,20 @@ module _ (bindings : Bindings) where
   param_stays p pat stays =
       let span = tree.Range (Param-span p) in
       let end' = visited (answer_to pat) (faultless (Some [])) in
-      round_stays Param (λ ts. IsTypedParam (node Param ts)) IsTypedParam (λ ts h. h) (parts_answer (seens (written span ∷ written (list []) ∷ pat ∷ [])))
+      round_stays Param (λ ts. IsTypedParam (node Param ts)) IsTypedParam (λ ts h. h)
+      (parts_answer (seens (written span ∷ written (list []) ∷ pat ∷ [])))
       (written_before (λ ts. IsTypedParam (node Param ts)) span (visited (faultless (Some (list []))) end')
       (written_before (λ ts. IsTypedParam (node Param (span ∷ ts))) (list []) end'
-      (last_stays (IsTypedPat bindings) (λ ts. IsTypedParam (node Param (span ∷ list [] ∷ ts))) (typed_param (Param-span p)) (answer_to pat) stays)))
+      (last_stays (IsTypedPat bindings) (λ ts. IsTypedParam (node Param (span ∷ list [] ∷ ts))) (typed_param (Param-span p))
+      (answer_to pat) stays)))
 
   -- parameters are typed
   abbrev pub ParamsHold : List Seen → Type 0
   ParamsHold params = Holds (AllTypedParams bindings) (answer_of params)
 
   next_holds : (param : Seen) (params : List Seen) → Stays IsTypedParam (answer_to param) → ParamsHold params → ParamsHold (param ∷ params)
-  next_holds param params p ps = items_hold IsTypedParam (AllTypedParams bindings) next_typed_param (answer_to param) (answer_of params) p ps
+  next_holds param params p ps = items_hold IsTypedParam (AllTypedParams bindings) next_typed_param (answer_to param)
+      (answer_of params) p ps
 
   typed_signature : (f : FunctionHead) (type : Tree) (params : List Tree) → Shows f.lacks_body type → AllTypedParams bindings params →
       IsTypedFunction bindings (signed_function f type params)
@@ -157,7 +161,8 @@ module _ (bindings : Bindings) where
       let generator : Function-is_generator made ≡ false = ap flag_of (part_node _ _ _) ∙ flag_of_flag false in
       let async : Function-is_async made ≡ false = ap flag_of (part_node _ _ _) ∙ flag_of_flag false in
       IsTypedFunction.typed_function (kind_of_node _ _) decorators async generator
-      (subst (λ b. Behind (Function-return_type made) b) (sym same_body) (subst (λ u. Behind u body) (sym same_type) (stands_behind f.lacks_body type shown)))
+      (subst (λ b. Behind (Function-return_type made) b) (sym same_body)
+      (subst (λ u. Behind u body) (sym same_type) (stands_behind f.lacks_body type shown)))
       (subst (AllTypedParams bindings) (sym (ap parts same_params ∙ parts_node _ _)) typed)
 
   abbrev StaysFunction : Seen → Type 0
@@ -166,7 +171,8 @@ module _ (bindings : Bindings) where
   signature_stays : (t : Tree) (type : Seen) (params : List Seen) → IsTypeOrBodiless (Function-body t) type → ParamsHold params →
       StaysFunction (signature_seen t type params)
   signature_stays t type params shows hold =
-      joined_stays (Shows (is_absent (Function-body t))) (AllTypedParams bindings) (IsTypedFunction bindings) (signed_function (function_head t))
+      joined_stays (Shows (is_absent (Function-body t))) (AllTypedParams bindings) (IsTypedFunction bindings)
+      (signed_function (function_head t))
       (typed_signature (function_head t)) (settled (answer_to type)) (answer_of params) shows hold
 
   -- ---- an implementation behind overloads
@@ -181,7 +187,8 @@ module _ (bindings : Bindings) where
   pub any_params_hold : (place : ℕ) (params : List Tree) → ParamsHold (any_params_from place params)
   any_params_hold place [] = λ f. AllTypedParams.no_params
   any_params_hold place (p ∷ ps) = let is_rest = kind_of (Param-pat p) is RestPat in
-      next_holds (written (any_param place is_rest)) (any_params_from (suc place) ps) (λ f. any_param_typed place is_rest) (any_params_hold (suc place) ps)
+      next_holds (written (any_param place is_rest)) (any_params_from (suc place) ps) (λ f. any_param_typed place is_rest)
+      (any_params_hold (suc place) ps)
 
   pub implementation_stays : (t : Tree) → StaysFunction (implementation_seen t)
   implementation_stays t = let params = parts (Function-params t) in
@@ -225,7 +232,8 @@ module _ (bindings : Bindings) where
           params = subst (AllTypedParams bindings) (sym (ap parts same_params ∙ parts_node _ _)) typed;
         }
 
-    pub setter_stays : (place : SourceRange) (t : Tree) → Stays (IsTypedSetter bindings) (answer_to (function_seen bindings look Setter place t))
+    pub setter_stays : (place : SourceRange) (t : Tree) → Stays (IsTypedSetter bindings)
+        (answer_to (function_seen bindings look Setter place t))
     setter_stays place t =
         let params = parts (Function-params t) in
         let pats = map (λ p. Param-pat p) params in

@@ -8,9 +8,10 @@ use Rattle.fast_check_syntax.specs.declared.source.SourceRange.{SourceRange}
 use Rattle.fast_check_syntax.specs.declared.tree.Tree.{Tree}
 use Rattle.fast_check_syntax.specs.Shape.{kind_of, is_absent, list, flag_of, range_of}
 use Rattle.fast_check_syntax.proofs.Made.{kind_of_node, part_node, is_absent_node, flag_of_flag, range_of_range}
-use Rattle.fast_check_expression_forms.specs.Patterns.{ArrayPat-span, ArrayPat-optional, ArrayPat-type_ann, array_pat, ObjectPat-span, ObjectPat-optional}
-use Rattle.fast_check_expression_forms.specs.Patterns.{ObjectPat-type_ann, object_pat, RestPat-span, RestPat-dot3_token, RestPat-arg, RestPat-type_ann}
-use Rattle.fast_check_expression_forms.specs.Patterns.{rest_pat, AssignPat-span, AssignPat-left, AssignPat-right, assign_pat}
+use Rattle.fast_check_expression_forms.specs.Patterns.{ArrayPat-span, ArrayPat-optional, ArrayPat-type_ann, array_pat, ObjectPat-span}
+use Rattle.fast_check_expression_forms.specs.Patterns.{ObjectPat-optional, ObjectPat-type_ann, object_pat, RestPat-span, RestPat-dot3_token}
+use Rattle.fast_check_expression_forms.specs.Patterns.{RestPat-arg, RestPat-type_ann, rest_pat, AssignPat-span, AssignPat-left}
+use Rattle.fast_check_expression_forms.specs.Patterns.{AssignPat-right, assign_pat}
 use Rattle.fast_check_program_forms.specs.Names.{Ident-span, BindingIdent-id, BindingIdent-type_ann, binding_ident}
 use Rattle.fast_check_helpers.specs.declared.literal_type.DeclMutabilityKind.TheVariants.{Mutable}
 use Rattle.fast_check_helpers.specs.Builders.{type_ann, never_value}
@@ -20,9 +21,9 @@ use Rattle.fast_check_signatures.specs.Bindings.{Bindings}
 use Rattle.fast_check_signatures.specs.declared.fault.FaultKind.TheVariants.{MissingExplicitType}
 use Rattle.fast_check_signatures.specs.Seen.{Seen}
 use Rattle.fast_check_signatures.specs.NewNodes.{never_array, empty_object_pat, or_undefined}
-use Rattle.fast_check_signatures.specs.Parameters.{Look, emptied_array, emptied_object, typed, arg_by_kind, rest_arg, rest_seen, with_optional, without_default}
-use Rattle.fast_check_signatures.specs.Parameters.{default_seen, by_shown, ident_default_seen, pattern_default_seen, assign_by_left, pat_by_kind, pat_seen}
-use Rattle.fast_check_signatures.specs.Parameters.{pats_seen}
+use Rattle.fast_check_signatures.specs.Parameters.{Look, emptied_array, emptied_object, typed, arg_by_kind, rest_arg, rest_seen}
+use Rattle.fast_check_signatures.specs.Parameters.{with_optional, without_default, default_seen, by_shown, ident_default_seen}
+use Rattle.fast_check_signatures.specs.Parameters.{pattern_default_seen, assign_by_left, pat_by_kind, pat_seen, pats_seen}
 use Rattle.fast_check_signatures.specs.Answers.{fault_at, answer_to, answer_of}
 use Rattle.fast_check_signatures.proofs.Choices.{of_choice, not_empty}
 use Rattle.fast_check_skeleton.specs.TypedGrammar.{IsEmptiedArray, IsEmptiedObject, IsLeavable, IsTypedPat, AllTypedPats}
@@ -48,7 +49,8 @@ emptied_object_twice : (pat : Tree) → emptied_object (emptied_object pat) ≡ 
 emptied_object_twice pat =
     let again = emptied_object pat in
     let span : ObjectPat-span again ≡ ObjectPat-span pat = ap range_of (part_node _ _ _) ∙ range_of_range (ObjectPat-span pat) in
-    let optional : ObjectPat-optional again ≡ ObjectPat-optional pat = ap flag_of (part_node _ _ _) ∙ flag_of_flag (ObjectPat-optional pat) in
+    let optional : ObjectPat-optional again ≡ ObjectPat-optional pat = ap flag_of (part_node _ _ _) ∙
+    flag_of_flag (ObjectPat-optional pat) in
     let type : ObjectPat-type_ann again ≡ ObjectPat-type_ann pat = part_node _ _ _ in
     λ i. object_pat (span i) (list []) (optional i) (type i)
 
@@ -106,7 +108,8 @@ module _ (bindings : Bindings) where
       IsTypedPat.object (emptied_object_is pat) (ap is_absent same ∙ e)
 
   -- a rest of a type
-  pub typed_rest : (span dots : SourceRange) (arg type : Tree) → rest_arg arg ≡ arg → is_absent type ≡ false → TypedPat (rest_pat span dots arg type)
+  pub typed_rest : (span dots : SourceRange) (arg type : Tree) → rest_arg arg ≡ arg → is_absent type ≡ false →
+      TypedPat (rest_pat span dots arg type)
   typed_rest span dots arg type twice e =
       let made = rest_pat span dots arg type in
       let same : RestPat-arg made ≡ arg = part_node _ _ _ in
@@ -165,7 +168,8 @@ module _ (bindings : Bindings) where
 
   default_stays : (span place : SourceRange) (left : Tree) (value : Seen) → GivesType left → Stays Leavable (answer_to value) →
       StaysTyped (default_seen span place left value)
-  default_stays span place left value gives stays f = gives span _ (demanded_holds Leavable (fault_at MissingExplicitType place) (answer_to value) stays f)
+  default_stays span place left value gives stays f = gives span _
+      (demanded_holds Leavable (fault_at MissingExplicitType place) (answer_to value) stays f)
 
 module _ (bindings : Bindings) (look : Look) (stays : LookStays bindings look) where
   abbrev Typed : Seen → Type 0
@@ -173,12 +177,14 @@ module _ (bindings : Bindings) (look : Look) (stays : LookStays bindings look) w
 
   by_shown_stays : (b : Bool) (pat : Tree) → kind_of (AssignPat-left pat) ≡ kinds.BindingIdent → (shown : Option Tree) →
       Typed (by_shown bindings look b pat shown)
-  by_shown_stays b pat kind (Some type) = λ f. typed_without_default bindings b (BindingIdent-id (AssignPat-left pat)) (type_ann type) (is_absent_node _ _)
+  by_shown_stays b pat kind (Some type) = λ f. typed_without_default bindings b (BindingIdent-id (AssignPat-left pat)) (type_ann type)
+      (is_absent_node _ _)
   by_shown_stays b pat kind None = let place = Ident-span (BindingIdent-id (AssignPat-left pat)) in
       default_stays bindings (AssignPat-span pat) place (AssignPat-left pat) (look (AssignPat-right pat) (Some place))
       (ident_gives bindings (AssignPat-left pat) kind) (stays (AssignPat-right pat) (Some place))
 
-  ident_default_stays : (b : Bool) (pat : Tree) → kind_of (AssignPat-left pat) ≡ kinds.BindingIdent → Typed (ident_default_seen bindings look b pat)
+  ident_default_stays : (b : Bool) (pat : Tree) → kind_of (AssignPat-left pat) ≡ kinds.BindingIdent →
+      Typed (ident_default_seen bindings look b pat)
   ident_default_stays b pat kind = let id = AssignPat-left pat in
       of_choice Typed (is_absent (BindingIdent-type_ann id)) _ _
       (λ e. by_shown_stays b pat kind (inferred_type Mutable bindings.unresolved (AssignPat-right pat)))
@@ -189,10 +195,12 @@ module _ (bindings : Bindings) (look : Look) (stays : LookStays bindings look) w
       Typed (pattern_default_seen bindings look type place emptied never pat)
   pattern_default_stays type place emptied never pat gives stands =
       of_choice Typed (is_absent type) _ _
-      (λ e. default_stays bindings (AssignPat-span pat) place emptied (look (AssignPat-right pat) None) gives (stays (AssignPat-right pat) None))
+      (λ e. default_stays bindings (AssignPat-span pat) place emptied (look (AssignPat-right pat) None) gives
+      (stays (AssignPat-right pat) None))
       (λ e f. stands e)
 
-  assign_stays : (kind : Kind) (b : Bool) (pat : Tree) → kind_of (AssignPat-left pat) ≡ kind → Typed (assign_by_left bindings look kind b pat)
+  assign_stays : (kind : Kind) (b : Bool) (pat : Tree) → kind_of (AssignPat-left pat) ≡ kind →
+      Typed (assign_by_left bindings look kind b pat)
   assign_stays kinds.BindingIdent b pat e = ident_default_stays b pat e
   assign_stays kinds.ArrayPat b pat e = let left = AssignPat-left pat in
       pattern_default_stays (ArrayPat-type_ann left) (ArrayPat-span left) (emptied_array left) never_array pat
@@ -204,7 +212,8 @@ module _ (bindings : Bindings) (look : Look) (stays : LookStays bindings look) w
 
   rest_stays : (pat : Tree) → Typed (rest_seen pat)
   rest_stays pat = typed_stays (IsTypedPat bindings) (RestPat-type_ann pat) (RestPat-span pat) _
-      (typed_rest bindings (RestPat-span pat) (RestPat-dot3_token pat) (rest_arg (RestPat-arg pat)) (RestPat-type_ann pat) (rest_arg_twice (RestPat-arg pat)))
+      (typed_rest bindings (RestPat-span pat) (RestPat-dot3_token pat) (rest_arg (RestPat-arg pat)) (RestPat-type_ann pat)
+      (rest_arg_twice (RestPat-arg pat)))
 
   -- a parameter, by its kind
   by_kind_stays : (kind : Kind) (b : Bool) (pat : Tree) → kind_of pat ≡ kind → Typed (pat_by_kind bindings look kind b pat)

@@ -1,7 +1,8 @@
 -- Two modules with a function and a class, public both, that agree but for what is hidden:
 -- `function f(): void {} class C { private m(): void {} }`, and
 -- `function f(): void { ; } class C { static {} private m(a): void {} }`.
--- What agrees stands at the place of no text, so that the renaming has the pair of 0 alone. The static block begins at 7.
+-- What agrees stands at the place of no text, so that the renaming has the pair of 0 alone. The static block begins at
+-- 7.
 use Rattle.std.specs.Prelude.{◌≡◌, true, false, None, List, [], ◌∷◌}
 use Rattle.fast_check_syntax.specs.declared.kind.Kind.TheVariants as kinds
 use Rattle.fast_check_syntax.specs.declared.kind.Word.TheVariants as words
@@ -28,7 +29,8 @@ use Rattle.fast_check_skeleton.specs.Skeleton.{skeleton_of}
 -- `(params): void { stmts }`
 abbrev pub void_function : List Tree → List Tree → Tree
 void_function params stmts =
-    function none_range (list params) (list []) no_scope (new_block stmts) false false Absent (type_ann (ts_keyword_type words.TsVoidKeyword))
+    function none_range (list params) (list []) no_scope (new_block stmts) false false Absent
+    (type_ann (ts_keyword_type words.TsVoidKeyword))
 
 -- `function f(): void { stmts }`
 abbrev pub function_f : List Tree → Tree
@@ -37,7 +39,8 @@ function_f stmts = fn_decl (new_ident (102 ∷ [])) false (void_function [] stmt
 -- `private m(params): void {}`
 abbrev pub method_m : List Tree → Tree
 method_m params =
-    class_method none_range (ident_name none_range (109 ∷ [])) (void_function params []) (tree.Word words.Method) false (tree.Word words.Private) false false
+    class_method none_range (ident_name none_range (109 ∷ [])) (void_function params []) (tree.Word words.Method) false
+    (tree.Word words.Private) false false
     false
 
 -- `class C { members }`

@@ -1,14 +1,17 @@
 -- The grammar of classes in a skeleton: what a type checker finds there, whatever the source was.
 use Rattle.std.specs.Prelude.{◌≡◌, Bool, true, false, not, List, [], ◌⊎◌, if◌then◌else◌}
 use Rattle.std.specs.List.{list_all}
-use Rattle.fast_check_syntax.specs.declared.kind.Kind.TheVariants.{Function, Class, Constructor, ClassMethod, ClassProp, TsIndexSignature}
+use Rattle.fast_check_syntax.specs.declared.kind.Kind.TheVariants.{Function, Class, Constructor, ClassMethod, ClassProp}
+use Rattle.fast_check_syntax.specs.declared.kind.Kind.TheVariants.{TsIndexSignature}
 use Rattle.fast_check_syntax.specs.declared.kind.Word.TheVariants.{Setter}
 use Rattle.fast_check_syntax.specs.declared.tree.Tree.{Tree}
 use Rattle.fast_check_syntax.specs.Shape.{kind_of, parts, is_absent, has_word, list, OfAll}
-use Rattle.fast_check_class_forms.specs.Classes.{Class-decorators, Class-body, Class-super_class, Constructor-params, Constructor-body, Constructor-accessibility}
-use Rattle.fast_check_class_forms.specs.Fields.{ClassProp-decorators, ClassProp-value, ClassProp-type_ann, ClassProp-declare, ClassProp-definite}
-use Rattle.fast_check_class_forms.specs.Functions.{Function-params, Function-decorators, Function-body, Function-is_generator, Function-is_async}
-use Rattle.fast_check_class_forms.specs.Functions.{Function-return_type}
+use Rattle.fast_check_class_forms.specs.Classes.{Class-decorators, Class-body, Class-super_class, Constructor-params}
+use Rattle.fast_check_class_forms.specs.Classes.{Constructor-body, Constructor-accessibility}
+use Rattle.fast_check_class_forms.specs.Fields.{ClassProp-decorators, ClassProp-value, ClassProp-type_ann}
+use Rattle.fast_check_class_forms.specs.Fields.{ClassProp-declare, ClassProp-definite}
+use Rattle.fast_check_class_forms.specs.Functions.{Function-params, Function-decorators, Function-body}
+use Rattle.fast_check_class_forms.specs.Functions.{Function-is_generator, Function-is_async, Function-return_type}
 use Rattle.fast_check_class_forms.specs.Methods.{ClassMethod-function, ClassMethod-kind, ClassMethod-accessibility}
 use Rattle.fast_check_expression_forms.specs.Calls.{CallExpr-args}
 use Rattle.fast_check_expression_forms.specs.Expressions.{ExprOrSpread-spread, ExprOrSpread-expr}
@@ -55,17 +58,21 @@ module _ (bindings : Bindings) where
     -- `#private!: unknown`
     mark : {t : Tree} → t ≡ hash_private → IsTypedMember t
     -- `declare key: type`; the type may be missing where a parameter declares the property
-    declared : {t : Tree} → kind_of t ≡ ClassProp → ClassProp-decorators t ≡ list [] → is_absent (ClassProp-value t) ≡ true → ClassProp-declare t ≡ true →
+    declared : {t : Tree} → kind_of t ≡ ClassProp → ClassProp-decorators t ≡ list [] →
+        is_absent (ClassProp-value t) ≡ true → ClassProp-declare t ≡ true →
         ClassProp-definite t ≡ false → IsTypedMember t
     -- `key = value`
     valued : {t : Tree} → kind_of t ≡ ClassProp → ClassProp-decorators t ≡ list [] → is_absent (ClassProp-type_ann t) ≡ true →
-        is_absent (ClassProp-value t) ≡ false → IsLeavable bindings (ClassProp-value t) → ClassProp-declare t ≡ false → ClassProp-definite t ≡ false →
+        is_absent (ClassProp-value t) ≡ false → IsLeavable bindings (ClassProp-value t) → ClassProp-declare t ≡ false →
+        ClassProp-definite t ≡ false →
         IsTypedMember t
     -- a method, a getter or a setter that is not private
     method : {t : Tree} → kind_of t ≡ ClassMethod → is_private (ClassMethod-accessibility t) ≡ false →
-        IsTypedFunction bindings (ClassMethod-function t) ⊎ ((has_word Setter (ClassMethod-kind t) ≡ true) × IsTypedSetter (ClassMethod-function t)) →
+        IsTypedFunction bindings (ClassMethod-function t) ⊎
+        ((has_word Setter (ClassMethod-kind t) ≡ true) × IsTypedSetter (ClassMethod-function t)) →
         IsTypedMember t
-    constructor : {t : Tree} → kind_of t ≡ Constructor → (is_absent (Constructor-body t) ≡ true) ⊎ IsSuperBody (Constructor-body t) →
+    constructor : {t : Tree} → kind_of t ≡ Constructor → (is_absent (Constructor-body t) ≡ true) ⊎
+        IsSuperBody (Constructor-body t) →
         AllTypedParams bindings (parts (Constructor-params t)) → IsTypedMember t
     -- an index signature stands as it was written
     index_signature : {t : Tree} → kind_of t ≡ TsIndexSignature → IsTypedMember t

@@ -5,8 +5,10 @@ use Rattle.fast_check_syntax.specs.declared.source.SourceRange.{SourceRange}
 use Rattle.fast_check_syntax.specs.declared.tree.Tree.{Tree}
 use Rattle.fast_check_syntax.specs.Shape.{is_absent}
 use Rattle.fast_check_class_forms.specs.Functions.{Function-span}
-use Rattle.fast_check_expression_forms.specs.Expressions.{ClassExpr-ident, ClassExpr-class, FnExpr-ident, FnExpr-function}
-use Rattle.fast_check_program_forms.specs.ModuleDecls.{ExportDefaultExpr-span, ExportDefaultExpr-expr, ExportDefaultDecl-span, ExportDefaultDecl-decl}
+use Rattle.fast_check_expression_forms.specs.Expressions.{ClassExpr-ident, ClassExpr-class, FnExpr-ident}
+use Rattle.fast_check_expression_forms.specs.Expressions.{FnExpr-function}
+use Rattle.fast_check_program_forms.specs.ModuleDecls.{ExportDefaultExpr-span, ExportDefaultExpr-expr}
+use Rattle.fast_check_program_forms.specs.ModuleDecls.{ExportDefaultDecl-span, ExportDefaultDecl-decl}
 use Rattle.fast_check_program_forms.specs.Names.{Ident-span}
 use Rattle.fast_check_ranges.specs.Ranges.{range_of_node}
 use Rattle.fast_check_signatures.specs.declared.function_kind.FunctionKind.TheVariants.{DeclarationLike}
@@ -20,26 +22,33 @@ use Rattle.fast_check_skeleton.specs.Surroundings.{Surroundings}
 
 -- the default export of an expression is public by its own range, or by that of the expression
 abbrev pub is_public_value : Surroundings → Tree → Bool
-is_public_value around t = around.is_public (ExportDefaultExpr-span t) || around.is_public (range_of_node (ExportDefaultExpr-expr t))
+is_public_value around t = around.is_public (ExportDefaultExpr-span t) ||
+    around.is_public (range_of_node (ExportDefaultExpr-expr t))
 
 -- the expression has to give a type by itself
 abbrev pub default_value_seen : Surroundings → Tree → Seen
-default_value_seen around t = default_export (ExportDefaultExpr-span t) (expr_seen around.bindings (ExportDefaultExpr-expr t) None)
+default_value_seen around t = default_export (ExportDefaultExpr-span t)
+    (expr_seen around.bindings (ExportDefaultExpr-expr t) None)
 
 -- a class; it is never ambient, where all else is neither
 abbrev pub default_class_seen : Surroundings → Tree → Seen
 default_class_seen around decl =
-    round ClassExpr (seens (written (ClassExpr-ident decl) ∷ plain_class_seen around.bindings around.is_implementation (ClassExpr-class decl) ∷ []))
+    round ClassExpr
+    (seens (written (ClassExpr-ident decl) ∷ plain_class_seen around.bindings around.is_implementation
+    (ClassExpr-class decl) ∷ []))
 
 -- where the return type of a function would be missing: at its name, or else at the function
 abbrev pub default_place : Tree → SourceRange
-default_place decl = if is_absent (FnExpr-ident decl) then Function-span (FnExpr-function decl) else Ident-span (FnExpr-ident decl)
+default_place decl = if is_absent (FnExpr-ident decl) then Function-span (FnExpr-function decl) else Ident-span
+    (FnExpr-ident decl)
 
--- the signature of a function, which is public by `place`: that of an implementation behind overloads is the count of its parameters
+-- the signature of a function, which is public by `place`: that of an implementation behind overloads is the count of
+-- its parameters
 abbrev pub default_signature : Surroundings → SourceRange → Tree → Seen
 default_signature around place decl =
     if around.is_implementation place then implementation_seen (FnExpr-function decl)
-    else function_seen around.bindings (expr_seen around.bindings) DeclarationLike (default_place decl) (FnExpr-function decl)
+    else function_seen around.bindings (expr_seen around.bindings) DeclarationLike (default_place decl)
+    (FnExpr-function decl)
 
 -- a function; where all is ambient it stands as it is written
 abbrev pub default_function_seen : Surroundings → SourceRange → Tree → Seen
@@ -50,11 +59,13 @@ default_function_seen around place decl =
 -- the default export of a declaration, of which this is seen; it is public by the range of the export
 abbrev pub public_default : Surroundings → Tree → Seen → List Seen
 public_default around t decl =
-    if around.is_public (ExportDefaultDecl-span t) then round ExportDefaultDecl (seens (range (ExportDefaultDecl-span t) ∷ decl ∷ [])) ∷ [] else []
+    if around.is_public (ExportDefaultDecl-span t) then round ExportDefaultDecl
+    (seens (range (ExportDefaultDecl-span t) ∷ decl ∷ [])) ∷ [] else []
 
 -- a default export, by what it exports
 abbrev pub default_seen : Surroundings → Tree → DefaultRule → List Seen
 default_seen around t Value = if is_public_value around t then default_value_seen around t ∷ [] else []
 default_seen around t Class = public_default around t (default_class_seen around (ExportDefaultDecl-decl t))
-default_seen around t Function = public_default around t (default_function_seen around (ExportDefaultDecl-span t) (ExportDefaultDecl-decl t))
+default_seen around t Function = public_default around t
+    (default_function_seen around (ExportDefaultDecl-span t) (ExportDefaultDecl-decl t))
 default_seen around t Interface = public_default around t (written (ExportDefaultDecl-decl t))

@@ -45,15 +45,18 @@ name start number = ident (at start (start + 1)) (scope number) (120 ∷ []) fal
 
 -- `: string` behind it
 abbrev pub annotation : ℕ → Tree
-annotation start = ts_type_ann (at (start + 1) (start + 9)) (ts_keyword_type (at (start + 3) (start + 9)) (tree.Word words.TsStringKeyword))
+annotation start = ts_type_ann (at (start + 1) (start + 9))
+    (ts_keyword_type (at (start + 3) (start + 9)) (tree.Word words.TsStringKeyword))
 
 -- `x: string = value`, with its first byte at a place, x in a scope, and the place past the value
 abbrev pub declarator : ℕ → ℕ → Tree → ℕ → Tree
-declarator start number value end = var_declarator (at start end) (binding_ident (name start number) (annotation start)) value false
+declarator start number value end = var_declarator (at start end)
+    (binding_ident (name start number) (annotation start)) value false
 
 -- `const x: string = value;`
 abbrev pub statement : ℕ → ℕ → Tree → ℕ → Tree
-statement start number value end = var_decl (at start (end + 1)) (scope 0) (tree.Word words.Const) false (list (declarator (start + 6) number value end ∷ []))
+statement start number value end = var_decl (at start (end + 1)) (scope 0) (tree.Word words.Const) false
+    (list (declarator (start + 6) number value end ∷ []))
 
 -- `export const x: string = value;`
 abbrev pub exported : ℕ → ℕ → Tree → ℕ → Tree
@@ -61,8 +64,11 @@ exported start number value end = export_decl (at start (end + 1)) (statement (s
 
 -- `/** x */` at a place, or another letter in place of x, before what begins 9 bytes further
 abbrev pub documented : ℕ → ℕ → SourcePos × List Comment
-documented letter start =
-    (record { 0 = start + 9 }, record { kind = Block; span = at start (start + 8); text = 42 ∷ 32 ∷ letter ∷ 32 ∷ [] } ∷ [])
+documented letter start = (
+  record { 0 = start + 9 },
+  record { kind = Block; span = at start (start + 8); text = 42 ∷ 32 ∷ letter ∷ 32 ∷ [] } ∷
+      [],
+)
 
 abbrev pub before_tokens : List (SourcePos × List Comment) → Comments
 before_tokens places = record { leading = places; trailing = [] }
@@ -88,7 +94,8 @@ first_comments = before_tokens (documented 120 1 ∷ [])
 abbrev pub hidden_function : Tree
 hidden_function =
     fn_decl (ident (at 19 20) (scope 3) (103 ∷ []) false) false
-    (function (at 10 25) (list []) (list []) (scope 4) (block_stmt (at 23 25) (scope 4) (list [])) false false Absent Absent)
+    (function (at 10 25) (list []) (list []) (scope 4)
+    (block_stmt (at 23 25) (scope 4) (list [])) false false Absent Absent)
 
 -- `y` at 60
 abbrev pub name_value : Tree
@@ -119,8 +126,8 @@ around place = record {
   objects = no_objects;
 }
 
--- They agree, and so the law says that their answers are the same: the first is `/** x */ export const x: string = {} as never;`.
--- What documents the hidden function goes.
+-- They agree, and so the law says that their answers are the same: the first is `/** x */ export const x: string = {}
+-- as never;`. What documents the hidden function goes.
 pub record Example : Type 0 where
   pub one_to_one : IsRenaming renaming
   pub agree : AgreeHidden renaming (around 23) (around 48) first second

@@ -12,7 +12,8 @@ use Rattle.fast_check_expression_forms.specs.Assertions.{ts_as_expr}
 use Rattle.fast_check_helpers.specs.Builders.{new_ident, ts_keyword_type}
 use Rattle.fast_check_signatures.specs.NewNodes.{ident_name, never_in_parens}
 use Rattle.fast_check_expandos.specs.Expandos.{property_declarator, namespace_decl}
-use Rattle.fast_check_skeleton.specs.ClassExample.{function_f, empty_statement, module_of, no_places, no_classes, all_public}
+use Rattle.fast_check_skeleton.specs.ClassExample.{function_f, empty_statement, module_of, no_places, no_classes}
+use Rattle.fast_check_skeleton.specs.ClassExample.{all_public}
 use Rattle.fast_check_skeleton.specs.Hidden.{AgreeHidden}
 use Rattle.fast_check_skeleton.specs.SameAssignments.{SameObject}
 use Rattle.fast_check_skeleton.specs.Skeleton.{skeleton_of}
@@ -64,7 +65,8 @@ all_exported = record {
   objects = record { exports = λ id name. false; has_export_keyword = λ id. true };
 }
 
--- They agree, and the skeleton of both is `function f(): void {} namespace f { export var a = ({} as never) as number; }`.
+-- They agree, and the skeleton of both is `function f(): void {} namespace f { export var a = ({} as never) as number;
+-- }`.
 pub record ExpandoExample : Type 0 where
   pub one_to_one : IsRenaming no_places
   pub agree : AgreeHidden no_places all_public all_public first second

@@ -11,11 +11,13 @@ use Rattle.fast_check_signatures.specs.NewNodes.{hash_private}
 use Rattle.fast_check_signatures.specs.Members.{is_hash_named}
 use Rattle.fast_check_signatures.specs.Classes.{plain_class_seen}
 
--- In the skeleton of a class that is not ambient `#private!: unknown` stands first exactly if the class had a method, a property or an accessor with a hash
--- name, and no other member with a hash name stands there.
+-- In the skeleton of a class that is not ambient `#private!: unknown` stands first exactly if the class had a method, a
+-- property or an accessor with a hash name, and no other member with a hash name stands there.
 pub record IsMarked (class skeleton : Tree) : Type 0 where
   pub rest : List Tree
-  pub members : parts (Class-body skeleton) ≡ (if list_any is_hash_named (parts (Class-body class)) then hash_private ∷ [] else []) ++ rest
+  pub members : parts
+      (Class-body skeleton) ≡ (if list_any is_hash_named (parts (Class-body class)) then hash_private ∷ [] else []) ++
+      rest
   pub others : filter is_hash_named rest ≡ []
 
 abbrev pub HashMarked : Tree → Type 0

@@ -3,8 +3,9 @@
 use Rattle.std.specs.Prelude.{◌≡◌, Bool, true, false, not, ◌&&◌, ◌||◌, Some, None, List, [], ◌∷◌}
 use Rattle.std.specs.List.{list_all}
 use Rattle.fast_check_syntax.specs.declared.kind.Kind.{Kind}
-use Rattle.fast_check_syntax.specs.declared.kind.Kind.TheVariants.{BindingIdent, VarDecl, UsingDecl, ExportDecl, FnDecl, ClassDecl, ExprStmt, AssignExpr}
-use Rattle.fast_check_syntax.specs.declared.kind.Kind.TheVariants.{TsModuleDecl, TsNamespaceDecl}
+use Rattle.fast_check_syntax.specs.declared.kind.Kind.TheVariants.{BindingIdent, VarDecl, UsingDecl, ExportDecl, FnDecl}
+use Rattle.fast_check_syntax.specs.declared.kind.Kind.TheVariants.{ClassDecl, ExprStmt, AssignExpr, TsModuleDecl}
+use Rattle.fast_check_syntax.specs.declared.kind.Kind.TheVariants.{TsNamespaceDecl}
 use Rattle.fast_check_syntax.specs.declared.source.SourceRange.{SourceRange}
 use Rattle.fast_check_syntax.specs.declared.tree.Tree.{Tree}
 use Rattle.fast_check_syntax.specs.Shape.{◌is◌, kind_of, parts, is_absent}
@@ -16,16 +17,20 @@ use Rattle.fast_check_ranges.specs.Ranges.{range_of_node}
 use Rattle.fast_check_program_forms.specs.Programs.{Module-shebang}
 use Rattle.fast_check_program_forms.specs.ModuleDecls.{ExportDecl-span, ExportDecl-decl}
 use Rattle.fast_check_statement_forms.specs.Declarations.{ClassDecl-ident, ClassDecl-declare, ClassDecl-class}
-use Rattle.fast_check_statement_forms.specs.Declarations.{FnDecl-ident, FnDecl-declare, FnDecl-function}
-use Rattle.fast_check_statement_forms.specs.Declarations.{UsingDecl-span}
-use Rattle.fast_check_statement_forms.specs.Declarations.{VarDecl-span, VarDecl-ctxt, VarDecl-kind, VarDecl-declare, VarDecl-decls}
-use Rattle.fast_check_statement_forms.specs.Declarations.{VarDeclarator-span, VarDeclarator-name, VarDeclarator-init, VarDeclarator-definite}
+use Rattle.fast_check_statement_forms.specs.Declarations.{FnDecl-ident, FnDecl-declare, FnDecl-function, UsingDecl-span}
+use Rattle.fast_check_statement_forms.specs.Declarations.{VarDecl-span, VarDecl-ctxt, VarDecl-kind, VarDecl-declare}
+use Rattle.fast_check_statement_forms.specs.Declarations.{VarDecl-decls, VarDeclarator-span, VarDeclarator-name}
+use Rattle.fast_check_statement_forms.specs.Declarations.{VarDeclarator-init, VarDeclarator-definite}
 use Rattle.fast_check_statement_forms.specs.Statements.{ExprStmt-expr}
 use Rattle.fast_check_expression_forms.specs.Operators.{AssignExpr-span}
-use Rattle.fast_check_statement_forms.specs.TsDeclarations.{TsModuleDecl-span, TsModuleDecl-declare, TsModuleDecl-global, TsModuleDecl-namespace}
-use Rattle.fast_check_statement_forms.specs.TsDeclarations.{TsModuleDecl-id, TsModuleDecl-body, TsModuleBlock-span, TsNamespaceDecl-span}
-use Rattle.fast_check_statement_forms.specs.TsDeclarations.{TsNamespaceDecl-declare, TsNamespaceDecl-global, TsNamespaceDecl-id, TsNamespaceDecl-body}
-use Rattle.fast_check_skeleton.specs.SameValues.{SameBindings, Both, Neither, SameExpr, SameFunction, SameImplementation}
+use Rattle.fast_check_statement_forms.specs.TsDeclarations.{TsModuleDecl-span, TsModuleDecl-declare}
+use Rattle.fast_check_statement_forms.specs.TsDeclarations.{TsModuleDecl-global, TsModuleDecl-namespace}
+use Rattle.fast_check_statement_forms.specs.TsDeclarations.{TsModuleDecl-id, TsModuleDecl-body, TsModuleBlock-span}
+use Rattle.fast_check_statement_forms.specs.TsDeclarations.{TsNamespaceDecl-span, TsNamespaceDecl-declare}
+use Rattle.fast_check_statement_forms.specs.TsDeclarations.{TsNamespaceDecl-global, TsNamespaceDecl-id}
+use Rattle.fast_check_statement_forms.specs.TsDeclarations.{TsNamespaceDecl-body}
+use Rattle.fast_check_skeleton.specs.SameValues.{SameBindings, Both, Neither, SameExpr, SameFunction}
+use Rattle.fast_check_skeleton.specs.SameValues.{SameImplementation}
 use Rattle.fast_check_skeleton.specs.SameClasses.{HasNoPartner, IsNoPartner, SameClass, SameAmbientClass}
 use Rattle.fast_check_skeleton.specs.Kinds.{is_standing, is_statement}
 use Rattle.fast_check_skeleton.specs.Mutability.{mutability_of}
@@ -37,17 +42,19 @@ use Rattle.fast_check_skeleton.specs.SameDefaults.{IsSilentDefault, SameDefault}
 use Rattle.fast_check_skeleton.specs.SameAssignments.{SameAssigned}
 use Rattle.fast_check_skeleton.specs.SameLinks.{IsSilentLink, SamePublic, SameLink}
 use Rattle.fast_check_skeleton.specs.Surroundings.{Surroundings, inside}
-use Rattle.fast_check_skeleton.specs.Visible.{declared_ident, declared_type, is_ambient_statement, is_public_declarator, is_ambient_class, is_public_using}
-use Rattle.fast_check_skeleton.specs.Visible.{using_place, items_of}
+use Rattle.fast_check_skeleton.specs.Visible.{declared_ident, declared_type, is_ambient_statement, is_public_declarator}
+use Rattle.fast_check_skeleton.specs.Visible.{is_ambient_class, is_public_using, using_place, items_of}
 
 -- a statement that is no declaration and no assignment
 abbrev pub is_plain_statement : Tree → Bool
-is_plain_statement t = is_statement (kind_of t) || ((kind_of t is ExprStmt) && not (kind_of (ExprStmt-expr t) is AssignExpr))
+is_plain_statement t =
+    is_statement (kind_of t) || ((kind_of t is ExprStmt) && not (kind_of (ExprStmt-expr t) is AssignExpr))
 
 -- a declaration that goes without a word; `place` is the range of its export, or else its own
 pub data IsSilentDecl (around : Surroundings) (place : SourceRange) : Tree → Type 0 where
   -- a variable statement without a public declarator
-  variable : {t : Tree} → kind_of t ≡ VarDecl → list_all (λ d. not (is_public_declarator around d)) (parts (VarDecl-decls t)) ≡ true →
+  variable : {t : Tree} → kind_of t ≡ VarDecl → list_all (λ d. not (is_public_declarator around d))
+      (parts (VarDecl-decls t)) ≡ true →
       IsSilentDecl around place t
   -- an interface, type alias or enum that is not public
   standing : {t : Tree} → is_standing (kind_of t) ≡ true → around.is_public place ≡ false → IsSilentDecl around place t
@@ -65,9 +72,11 @@ pub data IsSilent (around : Surroundings) : Tree → Type 0 where
   decl : {t : Tree} → IsSilentDecl around (range_of_node t) t → IsSilent around t
   -- a statement that declares and assigns nothing
   statement : {t : Tree} → is_plain_statement t ≡ true → IsSilent around t
-  exported : {t : Tree} → kind_of t ≡ ExportDecl → IsSilentDecl around (ExportDecl-span t) (ExportDecl-decl t) → IsSilent around t
+  exported : {t : Tree} → kind_of t ≡ ExportDecl → IsSilentDecl around (ExportDecl-span t) (ExportDecl-decl t) →
+      IsSilent around t
   -- an assignment that is not public
-  assigned : {t : Tree} → kind_of t ≡ ExprStmt → kind_of (ExprStmt-expr t) ≡ AssignExpr → around.is_public (AssignExpr-span (ExprStmt-expr t)) ≡ false →
+  assigned : {t : Tree} → kind_of t ≡ ExprStmt → kind_of (ExprStmt-expr t) ≡ AssignExpr →
+      around.is_public (AssignExpr-span (ExprStmt-expr t)) ≡ false →
       IsSilent around t
   linked : {t : Tree} → IsSilentLink around t → IsSilent around t
   default : {t : Tree} → IsSilentDefault around t → IsSilent around t
@@ -91,7 +100,9 @@ module _ (r : Renaming) (a b : Surroundings) where
         inferred_type mutability b.bindings.unresolved (VarDeclarator-init u) ≡ Some y →
         SameTree r x y → SameDeclarator mutability t u
     -- no values
-    absent : {t u : Tree} → SameHead t u → is_absent (VarDeclarator-init t) ≡ true → is_absent (VarDeclarator-init u) ≡ true → SameDeclarator mutability t u
+    absent : {t u : Tree} → SameHead t u →
+        is_absent (VarDeclarator-init t) ≡ true → is_absent (VarDeclarator-init u) ≡ true →
+        SameDeclarator mutability t u
     -- values that show no type and are to stay
     kept : {t u : Tree} → SameHead t u →
         inferred_type mutability a.bindings.unresolved (VarDeclarator-init t) ≡ None →
@@ -99,7 +110,8 @@ module _ (r : Renaming) (a b : Surroundings) where
         SameExpr r a.bindings b.bindings (VarDeclarator-init t) (VarDeclarator-init u) → SameDeclarator mutability t u
     -- any values and types of patterns, which can't be declared
     destructured : {t u : Tree} → Neither BindingIdent (VarDeclarator-name t) (VarDeclarator-name u) →
-        SameRange r (range_of_node (VarDeclarator-name t)) (range_of_node (VarDeclarator-name u)) → SameDeclarator mutability t u
+        SameRange r (range_of_node (VarDeclarator-name t)) (range_of_node (VarDeclarator-name u)) →
+        SameDeclarator mutability t u
 
   -- declarators one by one, those that are not public aside; ambient ones stand as they are written
   abbrev pub SameDeclarators : (Tree → Tree → Type 0) → List Tree → List Tree → Type 0
@@ -134,27 +146,34 @@ module _ (r : Renaming) (a b : Surroundings) where
     ambient : {t u : Tree} → SameStatement t u → is_ambient_statement a t ≡ true →
         SameDeclarators (SameTree r) (parts (VarDecl-decls t)) (parts (VarDecl-decls u)) → SameDecl p q t u
     -- interfaces, type aliases and enums stand as they are written
-    standing : {t u : Tree} (k : Kind) → Both k t u → is_standing k ≡ true → a.is_public p ≡ b.is_public q → SameTree r t u → SameDecl p q t u
+    standing : {t u : Tree} (k : Kind) → Both k t u → is_standing k ≡ true → a.is_public p ≡ b.is_public q →
+        SameTree r t u → SameDecl p q t u
     function : {t u : Tree} → SameFunctionDecl p q t u → a.is_implementation p ≡ false → b.is_implementation q ≡ false →
         SameFunction r a.bindings b.bindings (FnDecl-function t) (FnDecl-function u) → SameDecl p q t u
     -- implementations behind overloads
-    implementation : {t u : Tree} → SameFunctionDecl p q t u → a.is_implementation p ≡ true → b.is_implementation q ≡ true →
+    implementation : {t u : Tree} → SameFunctionDecl p q t u → a.is_implementation p ≡ true →
+        b.is_implementation q ≡ true →
         SameImplementation r a.bindings b.bindings (FnDecl-function t) (FnDecl-function u) → SameDecl p q t u
     -- functions where all is ambient
-    ambient_function : {t u : Tree} → Both FnDecl t u → a.is_public p ≡ b.is_public q → a.is_ambient ≡ true → SameTree r t u → SameDecl p q t u
+    ambient_function : {t u : Tree} → Both FnDecl t u → a.is_public p ≡ b.is_public q → a.is_ambient ≡ true →
+        SameTree r t u → SameDecl p q t u
     class : {t u : Tree} → SameClassDecl t u → a.is_public p ≡ b.is_public q → is_ambient_class a t ≡ false →
-        SameClass r a.bindings b.bindings a.is_implementation b.is_implementation (ClassDecl-class t) (ClassDecl-class u) → SameDecl p q t u
+        SameClass r a.bindings b.bindings a.is_implementation b.is_implementation (ClassDecl-class t)
+        (ClassDecl-class u) → SameDecl p q t u
     -- ambient classes stand as they are written, but for private members of computed keys
     ambient_class : {t u : Tree} → SameClassDecl t u → a.is_public p ≡ b.is_public q → is_ambient_class a t ≡ true →
-        SameAmbientClass r a.bindings b.bindings a.is_implementation b.is_implementation (ClassDecl-class t) (ClassDecl-class u) → SameDecl p q t u
+        SameAmbientClass r a.bindings b.bindings a.is_implementation b.is_implementation (ClassDecl-class t)
+        (ClassDecl-class u) → SameDecl p q t u
     -- `using`, whatever it declares
-    using : {t u : Tree} → Both UsingDecl t u → SameRange r (UsingDecl-span t) (UsingDecl-span u) → is_public_using a p t ≡ is_public_using b q u →
+    using : {t u : Tree} → Both UsingDecl t u → SameRange r (UsingDecl-span t) (UsingDecl-span u) →
+        is_public_using a p t ≡ is_public_using b q u →
         SameRange r (using_place t) (using_place u) → SameDecl p q t u
     -- `declare global`, whatever stands in it
     global : {t u : Tree} → Both TsModuleDecl t u → TsModuleDecl-global t ≡ true → TsModuleDecl-global u ≡ true →
         SameRange r (TsModuleDecl-span t) (TsModuleDecl-span u) → SameDecl p q t u
     -- `declare module "x"`, or what has no body
-    ambient_module : {t u : Tree} → Both TsModuleDecl t u → TsModuleDecl-global t ≡ false → TsModuleDecl-global u ≡ false → is_ambient_module t ≡ true →
+    ambient_module : {t u : Tree} → Both TsModuleDecl t u → TsModuleDecl-global t ≡ false →
+        TsModuleDecl-global u ≡ false → is_ambient_module t ≡ true →
         is_ambient_module u ≡ true → SameRange r (TsModuleDecl-span t) (TsModuleDecl-span u) →
         SameRange r (range_of_node (TsModuleDecl-id t)) (range_of_node (TsModuleDecl-id u)) → SameDecl p q t u
 
@@ -180,17 +199,24 @@ pub record SameInnerHead (r : Renaming) (t u : Tree) : Type 0 where
 module _ (r : Renaming) where
   mutual
     pub data SameItem : Surroundings → Surroundings → Tree → Tree → Type 0 where
-      decl : {a b : Surroundings} {t u : Tree} → SameDecl r a b (range_of_node t) (range_of_node u) t u → SameItem a b t u
-      exported : {a b : Surroundings} {t u : Tree} → Both ExportDecl t u → SameRange r (ExportDecl-span t) (ExportDecl-span u) →
-          SameDecl r a b (ExportDecl-span t) (ExportDecl-span u) (ExportDecl-decl t) (ExportDecl-decl u) → SameItem a b t u
-      namespace : {a b : Surroundings} {t u : Tree} → SameNamespace a b (range_of_node t) (range_of_node u) t u → SameItem a b t u
-      exported_namespace : {a b : Surroundings} {t u : Tree} → Both ExportDecl t u → SameRange r (ExportDecl-span t) (ExportDecl-span u) →
-          SameNamespace a b (ExportDecl-span t) (ExportDecl-span u) (ExportDecl-decl t) (ExportDecl-decl u) → SameItem a b t u
+      decl : {a b : Surroundings} {t u : Tree} → SameDecl r a b (range_of_node t) (range_of_node u) t u →
+          SameItem a b t u
+      exported : {a b : Surroundings} {t u : Tree} → Both ExportDecl t u →
+          SameRange r (ExportDecl-span t) (ExportDecl-span u) →
+          SameDecl r a b (ExportDecl-span t) (ExportDecl-span u) (ExportDecl-decl t) (ExportDecl-decl u) →
+          SameItem a b t u
+      namespace : {a b : Surroundings} {t u : Tree} → SameNamespace a b (range_of_node t) (range_of_node u) t u →
+          SameItem a b t u
+      exported_namespace : {a b : Surroundings} {t u : Tree} → Both ExportDecl t u →
+          SameRange r (ExportDecl-span t) (ExportDecl-span u) →
+          SameNamespace a b (ExportDecl-span t) (ExportDecl-span u) (ExportDecl-decl t) (ExportDecl-decl u) →
+          SameItem a b t u
       linked : {a b : Surroundings} {t u : Tree} → SameLink r a b t u → SameItem a b t u
       default : {a b : Surroundings} {t u : Tree} → SameDefault r a b t u → SameItem a b t u
       assigned : {a b : Surroundings} {t u : Tree} → SameAssigned r a b t u → SameItem a b t u
       -- items that no skeleton has, for one reason
-      refused : {a b : Surroundings} {t u : Tree} (kind : FaultKind) → item_rule t ≡ Refused kind → item_rule u ≡ Refused kind →
+      refused : {a b : Surroundings} {t u : Tree} (kind : FaultKind) →
+          item_rule t ≡ Refused kind → item_rule u ≡ Refused kind →
           SameRange r (range_of_node t) (range_of_node u) → SameItem a b t u
 
     -- namespaces, whose bodies agree; `p` and `q` are the ranges of their exports, or else their own
@@ -200,18 +226,23 @@ module _ (r : Renaming) where
 
     -- blocks, whose items agree, under the same names
     pub data SameBody : Surroundings → Surroundings → Tree → Tree → Type 0 where
-      block : {a b : Surroundings} {t u : Tree} → Neither TsNamespaceDecl t u → SameRange r (TsModuleBlock-span t) (TsModuleBlock-span u) →
+      block : {a b : Surroundings} {t u : Tree} → Neither TsNamespaceDecl t u →
+          SameRange r (TsModuleBlock-span t) (TsModuleBlock-span u) →
           SameItems a b (block_items t) (block_items u) → SameBody a b t u
-      inner : {a b : Surroundings} {t u : Tree} → SameInnerHead r t u → SameBody a b (TsNamespaceDecl-body t) (TsNamespaceDecl-body u) → SameBody a b t u
+      inner : {a b : Surroundings} {t u : Tree} → SameInnerHead r t u →
+          SameBody a b (TsNamespaceDecl-body t) (TsNamespaceDecl-body u) → SameBody a b t u
 
     -- items one by one, the silent ones aside; where a silent one begins has no partner
     pub data SameItems : Surroundings → Surroundings → List Tree → List Tree → Type 0 where
       end : {a b : Surroundings} → SameItems a b [] []
-      left : {a b : Surroundings} {t : Tree} {ts us : List Tree} → IsSilent a t → HasNoPartner r.starts (range_of_node t).start.0 → SameItems a b ts us →
+      left : {a b : Surroundings} {t : Tree} {ts us : List Tree} → IsSilent a t →
+          HasNoPartner r.starts (range_of_node t).start.0 → SameItems a b ts us →
           SameItems a b (t ∷ ts) us
-      right : {a b : Surroundings} {u : Tree} {ts us : List Tree} → IsSilent b u → IsNoPartner r.starts (range_of_node u).start.0 → SameItems a b ts us →
+      right : {a b : Surroundings} {u : Tree} {ts us : List Tree} → IsSilent b u →
+          IsNoPartner r.starts (range_of_node u).start.0 → SameItems a b ts us →
           SameItems a b ts (u ∷ us)
-      next : {a b : Surroundings} {t u : Tree} {ts us : List Tree} → SameItem a b t u → SameItems a b ts us → SameItems a b (t ∷ ts) (u ∷ us)
+      next : {a b : Surroundings} {t u : Tree} {ts us : List Tree} → SameItem a b t u → SameItems a b ts us →
+          SameItems a b (t ∷ ts) (u ∷ us)
 
 module _ (r : Renaming) (a b : Surroundings) where
   -- two modules that agree but for what is hidden

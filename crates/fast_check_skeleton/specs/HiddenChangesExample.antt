@@ -3,9 +3,9 @@
 -- @d class C { private m(): void {} } z = h();`, and
 -- `function f([]: number[], n: number = 2, p = 2): void { ; } f.a = y as number;
 -- class C { static {} private m(a): void {} } z = h, h;`.
--- These are a body behind a written return type, the elements of a pattern, a default behind a written type and one that
--- shows the same type, the operand of an assertion, a decorator, the signature of a private method, and a value that may not
--- stay. What agrees stands at the place of no text. The static block begins at 7.
+-- These are a body behind a written return type, the elements of a pattern, a default behind a written type and one
+-- that shows the same type, the operand of an assertion, a decorator, the signature of a private method, and a value
+-- that may not stay. What agrees stands at the place of no text. The static block begins at 7.
 use Rattle.std.specs.Prelude.{ℕ, false, List, [], ◌∷◌, codes}
 use Rattle.fast_check_syntax.specs.declared.kind.Kind.TheVariants as kinds
 use Rattle.fast_check_syntax.specs.declared.kind.Word.TheVariants as words

@@ -28,7 +28,8 @@ use Rattle.fast_check_skeleton.specs.Links.{public_specifiers}
 use Rattle.fast_check_skeleton.specs.Namespaces.{is_namespace}
 use Rattle.fast_check_skeleton.specs.Rules.{is_require}
 use Rattle.fast_check_skeleton.specs.SameLinks.{SamePublic}
-use Rattle.fast_check_skeleton.specs.Hidden.{is_plain_statement, IsSilentDecl, IsSilent, SameHead, SameDeclarator, SameItems}
+use Rattle.fast_check_skeleton.specs.Hidden.{is_plain_statement, IsSilentDecl, IsSilent, SameHead, SameDeclarator}
+use Rattle.fast_check_skeleton.specs.Hidden.{SameItems}
 use Rattle.fast_check_skeleton.specs.Surroundings.{Surroundings}
 use Rattle.fast_check_skeleton.specs.Visible.{is_public_declarator, is_public_using}
 
@@ -50,7 +51,8 @@ pub record SilentDecls (around : Surroundings) (place : SourceRange) (t : Tree) 
 -- an item `t`
 pub record SilentItems (around : Surroundings) (t : Tree) : Type 0 where
   pub decls : IsSilentDecl around (range_of_node t) t → IsSilent around t
-  pub exported : kind_of t ≡ ExportDecl → IsSilentDecl around (ExportDecl-span t) (ExportDecl-decl t) → IsSilent around t
+  pub exported : kind_of t ≡ ExportDecl → IsSilentDecl around (ExportDecl-span t) (ExportDecl-decl t) →
+      IsSilent around t
   -- any statement that declares and assigns nothing
   pub statements : is_plain_statement t ≡ true → IsSilent around t
   -- any assignment that is not public

@@ -29,7 +29,8 @@ use Rattle.fast_check_helpers.specs.InferredType.{inferred_type}
 use Rattle.fast_check_helpers.specs.NamedBodies.{named_return}
 use Rattle.fast_check_helpers.specs.ReturnClass.{return_class}
 use Rattle.fast_check_signatures.specs.Bindings.{Bindings}
-use Rattle.fast_check_signatures.specs.Classes.{is_super_call, is_reference, param_target, param_properties, mutability_of_property}
+use Rattle.fast_check_signatures.specs.Classes.{is_super_call, is_reference, param_target, param_properties}
+use Rattle.fast_check_signatures.specs.Classes.{mutability_of_property}
 use Rattle.fast_check_signatures.specs.Members.{is_private, is_hash_named, is_private_method_of}
 use Rattle.fast_check_signatures.specs.Members.{is_private_implementation, is_private_computed}
 use Rattle.fast_check_signatures.specs.NewNodes.{no_scope, new_block, ident_name, ts_array_type}
@@ -37,9 +38,10 @@ use Rattle.fast_check_skeleton.specs.SameValues.{SameExpr, SameFunction, SamePat
 use Rattle.fast_check_skeleton.specs.SameValues.{SameGathered, SameImplementation, rests, is_parameter}
 use Rattle.fast_check_skeleton.specs.SameValues.{Both, SameNamed, SameParams, takes_default}
 use Rattle.fast_check_skeleton.specs.SameClasses.{IsSilentMember, SameProperty, SameAccessor, SameParamType}
-use Rattle.fast_check_skeleton.specs.SameClasses.{SameConstructed, SameConstructor, SameSuperCalls}
-use Rattle.fast_check_skeleton.specs.SameClasses.{SameMethod, SameSuperclass, SameAmbientMembers, rest_params}
-use Rattle.fast_check_skeleton.specs.SameClasses.{SameTypeShown, NoTypeShown, SameParamProperty, SameMembers, HasNoPartner, IsNoPartner}
+use Rattle.fast_check_skeleton.specs.SameClasses.{SameConstructed, SameConstructor, SameSuperCalls, SameMethod}
+use Rattle.fast_check_skeleton.specs.SameClasses.{SameSuperclass, SameAmbientMembers, rest_params, SameTypeShown}
+use Rattle.fast_check_skeleton.specs.SameClasses.{NoTypeShown, SameParamProperty, SameMembers, HasNoPartner}
+use Rattle.fast_check_skeleton.specs.SameClasses.{IsNoPartner}
 use Rattle.fast_check_skeleton.specs.HiddenChanges.{number_type, pattern}
 
 -- `(params): type { stmts }`
@@ -190,7 +192,8 @@ module _ (r : Renaming) (c d : Bindings) where
           (AssignPat-right (TsParamProp-param t)) (AssignPat-right (TsParamProp-param u)) → SameParamType r c d f g t u
       -- anything in a constructor but its calls of `super` and its parameter properties
       pub constructed : (t u : Tree) →
-          SameSuperCalls r c d f g (parts (BlockStmt-stmts (Constructor-body t))) (parts (BlockStmt-stmts (Constructor-body u))) →
+          SameSuperCalls r c d f g (parts (BlockStmt-stmts (Constructor-body t)))
+          (parts (BlockStmt-stmts (Constructor-body u))) →
           Each (SameParamProperty r c d f g) (param_properties t) (param_properties u) → SameConstructed r c d f g t u
       -- any other parameters of private constructors
       pub private_constructors : (t u : Tree) → SameConstructed r c d f g t u →

@@ -1,5 +1,6 @@
--- Which comments stay with a skeleton: directives for the type checker and documentation, but for those before an item that goes, and before a member that
--- goes of a class that stays and is not ambient. The items of a namespace that stays are looked at as those of a module.
+-- Which comments stay with a skeleton: directives for the type checker and documentation, but for those before an item
+-- that goes, and before a member that goes of a class that stays and is not ambient. The items of a namespace that
+-- stays are looked at as those of a module.
 use Rattle.std.specs.Prelude.{not, ◌&&◌, List, [], ◌∷◌, ◌++◌, map, if◌then◌else◌}
 use Rattle.std.specs.List.{flat_map}
 use Rattle.fast_check_syntax.specs.declared.source.SourcePos.{SourcePos}
@@ -14,7 +15,8 @@ use Rattle.fast_check_class_forms.specs.Classes.{Class-body}
 use Rattle.fast_check_expression_forms.specs.Expressions.{ClassExpr-class}
 use Rattle.fast_check_expression_forms.specs.Operators.{AssignExpr-span}
 use Rattle.fast_check_statement_forms.specs.Statements.{ExprStmt-expr}
-use Rattle.fast_check_program_forms.specs.ModuleDecls.{ExportDecl-span, ExportDecl-decl, ExportDefaultDecl-span, ExportDefaultDecl-decl}
+use Rattle.fast_check_program_forms.specs.ModuleDecls.{ExportDecl-span, ExportDecl-decl, ExportDefaultDecl-span}
+use Rattle.fast_check_program_forms.specs.ModuleDecls.{ExportDefaultDecl-decl}
 use Rattle.fast_check_statement_forms.specs.Declarations.{ClassDecl-class}
 use Rattle.fast_check_signatures.specs.Members.{removed_members}
 use Rattle.fast_check_signatures.specs.Seen.{Seen}
@@ -56,7 +58,8 @@ starts_in_default around item _ = []
 
 -- the start of an assignment that is tested: nothing stays of it
 abbrev pub start_of_tested : Surroundings → Tree → Tree → List SourcePos
-start_of_tested around item assignment = if around.is_public (AssignExpr-span assignment) then (range_of_node item).start ∷ [] else []
+start_of_tested around item assignment = if around.is_public (AssignExpr-span assignment) then
+    (range_of_node item).start ∷ [] else []
 
 -- inside of an item
 abbrev pub starts_inside : Surroundings → Tree → ItemRule → List SourcePos
@@ -73,7 +76,8 @@ StartLook = Tree → Surroundings → List SourcePos
 -- what goes of the items of a namespace, which is public by `place`
 abbrev pub starts_in_namespace : StartLook → Surroundings → SourceRange → Tree → List SourcePos
 starts_in_namespace look around place decl =
-    if is_namespace decl && around.is_public place then flat_map (λ item. look item (inside around decl)) (items_inside decl) else []
+    if is_namespace decl && around.is_public place then flat_map (λ item. look item (inside around decl))
+    (items_inside decl) else []
 
 abbrev pub starts_in_body : StartLook → Surroundings → SourceRange → Tree → DeclRule → List SourcePos
 starts_in_body look around place decl Namespace = starts_in_namespace look around place decl
@@ -81,13 +85,16 @@ starts_in_body look around place decl _ = []
 
 abbrev pub starts_below : StartLook → Surroundings → Tree → ItemRule → List SourcePos
 starts_below look around item (Declared rule) = starts_in_body look around (range_of_node item) item rule
-starts_below look around item (Exported rule) = starts_in_body look around (ExportDecl-span item) (ExportDecl-decl item) rule
+starts_below look around item (Exported rule) = starts_in_body look around (ExportDecl-span item)
+    (ExportDecl-decl item) rule
 starts_below look around item _ = []
 
--- of an item: what goes of the items of a namespace, the start of the item itself if it goes, and those of the members of a class
+-- of an item: what goes of the items of a namespace, the start of the item itself if it goes, and those of the members
+-- of a class
 abbrev pub start_form : Tree → StartLook → Surroundings → List SourcePos
 start_form item look around =
-    starts_below look around item (item_rule item) ++ (start_of_unseen item (item_seen around item) ++ starts_inside around item (item_rule item))
+    starts_below look around item
+    (item_rule item) ++ (start_of_unseen item (item_seen around item) ++ starts_inside around item (item_rule item))
 
 unfoldable pub start_look : StartLook
 start_look = by_descent (λ around. []) start_form

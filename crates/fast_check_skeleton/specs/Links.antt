@@ -3,10 +3,11 @@ use Rattle.std.specs.Prelude.{ℕ, Bool, Option, Some, None, List, [], ◌∷◌
 use Rattle.std.specs.List.{filter}
 use Rattle.fast_check_syntax.specs.declared.tree.Tree.{Tree, Absent}
 use Rattle.fast_check_syntax.specs.Shape.{parts, is_absent, list}
-use Rattle.fast_check_program_forms.specs.ModuleDecls.{ImportDecl-span, ImportDecl-specifiers, ImportDecl-src, ImportDecl-type_only}
-use Rattle.fast_check_program_forms.specs.ModuleDecls.{ImportDecl-with, ImportDecl-phase}
-use Rattle.fast_check_program_forms.specs.ModuleDecls.{NamedExport-span, NamedExport-specifiers, NamedExport-src, NamedExport-type_only, NamedExport-with}
-use Rattle.fast_check_program_forms.specs.ModuleDecls.{ExportAll-span, ExportAll-src, ExportAll-type_only, ExportAll-with}
+use Rattle.fast_check_program_forms.specs.ModuleDecls.{ImportDecl-span, ImportDecl-specifiers, ImportDecl-src}
+use Rattle.fast_check_program_forms.specs.ModuleDecls.{ImportDecl-type_only, ImportDecl-with, ImportDecl-phase}
+use Rattle.fast_check_program_forms.specs.ModuleDecls.{NamedExport-span, NamedExport-specifiers, NamedExport-src}
+use Rattle.fast_check_program_forms.specs.ModuleDecls.{NamedExport-type_only, NamedExport-with, ExportAll-span}
+use Rattle.fast_check_program_forms.specs.ModuleDecls.{ExportAll-src, ExportAll-type_only, ExportAll-with}
 use Rattle.fast_check_program_forms.specs.ModuleDecls.{TsImportEqualsDecl-span, import_decl, named_export, export_all}
 use Rattle.fast_check_program_forms.specs.Literals.{Str-span, Str-value, str}
 use Rattle.fast_check_ranges.specs.Ranges.{range_of_node}
@@ -38,16 +39,19 @@ with_specifiers make (s ∷ ss) = written (make (s ∷ ss)) ∷ []
 
 abbrev pub import_with : Surroundings → Tree → List Tree → Tree
 import_with around t specifiers =
-    import_decl (ImportDecl-span t) (list specifiers) (answered_source around (ImportDecl-src t)) (ImportDecl-type_only t) (ImportDecl-with t)
+    import_decl (ImportDecl-span t) (list specifiers) (answered_source around (ImportDecl-src t))
+    (ImportDecl-type_only t) (ImportDecl-with t)
     (ImportDecl-phase t)
 
 abbrev pub export_with : Surroundings → Tree → List Tree → Tree
 export_with around t specifiers =
-    named_export (NamedExport-span t) (list specifiers) (answered_source around (NamedExport-src t)) (NamedExport-type_only t) (NamedExport-with t)
+    named_export (NamedExport-span t) (list specifiers) (answered_source around (NamedExport-src t))
+    (NamedExport-type_only t) (NamedExport-with t)
 
 -- `export * from source`
 abbrev pub all_exported : Surroundings → Tree → Tree
-all_exported around t = export_all (ExportAll-span t) (answered_source around (ExportAll-src t)) (ExportAll-type_only t) (ExportAll-with t)
+all_exported around t = export_all (ExportAll-span t) (answered_source around (ExportAll-src t)) (ExportAll-type_only t)
+    (ExportAll-with t)
 
 -- an import or an export of names, `export *` or `import A = B.C`, by which of them it is
 abbrev pub link_seen : Surroundings → Tree → LinkRule → List Seen

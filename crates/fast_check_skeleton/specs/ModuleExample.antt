@@ -23,7 +23,8 @@ use Rattle.fast_check_skeleton.specs.Surroundings.{Surroundings}
 
 -- a specifier of a name at a place
 abbrev pub specifier : SourceRange → ℕ → Tree
-specifier place letter = node kinds.ImportNamedSpecifier (tree.Range place ∷ new_ident (letter ∷ []) ∷ Absent ∷ tree.Flag false ∷ [])
+specifier place letter = node kinds.ImportNamedSpecifier
+    (tree.Range place ∷ new_ident (letter ∷ []) ∷ Absent ∷ tree.Flag false ∷ [])
 
 abbrev pub x : Tree
 x = specifier none_range 120

@@ -1,5 +1,5 @@
--- Two modules with a namespace, public both, that agree but for what is hidden: `namespace n.m {}` and `namespace n.m { ; }`.
--- What agrees stands at the place of no text. The empty statement begins at 7.
+-- Two modules with a namespace, public both, that agree but for what is hidden: `namespace n.m {}` and `namespace n.m {
+-- ; }`. What agrees stands at the place of no text. The empty statement begins at 7.
 use Rattle.std.specs.Prelude.{◌≡◌, true, false, List, [], ◌∷◌}
 use Rattle.fast_check_syntax.specs.declared.kind.Kind.TheVariants as kinds
 use Rattle.fast_check_syntax.specs.declared.tree.Tree as tree

@@ -4,15 +4,20 @@ use Rattle.fast_check_syntax.specs.declared.kind.Kind.{Kind}
 use Rattle.fast_check_syntax.specs.declared.kind.Kind.TheVariants as kinds
 use Rattle.fast_check_syntax.specs.declared.tree.Tree.{Tree}
 use Rattle.fast_check_syntax.specs.Shape.{◌is◌, kind_of}
-use Rattle.fast_check_program_forms.specs.ModuleDecls.{ExportDecl-decl, ExportDefaultDecl-decl, TsImportEqualsDecl-module_ref}
+use Rattle.fast_check_program_forms.specs.ModuleDecls.{ExportDecl-decl, ExportDefaultDecl-decl}
+use Rattle.fast_check_program_forms.specs.ModuleDecls.{TsImportEqualsDecl-module_ref}
 use Rattle.fast_check_statement_forms.specs.Statements.{ExprStmt-expr}
 use Rattle.fast_check_skeleton.specs.declared.rules.DeclRule.{DeclRule}
-use Rattle.fast_check_skeleton.specs.declared.rules.DeclRule.TheVariants.{Variables, Function, Class, Standing, Namespace, Using, NoDeclaration}
-use Rattle.fast_check_signatures.specs.declared.fault.FaultKind.TheVariants.{UnsupportedRequire, UnsupportedTsExportAssignment, UnsupportedTsNamespaceExport}
+use Rattle.fast_check_skeleton.specs.declared.rules.DeclRule.TheVariants.{Variables, Function, Class, Standing}
+use Rattle.fast_check_skeleton.specs.declared.rules.DeclRule.TheVariants.{Namespace, Using, NoDeclaration}
+use Rattle.fast_check_signatures.specs.declared.fault.FaultKind.TheVariants.{UnsupportedRequire}
+use Rattle.fast_check_signatures.specs.declared.fault.FaultKind.TheVariants.{UnsupportedTsExportAssignment}
+use Rattle.fast_check_signatures.specs.declared.fault.FaultKind.TheVariants.{UnsupportedTsNamespaceExport}
 use Rattle.fast_check_skeleton.specs.declared.rules.DefaultRule.TheVariants as defaults
 use Rattle.fast_check_skeleton.specs.declared.rules.LinkRule.TheVariants as links
 use Rattle.fast_check_skeleton.specs.declared.rules.ItemRule.{ItemRule}
-use Rattle.fast_check_skeleton.specs.declared.rules.ItemRule.TheVariants.{Declared, Exported, Linked, Default, Refused, Assigned, Silent}
+use Rattle.fast_check_skeleton.specs.declared.rules.ItemRule.TheVariants.{Declared, Exported, Linked, Default, Refused}
+use Rattle.fast_check_skeleton.specs.declared.rules.ItemRule.TheVariants.{Assigned, Silent}
 
 -- what is done with a declaration of a kind
 abbrev pub decl_rule : Kind → DeclRule

@@ -14,8 +14,8 @@ use Rattle.fast_check_expandos.specs.Expandos.{object_of}
 use Rattle.fast_check_skeleton.specs.Surroundings.{Surroundings}
 
 module _ (r : Renaming) (a b : Surroundings) where
-  -- what is known of the objects of two targets, as `f` in `f.a`: both export the property or neither does, and both stand
-  -- behind the keyword `export` or neither does
+  -- what is known of the objects of two targets, as `f` in `f.a`: both export the property or neither does, and both
+  -- stand behind the keyword `export` or neither does
   pub record SameObject (t u : Tree) : Type 0 where
     pub is_declared : is_declared a.objects t ≡ is_declared b.objects u
     pub has_export_keyword : a.objects.has_export_keyword (object_of t) ≡ b.objects.has_export_keyword (object_of u)
@@ -24,8 +24,8 @@ module _ (r : Renaming) (a b : Surroundings) where
   abbrev pub SameExported : List (List ℕ) → Tree → Tree → Type 0
   SameExported names t u = map (a.objects.exports (object_of t)) names ≡ map (b.objects.exports (object_of u)) names
 
-  -- two assignments of expando form, as `f.a = value`. Of the names that their objects export those count that the value,
-  -- as it stays, mentions in the scope of its object.
+  -- two assignments of expando form, as `f.a = value`. Of the names that their objects export those count that the
+  -- value, as it stays, mentions in the scope of its object.
   pub record SameExpando (t u : Tree) : Type 0 where
     pub forms : (is_expando_assignment t ≡ true) × (is_expando_assignment u ≡ true)
     pub span : SameRange r (AssignExpr-span t) (AssignExpr-span u)

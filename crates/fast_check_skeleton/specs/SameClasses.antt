@@ -1,8 +1,10 @@
--- Agreement of classes but for what is hidden: one rule for each part that may differ. All else agrees under a renaming of positions and scope numbers.
+-- Agreement of classes but for what is hidden: one rule for each part that may differ. All else agrees under a renaming
+-- of positions and scope numbers.
 use Rattle.std.specs.Prelude.{◌≡◌, ℕ, Bool, true, false, Some, None, List, [], ◌∷◌, map}
 use Rattle.std.specs.List.{list_any}
-use Rattle.fast_check_syntax.specs.declared.kind.Kind.TheVariants.{Constructor, ClassMethod, ClassProp, TsIndexSignature, AutoAccessor, StaticBlock, EmptyStmt}
-use Rattle.fast_check_syntax.specs.declared.kind.Kind.TheVariants.{BindingIdent, AssignPat, RestPat}
+use Rattle.fast_check_syntax.specs.declared.kind.Kind.TheVariants.{Constructor, ClassMethod, ClassProp}
+use Rattle.fast_check_syntax.specs.declared.kind.Kind.TheVariants.{TsIndexSignature, AutoAccessor, StaticBlock}
+use Rattle.fast_check_syntax.specs.declared.kind.Kind.TheVariants.{EmptyStmt, BindingIdent, AssignPat, RestPat}
 use Rattle.fast_check_syntax.specs.declared.kind.Word.TheVariants.{Setter}
 use Rattle.fast_check_syntax.specs.declared.source.SourceRange.{SourceRange}
 use Rattle.fast_check_syntax.specs.declared.tree.Tree.{Tree}
@@ -10,16 +12,21 @@ use Rattle.fast_check_syntax.specs.Shape.{◌is◌, kind_of, parts, is_absent, h
 use Rattle.fast_check_syntax.specs.Moves.{Renaming, Pairs, IsPair}
 use Rattle.fast_check_syntax.specs.Same.{SameTree, SameRange, Each}
 use Rattle.fast_check_ranges.specs.Ranges.{range_of_node}
-use Rattle.fast_check_class_forms.specs.Classes.{Class-span, Class-ctxt, Class-decorators, Class-body, Class-super_class, Class-is_abstract, Class-type_params}
-use Rattle.fast_check_class_forms.specs.Classes.{Class-super_type_params, Class-implements, Constructor-span, Constructor-ctxt, Constructor-key}
-use Rattle.fast_check_class_forms.specs.Classes.{Constructor-params, Constructor-body, Constructor-accessibility, Constructor-is_optional}
-use Rattle.fast_check_class_forms.specs.Classes.{TsParamProp-span, TsParamProp-accessibility, TsParamProp-readonly, TsParamProp-param}
-use Rattle.fast_check_class_forms.specs.Fields.{ClassProp-accessibility, ClassProp-readonly, ClassProp-is_override, ClassProp-type_ann, ClassProp-value}
-use Rattle.fast_check_class_forms.specs.Fields.{AutoAccessor-accessibility, AutoAccessor-type_ann, AutoAccessor-value}
+use Rattle.fast_check_class_forms.specs.Classes.{Class-span, Class-ctxt, Class-decorators, Class-body}
+use Rattle.fast_check_class_forms.specs.Classes.{Class-super_class, Class-is_abstract, Class-type_params}
+use Rattle.fast_check_class_forms.specs.Classes.{Class-super_type_params, Class-implements, Constructor-span}
+use Rattle.fast_check_class_forms.specs.Classes.{Constructor-ctxt, Constructor-key, Constructor-params}
+use Rattle.fast_check_class_forms.specs.Classes.{Constructor-body, Constructor-accessibility, Constructor-is_optional}
+use Rattle.fast_check_class_forms.specs.Classes.{TsParamProp-span, TsParamProp-accessibility, TsParamProp-readonly}
+use Rattle.fast_check_class_forms.specs.Classes.{TsParamProp-param}
+use Rattle.fast_check_class_forms.specs.Fields.{ClassProp-accessibility, ClassProp-readonly, ClassProp-is_override}
+use Rattle.fast_check_class_forms.specs.Fields.{ClassProp-type_ann, ClassProp-value, AutoAccessor-accessibility}
+use Rattle.fast_check_class_forms.specs.Fields.{AutoAccessor-type_ann, AutoAccessor-value}
 use Rattle.fast_check_class_forms.specs.Functions.{Function-params, Param-pat}
-use Rattle.fast_check_class_forms.specs.Methods.{ClassMethod-span, ClassMethod-function, ClassMethod-kind, ClassMethod-accessibility}
-use Rattle.fast_check_class_forms.specs.Methods.{ClassMethod-is_override}
-use Rattle.fast_check_expression_forms.specs.Calls.{CallExpr-span, CallExpr-ctxt, CallExpr-callee, CallExpr-args, CallExpr-type_args}
+use Rattle.fast_check_class_forms.specs.Methods.{ClassMethod-span, ClassMethod-function, ClassMethod-kind}
+use Rattle.fast_check_class_forms.specs.Methods.{ClassMethod-accessibility, ClassMethod-is_override}
+use Rattle.fast_check_expression_forms.specs.Calls.{CallExpr-span, CallExpr-ctxt, CallExpr-callee, CallExpr-args}
+use Rattle.fast_check_expression_forms.specs.Calls.{CallExpr-type_args}
 use Rattle.fast_check_expression_forms.specs.Expressions.{ExprOrSpread-spread}
 use Rattle.fast_check_expression_forms.specs.Patterns.{AssignPat-right}
 use Rattle.fast_check_program_forms.specs.Names.{BindingIdent-id, BindingIdent-type_ann}
@@ -29,10 +36,13 @@ use Rattle.fast_check_helpers.specs.declared.literal_type.DeclMutabilityKind.The
 use Rattle.fast_check_helpers.specs.InferredType.{inferred_type}
 use Rattle.fast_check_signatures.specs.Bindings.{Bindings}
 use Rattle.fast_check_signatures.specs.Seen.{PropertyHead}
-use Rattle.fast_check_signatures.specs.Members.{is_private, is_hash_named, is_private_method_of, is_private_implementation, is_private_computed}
-use Rattle.fast_check_signatures.specs.Classes.{mutability_of_property, property_head, accessor_head, private_method_head, plain_param, param_target}
-use Rattle.fast_check_signatures.specs.Classes.{param_properties, patterns_among, is_super_call, is_reference}
-use Rattle.fast_check_skeleton.specs.SameValues.{Both, Neither, SameExpr, SameFunction, SameFunctionHead, SameReturn, SameParams, SameImplementation}
+use Rattle.fast_check_signatures.specs.Members.{is_private, is_hash_named, is_private_method_of}
+use Rattle.fast_check_signatures.specs.Members.{is_private_implementation, is_private_computed}
+use Rattle.fast_check_signatures.specs.Classes.{mutability_of_property, property_head, accessor_head}
+use Rattle.fast_check_signatures.specs.Classes.{private_method_head, plain_param, param_target, param_properties}
+use Rattle.fast_check_signatures.specs.Classes.{patterns_among, is_super_call, is_reference}
+use Rattle.fast_check_skeleton.specs.SameValues.{Both, Neither, SameExpr, SameFunction, SameFunctionHead, SameReturn}
+use Rattle.fast_check_skeleton.specs.SameValues.{SameParams, SameImplementation}
 
 -- a has no partner; b is the partner of none
 abbrev pub HasNoPartner : Pairs → ℕ → Type 0
@@ -51,12 +61,14 @@ pub data IsSilentMember (earlier : List Tree) : Tree → Type 0 where
   -- a private method behind one of its name
   again : {m : Tree} (name : List ℕ) → is_private_method_of name m ≡ true → list_any (is_private_method_of name) earlier ≡ true → IsSilentMember earlier m
   -- a private constructor without a body
-  overload : {m : Tree} → kind_of m ≡ Constructor → is_private (Constructor-accessibility m) ≡ true → is_absent (Constructor-body m) ≡ true →
+  overload : {m : Tree} → kind_of m ≡ Constructor → is_private (Constructor-accessibility m) ≡ true →
+      is_absent (Constructor-body m) ≡ true →
       IsSilentMember earlier m
   -- one with a body behind another
   another : {m : Tree} → is_private_implementation m ≡ true → list_any is_private_implementation earlier ≡ true → IsSilentMember earlier m
 
--- `c` and `d` are the scope numbers of the names that nothing in either source binds, `f` and `g` say which ranges are implementations behind overloads
+-- `c` and `d` are the scope numbers of the names that nothing in either source binds, `f` and `g` say which ranges are
+-- implementations behind overloads
 module _ (r : Renaming) (c d : Bindings) (f g : SourceRange → Bool) where
   -- ---- properties
 
@@ -93,7 +105,8 @@ module _ (r : Renaming) (c d : Bindings) (f g : SourceRange → Bool) where
     inferred : SameTree r (ClassProp-type_ann t) (ClassProp-type_ann u) →
         SameTypeShown (mutability_of_property (ClassProp-readonly t)) (ClassProp-value t) (ClassProp-value u) → SameProperty t u
     -- no values
-    absent : SameTree r (ClassProp-type_ann t) (ClassProp-type_ann u) → ClassProp-is_override t ≡ ClassProp-is_override u →
+    absent : SameTree r (ClassProp-type_ann t) (ClassProp-type_ann u) →
+        ClassProp-is_override t ≡ ClassProp-is_override u →
         is_absent (ClassProp-value t) ≡ true → is_absent (ClassProp-value u) ≡ true → SameProperty t u
     -- values that show no type and are to stay
     kept : SameTree r (ClassProp-type_ann t) (ClassProp-type_ann u) → ClassProp-is_override t ≡ ClassProp-is_override u →
@@ -103,11 +116,13 @@ module _ (r : Renaming) (c d : Bindings) (f g : SourceRange → Bool) where
   -- the type and the value of an accessor, which is taken for one that changes
   pub data SameAccessor (t u : Tree) : Type 0 where
     any : is_private (AutoAccessor-accessibility t) ≡ true → SameAccessor t u
-    typed : SameTree r (AutoAccessor-type_ann t) (AutoAccessor-type_ann u) → is_absent (AutoAccessor-type_ann t) ≡ false → SameAccessor t u
+    typed : SameTree r (AutoAccessor-type_ann t) (AutoAccessor-type_ann u) →
+        is_absent (AutoAccessor-type_ann t) ≡ false → SameAccessor t u
     inferred : SameTree r (AutoAccessor-type_ann t) (AutoAccessor-type_ann u) →
         SameTypeShown Mutable (AutoAccessor-value t) (AutoAccessor-value u) → SameAccessor t u
     -- any values that show no type, their presence too
-    untyped : SameTree r (AutoAccessor-type_ann t) (AutoAccessor-type_ann u) → NoTypeShown Mutable (AutoAccessor-value t) (AutoAccessor-value u) →
+    untyped : SameTree r (AutoAccessor-type_ann t) (AutoAccessor-type_ann u) →
+        NoTypeShown Mutable (AutoAccessor-value t) (AutoAccessor-value u) →
         SameAccessor t u
 
   -- ---- constructors
@@ -141,7 +156,8 @@ module _ (r : Renaming) (c d : Bindings) (f g : SourceRange → Bool) where
     pub is_default : kind_of (TsParamProp-param t) is BindingIdent ≡ kind_of (TsParamProp-param u) is BindingIdent
     pub type : SameParamType t u
 
-  -- calls of the superclass's constructor, whatever their arguments are, but for how many these are and which are spread
+  -- calls of the superclass's constructor, whatever their arguments are, but for how many these are and which are
+  -- spread
   pub record SameSuperCall (t u : Tree) : Type 0 where
     pub span : SameRange r (ExprStmt-span t) (ExprStmt-span u)
     pub call : SameRange r (CallExpr-span (ExprStmt-expr t)) (CallExpr-span (ExprStmt-expr u))
@@ -156,7 +172,8 @@ module _ (r : Renaming) (c d : Bindings) (f g : SourceRange → Bool) where
     end : SameSuperCalls [] []
     left : {t : Tree} {ts us : List Tree} → is_super_call t ≡ false → SameSuperCalls ts us → SameSuperCalls (t ∷ ts) us
     right : {u : Tree} {ts us : List Tree} → is_super_call u ≡ false → SameSuperCalls ts us → SameSuperCalls ts (u ∷ us)
-    next : {t u : Tree} {ts us : List Tree} → is_super_call t ≡ true → is_super_call u ≡ true → SameSuperCall t u → SameSuperCalls ts us →
+    next : {t u : Tree} {ts us : List Tree} → is_super_call t ≡ true → is_super_call u ≡ true →
+        SameSuperCall t u → SameSuperCalls ts us →
         SameSuperCalls (t ∷ ts) (u ∷ us)
 
   pub record SameConstructorHead (t u : Tree) : Type 0 where
@@ -182,13 +199,16 @@ module _ (r : Renaming) (c d : Bindings) (f g : SourceRange → Bool) where
   pub data SameConstructor (t u : Tree) : Type 0 where
     -- any parameters of private ones
     any : SameConstructed t u → is_private (Constructor-accessibility t) ≡ true → SameConstructor t u
-    plain : SameConstructed t u → f (Constructor-span t) ≡ false → g (Constructor-span u) ≡ false → SameParams r c d (plain_params t) (plain_params u) →
+    plain : SameConstructed t u → f (Constructor-span t) ≡ false → g (Constructor-span u) ≡ false →
+        SameParams r c d (plain_params t) (plain_params u) →
         SameConstructor t u
     -- any parameters of implementations behind overloads, but for how many these are and which is a rest
-    implementation : SameConstructed t u → f (Constructor-span t) ≡ true → g (Constructor-span u) ≡ true → rest_params t ≡ rest_params u →
+    implementation : SameConstructed t u → f (Constructor-span t) ≡ true → g (Constructor-span u) ≡ true →
+        rest_params t ≡ rest_params u →
         SameConstructor t u
     -- any two that take a value apart at the same place, where a property has to have a name
-    destructured : (p q : Tree) (ps qs : List Tree) → patterns_among (param_properties t) ≡ p ∷ ps → patterns_among (param_properties u) ≡ q ∷ qs →
+    destructured : (p q : Tree) (ps qs : List Tree) → patterns_among (param_properties t) ≡ p ∷ ps →
+        patterns_among (param_properties u) ≡ q ∷ qs →
         SameRange r (range_of_node (param_target p)) (range_of_node (param_target q)) → SameConstructor t u
 
   -- ---- methods
@@ -198,9 +218,12 @@ module _ (r : Renaming) (c d : Bindings) (f g : SourceRange → Bool) where
     function : f (ClassMethod-span t) ≡ false → g (ClassMethod-span u) ≡ false →
         SameFunction r c d (ClassMethod-function t) (ClassMethod-function u) → SameMethod t u
     -- any bodies of setters
-    setter : f (ClassMethod-span t) ≡ false → g (ClassMethod-span u) ≡ false → has_word Setter (ClassMethod-kind t) ≡ true →
-        SameFunctionHead r c d (ClassMethod-function t) (ClassMethod-function u) → SameReturn r c d (ClassMethod-function t) (ClassMethod-function u) →
-        SameParams r c d (parts (Function-params (ClassMethod-function t))) (parts (Function-params (ClassMethod-function u))) → SameMethod t u
+    setter : f (ClassMethod-span t) ≡ false → g (ClassMethod-span u) ≡ false →
+        has_word Setter (ClassMethod-kind t) ≡ true →
+        SameFunctionHead r c d (ClassMethod-function t) (ClassMethod-function u) →
+        SameReturn r c d (ClassMethod-function t) (ClassMethod-function u) →
+        SameParams r c d (parts (Function-params (ClassMethod-function t)))
+        (parts (Function-params (ClassMethod-function u))) → SameMethod t u
     implementation : f (ClassMethod-span t) ≡ true → g (ClassMethod-span u) ≡ true →
         SameImplementation r c d (ClassMethod-function t) (ClassMethod-function u) → SameMethod t u
 
@@ -216,21 +239,29 @@ module _ (r : Renaming) (c d : Bindings) (f g : SourceRange → Bool) where
   pub data SameMember : Tree → Tree → Type 0 where
     constructor : {t u : Tree} → SameConstructorHead t u → SameConstructor t u → SameMember t u
     -- any signatures, bodies and kinds of private methods
-    private_method : {t u : Tree} → Both ClassMethod t u → SamePropertyHead (private_method_head t) (private_method_head u) →
+    private_method : {t u : Tree} → Both ClassMethod t u →
+        SamePropertyHead (private_method_head t) (private_method_head u) →
         is_private (ClassMethod-accessibility t) ≡ true → SameMember t u
-    method : {t u : Tree} → Both ClassMethod t u → SamePropertyHead (private_method_head t) (private_method_head u) → SameSigned t u → SameMember t u
-    property : {t u : Tree} → Both ClassProp t u → SamePropertyHead (property_head t) (property_head u) → SameProperty t u → SameMember t u
-    accessor : {t u : Tree} → Both AutoAccessor t u → SamePropertyHead (accessor_head t) (accessor_head u) → SameAccessor t u → SameMember t u
+    method : {t u : Tree} → Both ClassMethod t u → SamePropertyHead (private_method_head t) (private_method_head u) →
+        SameSigned t u → SameMember t u
+    property : {t u : Tree} → Both ClassProp t u → SamePropertyHead (property_head t) (property_head u) →
+        SameProperty t u → SameMember t u
+    accessor : {t u : Tree} → Both AutoAccessor t u → SamePropertyHead (accessor_head t) (accessor_head u) →
+        SameAccessor t u → SameMember t u
     index_signature : {t u : Tree} → Both TsIndexSignature t u → SameTree r t u → SameMember t u
 
-  -- Members one by one, the silent ones aside; where a silent one begins has no partner. Of each class the members before these are given, the last first.
+  -- Members one by one, the silent ones aside; where a silent one begins has no partner. Of each class the members
+  -- before these are given, the last first.
   pub data SameMembers : List Tree → List Tree → List Tree → List Tree → Type 0 where
     end : {earlier earlier' : List Tree} → SameMembers earlier earlier' [] []
-    left : {t : Tree} {earlier earlier' ts us : List Tree} → IsSilentMember earlier t → HasNoPartner r.starts (range_of_node t).start.0 →
+    left : {t : Tree} {earlier earlier' ts us : List Tree} → IsSilentMember earlier t →
+        HasNoPartner r.starts (range_of_node t).start.0 →
         SameMembers (t ∷ earlier) earlier' ts us → SameMembers earlier earlier' (t ∷ ts) us
-    right : {u : Tree} {earlier earlier' ts us : List Tree} → IsSilentMember earlier' u → IsNoPartner r.starts (range_of_node u).start.0 →
+    right : {u : Tree} {earlier earlier' ts us : List Tree} → IsSilentMember earlier' u →
+        IsNoPartner r.starts (range_of_node u).start.0 →
         SameMembers earlier (u ∷ earlier') ts us → SameMembers earlier earlier' ts (u ∷ us)
-    next : {t u : Tree} {earlier earlier' ts us : List Tree} → SameMember t u → SameMembers (t ∷ earlier) (u ∷ earlier') ts us →
+    next : {t u : Tree} {earlier earlier' ts us : List Tree} →
+        SameMember t u → SameMembers (t ∷ earlier) (u ∷ earlier') ts us →
         SameMembers earlier earlier' (t ∷ ts) (u ∷ us)
 
   -- ---- classes
@@ -263,8 +294,10 @@ module _ (r : Renaming) (c d : Bindings) (f g : SourceRange → Bool) where
   pub data SameAmbientMembers : List Tree → List Tree → Type 0 where
     end : SameAmbientMembers [] []
     left : {t : Tree} {ts us : List Tree} → is_private_computed t ≡ true → SameAmbientMembers ts us → SameAmbientMembers (t ∷ ts) us
-    right : {u : Tree} {ts us : List Tree} → is_private_computed u ≡ true → SameAmbientMembers ts us → SameAmbientMembers ts (u ∷ us)
-    next : {t u : Tree} {ts us : List Tree} → SameTree r t u → SameAmbientMembers ts us → SameAmbientMembers (t ∷ ts) (u ∷ us)
+    right : {u : Tree} {ts us : List Tree} → is_private_computed u ≡ true → SameAmbientMembers ts us →
+        SameAmbientMembers ts (u ∷ us)
+    next : {t u : Tree} {ts us : List Tree} → SameTree r t u → SameAmbientMembers ts us →
+        SameAmbientMembers (t ∷ ts) (u ∷ us)
 
   pub record SameAmbientClass (t u : Tree) : Type 0 where
     pub head : SameClassHead t u

@@ -9,7 +9,8 @@ use Rattle.fast_check_comments.specs.Places.{Places, is_place_at}
 
 -- all comments that stand at a position, in order
 abbrev pub all_comments_at : ℕ → Places → List Comment
-all_comments_at position places = flat_map (λ place. if is_place_at (record { 0 = position }) place then place.1 else []) places
+all_comments_at position places =
+    flat_map (λ place. if is_place_at (record { 0 = position }) place then place.1 else []) places
 
 -- one comment, at ranges that the renaming pairs
 pub record SameComment (r : Renaming) (c d : Comment) : Type 0 where
@@ -19,7 +20,8 @@ pub record SameComment (r : Renaming) (c d : Comment) : Type 0 where
 
 -- at each position of these pairs the same comments as at its partner, one by one; none where none stands there
 abbrev pub SameAtPairs : Renaming → Pairs → Places → Places → Type 0
-SameAtPairs r pairs c d = (p q : ℕ) → IsPair pairs p q → Each (SameComment r) (all_comments_at p c) (all_comments_at q d)
+SameAtPairs r pairs c d = (p q : ℕ) → IsPair pairs p q →
+    Each (SameComment r) (all_comments_at p c) (all_comments_at q d)
 
 -- comments before tokens stand at starts, those after tokens at ends
 pub record SameComments (r : Renaming) (c d : Comments) : Type 0 where

@@ -1,13 +1,16 @@
 -- Agreement of default exports but for what is hidden.
 use Rattle.std.specs.Prelude.{◌≡◌, true, false}
 use Rattle.fast_check_syntax.specs.declared.kind.Kind.{Kind}
-use Rattle.fast_check_syntax.specs.declared.kind.Kind.TheVariants.{ExportDefaultExpr, ExportDefaultDecl, ClassExpr, FnExpr, TsInterfaceDecl}
+use Rattle.fast_check_syntax.specs.declared.kind.Kind.TheVariants.{ExportDefaultExpr, ExportDefaultDecl, ClassExpr}
+use Rattle.fast_check_syntax.specs.declared.kind.Kind.TheVariants.{FnExpr, TsInterfaceDecl}
 use Rattle.fast_check_syntax.specs.declared.tree.Tree.{Tree}
 use Rattle.fast_check_syntax.specs.Shape.{kind_of}
 use Rattle.fast_check_syntax.specs.Moves.{Renaming}
 use Rattle.fast_check_syntax.specs.Same.{SameTree, SameRange}
-use Rattle.fast_check_expression_forms.specs.Expressions.{ClassExpr-ident, ClassExpr-class, FnExpr-ident, FnExpr-function}
-use Rattle.fast_check_program_forms.specs.ModuleDecls.{ExportDefaultExpr-span, ExportDefaultExpr-expr, ExportDefaultDecl-span, ExportDefaultDecl-decl}
+use Rattle.fast_check_expression_forms.specs.Expressions.{ClassExpr-ident, ClassExpr-class, FnExpr-ident}
+use Rattle.fast_check_expression_forms.specs.Expressions.{FnExpr-function}
+use Rattle.fast_check_program_forms.specs.ModuleDecls.{ExportDefaultExpr-span, ExportDefaultExpr-expr}
+use Rattle.fast_check_program_forms.specs.ModuleDecls.{ExportDefaultDecl-span, ExportDefaultDecl-decl}
 use Rattle.fast_check_skeleton.specs.SameValues.{Both, SameExpr, SameFunction, SameImplementation}
 use Rattle.fast_check_skeleton.specs.SameClasses.{SameClass}
 use Rattle.fast_check_skeleton.specs.Defaults.{is_public_value}
@@ -35,23 +38,30 @@ module _ (r : Renaming) (a b : Surroundings) where
     pub ident : SameTree r (FnExpr-ident (ExportDefaultDecl-decl t)) (FnExpr-ident (ExportDefaultDecl-decl u))
 
   pub data SameDefault : Tree → Tree → Type 0 where
-    value : {t u : Tree} → Both ExportDefaultExpr t u → SameRange r (ExportDefaultExpr-span t) (ExportDefaultExpr-span u) →
-        is_public_value a t ≡ is_public_value b u → SameExpr r a.bindings b.bindings (ExportDefaultExpr-expr t) (ExportDefaultExpr-expr u) →
+    value : {t u : Tree} → Both ExportDefaultExpr t u →
+        SameRange r (ExportDefaultExpr-span t) (ExportDefaultExpr-span u) →
+        is_public_value a t ≡ is_public_value b u → SameExpr r a.bindings b.bindings (ExportDefaultExpr-expr t)
+        (ExportDefaultExpr-expr u) →
         SameDefault t u
     class : {t u : Tree} → SameDefaultDecl ClassExpr t u →
         SameTree r (ClassExpr-ident (ExportDefaultDecl-decl t)) (ClassExpr-ident (ExportDefaultDecl-decl u)) →
         SameClass r a.bindings b.bindings a.is_implementation b.is_implementation
         (ClassExpr-class (ExportDefaultDecl-decl t)) (ClassExpr-class (ExportDefaultDecl-decl u)) → SameDefault t u
     function : {t u : Tree} → SameDefaultFunction t u →
-        a.is_implementation (ExportDefaultDecl-span t) ≡ false → b.is_implementation (ExportDefaultDecl-span u) ≡ false →
-        SameFunction r a.bindings b.bindings (FnExpr-function (ExportDefaultDecl-decl t)) (FnExpr-function (ExportDefaultDecl-decl u)) → SameDefault t u
+        a.is_implementation (ExportDefaultDecl-span t) ≡ false →
+        b.is_implementation (ExportDefaultDecl-span u) ≡ false →
+        SameFunction r a.bindings b.bindings (FnExpr-function (ExportDefaultDecl-decl t))
+        (FnExpr-function (ExportDefaultDecl-decl u)) → SameDefault t u
     -- implementations behind overloads
     implementation : {t u : Tree} → SameDefaultFunction t u →
         a.is_implementation (ExportDefaultDecl-span t) ≡ true → b.is_implementation (ExportDefaultDecl-span u) ≡ true →
-        SameImplementation r a.bindings b.bindings (FnExpr-function (ExportDefaultDecl-decl t)) (FnExpr-function (ExportDefaultDecl-decl u)) →
+        SameImplementation r a.bindings b.bindings (FnExpr-function (ExportDefaultDecl-decl t))
+        (FnExpr-function (ExportDefaultDecl-decl u)) →
         SameDefault t u
     -- where all is ambient functions stand as they are written
     ambient_function : {t u : Tree} → SameDefaultDecl FnExpr t u → a.is_ambient ≡ true →
         SameTree r (ExportDefaultDecl-decl t) (ExportDefaultDecl-decl u) → SameDefault t u
     -- and interfaces
-    interface : {t u : Tree} → SameDefaultDecl TsInterfaceDecl t u → SameTree r (ExportDefaultDecl-decl t) (ExportDefaultDecl-decl u) → SameDefault t u
+    interface : {t u : Tree} →
+        SameDefaultDecl TsInterfaceDecl t u → SameTree r (ExportDefaultDecl-decl t) (ExportDefaultDecl-decl u) →
+        SameDefault t u

@@ -1,15 +1,18 @@
 -- Agreement of imports and of exports of names. What is not public of them is hidden.
 use Rattle.std.specs.Prelude.{◌≡◌, Bool, false, List, [], ◌∷◌}
-use Rattle.fast_check_syntax.specs.declared.kind.Kind.TheVariants.{ImportDecl, NamedExport, ExportAll, TsImportEqualsDecl}
+use Rattle.fast_check_syntax.specs.declared.kind.Kind.TheVariants.{ImportDecl, NamedExport, ExportAll}
+use Rattle.fast_check_syntax.specs.declared.kind.Kind.TheVariants.{TsImportEqualsDecl}
 use Rattle.fast_check_syntax.specs.declared.tree.Tree.{Tree}
 use Rattle.fast_check_syntax.specs.Shape.{kind_of, parts, is_absent}
 use Rattle.fast_check_syntax.specs.Moves.{Renaming}
 use Rattle.fast_check_syntax.specs.Same.{SameTree, SameRange}
 use Rattle.fast_check_program_forms.specs.Literals.{Str-value}
-use Rattle.fast_check_program_forms.specs.ModuleDecls.{ImportDecl-span, ImportDecl-specifiers, ImportDecl-src, ImportDecl-type_only}
-use Rattle.fast_check_program_forms.specs.ModuleDecls.{ImportDecl-with, ImportDecl-phase}
-use Rattle.fast_check_program_forms.specs.ModuleDecls.{NamedExport-span, NamedExport-specifiers, NamedExport-src, NamedExport-type_only, NamedExport-with}
-use Rattle.fast_check_program_forms.specs.ModuleDecls.{ExportAll-span, ExportAll-src, ExportAll-type_only, ExportAll-with, TsImportEqualsDecl-span}
+use Rattle.fast_check_program_forms.specs.ModuleDecls.{ImportDecl-span, ImportDecl-specifiers, ImportDecl-src}
+use Rattle.fast_check_program_forms.specs.ModuleDecls.{ImportDecl-type_only, ImportDecl-with, ImportDecl-phase}
+use Rattle.fast_check_program_forms.specs.ModuleDecls.{NamedExport-span, NamedExport-specifiers, NamedExport-src}
+use Rattle.fast_check_program_forms.specs.ModuleDecls.{NamedExport-type_only, NamedExport-with, ExportAll-span}
+use Rattle.fast_check_program_forms.specs.ModuleDecls.{ExportAll-src, ExportAll-type_only, ExportAll-with}
+use Rattle.fast_check_program_forms.specs.ModuleDecls.{TsImportEqualsDecl-span}
 use Rattle.fast_check_skeleton.specs.SameValues.{Both}
 use Rattle.fast_check_skeleton.specs.Links.{is_public_specifier, public_specifiers}
 use Rattle.fast_check_skeleton.specs.Rules.{is_require}
@@ -17,17 +20,21 @@ use Rattle.fast_check_skeleton.specs.Surroundings.{Surroundings}
 
 -- an import or an export of names that goes without a word
 pub data IsSilentLink (around : Surroundings) : Tree → Type 0 where
-  import : {t : Tree} → kind_of t ≡ ImportDecl → public_specifiers around (ImportDecl-specifiers t) ≡ [] → IsSilentLink around t
-  export : {t : Tree} → kind_of t ≡ NamedExport → public_specifiers around (NamedExport-specifiers t) ≡ [] → IsSilentLink around t
+  import : {t : Tree} → kind_of t ≡ ImportDecl → public_specifiers around (ImportDecl-specifiers t) ≡ [] →
+      IsSilentLink around t
+  export : {t : Tree} → kind_of t ≡ NamedExport → public_specifiers around (NamedExport-specifiers t) ≡ [] →
+      IsSilentLink around t
   all : {t : Tree} → kind_of t ≡ ExportAll → around.is_public (ExportAll-span t) ≡ false → IsSilentLink around t
-  alias : {t : Tree} → kind_of t ≡ TsImportEqualsDecl → is_require t ≡ false → around.is_public (TsImportEqualsDecl-span t) ≡ false → IsSilentLink around t
+  alias : {t : Tree} → kind_of t ≡ TsImportEqualsDecl → is_require t ≡ false →
+      around.is_public (TsImportEqualsDecl-span t) ≡ false → IsSilentLink around t
 
 -- two lists one by one, what is not public of either aside
 pub data SamePublic (p q : Tree → Bool) (Same : Tree → Tree → Type 0) : List Tree → List Tree → Type 0 where
   end : SamePublic p q Same [] []
   left : {t : Tree} {ts us : List Tree} → p t ≡ false → SamePublic p q Same ts us → SamePublic p q Same (t ∷ ts) us
   right : {u : Tree} {ts us : List Tree} → q u ≡ false → SamePublic p q Same ts us → SamePublic p q Same ts (u ∷ us)
-  next : {t u : Tree} {ts us : List Tree} → p t ≡ q u → Same t u → SamePublic p q Same ts us → SamePublic p q Same (t ∷ ts) (u ∷ us)
+  next : {t u : Tree} {ts us : List Tree} → p t ≡ q u → Same t u → SamePublic p q Same ts us →
+      SamePublic p q Same (t ∷ ts) (u ∷ us)
 
 module _ (r : Renaming) (a b : Surroundings) where
   -- specifiers of two imports or exports
@@ -71,4 +78,5 @@ module _ (r : Renaming) (a b : Surroundings) where
     all : {t u : Tree} → SameExportAll t u → SameLink t u
     -- `import A = B.C` stands as it is written
     alias : {t u : Tree} → Both TsImportEqualsDecl t u → is_require t ≡ false → is_require u ≡ false →
-        a.is_public (TsImportEqualsDecl-span t) ≡ b.is_public (TsImportEqualsDecl-span u) → SameTree r t u → SameLink t u
+        a.is_public (TsImportEqualsDecl-span t) ≡ b.is_public (TsImportEqualsDecl-span u) → SameTree r t u →
+        SameLink t u

@@ -1,24 +1,31 @@
--- Agreement of values, functions and parameters but for what is hidden: one rule for each part that may differ. All else agrees under a renaming of
--- positions and scope numbers.
+-- Agreement of values, functions and parameters but for what is hidden: one rule for each part that may differ. All
+-- else agrees under a renaming of positions and scope numbers.
 use Rattle.std.specs.Prelude.{◌≡◌, Bool, true, false, Some, None, List, [], ◌∷◌, map, if◌then◌else◌}
 use Rattle.fast_check_syntax.specs.declared.kind.Kind.{Kind}
-use Rattle.fast_check_syntax.specs.declared.kind.Kind.TheVariants.{AssignPat, ArrayPat, ObjectPat, RestPat, BindingIdent, PatExpr, BlockStmt, TsSatisfiesExpr}
+use Rattle.fast_check_syntax.specs.declared.kind.Kind.TheVariants.{AssignPat, ArrayPat, ObjectPat, RestPat}
+use Rattle.fast_check_syntax.specs.declared.kind.Kind.TheVariants.{BindingIdent, PatExpr, BlockStmt, TsSatisfiesExpr}
 use Rattle.fast_check_syntax.specs.declared.kind.Kind.TheVariants.{TsAsExpr, TsTypeAssertion, FnExpr, ArrowExpr}
 use Rattle.fast_check_syntax.specs.declared.tree.Tree.{Tree}
 use Rattle.fast_check_syntax.specs.Shape.{◌is◌, kind_of, parts, is_absent}
 use Rattle.fast_check_syntax.specs.Moves.{Renaming, IsPair}
 use Rattle.fast_check_syntax.specs.Same.{SameTree, SameRange}
-use Rattle.fast_check_class_forms.specs.Functions.{Function-span, Function-params, Function-ctxt, Function-body, Function-is_generator, Function-is_async}
-use Rattle.fast_check_class_forms.specs.Functions.{Function-type_params, Function-return_type, Param-span, Param-pat}
-use Rattle.fast_check_expression_forms.specs.Assertions.{TsAsExpr-span, TsAsExpr-type_ann, TsTypeAssertion-span, TsTypeAssertion-type_ann}
-use Rattle.fast_check_expression_forms.specs.Assertions.{TsSatisfiesExpr-span, TsSatisfiesExpr-expr, TsSatisfiesExpr-type_ann}
-use Rattle.fast_check_expression_forms.specs.Calls.{CallExpr-span, CallExpr-ctxt, CallExpr-callee, CallExpr-args, CallExpr-type_args}
-use Rattle.fast_check_expression_forms.specs.Calls.{NewExpr-span, NewExpr-ctxt, NewExpr-callee, NewExpr-args, NewExpr-type_args}
-use Rattle.fast_check_expression_forms.specs.Expressions.{ArrowExpr-span, ArrowExpr-ctxt, ArrowExpr-params, ArrowExpr-body, ArrowExpr-is_async}
-use Rattle.fast_check_expression_forms.specs.Expressions.{ArrowExpr-is_generator, ArrowExpr-type_params, ArrowExpr-return_type, FnExpr-ident, FnExpr-function}
-use Rattle.fast_check_expression_forms.specs.Patterns.{ArrayPat-span, ArrayPat-optional, ArrayPat-type_ann, ObjectPat-span, ObjectPat-optional}
-use Rattle.fast_check_expression_forms.specs.Patterns.{ObjectPat-type_ann, RestPat-span, RestPat-dot3_token, RestPat-arg, RestPat-type_ann, AssignPat-span}
-use Rattle.fast_check_expression_forms.specs.Patterns.{AssignPat-left, AssignPat-right}
+use Rattle.fast_check_class_forms.specs.Functions.{Function-span, Function-params, Function-ctxt, Function-body}
+use Rattle.fast_check_class_forms.specs.Functions.{Function-is_generator, Function-is_async, Function-type_params}
+use Rattle.fast_check_class_forms.specs.Functions.{Function-return_type, Param-span, Param-pat}
+use Rattle.fast_check_expression_forms.specs.Assertions.{TsAsExpr-span, TsAsExpr-type_ann, TsTypeAssertion-span}
+use Rattle.fast_check_expression_forms.specs.Assertions.{TsTypeAssertion-type_ann, TsSatisfiesExpr-span}
+use Rattle.fast_check_expression_forms.specs.Assertions.{TsSatisfiesExpr-expr, TsSatisfiesExpr-type_ann}
+use Rattle.fast_check_expression_forms.specs.Calls.{CallExpr-span, CallExpr-ctxt, CallExpr-callee, CallExpr-args}
+use Rattle.fast_check_expression_forms.specs.Calls.{CallExpr-type_args, NewExpr-span, NewExpr-ctxt, NewExpr-callee}
+use Rattle.fast_check_expression_forms.specs.Calls.{NewExpr-args, NewExpr-type_args}
+use Rattle.fast_check_expression_forms.specs.Expressions.{ArrowExpr-span, ArrowExpr-ctxt, ArrowExpr-params}
+use Rattle.fast_check_expression_forms.specs.Expressions.{ArrowExpr-body, ArrowExpr-is_async, ArrowExpr-is_generator}
+use Rattle.fast_check_expression_forms.specs.Expressions.{ArrowExpr-type_params, ArrowExpr-return_type, FnExpr-ident}
+use Rattle.fast_check_expression_forms.specs.Expressions.{FnExpr-function}
+use Rattle.fast_check_expression_forms.specs.Patterns.{ArrayPat-span, ArrayPat-optional, ArrayPat-type_ann}
+use Rattle.fast_check_expression_forms.specs.Patterns.{ObjectPat-span, ObjectPat-optional, ObjectPat-type_ann}
+use Rattle.fast_check_expression_forms.specs.Patterns.{RestPat-span, RestPat-dot3_token, RestPat-arg, RestPat-type_ann}
+use Rattle.fast_check_expression_forms.specs.Patterns.{AssignPat-span, AssignPat-left, AssignPat-right}
 use Rattle.fast_check_program_forms.specs.Names.{BindingIdent-type_ann}
 use Rattle.fast_check_ranges.specs.Ranges.{range_of_node}
 use Rattle.fast_check_helpers.specs.declared.literal_type.DeclMutabilityKind.TheVariants.{Mutable}
@@ -69,7 +76,8 @@ rests function = map (λ p. kind_of (Param-pat p) is RestPat) (parts (Function-p
 abbrev pub pattern_type : Tree → Tree
 pattern_type pat = if kind_of pat is ArrayPat then ArrayPat-type_ann pat else ObjectPat-type_ann pat
 
--- What is known of all names agrees. Whether a name is that of a class without type parameters has to agree where such a name is called, and nowhere else:
+-- What is known of all names agrees. Whether a name is that of a class without type parameters has to agree where such
+-- a name is called, and nowhere else:
 -- `made` and `refused` ask it there.
 pub record SameBindings (r : Renaming) (c d : Bindings) : Type 0 where
   -- what nothing in the first module binds is what nothing in the second binds
@@ -92,15 +100,19 @@ module _ (r : Renaming) (c d : Bindings) where
 
   -- bodies of which neither names a return type, or both do, and the types agree
   pub data SameNamed (is_generator : Bool) (t u : Tree) : Type 0 where
-    neither_named : named_return c.unresolved is_generator t ≡ None → named_return d.unresolved is_generator u ≡ None → SameNamed is_generator t u
-    both_named : (left right : Tree) → named_return c.unresolved is_generator t ≡ Some left → named_return d.unresolved is_generator u ≡ Some right →
+    neither_named : named_return c.unresolved is_generator t ≡ None → named_return d.unresolved is_generator u ≡ None →
+        SameNamed is_generator t u
+    both_named : (left right : Tree) → named_return c.unresolved is_generator t ≡ Some left →
+        named_return d.unresolved is_generator u ≡ Some right →
         SameTree r left right → SameNamed is_generator t u
 
   -- array or object patterns, whatever stands in them
   pub data SameEmptied : Tree → Tree → Type 0 where
-    array : {t u : Tree} → Both ArrayPat t u → SameRange r (ArrayPat-span t) (ArrayPat-span u) → ArrayPat-optional t ≡ ArrayPat-optional u →
+    array : {t u : Tree} → Both ArrayPat t u → SameRange r (ArrayPat-span t) (ArrayPat-span u) →
+        ArrayPat-optional t ≡ ArrayPat-optional u →
         SameTree r (ArrayPat-type_ann t) (ArrayPat-type_ann u) → SameEmptied t u
-    object : {t u : Tree} → Both ObjectPat t u → SameRange r (ObjectPat-span t) (ObjectPat-span u) → ObjectPat-optional t ≡ ObjectPat-optional u →
+    object : {t u : Tree} → Both ObjectPat t u → SameRange r (ObjectPat-span t) (ObjectPat-span u) →
+        ObjectPat-optional t ≡ ObjectPat-optional u →
         SameTree r (ObjectPat-type_ann t) (ObjectPat-type_ann u) → SameEmptied t u
 
   -- what two rests are gathered in
@@ -124,7 +136,8 @@ module _ (r : Renaming) (c d : Bindings) where
     pub is_generator : Function-is_generator t ≡ Function-is_generator u
     pub return_type : SameTree r (Function-return_type t) (Function-return_type u)
 
-  -- implementations behind overloads: any bodies, return types and parameters, but for how many these are and which is a rest
+  -- implementations behind overloads: any bodies, return types and parameters, but for how many these are and which is
+  -- a rest
   pub record SameImplementation (t u : Tree) : Type 0 where
     pub head : SameFunctionHead t u
     pub rests : rests t ≡ rests u
@@ -146,25 +159,35 @@ module _ (r : Renaming) (c d : Bindings) where
       -- any two that may not stay, whatever their parts
       refused : {t u : Tree} → is_refused c t ≡ true → is_refused d u ≡ true → SameExpr t u
       -- part by part
-      compound : {t u : Tree} (k : Kind) → Both k t u → is_compound k ≡ true → SameExprs (parts t) (parts u) → SameExpr t u
-      satisfies : {t u : Tree} → Both TsSatisfiesExpr t u → SameRange r (TsSatisfiesExpr-span t) (TsSatisfiesExpr-span u) →
-          SameExpr (TsSatisfiesExpr-expr t) (TsSatisfiesExpr-expr u) → SameTree r (TsSatisfiesExpr-type_ann t) (TsSatisfiesExpr-type_ann u) → SameExpr t u
-      -- any operands of assertions
-      as_type : {t u : Tree} → Both TsAsExpr t u → SameRange r (TsAsExpr-span t) (TsAsExpr-span u) → SameTree r (TsAsExpr-type_ann t) (TsAsExpr-type_ann u) →
+      compound : {t u : Tree} (k : Kind) → Both k t u → is_compound k ≡ true → SameExprs (parts t) (parts u) →
           SameExpr t u
-      assertion : {t u : Tree} → Both TsTypeAssertion t u → SameRange r (TsTypeAssertion-span t) (TsTypeAssertion-span u) →
+      satisfies : {t u : Tree} → Both TsSatisfiesExpr t u →
+          SameRange r (TsSatisfiesExpr-span t) (TsSatisfiesExpr-span u) →
+          SameExpr (TsSatisfiesExpr-expr t) (TsSatisfiesExpr-expr u) →
+          SameTree r (TsSatisfiesExpr-type_ann t) (TsSatisfiesExpr-type_ann u) → SameExpr t u
+      -- any operands of assertions
+      as_type : {t u : Tree} → Both TsAsExpr t u →
+          SameRange r (TsAsExpr-span t) (TsAsExpr-span u) → SameTree r (TsAsExpr-type_ann t) (TsAsExpr-type_ann u) →
+          SameExpr t u
+      assertion : {t u : Tree} → Both TsTypeAssertion t u →
+          SameRange r (TsTypeAssertion-span t) (TsTypeAssertion-span u) →
           SameTree r (TsTypeAssertion-type_ann t) (TsTypeAssertion-type_ann u) → SameExpr t u
       -- `Object.freeze(x)`, by the argument
-      frozen : {t u : Tree} → is_frozen c t ≡ true → is_frozen d u ≡ true → SameRange r (CallExpr-span t) (CallExpr-span u) →
+      frozen : {t u : Tree} → is_frozen c t ≡ true → is_frozen d u ≡ true →
+          SameRange r (CallExpr-span t) (CallExpr-span u) →
           IsPair r.scopes (CallExpr-ctxt t).0 (CallExpr-ctxt u).0 → SameTree r (CallExpr-callee t) (CallExpr-callee u) →
-          SameExpr (CallExpr-args t) (CallExpr-args u) → SameTree r (CallExpr-type_args t) (CallExpr-type_args u) → SameExpr t u
+          SameExpr (CallExpr-args t) (CallExpr-args u) → SameTree r (CallExpr-type_args t) (CallExpr-type_args u) →
+          SameExpr t u
       -- `new C(x)` of a class C without type parameters, by the arguments
       made : {t u : Tree} → is_made c t ≡ true → is_made d u ≡ true → SameRange r (NewExpr-span t) (NewExpr-span u) →
           IsPair r.scopes (NewExpr-ctxt t).0 (NewExpr-ctxt u).0 → SameTree r (NewExpr-callee t) (NewExpr-callee u) →
-          SameExpr (NewExpr-args t) (NewExpr-args u) → SameTree r (NewExpr-type_args t) (NewExpr-type_args u) → SameExpr t u
-      function : {t u : Tree} → Both FnExpr t u → SameTree r (FnExpr-ident t) (FnExpr-ident u) → SameFunction (FnExpr-function t) (FnExpr-function u) →
+          SameExpr (NewExpr-args t) (NewExpr-args u) → SameTree r (NewExpr-type_args t) (NewExpr-type_args u) →
           SameExpr t u
-      arrow : {t u : Tree} → Both ArrowExpr t u → SameArrowHead t u → SamePats (parts (ArrowExpr-params t)) (parts (ArrowExpr-params u)) → SameArrowBody t u →
+      function : {t u : Tree} → Both FnExpr t u → SameTree r (FnExpr-ident t) (FnExpr-ident u) →
+          SameFunction (FnExpr-function t) (FnExpr-function u) →
+          SameExpr t u
+      arrow : {t u : Tree} → Both ArrowExpr t u → SameArrowHead t u →
+          SamePats (parts (ArrowExpr-params t)) (parts (ArrowExpr-params u)) → SameArrowBody t u →
           SameExpr t u
 
     pub data SameExprs : List Tree → List Tree → Type 0 where
@@ -180,23 +203,29 @@ module _ (r : Renaming) (c d : Bindings) where
           return_class (ArrowExpr-body t) ≡ return_class (ArrowExpr-body u) →
           SameNamed (ArrowExpr-is_generator t) (ArrowExpr-body t) (ArrowExpr-body u) → SameArrowBody t u
       -- any values of the same inferred type
-      shown_value : {t u : Tree} → Neither BlockStmt (ArrowExpr-body t) (ArrowExpr-body u) → SameShown (ArrowExpr-body t) (ArrowExpr-body u) → SameArrowBody t u
+      shown_value : {t u : Tree} → Neither BlockStmt (ArrowExpr-body t) (ArrowExpr-body u) →
+          SameShown (ArrowExpr-body t) (ArrowExpr-body u) → SameArrowBody t u
       -- values that are to stay
-      kept_value : {t u : Tree} → Neither BlockStmt (ArrowExpr-body t) (ArrowExpr-body u) → NoneShown (ArrowExpr-body t) (ArrowExpr-body u) →
+      kept_value : {t u : Tree} → Neither BlockStmt (ArrowExpr-body t) (ArrowExpr-body u) →
+          NoneShown (ArrowExpr-body t) (ArrowExpr-body u) →
           SameExpr (ArrowExpr-body t) (ArrowExpr-body u) → SameArrowBody t u
 
-    -- functions: any bodies behind a written return type, and bodies of one return class, which name the same type, if one of them names any
+    -- functions: any bodies behind a written return type, and bodies of one return class, which name the same type, if
+    -- one of them names any
     pub data SameFunction : Tree → Tree → Type 0 where
-      typed_function : {t u : Tree} → SameFunctionHead t u → SameReturn t u → is_absent (Function-return_type t) ≡ false →
+      typed_function : {t u : Tree} → SameFunctionHead t u → SameReturn t u →
+          is_absent (Function-return_type t) ≡ false →
           SameParams (parts (Function-params t)) (parts (Function-params u)) → SameFunction t u
-      classed_function : {t u : Tree} → SameFunctionHead t u → SameReturn t u → return_class (Function-body t) ≡ return_class (Function-body u) →
+      classed_function : {t u : Tree} → SameFunctionHead t u → SameReturn t u →
+          return_class (Function-body t) ≡ return_class (Function-body u) →
           SameNamed (Function-is_generator t) (Function-body t) (Function-body u) →
           SameParams (parts (Function-params t)) (parts (Function-params u)) → SameFunction t u
 
     -- parameters of functions, whatever their decorators
     pub data SameParams : List Tree → List Tree → Type 0 where
       no_params : SameParams [] []
-      next_param : {t u : Tree} {ts us : List Tree} → SameRange r (Param-span t) (Param-span u) → SamePat (Param-pat t) (Param-pat u) → SameParams ts us →
+      next_param : {t u : Tree} {ts us : List Tree} → SameRange r (Param-span t) (Param-span u) →
+          SamePat (Param-pat t) (Param-pat u) → SameParams ts us →
           SameParams (t ∷ ts) (u ∷ us)
 
     pub data SamePats : List Tree → List Tree → Type 0 where
@@ -208,20 +237,25 @@ module _ (r : Renaming) (c d : Bindings) where
       -- identifiers, with their types
       bare : {t u : Tree} → Both BindingIdent t u → SameTree r t u → SamePat t u
       emptied : {t u : Tree} → SameEmptied t u → SamePat t u
-      rest : {t u : Tree} → Both RestPat t u → SameRange r (RestPat-span t) (RestPat-span u) → SameRange r (RestPat-dot3_token t) (RestPat-dot3_token u) →
-          SameGathered (RestPat-arg t) (RestPat-arg u) → SameTree r (RestPat-type_ann t) (RestPat-type_ann u) → SamePat t u
+      rest : {t u : Tree} → Both RestPat t u → SameRange r (RestPat-span t) (RestPat-span u) →
+          SameRange r (RestPat-dot3_token t) (RestPat-dot3_token u) →
+          SameGathered (RestPat-arg t) (RestPat-arg u) → SameTree r (RestPat-type_ann t) (RestPat-type_ann u) →
+          SamePat t u
       -- any two that can't be parameters
       taken_apart : {t u : Tree} → is_parameter (kind_of t) ≡ false → is_parameter (kind_of u) ≡ false → SameRange r (range_of_node t) (range_of_node u) →
           SamePat t u
       -- any two defaults of what can't have one
       default_taken_apart : {t u : Tree} → Both AssignPat t u → takes_default (kind_of (AssignPat-left t)) ≡ false →
-          takes_default (kind_of (AssignPat-left u)) ≡ false → SameRange r (AssignPat-span t) (AssignPat-span u) → SamePat t u
+          takes_default (kind_of (AssignPat-left u)) ≡ false → SameRange r (AssignPat-span t) (AssignPat-span u) →
+          SamePat t u
       -- any defaults of identifiers with a written type
       typed_default : {t u : Tree} → Both AssignPat t u → Both BindingIdent (AssignPat-left t) (AssignPat-left u) →
-          SameTree r (AssignPat-left t) (AssignPat-left u) → is_absent (BindingIdent-type_ann (AssignPat-left t)) ≡ false → SamePat t u
+          SameTree r (AssignPat-left t) (AssignPat-left u) →
+          is_absent (BindingIdent-type_ann (AssignPat-left t)) ≡ false → SamePat t u
       -- any defaults of the same inferred type
       shown_default : {t u : Tree} → Both AssignPat t u → Both BindingIdent (AssignPat-left t) (AssignPat-left u) →
-          SameTree r (AssignPat-left t) (AssignPat-left u) → SameShown (AssignPat-right t) (AssignPat-right u) → SamePat t u
+          SameTree r (AssignPat-left t) (AssignPat-left u) → SameShown (AssignPat-right t) (AssignPat-right u) →
+          SamePat t u
       -- defaults that are to stay
       kept_default : {t u : Tree} → Both AssignPat t u → Both BindingIdent (AssignPat-left t) (AssignPat-left u) →
           SameRange r (AssignPat-span t) (AssignPat-span u) →
@@ -232,5 +266,6 @@ module _ (r : Renaming) (c d : Bindings) where
           SameEmptied (AssignPat-left t) (AssignPat-left u) →
           is_absent (pattern_type (AssignPat-left t)) ≡ false → SamePat t u
       -- defaults of patterns that are to stay
-      kept_pattern : {t u : Tree} → Both AssignPat t u → SameRange r (AssignPat-span t) (AssignPat-span u) → SameEmptied (AssignPat-left t) (AssignPat-left u) →
+      kept_pattern : {t u : Tree} → Both AssignPat t u →
+          SameRange r (AssignPat-span t) (AssignPat-span u) → SameEmptied (AssignPat-left t) (AssignPat-left u) →
           SameExpr (AssignPat-right t) (AssignPat-right u) → SamePat t u

@@ -13,9 +13,11 @@ pub record Surroundings : Type 0 where
   pub is_implementation : SourceRange → Bool
   -- what is known of the names of the module
   pub bindings : Bindings
-  -- whether all that stands here is ambient: in a declaration file (`.d.ts`, `.d.mts`, `.d.cts`), or inside of a namespace with `declare`
+  -- whether all that stands here is ambient: in a declaration file (`.d.ts`, `.d.mts`, `.d.cts`), or inside of a
+  -- namespace with `declare`
   pub is_ambient : Bool
-  -- the text that stands in a skeleton for a source of imports or exports, where it is another one: a text that begins with `.`, where the graph resolves it
+  -- the text that stands in a skeleton for a source of imports or exports, where it is another one: a text that begins
+  -- with `.`, where the graph resolves it
   pub relative : List ℕ → Option (List ℕ)
   -- what is known of the objects of expando properties
   pub objects : Objects

@@ -15,22 +15,27 @@ use Rattle.fast_check_program_forms.specs.Names.{Ident-span, BindingIdent-id, Bi
 use Rattle.fast_check_program_forms.specs.Programs.{Module-body}
 use Rattle.fast_check_program_forms.specs.ModuleDecls.{ExportDecl-span, ExportDecl-decl}
 use Rattle.fast_check_statement_forms.specs.Declarations.{ClassDecl-ident, ClassDecl-declare, ClassDecl-class}
-use Rattle.fast_check_statement_forms.specs.Declarations.{FnDecl-ident, FnDecl-declare, FnDecl-function}
-use Rattle.fast_check_statement_forms.specs.Declarations.{UsingDecl-span, UsingDecl-decls}
-use Rattle.fast_check_statement_forms.specs.Declarations.{VarDecl-span, VarDecl-ctxt, VarDecl-kind, VarDecl-declare, VarDecl-decls}
-use Rattle.fast_check_statement_forms.specs.Declarations.{VarDeclarator-span, VarDeclarator-name, VarDeclarator-init, VarDeclarator-definite, var_declarator}
-use Rattle.fast_check_signatures.specs.declared.fault.FaultKind.TheVariants.{UnsupportedDestructuring, UnsupportedUsing, UnsupportedGlobalModule}
+use Rattle.fast_check_statement_forms.specs.Declarations.{FnDecl-ident, FnDecl-declare, FnDecl-function, UsingDecl-span}
+use Rattle.fast_check_statement_forms.specs.Declarations.{UsingDecl-decls, VarDecl-span, VarDecl-ctxt, VarDecl-kind}
+use Rattle.fast_check_statement_forms.specs.Declarations.{VarDecl-declare, VarDecl-decls, VarDeclarator-span}
+use Rattle.fast_check_statement_forms.specs.Declarations.{VarDeclarator-name, VarDeclarator-init}
+use Rattle.fast_check_statement_forms.specs.Declarations.{VarDeclarator-definite, var_declarator}
+use Rattle.fast_check_signatures.specs.declared.fault.FaultKind.TheVariants.{UnsupportedDestructuring, UnsupportedUsing}
+use Rattle.fast_check_signatures.specs.declared.fault.FaultKind.TheVariants.{UnsupportedGlobalModule}
 use Rattle.fast_check_signatures.specs.declared.fault.FaultKind.TheVariants.{UnsupportedAmbientModule}
 use Rattle.fast_check_statement_forms.specs.TsDeclarations.{TsModuleDecl-span, TsModuleDecl-global, TsModuleDecl-id}
 use Rattle.fast_check_signatures.specs.declared.function_kind.FunctionKind.TheVariants.{DeclarationLike}
 use Rattle.fast_check_signatures.specs.Classes.{plain_class_seen, ambient_class}
 use Rattle.fast_check_signatures.specs.Expressions.{expr_seen}
 use Rattle.fast_check_signatures.specs.Functions.{function_seen, implementation_seen}
-use Rattle.fast_check_signatures.specs.Seen.{DeclaratorHead, Seen, written, range, scope, flag, round, listed, declarator, faulty, refused, seens}
+use Rattle.fast_check_signatures.specs.Seen.{DeclaratorHead, Seen, written, range, scope, flag, round, listed}
+use Rattle.fast_check_signatures.specs.Seen.{declarator, faulty, refused, seens}
 use Rattle.fast_check_skeleton.specs.declared.rules.DeclRule.{DeclRule}
-use Rattle.fast_check_skeleton.specs.declared.rules.DeclRule.TheVariants.{Variables, Function, Class, Standing, Namespace, Using, NoDeclaration}
+use Rattle.fast_check_skeleton.specs.declared.rules.DeclRule.TheVariants.{Variables, Function, Class, Standing}
+use Rattle.fast_check_skeleton.specs.declared.rules.DeclRule.TheVariants.{Namespace, Using, NoDeclaration}
 use Rattle.fast_check_skeleton.specs.declared.rules.ItemRule.{ItemRule}
-use Rattle.fast_check_skeleton.specs.declared.rules.ItemRule.TheVariants.{Declared, Exported, Linked, Default, Refused, Assigned, Silent}
+use Rattle.fast_check_skeleton.specs.declared.rules.ItemRule.TheVariants.{Declared, Exported, Linked, Default, Refused}
+use Rattle.fast_check_skeleton.specs.declared.rules.ItemRule.TheVariants.{Assigned, Silent}
 use Rattle.fast_check_expandos.specs.declared.properties.ExpandoProperty.{ExpandoProperty}
 use Rattle.fast_check_expandos.specs.Assignments.{assignment_seen, declared_properties}
 use Rattle.fast_check_expandos.specs.Expandos.{namespaces_seen}
@@ -51,25 +56,29 @@ declared_type d = BindingIdent-type_ann (VarDeclarator-name d)
 
 -- a declarator of an identifier, but for its value
 abbrev pub declarator_head : Tree → DeclaratorHead
-declarator_head d = record { span = VarDeclarator-span d; ident = declared_ident d; definite = VarDeclarator-definite d }
+declarator_head d =
+    record { span = VarDeclarator-span d; ident = declared_ident d; definite = VarDeclarator-definite d }
 
 -- a declarator of this type, with `{} as never` for its value
 abbrev pub typed_declarator : DeclaratorHead → Tree → Tree
 typed_declarator d type = var_declarator d.span (binding_ident d.ident type) never_value d.definite
 
--- a value that is to give a type, and the place of the identifier that names it; where there is none, nothing gives the type
+-- a value that is to give a type, and the place of the identifier that names it; where there is none, nothing gives the
+-- type
 abbrev pub value_seen : Surroundings → SourceRange → Tree → Seen
 value_seen around place value = if is_absent value then refused else expr_seen around.bindings value (Some place)
 
 -- a declarator without a written type, by the type that its value shows, or else with the value as it may stay
 abbrev pub untyped_seen : Surroundings → Tree → Option Tree → Seen
 untyped_seen around d (Some type) = written (typed_declarator (declarator_head d) (type_ann type))
-untyped_seen around d None = declarator (declarator_head d) (value_seen around (Ident-span (declared_ident d)) (VarDeclarator-init d))
+untyped_seen around d None = declarator (declarator_head d)
+    (value_seen around (Ident-span (declared_ident d)) (VarDeclarator-init d))
 
 -- a declarator of an identifier
 abbrev pub ident_declarator_seen : Surroundings → DeclMutabilityKind → Tree → Seen
 ident_declarator_seen around mutability d =
-    if is_absent (declared_type d) then untyped_seen around d (inferred_type mutability around.bindings.unresolved (VarDeclarator-init d))
+    if is_absent (declared_type d) then untyped_seen around d
+    (inferred_type mutability around.bindings.unresolved (VarDeclarator-init d))
     else written (typed_declarator (declarator_head d) (declared_type d))
 
 -- a declarator that is not ambient; a pattern can't be one
@@ -89,11 +98,13 @@ is_public_declarator around d = around.is_public (VarDeclarator-span d)
 -- a declarator of a statement
 abbrev pub declarator_in : Surroundings → Tree → Tree → Seen
 declarator_in around statement d =
-    if is_ambient_statement around statement then written d else declarator_seen around (mutability_of (VarDecl-kind statement)) d
+    if is_ambient_statement around statement then written d else declarator_seen around
+    (mutability_of (VarDecl-kind statement)) d
 
 -- a public declarator; nothing of another
 abbrev pub public_declarator : Surroundings → Tree → Tree → List Seen
-public_declarator around statement d = if is_public_declarator around d then declarator_in around statement d ∷ [] else []
+public_declarator around statement d = if is_public_declarator around d then declarator_in around statement d ∷
+    [] else []
 
 abbrev pub public_declarators : Surroundings → Tree → List Seen
 public_declarators around statement = flat_map (public_declarator around statement) (parts (VarDecl-decls statement))
@@ -102,23 +113,27 @@ public_declarators around statement = flat_map (public_declarator around stateme
 abbrev pub statement_seen : Tree → List Seen → List Seen
 statement_seen statement [] = []
 statement_seen statement (d ∷ ds) =
-    round VarDecl (seens (range (VarDecl-span statement) ∷ scope (VarDecl-ctxt statement) ∷ written (VarDecl-kind statement) ∷
+    round VarDecl
+    (seens (range (VarDecl-span statement) ∷ scope (VarDecl-ctxt statement) ∷ written (VarDecl-kind statement) ∷
     flag (VarDecl-declare statement) ∷ listed (seens (d ∷ ds)) ∷ [])) ∷ []
 
 abbrev pub standing_seen : Surroundings → SourceRange → Tree → List Seen
 standing_seen around place decl = if around.is_public place then written decl ∷ [] else []
 
--- a function that is not ambient, which is public by `place`: its signature, or where it is an implementation behind overloads the count of its parameters
+-- a function that is not ambient, which is public by `place`: its signature, or where it is an implementation behind
+-- overloads the count of its parameters
 abbrev pub signature_of : Surroundings → SourceRange → Tree → Seen
 signature_of around place decl =
     if around.is_implementation place then implementation_seen (FnDecl-function decl)
-    else function_seen around.bindings (expr_seen around.bindings) DeclarationLike (Ident-span (FnDecl-ident decl)) (FnDecl-function decl)
+    else function_seen around.bindings (expr_seen around.bindings) DeclarationLike (Ident-span (FnDecl-ident decl))
+    (FnDecl-function decl)
 
 -- a function declaration; where all is ambient it stands as it is written
 abbrev pub function_decl_seen : Surroundings → SourceRange → Tree → Seen
 function_decl_seen around place decl =
     if around.is_ambient then written decl
-    else round FnDecl (seens (written (FnDecl-ident decl) ∷ flag (FnDecl-declare decl) ∷ signature_of around place decl ∷ []))
+    else round FnDecl
+    (seens (written (FnDecl-ident decl) ∷ flag (FnDecl-declare decl) ∷ signature_of around place decl ∷ []))
 
 abbrev pub public_function : Surroundings → SourceRange → Tree → List Seen
 public_function around place decl = if around.is_public place then function_decl_seen around place decl ∷ [] else []
@@ -151,11 +166,13 @@ using_place decl = place_of_first (UsingDecl-span decl) (parts (UsingDecl-decls 
 
 -- `using` is public by `place`, or by a declarator
 abbrev pub is_public_using : Surroundings → SourceRange → Tree → Bool
-is_public_using around place decl = around.is_public place || list_any (is_public_declarator around) (parts (UsingDecl-decls decl))
+is_public_using around place decl = around.is_public place ||
+    list_any (is_public_declarator around) (parts (UsingDecl-decls decl))
 
 -- no skeleton has what `using` declares
 abbrev pub using_seen : Surroundings → SourceRange → Tree → List Seen
-using_seen around place decl = if is_public_using around place decl then faulty UnsupportedUsing (using_place decl) ∷ [] else []
+using_seen around place decl = if is_public_using around place decl then faulty UnsupportedUsing (using_place decl) ∷
+    [] else []
 
 -- What is seen of a lower item inside of an item, in surroundings.
 abbrev pub ItemLook : Type 0
@@ -163,7 +180,8 @@ ItemLook = Tree → Surroundings → List Seen
 
 -- the expando properties that an item declares, by what is done with it
 abbrev pub properties_by_rule : Surroundings → Tree → ItemRule → List ExpandoProperty
-properties_by_rule around item Assigned = declared_properties around.is_public around.bindings around.objects (ExprStmt-expr item)
+properties_by_rule around item Assigned = declared_properties around.is_public around.bindings around.objects
+    (ExprStmt-expr item)
 properties_by_rule around item _ = []
 
 abbrev pub item_properties : Surroundings → Tree → List ExpandoProperty
@@ -171,18 +189,20 @@ item_properties around item = properties_by_rule around item (item_rule item)
 
 -- the items of a body: of a module, or of a namespace; behind them stand the namespaces for their expando properties
 abbrev pub body_seen : ItemLook → Surroundings → List Tree → List Seen
-body_seen look around items = flat_map (λ item. look item around) items ++ namespaces_seen (flat_map (item_properties around) items)
+body_seen look around items = flat_map (λ item. look item around) items ++ namespaces_seen
+    (flat_map (item_properties around) items)
 
--- a namespace, which is public by `place`, with what is seen of its items. No skeleton has `declare global`, `declare module "x"` or a namespace without a
--- body, public or not.
+-- a namespace, which is public by `place`, with what is seen of its items. No skeleton has `declare global`, `declare
+-- module "x"` or a namespace without a body, public or not.
 abbrev pub namespace_seen : ItemLook → Surroundings → SourceRange → Tree → List Seen
 namespace_seen look around place decl =
     if TsModuleDecl-global decl then faulty UnsupportedGlobalModule (TsModuleDecl-span decl) ∷ []
     else (if is_ambient_module decl then faulty UnsupportedAmbientModule (range_of_node (TsModuleDecl-id decl)) ∷ []
     else (if around.is_public place then namespace_round (body_seen look (inside around decl) (items_inside decl)) decl ∷ [] else []))
 
--- A declaration, by what is done with it. Of a variable statement the declarators are public, by their own ranges; another is public by `place`, which is the
--- range of its export, or else its own. Of what is no declaration nothing is seen.
+-- A declaration, by what is done with it. Of a variable statement the declarators are public, by their own ranges;
+-- another is public by `place`, which is the range of its export, or else its own. Of what is no declaration nothing is
+-- seen.
 abbrev pub decl_form : ItemLook → Surroundings → SourceRange → Tree → DeclRule → List Seen
 decl_form look around place decl Variables = statement_seen decl (public_declarators around decl)
 decl_form look around place decl Function = public_function around place decl
@@ -200,11 +220,13 @@ exported_seen export (d ∷ ds) = round ExportDecl (seens (range (ExportDecl-spa
 -- an item of a module, by what is done with it
 abbrev pub form_by_rule : ItemLook → Surroundings → Tree → ItemRule → List Seen
 form_by_rule look around item (Declared rule) = decl_form look around (range_of_node item) item rule
-form_by_rule look around item (Exported rule) = exported_seen item (decl_form look around (ExportDecl-span item) (ExportDecl-decl item) rule)
+form_by_rule look around item (Exported rule) = exported_seen item
+    (decl_form look around (ExportDecl-span item) (ExportDecl-decl item) rule)
 form_by_rule look around item (Linked rule) = link_seen around item rule
 form_by_rule look around item (Default rule) = default_seen around item rule
 form_by_rule look around item (Refused kind) = faulty kind (range_of_node item) ∷ []
-form_by_rule look around item Assigned = assignment_seen around.is_public around.bindings around.objects (ExprStmt-expr item)
+form_by_rule look around item Assigned = assignment_seen around.is_public around.bindings around.objects
+    (ExprStmt-expr item)
 form_by_rule look around item Silent = []
 
 abbrev pub item_form : Tree → ItemLook → Surroundings → List Seen

@@ -1,4 +1,5 @@
--- The law of two worlds: a hidden edit changes no skeleton and no fault, and at renamed positions no comment that stays.
+-- The law of two worlds: a hidden edit changes no skeleton and no fault, and at renamed positions no comment that
+-- stays.
 use Rattle.std.specs.Prelude.{◌≡◌}
 use Rattle.fast_check_syntax.specs.declared.tree.Tree.{Tree}
 use Rattle.fast_check_syntax.specs.Moves.{Renaming, IsRenaming}
@@ -24,12 +25,14 @@ pub record SameSkeleton (r : Renaming) (t u : Tree) : Type 0 where
   pub shebang : SameTree r (Module-shebang t) (Module-shebang u)
 
 -- what is answered of t with the comments c, and of u with the comments d
-pub record SameAnswers (r : Renaming) (a : Surroundings) (t : Tree) (c : Comments) (b : Surroundings) (u : Tree) (d : Comments) : Type 0 where
+pub record SameAnswers (r : Renaming) (a : Surroundings) (t : Tree) (c : Comments) (b : Surroundings) (u : Tree)
+    (d : Comments) : Type 0 where
   pub skeletons : SameSkeleton r (skeleton_of a t) (skeleton_of b u)
   pub faults : Each (SameFault r) (faults_of a t) (faults_of b u)
   pub comments : SameComments r (kept_comments a t c) (kept_comments b u d)
 
--- Under each renaming under which two modules agree but for what is hidden, and so do those of their comments that a skeleton may keep, their answers are
--- the same.
+-- Under each renaming under which two modules agree but for what is hidden, and so do those of their comments that a
+-- skeleton may keep, their answers are the same.
 abbrev pub TwoWorlds : Surroundings → Tree → Comments → Surroundings → Tree → Comments → Type 0
-TwoWorlds a t c b u d = (r : Renaming) → IsRenaming r → AgreeHidden r a b t u → SameComments r (kept c) (kept d) → SameAnswers r a t c b u d
+TwoWorlds a t c b u d = (r : Renaming) → IsRenaming r → AgreeHidden r a b t u → SameComments r (kept c) (kept d) →
+    SameAnswers r a t c b u d

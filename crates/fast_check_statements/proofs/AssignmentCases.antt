@@ -48,7 +48,8 @@ module _ (around : Surroundings) (a : Tree) where
   pub hidden_assignment : around.is_public (AssignExpr-span a) ≡ false → (old : List Fault) → Adds (assignment_answer around a) [] old old
   unfolding assignment_answer
   hidden_assignment e old =
-      adds_same (ap (λ p. answer_of (if p then tested (missing_place around.objects a) (right_seen around.bindings a) ∷ [] else [])) e) (adds_nothing [] old)
+      adds_same (ap (λ p. answer_of (if p then tested (missing_place around.objects a) (right_seen around.bindings a) ∷ [] else [])) e)
+      (adds_nothing [] old)
 
   pub hidden_properties : around.is_public (AssignExpr-span a) ≡ false → assignment_properties around a ≡ []
   unfolding assignment_properties
@@ -57,16 +58,19 @@ module _ (around : Surroundings) (a : Tree) where
       (answer_to (right_seen around.bindings a)).stays else []) e
 
   -- of one that is public
-  pub tested_assignment : around.is_public (AssignExpr-span a) ≡ true → {place : SourceRange} {value : Tree} (o : Option Tree) {old mid new : List Fault} →
+  pub tested_assignment : around.is_public (AssignExpr-span a) ≡ true →
+      {place : SourceRange} {value : Tree} (o : Option Tree) {old mid new : List Fault} →
       Adds (value_answer around place value) o old mid → place ≡ range_of_node (AssignExpr-right a) → value ≡ AssignExpr-right a →
       new ≡ mid ++ missing_at (missing_place around.objects a) o → Adds (assignment_answer around a) [] old new
   unfolding assignment_answer value_answer
   tested_assignment e o h p q f =
       adds_same (ap (λ p. answer_of (if p then tested (missing_place around.objects a) (right_seen around.bindings a) ∷ [] else [])) e)
-      (tested_adds (missing_place around.objects a) (right_seen around.bindings a) o (adds_same (λ i. value_answer around (sym p i) (sym q i)) h) f)
+      (tested_adds (missing_place around.objects a) (right_seen around.bindings a) o
+      (adds_same (λ i. value_answer around (sym p i) (sym q i)) h) f)
 
   -- of one that is no expando nothing is missing, and it declares nothing
-  pub nothing_missing : is_expando_assignment a ≡ false → (o : Option Tree) (old : List Fault) → old ≡ old ++ missing_at (missing_place around.objects a) o
+  pub nothing_missing : is_expando_assignment a ≡ false → (o : Option Tree) (old : List Fault) →
+      old ≡ old ++ missing_at (missing_place around.objects a) o
   nothing_missing e o old =
       sym (append-nil old) ∙ sym (ap (λ x. old ++ missing_at (if x && not (is_declared around.objects (AssignExpr-left a)) then
       Some (MemberExpr-span (AssignExpr-left a)) else None) o) e)
@@ -77,22 +81,28 @@ module _ (around : Surroundings) (a : Tree) where
     where
       go : (p : Bool) → (if p && is_expando_assignment a then kept_property around.objects (AssignExpr-span a) (AssignExpr-left a)
           (answer_to (right_seen around.bindings a)).stays else []) ≡ []
-      go true = ap (λ x. if x then kept_property around.objects (AssignExpr-span a) (AssignExpr-left a) (answer_to (right_seen around.bindings a)).stays
+      go true =
+          ap (λ x. if x then kept_property around.objects (AssignExpr-span a) (AssignExpr-left a)
+          (answer_to (right_seen around.bindings a)).stays
           else []) e
       go false = refl
 
-  pub property_stays : around.is_public (AssignExpr-span a) ≡ true → is_expando_assignment a ≡ true → {place : SourceRange} {value : Tree} (o : Option Tree)
-      {old mid : List Fault} → Adds (value_answer around place value) o old mid → place ≡ range_of_node (AssignExpr-right a) → value ≡ AssignExpr-right a →
+  pub property_stays : around.is_public (AssignExpr-span a) ≡ true → is_expando_assignment a ≡ true →
+      {place : SourceRange} {value : Tree} (o : Option Tree)
+      {old mid : List Fault} → Adds (value_answer around place value) o old mid → place ≡ range_of_node (AssignExpr-right a) →
+      value ≡ AssignExpr-right a →
       assignment_properties around a ≡ kept_property around.objects (AssignExpr-span a) (AssignExpr-left a) o
   unfolding assignment_properties value_answer
   property_stays e f o h p q =
-      (λ i. if e i && f i then kept_property around.objects (AssignExpr-span a) (AssignExpr-left a) (answer_to (right_seen around.bindings a)).stays else [])
+      (λ i. if e i && f i then kept_property around.objects (AssignExpr-span a) (AssignExpr-left a)
+      (answer_to (right_seen around.bindings a)).stays else [])
       ∙ ap (λ (x : Answer (Option Tree)). kept_property around.objects (AssignExpr-span a) (AssignExpr-left a) x.stays)
       ((λ i. value_answer around (sym p i) (sym q i)) ∙ h.is)
 
 -- ---- what the symbols of a module say
 
-module _ (info : EsModule) (target : Tree) {id : Id} {symbol : Option Symbol} (s : symbol ≡ symbol_of_swc info.tables id) (e : id ≡ object_of target) where
+module _ (info : EsModule) (target : Tree) {id : Id} {symbol : Option Symbol} (s : symbol ≡ symbol_of_swc info.tables id)
+    (e : id ≡ object_of target) where
   pub exports_are : exports_name symbol ≡ (objects_of info).exports (object_of target)
   unfolding objects_of
   exports_are = ap exports_name (s ∙ ap (symbol_of_swc info.tables) e)
@@ -102,8 +112,10 @@ module _ (info : EsModule) (target : Tree) {id : Id} {symbol : Option Symbol} (s
   keyword_is = ap stands_exported (s ∙ ap (symbol_of_swc info.tables) e)
 
 -- what is missing of an expando
-pub missing_is : (objects : Objects) (a : Tree) → is_expando_assignment a ≡ true → {declared : Bool} → declared ≡ is_declared objects (AssignExpr-left a) →
-    (if declared then [] else fault_at MissingExplicitType (MemberExpr-span (AssignExpr-left a)) ∷ []) ≡ missing_at (missing_place objects a) None
+pub missing_is : (objects : Objects) (a : Tree) → is_expando_assignment a ≡ true → {declared : Bool} →
+    declared ≡ is_declared objects (AssignExpr-left a) →
+    (if declared then [] else fault_at MissingExplicitType (MemberExpr-span (AssignExpr-left a)) ∷ []) ≡ missing_at
+    (missing_place objects a) None
 missing_is objects a e {declared} d =
     go declared ∙ (λ i. missing_at (if (sym e i) && not (d i) then Some (MemberExpr-span (AssignExpr-left a)) else None) None)
   where

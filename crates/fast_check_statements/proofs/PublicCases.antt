@@ -19,7 +19,8 @@ module _ (around : Surroundings) (place : SourceRange) (decl : Tree) where
   pub function_stays : around.is_public place ≡ true → {t : Tree} {old new : List Fault} →
       Adds (function_answer around place decl) (Some t) old new → Adds (public_function_answer around place decl) (t ∷ []) old new
   unfolding public_function_answer function_answer
-  function_stays e h = adds_same (ap (λ p. answer_of (if_public p (function_decl_seen around place decl))) e) (alone (function_decl_seen around place decl) h)
+  function_stays e h = adds_same (ap (λ p. answer_of (if_public p (function_decl_seen around place decl))) e)
+      (alone (function_decl_seen around place decl) h)
 
   pub function_goes : around.is_public place ≡ false → (old : List Fault) → Adds (public_function_answer around place decl) [] old old
   unfolding public_function_answer

@@ -12,7 +12,8 @@ use Rattle.fast_check_surroundings.specs.skeleton.Surroundings.{Surroundings}
 
 -- what is answered to one, and the properties that it declares
 unfoldable pub assignment_answer : Surroundings → Tree → Answer (List Tree)
-assignment_answer around assignment = answer_of (assignment_seen around.is_public around.bindings around.objects assignment)
+assignment_answer around assignment =
+    answer_of (assignment_seen around.is_public around.bindings around.objects assignment)
 
 unfoldable pub assignment_properties : Surroundings → Tree → List ExpandoProperty
 assignment_properties around assignment = declared_properties around.is_public around.bindings around.objects assignment

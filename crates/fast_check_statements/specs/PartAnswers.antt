@@ -7,21 +7,26 @@ use Rattle.fast_check_syntax.specs.declared.tree.Tree.{Tree}
 use Rattle.fast_check_program_forms.specs.Names.{Ident-span, binding_ident}
 use Rattle.fast_check_ranges.specs.Ranges.{range_of_node}
 use Rattle.fast_check_statement_forms.specs.TsDeclarations.{TsModuleDecl-span, TsModuleDecl-global, TsModuleDecl-id}
-use Rattle.fast_check_statement_forms.specs.Declarations.{VarDeclarator-span, VarDeclarator-init, VarDeclarator-definite, var_declarator}
+use Rattle.fast_check_statement_forms.specs.Declarations.{VarDeclarator-span, VarDeclarator-init}
+use Rattle.fast_check_statement_forms.specs.Declarations.{VarDeclarator-definite, var_declarator}
 use Rattle.fast_check_helpers.specs.declared.literal_type.DeclMutabilityKind.{DeclMutabilityKind}
 use Rattle.fast_check_signatures.specs.Seen.{declarator}
 use Rattle.fast_check_signatures.specs.declared.fault.Fault.{Fault}
-use Rattle.fast_check_signatures.specs.declared.fault.FaultKind.TheVariants.{UnsupportedGlobalModule, UnsupportedAmbientModule}
+use Rattle.fast_check_signatures.specs.declared.fault.FaultKind.TheVariants.{UnsupportedGlobalModule}
+use Rattle.fast_check_signatures.specs.declared.fault.FaultKind.TheVariants.{UnsupportedAmbientModule}
 use Rattle.fast_check_signatures.specs.Answers.{Answer, fault_at, answer_to, answer_of}
 use Rattle.fast_check_surroundings.specs.skeleton.Namespaces.{is_ambient_module}
 use Rattle.fast_check_surroundings.specs.skeleton.Surroundings.{Surroundings}
-use Rattle.fast_check_surroundings.specs.skeleton.Visible.{declared_ident, declarator_head, value_seen, ident_declarator_seen, declarator_seen, public_declarator}
-use Rattle.fast_check_surroundings.specs.skeleton.Visible.{public_declarators, statement_seen, signature_of, function_decl_seen, public_function, standing_seen}
+use Rattle.fast_check_surroundings.specs.skeleton.Visible.{declared_ident, declarator_head, value_seen}
+use Rattle.fast_check_surroundings.specs.skeleton.Visible.{ident_declarator_seen, declarator_seen, public_declarator}
+use Rattle.fast_check_surroundings.specs.skeleton.Visible.{public_declarators, statement_seen, signature_of}
+use Rattle.fast_check_surroundings.specs.skeleton.Visible.{function_decl_seen, public_function, standing_seen}
 use Rattle.fast_check_surroundings.specs.skeleton.Visible.{using_seen}
 
 -- a declarator of another type and value
 abbrev pub retyped : Tree → Tree → Tree → Tree
-retyped d type value = var_declarator (VarDeclarator-span d) (binding_ident (declared_ident d) type) value (VarDeclarator-definite d)
+retyped d type value = var_declarator (VarDeclarator-span d) (binding_ident (declared_ident d) type) value
+    (VarDeclarator-definite d)
 
 -- to a value that is to give a type, which the identifier at `place` names
 unfoldable pub value_answer : Surroundings → SourceRange → Tree → Answer (Option Tree)
@@ -29,7 +34,9 @@ value_answer around place value = answer_to (value_seen around place value)
 
 -- to a declarator that nothing but its value gives a type
 unfoldable pub valued_answer : Surroundings → Tree → Answer (Option Tree)
-valued_answer around d = answer_to (declarator (declarator_head d) (value_seen around (Ident-span (declared_ident d)) (VarDeclarator-init d)))
+valued_answer around d =
+    answer_to
+    (declarator (declarator_head d) (value_seen around (Ident-span (declared_ident d)) (VarDeclarator-init d)))
 
 -- to a declarator of an identifier
 unfoldable pub ident_answer : Surroundings → DeclMutabilityKind → Tree → Answer (Option Tree)
@@ -72,4 +79,5 @@ using_answer around place decl = answer_of (using_seen around place decl)
 abbrev pub module_fault : Tree → Option Fault
 module_fault decl =
     if TsModuleDecl-global decl then Some (fault_at UnsupportedGlobalModule (TsModuleDecl-span decl))
-    else (if is_ambient_module decl then Some (fault_at UnsupportedAmbientModule (range_of_node (TsModuleDecl-id decl))) else None)
+    else (if is_ambient_module decl then Some
+    (fault_at UnsupportedAmbientModule (range_of_node (TsModuleDecl-id decl))) else None)

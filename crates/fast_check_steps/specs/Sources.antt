@@ -1,5 +1,6 @@
 -- What is known of modules and packages.
-use Rattle.std.specs.Prelude.{Bool, false, cond, not, ◌||◌, List, Option, Some, None, option_map, codes, nat_eq, string_bytes}
+use Rattle.std.specs.Prelude.{Bool, false, cond, not, ◌||◌, List, Option, Some, None, option_map, codes, nat_eq}
+use Rattle.std.specs.Prelude.{string_bytes}
 use Rattle.std.specs.List.{find, starts_with}
 use Rattle.std.specs.Map.{lookup}
 use Rattle.std.specs.Option.{option_and_then, option_or}
@@ -30,8 +31,8 @@ Used = Nv → List Parts → Option ItemView
 abbrev pub none_used : Used
 none_used nv entry_points = None
 
--- the graph, the tables of modules by name, the members of the workspace, the URLs of packages, the package that a specifier belongs to, and the
--- items that are used
+-- the graph, the tables of modules by name, the members of the workspace, the URLs of packages, the package that a
+-- specifier belongs to, and the items that are used
 pub record Known : Type 0 where
   pub graph : ModuleGraph
   pub root_symbol : RootSymbol
@@ -46,7 +47,8 @@ member_of members t = find (λ m. starts_with nat_eq t (serialize m.base)) membe
 
 -- a file belongs to a member of the workspace, or to no package; other specifiers to what the provider says
 abbrev pub owner_by : List WorkspaceMember → (Text → Option Nv) → Text → Option Nv
-owner_by members nv_at t = cond (starts_with nat_eq t (codes "file:")) (option_map member_nv (member_of members t)) (nv_at t)
+owner_by members nv_at t = cond (starts_with nat_eq t (codes "file:")) (option_map member_nv (member_of members t))
+    (nv_at t)
 
 abbrev pub known : Sources → (Nv → Parts) → (Text → Option Nv) → Known
 known s url_of nv_at = record {
@@ -78,7 +80,8 @@ node_at g t = lookup (is_text t) g.modules.entries
 
 -- a module's own name goes before an alias
 abbrev pub named_at : RootSymbol → Text → Option ModuleInfo
-named_at r t = option_or (lookup (is_text t) r.modules.entries) (option_and_then (module_named r.modules.entries) (lookup (is_text t) r.aliases.entries))
+named_at r t = option_or (lookup (is_text t) r.modules.entries)
+    (option_and_then (module_named r.modules.entries) (lookup (is_text t) r.aliases.entries))
 
 abbrev pub lent : {X : Type 0} → X → Bor X
 lent x = record { ref_ptr = (0, 0); now = x }

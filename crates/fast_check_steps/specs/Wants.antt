@@ -28,9 +28,11 @@ resolved m text = resolved_to m.graph.now text (specifier_of m.info.now)
 
 -- what is asked of a file. A text that resolves to nothing, and a module that belongs to no package, ask for nothing
 abbrev pub file_wants : Known → Nv → TracedModule → FileDemand → List Want
-file_wants k nv m f = each_of (λ url. file_at nv (serialize url) (asked_by f.names) (k.owner (serialize url))) (resolved m f.text)
+file_wants k nv m f = each_of (λ url. file_at nv (serialize url) (asked_by f.names) (k.owner (serialize url)))
+    (resolved m f.text)
 
 -- what is asked by what the module exports again
 abbrev pub left_wants : Known → Nv → TracedModule → ModuleWant → List Want
-left_wants k nv m (re_exported text) = each_of (λ url. behind nv (serialize url) (asked_by names_but_default) (k.owner (serialize url))) (resolved m text)
+left_wants k nv m (re_exported text) =
+    each_of (λ url. behind nv (serialize url) (asked_by names_but_default) (k.owner (serialize url))) (resolved m text)
 left_wants k nv m (answered url d) = behind nv (serialize url) (asked_by d) (k.owner (serialize url))

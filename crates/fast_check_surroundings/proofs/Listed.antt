@@ -11,12 +11,14 @@ use Rattle.fast_check_signatures.specs.Answers.{Adds, with_tree, answer_to, answ
 use Rattle.fast_check_signatures.proofs.Adding.{adds_nothing, adds_same, adds_joined, answer_append}
 
 -- one that is seen alone
-pub alone : (s : Seen) {o : Option Tree} {old new : List Fault} → Adds (answer_to s) o old new → Adds (answer_of (s ∷ [])) (with_tree o []) old new
+pub alone : (s : Seen) {o : Option Tree} {old new : List Fault} → Adds (answer_to s) o old new →
+    Adds (answer_of (s ∷ [])) (with_tree o []) old new
 alone s {new = new} h = adds_joined with_tree h (adds_nothing [] new)
 
 -- what is seen of one more of a list
 pub one_more : (f : Tree → List Seen) (ts : List Tree) (i : ℕ) (t : Tree) → i < length ts → t ≡ get_or ts i t →
-    {xs ys zs : List Tree} {old mid new : List Fault} → Adds (answer_of (flat_map f (take i ts))) xs old mid → Adds (answer_of (f t)) ys mid new →
+    {xs ys zs : List Tree} {old mid new : List Fault} → Adds (answer_of (flat_map f (take i ts))) xs old mid →
+    Adds (answer_of (f t)) ys mid new →
     zs ≡ xs ++ ys → Adds (answer_of (flat_map f (take (i + 1) ts))) zs old new
 one_more f ts i t h e {old = old} {new = new} g k p =
     let more : flat_map f (take (i + 1) ts) ≡ flat_map f (take i ts) ++ f t =

@@ -33,7 +33,8 @@ no_base false = (λ e. refl, λ e. refl)
 relates : (base url : Parts) → Decides (is_relatable base url) (CanRelate base url)
 relates base url =
     both _ _ (no_base (cannot_be_a_base base))
-    (three _ _ _ (bytes_eq-Decides base.scheme url.scheme) (bytes_eq-Decides (host_text (host_or_empty base)) (host_text (host_or_empty url)))
+    (three _ _ _ (bytes_eq-Decides base.scheme url.scheme)
+    (bytes_eq-Decides (host_text (host_or_empty base)) (host_text (host_or_empty url)))
     (same_port base.port url.port))
 
 module _ (base url : Parts) where

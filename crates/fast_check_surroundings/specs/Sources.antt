@@ -1,5 +1,6 @@
 -- The text that stands in a skeleton for the source of an import or an export.
-use Rattle.std.specs.Prelude.{ℕ, Bool, not, ◌&&◌, Option, Some, None, List, ◌++◌, codes, bytes_eq, nat_eq, option_map, if◌then◌else◌}
+use Rattle.std.specs.Prelude.{ℕ, Bool, not, ◌&&◌, Option, Some, None, List, ◌++◌, codes, bytes_eq, nat_eq, option_map}
+use Rattle.std.specs.Prelude.{if◌then◌else◌}
 use Rattle.std.specs.List.{starts_with}
 use Rattle.std.specs.Option.{option_and_then, option_eq}
 use Rattle.url.specs.Host.{host_text}
@@ -8,10 +9,13 @@ use Rattle.url.specs.Relative.{relative_text}
 use Rattle.fast_check_graph.specs.declared.graph.ModuleGraph.{ModuleGraph}
 use Rattle.fast_check_graph.specs.Graph.{resolved_to}
 
--- whether a relative URL leads from one URL to another: the first is no opaque one, and both have the same scheme, host and port
+-- whether a relative URL leads from one URL to another: the first is no opaque one, and both have the same scheme, host
+-- and port
 abbrev pub is_relatable : Parts → Parts → Bool
 is_relatable base url =
-    not (cannot_be_a_base base) && (bytes_eq base.scheme url.scheme && (bytes_eq (host_text (host_or_empty base)) (host_text (host_or_empty url)) &&
+    not (cannot_be_a_base base) &&
+    (bytes_eq base.scheme url.scheme &&
+    (bytes_eq (host_text (host_or_empty base)) (host_text (host_or_empty url)) &&
     option_eq nat_eq base.port url.port))
 
 -- the relative URL that leads from one URL to another, if there is one
@@ -22,8 +26,8 @@ relative_url base url = if is_relatable base url then Some (relative_text base u
 abbrev pub dotted : List ℕ → List ℕ
 dotted relative = if starts_with nat_eq relative (codes "../") then relative else codes "./" ++ relative
 
--- A source text of the module `referrer`, as a skeleton has it. A relative one leads to the module that the graph resolves it to, as it may be another than the
--- one that is named. None where the text stays as it is written.
+-- A source text of the module `referrer`, as a skeleton has it. A relative one leads to the module that the graph
+-- resolves it to, as it may be another than the one that is named. None where the text stays as it is written.
 abbrev pub relative_source : ModuleGraph → Parts → List ℕ → Option (List ℕ)
 relative_source graph referrer text =
     if starts_with nat_eq text (codes ".")

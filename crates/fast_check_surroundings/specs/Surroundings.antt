@@ -9,8 +9,9 @@ use Rattle.fast_check_surroundings.specs.Sources.{relative_source}
 use Rattle.fast_check_skeleton.specs.Surroundings.{Surroundings}
 use Rattle.fast_check_surroundings.specs.declared.surroundings.Surroundings.{Surroundings as Lent}
 
--- what a module's skeleton depends on beside its tree: what is public of it, what is known of its names, whether it is a declaration file, all of which is
--- ambient, where the graph leads its sources, and what is known of the objects of its expando properties
+-- what a module's skeleton depends on beside its tree: what is public of it, what is known of its names, whether it is
+-- a declaration file, all of which is ambient, where the graph leads its sources, and what is known of the objects of
+-- its expando properties
 abbrev pub surroundings_of : ModuleGraph → EsModule → PublicRanges → Surroundings
 surroundings_of graph info public = record {
   is_public = is_public public;

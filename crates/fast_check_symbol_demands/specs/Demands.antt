@@ -8,8 +8,8 @@ use Rattle.fast_check_symbol_demands.specs.declared.demand.Ask.{Ask}
 use Rattle.fast_check_symbol_demands.specs.declared.demand.Ask.TheVariants as asks
 use Rattle.fast_check_symbol_demands.specs.declared.demand.SymbolDemand.{SymbolDemand}
 
--- what is demanded of a symbol: it itself in one of the namespaces, by reference or as a child of the symbol that lists it; or
--- what a path of names below it leads to
+-- what is demanded of a symbol: it itself in one of the namespaces, by reference or as a child of the symbol that lists
+-- it; or what a path of names below it leads to
 pub data Asked : Type 0 where
   by_reference : Namespace → Asked
   as_child : Namespace → Asked

@@ -1,8 +1,9 @@
 -- What follows from a demand, within the module.
 --
--- A demand names the demands of a list. An identifier that no symbol of the module is bound to names nothing. What a declaration
--- refers to in another file follows from the demand in that file, and is no matter of the module.
-use Rattle.std.specs.Prelude.{Bool, false, cond, not, ◌&&◌, List, [], ◌∷◌, ◌++◌, map, Option, Some, None, option_map, codes, String, string_bytes}
+-- A demand names the demands of a list. An identifier that no symbol of the module is bound to names nothing. What a
+-- declaration refers to in another file follows from the demand in that file, and is no matter of the module.
+use Rattle.std.specs.Prelude.{Bool, false, cond, not, ◌&&◌, List, [], ◌∷◌, ◌++◌, map, Option, Some, None, option_map}
+use Rattle.std.specs.Prelude.{codes, String, string_bytes}
 use Rattle.std.specs.List.{flat_map}
 use Rattle.std.specs.Str.{bytes_eq}
 use Rattle.std.specs.declared.alloc.Global.{Global}
@@ -12,7 +13,8 @@ use Rattle.fast_check_symbols.specs.declared.symbol_id.SymbolId.{SymbolId}
 use Rattle.fast_check_symbols.specs.declared.symbol.Symbol.{Symbol}
 use Rattle.fast_check_symbols.specs.declared.decl.SymbolDecl.{SymbolDecl}
 use Rattle.fast_check_symbols.specs.declared.decl.SymbolDeclKind.{SymbolDeclKind}
-use Rattle.fast_check_symbols.specs.declared.decl.SymbolDeclKind.TheVariants.{Target, QualifiedTarget, FileRef, Definition}
+use Rattle.fast_check_symbols.specs.declared.decl.SymbolDeclKind.TheVariants.{Target, QualifiedTarget, FileRef}
+use Rattle.fast_check_symbols.specs.declared.decl.SymbolDeclKind.TheVariants.{Definition}
 use Rattle.fast_check_symbols.specs.declared.node.ReferenceNamespace.{ReferenceNamespace}
 use Rattle.fast_check_symbols.specs.declared.node.ReferenceNamespace.TheVariants as refs
 use Rattle.fast_check_symbols.specs.declared.node.SymbolDep.{SymbolDep}
@@ -80,20 +82,23 @@ parent_names d is_member parent = cond is_member (parent_at d parent) []
 -- a definition demands what its text refers to
 abbrev pub dep_names : Tables → SymbolId → ReferenceNamespace → SymbolDep → List Demand
 dep_names t referrer namespace (deps.Id id) = each_of (λ x. references_in namespace x referrer) (bound t id)
-dep_names t referrer namespace (deps.QualifiedId id parts) = each_of (λ x. named x (path_of parts.items) referrer ∷ []) (bound t id)
+dep_names t referrer namespace (deps.QualifiedId id parts) =
+    each_of (λ x. named x (path_of parts.items) referrer ∷ []) (bound t id)
 dep_names t referrer namespace (deps.ImportType specifier parts) = []
 
 abbrev pub deps_names : Tables → SymbolId → List SymbolNodeDep → List Demand
 deps_names t referrer listed = flat_map (λ x. dep_names t referrer x.namespace x.dep) listed
 
--- an alias demands its target in the same namespace, or the part of its target that it names; a member its parent, and a
--- definition what it refers to
+-- an alias demands its target in the same namespace, or the part of its target that it names; a member its parent, and
+-- a definition what it refers to
 abbrev pub kind_names : Tables → Demand → Namespace → Option SymbolId → SymbolDeclKind → List Demand
 kind_names t d n parent (Target id) = each_of (λ x. reference x n d.symbol ∷ []) (bound t id)
-kind_names t d n parent (QualifiedTarget id parts) = each_of (λ x. named x (path_of parts.items) d.symbol ∷ []) (bound t id)
+kind_names t d n parent (QualifiedTarget id parts) = each_of (λ x. named x (path_of parts.items) d.symbol ∷ [])
+    (bound t id)
 kind_names t d n parent (FileRef specifier name) = []
 kind_names t d n parent (Definition None) = []
-kind_names t d n parent (Definition (Some node)) = parent_names d node.is_member parent ++ deps_names t d.symbol node.deps.items
+kind_names t d n parent (Definition (Some node)) = parent_names d node.is_member parent ++
+    deps_names t d.symbol node.deps.items
 
 -- only a declaration that binds the name in the namespace counts, and the implementation of overloads names nothing
 abbrev pub decl_names : Tables → Demand → Namespace → Option SymbolId → SymbolDecl → List Demand
@@ -109,7 +114,8 @@ members_names d members = flat_map (λ m. children m d.symbol) members
 -- a private member names nothing
 abbrev pub symbol_names : Tables → Demand → Namespace → Symbol → List Demand
 symbol_names t d n s = cond s.is_private_member []
-    (flat_map (decl_names t d n s.parent_id) s.decls.items ++ exports_names d s.exports ++ members_names d s.members.items)
+    (flat_map (decl_names t d n s.parent_id) s.decls.items ++ exports_names d s.exports ++
+    members_names d s.members.items)
 
 -- a path below a symbol
 
@@ -119,7 +125,8 @@ parts_names d symbol parts = map (λ part. qualified symbol (string_bytes part �
 
 abbrev pub alias_names : Tables → Demand → Path → Extent → SymbolDeclKind → List Demand
 alias_names t d path extent (Target id) = each_of (λ x. qualified x path extent d.referrer ∷ []) (bound t id)
-alias_names t d path extent (QualifiedTarget id parts) = each_of (λ x. qualified x path extent d.referrer ∷ parts_names d x parts.items) (bound t id)
+alias_names t d path extent (QualifiedTarget id parts) =
+    each_of (λ x. qualified x path extent d.referrer ∷ parts_names d x parts.items) (bound t id)
 alias_names t d path extent (FileRef specifier name) = []
 alias_names t d path extent (Definition _) = []
 
@@ -140,8 +147,8 @@ abbrev pub prototype_names : Tables → Demand → Path → Extent → Symbol �
 prototype_names t d [] extent s = whole_names d extent
 prototype_names t d (name ∷ below) extent s = member_names d below extent (member_named t name s.members.items)
 
--- an export is demanded whole, or by the rest of the path. A name that is no export demands the symbol itself, unless the symbol
--- has no more names than it lists
+-- an export is demanded whole, or by the rest of the path. A name that is no export demands the symbol itself, unless
+-- the symbol has no more names than it lists
 abbrev pub export_part_names : Demand → Path → Extent → SymbolId → List Demand
 export_part_names d [] Whole x = references x d.referrer
 export_part_names d [] Touched x = qualified x [] Touched d.referrer ∷ []
@@ -161,7 +168,8 @@ first_names t d (name ∷ below) extent s = cond (is_prototype name s.decls.item
 
 -- where the symbol stands for something else, its aliases are followed, else the path's first name
 abbrev pub path_names : Tables → Demand → Path → Extent → Symbol → List Demand
-path_names t d path extent s = cond (has_alias s.decls.items) (flat_map (λ x. alias_names t d path extent x.kind) s.decls.items)
+path_names t d path extent s = cond (has_alias s.decls.items)
+    (flat_map (λ x. alias_names t d path extent x.kind) s.decls.items)
     (first_names t d path extent s)
 
 -- all

@@ -32,7 +32,8 @@ same_id_equiv = and_equiv (on_equiv (λ a. a.0) nat_list_eq_equiv) (on_equiv (λ
 -- tests that answer alike find alike
 pub lookup_alike : {K X : Type 0} (f g : K → Bool) (es : List (K × X)) → ((k : K) → f k ≡ g k) → lookup f es ≡ lookup g es
 lookup_alike f g [] h = refl
-lookup_alike f g (e ∷ es) h = ap (λ b. cond b (Some e.1) (lookup f es)) (h e.0) ∙ ap (λ o. cond (g e.0) (Some e.1) o) (lookup_alike f g es h)
+lookup_alike f g (e ∷ es) h = ap (λ b. cond b (Some e.1) (lookup f es)) (h e.0) ∙
+    ap (λ o. cond (g e.0) (Some e.1) o) (lookup_alike f g es h)
 
 pub last_alike : {K X : Type 0} (f g : K → Bool) (es : List (K × X)) → ((k : K) → f k ≡ g k) → last_value f es ≡ last_value g es
 last_alike f g [] h = refl

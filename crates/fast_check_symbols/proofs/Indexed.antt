@@ -34,7 +34,8 @@ indexed_more symbols i s old new lt read u h = record {
 }
 
 -- what stands at the place that was found
-pub got : {X : Type 0} (xs : List X) (i : ℕ) (o : Option X) (r : Option (Bor X)) → IsFound xs o (Some i) → IsItemAt xs i r → option_copied r ≡ o
+pub got : {X : Type 0} (xs : List X) (i : ℕ) (o : Option X) (r : Option (Bor X)) → IsFound xs o (Some i) → IsItemAt xs i r →
+    option_copied r ≡ o
 got xs i None r found h = absurd found
 got xs i (Some x) None found h = let e : false ≡ true = h.2 (slice_get_within xs i x found) in cc
 got xs i (Some x) (Some y) found h = ap Some (h.4 (omega arith) x ∙ get_or_from_slice_get xs i x x found)

@@ -61,5 +61,6 @@ or_none None = refl
 or_none (Some x) = refl
 
 -- the same from no entries
-pub last_of_none : {K X : Type 0} (e : K → K → Bool) (xs : List (K × X)) (q : K) → update_all e (λ _. None) xs q ≡ last_value (λ k. e k q) xs
+pub last_of_none : {K X : Type 0} (e : K → K → Bool) (xs : List (K × X)) (q : K) →
+    update_all e (λ _. None) xs q ≡ last_value (λ k. e k q) xs
 last_of_none e xs q = last_of_all e (λ _. None) xs q ∙ or_none (last_value (λ k. e k q) xs)

@@ -1,6 +1,6 @@
 -- Indexes of symbols by their names, as they grow.
-use Rattle.std.proofs.Common.{◌≡◌, ◌∙◌, sym, ap, refl, subst, ℕ, zero, suc, ◌+◌, ◌<◌, Bool, true, false, cond, List, [], ◌∷◌, ◌++◌, Option, Some, None, length}
-use Rattle.std.proofs.Common.{take, get_or, arith, length-append}
+use Rattle.std.proofs.Common.{◌≡◌, ◌∙◌, sym, ap, refl, subst, ℕ, zero, suc, ◌+◌, ◌<◌, Bool, true, false, cond, List, [], ◌∷◌, ◌++◌, Option}
+use Rattle.std.proofs.Common.{Some, None, length, take, get_or, arith, length-append}
 use Rattle.std.specs.Prelude.{is_some, slice_get}
 use Rattle.std.specs.List.{find}
 use Rattle.std.specs.Borrow.{Bor}
@@ -45,7 +45,8 @@ or_step false x o p r h = h
 put_step : (b : Bool) (name asked : List ℕ) (id : SymbolId) (e : List ℕ × SymbolId) (es : Index) (o r : Option SymbolId)
     → is_some (cond b (Some e.1) o) ≡ false
     → (is_some o ≡ false → export_named asked (put_export name id es) ≡ option_or (export_named asked es) r)
-    → export_named asked (cond b ((e.0, id) ∷ es) (e ∷ put_export name id es)) ≡ option_or (cond (bytes_eq asked e.0) (Some e.1) (export_named asked es)) r
+    → export_named asked (cond b ((e.0, id) ∷ es) (e ∷ put_export name id es)) ≡ option_or
+    (cond (bytes_eq asked e.0) (Some e.1) (export_named asked es)) r
 put_step true name asked id e es o r h next = cc
 put_step false name asked id e es o r h next =
     or_step (bytes_eq asked e.0) e.1 (export_named asked (put_export name id es)) (export_named asked es) r (next h)
@@ -55,10 +56,12 @@ pub put_new : (name asked : List ℕ) (id : SymbolId) (es : Index) → is_some (
     → export_named asked (put_export name id es) ≡ option_or (export_named asked es) (cond (bytes_eq name asked) (Some id) None)
 put_new name asked id [] h = ap (λ b. cond b (Some id) None) (nat_list_eq_equiv.symm asked name)
 put_new name asked id (e ∷ es) h =
-    put_step (bytes_eq name e.0) name asked id e es (export_named name es) (cond (bytes_eq name asked) (Some id) None) h (put_new name asked id es)
+    put_step (bytes_eq name e.0) name asked id e es (export_named name es) (cond (bytes_eq name asked) (Some id) None) h
+    (put_new name asked id es)
 
 -- one more symbol
-pub index_more : (symbols : List Symbol) (ids : List SymbolId) (i : ℕ) (id : SymbolId) (old new : Index) → i < length ids → id ≡ get_or ids i id
+pub index_more : (symbols : List Symbol) (ids : List SymbolId) (i : ℕ) (id : SymbolId) (old new : Index) → i < length ids →
+    id ≡ get_or ids i id
     → ((name : List ℕ) → export_named name new
     ≡ option_or (export_named name old) (cond (symbol_is_named name (symbol_of id symbols)) (Some id) None))
     → IsNameIndex symbols (take i ids) old → IsNameIndex symbols (take (i + 1) ids) new
@@ -83,7 +86,8 @@ each_place f g (a ∷ xs) [] x y l h e p = absurd (omega arith)
 each_place f g (a ∷ xs) (b ∷ ys) x y l h e zero = h zero
 each_place f g (a ∷ xs) (b ∷ ys) x y l h e (suc p) = each_place f g xs ys x y (omega arith) (λ q. h (suc q)) e p
 
-pub indexes_more : (symbols some : List Symbol) (i : ℕ) (s : Symbol) (index : Index) (old : List Index) → i < length some → s ≡ get_or some i s
+pub indexes_more : (symbols some : List Symbol) (i : ℕ) (s : Symbol) (index : Index) (old : List Index) → i < length some →
+    s ≡ get_or some i s
     → IsNameIndex symbols s.members.items index → AreNameIndexes symbols (take i some) old
     → AreNameIndexes symbols (take (i + 1) some) (old ++ index ∷ [])
 indexes_more symbols some i s index old lt read one h =

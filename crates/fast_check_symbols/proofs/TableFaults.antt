@@ -24,7 +24,8 @@ lacks t e = let w = witness (lacks_declaration t.module_symbol) t.symbols.items 
 
 pub lacks_none : (t : ModuleTables) → list_any (lacks_declaration t.module_symbol) t.symbols.items ≡ false → LacksDeclaration t → ⊥
 lacks_none t e l =
-    none_of (lacks_declaration t.module_symbol) t.symbols.items l.symbol e l.among (and_both _ _ (nil_is l.symbol.decls.items l.undeclared) l.needed)
+    none_of (lacks_declaration t.module_symbol) t.symbols.items l.symbol e l.among
+    (and_both _ _ (nil_is l.symbol.decls.items l.undeclared) l.needed)
 
 -- the same tests, of what the table of symbols and the list of identifiers have
 pub misses_is : (t : ModuleTables) (symbols : List Symbol) (ids : List (Id × SymbolId)) (b : Bool) → symbols ≡ t.symbols.items

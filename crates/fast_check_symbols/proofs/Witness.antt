@@ -16,7 +16,8 @@ later_of x y xs h = Contains-append_right (x ∷ []) xs y h
 
 -- some item passes
 witness_at : {X : Type 0} (f : X → Bool) (x : X) (xs : List X) (b : Bool) → f x ≡ b
-    → (list_any f xs ≡ true → (y : X) × Contains xs y × (f y ≡ true)) → (b || list_any f xs) ≡ true → (y : X) × Contains (x ∷ xs) y × (f y ≡ true)
+    → (list_any f xs ≡ true → (y : X) × Contains xs y × (f y ≡ true)) → (b || list_any f xs) ≡ true → (y : X) × Contains (x ∷ xs) y ×
+    (f y ≡ true)
 witness_at f x xs true h rest e = (x, first_of x xs, h)
 witness_at f x xs false h rest e = let w = rest e in (w.0, later_of x w.0 xs w.1, w.2)
 
@@ -84,7 +85,8 @@ any_inside f g [] = refl
 any_inside f g (x ∷ xs) = list_any-append f (g x) (flat_map g xs) ∙ ap (λ b. list_any f (g x) || b) (any_inside f g xs)
 
 -- a loop that found an item
-pub found_at : {X : Type 0} (f : X → Bool) (xs : List X) (i : ℕ) (x : X) → i < length xs → x ≡ get_or xs i x → f x ≡ true → true ≡ list_any f xs
+pub found_at : {X : Type 0} (f : X → Bool) (xs : List X) (i : ℕ) (x : X) → i < length xs → x ≡ get_or xs i x → f x ≡ true →
+    true ≡ list_any f xs
 found_at f xs i x lt is e = sym (present f xs x (i, lt, sym is) e)
 
 pub found_value_at : {K X : Type 0} (f : X → Bool) (es : List (K × X)) (i : ℕ) (e : K × X) → i < length es → e ≡ get_or es i e

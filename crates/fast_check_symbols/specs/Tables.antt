@@ -13,8 +13,8 @@ use Rattle.fast_check_symbols.specs.declared.symbol.Symbol.{Symbol}
 use Rattle.fast_check_symbols.specs.Symbols.{symbol_of}
 use Rattle.fast_check_symbols.specs.declared.tables.ReExportAllNode.{ReExportAllNode}
 
--- the symbols, the one that stands for the module, those of resolved identifiers, the re-exports of all, and the exported names with the
--- modules that answer them
+-- the symbols, the one that stands for the module, those of resolved identifiers, the re-exports of all, and the
+-- exported names with the modules that answer them
 pub record Tables : Type 0 where
   pub symbols : List Symbol
   pub module_symbol : SymbolId
@@ -44,4 +44,5 @@ answered_names = map (λ e. (string_bytes e.0, e.1))
 
 -- the ranges of the declarations and of the re-exports of all
 abbrev pub table_ranges : List Symbol → List ReExportAllNode → List SourceRange
-table_ranges symbols re_exports = flat_map (λ s. map (λ d. d.range) s.decls.items) symbols ++ map (λ n. n.range) re_exports
+table_ranges symbols re_exports = flat_map (λ s. map (λ d. d.range) s.decls.items) symbols ++ map
+    (λ n. n.range) re_exports

@@ -11,8 +11,9 @@ use Rattle.fast_check_symbols.specs.declared.symbol.Symbol.{Symbol}
 use Rattle.fast_check_symbols.specs.Entries.{last_value}
 use Rattle.fast_check_symbols.specs.Symbols.{symbol_of, mentioned_by}
 use Rattle.fast_check_symbols.specs.declared.fault.TableFault.{TableFault}
-use Rattle.fast_check_symbols.specs.declared.fault.TableFault.TheVariants.{MissingSymbol, SymbolWithoutDecl, ModuleNotUnderOwnName}
-use Rattle.fast_check_symbols.specs.declared.fault.TableFault.TheVariants.{ExpandoWithoutSymbol, OutOfMemory}
+use Rattle.fast_check_symbols.specs.declared.fault.TableFault.TheVariants.{MissingSymbol, SymbolWithoutDecl}
+use Rattle.fast_check_symbols.specs.declared.fault.TableFault.TheVariants.{ModuleNotUnderOwnName, ExpandoWithoutSymbol}
+use Rattle.fast_check_symbols.specs.declared.fault.TableFault.TheVariants.{OutOfMemory}
 use Rattle.fast_check_symbols.specs.declared.tables.ModuleTables.{ModuleTables}
 use Rattle.fast_check_symbols.specs.Faults.{needs_declaration}
 use Rattle.fast_check_symbols.specs.Tables.{Tables, same_id, symbol_id_of, resolved_export}
@@ -58,4 +59,5 @@ pub record AreMadeOf (t : ModuleTables) (made : Tables) : Type 0 where
   pub swc_ids : (id : Id) → symbol_id_of made id ≡ last_value (same_id id) t.swc_ids.items
   pub re_exports : made.re_exports ≡ t.re_export_all_nodes.items
   pub resolved : (name : String Global)
-      → resolved_export made (string_bytes name) ≡ last_value (λ k. bytes_eq (string_bytes name) (string_bytes k)) t.resolved_exports.items
+      → resolved_export made (string_bytes name) ≡ last_value
+      (λ k. bytes_eq (string_bytes name) (string_bytes k)) t.resolved_exports.items

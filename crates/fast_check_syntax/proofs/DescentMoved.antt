@@ -33,7 +33,8 @@ module _ (m : Moves) where
 
   stays : (t : Tree) → OfAll Stays (parts t) → Stays t
   stays t h =
-      height_out (moved m t) ∙ (ap (λ l. height_step (map-Tree Tree ℕ height l)) (out_moved m t) ∙ (level_stays (out-Tree t) h ∙ sym (height_out t)))
+      height_out (moved m t) ∙
+      (ap (λ l. height_step (map-Tree Tree ℕ height l)) (out_moved m t) ∙ (level_stays (out-Tree t) h ∙ sym (height_out t)))
 
   pub height_moved : (t : Tree) → height (moved m t) ≡ height t
   height_moved = tree_ind Stays (ap height (absent_moved m)) (λ t n h. stays t h)
@@ -44,9 +45,11 @@ module _ (m : Moves) where
   -- What two forms give of a tree and of the moved one is related, where it is wherever what they are given of all trees is.
   module _ {A B : Type 0} (R : A → B → Type 0) (none : A) (none' : B) (nones : R none none')
       (form : Tree → (Tree → A) → A) (form' : Tree → (Tree → B) → B)
-      (forms : (t : Tree) (look : Tree → A) (look' : Tree → B) → ((u : Tree) → R (look u) (look' (moved m u))) → R (form t look) (form' (moved m t) look'))
+      (forms : (t : Tree) (look : Tree → A) (look' : Tree → B) → ((u : Tree) → R (look u) (look' (moved m u))) →
+      R (form t look) (form' (moved m t) look'))
     where
-      pick : (t u : Tree) (b : Bool) → is_lower u t ≡ b → (height u < height t → R (by_descent none form u) (by_descent none' form' (moved m u))) →
+      pick : (t u : Tree) (b : Bool) → is_lower u t ≡ b →
+          (height u < height t → R (by_descent none form u) (by_descent none' form' (moved m u))) →
           R (if b then by_descent none form u else none) (if b then by_descent none' form' (moved m u) else none')
       pick t u false e same = nones
       pick t u true e same = same (ltb-true (height u) (height t) e)

@@ -6,7 +6,8 @@ use Rattle.fast_check_syntax.specs.declared.source.SourceRange.{SourceRange}
 use Rattle.fast_check_syntax.specs.declared.tree.Tree as tree
 use Rattle.fast_check_syntax.specs.declared.tree.Tree.{Tree, Absent, roll-Tree, out-roll-Tree}
 use Rattle.fast_check_syntax.specs.declared.tree.Tree.TheOpen.{Tree-F}
-use Rattle.fast_check_syntax.specs.Shape.{kind_at, kind_of, parts_at, parts, part, node, flag_at, flag_of, range_at, range_of, is_absent_at, is_absent}
+use Rattle.fast_check_syntax.specs.Shape.{kind_at, kind_of, parts_at, parts, part, node, flag_at, flag_of, range_at, range_of, is_absent_at}
+use Rattle.fast_check_syntax.specs.Shape.{is_absent}
 
 pub kind_of_node : (kind : Kind) (ts : List Tree) → kind_of (node kind ts) ≡ kind
 unfolding roll-Tree denote.Hole.Carrier.roll

@@ -9,8 +9,8 @@ use Rattle.fast_check_syntax.specs.declared.tree.Tree as tree
 use Rattle.fast_check_syntax.specs.declared.tree.Tree.{Tree, out-Tree, roll-Tree, Absent, out-roll-Tree, roll-out-Tree}
 use Rattle.fast_check_syntax.specs.declared.tree.Tree.TheOpen.{Tree-F}
 use Rattle.fast_check_syntax.specs.declared.tree.Tree.TheFolds.{fold-roll-Tree, fold_out-Tree, map-Tree}
-use Rattle.fast_check_syntax.specs.Shape.{kind_at, parts_at, kind_of, parts, part, node, none_range, range_at, range_of, has_word, word_is_at}
-use Rattle.fast_check_syntax.specs.Shape.{is_absent, is_absent_at, text_at, text_of, flag_at, flag_of}
+use Rattle.fast_check_syntax.specs.Shape.{kind_at, parts_at, kind_of, parts, part, node, none_range, range_at, range_of, has_word}
+use Rattle.fast_check_syntax.specs.Shape.{word_is_at, is_absent, is_absent_at, text_at, text_of, flag_at, flag_of}
 use Rattle.fast_check_syntax.specs.Moves.{Moves, Keeps, moved, moved_level, moved_range}
 
 pub moved_roll : (m : Moves) (l : Tree-F Tree) → moved m (roll-Tree l) ≡ roll-Tree (moved_level m (map-Tree Tree Tree (moved m) l))
@@ -78,7 +78,8 @@ parts_level m (Tree-F.Word x) = refl
 pub parts_moved : (m : Moves) (t : Tree) → parts (moved m t) ≡ map (moved m) (parts t)
 parts_moved m t = ap parts_at (out_moved m t) ∙ parts_level m (out-Tree t)
 
-get_moved : (m : Moves) (ts : List Tree) (i : ℕ) → unwrap_or (slice_get (map (moved m) ts) i) Absent ≡ moved m (unwrap_or (slice_get ts i) Absent)
+get_moved : (m : Moves) (ts : List Tree) (i : ℕ) → unwrap_or (slice_get (map (moved m) ts) i) Absent ≡ moved m
+    (unwrap_or (slice_get ts i) Absent)
 get_moved m [] i = sym (absent_moved m)
 get_moved m (t ∷ ts) zero = refl
 get_moved m (t ∷ ts) (suc i) = get_moved m ts i

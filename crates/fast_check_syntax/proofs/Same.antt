@@ -62,7 +62,8 @@ module _ (r : Renaming) (ok : IsRenaming r) where
   all_from (t ∷ ts) [] h e = cc
 
   level_from : (x y : Tree-F Tree) → OfAll From (parts_at x) →
-      moved_level (partners r) (map-Tree Tree Tree (moved (partners r)) x) ≡ moved_level twice (map-Tree Tree Tree (moved twice) y) → SameLevel r x y
+      moved_level (partners r) (map-Tree Tree Tree (moved (partners r)) x) ≡ moved_level twice (map-Tree Tree Tree (moved twice) y) →
+      SameLevel r x y
   level_from Tree-F.Absent Tree-F.Absent h e = s.absent
   level_from (Tree-F.Flag x) (Tree-F.Flag y) h e = let p : x ≡ y = cc in subst (λ z. SameLevel r (Tree-F.Flag x) (Tree-F.Flag z)) p s.flag
   level_from (Tree-F.Context x) (Tree-F.Context y) h e = s.context (from_partner r.scopes ok.scopes x.0 y.0 (ap number_at e))
@@ -74,7 +75,8 @@ module _ (r : Renaming) (ok : IsRenaming r) where
   level_from _ _ h e = cc
 
   from_parts : (t : Tree) → OfAll From (parts t) → From t
-  from_parts t h u e = s.SameTree.at (level_from (out-Tree t) (out-Tree u) h (sym (out_moved (partners r) t) ∙ (ap out-Tree e ∙ out_moved twice u)))
+  from_parts t h u e =
+      s.SameTree.at (level_from (out-Tree t) (out-Tree u) h (sym (out_moved (partners r) t) ∙ (ap out-Tree e ∙ out_moved twice u)))
 
   no_parts : parts Absent ≡ []
   unfolding out-Tree denote.Hole.Carrier.out

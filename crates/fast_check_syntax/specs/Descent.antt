@@ -37,14 +37,16 @@ module _ {A : Type 0} (none : A) (form : Tree → (Tree → A) → A) where
       pick : (u : Tree) (b : Bool) → is_lower u t ≡ b → (height u < n → height u < k → below n u ≡ below k u) →
           (if b then below n u else none) ≡ (if b then below k u else none)
       pick u false e same = refl
-      pick u true e same = same (omega (arith, ltb-true (height u) (height t) e)) (omega (arith, ltb-true (height u) (height t) e))
+      pick u true e same = same (omega (arith, ltb-true (height u) (height t) e))
+          (omega (arith, ltb-true (height u) (height t) e))
 
   -- the equation of `by_descent`
   pub by_descent_is : (t : Tree) → by_descent t ≡ form t (given t)
   unfolding by_descent below
   by_descent_is t = ap (form t) (fun_ext (λ u. go u (is_lower u t) refl))
     where
-      go : (u : Tree) (b : Bool) → is_lower u t ≡ b → (if b then below (height t) u else none) ≡ (if b then by_descent u else none)
+      go : (u : Tree) (b : Bool) → is_lower u t ≡ b → (if b then below (height t) u else none) ≡
+          (if b then by_descent u else none)
       go u false e = refl
       go u true e = enough (height t) (suc (height u)) u (ltb-true (height u) (height t) e) (omega arith)
 
@@ -57,5 +59,6 @@ module _ {A : Type 0} (none : A) (form : Tree → (Tree → A) → A) where
   given_part t i e = given_lower t (part i t) (height_part t i e)
 
   -- and a part of a part
-  pub given_inner : (t : Tree) (i k : ℕ) → (kind_of t ≡ Leaf → ⊥) → given t (part k (part i t)) ≡ by_descent (part k (part i t))
+  pub given_inner : (t : Tree) (i k : ℕ) → (kind_of t ≡ Leaf → ⊥) →
+      given t (part k (part i t)) ≡ by_descent (part k (part i t))
   given_inner t i k e = given_lower t (part k (part i t)) (height_inner t i k e)

@@ -39,7 +39,8 @@ of_same x y e = subst (λ (z : Gv). same_code x z ≡ true) e (itself x)
 
 -- the test holds exactly of equal values
 pub same-decides : {A : Type 0} (c : Coded A) (x y : A) → Decides (same c x y) (x ≡ y)
-same-decides c x y = (λ e. c.inj x y (to_same (c.code x) (c.code y) e), λ e. of_same (c.code x) (c.code y) (ap c.code e))
+same-decides c x y =
+    (λ e. c.inj x y (to_same (c.code x) (c.code y) e), λ e. of_same (c.code x) (c.code y) (ap c.code e))
 
 pub same-equiv : {A : Type 0} (c : Coded A) → IsEquivalence (same c)
 same-equiv c = decided (same c) (same-decides c)

@@ -1,5 +1,6 @@
 -- How high a tree is: what falls in a recursion from a tree to its parts.
-use Rattle.std.specs.Prelude.{ℕ, zero, suc, max, ◌<◌, ◌≤◌, ◌≡◌, List, [], ◌∷◌, map, Some, slice_get, unwrap_or, refl, length}
+use Rattle.std.specs.Prelude.{ℕ, zero, suc, max, ◌<◌, ◌≤◌, ◌≡◌, List, [], ◌∷◌, map, Some, slice_get, unwrap_or, refl}
+use Rattle.std.specs.Prelude.{length}
 use lib.ListN.{get_or}
 use Rattle.std.proofs.Common.{arith}
 use Rattle.fast_check_syntax.specs.declared.kind.Kind.TheVariants.{Leaf}
@@ -28,7 +29,8 @@ at_most_highest [] i = omega (arith, absent-zero)
 at_most_highest (t ∷ ts) zero = omega arith
 at_most_highest (t ∷ ts) (suc i) = omega (arith, at_most_highest ts i)
 
-part_below : (l : Tree-F Tree) (i : ℕ) → (kind_at l ≡ Leaf → ⊥) → height (unwrap_or (slice_get (parts_at l) i) Absent) < height_step (map-Tree Tree ℕ height l)
+part_below : (l : Tree-F Tree) (i : ℕ) → (kind_at l ≡ Leaf → ⊥) →
+    height (unwrap_or (slice_get (parts_at l) i) Absent) < height_step (map-Tree Tree ℕ height l)
 part_below (Tree-F.Node k ts) i e = omega (arith, at_most_highest ts i)
 part_below Tree-F.Absent i e = absurd (e refl)
 part_below (Tree-F.Flag x) i e = absurd (e refl)
@@ -45,8 +47,10 @@ height_out t = fold_out-Tree ℕ height_step t
 pub height_part : (t : Tree) (i : ℕ) → (kind_of t ≡ Leaf → ⊥) → height (part i t) < height t
 height_part t i e = rw (height_out t) (part_below (out-Tree t) i e)
 
-one_below : (l : Tree-F Tree) (i : ℕ) (u : Tree) → slice_get (parts_at l) i ≡ Some u → height u < height_step (map-Tree Tree ℕ height l)
-one_below (Tree-F.Node k ts) i u e = let h : height (unwrap_or (slice_get ts i) Absent) ≤ highest (map height ts) = at_most_highest ts i in
+one_below : (l : Tree-F Tree) (i : ℕ) (u : Tree) → slice_get (parts_at l) i ≡ Some u →
+    height u < height_step (map-Tree Tree ℕ height l)
+one_below (Tree-F.Node k ts) i u e = let h : height (unwrap_or (slice_get ts i) Absent) ≤ highest (map height ts) =
+    at_most_highest ts i in
     let same : height u ≡ height (unwrap_or (slice_get ts i) Absent) = rw e in omega arith
 one_below Tree-F.Absent i u e = cc
 one_below (Tree-F.Flag x) i u e = cc
@@ -64,7 +68,8 @@ read_at_most [] i d h = absurd (omega arith)
 read_at_most (t ∷ ts) zero d h = omega arith
 read_at_most (t ∷ ts) (suc i) d h = omega (arith, read_at_most ts i d (omega arith))
 
-read_below : (l : Tree-F Tree) (i : ℕ) (d : Tree) → i < length (parts_at l) → height (get_or (parts_at l) i d) < height_step (map-Tree Tree ℕ height l)
+read_below : (l : Tree-F Tree) (i : ℕ) (d : Tree) → i < length (parts_at l) →
+    height (get_or (parts_at l) i d) < height_step (map-Tree Tree ℕ height l)
 read_below (Tree-F.Node k ts) i d h = omega (arith, read_at_most ts i d h)
 read_below Tree-F.Absent i d h = absurd (omega arith)
 read_below (Tree-F.Flag x) i d h = absurd (omega arith)
@@ -77,7 +82,8 @@ read_below (Tree-F.Word x) i d h = absurd (omega arith)
 pub height_read : (t : Tree) (i : ℕ) (d : Tree) → i < length (parts t) → height (get_or (parts t) i d) < height t
 height_read t i d h = rw (height_out t) (read_below (out-Tree t) i d h)
 
-inner_at_most : (l : Tree-F Tree) (i : ℕ) → height (unwrap_or (slice_get (parts_at l) i) Absent) ≤ height_step (map-Tree Tree ℕ height l)
+inner_at_most : (l : Tree-F Tree) (i : ℕ) → height (unwrap_or (slice_get (parts_at l) i) Absent) ≤ height_step
+    (map-Tree Tree ℕ height l)
 inner_at_most (Tree-F.Node k ts) i = omega (arith, at_most_highest ts i)
 inner_at_most Tree-F.Absent i = omega (arith, absent-zero)
 inner_at_most (Tree-F.Flag x) i = omega (arith, absent-zero)

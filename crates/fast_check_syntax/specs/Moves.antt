@@ -55,7 +55,8 @@ pub record IsRenaming (r : Renaming) : Type 0 where
   pub ends : OneToOne r.ends
   pub scopes : OneToOne r.scopes
 
--- twice the partner of a number, or an odd number where it has none: so what has no partner equals nothing that is twice a number
+-- twice the partner of a number, or an odd number where it has none: so what has no partner equals nothing that is
+-- twice a number
 abbrev pub partner : Pairs → ℕ → ℕ
 partner [] a = 2 * a + 1
 partner (p ∷ ps) a = if eqb p.0 a then 2 * p.1 else partner ps a

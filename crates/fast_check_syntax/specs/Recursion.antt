@@ -7,7 +7,8 @@ use Rattle.fast_check_syntax.specs.Shape.{parts_at, kind_of, parts, part, is_abs
 use Rattle.std.proofs.Common.{sym, ap, ◌∙◌, subst}
 use Rattle.fast_check_syntax.specs.declared.tree.Tree.{Tree, out-Tree, roll-Tree, roll-out-Tree, Absent}
 use Rattle.fast_check_syntax.specs.declared.tree.Tree.TheOpen.{Tree-F}
-use Rattle.fast_check_syntax.specs.declared.tree.Tree.TheFolds.{fold-Tree, fold-roll-Tree, fold_out-Tree, ind-Tree, map-Tree}
+use Rattle.fast_check_syntax.specs.declared.tree.Tree.TheFolds.{fold-Tree, fold-roll-Tree, fold_out-Tree, ind-Tree}
+use Rattle.fast_check_syntax.specs.declared.tree.Tree.TheFolds.{map-Tree}
 
 -- a tree with its result
 abbrev pub paired : {A : Type 0} → (Tree-F (Tree × A) → A) → Tree → Tree × A
@@ -21,13 +22,15 @@ abbrev pub with_results : {A : Type 0} → (Tree → A) → Tree-F Tree → Tree
 with_results {A} f = map-Tree Tree (Tree × A) (λ c. (c, f c))
 
 module _ {A : Type 0} (step : Tree-F (Tree × A) → A) where
-  same_parts : (es : List ((t : Tree) × ((paired step t).0 ≡ t))) → map (λ (c : Tree × A). c.0) (map (paired step) (map (λ e. e.0) es)) ≡ map (λ e. e.0) es
+  same_parts : (es : List ((t : Tree) × ((paired step t).0 ≡ t))) →
+      map (λ (c : Tree × A). c.0) (map (paired step) (map (λ e. e.0) es)) ≡ map (λ e. e.0) es
   same_parts [] = refl
   same_parts (e ∷ es) = cc (e.1, same_parts es)
 
   same_level : (y : Tree-F ((t : Tree) × ((paired step t).0 ≡ t))) →
       map-Tree (Tree × A) Tree (λ c. c.0)
-      (map-Tree Tree (Tree × A) (paired step) (map-Tree ((t : Tree) × ((paired step t).0 ≡ t)) Tree (λ e. e.0) y)) ≡ map-Tree
+      (map-Tree Tree (Tree × A) (paired step) (map-Tree ((t : Tree) × ((paired step t).0 ≡ t)) Tree (λ e. e.0) y)) ≡
+      map-Tree
       ((t : Tree) × ((paired step t).0 ≡ t)) Tree (λ e. e.0) y
   same_level (Tree-F.Node kind es) = ap (λ ps. Tree-F.Node kind ps) (same_parts es)
   same_level Tree-F.Absent = refl
@@ -41,7 +44,9 @@ module _ {A : Type 0} (step : Tree-F (Tree × A) → A) where
   pub paired-tree : (t : Tree) → (paired step t).0 ≡ t
   paired-tree = ind-Tree (λ t. (paired step t).0 ≡ t) (λ x y is.
       ap (λ p. p.0) (fold-roll-Tree (Tree × A) (λ l. (roll-Tree (map-Tree (Tree × A) Tree (λ c. c.0) l), step l)) x)
-      ∙ ap roll-Tree (subst (λ z. map-Tree (Tree × A) Tree (λ c. c.0) (map-Tree Tree (Tree × A) (paired step) z) ≡ z) is (same_level y)))
+      ∙ ap roll-Tree
+      (subst (λ z. map-Tree (Tree × A) Tree (λ c. c.0) (map-Tree Tree (Tree × A) (paired step) z) ≡ z) is
+      (same_level y)))
 
   pub paired-is : (t : Tree) → paired step t ≡ (t, recurse step t)
   unfolding recurse
@@ -67,11 +72,13 @@ module _ {A : Type 0} (step : Tree-F (Tree × A) → A) where
       ap (λ p. p.1) (fold_out-Tree (Tree × A) (λ l. (roll-Tree (map-Tree (Tree × A) Tree (λ c. c.0) l), step l)) t)
       ∙ ap step (level_paired (out-Tree t))
 
--- A function of a tree by its forms: what a tree gives of what its parts give. `given` is what the part at a place gives, and `all` what each part gives.
+-- A function of a tree by its forms: what a tree gives of what its parts give. `given` is what the part at a place
+-- gives, and `all` what each part gives.
 module _ {A : Type 0} (absent : A) (form : Tree → (ℕ → A) → List A → A) where
   abbrev by_form_step : Tree-F (Tree × A) → A
   by_form_step Tree-F.Absent = absent
-  by_form_step l = form (roll-Tree (map-Tree (Tree × A) Tree (λ c. c.0) l)) (λ i. unwrap_or (slice_get (map (λ (c : Tree × A). c.1) (parts_at l)) i) absent)
+  by_form_step l = form (roll-Tree (map-Tree (Tree × A) Tree (λ c. c.0) l))
+      (λ i. unwrap_or (slice_get (map (λ (c : Tree × A). c.1) (parts_at l)) i) absent)
       (map (λ (c : Tree × A). c.1) (parts_at l))
 
   unfoldable pub by_form : Tree → A
@@ -89,7 +96,8 @@ module _ {A : Type 0} (absent : A) (form : Tree → (ℕ → A) → List A → A
   results_of [] = refl
   results_of (t ∷ ts) = ap (λ us. by_form t ∷ us) (results_of ts)
 
-  result_at : (ts : List Tree) (i : ℕ) → unwrap_or (slice_get (map by_form ts) i) absent ≡ by_form (unwrap_or (slice_get ts i) Absent)
+  result_at : (ts : List Tree) (i : ℕ) → unwrap_or (slice_get (map by_form ts) i) absent ≡ by_form
+      (unwrap_or (slice_get ts i) Absent)
   result_at [] i = sym by_form_absent
   result_at (t ∷ ts) zero = refl
   result_at (t ∷ ts) (suc i) = result_at ts i
@@ -100,7 +108,8 @@ module _ {A : Type 0} (absent : A) (form : Tree → (ℕ → A) → List A → A
   at_level : (l : Tree-F Tree) → is_absent_at l ≡ false → by_form_step (with_results by_form l) ≡
       form (roll-Tree l) (λ i. by_form (unwrap_or (slice_get (parts_at l) i) Absent)) (map by_form (parts_at l))
   at_level (Tree-F.Node k ts) not_absent =
-      ap (λ us. form (roll-Tree (Tree-F.Node k us)) (λ i. unwrap_or (slice_get (map (λ (c : Tree × A). c.1) (map (λ c. (c, by_form c)) ts)) i) absent)
+      ap (λ us. form (roll-Tree (Tree-F.Node k us))
+      (λ i. unwrap_or (slice_get (map (λ (c : Tree × A). c.1) (map (λ c. (c, by_form c)) ts)) i) absent)
       (map (λ (c : Tree × A). c.1) (map (λ c. (c, by_form c)) ts))) (trees_of ts)
       ∙ (ap (λ rs. form (roll-Tree (Tree-F.Node k ts)) (λ i. unwrap_or (slice_get rs i) absent) rs) (results_of ts)
       ∙ ap (λ at. form (roll-Tree (Tree-F.Node k ts)) at (map by_form ts)) (fun_ext (result_at ts)))
@@ -112,13 +121,15 @@ module _ {A : Type 0} (absent : A) (form : Tree → (ℕ → A) → List A → A
   at_level (Tree-F.Word x) not_absent = at_leaf (Tree-F.Word x)
 
   -- the equation of `by_form`
-  pub by_form_is : (t : Tree) → is_absent t ≡ false → by_form t ≡ form t (λ i. by_form (part i t)) (map by_form (parts t))
+  pub by_form_is : (t : Tree) → is_absent t ≡ false → by_form t ≡ form t (λ i. by_form (part i t))
+      (map by_form (parts t))
   unfolding by_form
   by_form_is t not_absent = recurse_out by_form_step t ∙ (at_level (out-Tree t) not_absent
       ∙ ap (λ u. form u (λ i. by_form (part i t)) (map by_form (parts t))) (roll-out-Tree t))
 
   -- the same, of a node of a known kind
-  pub by_form_node : (t : Tree) (kind : Kind) → kind_of t ≡ kind → (kind ≡ Leaf → ⊥) → by_form t ≡ form t (λ i. by_form (part i t)) (map by_form (parts t))
+  pub by_form_node : (t : Tree) (kind : Kind) → kind_of t ≡ kind → (kind ≡ Leaf → ⊥) →
+      by_form t ≡ form t (λ i. by_form (part i t)) (map by_form (parts t))
   by_form_node t kind e not_leaf = by_form_is t (not_absent t kind e not_leaf)
 
   absent_level : (l : Tree-F Tree) → is_absent_at l ≡ true → by_form_step (with_results by_form l) ≡ absent

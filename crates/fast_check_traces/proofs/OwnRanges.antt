@@ -8,7 +8,8 @@ use Rattle.fast_check_names.specs.Imports.{NameDemand, names_but_default, each_n
 use Rattle.fast_check_modules.specs.symbols.declared.tables.ReExportAllNode.{ReExportAllNode}
 use Rattle.fast_check_modules.specs.symbols.Tables.{table_ranges}
 use Rattle.fast_check_search.specs.Turn.{AreTableRanges}
-use Rattle.fast_check_search.proofs.Each.{Contains_first, Contains_later, contains_map, Each, each_nil, each_one, each_map, each_flat, each_cond}
+use Rattle.fast_check_search.proofs.Each.{Contains_first, Contains_later, contains_map, Each, each_nil, each_one, each_map, each_flat}
+use Rattle.fast_check_search.proofs.Each.{each_cond}
 use Rattle.fast_check_name_demands.specs.declared.want.WantedNames.{WantedNames}
 use Rattle.fast_check_name_demands.specs.Files.{names_of}
 use Rattle.fast_check_traces.specs.declared.modules.TracedModule.{TracedModule}
@@ -35,7 +36,8 @@ module _ (m : TracedModule) where
   Own = Contains (table_ranges (own_tables m).symbols (own_tables m).re_exports)
 
   own_node : (x : ReExportAllNode) → Contains (own_tables m).re_exports x → Own x.range
-  own_node x h = Contains-append_right (flat_map (λ s. map (λ d. d.range) s.decls.items) (own_tables m).symbols) (node_ranges (own_tables m).re_exports) x.range
+  own_node x h = Contains-append_right (flat_map (λ s. map (λ d. d.range) s.decls.items) (own_tables m).symbols)
+      (node_ranges (own_tables m).re_exports) x.range
       (contains_map (λ n. n.range) (own_tables m).re_exports x h)
 
   own_nodes : Each Own (node_ranges (own_tables m).re_exports)
@@ -50,7 +52,8 @@ module _ (m : TracedModule) where
   own_path name = each_cond Own (is_some (own_export (own_tables m) name)) []
       (first_range (own_tables m).re_exports (first_with m name (own_tables m).re_exports))
       (each_nil Own)
-      (own_first (first_with m name (own_tables m).re_exports) (λ x e. found_inside (λ y. is_some (answer_of m name y)) (own_tables m).re_exports x e))
+      (own_first (first_with m name (own_tables m).re_exports)
+      (λ x e. found_inside (λ y. is_some (answer_of m name y)) (own_tables m).re_exports x e))
 
   pub own_demand : (d : NameDemand) → Each Own (re_export_ranges m d)
   own_demand names_but_default = own_nodes

@@ -29,7 +29,8 @@ own_export t name = option_and_then (λ s. export_named name s.exports) (symbol_
 
 -- the module that a re-export of all leads to
 abbrev pub led_to : TracedModule → ReExportAllNode → Option ModuleInfo
-led_to m x = option_and_then (found_module m.root_symbol.now) (resolved_to m.graph.now (string_bytes x.specifier) (specifier_of m.info.now))
+led_to m x = option_and_then (found_module m.root_symbol.now)
+    (resolved_to m.graph.now (string_bytes x.specifier) (specifier_of m.info.now))
 
 -- the module that answers a name behind a re-export of all
 abbrev pub answer_of : TracedModule → Name → ReExportAllNode → Option Parts

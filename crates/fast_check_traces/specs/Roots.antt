@@ -32,7 +32,8 @@ references_as false false symbol referrer = references symbol referrer
 
 abbrev pub exported_as : Option Symbol → SymbolId → SymbolId → List Demand
 exported_as None symbol referrer = references symbol referrer
-exported_as (Some s) symbol referrer = references_as (is_exported_in s.decls.items Value) (is_exported_in s.decls.items Type_) symbol referrer
+exported_as (Some s) symbol referrer = references_as (is_exported_in s.decls.items Value)
+    (is_exported_in s.decls.items Type_) symbol referrer
 
 -- an export whole
 abbrev pub export_whole : Tables → SymbolId → List Demand
@@ -43,7 +44,8 @@ abbrev pub star_export : Tables → Bool → Name × SymbolId → List Demand
 star_export t with_default e = cond (with_default || not (bytes_eq e.0 default_name)) (export_whole t e.1) []
 
 abbrev pub star_roots : Tables → Bool → List Demand
-star_roots t with_default = each_of (λ s. flat_map (star_export t with_default) s.exports) (symbol_of t.module_symbol t.symbols)
+star_roots t with_default = each_of (λ s. flat_map (star_export t with_default) s.exports)
+    (symbol_of t.module_symbol t.symbols)
 
 -- what goes on below an export
 abbrev pub path_roots : Tables → SymbolId → Path → Extent → List Demand

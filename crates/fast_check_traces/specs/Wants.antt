@@ -1,4 +1,5 @@
--- What a demand of a module asks of other modules, by what the module exports again, and which re-exports of all it makes public.
+-- What a demand of a module asks of other modules, by what the module exports again, and which re-exports of all it
+-- makes public.
 use Rattle.std.specs.Prelude.{ℕ, is_some, cond, List, [], ◌∷◌, map, Option, Some, None, string_bytes}
 use Rattle.url.specs.Parts.{Parts}
 use Rattle.fast_check_syntax.specs.declared.source.SourceRange.{SourceRange}
@@ -27,7 +28,8 @@ want_of (Answered url names) = answered url.now (names_of names)
 abbrev pub node_ranges : List ReExportAllNode → List SourceRange
 node_ranges nodes = map (λ x. x.range) nodes
 
--- a name that the module does not export itself makes the first re-export of all public that has it, and all of them where none has it
+-- a name that the module does not export itself makes the first re-export of all public that has it, and all of them
+-- where none has it
 abbrev pub first_range : List ReExportAllNode → Option ReExportAllNode → List SourceRange
 first_range nodes None = node_ranges nodes
 first_range nodes (Some x) = x.range ∷ []

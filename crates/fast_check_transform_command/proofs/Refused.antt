@@ -19,7 +19,8 @@ refused refusals.RangesNotAdmitted bytes lacks = absurd lacks
 refused refusals.InvalidExport bytes lacks = absurd lacks
 refused refusals.Unwritable bytes lacks = absurd lacks
 
-pub request_refused : (refusal : Refusal) (bytes : List ℕ) (asked : TransformRequest) → HoldsRequest bytes asked → RefusesRequest asked refusal
+pub request_refused : (refusal : Refusal) (bytes : List ℕ) (asked : TransformRequest) → HoldsRequest bytes asked →
+    RefusesRequest asked refusal
     → RefusesBytes refusal bytes
 request_refused refusals.NotJson bytes asked holds refuses = absurd refuses
 request_refused refusals.BadForm bytes asked holds refuses = absurd refuses
@@ -32,7 +33,8 @@ request_refused refusals.InvalidExport bytes asked holds refuses = absurd refuse
 request_refused refusals.Unwritable bytes asked holds refuses = absurd refuses
 
 pub answer_status : (asked : TransformRequest) (line : List ℕ) (status : ℕ) → AnswersRequest asked line status → status < 2
-answer_status asked line status h = elim h.answer.1 [ inl a ↦ subst (λ n. n < 2) (sym a.0) (lit< tt) | inr a ↦ subst (λ n. n < 2) (sym a.0) (lit< tt) ]
+answer_status asked line status h =
+    elim h.answer.1 [ inl a ↦ subst (λ n. n < 2) (sym a.0) (lit< tt) | inr a ↦ subst (λ n. n < 2) (sym a.0) (lit< tt) ]
 
 -- bytes are not refused by the words, by their file or by an output
 pub of_bytes : (refusal : Refusal) (bytes : List ℕ) → RefusesBytes refusal bytes → IsOfBytes refusal

@@ -18,10 +18,12 @@ line_of_data value = compact_text value ++ line_end
 -- the line is the skeleton of a module without faults
 pub record IsSkeletonLine (graph : ModuleGraph) (info : EsModule) (public : PublicRanges) (line : List ℕ) : Type 0 where
   pub no_faults : faults graph info public ≡ []
-  pub text : line ≡ line_of_data (skeleton_data (comments graph info public) (sources graph info public) (skeleton graph info public))
+  pub text : line ≡ line_of_data
+      (skeleton_data (comments graph info public) (sources graph info public) (skeleton graph info public))
 
 -- the line is the diagnostics of a module with faults: of all, or of the first alone
-pub record IsFaultsLine (graph : ModuleGraph) (info : EsModule) (public : PublicRanges) (first : Bool) (line : List ℕ) : Type 0 where
+pub record IsFaultsLine (graph : ModuleGraph) (info : EsModule) (public : PublicRanges) (first : Bool)
+    (line : List ℕ) : Type 0 where
   pub diagnostics : List FastCheckDiagnostic
   pub some_fault : faults graph info public ≢ []
   pub are_told : AreDiagnosticsOf info (told first (faults graph info public)) diagnostics

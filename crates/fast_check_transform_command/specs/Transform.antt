@@ -45,7 +45,8 @@ pub record IsNotAdmitted (asked : TransformRequest) : Type 0 where
 
 -- why it is refused: faults of tables before all else; memory may run out at any request
 abbrev pub RefusesRequest : TransformRequest → Refusal → Type 0
-RefusesRequest asked (refusals.TableFault fault) = IsModuleFault asked.es_module.tables asked.es_module.source.program fault
+RefusesRequest asked (refusals.TableFault fault) =
+    IsModuleFault asked.es_module.tables asked.es_module.source.program fault
 RefusesRequest asked refusals.RangesNotAdmitted = IsNotAdmitted asked
 RefusesRequest asked refusals.OutOfMemory = Unit {0}
 RefusesRequest asked _ = ⊥
@@ -60,11 +61,14 @@ OfRequest P bytes = (asked : TransformRequest) × HoldsRequest bytes asked × P 
 abbrev pub IsAnswerTo : List ℕ → List ℕ → ℕ → Type 0
 IsAnswerTo bytes line status = OfRequest (λ asked. AnswersRequest asked line status) bytes
 
--- why they are refused: they are no JSON, or the JSON of no request, or their request is refused; memory may run out at any bytes
+-- why they are refused: they are no JSON, or the JSON of no request, or their request is refused; memory may run out at
+-- any bytes
 abbrev pub RefusesBytes : Refusal → List ℕ → Type 0
 RefusesBytes refusals.NotJson bytes = IsNotJson bytes
 RefusesBytes refusals.BadForm bytes = IsNoRequest bytes
-RefusesBytes (refusals.TableFault fault) bytes = OfRequest (λ asked. RefusesRequest asked (refusals.TableFault fault)) bytes
-RefusesBytes refusals.RangesNotAdmitted bytes = OfRequest (λ asked. RefusesRequest asked refusals.RangesNotAdmitted) bytes
+RefusesBytes (refusals.TableFault fault) bytes = OfRequest
+    (λ asked. RefusesRequest asked (refusals.TableFault fault)) bytes
+RefusesBytes refusals.RangesNotAdmitted bytes = OfRequest
+    (λ asked. RefusesRequest asked refusals.RangesNotAdmitted) bytes
 RefusesBytes refusals.OutOfMemory bytes = Unit {0}
 RefusesBytes _ bytes = ⊥

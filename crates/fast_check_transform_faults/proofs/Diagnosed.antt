@@ -16,7 +16,9 @@ one_more info [] (e ∷ ds) f d h i = absurd h
 one_more info (g ∷ fs) [] f d h i = absurd h
 
 -- one more of the faults that stand in a list
-pub next_of : (info : EsModule) (fs : List Fault) (i : ℕ) (ds : List FastCheckDiagnostic) (f : Fault) (d : FastCheckDiagnostic) → i < length fs →
+pub next_of : (info : EsModule) (fs : List Fault) (i : ℕ) (ds : List FastCheckDiagnostic) (f : Fault) (d : FastCheckDiagnostic) →
+    i < length fs →
     AreDiagnosticsOf info (take i fs) ds → IsDiagnosticOf info (get_or fs i f) d → AreDiagnosticsOf info (take (i + 1) fs) (ds ++ d ∷ [])
 next_of info fs i ds f d h all one =
-    subst (λ gs. AreDiagnosticsOf info gs (ds ++ d ∷ [])) (sym (take_more fs i f h)) (one_more info (take i fs) ds (get_or fs i f) d all one)
+    subst (λ gs. AreDiagnosticsOf info gs (ds ++ d ∷ [])) (sym (take_more fs i f h))
+    (one_more info (take i fs) ds (get_or fs i f) d all one)

@@ -30,11 +30,14 @@ compares r = record {
   faulty = λ ds m h. h;
   count = λ d ds h. h;
   kind = λ p q h. let one = kinds_one _ _ h.kind p q h.first_place h.second_place h.first_told h.second_told in cc;
-  names = λ p q object reference other another h. let one = kinds_one _ _ h.kind p q h.first_place h.second_place h.first_told h.second_told in (cc, cc);
-  flags = λ p q void async other another h. let one = kinds_one _ _ h.kind p q h.first_place h.second_place h.first_told h.second_told in (cc, cc);
+  names = λ p q object reference other another h. let one =
+      kinds_one _ _ h.kind p q h.first_place h.second_place h.first_told h.second_told in (cc, cc);
+  flags = λ p q void async other another h. let one = kinds_one _ _ h.kind p q h.first_place h.second_place h.first_told h.second_told in
+      (cc, cc);
   place = λ p q h.
       let same : SamePlace r p q =
-      subst (λ x. SamePlace r x q) (places_one _ h.kind p h.first_place h.first_told) (subst (SamePlace r h.first_place) (places_one _ h.kind q h.second_place h.second_told) h.places) in
+      subst (λ x. SamePlace r x q) (places_one _ h.kind p h.first_place h.first_told)
+      (subst (SamePlace r h.first_place) (places_one _ h.kind q h.second_place h.second_told) h.places) in
       (same.specifier, same.range);
   source = λ s t h. (h.specifier, h.range, h.is_export, h.type_only);
 }

@@ -24,7 +24,8 @@ both R {x = x} {w = w} p q h = subst (R x) (sym q) (subst (λ v. R v w) (sym p) 
 module _ (graph : ModuleGraph) (a : EsModule) (ranges_a : PublicRanges) (b : EsModule) (ranges_b : PublicRanges) (first_alone : Bool) where
   abbrev Same : Renaming → Type 0
   Same r =
-      SameAnswers r (surroundings_of graph a ranges_a) a.source.program a.source.comments (surroundings_of graph b ranges_b) b.source.program b.source.comments
+      SameAnswers r (surroundings_of graph a ranges_a) a.source.program a.source.comments
+      (surroundings_of graph b ranges_b) b.source.program b.source.comments
 
   answer_same : (r : Renaming) → IsRenaming r → a.specifier ≡ b.specifier → Same r → (x y : ModuleAnswer) →
       IsTransformed graph a ranges_a first_alone x → IsTransformed graph b ranges_b first_alone y → SameAnswer r x y
@@ -36,13 +37,16 @@ module _ (graph : ModuleGraph) (a : EsModule) (ranges_a : PublicRanges) (b : EsM
   answer_same r ok one h (Err ds) (Err es) i j =
       told_same r a b one first_alone (faults graph a ranges_a) (faults graph b ranges_b) ds.items es.items h.faults i.faults j.faults
   answer_same r ok one h (Ok m) (Err es) i j =
-      absurd (true≢false (sym (j.ok.1 ((each_empty (SameFault r) (faults graph a ranges_a) (faults graph b ranges_b) h.faults).0 (i.ok.0 refl)))))
+      absurd (true≢false
+      (sym (j.ok.1 ((each_empty (SameFault r) (faults graph a ranges_a) (faults graph b ranges_b) h.faults).0 (i.ok.0 refl)))))
   answer_same r ok one h (Err ds) (Ok n) i j =
-      absurd (true≢false (sym (i.ok.1 ((each_empty (SameFault r) (faults graph a ranges_a) (faults graph b ranges_b) h.faults).1 (j.ok.0 refl)))))
+      absurd (true≢false
+      (sym (i.ok.1 ((each_empty (SameFault r) (faults graph a ranges_a) (faults graph b ranges_b) h.faults).1 (j.ok.0 refl)))))
 
   pub keeps_hidden : (x y : ModuleAnswer) → IsTransformed graph a ranges_a first_alone x → IsTransformed graph b ranges_b first_alone y →
       KeepsHidden graph a ranges_a b ranges_b x y
   keeps_hidden x y i j r ok h =
       answer_same r ok h.specifier
-      (two_worlds (surroundings_of graph a ranges_a) a.source.program a.source.comments (surroundings_of graph b ranges_b) b.source.program b.source.comments
+      (two_worlds (surroundings_of graph a ranges_a) a.source.program a.source.comments
+      (surroundings_of graph b ranges_b) b.source.program b.source.comments
       r ok h.program h.comments) x y i j

@@ -13,7 +13,8 @@ use Rattle.fast_check_syntax.specs.Moves.{Renaming, IsRenaming, partners, twice}
 use Rattle.fast_check_syntax.specs.Same.{SameTree, SameTrees, SameRange, Each}
 use Rattle.fast_check_syntax.specs.Same as s
 use Rattle.fast_check_syntax.specs.Shape.{kind_of, parts, part, is_absent, text_of, flag_of, range_of}
-use Rattle.fast_check_syntax.proofs.Moved.{part_moved, parts_moved, kind_of_moved, is_absent_moved, text_of_moved, flag_of_moved, range_of_moved}
+use Rattle.fast_check_syntax.proofs.Moved.{part_moved, parts_moved, kind_of_moved, is_absent_moved, text_of_moved, flag_of_moved}
+use Rattle.fast_check_syntax.proofs.Moved.{range_of_moved}
 use Rattle.fast_check_syntax.proofs.Partners.{partners-keep, twice-keeps}
 use Rattle.fast_check_syntax.proofs.Same.{tree_to, tree_from, trees_from, range_from}
 use Rattle.fast_check_transformer.specs.Compared.{SameStaticSource}
@@ -27,7 +28,8 @@ each_append R (x ∷ xs) [] zs ws h k = absurd h
 
 module _ (r : Renaming) (ok : IsRenaming r) where
   -- what two trees that are the same read as
-  field_same : (field : Tree → Tree) (n : ℕ) → ((t : Tree) → field t ≡ part n t) → {t u : Tree} → SameTree r t u → SameTree r (field t) (field u)
+  field_same : (field : Tree → Tree) (n : ℕ) → ((t : Tree) → field t ≡ part n t) → {t u : Tree} → SameTree r t u →
+      SameTree r (field t) (field u)
   field_same field n is {t = t} {u = u} h =
       let parts_are : part n t ≡ field t = sym (is t) in
       subst (λ x. SameTree r x (field u)) parts_are
@@ -75,8 +77,10 @@ module _ (r : Renaming) (ok : IsRenaming r) where
       })
 
   by_kind : (kind : Kind) {t u : Tree} → SameTree r t u → Each (SameStaticSource r) (source_by_kind kind t) (source_by_kind kind u)
-  by_kind kinds.ImportDecl h = source_same false (flag_same (field_same (part 3) 3 (λ t. refl) h)) (field_same ImportDecl-src 2 (λ t. refl) h)
-  by_kind kinds.NamedExport h = source_same true (flag_same (field_same (part 3) 3 (λ t. refl) h)) (field_same NamedExport-src 2 (λ t. refl) h)
+  by_kind kinds.ImportDecl h = source_same false (flag_same (field_same (part 3) 3 (λ t. refl) h))
+      (field_same ImportDecl-src 2 (λ t. refl) h)
+  by_kind kinds.NamedExport h = source_same true (flag_same (field_same (part 3) 3 (λ t. refl) h))
+      (field_same NamedExport-src 2 (λ t. refl) h)
   by_kind kinds.ExportAll h = source_same true (flag_same (field_same (part 2) 2 (λ t. refl) h)) (field_same ExportAll-src 1 (λ t. refl) h)
   by_kind _ h = tt
 
@@ -87,7 +91,8 @@ module _ (r : Renaming) (ok : IsRenaming r) where
   all_same : {ts us : List Tree} → SameTrees r ts us → Each (SameStaticSource r) (flat_map item_source ts) (flat_map item_source us)
   all_same s.SameTrees.end = tt
   all_same (s.SameTrees.next {t = t} {u = u} {ts = ts} {us = us} h hs) =
-      each_append (SameStaticSource r) (item_source t) (item_source u) (flat_map item_source ts) (flat_map item_source us) (item_same h) (all_same hs)
+      each_append (SameStaticSource r) (item_source t) (item_source u) (flat_map item_source ts) (flat_map item_source us) (item_same h)
+      (all_same hs)
 
   pub sources_same : {t u : Tree} → SameSkeleton r t u → Each (SameStaticSource r) (static_sources t) (static_sources u)
   sources_same h = all_same (parts_same h.body)

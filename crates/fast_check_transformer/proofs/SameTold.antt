@@ -4,11 +4,16 @@ use Rattle.std.proofs.Common.{ap, ◌∙◌, sym, subst}
 use Rattle.fast_check_modules.specs.EsModule.{EsModule}
 use Rattle.fast_check_modules.specs.diagnostics.declared.diagnostics.range.FastCheckDiagnosticRange.{FastCheckDiagnosticRange}
 use Rattle.fast_check_modules.specs.diagnostics.declared.diagnostics.FastCheckDiagnostic.{FastCheckDiagnostic}
-use Rattle.fast_check_modules.specs.diagnostics.declared.diagnostics.FastCheckDiagnostic.TheVariants.{MissingExplicitType, MissingExplicitReturnType}
-use Rattle.fast_check_modules.specs.diagnostics.declared.diagnostics.FastCheckDiagnostic.TheVariants.{UnsupportedDestructuring, UnsupportedSuperClassExpr}
-use Rattle.fast_check_modules.specs.diagnostics.declared.diagnostics.FastCheckDiagnostic.TheVariants.{UnsupportedDefaultExportExpr, UnsupportedUsing, UnsupportedRequire}
-use Rattle.fast_check_modules.specs.diagnostics.declared.diagnostics.FastCheckDiagnostic.TheVariants.{UnsupportedTsExportAssignment, UnsupportedTsNamespaceExport}
-use Rattle.fast_check_modules.specs.diagnostics.declared.diagnostics.FastCheckDiagnostic.TheVariants.{UnsupportedGlobalModule, UnsupportedAmbientModule}
+use Rattle.fast_check_modules.specs.diagnostics.declared.diagnostics.FastCheckDiagnostic.TheVariants.{MissingExplicitType}
+use Rattle.fast_check_modules.specs.diagnostics.declared.diagnostics.FastCheckDiagnostic.TheVariants.{MissingExplicitReturnType}
+use Rattle.fast_check_modules.specs.diagnostics.declared.diagnostics.FastCheckDiagnostic.TheVariants.{UnsupportedDestructuring}
+use Rattle.fast_check_modules.specs.diagnostics.declared.diagnostics.FastCheckDiagnostic.TheVariants.{UnsupportedSuperClassExpr}
+use Rattle.fast_check_modules.specs.diagnostics.declared.diagnostics.FastCheckDiagnostic.TheVariants.{UnsupportedDefaultExportExpr}
+use Rattle.fast_check_modules.specs.diagnostics.declared.diagnostics.FastCheckDiagnostic.TheVariants.{UnsupportedUsing, UnsupportedRequire}
+use Rattle.fast_check_modules.specs.diagnostics.declared.diagnostics.FastCheckDiagnostic.TheVariants.{UnsupportedTsExportAssignment}
+use Rattle.fast_check_modules.specs.diagnostics.declared.diagnostics.FastCheckDiagnostic.TheVariants.{UnsupportedTsNamespaceExport}
+use Rattle.fast_check_modules.specs.diagnostics.declared.diagnostics.FastCheckDiagnostic.TheVariants.{UnsupportedGlobalModule}
+use Rattle.fast_check_modules.specs.diagnostics.declared.diagnostics.FastCheckDiagnostic.TheVariants.{UnsupportedAmbientModule}
 use Rattle.fast_check_modules.specs.diagnostics.declared.diagnostics.FastCheckDiagnostic.TheVariants.{UnsupportedExpandoProperty}
 use Rattle.fast_check_signatures.specs.declared.fault.Fault.{Fault}
 use Rattle.fast_check_signatures.specs.declared.fault.FaultKind.{FaultKind}
@@ -24,7 +29,8 @@ record Tells (info : EsModule) (f : Fault) (d : FastCheckDiagnostic) : Type 0 wh
   is_told : told_by d ≡ Some (f.kind, place)
   is_place : IsPlaceOf info f.range place
 
-tells_at : {info : EsModule} {f : Fault} {d : FastCheckDiagnostic} {kind : FaultKind} (place : FastCheckDiagnosticRange) → told_by d ≡ Some (kind, place) →
+tells_at : {info : EsModule} {f : Fault} {d : FastCheckDiagnostic} {kind : FaultKind} (place : FastCheckDiagnosticRange) →
+    told_by d ≡ Some (kind, place) →
     f.kind ≡ kind → IsPlaceOf info f.range place → Tells info f d
 tells_at place e k p = record { place = place; is_told = e ∙ ap (λ kind. Some (kind, place)) (sym k); is_place = p }
 
@@ -57,13 +63,15 @@ each_first R [] (y ∷ ys) h = absurd h
 each_first R (x ∷ xs) [] h = absurd h
 
 module _ (r : Renaming) (a b : EsModule) (one : a.specifier ≡ b.specifier) where
-  place_same : {x y : FastCheckDiagnosticRange} (f g : Fault) → IsPlaceOf a f.range x → IsPlaceOf b g.range y → SameRange r f.range g.range → SamePlace r x y
+  place_same : {x y : FastCheckDiagnosticRange} (f g : Fault) → IsPlaceOf a f.range x → IsPlaceOf b g.range y →
+      SameRange r f.range g.range → SamePlace r x y
   place_same {x = x} {y = y} f g p q h = record {
     specifier = p.specifier ∙ (one ∙ sym q.specifier);
     range = subst (λ at. SameRange r at y.range) (sym p.range) (subst (SameRange r f.range) (sym q.range) h);
   }
 
-  diagnostic_same : (f g : Fault) (d e : FastCheckDiagnostic) → SameFault r f g → IsDiagnosticOf a f d → IsDiagnosticOf b g e → SameDiagnostic r d e
+  diagnostic_same : (f g : Fault) (d e : FastCheckDiagnostic) → SameFault r f g → IsDiagnosticOf a f d → IsDiagnosticOf b g e →
+      SameDiagnostic r d e
   diagnostic_same f g d e h i j =
       let first = tells a f d i in
       let second = tells b g e j in
@@ -76,7 +84,8 @@ module _ (r : Renaming) (a b : EsModule) (one : a.specifier ≡ b.specifier) whe
         places = place_same f g first.is_place second.is_place h.range;
       }
 
-  each_same : (fs gs : List Fault) (ds es : List FastCheckDiagnostic) → Each (SameFault r) fs gs → AreDiagnosticsOf a fs ds → AreDiagnosticsOf b gs es →
+  each_same : (fs gs : List Fault) (ds es : List FastCheckDiagnostic) → Each (SameFault r) fs gs → AreDiagnosticsOf a fs ds →
+      AreDiagnosticsOf b gs es →
       Each (SameDiagnostic r) ds es
   each_same [] [] [] [] h i j = tt
   each_same (f ∷ fs) (g ∷ gs) (d ∷ ds) (e ∷ es) h i j = (diagnostic_same f g d e h.0 i.0 j.0, each_same fs gs ds es h.1 i.1 j.1)

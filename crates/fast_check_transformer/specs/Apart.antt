@@ -3,8 +3,10 @@ use Rattle.std.specs.Prelude.{◌≡◌, Bool, List, [], ◌∷◌, Ok, Err, Str
 use Rattle.std.specs.declared.alloc.Global.{Global}
 use Rattle.fast_check_modules.specs.diagnostics.declared.diagnostics.range.FastCheckDiagnosticRange.{FastCheckDiagnosticRange}
 use Rattle.fast_check_modules.specs.diagnostics.declared.diagnostics.FastCheckDiagnostic.{FastCheckDiagnostic}
-use Rattle.fast_check_modules.specs.diagnostics.declared.diagnostics.FastCheckDiagnostic.TheVariants.{MissingExplicitType, MissingExplicitReturnType}
-use Rattle.fast_check_modules.specs.diagnostics.declared.diagnostics.FastCheckDiagnostic.TheVariants.{UnsupportedUsing, UnsupportedExpandoProperty}
+use Rattle.fast_check_modules.specs.diagnostics.declared.diagnostics.FastCheckDiagnostic.TheVariants.{MissingExplicitType}
+use Rattle.fast_check_modules.specs.diagnostics.declared.diagnostics.FastCheckDiagnostic.TheVariants.{MissingExplicitReturnType}
+use Rattle.fast_check_modules.specs.diagnostics.declared.diagnostics.FastCheckDiagnostic.TheVariants.{UnsupportedUsing}
+use Rattle.fast_check_modules.specs.diagnostics.declared.diagnostics.FastCheckDiagnostic.TheVariants.{UnsupportedExpandoProperty}
 use Rattle.fast_check_parsed_source.specs.declared.tables.fast_check_module.FastCheckModule.{FastCheckModule}
 use Rattle.fast_check_parsed_source.specs.declared.tables.fast_check_module.StaticSource.{StaticSource}
 use Rattle.fast_check_syntax.specs.Moves.{Renaming}
@@ -25,12 +27,14 @@ pub record TellsApart (r : Renaming) : Type 0 where
       SameDiagnostic r (UnsupportedExpandoProperty p object reference) (UnsupportedExpandoProperty q other another) →
       (string_bytes object ≡ string_bytes other) × (string_bytes reference ≡ string_bytes another)
   pub flags : (p q : FastCheckDiagnosticRange) (void async other another : Bool) →
-      SameDiagnostic r (MissingExplicitReturnType p void async) (MissingExplicitReturnType q other another) → (void ≡ other) × (async ≡ another)
+      SameDiagnostic r (MissingExplicitReturnType p void async) (MissingExplicitReturnType q other another) →
+      (void ≡ other) × (async ≡ another)
   pub place : (p q : FastCheckDiagnosticRange) → SameDiagnostic r (MissingExplicitType p) (MissingExplicitType q) →
       (p.specifier ≡ q.specifier) × SameRange r p.range q.range
   -- another text, range or flag of a source
   pub source : (s t : StaticSource) → SameStaticSource r s t →
-      (s.specifier ≡ t.specifier) × SameRange r s.range t.range × (s.is_export ≡ t.is_export) × (s.type_only ≡ t.type_only)
+      (s.specifier ≡ t.specifier) × SameRange r s.range t.range × (s.is_export ≡ t.is_export) ×
+      (s.type_only ≡ t.type_only)
 
 abbrev pub Compares : Type 0
 Compares = (r : Renaming) → TellsApart r

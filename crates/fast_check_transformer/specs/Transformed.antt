@@ -17,12 +17,15 @@ use Rattle.fast_check_transform_faults.specs.Diagnostics.{AreDiagnosticsOf, told
 abbrev pub ModuleAnswer : Type 0
 ModuleAnswer = Result FastCheckModule (Vec FastCheckDiagnostic Global)
 
--- It is what `transform` answers to the module with these public ranges: exactly where nothing is wrong its skeleton, which stands in the
--- grammar, with the comments that stay and the sources that it depends on; else the diagnostics of its faults, or of the first alone.
-pub record IsTransformed (graph : ModuleGraph) (info : EsModule) (public : PublicRanges) (first_alone : Bool) (answer : ModuleAnswer) : Type 0 where
+-- It is what `transform` answers to the module with these public ranges: exactly where nothing is wrong its skeleton,
+-- which stands in the grammar, with the comments that stay and the sources that it depends on; else the diagnostics of
+-- its faults, or of the first alone.
+pub record IsTransformed (graph : ModuleGraph) (info : EsModule) (public : PublicRanges) (first_alone : Bool)
+    (answer : ModuleAnswer) : Type 0 where
   pub ok : IsOk answer ↔ (transform.faults graph info public ≡ [])
   pub skeleton : IfOk answer (λ made. made.program ≡ transform.skeleton graph info public)
   pub grammar : IfOk answer (λ made. IsSkeleton (bindings_of info) (is_declaration info.source.media_type) made.program)
   pub comments : IfOk answer (λ made. made.comments ≡ transform.comments graph info public)
   pub sources : IfOk answer (λ made. made.module_info.sources.items ≡ transform.sources graph info public)
-  pub faults : IfErr answer (λ diagnostics. AreDiagnosticsOf info (told first_alone (transform.faults graph info public)) diagnostics.items)
+  pub faults : IfErr answer
+      (λ diagnostics. AreDiagnosticsOf info (told first_alone (transform.faults graph info public)) diagnostics.items)

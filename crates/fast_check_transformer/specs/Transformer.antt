@@ -12,7 +12,8 @@ use Rattle.fast_check_signatures.specs.declared.fault.Fault.{Fault}
 use Rattle.fast_check_module_transform.specs.Transform.{skeleton, comments, faults}
 use Rattle.fast_check_transformer.specs.declared.transformer.FastCheckTransformer.{FastCheckTransformer}
 
--- a module of a graph with what is public of it, whether its first fault is answered alone, and the diagnostics that are kept
+-- a module of a graph with what is public of it, whether its first fault is answered alone, and the diagnostics that
+-- are kept
 pub record Transformer : Type 0 where
   pub graph : ModuleGraph
   pub es_module_info : EsModule

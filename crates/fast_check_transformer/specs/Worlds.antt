@@ -1,5 +1,5 @@
--- The law of two worlds of what is answered: an edit of what is hidden leaves both answers the same, under each renaming under which the
--- modules agree.
+-- The law of two worlds of what is answered: an edit of what is hidden leaves both answers the same, under each
+-- renaming under which the modules agree.
 use Rattle.std.specs.Prelude.{◌≡◌, Ok, Err}
 use Rattle.fast_check_surroundings.specs.Surroundings.{surroundings_of}
 use Rattle.fast_check_comments.specs.Kept.{kept}
@@ -15,9 +15,11 @@ use Rattle.fast_check_syntax.specs.Same.{Each}
 use Rattle.fast_check_transformer.specs.Compared.{SameStaticSource, SameDiagnostic}
 use Rattle.fast_check_transformer.specs.Transformed.{ModuleAnswer}
 
--- Two modules of one name that agree but for what is hidden. Of their media types it is asked whether both are those of declaration files, or neither
--- (`is_ambient` of `AgreeHidden`); of their comments, that those which a skeleton may keep are the same at renamed positions.
-pub record AgreePair (r : Renaming) (graph : ModuleGraph) (a : EsModule) (ranges_a : PublicRanges) (b : EsModule) (ranges_b : PublicRanges) : Type 0 where
+-- Two modules of one name that agree but for what is hidden. Of their media types it is asked whether both are those of
+-- declaration files, or neither (`is_ambient` of `AgreeHidden`); of their comments, that those which a skeleton may
+-- keep are the same at renamed positions.
+pub record AgreePair (r : Renaming) (graph : ModuleGraph) (a : EsModule) (ranges_a : PublicRanges) (b : EsModule)
+    (ranges_b : PublicRanges) : Type 0 where
   pub specifier : a.specifier ≡ b.specifier
   pub program : AgreeHidden r (surroundings_of graph a ranges_a) (surroundings_of graph b ranges_b) a.source.program b.source.program
   pub comments : SameComments r (kept a.source.comments) (kept b.source.comments)
@@ -35,5 +37,7 @@ SameAnswer r (Err ds) (Err es) = Each (SameDiagnostic r) ds.items es.items
 SameAnswer r _ _ = ⊥
 
 -- under each renaming under which the modules agree, these answers are the same
-abbrev pub KeepsHidden : ModuleGraph → EsModule → PublicRanges → EsModule → PublicRanges → ModuleAnswer → ModuleAnswer → Type 0
-KeepsHidden graph a ranges_a b ranges_b x y = (r : Renaming) → IsRenaming r → AgreePair r graph a ranges_a b ranges_b → SameAnswer r x y
+abbrev pub KeepsHidden : ModuleGraph → EsModule → PublicRanges → EsModule → PublicRanges → ModuleAnswer → ModuleAnswer →
+    Type 0
+KeepsHidden graph a ranges_a b ranges_b x y = (r : Renaming) → IsRenaming r → AgreePair r graph a ranges_a b ranges_b →
+    SameAnswer r x y

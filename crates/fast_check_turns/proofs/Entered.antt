@@ -21,9 +21,12 @@ use Rattle.fast_check_turns.specs.Yields.{entry_fault_yields, entry_yields}
 use Rattle.fast_check_turns.specs.Turns.{AsksAndTells, EntersAt, Enters}
 use Rattle.fast_check_turns.specs.Lent.{used_of}
 
-pub entered_with : (g : ModuleGraph) (nv : Nv) (urls seen asked : List Parts) (faults found : List (Parts × EntryFault)) → seen ≡ urls → asked ≡ urls →
-    found ≡ faults → faults ≡ all_faults g seen → (steps : List Step) → map want_of steps ≡ unless_faulty found (map (entry_want nv) asked) →
-    (told : List Yield) → told ≡ known_package nv ∷ (map (λ url. entry_point nv (serialize url)) urls ++ flat_map (entry_fault_yields nv) faults) →
+pub entered_with : (g : ModuleGraph) (nv : Nv) (urls seen asked : List Parts) (faults found : List (Parts × EntryFault)) → seen ≡ urls →
+    asked ≡ urls →
+    found ≡ faults → faults ≡ all_faults g seen → (steps : List Step) →
+    map want_of steps ≡ unless_faulty found (map (entry_want nv) asked) →
+    (told : List Yield) → told ≡ known_package nv ∷
+    (map (λ url. entry_point nv (serialize url)) urls ++ flat_map (entry_fault_yields nv) faults) →
     (a b : State) → AsksAll steps a b → (old new : List Yield) → new ≡ old ++ told → EntersAt g nv urls None a b old new
 entered_with g nv urls seen asked faults found s t u f steps w told y a b asks old new n =
     let all : faults ≡ all_faults g urls = f ∙ ap (all_faults g) s in (
@@ -49,7 +52,8 @@ entered_nowhere g used nv urls none a b same old new still = (
 -- one whose item is used
 pub entered_kept : (g : ModuleGraph) (nv : Nv) (urls set : List Parts) → set ≡ in_order urls → (found : Option FastCheckCacheItem)
     (item : FastCheckCacheItem) → found ≡ Some item → (a b : State) (old new : List Yield) →
-    AsksAndTells (map to_package (item_of item).0) (kept nv set (item_of item) ∷ []) a b old new → EntersAt g nv urls (option_map item_of found) a b old new
+    AsksAndTells (map to_package (item_of item).0) (kept nv set (item_of item) ∷ []) a b old new →
+    EntersAt g nv urls (option_map item_of found) a b old new
 entered_kept g nv urls set ordered found item is a b old new h =
     subst (λ (o : Option FastCheckCacheItem). EntersAt g nv urls (option_map item_of o) a b old new) (sym is)
     (subst (λ (ps : List Parts). AsksAndTells (map to_package (item_of item).0) (kept nv ps (item_of item) ∷ []) a b old new) ordered h)

@@ -20,22 +20,24 @@ use Rattle.fast_check_traces.specs.declared.modules.TracedModule.{TracedModule}
 use Rattle.fast_check_traces.specs.Modules.{own_tables}
 use Rattle.fast_check_traces.specs.Roots.{roots}
 use Rattle.fast_check_traces.specs.Wants.{re_export_ranges, module_wants}
-use Rattle.fast_check_search.proofs.Each.{Contains_none, Contains_first, Contains_later, Contains_cases, contains_map, contains_flat_map, Each}
-use Rattle.fast_check_search.proofs.Each.{each_append, each_map, each_flat}
+use Rattle.fast_check_search.proofs.Each.{Contains_none, Contains_first, Contains_later, Contains_cases, contains_map, contains_flat_map}
+use Rattle.fast_check_search.proofs.Each.{Each, each_append, each_map, each_flat}
 use Rattle.fast_check_worklists.proofs.Waiting.{map_contains}
 use Rattle.fast_check_worklists.proofs.Asking.{asked_some}
-use Rattle.fast_check_worklists.specs.Demands.{Text, asked, Want, to_package, to_module, to_symbol, Demand, of_package, of_module, of_symbol}
+use Rattle.fast_check_worklists.specs.Demands.{Text, asked, Want, to_package, to_module, to_symbol, Demand, of_package, of_module}
+use Rattle.fast_check_worklists.specs.Demands.{of_symbol}
 use Rattle.fast_check_worklists.specs.Account.{Followed, HasIn, IsSymbolMet}
 use Rattle.fast_check_worklists.specs.declared.asked.Step.{Step}
-use Rattle.fast_check_worklists.specs.State.{State, want_of, AsksAll, Reached, root, step, IsSearched, IsOuter, AreWants, AreGiven, IsFollowed}
+use Rattle.fast_check_worklists.specs.State.{State, want_of, AsksAll, Reached, root, step, IsSearched, IsOuter, AreWants, AreGiven}
+use Rattle.fast_check_worklists.specs.State.{IsFollowed}
 use Rattle.fast_check_name_demands.specs.NameDemands.{AreDemands, IsEmpty}
 use Rattle.fast_check_steps.specs.Sources.{Known, module_at}
 use Rattle.fast_check_steps.specs.Wants.{file_wants, left_wants}
 use Rattle.fast_check_turns.specs.Rules.{names_wants, symbol_wants, world}
 use Rattle.fast_check_entries.specs.findings.Yields.{Yield, recorded, public, implementing}
 use Rattle.fast_check_entries.specs.findings.Findings.{placed_yields, module_yields}
-use Rattle.fast_check_turns.specs.Yields.{own_text, dependency_of, dependencies, public_at, implementing_at, source_in, fault_yields, faults_at}
-use Rattle.fast_check_turns.specs.Yields.{names_yields, symbol_yields, untyped_yields, gives}
+use Rattle.fast_check_turns.specs.Yields.{own_text, dependency_of, dependencies, public_at, implementing_at, source_in, fault_yields}
+use Rattle.fast_check_turns.specs.Yields.{faults_at, names_yields, symbol_yields, untyped_yields, gives}
 use Rattle.fast_check_turns.specs.Traced.{IsTraced}
 use Rattle.fast_check_turns.proofs.Lists.{flat_contains}
 use Rattle.fast_check_turns.proofs.Placed.{placed_flat}
@@ -119,12 +121,14 @@ module _ (k : Known) (nv : Nv) (t : Text) (m : TracedModule) (here : module_at k
       let f = flat_contains (roots (own_tables m)) listed s c in
       root f.0 s (listed_asked f.0 f.1)
       (in_names f.0 (to_symbol nv t s)
-      (Contains-append_left (map (to_symbol nv t) (roots (own_tables m) f.0)) (flat_map (left_wants k nv m) (module_wants m f.0)) (to_symbol nv t s)
+      (Contains-append_left (map (to_symbol nv t) (roots (own_tables m) f.0)) (flat_map (left_wants k nv m) (module_wants m f.0))
+      (to_symbol nv t s)
       (contains_map (to_symbol nv t) (roots (own_tables m) f.0) s f.2)))
   reached s (symbol_step {d = d} h c) =
       step d s (reached d h)
       (in_symbols d (to_symbol nv t s)
-      (Contains-append_left (map (to_symbol nv t) (names (own_tables m) d)) (flat_map (file_wants k nv m) (files (own_tables m) d)) (to_symbol nv t s)
+      (Contains-append_left (map (to_symbol nv t) (names (own_tables m) d)) (flat_map (file_wants k nv m) (files (own_tables m) d))
+      (to_symbol nv t s)
       (contains_map (to_symbol nv t) (names (own_tables m) d) s c)))
 
   abbrev Met : Want → Type 0
@@ -187,13 +191,15 @@ module _ (k : Known) (nv : Nv) (t : Text) (m : TracedModule) (here : module_at k
             (flat_map (left_wants k nv m) (module_wants m d.0)) w
             (contains_flat_map (left_wants k nv m) (module_wants m d.0) v.0 w d.2 v.2)),
       ))
-      (Contains-append_cases (flat_map (file_wants k nv m) a.asked_files) (flat_map (left_wants k nv m) (flat_map (module_wants m) listed)) w
+      (Contains-append_cases (flat_map (file_wants k nv m) a.asked_files)
+      (flat_map (left_wants k nv m) (flat_map (module_wants m) listed)) w
       (subst (λ (ws : List Want). Contains ws w) a.wants_are c))
 
   not_symbol : (ss : List SymbolDemand) (w : Want) → Contains (map (to_symbol nv t) ss) w → IsOuter w → ⊥
   not_symbol ss w c o = let s = map_contains (to_symbol nv t) ss w c in subst (λ (v : Want). IsOuter v → ⊥) s.2 (λ z. z) o
 
-  in_wants : (w : Want) → Contains (flat_map (file_wants k nv m) a.asked_files ++ flat_map (left_wants k nv m) (flat_map (module_wants m) listed)) w →
+  in_wants : (w : Want) →
+      Contains (flat_map (file_wants k nv m) a.asked_files ++ flat_map (left_wants k nv m) (flat_map (module_wants m) listed)) w →
       Contains wants w
   in_wants w c = subst (λ (ws : List Want). Contains ws w) (sym a.wants_are) c
 
@@ -203,18 +209,24 @@ module _ (k : Known) (nv : Nv) (t : Text) (m : TracedModule) (here : module_at k
       (λ r.
       let v = flat_contains (left_wants k nv m) (module_wants m d) w r in
       ⊎_elim
-      (λ i. in_wants w (Contains-append_right (flat_map (file_wants k nv m) a.asked_files) (flat_map (left_wants k nv m) (flat_map (module_wants m) listed)) w
-      (contains_flat_map (left_wants k nv m) (flat_map (module_wants m) listed) v.0 w (contains_flat_map (module_wants m) listed d v.0 i v.1) v.2)))
+      (λ i. in_wants w
+      (Contains-append_right (flat_map (file_wants k nv m) a.asked_files)
+      (flat_map (left_wants k nv m) (flat_map (module_wants m) listed)) w
+      (contains_flat_map (left_wants k nv m) (flat_map (module_wants m) listed) v.0 w
+      (contains_flat_map (module_wants m) listed d v.0 i v.1) v.2)))
       (λ e. absurd (Contains_none v.0 (subst (λ (y : NameDemand). Contains (module_wants m y) v.0) e v.1)))
       (asked_listed d h))
       (Contains-append_cases (map (to_symbol nv t) (roots (own_tables m) d)) (flat_map (left_wants k nv m) (module_wants m d)) w c)
 
-  symbols_complete : (s : SymbolDemand) → Contains a.symbols s → (w : Want) → Contains (symbol_wants k nv t s m) w → IsOuter w → Contains wants w
+  symbols_complete : (s : SymbolDemand) → Contains a.symbols s → (w : Want) → Contains (symbol_wants k nv t s m) w → IsOuter w →
+      Contains wants w
   symbols_complete s h w c o =
       ⊎_elim (λ l. absurd (not_symbol (names (own_tables m) s) w l o))
       (λ r.
       let f = flat_contains (file_wants k nv m) (files (own_tables m) s) w r in
-      in_wants w (Contains-append_left (flat_map (file_wants k nv m) a.asked_files) (flat_map (left_wants k nv m) (flat_map (module_wants m) listed)) w
+      in_wants w
+      (Contains-append_left (flat_map (file_wants k nv m) a.asked_files)
+      (flat_map (left_wants k nv m) (flat_map (module_wants m) listed)) w
       (contains_flat_map (file_wants k nv m) a.asked_files f.0 w (a.found_files.complete s f.0 h f.1) f.2)))
       (Contains-append_cases (map (to_symbol nv t) (names (own_tables m) s)) (flat_map (file_wants k nv m) (files (own_tables m) s)) w c)
 
@@ -222,7 +234,8 @@ module _ (k : Known) (nv : Nv) (t : Text) (m : TracedModule) (here : module_at k
   are_wants = record {
     sound = wants_sound;
     complete = λ d w h c o.
-        by_kind (λ e. Contains (world k e) w → Contains wants w) (λ e i j. names_complete e i w (subst (λ (ws : List Want). Contains ws w) (names_world e) j) o)
+        by_kind (λ e. Contains (world k e) w → Contains wants w)
+        (λ e i j. names_complete e i w (subst (λ (ws : List Want). Contains ws w) (names_world e) j) o)
         (λ s i j. symbols_complete s i w (subst (λ (ws : List Want). Contains ws w) (symbols_world s) j) o) d h c;
   }
 
@@ -249,7 +262,8 @@ module _ (k : Known) (nv : Nv) (t : Text) (m : TracedModule) (here : module_at k
   )
 
   symbol_gift : (s : SymbolDemand) (y : Yield) → Contains a.symbols s → Contains (symbol_yields k nv t s m) y → Gift y
-  symbol_gift s y h c = (of_symbol nv t s, (refl, refl, h), subst (λ (o : Option TracedModule). Contains (each_of (symbol_yields k nv t s) o) y) (sym here) c)
+  symbol_gift s y h c =
+      (of_symbol nv t s, (refl, refl, h), subst (λ (o : Option TracedModule). Contains (each_of (symbol_yields k nv t s) o) y) (sym here) c)
 
   recorded_gift : Gift (recorded nv (own_text m))
   recorded_gift = let d = asked_some x in names_gift d.0 (recorded nv (own_text m)) d.1 (Contains_first (recorded nv (own_text m)) _)
@@ -268,7 +282,8 @@ module _ (k : Known) (nv : Nv) (t : Text) (m : TracedModule) (here : module_at k
       let s = a.found_ranges.sound r c in
       let y = public nv (own_text m) r in
       symbol_gift s.0 y s.1
-      (Contains-append_left (public_at nv m (ranges (own_tables m) s.0)) _ y (contains_map (public nv (own_text m)) (ranges (own_tables m) s.0) r s.2))
+      (Contains-append_left (public_at nv m (ranges (own_tables m) s.0)) _ y
+      (contains_map (public nv (own_text m)) (ranges (own_tables m) s.0) r s.2))
 
   implementing_gift : (r : SourceRange) → Contains found.implementations.items r → Gift (implementing nv (own_text m) r)
   implementing_gift r c =
@@ -300,17 +315,20 @@ module _ (k : Known) (nv : Nv) (t : Text) (m : TracedModule) (here : module_at k
       (λ d i j. names_gift d y i
       (Contains_later (recorded nv (own_text m)) _ y
       (Contains-append_right (public_at nv m (re_export_ranges m d)) (dependencies nv (names_wants k nv t d m)) y
-      (contains_flat_map (dependency_of nv) (names_wants k nv t d m) f.0 y (subst (λ (ws : List Want). Contains ws f.0) (names_world d) j) f.2))))
+      (contains_flat_map (dependency_of nv) (names_wants k nv t d m) f.0 y
+      (subst (λ (ws : List Want). Contains ws f.0) (names_world d) j) f.2))))
       (λ e i j. symbol_gift e y i
       (Contains-append_right (public_at nv m (ranges (own_tables m) e)) _ y
       (Contains-append_right (implementing_at nv m (implementations (own_tables m) e)) _ y
       (Contains-append_right (faults_at nv m (faults (own_tables m) e)) (dependencies nv (symbol_wants k nv t e m)) y
-      (contains_flat_map (dependency_of nv) (symbol_wants k nv t e m) f.0 y (subst (λ (ws : List Want). Contains ws f.0) (symbols_world e) j) f.2)))))
+      (contains_flat_map (dependency_of nv) (symbol_wants k nv t e m) f.0 y
+      (subst (λ (ws : List Want). Contains ws f.0) (symbols_world e) j) f.2)))))
       s.0 s.1 s.2
 
   shown_gift : (r : SourceRange) → Contains shown r → Gift (public nv (own_text m) r)
   shown_gift r c = ⊎_elim (λ l. public_gift r l) (λ i. again_gift r i)
-      (Contains-append_cases a.declared (flat_map (re_export_ranges m) listed) r (subst (λ (rs : List SourceRange). Contains rs r) a.ranges_are c))
+      (Contains-append_cases a.declared (flat_map (re_export_ranges m) listed) r
+      (subst (λ (rs : List SourceRange). Contains rs r) a.ranges_are c))
 
   given_sound : Each Gift given
   given_sound y c =
@@ -362,7 +380,8 @@ module _ (k : Known) (nv : Nv) (t : Text) (m : TracedModule) (here : module_at k
       (λ r. each_append IsGiven (public_at nv m (re_export_ranges m d)) (dependencies nv (names_wants k nv t d m))
       (each_map IsGiven (public nv (own_text m)) (re_export_ranges m d) again_in)
       (λ z i. let f = flat_contains (dependency_of nv) (names_wants k nv t d m) z i in
-      in_dependencies z (contains_flat_map (dependency_of nv) wants f.0 z (names_complete d h f.0 f.1 (dependency_outer f.0 z f.2)) f.2)) y r)
+      in_dependencies z
+      (contains_flat_map (dependency_of nv) wants f.0 z (names_complete d h f.0 f.1 (dependency_outer f.0 z f.2)) f.2)) y r)
       (Contains_cases (recorded nv (own_text m)) _ y c)
     where
       again_in : (r : SourceRange) → Contains (re_export_ranges m d) r → IsGiven (public nv (own_text m) r)
@@ -377,7 +396,8 @@ module _ (k : Known) (nv : Nv) (t : Text) (m : TracedModule) (here : module_at k
   symbols_given s h =
       each_append IsGiven (public_at nv m (ranges (own_tables m) s)) _
       (each_map IsGiven (public nv (own_text m)) (ranges (own_tables m) s)
-      (λ r i. in_shown r (among r (Contains-append_left a.declared (flat_map (re_export_ranges m) listed) r (a.found_ranges.complete s r h i)))))
+      (λ r i. in_shown r
+      (among r (Contains-append_left a.declared (flat_map (re_export_ranges m) listed) r (a.found_ranges.complete s r h i)))))
       (each_append IsGiven (implementing_at nv m (implementations (own_tables m) s)) _
       (each_map IsGiven (implementing nv (own_text m)) (implementations (own_tables m) s)
       (λ r i. in_implementing (implementing nv (own_text m) r) (contains_map (implementing nv (own_text m)) found.implementations.items r
@@ -386,9 +406,11 @@ module _ (k : Known) (nv : Nv) (t : Text) (m : TracedModule) (here : module_at k
       (λ z i. let f = flat_contains (fault_yields nv m) (faults (own_tables m) s) z i in
       in_wrong z (contains_flat_map (fault_yields nv m) a.faulty f.0 z (a.found_faults.complete s f.0 h f.1) f.2))
       (λ z i. let f = flat_contains (dependency_of nv) (symbol_wants k nv t s m) z i in
-      in_dependencies z (contains_flat_map (dependency_of nv) wants f.0 z (symbols_complete s h f.0 f.1 (dependency_outer f.0 z f.2)) f.2))))
+      in_dependencies z
+      (contains_flat_map (dependency_of nv) wants f.0 z (symbols_complete s h f.0 f.1 (dependency_outer f.0 z f.2)) f.2))))
 
-  names_only : (d : NameDemand) (y : Yield) → Contains (gives k (of_module nv t d)) y → Contains (each_of (names_yields k nv t d) (module_at k t)) y
+  names_only : (d : NameDemand) (y : Yield) → Contains (gives k (of_module nv t d)) y →
+      Contains (each_of (names_yields k nv t d) (module_at k t)) y
   names_only d y c =
       ⊎_elim (λ l. l) (λ r. absurd (Contains_none y (subst (λ (ys : List Yield). Contains ys y) typed r)))
       (Contains-append_cases (each_of (names_yields k nv t d) (module_at k t)) (untyped_yields k.graph nv t) y c)
@@ -398,11 +420,13 @@ module _ (k : Known) (nv : Nv) (t : Text) (m : TracedModule) (here : module_at k
     sound = given_sound;
     complete = λ d y h c.
         by_kind (λ e. Contains (gives k e) y → IsGiven y)
-        (λ e i j. names_given e i y (subst (λ (o : Option TracedModule). Contains (each_of (names_yields k nv t e) o) y) here (names_only e y j)))
+        (λ e i j. names_given e i y
+        (subst (λ (o : Option TracedModule). Contains (each_of (names_yields k nv t e) o) y) here (names_only e y j)))
         (λ s i j. symbols_given s i y (subst (λ (o : Option TracedModule). Contains (each_of (symbol_yields k nv t s) o) y) here j)) d h c;
   }
 
-  pub followed_there : (steps : List Step) (before after : State) (old new_found : List Yield) → wants ≡ map want_of steps → AsksAll steps before after →
+  pub followed_there : (steps : List Step) (before after : State) (old new_found : List Yield) → wants ≡ map want_of steps →
+      AsksAll steps before after →
       new_found ≡ old ++ given → IsFollowed (world k) (gives k) new.trace before after old new_found
   followed_there steps before after old new_found e asks is = record {
     symbols = a.symbols;

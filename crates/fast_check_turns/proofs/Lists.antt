@@ -13,7 +13,8 @@ pub flat_push : {X Y : Type 0} (f : X → List Y) (xs : List X) (x : X) → flat
 flat_push f [] x = append-nil (f x)
 flat_push {X} {Y} f (y ∷ ys) x = ap (λ (zs : List Y). f y ++ zs) (flat_push f ys x) ∙ sym (append_assoc (f y) (flat_map f ys) (f x))
 
-pub flat_contains : {X Y : Type 0} (f : X → List Y) (xs : List X) (y : Y) → Contains (flat_map f xs) y → (x : X) × Contains xs x × Contains (f x) y
+pub flat_contains : {X Y : Type 0} (f : X → List Y) (xs : List X) (y : Y) → Contains (flat_map f xs) y → (x : X) × Contains xs x ×
+    Contains (f x) y
 flat_contains f [] y c = absurd (Contains_none y c)
 flat_contains f (z ∷ zs) y c =
     ⊎_elim (λ l. (z, Contains_first z zs, l)) (λ r. let m = flat_contains f zs y r in (m.0, Contains_later z zs m.0 m.1, m.2))

@@ -20,21 +20,23 @@ use Rattle.fast_check_demands.specs.Rules.{each_of}
 use Rattle.fast_check_demands.specs.Yields.{ranges, implementations, Fault, faults}
 use Rattle.fast_check_entries.specs.findings.Faults.{PlacedFault, placed}
 use Rattle.fast_check_search.specs.Turn.{AreTableRanges}
-use Rattle.fast_check_search.proofs.Each.{Contains_first, Contains_later, Each, each_nil, each_one, each_append, each_cons, each_map, each_flat, each_cond, each_each_of}
+use Rattle.fast_check_search.proofs.Each.{Contains_first, Contains_later, Each, each_nil, each_one, each_append, each_cons, each_map}
+use Rattle.fast_check_search.proofs.Each.{each_flat, each_cond, each_each_of}
 use Rattle.fast_check_search.proofs.Own.{own_ranges, own_implementations}
 use Rattle.fast_check_traces.specs.declared.modules.TracedModule.{TracedModule}
 use Rattle.fast_check_traces.specs.Modules.{own_tables}
 use Rattle.fast_check_traces.specs.Wants.{re_export_ranges}
 use Rattle.fast_check_traces.proofs.OwnRanges.{own_demand}
 use Rattle.fast_check_worklists.specs.Demands.{Text, Want, to_package, to_module, to_symbol, Demand, of_package, of_module, of_symbol}
-use Rattle.fast_check_entries.specs.findings.Yields.{Yield, known_package, entry_point, refused_export, dependency, public, implementing, ModuleFault, recorded, faulty, untyped_module, of_demand}
-use Rattle.fast_check_entries.specs.findings.Yields.{kept}
+use Rattle.fast_check_entries.specs.findings.Yields.{Yield, known_package, entry_point, refused_export, dependency, public, implementing}
+use Rattle.fast_check_entries.specs.findings.Yields.{ModuleFault, recorded, faulty, untyped_module, of_demand, kept}
 use Rattle.fast_check_entries.specs.findings.Findings.{faulty_module, entry_fault, placed_yield, placed_yields}
 use Rattle.fast_check_entries.specs.Entries.{Entrance, passed_over, refused, entered, all_faults, in_order}
 use Rattle.fast_check_steps.specs.Sources.{Known, is_text, node_at, named_at, traced_as, typed_info, info_at, module_at, untyped_at}
 use Rattle.fast_check_turns.specs.Rules.{names_wants, symbol_wants, entrance_at}
-use Rattle.fast_check_turns.specs.Yields.{own_text, dependency_of, dependencies, public_at, implementing_at, names_yields, source_in, faults_at, fault_yields}
-use Rattle.fast_check_turns.specs.Yields.{symbol_yields, untyped_yields, entry_fault_yields, entered_yields, entry_yields, gives}
+use Rattle.fast_check_turns.specs.Yields.{own_text, dependency_of, dependencies, public_at, implementing_at, names_yields, source_in}
+use Rattle.fast_check_turns.specs.Yields.{faults_at, fault_yields, symbol_yields, untyped_yields, entry_fault_yields, entered_yields}
+use Rattle.fast_check_turns.specs.Yields.{entry_yields, gives}
 use Rattle.fast_check_turns.specs.Own.{IsOwnRange, IsOwnYield}
 
 -- what a look-up finds stands in the list
@@ -64,7 +66,8 @@ module _ (k : Known) (found : AreFoundByOwnNames k.root_symbol) where
   from_entries : (test : Parts → Bool) (info : ModuleInfo) → lookup test k.root_symbol.modules.entries ≡ Some info → IsFoundByName info
   from_entries test info e = let w = lookup_inside test k.root_symbol.modules.entries info e in found (w.0, info) w.1
 
-  from_either : (a b : Option ModuleInfo) (info : ModuleInfo) → (a ≡ Some info → IsFoundByName info) → (b ≡ Some info → IsFoundByName info) →
+  from_either : (a b : Option ModuleInfo) (info : ModuleInfo) → (a ≡ Some info → IsFoundByName info) →
+      (b ≡ Some info → IsFoundByName info) →
       option_or a b ≡ Some info → IsFoundByName info
   from_either (Some x) b info f g e = f e
   from_either None b info f g e = g e
@@ -72,7 +75,8 @@ module _ (k : Known) (found : AreFoundByOwnNames k.root_symbol) where
   no_module : {X : Type 0} (x : X) → None ≡ Some x → ⊥
   no_module x e = cc
 
-  from_alias : (o : Option Parts) (info : ModuleInfo) → option_and_then (module_named k.root_symbol.modules.entries) o ≡ Some info → IsFoundByName info
+  from_alias : (o : Option Parts) (info : ModuleInfo) → option_and_then (module_named k.root_symbol.modules.entries) o ≡ Some info →
+      IsFoundByName info
   from_alias None info e = absurd (no_module info e)
   from_alias (Some url) info e = from_entries (is_specifier url) info e
 
@@ -85,7 +89,8 @@ module _ (k : Known) (found : AreFoundByOwnNames k.root_symbol) where
   from_typed true t info e = from_name t info e
   from_typed false t info e = absurd (no_module info e)
 
-  from_node : (o : Option Module) (t : Text) (info : ModuleInfo) → option_and_then (typed_info k.root_symbol t) o ≡ Some info → IsFoundByName info
+  from_node : (o : Option Module) (t : Text) (info : ModuleInfo) → option_and_then (typed_info k.root_symbol t) o ≡ Some info →
+      IsFoundByName info
   from_node None t info e = absurd (no_module info e)
   from_node (Some m) t info e = from_typed (is_typed_module m) t info e
 
@@ -105,14 +110,17 @@ module _ (k : Known) (found : AreFoundByOwnNames k.root_symbol) where
 
   -- what of a module is public
 
-  own_at : (m : TracedModule) → IsFollowed m → (r : SourceRange) → Contains (table_ranges (own_tables m).symbols (own_tables m).re_exports) r →
+  own_at : (m : TracedModule) → IsFollowed m → (r : SourceRange) →
+      Contains (table_ranges (own_tables m).symbols (own_tables m).re_exports) r →
       IsOwnRange (named_at k.root_symbol (own_text m)) r
   own_at m h r c = subst (λ (o : Option ModuleInfo). IsOwnRange o r) (sym h) c
 
-  publics : (nv : Nv) (m : TracedModule) → IsFollowed m → (rs : List SourceRange) → AreTableRanges (own_tables m) rs → Each Q (public_at nv m rs)
+  publics : (nv : Nv) (m : TracedModule) → IsFollowed m → (rs : List SourceRange) → AreTableRanges (own_tables m) rs →
+      Each Q (public_at nv m rs)
   publics nv m h rs own = each_map Q (public nv (own_text m)) rs (λ r c. own_at m h r (own r c))
 
-  implementings : (nv : Nv) (m : TracedModule) → IsFollowed m → (rs : List SourceRange) → AreTableRanges (own_tables m) rs → Each Q (implementing_at nv m rs)
+  implementings : (nv : Nv) (m : TracedModule) → IsFollowed m → (rs : List SourceRange) → AreTableRanges (own_tables m) rs →
+      Each Q (implementing_at nv m rs)
   implementings nv m h rs own = each_map Q (implementing nv (own_text m)) rs (λ r c. own_at m h r (own r c))
 
   -- what else is given
@@ -129,7 +137,8 @@ module _ (k : Known) (found : AreFoundByOwnNames k.root_symbol) where
   all_placed nv t fs = each_map Q (placed_yield nv t) fs (λ f c. tt)
 
   all_faults_placed : (nv : Nv) (m : TracedModule) (fs : List Fault) → Each Q (faults_at nv m fs)
-  all_faults_placed nv m fs = each_flat Q (fault_yields nv m) fs (λ f _. all_placed nv (own_text m) (option_to_list (placed (source_in m) f)))
+  all_faults_placed nv m fs = each_flat Q (fault_yields nv m) fs
+      (λ f _. all_placed nv (own_text m) (option_to_list (placed (source_in m) f)))
 
   one_faulty : (nv : Nv) (t : Text) (f : ModuleFault) → Each Q (faulty_module nv t f)
   one_faulty nv t f = each_cons Q (recorded nv t) (faulty nv t f ∷ []) tt (each_one Q (faulty nv t f) tt)
@@ -137,7 +146,8 @@ module _ (k : Known) (found : AreFoundByOwnNames k.root_symbol) where
   -- by demands
 
   of_names : (nv : Nv) (t : Text) (d : NameDemand) (m : TracedModule) → IsFollowed m → Each Q (names_yields k nv t d m)
-  of_names nv t d m h = each_cons Q (recorded nv (own_text m)) (public_at nv m (re_export_ranges m d) ++ dependencies nv (names_wants k nv t d m)) tt
+  of_names nv t d m h =
+      each_cons Q (recorded nv (own_text m)) (public_at nv m (re_export_ranges m d) ++ dependencies nv (names_wants k nv t d m)) tt
       (each_append Q (public_at nv m (re_export_ranges m d)) (dependencies nv (names_wants k nv t d m))
       (publics nv m h (re_export_ranges m d) (own_demand m d)) (all_dependencies nv (names_wants k nv t d m)))
 

@@ -13,15 +13,16 @@ use Rattle.fast_check_traces.specs.Modules.{own_tables}
 use Rattle.fast_check_traces.specs.Roots.{roots}
 use Rattle.fast_check_traces.specs.Wants.{Want as ModuleWant, re_exported, answered, module_wants}
 use Rattle.fast_check_search.proofs.Each.{Each, each_nil, each_one, each_cons, each_append, each_map, each_flat, each_cond, each_each_of}
-use Rattle.fast_check_worklists.specs.Demands.{Text, Wanted, same_nv, asked_by, Want, to_package, to_module, to_symbol, of_package, of_module}
-use Rattle.fast_check_worklists.specs.Demands.{of_symbol}
+use Rattle.fast_check_worklists.specs.Demands.{Text, Wanted, same_nv, asked_by, Want, to_package, to_module, to_symbol, of_package}
+use Rattle.fast_check_worklists.specs.Demands.{of_module, of_symbol}
 use Rattle.fast_check_worklists.specs.State.{IsOuter}
 use Rattle.fast_check_worklists.specs.Turn.{IsOrderly}
 use Rattle.fast_check_entries.specs.findings.declared.finding.EntryFault.{EntryFault}
 use Rattle.fast_check_entries.specs.Entries.{Entrance, passed_over, refused, entered, all_faults, in_order}
 use Rattle.fast_check_steps.specs.Sources.{Known, module_at}
 use Rattle.fast_check_steps.specs.Wants.{file_at, behind, resolved, file_wants, left_wants}
-use Rattle.fast_check_turns.specs.Rules.{names_wants, symbol_wants, entry_want, unless_faulty, entrance_at, entered_wants, entry_wants, world}
+use Rattle.fast_check_turns.specs.Rules.{names_wants, symbol_wants, entry_want, unless_faulty, entrance_at, entered_wants, entry_wants}
+use Rattle.fast_check_turns.specs.Rules.{world}
 
 module _ (k : Known) where
   -- asked for from outside, under its own package
@@ -38,7 +39,8 @@ module _ (k : Known) where
   owned_file : (nv : Nv) (t : Text) (w : Wanted) (o : Option Nv) → k.owner t ≡ o → Each IsOwned (file_at nv t w o)
   owned_file nv t w None e = each_nil IsOwned
   owned_file nv t w (Some p) e =
-      each_cond IsOwned (same_nv nv p) (to_module p t w ∷ []) (to_package p ∷ []) (each_one IsOwned (to_module p t w) e) (each_one IsOwned (to_package p) tt)
+      each_cond IsOwned (same_nv nv p) (to_module p t w ∷ []) (to_package p ∷ []) (each_one IsOwned (to_module p t w) e)
+      (each_one IsOwned (to_package p) tt)
 
   owned_behind : (nv : Nv) (t : Text) (w : Wanted) (o : Option Nv) → k.owner t ≡ o → Each IsOwned (behind nv t w o)
   owned_behind nv t w None e = each_nil IsOwned
@@ -48,11 +50,13 @@ module _ (k : Known) where
 
   module _ (nv : Nv) (m : TracedModule) where
     pub owned_files : (f : FileDemand) → Each IsOwned (file_wants k nv m f)
-    owned_files f = each_each_of IsOwned (λ url. file_at nv (serialize url) (asked_by f.names) (k.owner (serialize url))) (resolved m f.text)
+    owned_files f = each_each_of IsOwned (λ url. file_at nv (serialize url) (asked_by f.names) (k.owner (serialize url)))
+        (resolved m f.text)
         (λ url e. owned_file nv (serialize url) (asked_by f.names) (k.owner (serialize url)) refl)
 
     pub owned_left : (v : ModuleWant) → Each IsOwned (left_wants k nv m v)
-    owned_left (re_exported text) = each_each_of IsOwned (λ url. behind nv (serialize url) (asked_by names_but_default) (k.owner (serialize url)))
+    owned_left (re_exported text) =
+        each_each_of IsOwned (λ url. behind nv (serialize url) (asked_by names_but_default) (k.owner (serialize url)))
         (resolved m text)
         (λ url e. owned_behind nv (serialize url) (asked_by names_but_default) (k.owner (serialize url)) refl)
     owned_left (answered url d) = owned_behind nv (serialize url) (asked_by d) (k.owner (serialize url)) refl

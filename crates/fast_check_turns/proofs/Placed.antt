@@ -21,14 +21,17 @@ abbrev placed_each : FaultSource → Fault → List PlacedFault
 placed_each m f = option_to_list (placed m f)
 
 -- of faults as the code has them
-pub placed_by : (m : TracedModule) (text : List ℕ) (specifier : Parts) (tables : Tables) → specifier ≡ specifier_of m.info.now → tables ≡ own_tables m →
+pub placed_by : (m : TracedModule) (text : List ℕ) (specifier : Parts) (tables : Tables) → specifier ≡ specifier_of m.info.now →
+    tables ≡ own_tables m →
     (fs : List SymbolFault) (found : List PlacedFault) →
     found ≡ flat_map (λ f. placed_each (record { specifier = specifier; text = text; symbols = tables.symbols }) (fault_seen f)) fs →
     found ≡ flat_map (placed_each (source_with m text)) (map fault_seen fs)
 placed_by m text specifier tables is of fs found r =
     let a = subst (λ (s : Parts). found ≡ flat_map (λ f. placed_each (record { specifier = s; text = text; symbols = tables.symbols })
     (fault_seen f)) fs) is r in
-    let b = subst (λ (t : Tables). found ≡ flat_map (λ f. placed_each (record { specifier = specifier_of m.info.now; text = text; symbols = t.symbols })
+    let b = subst
+    (λ (t : Tables). found ≡ flat_map
+    (λ f. placed_each (record { specifier = specifier_of m.info.now; text = text; symbols = t.symbols })
     (fault_seen f)) fs) of a in
     b ∙ sym (flat_mapped (placed_each (source_with m text)) fault_seen fs)
 

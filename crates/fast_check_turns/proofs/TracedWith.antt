@@ -41,7 +41,8 @@ module _ (k : Known) (nv : Nv) (m : TracedModule) (names : List WantedNames) whe
     account = subst (λ (rs : List SymbolDemand). IsSymbolAccount (own_tables m) rs a.0) (mapped (roots (own_tables m))) a.1;
     asked_files = found.files;
     found_files = a.2.outside;
-    wants_are = w ∙ ap (λ (vs : List ModuleWant). flat_map (file_wants k nv m) found.files ++ flat_map (left_wants k nv m) vs) (f ∙ mapped (module_wants m));
+    wants_are = w ∙ ap (λ (vs : List ModuleWant). flat_map (file_wants k nv m) found.files ++ flat_map (left_wants k nv m) vs)
+        (f ∙ mapped (module_wants m));
     declared = found.ranges.items;
     found_ranges = a.2.public;
     ranges_are = r ∙ ap (λ (rs : List SourceRange). found.ranges.items ++ rs) (e ∙ mapped (re_export_ranges m));

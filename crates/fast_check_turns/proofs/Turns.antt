@@ -1,6 +1,6 @@
 -- What a turn does, where there is nothing to follow or to enter, and where there is.
-use Rattle.std.proofs.Common.{◌≡◌, ◌∙◌, sym, ap, refl, subst, Bool, true, cond, not, ◌||◌, List, [], ◌++◌, Option, Some, None, map, option_map}
-use Rattle.std.proofs.Common.{⊎_elim}
+use Rattle.std.proofs.Common.{◌≡◌, ◌∙◌, sym, ap, refl, subst, Bool, true, cond, not, ◌||◌, List, [], ◌++◌, Option, Some, None, map}
+use Rattle.std.proofs.Common.{option_map, ⊎_elim}
 use Rattle.std.specs.List.{Contains}
 use Rattle.std.specs.Option.{option_and_then}
 use Rattle.std.proofs.lemmas.Bool.{cases_Bool}
@@ -30,17 +30,20 @@ none_some : {X : Type 0} (x : X) → None ≡ Some x → ⊥
 none_some x e = cc
 
 -- a module that is followed is not recorded as untyped
-typed_only : (k : Known) (nv : Nv) (t : Text) (info : ModuleInfo) → info_at k.graph k.root_symbol t ≡ Some info → untyped_yields k.graph nv t ≡ []
+typed_only : (k : Known) (nv : Nv) (t : Text) (info : ModuleInfo) → info_at k.graph k.root_symbol t ≡ Some info →
+    untyped_yields k.graph nv t ≡ []
 typed_only k nv t info e = go (node_at k.graph t) e
   where
-    go : (o : Option Module) → option_and_then (typed_info k.root_symbol t) o ≡ Some info → cond (is_untyped o) (faulty_module nv t untyped_module) [] ≡ []
+    go : (o : Option Module) → option_and_then (typed_info k.root_symbol t) o ≡ Some info →
+        cond (is_untyped o) (faulty_module nv t untyped_module) [] ≡ []
     go None e = refl
     go (Some m) e =
         ⊎_elim (λ h. ap (λ (b : Bool). cond (not (b || is_external m)) (faulty_module nv t untyped_module) []) h)
         (λ h. absurd (none_some info (sym (ap (λ (b : Bool). cond b (named_at k.root_symbol t) None) h) ∙ e)))
         (cases_Bool (is_typed_module m))
 
-module _ (k : Known) (x : Trace) (a b : State) (old new : List Yield) (none : info_at k.graph k.root_symbol x.specifier ≡ None) (same : b ≡ a)
+module _ (k : Known) (x : Trace) (a b : State) (old new : List Yield) (none : info_at k.graph k.root_symbol x.specifier ≡ None)
+    (same : b ≡ a)
     (more : new ≡ old ++ untyped_yields k.graph x.nv x.specifier) where
   abbrev alone : Followed
   alone = record { trace = x; symbols = [] }
@@ -52,11 +55,13 @@ module _ (k : Known) (x : Trace) (a b : State) (old new : List Yield) (none : in
   no_module = ap (option_map (traced_as k)) none
 
   -- of what the names of the trace have
-  by_names : {Y : Type 0} (f : Demand → List Y) (P : Y → Type 0) → ((d : NameDemand) → Each P (f (of_module x.nv x.specifier d))) → (d : Demand) →
+  by_names : {Y : Type 0} (f : Demand → List Y) (P : Y → Type 0) → ((d : NameDemand) → Each P (f (of_module x.nv x.specifier d))) →
+      (d : Demand) →
       HasIn alone d → Each P (f d)
   by_names f P h (of_package p) i y c = absurd i
   by_names {Y} f P h (of_module q t d) i y c =
-      h d y (subst (λ (r : Nv). Contains (f (of_module r x.specifier d)) y) (sym i.0) (subst (λ (u : Text). Contains (f (of_module q u d)) y) (sym i.1) c))
+      h d y (subst (λ (r : Nv). Contains (f (of_module r x.specifier d)) y) (sym i.0)
+      (subst (λ (u : Text). Contains (f (of_module q u d)) y) (sym i.1) c))
   by_names f P h (of_symbol q t s) i y c = absurd (Contains_none s i.2)
 
   no_want : (d : Demand) → HasIn alone d → (w : Want) → Contains (world k d) w → ⊥
@@ -65,7 +70,8 @@ module _ (k : Known) (x : Trace) (a b : State) (old new : List Yield) (none : in
 
   in_given : (d : Demand) → HasIn alone d → (y : Yield) → Contains (gives k d) y → Contains given y
   in_given = by_names (gives k) (λ y. Contains given y) (λ d y c. ⊎_elim
-      (λ l. absurd (Contains_none y (subst (λ (ys : List Yield). Contains ys y) (ap (each_of (names_yields k x.nv x.specifier d)) no_module) l)))
+      (λ l. absurd
+      (Contains_none y (subst (λ (ys : List Yield). Contains ys y) (ap (each_of (names_yields k x.nv x.specifier d)) no_module) l)))
       (λ r. r)
       (Contains-append_cases (each_of (names_yields k x.nv x.specifier d) (module_at k x.specifier)) given y c))
 
@@ -96,8 +102,10 @@ pub entered_at : (k : Known) (nv : Nv) (a b : State) (old new : List Yield) → 
 entered_at k nv a b old new h = record { steps = h.0; wants = h.1; asks = h.2; new_is = h.3 }
 
 pub followed_one : (k : Known) (x : Trace) (info : ModuleInfo) → info_at k.graph k.root_symbol x.specifier ≡ Some info → (steps : List Step)
-    (given : List Yield) → IsTracedFor k (traced_as k info) x (map want_of steps) given → (a b : State) → AsksAll steps a b → (old new : List Yield) →
+    (given : List Yield) → IsTracedFor k (traced_as k info) x (map want_of steps) given → (a b : State) → AsksAll steps a b →
+    (old new : List Yield) →
     new ≡ old ++ given → IsFollowed (world k) (gives k) x a b old new
 followed_one k x info e steps gift h a b asks old new is =
-    followed_there k x.nv x.specifier (traced_as k info) (ap (option_map (traced_as k)) e) (typed_only k x.nv x.specifier info e) x.exports h.names h.are_names
+    followed_there k x.nv x.specifier (traced_as k info) (ap (option_map (traced_as k)) e)
+    (typed_only k x.nv x.specifier info e) x.exports h.names h.are_names
     (map want_of steps) h.found h.traced steps a b old new refl asks (is ∙ ap (λ (ys : List Yield). old ++ ys) h.given_is)

@@ -15,17 +15,20 @@ use Rattle.fast_check_traces.specs.Roots.{roots}
 use Rattle.fast_check_traces.specs.Wants.{module_wants}
 use Rattle.fast_check_entries.specs.findings.declared.finding.EntryFault.{EntryFault}
 use Rattle.fast_check_entries.specs.Entries.{Entrance, passed_over, refused, entered, all_faults, entrance_of, in_order}
-use Rattle.fast_check_worklists.specs.Demands.{Text, asked_by, Want, to_package, to_module, to_symbol, of_package, of_module, of_symbol, World}
+use Rattle.fast_check_worklists.specs.Demands.{Text, asked_by, Want, to_package, to_module, to_symbol, of_package}
+use Rattle.fast_check_worklists.specs.Demands.{of_module, of_symbol, World}
 use Rattle.fast_check_steps.specs.Sources.{Used, Known, module_at}
 use Rattle.fast_check_steps.specs.Wants.{file_wants, left_wants}
 
 -- names of a module, for a package
 abbrev pub names_wants : Known → Nv → Text → NameDemand → TracedModule → List Want
-names_wants k nv t d m = map (to_symbol nv t) (roots (own_tables m) d) ++ flat_map (left_wants k nv m) (module_wants m d)
+names_wants k nv t d m = map (to_symbol nv t) (roots (own_tables m) d) ++ flat_map (left_wants k nv m)
+    (module_wants m d)
 
 -- a demand of a symbol of the module
 abbrev pub symbol_wants : Known → Nv → Text → SymbolDemand → TracedModule → List Want
-symbol_wants k nv t s m = map (to_symbol nv t) (names (own_tables m) s) ++ flat_map (file_wants k nv m) (files (own_tables m) s)
+symbol_wants k nv t s m = map (to_symbol nv t) (names (own_tables m) s) ++ flat_map (file_wants k nv m)
+    (files (own_tables m) s)
 
 -- all names of an entry point
 abbrev pub entry_want : Nv → Parts → Want
@@ -39,7 +42,8 @@ unless_faulty (f ∷ faults) wants = []
 abbrev pub entrance_at : Known → Nv → Entrance
 entrance_at k nv = entrance_of k.graph k.workspace_members k.url_of nv
 
--- a package whose item is used asks for its dependencies; another for its entry points, unless something is wrong with one of them
+-- a package whose item is used asks for its dependencies; another for its entry points, unless something is wrong with
+-- one of them
 abbrev pub entered_wants : ModuleGraph → Nv → List Parts → Option ItemView → List Want
 entered_wants g nv urls (Some item) = map to_package item.0
 entered_wants g nv urls None = unless_faulty (all_faults g urls) (map (entry_want nv) urls)

@@ -25,12 +25,14 @@ use Rattle.fast_check_steps.specs.Wants.{file_wants, left_wants}
 use Rattle.fast_check_turns.specs.Yields.{own_text, source_in, dependencies}
 
 -- an account of demands of symbols, what these ask of files, what names of the module ask of others, and what is found
-pub record IsTraced (k : Known) (nv : Nv) (m : TracedModule) (names : List NameDemand) (wants : List Want) (found : FoundModule) : Type 0 where
+pub record IsTraced (k : Known) (nv : Nv) (m : TracedModule) (names : List NameDemand) (wants : List Want)
+    (found : FoundModule) : Type 0 where
   pub symbols : List SymbolDemand
   pub account : IsSymbolAccount (own_tables m) (flat_map (roots (own_tables m)) names) symbols
   pub asked_files : List FileDemand
   pub found_files : IsSymbolYield (files (own_tables m)) symbols asked_files
-  pub wants_are : wants ≡ flat_map (file_wants k nv m) asked_files ++ flat_map (left_wants k nv m) (flat_map (module_wants m) names)
+  pub wants_are : wants ≡ flat_map (file_wants k nv m) asked_files ++ flat_map (left_wants k nv m)
+      (flat_map (module_wants m) names)
   pub declared : List SourceRange
   pub found_ranges : IsSymbolYield (ranges (own_tables m)) symbols declared
   pub ranges_are : found.ranges.items ≡ declared ++ flat_map (re_export_ranges m) names
@@ -40,7 +42,8 @@ pub record IsTraced (k : Known) (nv : Nv) (m : TracedModule) (names : List NameD
   pub faults_are : map placed_in found.faults.items ≡ flat_map (λ f. option_to_list (placed (source_in m) f)) faulty
 
 -- the same for the names of a trace, with what is given
-pub record IsTracedFor (k : Known) (m : TracedModule) (x : Trace) (wants : List Want) (given : List Yield) : Type 0 where
+pub record IsTracedFor (k : Known) (m : TracedModule) (x : Trace) (wants : List Want)
+    (given : List Yield) : Type 0 where
   pub names : List NameDemand
   pub are_names : AreDemands x.exports names
   pub found : FoundModule

@@ -16,7 +16,8 @@ use Rattle.fast_check_turns.specs.Yields.{entered_yields, entry_yields}
 
 -- these wants were asked for, and these yields were told
 abbrev pub AsksAndTells : List Want → List Yield → State → State → List Yield → List Yield → Type 0
-AsksAndTells wants told a b old new = (steps : List Step) × (map want_of steps ≡ wants) × AsksAll steps a b × (new ≡ old ++ told)
+AsksAndTells wants told a b old new = (steps : List Step) × (map want_of steps ≡ wants) × AsksAll steps a b ×
+    (new ≡ old ++ told)
 
 -- what a package with these entry points asks for was asked for, and what it gives was told
 abbrev pub EntersAt : ModuleGraph → Nv → List Parts → Option ItemView → State → State → List Yield → List Yield → Type 0

@@ -18,10 +18,11 @@ use Rattle.fast_check_entries.specs.findings.Faults.{FaultSource, placed}
 use Rattle.fast_check_traces.specs.declared.modules.TracedModule.{TracedModule}
 use Rattle.fast_check_traces.specs.Modules.{own_tables}
 use Rattle.fast_check_traces.specs.Wants.{re_export_ranges}
-use Rattle.fast_check_worklists.specs.Demands.{Text, Want, to_package, to_module, to_symbol, Demand, of_package, of_module, of_symbol}
+use Rattle.fast_check_worklists.specs.Demands.{Text, Want, to_package, to_module, to_symbol, Demand, of_package}
+use Rattle.fast_check_worklists.specs.Demands.{of_module, of_symbol}
 use Rattle.fast_check_entries.specs.findings.declared.finding.EntryFault.{EntryFault}
-use Rattle.fast_check_entries.specs.findings.Yields.{Yield, known_package, entry_point, refused_export, dependency, recorded, public, implementing, untyped_module}
-use Rattle.fast_check_entries.specs.findings.Yields.{kept}
+use Rattle.fast_check_entries.specs.findings.Yields.{Yield, known_package, entry_point, refused_export, dependency}
+use Rattle.fast_check_entries.specs.findings.Yields.{recorded, public, implementing, untyped_module, kept}
 use Rattle.fast_check_entries.specs.findings.Findings.{faulty_module, entry_fault, placed_yields}
 use Rattle.fast_check_entries.specs.Entries.{Entrance, passed_over, refused, entered, all_faults, in_order}
 use Rattle.fast_check_steps.specs.Sources.{Used, Known, module_at, untyped_at}
@@ -47,7 +48,8 @@ abbrev pub implementing_at : Nv → TracedModule → List SourceRange → List Y
 implementing_at nv m found = map (implementing nv (own_text m)) found
 
 abbrev pub names_yields : Known → Nv → Text → NameDemand → TracedModule → List Yield
-names_yields k nv t d m = recorded nv (own_text m) ∷ (public_at nv m (re_export_ranges m d) ++ dependencies nv (names_wants k nv t d m))
+names_yields k nv t d m = recorded nv (own_text m) ∷ (public_at nv m (re_export_ranges m d) ++ dependencies nv
+    (names_wants k nv t d m))
 
 -- the source text of a module; one of JSON has none
 abbrev pub text_of : ModuleInfo → List ℕ
@@ -85,7 +87,8 @@ entry_fault_yields nv f = faulty_module nv (serialize f.0) (entry_fault f.1)
 abbrev pub entered_yields : ModuleGraph → Nv → List Parts → Option ItemView → List Yield
 entered_yields g nv urls (Some item) = kept nv (in_order urls) item ∷ []
 entered_yields g nv urls None =
-    known_package nv ∷ (map (λ url. entry_point nv (serialize url)) urls ++ flat_map (entry_fault_yields nv) (all_faults g urls))
+    known_package nv ∷
+    (map (λ url. entry_point nv (serialize url)) urls ++ flat_map (entry_fault_yields nv) (all_faults g urls))
 
 abbrev pub entry_yields : ModuleGraph → Used → Nv → Entrance → List Yield
 entry_yields g used nv passed_over = []

@@ -12,7 +12,8 @@ use Rattle.fast_check_expression_forms.specs.Patterns.{assign_pat}
 use Rattle.fast_check_signatures.specs.declared.fault.FaultKind.TheVariants.{MissingExplicitType}
 use Rattle.fast_check_signatures.specs.Seen.{Seen, DefaultHead}
 use Rattle.fast_check_signatures.specs.Functions.{param_seen}
-use Rattle.fast_check_signatures.specs.Answers.{Answer, Adds, answer_to, faultless, joined, visited, with_tree, demanded, default_answer, fault_at}
+use Rattle.fast_check_signatures.specs.Answers.{Answer, Adds, answer_to, faultless, joined, visited, with_tree, demanded, default_answer}
+use Rattle.fast_check_signatures.specs.Answers.{fault_at}
 use Rattle.fast_check_signatures.proofs.Adding.{adds_made, adds_nothing, adds_visited}
 
 pub record Behind {A : Type 0} (put : A → A) (all rest : Answer A) (old new : List Fault) : Type 0 where
@@ -24,7 +25,8 @@ pub record Behind {A : Type 0} (put : A → A) (all rest : Answer A) (old new : 
 abbrev pub behind : List Tree → Option (List Tree) → Option (List Tree)
 behind items more = option_map (λ ts. items ++ ts) more
 
-pub behind_along : {A : Type 0} {put : A → A} {all first rest : Answer A} {old new : List Fault} → first ≡ rest → Behind put all first old new →
+pub behind_along : {A : Type 0} {put : A → A} {all first rest : Answer A} {old new : List Fault} → first ≡ rest →
+    Behind put all first old new →
     Behind put all rest old new
 behind_along {put = put} e h = record {
   added = h.added;
@@ -61,13 +63,16 @@ none_behind None = refl
 none_behind (Some ts) = refl
 
 pub parts_start : (all : Answer (Option (List Tree))) (old : List Fault) → Behind (behind []) all all old old
-parts_start all old = record { added = []; is = λ i. record { stays = none_behind all.stays i; faults = all.faults }; faults = sym (append-nil old) }
+parts_start all old =
+    record { added = []; is = λ i. record { stays = none_behind all.stays i; faults = all.faults }; faults = sym (append-nil old) }
 
-one_behind : (items : List Tree) (t : Tree) (o : Option (List Tree)) → behind items (option_map (λ ts. t ∷ ts) o) ≡ behind (items ++ t ∷ []) o
+one_behind : (items : List Tree) (t : Tree) (o : Option (List Tree)) →
+    behind items (option_map (λ ts. t ∷ ts) o) ≡ behind (items ++ t ∷ []) o
 one_behind items t None = refl
 one_behind items t (Some ts) = ap Some (sym (append_assoc items (t ∷ []) ts))
 
-pub parts_step : (items : List Tree) (t : Tree) {all : Answer (Option (List Tree))} (a : Answer (Option Tree)) (rest : Answer (Option (List Tree)))
+pub parts_step : (items : List Tree) (t : Tree) {all : Answer (Option (List Tree))} (a : Answer (Option Tree))
+    (rest : Answer (Option (List Tree)))
     {old mid new : List Fault} →
     Behind (behind items) all (visited a rest) old mid → Adds a (Some t) mid new → Behind (behind (items ++ t ∷ [])) all rest old new
 parts_step items t a rest h g = steps (visited a rest) g.added h (ap (λ x. (visited x rest).faults) g.is)
@@ -82,7 +87,8 @@ parts_refused items a rest {old = old} h g = record {
   faults = g.faults ∙ (ap (λ gs. gs ++ g.added) h.faults ∙ append_assoc old h.added g.added);
 }
 
-pub parts_end : (items : List Tree) {all : Answer (Option (List Tree))} {old new : List Fault} → Behind (behind items) all (faultless (Some [])) old new →
+pub parts_end : (items : List Tree) {all : Answer (Option (List Tree))} {old new : List Fault} →
+    Behind (behind items) all (faultless (Some [])) old new →
     Adds all (Some items) old new
 parts_end items h = record {
   added = h.added;
@@ -95,8 +101,10 @@ parts_end items h = record {
 pub items_start : (all : Answer (List Tree)) (old : List Fault) → Behind (λ ts. [] ++ ts) all all old old
 items_start all old = record { added = []; is = refl; faults = sym (append-nil old) }
 
-pub items_step : (items : List Tree) (t : Tree) {all : Answer (List Tree)} (a : Answer (Option Tree)) (rest : Answer (List Tree)) {old mid new : List Fault} →
-    Behind (λ ts. items ++ ts) all (joined with_tree a rest) old mid → Adds a (Some t) mid new → Behind (λ ts. (items ++ t ∷ []) ++ ts) all rest old new
+pub items_step : (items : List Tree) (t : Tree) {all : Answer (List Tree)} (a : Answer (Option Tree))
+    (rest : Answer (List Tree)) {old mid new : List Fault} →
+    Behind (λ ts. items ++ ts) all (joined with_tree a rest) old mid → Adds a (Some t) mid new →
+    Behind (λ ts. (items ++ t ∷ []) ++ ts) all rest old new
 items_step items t a rest h g = steps (joined with_tree a rest) g.added h (ap (λ x. x.faults ++ rest.faults) g.is)
     (ap (λ x. items ++ with_tree x.stays rest.stays) g.is ∙ sym (append_assoc items (t ∷ []) rest.stays)) g.faults
 
@@ -104,7 +112,8 @@ pub trees_are : {items more : List Tree} {all rest : Answer (List Tree)} {old ne
     Behind (λ ts. items ++ ts) all rest old new → Behind (λ ts. more ++ ts) all rest old new
 trees_are {all = all} {rest = rest} {old = old} {new = new} e h = subst (λ items. Behind (λ ts. items ++ ts) all rest old new) e h
 
-pub items_end : (items : List Tree) {all : Answer (List Tree)} {old new : List Fault} → Behind (λ ts. items ++ ts) all (faultless []) old new →
+pub items_end : (items : List Tree) {all : Answer (List Tree)} {old new : List Fault} →
+    Behind (λ ts. items ++ ts) all (faultless []) old new →
     Adds all items old new
 items_end items h = record {
   added = h.added;
@@ -125,7 +134,8 @@ param_added p s {old = old} {new = new} h =
 
 -- ---- a pattern with a default that has to stay
 
-pub default_made : {E : Type 0} (made : Result Tree E) (d : DefaultHead) (value : Answer (Option Tree)) {right : Tree} (old new : List Fault) →
+pub default_made : {E : Type 0} (made : Result Tree E) (d : DefaultHead) (value : Answer (Option Tree)) {right : Tree}
+    (old new : List Fault) →
     Adds (demanded (fault_at MissingExplicitType d.place) value) right old new → IfOk made (λ t. t ≡ assign_pat d.span d.left right) →
     IfOk made (λ t. Adds (default_answer d value) (Some t) old new)
 default_made made d value {right} old new h = IfOk-weaker made _ _ go

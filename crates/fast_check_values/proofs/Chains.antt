@@ -16,7 +16,8 @@ use Rattle.fast_check_values.specs.Looked.{patterns, IsStartOfParams}
 use denote.Param.Members.{Mut}
 use denote.Ref.{Bor}
 
-pub mapped_slice : {A F R C : Type 0} {g : Mut F (Bor A × Unit {0}) R} (s : Map (Iter A) F) (items : List R) → Drains (maps fronts g) s items →
+pub mapped_slice : {A F R C : Type 0} {g : Mut F (Bor A × Unit {0}) R} (s : Map (Iter A) F) (items : List R) →
+    Drains (maps fronts g) s items →
     (w : R → C) (h : A → C) (xs : List A) → iter_rest (map_source s) ≡ xs →
     ((x : Bor A) (r : R) (q : F) → Called g (map_callee s) (x, tt) r q → (q ≡ map_callee s) × (w r ≡ h x.now)) →
     map w items ≡ map h xs

@@ -8,7 +8,8 @@ use Rattle.fast_check_syntax.specs.declared.source.SyntaxContext.{SyntaxContext}
 use Rattle.fast_check_syntax.specs.declared.tree.Tree.{Tree}
 use Rattle.fast_check_syntax.specs.Shape.{◌is◌, kind_of, is_absent}
 use Rattle.fast_check_class_forms.specs.Functions.{Param-pat}
-use Rattle.fast_check_expression_forms.specs.Expressions.{ArrowExpr-body, ArrowExpr-is_async, ArrowExpr-is_generator, ArrowExpr-return_type}
+use Rattle.fast_check_expression_forms.specs.Expressions.{ArrowExpr-body, ArrowExpr-is_async, ArrowExpr-is_generator}
+use Rattle.fast_check_expression_forms.specs.Expressions.{ArrowExpr-return_type}
 use Rattle.fast_check_helpers.specs.declared.literal_type.DeclMutabilityKind.TheVariants.{Mutable}
 use Rattle.fast_check_helpers.specs.Builders.{type_ann}
 use Rattle.fast_check_helpers.specs.InferredType.{inferred_type}
@@ -28,7 +29,8 @@ patterns params = map (λ p. Param-pat p) params
 
 -- a start says of the place of each parameter whether all from there on may be left out
 abbrev pub IsStartOfParams : Option ℕ → List Tree → Type 0
-IsStartOfParams start params = (place : ℕ) → place < length params → is_from start place ≡ list_all is_optional_param (patterns (drop place params))
+IsStartOfParams start params = (place : ℕ) → place < length params →
+    is_from start place ≡ list_all is_optional_param (patterns (drop place params))
 
 -- what is seen of the parameters of a function
 abbrev pub params_looked : Bindings → List Tree → List Seen
@@ -39,8 +41,10 @@ abbrev pub known_type : SyntaxContext → SourceRange → Tree → Option Seen
 known_type unresolved place t =
     let body = ArrowExpr-body t in
     if is_absent (ArrowExpr-return_type t) then
-    (if kind_of body is BlockStmt then Some (body_seen unresolved ExpressionLike (ArrowExpr-is_async t) (ArrowExpr-is_generator t) place body)
-    else option_map (λ type. written (type_ann (promised unresolved (ArrowExpr-is_async t) type))) (inferred_type Mutable unresolved body))
+    (if kind_of body is BlockStmt then Some
+    (body_seen unresolved ExpressionLike (ArrowExpr-is_async t) (ArrowExpr-is_generator t) place body)
+    else option_map (λ type. written (type_ann (promised unresolved (ArrowExpr-is_async t) type)))
+    (inferred_type Mutable unresolved body))
     else Some (written (ArrowExpr-return_type t))
 
 abbrev pub known_answer : Option Seen → Answer (Option Tree)

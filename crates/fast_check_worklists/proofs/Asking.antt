@@ -50,7 +50,8 @@ plain_asked (Subset s) (whole_at p) h = refl
 
 widened_wide : (old new : ImportedExports) (d : NameDemand) → IsWidened old new d → IsWide old new d
 widened_wide old new d w = record {
-  widens_to = ⊎_elim (λ e. inl (subst (λ (c : NameDemand). asked_by (whole_at (default_name ∷ [])) c ≡ true) (sym e) whole_default)) (λ e. inr e) w.widens_to;
+  widens_to = ⊎_elim (λ e. inl (subst (λ (c : NameDemand). asked_by (whole_at (default_name ∷ [])) c ≡ true) (sym e) whole_default))
+      (λ e. inr e) w.widens_to;
   star = w.star;
   default = w.default;
 }
@@ -82,7 +83,8 @@ empty_new (Subset o) Star answer state s a e =
     (cases_Bool (has_subset (paths o) (default_name ∷ [])))
 
 module _ (old new : ImportedExports) (answer : Option ImportedExports) (state : ImportedExports) (a : IsAdded old new answer state) where
-  plain_new : (y : ImportedExports) → answer ≡ Some y → (d : NameDemand) → IsPlain d → asked y d ≡ true → (asked new d ≡ true) ⊎ IsWide old new d
+  plain_new : (y : ImportedExports) → answer ≡ Some y → (d : NameDemand) → IsPlain d → asked y d ≡ true → (asked new d ≡ true) ⊎
+      IsWide old new d
   plain_new y e d p h =
       ⊎_elim (λ t. inl (plain_asked new d p ∙ t)) (λ w. inr (widened_wide old new d w)) (a.of_new y e d (sym (plain_asked y d p) ∙ h))
 
@@ -105,19 +107,22 @@ module _ (old new : ImportedExports) (answer : Option ImportedExports) (state : 
       (a.of_either d (sym (plain_asked state d p) ∙ h))
 
 -- a set that has what another form has is asked for beside a set
-set_old : (old : ImportedExports) (s : NamedSubset) (new : ImportedExports) (answer : Option ImportedExports) → IsAdded old new answer (Subset s) → asked old
+set_old : (old : ImportedExports) (s : NamedSubset) (new : ImportedExports) (answer : Option ImportedExports) →
+    IsAdded old new answer (Subset s) → asked old
     (subset_at []) ≡ true
 set_old Star s new answer a = absurd (not_all s a.form.above_old)
 set_old StarWithDefault s new answer a = absurd (not_all s (λ part p t. a.form.above_old part p (star_below_all part p t)))
 set_old (Subset o) s new answer a = refl
 
-pub asked_either : (old new : ImportedExports) (answer : Option ImportedExports) (state : ImportedExports) → IsAdded old new answer state → (d : NameDemand) →
+pub asked_either : (old new : ImportedExports) (answer : Option ImportedExports) (state : ImportedExports) → IsAdded old new answer state →
+    (d : NameDemand) →
     asked state d ≡ true → (asked old d || asked new d ≡ true) ⊎ IsWide old new d
 asked_either old new answer state a names_but_default h = plain_either old new answer state a names_but_default tt h
 asked_either old new answer state a each_name h = plain_either old new answer state a each_name tt h
 asked_either old new answer Star a (subset_at []) h = absurd (false≢true h)
 asked_either old new answer StarWithDefault a (subset_at []) h = absurd (false≢true h)
-asked_either old new answer (Subset s) a (subset_at []) h = inl (or_left (asked old (subset_at [])) (asked new (subset_at [])) (set_old old s new answer a))
+asked_either old new answer (Subset s) a (subset_at []) h =
+    inl (or_left (asked old (subset_at [])) (asked new (subset_at [])) (set_old old s new answer a))
 asked_either old new answer state a (subset_at (n ∷ q)) h = plain_either old new answer state a (subset_at (n ∷ q)) tt h
 asked_either old new answer state a (whole_at q) h = plain_either old new answer state a (whole_at q) tt h
 

@@ -24,7 +24,8 @@ any_alike f g h [] = refl
 any_alike f g h (x ∷ xs) = ap (λ (b : Bool). b || list_any f xs) (h x) ∙ ap (λ (b : Bool). g x || b) (any_alike f g h xs)
 
 -- a package that is inserted into a set stands there once, where the set's test goes by name and version
-pub inserted : (eq : PackageNv → PackageNv → Bool) → ((a b : PackageNv) → eq a b ≡ same_nv (nv_of a) (nv_of b)) → (nv : PackageNv) (xs new : List PackageNv) →
+pub inserted : (eq : PackageNv → PackageNv → Bool) → ((a b : PackageNv) → eq a b ≡ same_nv (nv_of a) (nv_of b)) →
+    (nv : PackageNv) (xs new : List PackageNv) →
     new ≡ cond (list_any (eq nv) xs) xs (xs ++ nv ∷ []) → AddsPackage (nv_of nv) (map nv_of xs) (map nv_of new)
 inserted eq ties nv xs new is = ap (map nv_of) is ∙ go (list_any (eq nv) xs) ∙
     ap (λ (b : Bool). cond b (map nv_of xs) (map nv_of xs ++ nv_of nv ∷ []))

@@ -1,5 +1,6 @@
 -- The packages that are handed in.
-use Rattle.std.proofs.Common.{◌≡◌, ◌∙◌, sym, ap, refl, subst, ℕ, ◌+◌, ◌<◌, Bool, true, false, cond, List, [], ◌∷◌, ◌++◌, map, length, take, get_or, ⊎_elim}
+use Rattle.std.proofs.Common.{◌≡◌, ◌∙◌, sym, ap, refl, subst, ℕ, ◌+◌, ◌<◌, Bool, true, false, cond, List, [], ◌∷◌, ◌++◌, map, length, take}
+use Rattle.std.proofs.Common.{get_or, ⊎_elim}
 use Rattle.std.specs.List.{list_any, Contains, IsDistinct}
 use Rattle.std.specs.Cmp.{eq_by_cmp_equiv}
 use Rattle.std.proofs.lemmas.Bool.{cases_Bool, or_left, or_right}
@@ -21,7 +22,8 @@ by_cases : (p : Nv) (old new : List Nv) (P : List Nv → Type 0) → AddsPackage
     (list_any (same_nv p) old ≡ false → P (old ++ p ∷ [])) → P new
 by_cases p old new P h f g =
     subst P (sym h)
-    (⊎_elim (λ t. subst (λ (c : Bool). P (cond c old (old ++ p ∷ []))) (sym t) (f t)) (λ n. subst (λ (c : Bool). P (cond c old (old ++ p ∷ []))) (sym n) (g n))
+    (⊎_elim (λ t. subst (λ (c : Bool). P (cond c old (old ++ p ∷ []))) (sym t) (f t))
+    (λ n. subst (λ (c : Bool). P (cond c old (old ++ p ∷ []))) (sym n) (g n))
     (cases_Bool (list_any (same_nv p) old)))
 
 pub distinct_more : (p : Nv) (old new : List Nv) → AddsPackage p old new → IsDistinct same_nv old → IsDistinct same_nv new
@@ -46,12 +48,14 @@ begun_one rs nv a b g asks = record {
       (λ e. subst (Contains (rs ++ nv_of nv ∷ [])) e (Contains-push rs (nv_of nv))) (Contains-push_cases a.packages (nv_of nv) p c));
   has_roots = λ p c.
       by_cases (nv_of nv) a.packages b.packages (λ ps. list_any (same_nv p) ps ≡ true) asks.2
-      (λ t. ⊎_elim (λ l. g.has_roots p l) (λ e. subst (λ (q : Nv). list_any (same_nv q) a.packages ≡ true) e t) (Contains-push_cases rs (nv_of nv) p c))
+      (λ t. ⊎_elim (λ l. g.has_roots p l) (λ e. subst (λ (q : Nv). list_any (same_nv q) a.packages ≡ true) e t)
+      (Contains-push_cases rs (nv_of nv) p c))
       (λ n.
       list_any-append (same_nv p) a.packages (nv_of nv ∷ [])
       ∙ ⊎_elim (λ l. or_left (list_any (same_nv p) a.packages) (list_any (same_nv p) (nv_of nv ∷ [])) (g.has_roots p l))
       (λ e. or_right (list_any (same_nv p) a.packages) (list_any (same_nv p) (nv_of nv ∷ []))
-      (or_left (same_nv p (nv_of nv)) false (subst (λ (q : Nv). same_nv q (nv_of nv) ≡ true) e ((eq_by_cmp_equiv nv_total).refl (nv_of nv)))))
+      (or_left (same_nv p (nv_of nv)) false
+      (subst (λ (q : Nv). same_nv q (nv_of nv) ≡ true) e ((eq_by_cmp_equiv nv_total).refl (nv_of nv)))))
       (Contains-push_cases rs (nv_of nv) p c));
   distinct = distinct_more (nv_of nv) a.packages b.packages asks.2 g.distinct;
 }
@@ -60,6 +64,7 @@ pub begun_more : (roots : List PackageNv) (i : ℕ) (root : PackageNv) (nv : Pac
     (get_or roots i root) → IsBegun (map nv_of (take i roots)) a → AsksPackage nv a b → IsBegun (map nv_of (take (i + 1) roots)) b
 begun_more roots i root nv a b lt is g asks =
     let front : map nv_of (take (i + 1) roots) ≡ map nv_of (take i roots) ++ nv_of nv ∷ [] =
-    ap (map nv_of) (take_more roots i root lt) ∙ (map_last nv_of (take i roots) (get_or roots i root) ∙ ap (λ (p : Nv). map nv_of (take i roots) ++ p ∷ [])
+    ap (map nv_of) (take_more roots i root lt) ∙
+    (map_last nv_of (take i roots) (get_or roots i root) ∙ ap (λ (p : Nv). map nv_of (take i roots) ++ p ∷ [])
     (sym is)) in
     subst (λ (rs : List Nv). IsBegun rs b) (sym front) (begun_one (map nv_of (take i roots)) nv a b g asks)

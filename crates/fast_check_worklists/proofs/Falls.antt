@@ -1,5 +1,6 @@
 -- What can be new and what waits together don't grow.
-use Rattle.std.proofs.Common.{◌≡◌, sym, ap, refl, subst, ℕ, ◌+◌, ◌<◌, ◌≤◌, true, List, [], ◌∷◌, Option, Some, None, length, ⊎_elim, arith, length-append}
+use Rattle.std.proofs.Common.{◌≡◌, sym, ap, refl, subst, ℕ, ◌+◌, ◌<◌, ◌≤◌, true, List, [], ◌∷◌, Option, Some, None, length, ⊎_elim, arith}
+use Rattle.std.proofs.Common.{length-append}
 use Rattle.std.specs.Map.{lookup}
 use Rattle.std.specs.List.{IsDistinct}
 use Rattle.std.specs.Str.{bytes_eq}
@@ -40,7 +41,8 @@ none_some x e = cc
 -- the same handled modules have the same ranks
 pub ranks_same : (u : Universe) (a b : State) → b.handled ≡ a.handled → ranks u b ≡ ranks u a
 unfolding ranks
-ranks_same u a b e = ap (λ (hs : List (Parts × ImportedExports)). ranks u (record { handled = hs; waiting = a.waiting; packages = a.packages })) e
+ranks_same u a b e =
+    ap (λ (hs : List (Parts × ImportedExports)). ranks u (record { handled = hs; waiting = a.waiting; packages = a.packages })) e
 
 pub falls_package : (u : Universe) (nv : PackageNv) (a b : State) → AsksPackage nv a b → Falls u a b
 falls_package u nv a b asks = record {
@@ -48,7 +50,8 @@ falls_package u nv a b asks = record {
   distinct = λ d. distinct_more (nv_of nv) a.packages b.packages asks.2 d;
 }
 
-module _ (world : World) (roots : List Nv) (u : Universe) (is : IsUniverse world roots u) (home : Text → Option Nv) (done : List Trace) (a b : State)
+module _ (world : World) (roots : List Nv) (u : Universe) (is : IsUniverse world roots u) (home : Text → Option Nv) (done : List Trace)
+    (a b : State)
     (kept : IsKept world roots home done a) (nv : PackageNv) (url : Parts) (x : ImportedExports) (asks : AsksModule nv url x a b)
     (chain : (d : NameDemand) → asked x d ≡ true → Chained world roots (of_module (nv_of nv) (serialize url) d))
     (homely : IsHomely home (nv_of nv) (serialize url) x) where
@@ -78,16 +81,19 @@ module _ (world : World) (roots : List Nv) (u : Universe) (is : IsUniverse world
   here_le None e = omega (arith, rank_some u.paths k.state)
   here_le (Some h) e = rank_le u.paths h k.state (k.above_old h e)
 
-  here_less : (y : ImportedExports) → answer ≡ Some y → (o : Option ImportedExports) → handled_at a t ≡ o → rank u.paths (Some k.state) < rank u.paths o
+  here_less : (y : ImportedExports) → answer ≡ Some y → (o : Option ImportedExports) → handled_at a t ≡ o →
+      rank u.paths (Some k.state) < rank u.paths o
   here_less y at None e = rank_some u.paths k.state
   here_less y at (Some h) e =
       rank_falls u.paths h y k.state (k.above_old h e) (k.answer_below y at) (k.progress y at h e)
-      (λ d g. (inside world roots u is (of_module (nv_of nv) t d) (chain_new world roots home done a b kept nv url x asks chain homely y at d g)).1)
+      (λ d g. (inside world roots u is (of_module (nv_of nv) t d)
+      (chain_new world roots home done a b kept nv url x asks chain homely y at d g)).1)
 
   each_le : (q : Text) → after q ≤ before q
   each_le q =
       ⊎_elim
-      (λ same. subst (λ (u : Text). after u ≤ before u) ((bytes_eq-Decides t q).0 same) (omega (arith, at_state, here_le (handled_at a t) refl)))
+      (λ same. subst (λ (u : Text). after u ≤ before u) ((bytes_eq-Decides t q).0 same)
+      (omega (arith, at_state, here_le (handled_at a t) refl)))
       (λ other. omega (arith, ap (rank u.paths) (k.others q other)))
       (cases_Bool (bytes_eq t q))
 
@@ -109,6 +115,7 @@ module _ (world : World) (roots : List Nv) (u : Universe) (is : IsUniverse world
   pub falls_module : Falls u a b
   falls_module = record { less = go answer refl asks.1.2; distinct = λ d. subst (IsDistinct same_nv) (sym asks.0) d }
     where
-      go : (o : Option ImportedExports) → answer ≡ o → WaitsFor nv url o a.waiting b.waiting → ranks u b + length b.waiting ≤ ranks u a + length a.waiting
+      go : (o : Option ImportedExports) → answer ≡ o → WaitsFor nv url o a.waiting b.waiting →
+          ranks u b + length b.waiting ≤ ranks u a + length a.waiting
       go None e h = omega (arith, ranks_le, ap length h)
       go (Some y) e h = omega (arith, ranks_less y e, waits_one y (lookup (is_module url) a.waiting) h)

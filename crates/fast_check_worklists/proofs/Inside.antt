@@ -8,7 +8,8 @@ use Rattle.fast_check_packages.specs.Package.{Nv}
 use Rattle.fast_check_names.specs.Names.{Name, Path, whole_path, has_whole}
 use Rattle.fast_check_names.specs.Imports.{default_name, NameDemand, names_but_default, each_name, subset_at, whole_at}
 use Rattle.fast_check_demands.specs.Demands.{Demand as SymbolDemand}
-use Rattle.fast_check_worklists.specs.Demands.{asked_by, Want, to_package, to_module, to_symbol, Demand, of_package, of_module, of_symbol, World, Gives}
+use Rattle.fast_check_worklists.specs.Demands.{asked_by, Want, to_package, to_module, to_symbol, Demand, of_package, of_module, of_symbol}
+use Rattle.fast_check_worklists.specs.Demands.{World, Gives}
 use Rattle.fast_check_worklists.specs.Account.{Chained, root, step, widen}
 use Rattle.fast_check_worklists.specs.Measure.{Universe, IsWithin, IsPathWithin, IsInside, IsWantInside, IsUniverse}
 use Rattle.fast_check_worklists.proofs.Single.{whole_covered}

@@ -1,6 +1,6 @@
 -- What holds is kept as names of a module and packages are asked for.
-use Rattle.std.proofs.Common.{◌≡◌, ◌∙◌, sym, ap, refl, subst, ◌≤◌, Bool, true, false, cond, ◌&&◌, List, [], ◌∷◌, ◌++◌, Option, Some, None, length, take, ◌⊎◌}
-use Rattle.std.proofs.Common.{inl, inr, ⊎_elim, arith, length-append}
+use Rattle.std.proofs.Common.{◌≡◌, ◌∙◌, sym, ap, refl, subst, ◌≤◌, Bool, true, false, cond, ◌&&◌, List, [], ◌∷◌, ◌++◌, Option, Some, None}
+use Rattle.std.proofs.Common.{length, take, ◌⊎◌, inl, inr, ⊎_elim, arith, length-append}
 use Rattle.std.specs.List.{list_any, Contains}
 use Rattle.std.specs.Str.{bytes_eq}
 use Rattle.std.proofs.lemmas.Bool.{cases_Bool, or_left, or_right, or_cases}
@@ -25,14 +25,16 @@ use Rattle.fast_check_worklists.proofs.Waiting.{IsWaiting, IsMerged, waiting}
 use Rattle.fast_check_worklists.proofs.Asking.{IsWide}
 use Rattle.fast_check_worklists.proofs.Widen.{widened_new, widened_somewhere, widened_same}
 
-more_joined : (xs a b : List Trace) (t : Text) (part : Part) (p : Path) → (joined a t part p ≡ true → joined b t part p ≡ true) → joined (xs ++ a) t part p
+more_joined : (xs a b : List Trace) (t : Text) (part : Part) (p : Path) → (joined a t part p ≡ true → joined b t part p ≡ true) →
+    joined (xs ++ a) t part p
     ≡ true → joined (xs ++ b) t part p ≡ true
 more_joined xs a b t part p f h =
     let g : Trace → Bool = λ x. is_of t x && imported x.exports part p in
     list_any-append g xs b ∙ ⊎_elim (λ l. or_left (list_any g xs) (list_any g b) l) (λ r. or_right (list_any g xs) (list_any g b) (f r))
     (or_cases (list_any g xs) (list_any g a) (sym (list_any-append g xs a) ∙ h))
 
-more_some : (xs a b : List Trace) (t : Text) → (list_any (is_of t) a ≡ true → list_any (is_of t) b ≡ true) → list_any (is_of t) (xs ++ a) ≡ true → list_any
+more_some : (xs a b : List Trace) (t : Text) → (list_any (is_of t) a ≡ true → list_any (is_of t) b ≡ true) →
+    list_any (is_of t) (xs ++ a) ≡ true → list_any
     (is_of t) (xs ++ b) ≡ true
 more_some xs a b t f h =
     list_any-append (is_of t) xs b ∙ ⊎_elim (λ l. or_left (list_any (is_of t) xs) (list_any (is_of t) b) l)
@@ -40,7 +42,8 @@ more_some xs a b t f h =
     (sym (list_any-append (is_of t) xs a) ∙ h))
 
 back_joined : (xs b : List Trace) (t : Text) (part : Part) (p : Path) → joined b t part p ≡ true → joined (xs ++ b) t part p ≡ true
-back_joined xs b t part p h = let g : Trace → Bool = λ x. is_of t x && imported x.exports part p in list_any-append g xs b ∙ or_right (list_any g xs)
+back_joined xs b t part p h = let g : Trace → Bool = λ x. is_of t x && imported x.exports part p in list_any-append g xs b ∙
+    or_right (list_any g xs)
     (list_any g b) h
 
 back_some : (xs b : List Trace) (t : Text) → list_any (is_of t) b ≡ true → list_any (is_of t) (xs ++ b) ≡ true
@@ -54,7 +57,8 @@ pub record IsHomely (home : Text → Option Nv) (nv : Nv) (t : Text) (x : Import
 none_some : {X : Type 0} (x : X) → None ≡ Some x → ⊥
 none_some x e = cc
 
-module _ (world : World) (roots : List Nv) (home : Text → Option Nv) (done : List Trace) (a b : State) (kept : IsKept world roots home done a) where
+module _ (world : World) (roots : List Nv) (home : Text → Option Nv) (done : List Trace) (a b : State)
+    (kept : IsKept world roots home done a) where
   module _ (nv : PackageNv) (url : Parts) (x : ImportedExports) (asks : AsksModule nv url x a b)
       (chain : (d : NameDemand) → asked x d ≡ true → Chained world roots (of_module (nv_of nv) (serialize url) d))
       (homely : IsHomely home (nv_of nv) (serialize url) x) where
@@ -77,7 +81,8 @@ module _ (world : World) (roots : List Nv) (home : Text → Option Nv) (done : L
     alike : (y : ImportedExports) → answer ≡ Some y → (z : Trace) → Contains (waiting_of a) z → z.specifier ≡ t → z.nv ≡ p
     alike y e z c is =
         ⊎_elim
-        (λ h. ⊎_elim (λ mine. some_is z.nv p (sym h ∙ (ap home is ∙ mine))) (λ none. absurd (none_some z.nv (sym none.1 ∙ (sym (ap home is) ∙ h)))) homely.at)
+        (λ h. ⊎_elim (λ mine. some_is z.nv p (sym h ∙ (ap home is ∙ mine)))
+        (λ none. absurd (none_some z.nv (sym none.1 ∙ (sym (ap home is) ∙ h)))) homely.at)
         (λ h. absurd (not_all y e (ap (handled_at a) (sym is) ∙ h)))
         (kept.homes z c)
 
@@ -94,7 +99,8 @@ module _ (world : World) (roots : List Nv) (home : Text → Option Nv) (done : L
         (λ r. widened_new world roots t p r.0 x d r.2 chain (kept.handled t r.0 r.1) (λ s. not_all y e (r.1 ∙ ap Some s)))
         (k.of_new y e d h)
 
-    chain_merged : (y : ImportedExports) → answer ≡ Some y → (z : Trace) → IsMerged p t y (waiting_of a) z → (d : NameDemand) → asked z.exports d ≡ true →
+    chain_merged : (y : ImportedExports) → answer ≡ Some y → (z : Trace) → IsMerged p t y (waiting_of a) z → (d : NameDemand) →
+        asked z.exports d ≡ true →
         Chained world roots (of_module z.nv z.specifier d)
     chain_merged y e z m d h =
         subst (λ (q : Nv). Chained world roots (of_module q z.specifier d)) (sym m.nv_is)
@@ -109,12 +115,14 @@ module _ (world : World) (roots : List Nv) (home : Text → Option Nv) (done : L
         ⊎_elim (λ g. before d g) (λ g. (chain_both r.0.exports y d g before (chain_new y e))) r.3)
         (m.of_either d h)))
       where
-        chain_both : (h y : ImportedExports) (d : NameDemand) → IsWide h y d → ((c : NameDemand) → asked h c ≡ true → Chained world roots (of_module p t c))
+        chain_both : (h y : ImportedExports) (d : NameDemand) → IsWide h y d →
+            ((c : NameDemand) → asked h c ≡ true → Chained world roots (of_module p t c))
             → ((c : NameDemand) → asked y c ≡ true → Chained world roots (of_module p t c)) → Chained world roots (of_module p t d)
         chain_both h y d g f n = widened_same world roots t p h y d g n f
 
     -- what was handled stays
-    more_handled : (q : Text) (h : ImportedExports) → handled_at a q ≡ Some h → (y : ImportedExports) × (handled_at b q ≡ Some y) × IsBelow (imported h)
+    more_handled : (q : Text) (h : ImportedExports) → handled_at a q ≡ Some h → (y : ImportedExports) × (handled_at b q ≡ Some y) ×
+        IsBelow (imported h)
         (imported y)
     more_handled q h e =
         ⊎_elim
@@ -132,7 +140,8 @@ module _ (world : World) (roots : List Nv) (home : Text → Option Nv) (done : L
         (handled_at a q ≡ Some y → P y) → P y
     here_or P q y e f g =
         ⊎_elim
-        (λ same. let is : t ≡ q = (bytes_eq-Decides t q).0 same in subst P (some_is k.state y (sym k.now ∙ (ap (handled_at b) is ∙ e))) (f is))
+        (λ same. let is : t ≡ q = (bytes_eq-Decides t q).0 same in subst P (some_is k.state y (sym k.now ∙ (ap (handled_at b) is ∙ e)))
+        (f is))
         (λ other. g (sym (k.others q other) ∙ e))
         (cases_Bool (bytes_eq t q))
 
@@ -149,7 +158,8 @@ module _ (world : World) (roots : List Nv) (home : Text → Option Nv) (done : L
         go None e = let h = k.none_old e in more_some done (waiting_of a) (waiting_of b) t (w.some t) (kept.some t h.0 h.1)
         go (Some y) e = back_some done (waiting_of b) t (w.some_new y e)
 
-    below_old : (z : Trace) → Contains (done ++ waiting_of a) z → (y : ImportedExports) × (handled_at b z.specifier ≡ Some y) × IsBelow (imported z.exports)
+    below_old : (z : Trace) → Contains (done ++ waiting_of a) z → (y : ImportedExports) × (handled_at b z.specifier ≡ Some y) ×
+        IsBelow (imported z.exports)
         (imported y)
     below_old z c =
         let o = kept.below z c in
@@ -164,7 +174,8 @@ module _ (world : World) (roots : List Nv) (home : Text → Option Nv) (done : L
         (λ r. ⊎_elim (λ o. inl (old_waits z o)) (λ n. inr n) (w.each z r))
         (Contains-append_cases done (waiting_of b) z c)
 
-    merged_below : (y : ImportedExports) → answer ≡ Some y → (z : Trace) → IsMerged p t y (waiting_of a) z → IsBelow (imported z.exports) (imported k.state)
+    merged_below : (y : ImportedExports) → answer ≡ Some y → (z : Trace) → IsMerged p t y (waiting_of a) z →
+        IsBelow (imported z.exports) (imported k.state)
     merged_below y e z m =
         m.least k.state (k.answer_below y e)
         (λ v c is.
@@ -178,9 +189,11 @@ module _ (world : World) (roots : List Nv) (home : Text → Option Nv) (done : L
       traces = λ z c. ⊎_elim (λ o. kept.traces z o) (λ n. chain_merged n.0 n.1 z n.2) (cases_of z c);
       handled = λ q y e.
           here_or (λ v. (d : NameDemand) → asked v d ≡ true → (n : Nv) × Chained world roots (of_module n q d)) q y e
-          (λ is. subst (λ (u : Text). (d : NameDemand) → asked k.state d ≡ true → (n : Nv) × Chained world roots (of_module n u d)) is (λ d h.
+          (λ is. subst (λ (u : Text). (d : NameDemand) → asked k.state d ≡ true → (n : Nv) × Chained world roots (of_module n u d)) is
+          (λ d h.
           ⊎_elim (λ l. (p, chain d l))
-          (λ r. ⊎_elim (λ g. kept.handled t r.0 r.1 d g) (λ g. widened_somewhere world roots t p r.0 x d g chain (kept.handled t r.0 r.1)) r.2)
+          (λ r. ⊎_elim (λ g. kept.handled t r.0 r.1 d g)
+          (λ g. widened_somewhere world roots t p r.0 x d g chain (kept.handled t r.0 r.1)) r.2)
           (k.of_either d h)))
           (λ o. kept.handled q y o);
       some = λ q y e.
@@ -191,7 +204,8 @@ module _ (world : World) (roots : List Nv) (home : Text → Option Nv) (done : L
           here_or (λ v. IsBelow (imported v) (joined (done ++ waiting_of b) q)) q y e
           (λ is. subst (λ (u : Text). IsBelow (imported k.state) (joined (done ++ waiting_of b) u)) is held_here)
           (λ o. λ part r g. more_joined done (waiting_of a) (waiting_of b) q part r (w.grows q part r) (kept.held q y o part r g));
-      below = λ z c. ⊎_elim (λ o. below_old z o) (λ n. (k.state, ap (handled_at b) n.2.text_is ∙ k.now, merged_below n.0 n.1 z n.2)) (cases_of z c);
+      below = λ z c. ⊎_elim (λ o. below_old z o) (λ n. (k.state, ap (handled_at b) n.2.text_is ∙ k.now, merged_below n.0 n.1 z n.2))
+          (cases_of z c);
       homes = λ z c.
           ⊎_elim (λ o. ⊎_elim (λ h. inl h) (λ h. inr (all_stays z.specifier h)) (kept.homes z o))
           (λ n.
@@ -215,7 +229,8 @@ module _ (world : World) (roots : List Nv) (home : Text → Option Nv) (done : L
     asked_module = (k.state, k.now, k.above_new)
 
   module _ (nv : PackageNv) (asks : AsksPackage nv a b) (chain : Chained world roots (of_package (nv_of nv))) where
-    either_way : (P : List Nv → Type 0) → (list_any (same_nv (nv_of nv)) a.packages ≡ true → P a.packages) → P (a.packages ++ nv_of nv ∷ []) → P b.packages
+    either_way : (P : List Nv → Type 0) → (list_any (same_nv (nv_of nv)) a.packages ≡ true → P a.packages) →
+        P (a.packages ++ nv_of nv ∷ []) → P b.packages
     either_way P f g =
         subst P (sym asks.2)
         (⊎_elim (λ t. subst (λ (c : Bool). P (cond c a.packages (a.packages ++ nv_of nv ∷ []))) (sym t) (f t))
@@ -224,8 +239,10 @@ module _ (world : World) (roots : List Nv) (home : Text → Option Nv) (done : L
 
     same_state : (P : State → Type 0) → P (record { handled = a.handled; waiting = a.waiting; packages = b.packages }) → P b
     same_state P h =
-        subst (λ (hs : List (Parts × ImportedExports)). P (record { handled = hs; waiting = b.waiting; packages = b.packages })) (sym asks.0)
-        (subst (λ (ws : List (Parts × (PackageNv × ImportedExports))). P (record { handled = a.handled; waiting = ws; packages = b.packages })) (sym asks.1) h)
+        subst (λ (hs : List (Parts × ImportedExports)). P (record { handled = hs; waiting = b.waiting; packages = b.packages }))
+        (sym asks.0)
+        (subst (λ (ws : List (Parts × (PackageNv × ImportedExports))). P
+        (record { handled = a.handled; waiting = ws; packages = b.packages })) (sym asks.1) h)
 
     pub kept_package : IsKept world roots home done b
     kept_package =
@@ -248,8 +265,10 @@ module _ (world : World) (roots : List Nv) (home : Text → Option Nv) (done : L
         (record {
           handled = λ q h e. (h, e, λ part r g. g);
           packages = λ q h. either_way (λ ps. list_any (same_nv q) ps ≡ true) (λ t. h)
-              (list_any-append (same_nv q) a.packages (nv_of nv ∷ []) ∙ or_left (list_any (same_nv q) a.packages) (list_any (same_nv q) (nv_of nv ∷ [])) h);
-          longer = either_way (λ ps. length a.packages ≤ length ps) (λ t. omega arith) (omega (arith, length-append a.packages (nv_of nv ∷ [])));
+              (list_any-append (same_nv q) a.packages (nv_of nv ∷ []) ∙
+              or_left (list_any (same_nv q) a.packages) (list_any (same_nv q) (nv_of nv ∷ [])) h);
+          longer = either_way (λ ps. length a.packages ≤ length ps) (λ t. omega arith)
+              (omega (arith, length-append a.packages (nv_of nv ∷ [])));
           front = λ n le. either_way (λ ps. take n ps ≡ take n a.packages) (λ t. refl) (take-append-le n a.packages (nv_of nv ∷ []) le);
         })
 

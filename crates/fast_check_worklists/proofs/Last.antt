@@ -1,6 +1,6 @@
 -- The search from its beginning, turn by turn, to its end.
-use Rattle.std.proofs.Common.{◌≡◌, ◌∙◌, sym, ap, subst, ℕ, ◌-◌, ◌<◌, ◌≤◌, Bool, true, List, [], ◌∷◌, ◌++◌, Option, Some, None, map, length, take, ◌⊎◌}
-use Rattle.std.proofs.Common.{⊎_elim, arith, append-nil, length-append}
+use Rattle.std.proofs.Common.{◌≡◌, ◌∙◌, sym, ap, subst, ℕ, ◌-◌, ◌<◌, ◌≤◌, Bool, true, List, [], ◌∷◌, ◌++◌, Option, Some, None, map, length}
+use Rattle.std.proofs.Common.{take, ◌⊎◌, ⊎_elim, arith, append-nil, length-append}
 use Rattle.std.specs.List.{list_any, Contains, IsDistinct}
 use Rattle.std.specs.Cmp.{eq_by_cmp_equiv}
 use Rattle.std.proofs.lemmas.Bool.{false≢true, or_left, or_right, or_cases}
@@ -14,8 +14,8 @@ use Rattle.fast_check_names.specs.declared.lattice.imported_exports.ImportedExpo
 use Rattle.fast_check_worklists.specs.Demands.{Text, same_nv, Demand, of_package, of_module, of_symbol, World}
 use Rattle.fast_check_worklists.specs.Account.{Trace, Followed, Account, Has, traces_of, root, IsAccount, IsYield}
 use Rattle.fast_check_worklists.specs.State.{State}
-use Rattle.fast_check_worklists.specs.Turn.{IsOrderly, handled_at, waiting_trace, waiting_of, IsKept, IsOnTheWay, IsTraced, IsNextEntered, IsOver, IsTurn}
-use Rattle.fast_check_worklists.specs.Turn.{IsBegun}
+use Rattle.fast_check_worklists.specs.Turn.{IsOrderly, handled_at, waiting_trace, waiting_of, IsKept, IsOnTheWay, IsTraced, IsNextEntered}
+use Rattle.fast_check_worklists.specs.Turn.{IsOver, IsTurn, IsBegun}
 use Rattle.fast_check_worklists.specs.Measure.{Universe, IsUniverse, left, IsBounded}
 use Rattle.fast_check_worklists.proofs.Maps.{none_in, split_in, first_in, rest_in}
 use Rattle.fast_check_worklists.proofs.Falls.{Falls, ranks_same}
@@ -46,7 +46,8 @@ module _ {Y : Type 0} (world : World) (gives : Demand → List Y) (owner : Text 
   }
     where
       no_trace : (x : Trace) → Contains (waiting_of s) x → ⊥
-      no_trace x c = none_in x (subst (λ (ws : List (Parts × (PackageNv × ImportedExports))). Contains (map waiting_trace ws) x) g.waiting c)
+      no_trace x c =
+          none_in x (subst (λ (ws : List (Parts × (PackageNv × ImportedExports))). Contains (map waiting_trace ws) x) g.waiting c)
 
       no_handled : (t : Text) (x : ImportedExports) → handled_at s t ≡ Some x → ⊥
       no_handled t x e = none_some x (sym (ap (λ (hs : List (Parts × ImportedExports)). handled_at
@@ -60,17 +61,22 @@ module _ {Y : Type 0} (world : World) (gives : Demand → List Y) (owner : Text 
 any_in : {X : Type 0} (f : X → Bool) (xs : List X) (x : X) → Contains xs x → f x ≡ true → list_any f xs ≡ true
 any_in f [] x c h = absurd (none_in x c)
 any_in {X} f (y ∷ ys) x c h =
-    ⊎_elim (λ e. or_left (f y) (list_any f ys) (subst (λ (z : X). f z ≡ true) (sym e) h)) (λ r. or_right (f y) (list_any f ys) (any_in f ys x r h))
+    ⊎_elim (λ e. or_left (f y) (list_any f ys) (subst (λ (z : X). f z ≡ true) (sym e) h))
+    (λ r. or_right (f y) (list_any f ys) (any_in f ys x r h))
     (split_in y x ys c)
 
-any_more : {X : Type 0} (f : X → Bool) (xs ys : List X) → ((x : X) → Contains xs x → Contains ys x) → list_any f xs ≡ true → list_any f ys ≡ true
+any_more : {X : Type 0} (f : X → Bool) (xs ys : List X) → ((x : X) → Contains xs x → Contains ys x) → list_any f xs ≡ true →
+    list_any f ys ≡ true
 any_more f [] ys g h = absurd (false≢true h)
 any_more f (x ∷ xs) ys g h =
-    ⊎_elim (λ t. any_in f ys x (g x (first_in x xs)) t) (λ r. any_more f xs ys (λ z c. g z (rest_in x z xs c)) r) (or_cases (f x) (list_any f xs) h)
+    ⊎_elim (λ t. any_in f ys x (g x (first_in x xs)) t) (λ r. any_more f xs ys (λ z c. g z (rest_in x z xs c)) r)
+    (or_cases (f x) (list_any f xs) h)
 
-module _ {Y : Type 0} (world : World) (gives : Demand → List Y) (owner : Text → Option Nv) (orderly : IsOrderly world owner) (roots : List Nv)
+module _ {Y : Type 0} (world : World) (gives : Demand → List Y) (owner : Text → Option Nv) (orderly : IsOrderly world owner)
+    (roots : List Nv)
     (u : Universe) (is : IsUniverse world roots u) where
-  few_packages : (home : Text → Option Nv) (done : List Trace) (a : State) → IsKept world roots home done a → IsDistinct same_nv a.packages →
+  few_packages : (home : Text → Option Nv) (done : List Trace) (a : State) → IsKept world roots home done a →
+      IsDistinct same_nv a.packages →
       length a.packages ≤ length u.packages
   few_packages home done a kept distinct =
       length-le_from_is_member (eq_by_cmp_equiv nv_total) a.packages u.packages distinct
@@ -90,7 +96,9 @@ module _ {Y : Type 0} (world : World) (gives : Demand → List Y) (owner : Text 
         let f = followed world roots u is gives owner orderly done next a b t.trace old new way t.mid t.waits t.handled t.packages t.followed in
         record {
           traces = done ++ record { trace = t.trace; symbols = t.followed.symbols } ∷ [];
-          next_way = subst (λ (n : ℕ). IsOnTheWay world gives owner roots (done ++ record { trace = t.trace; symbols = t.followed.symbols } ∷ []) n b new)
+          next_way =
+              subst (λ (n : ℕ). IsOnTheWay world gives owner roots
+              (done ++ record { trace = t.trace; symbols = t.followed.symbols } ∷ []) n b new)
               (sym t.next_is) f.0;
           still = record { distinct = f.1.distinct (subst (IsDistinct same_nv) (sym t.packages) bounded.distinct) };
           falls = less t f.1;
@@ -128,8 +136,11 @@ module _ {Y : Type 0} (world : World) (gives : Demand → List Y) (owner : Text 
 
     pub over : IsOver next a b old new → (account : Account) × IsAccount world roots account × IsYield gives account new
     over t =
-        let e = ended world roots u is gives owner orderly done next a old way t.empty t.past in
-        (record { packages = a.packages; followed = done }, e.0, subst (IsYield gives (record { packages = a.packages; followed = done })) (sym t.found_is) e.1)
+        let e = ended world roots u is gives owner orderly done next a old way t.empty t.past in (
+          record { packages = a.packages; followed = done },
+          e.0,
+          subst (IsYield gives (record { packages = a.packages; followed = done })) (sym t.found_is) e.1,
+        )
 
 -- what was popped, if nothing was
 pub same_turn : {Y : Type 0} (world : World) (gives : Demand → List Y) (next : ℕ) (hs : List (Parts × ImportedExports)) (ps : List Nv)
@@ -137,5 +148,6 @@ pub same_turn : {Y : Type 0} (world : World) (gives : Demand → List Y) (next :
     IsTurn world gives next (record { handled = hs; waiting = us; packages = ps }) b old new o → IsTurn world gives next
     (record { handled = hs; waiting = ws; packages = ps }) b old new o
 same_turn world gives next hs ps ws us b old new o e h =
-    subst (λ (vs : List (Parts × (PackageNv × ImportedExports))). IsTurn world gives next (record { handled = hs; waiting = vs; packages = ps }) b old new o)
+    subst (λ (vs : List (Parts × (PackageNv × ImportedExports))). IsTurn world gives next
+    (record { handled = hs; waiting = vs; packages = ps }) b old new o)
     (sym (e ∙ append-nil us)) h

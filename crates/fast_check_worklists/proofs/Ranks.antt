@@ -1,5 +1,6 @@
 -- What can still be new falls.
-use Rattle.std.proofs.Common.{◌≡◌, ◌∙◌, sym, ap, refl, subst, ℕ, ◌+◌, ◌<◌, ◌≤◌, Bool, true, false, not, List, [], ◌∷◌, ◌++◌, Some, None, length, ⊎_elim, arith}
+use Rattle.std.proofs.Common.{◌≡◌, ◌∙◌, sym, ap, refl, subst, ℕ, ◌+◌, ◌<◌, ◌≤◌, Bool, true, false, not, List, [], ◌∷◌, ◌++◌, Some, None}
+use Rattle.std.proofs.Common.{length, ⊎_elim, arith}
 use Rattle.std.specs.List.{Contains}
 use Rattle.std.proofs.lemmas.Bool.{cases_Bool, false≢true, and_from}
 use Rattle.fast_check_names.specs.declared.lattice.named_subset.NamedSubset.{NamedSubset}
@@ -39,7 +40,8 @@ missing_max : (f : NameSet) (ps : List Path) → missing f ps ≤ length ps + le
 missing_max f [] = omega arith
 missing_max f (p ∷ ps) = omega (arith, cost_max (f Touched p), cost_max (f Covered p), missing_max f ps)
 
-missing_less : (f g : NameSet) (ps : List Path) (part : Part) (p : Path) → IsBelow f g → Contains ps p → f part p ≡ false → g part p ≡ true →
+missing_less : (f g : NameSet) (ps : List Path) (part : Part) (p : Path) → IsBelow f g → Contains ps p → f part p ≡ false →
+    g part p ≡ true →
     missing g ps < missing f ps
 missing_less f g [] part p h c lacks has = absurd (none_in p c)
 missing_less f g (q ∷ ps) part p h c lacks has =
@@ -133,7 +135,8 @@ new_one y h more = go more.0 more.1 more.2 more.3
         (cases_Bool (paths y Covered (n ∷ p)))
 
 -- where something is new, less can be new
-pub rank_falls : (ps : List Path) (h y s : ImportedExports) → IsBelow (imported h) (imported s) → IsBelow (imported y) (imported s) → HasMore (imported y)
+pub rank_falls : (ps : List Path) (h y s : ImportedExports) → IsBelow (imported h) (imported s) → IsBelow (imported y) (imported s) →
+    HasMore (imported y)
     (imported h) → ((d : NameDemand) → asked y d ≡ true → IsWithin ps d) → rank ps (Some s) < rank ps (Some h)
 rank_falls ps StarWithDefault y s a b more within = absurd (false≢true (sym more.3 ∙ new_above y more.0 more.1 more.2))
 rank_falls ps Star y Star a b more within = absurd (false≢true (sym more.3 ∙ b more.0 more.1 more.2))
@@ -145,14 +148,19 @@ rank_falls ps (Subset h) Star (Subset s) a b more within = absurd (not_all s b)
 rank_falls ps (Subset h) StarWithDefault (Subset s) a b more within = absurd (not_all s (λ part p t. b part p (star_below_all part p t)))
 rank_falls ps (Subset h) (Subset y) (Subset s) a b more within =
     let n = new_one y h more in
-    omega (arith, missing_less (paths h) (paths s) ps n.part n.path a (n.within ps (within n.demand n.has)) n.lacks (b n.part n.path n.holds))
+    omega (
+      arith,
+      missing_less (paths h) (paths s) ps n.part n.path a (n.within ps (within n.demand n.has)) n.lacks
+          (b n.part n.path n.holds),
+    )
 
 -- sums
 pub total_le : {X : Type 0} (f g : X → ℕ) (xs : List X) → ((x : X) → g x ≤ f x) → total g xs ≤ total f xs
 total_le f g [] h = omega arith
 total_le f g (x ∷ xs) h = omega (arith, h x, total_le f g xs h)
 
-pub total_less : {X : Type 0} (f g : X → ℕ) (xs : List X) (y : X) → ((x : X) → g x ≤ f x) → Contains xs y → g y < f y → total g xs < total f xs
+pub total_less : {X : Type 0} (f g : X → ℕ) (xs : List X) (y : X) → ((x : X) → g x ≤ f x) → Contains xs y → g y < f y →
+    total g xs < total f xs
 total_less f g [] y h c lt = absurd (none_in y c)
 total_less {X} f g (x ∷ xs) y h c lt =
     ⊎_elim (λ e. let l : g x < f x = subst (λ (z : X). g z < f z) (sym e) lt in omega (arith, l, total_le f g xs h))

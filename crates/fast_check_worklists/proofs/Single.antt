@@ -10,7 +10,8 @@ use Rattle.fast_check_names.specs.Names.{Name, Path, Part, Touched, Covered, Nam
 use Rattle.fast_check_names.specs.Names.{IsClosed}
 use Rattle.fast_check_names.specs.Paths.{paths_opened_nil}
 use Rattle.fast_check_names.specs.Shapes.{own_set}
-use Rattle.fast_check_names.specs.Imports.{default_name, all_but_default, all_names, imported, NameDemand, names_but_default, each_name, subset_at, whole_at}
+use Rattle.fast_check_names.specs.Imports.{default_name, all_but_default, all_names, imported, NameDemand, names_but_default, each_name}
+use Rattle.fast_check_names.specs.Imports.{subset_at, whole_at}
 use Rattle.fast_check_names.proofs.Forms.{star_below_all}
 use Rattle.fast_check_worklists.specs.Demands.{asked, one, touched_path, begins}
 use Rattle.fast_check_worklists.specs.Account.{IsStarred, HasDefault}
@@ -18,7 +19,8 @@ use Rattle.fast_check_worklists.specs.Account.{IsStarred, HasDefault}
 -- what is whole is covered
 pub whole_covered : (f : NameSet) (p : Path) → has_whole f p ≡ true → f Covered p ≡ true
 whole_covered f [] h = h
-whole_covered f (n ∷ p) h = whole_covered (λ part q. f part (n ∷ q)) p (and_parts (not (f Covered [])) (has_whole (λ part q. f part (n ∷ q)) p) h).1
+whole_covered f (n ∷ p) h = whole_covered (λ part q. f part (n ∷ q)) p
+    (and_parts (not (f Covered [])) (has_whole (λ part q. f part (n ∷ q)) p) h).1
 
 -- below a name, what has a path touches the name
 touched_start : (e : NameSet) → IsClosed e → (part : Part) (q : Path) → e part q ≡ true → e Touched [] ≡ true
@@ -26,14 +28,16 @@ touched_start e c Touched q h = c.beginnings [] q h
 touched_start e c Covered q h = c.beginnings [] (q ++ []) (c.longer q [] Touched h)
 
 -- a covered path has what a demand of it has
-whole_in : (e : NameSet) → IsClosed e → (p : Path) → e Covered p ≡ true → (part : Part) (q : Path) → whole_below p part q ≡ true → e part q ≡ true
+whole_in : (e : NameSet) → IsClosed e → (p : Path) → e Covered p ≡ true → (part : Part) (q : Path) → whole_below p part q ≡ true →
+    e part q ≡ true
 whole_in e c [] h part q t = c.longer [] q part h
 whole_in e c (n ∷ p) h Touched [] t = touched_start e c Covered (n ∷ p) h
 whole_in e c (n ∷ p) h Covered [] t = absurd (false≢true t)
 whole_in e c (n ∷ p) h part (m ∷ q) t =
     let a = and_parts (bytes_eq n m) (whole_below p part q) t in
     subst (λ (k : Name). e part (k ∷ q) ≡ true) ((bytes_eq-Decides n m).0 a.0)
-    (whole_in (λ r u. e r (n ∷ u)) (record { beginnings = λ u v. c.beginnings (n ∷ u) v; longer = λ u v r. c.longer (n ∷ u) v r }) p h part q a.1)
+    (whole_in (λ r u. e r (n ∷ u))
+    (record { beginnings = λ u v. c.beginnings (n ∷ u) v; longer = λ u v r. c.longer (n ∷ u) v r }) p h part q a.1)
 
 begins_in : (e : NameSet) → IsClosed e → (p q : Path) → e Touched p ≡ true → begins q p ≡ true → e Touched q ≡ true
 begins_in e c p [] h t = c.beginnings [] p h
@@ -41,7 +45,8 @@ begins_in e c [] (m ∷ q) h t = absurd (false≢true t)
 begins_in e c (n ∷ p) (m ∷ q) h t =
     let a = and_parts (bytes_eq n m) (begins q p) t in
     subst (λ (k : Name). e Touched (k ∷ q) ≡ true) ((bytes_eq-Decides n m).0 a.0)
-    (begins_in (λ r u. e r (n ∷ u)) (record { beginnings = λ u v. c.beginnings (n ∷ u) v; longer = λ u v r. c.longer (n ∷ u) v r }) p q h a.1)
+    (begins_in (λ r u. e r (n ∷ u))
+    (record { beginnings = λ u v. c.beginnings (n ∷ u) v; longer = λ u v r. c.longer (n ∷ u) v r }) p q h a.1)
 
 touched_in : (s : NamedSubset) (p : Path) → paths s Touched p ≡ true → IsBelow (touched_path p) (paths s)
 touched_in s p h part [] t = absurd (false≢true t)
@@ -49,14 +54,16 @@ touched_in s [] h part (m ∷ q) t = absurd (false≢true (sym (paths_opened_nil
 touched_in s (n ∷ p) h Covered (m ∷ q) t = absurd (false≢true t)
 touched_in s (n ∷ p) h Touched (m ∷ q) t =
     let a = and_parts (bytes_eq n m) (begins q p) t in
-    subst (λ (k : Name). paths s Touched (k ∷ q) ≡ true) ((bytes_eq-Decides n m).0 a.0) (begins_in (λ r u. paths s r (n ∷ u)) (own_set s n) p q h a.1)
+    subst (λ (k : Name). paths s Touched (k ∷ q) ≡ true) ((bytes_eq-Decides n m).0 a.0)
+    (begins_in (λ r u. paths s r (n ∷ u)) (own_set s n) p q h a.1)
 
 whole_path_in : (s : NamedSubset) (p : Path) → paths s Covered p ≡ true → IsBelow (whole_path p) (paths s)
 whole_path_in s [] h part q t = absurd (false≢true t)
 whole_path_in s (n ∷ p) h part [] t = absurd (false≢true t)
 whole_path_in s (n ∷ p) h part (m ∷ q) t =
     let a = and_parts (bytes_eq n m) (whole_below p part q) t in
-    subst (λ (k : Name). paths s part (k ∷ q) ≡ true) ((bytes_eq-Decides n m).0 a.0) (whole_in (λ r u. paths s r (n ∷ u)) (own_set s n) p h part q a.1)
+    subst (λ (k : Name). paths s part (k ∷ q) ≡ true) ((bytes_eq-Decides n m).0 a.0)
+    (whole_in (λ r u. paths s r (n ∷ u)) (own_set s n) p h part q a.1)
 
 -- names have what each single demand of theirs has
 pub one_in : (x : ImportedExports) (d : NameDemand) → asked x d ≡ true → IsBelow (one d) (imported x)
@@ -90,13 +97,15 @@ flip : (n m : Name) → bytes_eq n m ≡ true → bytes_eq m n ≡ true
 flip n m h = (bytes_eq-Decides m n).1 (sym ((bytes_eq-Decides n m).0 h))
 
 -- and what has `default` touches it
-pub default_in : (x : ImportedExports) (d : NameDemand) → HasDefault d → IsBelow (one d) (imported x) → imported x Touched (default_name ∷ []) ≡ true
+pub default_in : (x : ImportedExports) (d : NameDemand) → HasDefault d → IsBelow (one d) (imported x) →
+    imported x Touched (default_name ∷ []) ≡ true
 default_in x names_but_default s h = absurd s
 default_in x each_name s h = h Touched (default_name ∷ []) refl
 default_in x (subset_at []) s h = absurd s
 default_in x (subset_at (n ∷ q)) s h = h Touched (default_name ∷ []) (and_from (bytes_eq n default_name) true (flip default_name n s) refl)
 default_in x (whole_at []) s h = absurd s
-default_in x (whole_at (n ∷ q)) s h = h Touched (default_name ∷ []) (and_from (bytes_eq n default_name) (whole_below q Touched []) (flip default_name n s)
+default_in x (whole_at (n ∷ q)) s h = h Touched (default_name ∷ [])
+    (and_from (bytes_eq n default_name) (whole_below q Touched []) (flip default_name n s)
     (whole_start q))
   where
     whole_start : (q : Path) → whole_below q Touched [] ≡ true

@@ -19,13 +19,15 @@ abbrev pub text_of : List (Parts × ImportedExports) → Text → Option Importe
 text_of es t = lookup (λ k. bytes_eq t (serialize k)) es
 
 -- what becomes of the names under t, after x was added and answer was new
-pub record IsTaken (t : Text) (x : ImportedExports) (answer : Option ImportedExports) (old new : Text → Option ImportedExports) : Type 0 where
+pub record IsTaken (t : Text) (x : ImportedExports) (answer : Option ImportedExports)
+    (old new : Text → Option ImportedExports) : Type 0 where
   pub state : ImportedExports
   pub now : new t ≡ Some state
   pub others : (q : Text) → bytes_eq t q ≡ false → new q ≡ old q
   pub above_new : IsBelow (imported x) (imported state)
   pub above_old : (h : ImportedExports) → old t ≡ Some h → IsBelow (imported h) (imported state)
-  pub covered : (part : Part) (p : Path) → imported state part p ≡ true → ((h : ImportedExports) × (old t ≡ Some h) × (imported h part p ≡ true)) ⊎
+  pub covered : (part : Part) (p : Path) → imported state part p ≡ true →
+      ((h : ImportedExports) × (old t ≡ Some h) × (imported h part p ≡ true)) ⊎
       ((y : ImportedExports) × (answer ≡ Some y) × (imported y part p ≡ true))
   pub answer_below : (y : ImportedExports) → answer ≡ Some y → IsBelow (imported y) (imported state)
   pub of_new : (y : ImportedExports) → answer ≡ Some y → (d : NameDemand) → asked y d ≡ true → (asked x d ≡ true) ⊎
@@ -60,7 +62,8 @@ pub bytes_same : (t : Text) → bytes_eq t t ≡ true
 bytes_same t = (bytes_eq-Decides t t).1 refl
 
 -- a specifier that is told as url is not told as another
-apart : (url : Parts) (q : Text) → bytes_eq (serialize url) q ≡ false → (k : Parts) → is_module url k ≡ true → bytes_eq q (serialize k) ≡ false
+apart : (url : Parts) (q : Text) → bytes_eq (serialize url) q ≡ false → (k : Parts) → is_module url k ≡ true →
+    bytes_eq q (serialize k) ≡ false
 apart url q f k t =
     ⊎_elim
     (λ e. absurd (false≢true (sym f ∙ (bytes_eq-Decides (serialize url) q).1 ((bytes_eq-Decides (serialize url) (serialize k)).0 t ∙ sym
@@ -75,16 +78,19 @@ no_new : (x y : ImportedExports) (answer : Option ImportedExports) → answer �
 no_new x y answer a b = some_is x y (sym a ∙ b)
 
 module _ (old new : List (Parts × ImportedExports)) (url : Parts) (x : ImportedExports) (answer : Option ImportedExports) where
-  taken_new : lookup (is_module url) old ≡ None → answer ≡ Some x → (copy : ImportedExports) → IsCopy x copy → new ≡ old ++ (url, copy) ∷ [] → IsTaken
+  taken_new : lookup (is_module url) old ≡ None → answer ≡ Some x → (copy : ImportedExports) → IsCopy x copy → new ≡ old ++ (url, copy) ∷
+      [] → IsTaken
       (serialize url) x answer (text_of old) (text_of new)
   taken_new none a copy same is = record {
     state = copy;
     now = ap (lookup (is_module url)) is ∙ look_last (is_module url) old url copy none (bytes_same (serialize url));
-    others = λ q f. ap (lookup (λ k. bytes_eq q (serialize k))) is ∙ look_before (λ k. bytes_eq q (serialize k)) old url copy (apart_self url q f);
+    others = λ q f. ap (lookup (λ k. bytes_eq q (serialize k))) is ∙
+        look_before (λ k. bytes_eq q (serialize k)) old url copy (apart_self url q f);
     above_new = λ part p t. copy_same x copy same part p ∙ t;
     above_old = λ h e. absurd (none_some h (sym none ∙ e));
     covered = λ part p t. inr (x, a, sym (copy_same x copy same part p) ∙ t);
-    answer_below = λ y e part p t. copy_same x copy same part p ∙ subst (λ (z : ImportedExports). imported z part p ≡ true) (no_new y x answer e a) t;
+    answer_below = λ y e part p t. copy_same x copy same part p ∙
+        subst (λ (z : ImportedExports). imported z part p ≡ true) (no_new y x answer e a) t;
     of_new = λ y e d t. inl (subst (λ (z : ImportedExports). asked z d ≡ true) (no_new y x answer e a) t);
     of_either = λ d t. inl (sym (copy_asked x copy same d) ∙ t);
     progress = λ y e h f. absurd (none_some h (sym none ∙ f));
@@ -128,7 +134,8 @@ module _ (old new : List (Parts × ImportedExports)) (url : Parts) (x : Imported
   pub taken : Handles old url x answer new → IsTaken (serialize url) x answer (text_of old) (text_of new)
   taken h = go (lookup (is_module url) old) refl h
     where
-      go : (o : Option ImportedExports) → lookup (is_module url) old ≡ o → HandlesAt o old url x answer new → IsTaken (serialize url) x answer (text_of old)
+      go : (o : Option ImportedExports) → lookup (is_module url) old ≡ o → HandlesAt o old url x answer new →
+          IsTaken (serialize url) x answer (text_of old)
           (text_of new)
       go None e h = taken_new e h.0 h.1 h.2 h.3
       go (Some held) e h = taken_held held h.0 e h.1 h.2

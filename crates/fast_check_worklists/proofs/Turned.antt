@@ -1,12 +1,13 @@
 -- The turns of the search, from its beginning to an account.
-use Rattle.std.proofs.Common.{◌≡◌, ◌∙◌, sym, ap, refl, subst, ℕ, ◌+◌, ◌<◌, ◌≤◌, Bool, true, ◌&&◌, List, [], ◌∷◌, ◌++◌, Option, Some, None, map, length, take}
-use Rattle.std.proofs.Common.{get_or, ◌⊎◌, inl, inr, ⊎_elim, arith, append-nil}
+use Rattle.std.proofs.Common.{◌≡◌, ◌∙◌, sym, ap, refl, subst, ℕ, ◌+◌, ◌<◌, ◌≤◌, Bool, true, ◌&&◌, List, [], ◌∷◌, ◌++◌, Option, Some, None}
+use Rattle.std.proofs.Common.{map, length, take, get_or, ◌⊎◌, inl, inr, ⊎_elim, arith, append-nil}
 use Rattle.std.specs.List.{list_any, Contains}
 use Rattle.std.specs.Cmp.{eq_by_cmp_equiv}
 use Rattle.std.proofs.lemmas.Bool.{false≢true, or_left, or_right, or_cases}
 use Rattle.std.proofs.lemmas.List.{take_more, take_all}
 use Rattle.std.proofs.lemmas.List.Folds.{list_any-append}
-use Rattle.std.proofs.lemmas.List.Elements.{Contains-append_cases, Contains-append_left, Contains-append_right, Contains-push_cases, Contains-push}
+use Rattle.std.proofs.lemmas.List.Elements.{Contains-append_cases, Contains-append_left, Contains-append_right, Contains-push_cases}
+use Rattle.std.proofs.lemmas.List.Elements.{Contains-push}
 use Rattle.url.specs.Parts.{Parts, serialize}
 use Rattle.fast_check_packages.specs.Package.{Nv, nv_of}
 use Rattle.fast_check_packages.specs.PackageOrder.{nv_total}
@@ -18,13 +19,12 @@ use Rattle.fast_check_names.proofs.Forms.{least_all}
 use Rattle.fast_check_demands.specs.Demands.{Demand as SymbolDemand}
 use Rattle.fast_check_worklists.specs.declared.asked.Step.{Step}
 use Rattle.fast_check_worklists.specs.declared.asked.Step.TheVariants.{Package as PackageStep, Module as ModuleStep}
-use Rattle.fast_check_worklists.specs.Demands.{Text, Wanted, same_nv, asked, one, Want, to_package, to_module, to_symbol, Demand, of_package, of_module}
-use Rattle.fast_check_worklists.specs.Demands.{of_symbol}
-use Rattle.fast_check_worklists.specs.Demands.{World, Gives, Follows}
-use Rattle.fast_check_worklists.specs.Account.{Trace, Followed, Account, HasIn, Has, traces_of, Chained, step, is_of, joined, IsSymbolMet, IsCovered}
-use Rattle.fast_check_worklists.specs.Account.{IsWidening, IsAccount, IsYield}
-use Rattle.fast_check_worklists.specs.State.{want_of, State, AsksOne, AsksAll, Reached, root as reached_root, step as reached_step, IsSearched, IsOuter}
-use Rattle.fast_check_worklists.specs.State.{IsFollowed, IsEntered}
+use Rattle.fast_check_worklists.specs.Demands.{Text, Wanted, same_nv, asked, one, Want, to_package, to_module, to_symbol, Demand}
+use Rattle.fast_check_worklists.specs.Demands.{of_package, of_module, of_symbol, World, Gives, Follows}
+use Rattle.fast_check_worklists.specs.Account.{Trace, Followed, Account, HasIn, Has, traces_of, Chained, step, is_of, joined, IsSymbolMet}
+use Rattle.fast_check_worklists.specs.Account.{IsCovered, IsWidening, IsAccount, IsYield}
+use Rattle.fast_check_worklists.specs.State.{want_of, State, AsksOne, AsksAll, Reached, root as reached_root, step as reached_step}
+use Rattle.fast_check_worklists.specs.State.{IsSearched, IsOuter, IsFollowed, IsEntered}
 use Rattle.fast_check_worklists.specs.Turn.{IsOrderly, handled_at, waiting_of, IsKept, IsAsked, IsMore, IsOnTheWay}
 use Rattle.fast_check_worklists.specs.Measure.{Universe, IsUniverse}
 use Rattle.fast_check_worklists.proofs.Maps.{split_in, first_in, rest_in, none_in, only_in}
@@ -66,7 +66,8 @@ module _ (world : World) (roots : List Nv) (u : Universe) (is_universe : IsUnive
   abbrev IsFair : (Text → Option Nv) → Want → Type 0
   IsFair home (to_package p) = Chained world roots (of_package p)
   IsFair home (to_module p t w) =
-      ((d : NameDemand) → w d ≡ true → Chained world roots (of_module p t d)) × ((home t ≡ Some p) ⊎ ((w each_name ≡ true) × (home t ≡ None)))
+      ((d : NameDemand) → w d ≡ true → Chained world roots (of_module p t d)) ×
+      ((home t ≡ Some p) ⊎ ((w each_name ≡ true) × (home t ≡ None)))
   IsFair home (to_symbol p t s) = ⊥
 
   -- after something was asked
@@ -77,7 +78,8 @@ module _ (world : World) (roots : List Nv) (u : Universe) (is_universe : IsUnive
     pub falls : Falls u a b
 
   module _ (home : Text → Option Nv) (done : List Trace) where
-    one_step : (s : Step) (a b : State) → IsKept world roots home done a → IsFair home (want_of s) → AsksOne s a b → IsAfter home done a b (want_of s ∷ [])
+    one_step : (s : Step) (a b : State) → IsKept world roots home done a → IsFair home (want_of s) → AsksOne s a b →
+        IsAfter home done a b (want_of s ∷ [])
     one_step (PackageStep nv) a b kept fair asks = record {
       kept = kept_package world roots home done a b kept nv asks fair;
       more = more_package world roots home done a b kept nv asks fair;
@@ -93,7 +95,8 @@ module _ (world : World) (roots : List Nv) (u : Universe) (is_universe : IsUnive
     one_step (ModuleStep nv url x) a b kept fair asks = record {
       kept = kept_module world roots home done a b kept nv url x asks fair.0 homely;
       more = more_module world roots home done a b kept nv url x asks fair.0 homely;
-      asked = λ w c e g. subst (λ (v : Want). Gives v e → IsAsked b e) (only_in (to_module (nv_of nv) (serialize url) (asked x)) w c) (by_module e) g;
+      asked = λ w c e g. subst (λ (v : Want). Gives v e → IsAsked b e) (only_in (to_module (nv_of nv) (serialize url) (asked x)) w c)
+          (by_module e) g;
       falls = falls_module world roots u is_universe home done a b kept nv url x asks fair.0 homely;
     }
       where
@@ -107,7 +110,8 @@ module _ (world : World) (roots : List Nv) (u : Universe) (is_universe : IsUnive
             let m = asked_module world roots home done a b kept nv url x asks fair.0 homely in
             (m.0, ap (handled_at b) (sym g.1) ∙ m.1, λ part r h. m.2 part r (one_in x d g.2 part r h))
 
-    all_steps : (steps : List Step) (a b : State) → IsKept world roots home done a → ((w : Want) → Contains (map want_of steps) w → IsFair home w) →
+    all_steps : (steps : List Step) (a b : State) → IsKept world roots home done a →
+        ((w : Want) → Contains (map want_of steps) w → IsFair home w) →
         AsksAll steps a b → IsAfter home done a b (map want_of steps)
     all_steps [] a b kept fair asks = record {
       kept = subst (IsKept world roots home done) (sym asks) kept;
@@ -123,12 +127,14 @@ module _ (world : World) (roots : List Nv) (u : Universe) (is_universe : IsUnive
           more = more_then a asks.0 b first.more rest.more;
           falls = falls_then u a asks.0 b first.falls rest.falls;
           asked = λ w c e g.
-              ⊎_elim (λ here. asked_more asks.0 b rest.more e (first.asked w (subst (λ (v : Want). Contains (v ∷ []) w) (sym here) (first_in w [])) e g))
+              ⊎_elim (λ here. asked_more asks.0 b rest.more e
+              (first.asked w (subst (λ (v : Want). Contains (v ∷ []) w) (sym here) (first_in w [])) e g))
               (λ there. rest.asked w there e g) (split_in (want_of s) w (map want_of steps) c);
         }
 
   -- the first trace that waits is followed next
-  popped : (home : Text → Option Nv) (done : List Trace) (a b : State) (x : Trace) → IsKept world roots home done a → waiting_of a ≡ waiting_of b ++ x ∷ [] →
+  popped : (home : Text → Option Nv) (done : List Trace) (a b : State) (x : Trace) → IsKept world roots home done a →
+      waiting_of a ≡ waiting_of b ++ x ∷ [] →
       b.handled ≡ a.handled → b.packages ≡ a.packages → IsKept world roots home (done ++ x ∷ []) b
   popped home done a b x kept is same_handled same_packages = record {
     packages = λ p c. kept.packages p (subst (λ (ps : List Nv). Contains ps p) same_packages c);
@@ -142,7 +148,8 @@ module _ (world : World) (roots : List Nv) (u : Universe) (is_universe : IsUnive
   }
     where
       at_a : (t : Text) → handled_at a t ≡ handled_at b t
-      at_a t = ap (λ (hs : List (Parts × ImportedExports)). handled_at (record { handled = hs; waiting = a.waiting; packages = a.packages }) t)
+      at_a t = ap
+          (λ (hs : List (Parts × ImportedExports)). handled_at (record { handled = hs; waiting = a.waiting; packages = a.packages }) t)
           (sym same_handled)
 
       back : (z : Trace) → Contains ((done ++ x ∷ []) ++ waiting_of b) z → Contains (done ++ waiting_of a) z
@@ -163,7 +170,8 @@ module _ (world : World) (roots : List Nv) (u : Universe) (is_universe : IsUnive
           (list_any-append f done (x ∷ []) ∙ or_left (list_any f done) (list_any f (x ∷ [])) l))
           (λ r.
           ⊎_elim (λ w. or_right (list_any f (done ++ x ∷ [])) (list_any f (waiting_of b)) w)
-          (λ n. or_left (list_any f (done ++ x ∷ [])) (list_any f (waiting_of b)) (list_any-append f done (x ∷ []) ∙ or_right (list_any f done)
+          (λ n. or_left (list_any f (done ++ x ∷ [])) (list_any f (waiting_of b))
+          (list_any-append f done (x ∷ []) ∙ or_right (list_any f done)
           (list_any f (x ∷ [])) n))
           (or_cases (list_any f (waiting_of b)) (list_any f (x ∷ [])) (sym (list_any-append f (waiting_of b) (x ∷ [])) ∙ r)))
           (or_cases (list_any f done) (list_any f (waiting_of b ++ x ∷ [])) (sym (list_any-append f done (waiting_of b ++ x ∷ [])) ∙ g))
@@ -186,21 +194,25 @@ module _ (world : World) (roots : List Nv) (u : Universe) (is_universe : IsUnive
       (d : Demand) → HasIn x d → Chained world roots d
   member_chained x searched mine (of_package p) h = absurd h
   member_chained x searched mine (of_module nv t d) h =
-      subst (λ (q : Nv). Chained world roots (of_module q t d)) h.0 (subst (λ (v : Text). Chained world roots (of_module x.trace.nv v d)) h.1 (mine d h.2))
+      subst (λ (q : Nv). Chained world roots (of_module q t d)) h.0
+      (subst (λ (v : Text). Chained world roots (of_module x.trace.nv v d)) h.1 (mine d h.2))
   member_chained x searched mine (of_symbol nv t s) h =
       subst (λ (q : Nv). Chained world roots (of_symbol q t s)) h.0
       (subst (λ (v : Text). Chained world roots (of_symbol x.trace.nv v s)) h.1 (reached_chained x.trace mine s (searched.reached s h.2)))
 
   module _ {Y : Type 0} (gives : Demand → List Y) (owner : Text → Option Nv) (orderly : IsOrderly world owner) where
     -- each module that a trace names is demanded for the package that its specifier belongs to
-    home_of : (x : Followed) (d : Demand) → HasIn x d → (p : Nv) (t : Text) (w : Wanted) → Contains (world d) (to_module p t w) → owner t ≡ Some p
+    home_of : (x : Followed) (d : Demand) → HasIn x d → (p : Nv) (t : Text) (w : Wanted) → Contains (world d) (to_module p t w) →
+        owner t ≡ Some p
     home_of x (of_package q) h p t w c = absurd h
     home_of x (of_module q v d) h p t w c = orderly.of_names q p v t d w c
     home_of x (of_symbol q v s) h p t w c = orderly.of_symbols q p v t s w c
 
     -- a trace is followed
-    module _ (done : List Followed) (next : ℕ) (a b : State) (x : Trace) (found after : List Y) (way : IsOnTheWay world gives owner roots done next a found)
-        (mid : State) (is : waiting_of a ≡ waiting_of mid ++ x ∷ []) (same_handled : mid.handled ≡ a.handled) (same_packages : mid.packages ≡ a.packages)
+    module _ (done : List Followed) (next : ℕ) (a b : State) (x : Trace) (found after : List Y)
+        (way : IsOnTheWay world gives owner roots done next a found)
+        (mid : State) (is : waiting_of a ≡ waiting_of mid ++ x ∷ []) (same_handled : mid.handled ≡ a.handled)
+        (same_packages : mid.packages ≡ a.packages)
         (f : IsFollowed world gives x mid b found after) where
       abbrev new : Followed
       new = record { trace = x; symbols = f.symbols }
@@ -225,7 +237,8 @@ module _ (world : World) (roots : List Nv) (u : Universe) (is_universe : IsUnive
       }
 
       mine : (d : NameDemand) → asked x.exports d ≡ true → Chained world roots (of_module x.nv x.specifier d)
-      mine d h = kept_traces.traces x (Contains-append_left (traces_of done ++ x ∷ []) (waiting_of mid) x (Contains-push (traces_of done) x)) d h
+      mine d h =
+          kept_traces.traces x (Contains-append_left (traces_of done ++ x ∷ []) (waiting_of mid) x (Contains-push (traces_of done) x)) d h
 
       chain : (w : Want) → Contains (map want_of f.steps) w → (e : Demand) → Gives w e → Chained world roots e
       chain w c e g =
@@ -241,7 +254,8 @@ module _ (world : World) (roots : List Nv) (u : Universe) (is_universe : IsUnive
         where
           no_symbol : (steps : List Step) → Contains (map want_of steps) (to_symbol p t s) → ⊥
           no_symbol [] c = none_in (to_symbol p t s) c
-          no_symbol (z ∷ zs) c = ⊎_elim (λ e. absurd (not_step z e)) (λ r. no_symbol zs r) (split_in (want_of z) (to_symbol p t s) (map want_of zs) c)
+          no_symbol (z ∷ zs) c = ⊎_elim (λ e. absurd (not_step z e)) (λ r. no_symbol zs r)
+              (split_in (want_of z) (to_symbol p t s) (map want_of zs) c)
             where
               not_step : (z : Step) → want_of z ≡ to_symbol p t s → ⊥
               not_step z e = step_outer z (subst (λ (w : Want). IsOuter w → ⊥) (sym e) (λ o. o))
@@ -299,8 +313,10 @@ module _ (world : World) (roots : List Nv) (u : Universe) (is_universe : IsUnive
           from (of_package p) y h c =
               Contains-append_left found f.given y
               (way.yielded.complete (of_package p) y (subst (λ (ps : List Nv). Contains ps p) (more.front next way.reached) h) c)
-          from (of_module nv t d) y h c = by_member (of_module nv t d) y h.0 h.1 h.2 c (λ l. way.yielded.complete (of_module nv t d) y (h.0, l, h.2) c)
-          from (of_symbol nv t s) y h c = by_member (of_symbol nv t s) y h.0 h.1 h.2 c (λ l. way.yielded.complete (of_symbol nv t s) y (h.0, l, h.2) c)
+          from (of_module nv t d) y h c = by_member (of_module nv t d) y h.0 h.1 h.2 c
+              (λ l. way.yielded.complete (of_module nv t d) y (h.0, l, h.2) c)
+          from (of_symbol nv t s) y h c = by_member (of_symbol nv t s) y h.0 h.1 h.2 c
+              (λ l. way.yielded.complete (of_symbol nv t s) y (h.0, l, h.2) c)
 
       pub followed : IsOnTheWay world gives owner roots now next b after × Falls u mid b
       followed = (
@@ -322,7 +338,8 @@ module _ (world : World) (roots : List Nv) (u : Universe) (is_universe : IsUnive
       )
 
     -- the entry points of the next package are asked for, while nothing waits
-    module _ (done : List Followed) (next : ℕ) (a b : State) (p : Nv) (found after : List Y) (way : IsOnTheWay world gives owner roots done next a found)
+    module _ (done : List Followed) (next : ℕ) (a b : State) (p : Nv) (found after : List Y)
+        (way : IsOnTheWay world gives owner roots done next a found)
         (empty : waiting_of a ≡ []) (lt : next < length a.packages) (here : get_or a.packages next p ≡ p)
         (enter : IsEntered world gives p a b found after) where
       abbrev nobody : Text → Option Nv
@@ -341,7 +358,8 @@ module _ (world : World) (roots : List Nv) (u : Universe) (is_universe : IsUnive
 
       entry_chain : (w : Want) → Contains (map want_of enter.steps) w → (e : Demand) → Gives w e → Chained world roots e
       entry_chain w c e g =
-          step (way.kept.packages p (next, lt, here)) (record { want = w; among = subst (λ (vs : List Want). Contains vs w) enter.wants c; gives = g })
+          step (way.kept.packages p (next, lt, here))
+          (record { want = w; among = subst (λ (vs : List Want). Contains vs w) enter.wants c; gives = g })
 
       entry_fair : (w : Want) → Contains (map want_of enter.steps) w → IsFair nobody w
       entry_fair (to_package q) c = entry_chain (to_package q) c (of_package q) refl
@@ -367,7 +385,8 @@ module _ (world : World) (roots : List Nv) (u : Universe) (is_universe : IsUnive
 
       grown : (e : Demand) → Has (record { packages = take next a.packages; followed = done }) e → Has
           (record { packages = take (next + 1) b.packages; followed = done }) e
-      grown (of_package q) h = subst (λ (ps : List Nv). Contains ps q) (sym front) (Contains-append_left (take next a.packages) (p ∷ []) q h)
+      grown (of_package q) h = subst (λ (ps : List Nv). Contains ps q) (sym front)
+          (Contains-append_left (take next a.packages) (p ∷ []) q h)
       grown (of_module nv t d) h = h
       grown (of_symbol nv t s) h = h
 
@@ -386,10 +405,13 @@ module _ (world : World) (roots : List Nv) (u : Universe) (is_universe : IsUnive
               Contains (found ++ gives (of_package p)) y
           from (of_package q) y h c =
               ⊎_elim (λ l. Contains-append_left found (gives (of_package p)) y (way.yielded.complete (of_package q) y l c))
-              (λ same. Contains-append_right found (gives (of_package p)) y (subst (λ (v : Nv). Contains (gives (of_package v)) y) (sym same) c))
+              (λ same. Contains-append_right found (gives (of_package p)) y
+              (subst (λ (v : Nv). Contains (gives (of_package v)) y) (sym same) c))
               (Contains-push_cases (take next a.packages) p q (subst (λ (ps : List Nv). Contains ps q) front h))
-          from (of_module nv t d) y h c = Contains-append_left found (gives (of_package p)) y (way.yielded.complete (of_module nv t d) y h c)
-          from (of_symbol nv t s) y h c = Contains-append_left found (gives (of_package p)) y (way.yielded.complete (of_symbol nv t s) y h c)
+          from (of_module nv t d) y h c = Contains-append_left found (gives (of_package p)) y
+              (way.yielded.complete (of_module nv t d) y h c)
+          from (of_symbol nv t s) y h c = Contains-append_left found (gives (of_package p)) y
+              (way.yielded.complete (of_symbol nv t s) y h c)
 
       pub entered : IsOnTheWay world gives owner roots done (next + 1) b after × Falls u a b
       entered = (
@@ -436,14 +458,16 @@ module _ (world : World) (roots : List Nv) (u : Universe) (is_universe : IsUnive
       chained (of_module nv t d) h = chained_in (of_module nv t d) h.0 h.1 h.2
       chained (of_symbol nv t s) h = chained_in (of_symbol nv t s) h.0 h.1 h.2
 
-      covered_module : (nv : Nv) (t : Text) (d : NameDemand) → IsAsked a (of_module nv t d) → IsCovered (account_of a done) (of_module nv t d)
+      covered_module : (nv : Nv) (t : Text) (d : NameDemand) → IsAsked a (of_module nv t d) →
+          IsCovered (account_of a done) (of_module nv t d)
       covered_module nv t d h = (
         subst (λ (zs : List Trace). list_any (is_of t) zs ≡ true) all_done (way.kept.some t h.0 h.1),
         λ part p k. subst (λ (zs : List Trace). joined zs t part p ≡ true) all_done (way.kept.held t h.0 h.1 part p (h.2 part p k)),
       )
 
       -- what a demand of a trace names is covered
-      closed_in : (d : Demand) (z : Followed) → Contains done z → HasIn z d → (e : Demand) → Follows world d e → IsCovered (account_of a done) e
+      closed_in : (d : Demand) (z : Followed) → Contains done z → HasIn z d → (e : Demand) → Follows world d e →
+          IsCovered (account_of a done) e
       closed_in d z c h (of_package q) f = way.closed_traces z c d h (of_package q) f
       closed_in d z c h (of_module q t e) f = covered_module q t e (way.closed_traces z c d h (of_module q t e) f)
       closed_in d z c h (of_symbol q t e) f = (z, c, by_want f.want f.among f.gives)
@@ -453,10 +477,12 @@ module _ (world : World) (roots : List Nv) (u : Universe) (is_universe : IsUnive
           by_want (to_module p v w) k g = absurd g
           by_want (to_symbol p v s) k g =
               subst (λ (r : Nv). IsSymbolMet r t e z) g.0
-              (subst (λ (r : Text). IsSymbolMet p r e z) g.1 (subst (λ (r : SymbolDemand). IsSymbolMet p v r z) g.2 ((way.searched z c).closed d h p v s k)))
+              (subst (λ (r : Text). IsSymbolMet p r e z) g.1
+              (subst (λ (r : SymbolDemand). IsSymbolMet p v r z) g.2 ((way.searched z c).closed d h p v s k)))
 
       closed_package : (p : Nv) → Contains a.packages p → (e : Demand) → Follows world (of_package p) e → IsCovered (account_of a done) e
-      closed_package p h (of_package q) f = way.closed_packages p (subst (λ (ps : List Nv). Contains ps p) (sym all_entered) h) (of_package q) f
+      closed_package p h (of_package q) f = way.closed_packages p (subst (λ (ps : List Nv). Contains ps p) (sym all_entered) h)
+          (of_package q) f
       closed_package p h (of_module q t e) f =
           covered_module q t e (way.closed_packages p (subst (λ (ps : List Nv). Contains ps p) (sym all_entered) h) (of_module q t e) f)
       closed_package p h (of_symbol q t e) f = absurd (by_want f.want f.among f.gives)
@@ -478,7 +504,8 @@ module _ (world : World) (roots : List Nv) (u : Universe) (is_universe : IsUnive
           let m = way.kept.below h.0.trace (trace_in h.0 h.1) in
           (m.0, ap (handled_at a) (sym h.2.1) ∙ m.1, λ part p k. m.2 part p (one_in h.0.trace.exports d h.2.2 part p k))
 
-      widened : (p q r : Nv) (t : Text) (c d e : NameDemand) → Has (account_of a done) (of_module p t c) → Has (account_of a done) (of_module q t d) →
+      widened : (p q r : Nv) (t : Text) (c d e : NameDemand) → Has (account_of a done) (of_module p t c) →
+          Has (account_of a done) (of_module q t d) →
           IsWidening p q c d r e → IsCovered (account_of a done) (of_module r t e)
       widened p q r t c d e h k w =
           let x = handled_has p t c h in

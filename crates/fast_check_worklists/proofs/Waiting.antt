@@ -1,5 +1,6 @@
 -- What waits after new names of a module were added.
-use Rattle.std.proofs.Common.{◌≡◌, ◌∙◌, sym, ap, refl, subst, Bool, true, false, ◌&&◌, List, [], ◌∷◌, ◌++◌, Option, Some, None, map, ◌⊎◌, inl, inr, ⊎_elim}
+use Rattle.std.proofs.Common.{◌≡◌, ◌∙◌, sym, ap, refl, subst, Bool, true, false, ◌&&◌, List, [], ◌∷◌, ◌++◌, Option, Some, None, map, ◌⊎◌}
+use Rattle.std.proofs.Common.{inl, inr, ⊎_elim}
 use Rattle.std.specs.Map.{lookup, set_value}
 use Rattle.std.specs.List.{list_any, Contains}
 use Rattle.std.specs.Str.{bytes_eq}
@@ -20,7 +21,8 @@ use Rattle.fast_check_worklists.specs.State.{WaitsFor}
 use Rattle.fast_check_worklists.specs.Turn.{waiting_trace}
 use Rattle.fast_check_worklists.proofs.Asking.{IsWide, asked_either}
 use Rattle.fast_check_worklists.proofs.Asks.{any_map, map_last}
-use Rattle.fast_check_worklists.proofs.Maps.{found_in, changed_in, any_changed, any_of_changed, only_in, split_in, none_in, rest_in, first_in}
+use Rattle.fast_check_worklists.proofs.Maps.{found_in, changed_in, any_changed, any_of_changed, only_in, split_in, none_in, rest_in}
+use Rattle.fast_check_worklists.proofs.Maps.{first_in}
 use Rattle.fast_check_worklists.proofs.Taken.{bytes_same}
 
 abbrev pub Entry : Type 0
@@ -33,7 +35,8 @@ pub record IsMerged (nv : Nv) (t : Text) (y : ImportedExports) (old : List Trace
   pub of_either : (d : NameDemand) → asked x.exports d ≡ true → (asked y d ≡ true) ⊎
       ((z : Trace) × Contains old z × (z.specifier ≡ t) × ((asked z.exports d ≡ true) ⊎ IsWide z.exports y d))
   pub above : IsBelow (imported y) (imported x.exports)
-  pub least : (w : ImportedExports) → IsBelow (imported y) (imported w) → ((z : Trace) → Contains old z → z.specifier ≡ t → IsBelow (imported z.exports)
+  pub least : (w : ImportedExports) → IsBelow (imported y) (imported w) →
+      ((z : Trace) → Contains old z → z.specifier ≡ t → IsBelow (imported z.exports)
       (imported w)) → IsBelow (imported x.exports) (imported w)
 
 -- what waits after an answer
@@ -56,7 +59,8 @@ contains_map {X} {Y} g (y ∷ ys) x c =
 pub map_contains : {X Y : Type 0} (g : X → Y) (xs : List X) (y : Y) → Contains (map g xs) y → (x : X) × Contains xs x × (g x ≡ y)
 map_contains g [] y c = absurd (none_in y c)
 map_contains g (z ∷ zs) y c =
-    ⊎_elim (λ e. (z, first_in z zs, e)) (λ r. let m = map_contains g zs y r in (m.0, rest_in z m.0 zs m.1, m.2)) (split_in (g z) y (map g zs) c)
+    ⊎_elim (λ e. (z, first_in z zs, e)) (λ r. let m = map_contains g zs y r in (m.0, rest_in z m.0 zs m.1, m.2))
+    (split_in (g z) y (map g zs) c)
 
 module _ (nv : PackageNv) (url : Parts) (old new : List Entry) where
   abbrev W : List Entry → List Trace
@@ -89,9 +93,12 @@ module _ (nv : PackageNv) (url : Parts) (old new : List Entry) where
         let front : W new ≡ W old ++ last ∷ [] = ap W is ∙ map_last waiting_trace old (url, (nv, y)) in
         record {
           each = λ x c.
-              ⊎_elim (λ l. inl l) (λ r. inr (y, refl, subst (λ (z : Trace). IsMerged (nv_of nv) (serialize url) y (W old) z) (only_in last x r) merged_self))
+              ⊎_elim (λ l. inl l)
+              (λ r. inr
+              (y, refl, subst (λ (z : Trace). IsMerged (nv_of nv) (serialize url) y (W old) z) (only_in last x r) merged_self))
               (Contains-append_cases (W old) (last ∷ []) x (subst (λ (xs : List Trace). Contains xs x) front c));
-          some = λ q h. ap (list_any (is_of q)) front ∙ (list_any-append (is_of q) (W old) (last ∷ []) ∙ or_left (list_any (is_of q) (W old))
+          some = λ q h. ap (list_any (is_of q)) front ∙
+              (list_any-append (is_of q) (W old) (last ∷ []) ∙ or_left (list_any (is_of q) (W old))
               (list_any (is_of q) (last ∷ [])) h);
           grows = λ q part p h.
               let f : Trace → Bool = λ x. is_of q x && imported x.exports part p in
@@ -100,7 +107,8 @@ module _ (nv : PackageNv) (url : Parts) (old new : List Entry) where
               ap (list_any (is_of (serialize url))) front
               ∙ (list_any-append (is_of (serialize url)) (W old) (last ∷ []) ∙ or_right (list_any (is_of (serialize url)) (W old))
               (list_any (is_of (serialize url)) (last ∷ [])) (or_left (is_of (serialize url) last) false (bytes_same (serialize url))));
-          has_new = answer_is (λ z. (part : Part) (p : Path) → imported z part p ≡ true → joined (W new) (serialize url) part p ≡ true) (λ part p h.
+          has_new = answer_is (λ z. (part : Part) (p : Path) → imported z part p ≡ true → joined (W new) (serialize url) part p ≡ true)
+              (λ part p h.
               let f : Trace → Bool = λ x. is_of (serialize url) x && imported x.exports part p in
               ap (list_any f) front
               ∙ (list_any-append f (W old) (last ∷ []) ∙ or_right (list_any f (W old)) (list_any f (last ∷ []))
@@ -108,7 +116,8 @@ module _ (nv : PackageNv) (url : Parts) (old new : List Entry) where
         }
 
     module _ (held : PackageNv × ImportedExports) (state : ImportedExports) (answer : Option ImportedExports)
-        (found : lookup (is_module url) old ≡ Some held) (added : IsAdded held.1 y answer state) (is : new ≡ set_value (is_module url) old (held.0, state))
+        (found : lookup (is_module url) old ≡ Some held) (added : IsAdded held.1 y answer state)
+        (is : new ≡ set_value (is_module url) old (held.0, state))
         (alike : (z : Trace) → Contains (W old) z → z.specifier ≡ serialize url → z.nv ≡ nv_of nv) where
       -- what waited
       before : (z : Trace) × Contains (W old) z × (z.specifier ≡ serialize url) × (z.nv ≡ nv_of held.0) × (z.exports ≡ held.1)
@@ -122,7 +131,8 @@ module _ (nv : PackageNv) (url : Parts) (old new : List Entry) where
             refl,
           )
 
-      merged_held : (k : Parts) → is_module url k ≡ true → IsMerged (nv_of nv) (serialize url) y (W old) (waiting_trace (k, (held.0, state)))
+      merged_held : (k : Parts) → is_module url k ≡ true → IsMerged (nv_of nv) (serialize url) y (W old)
+          (waiting_trace (k, (held.0, state)))
       merged_held k t = record {
         text_is = sym ((bytes_eq-Decides (serialize url) (serialize k)).0 t);
         nv_is = sym before.3 ∙ alike before.0 before.1 before.2;
@@ -133,15 +143,22 @@ module _ (nv : PackageNv) (url : Parts) (old new : List Entry) where
             ⊎_elim (λ l. ⊎_elim (λ o. with (inl o)) (λ n. inl n) (or_cases (asked held.1 d) (asked y d) l)) (λ w. with (inr w))
             (asked_either held.1 y answer state added d h);
         above = added.form.above_new;
-        least = λ w b f. added.form.least w (subst (λ (x : ImportedExports). IsBelow (imported x) (imported w)) before.4 (f before.0 before.1 before.2)) b;
+        least = λ w b f. added.form.least w
+            (subst (λ (x : ImportedExports). IsBelow (imported x) (imported w)) before.4 (f before.0 before.1 before.2)) b;
       }
 
       held_waiting : IsWaiting (nv_of nv) (serialize url) (Some y) (W old) (W new)
       held_waiting = record {
         each = λ x c.
-            let m = map_contains waiting_trace (set_value (is_module url) old (held.0, state)) x (subst (λ (es : List Entry). Contains (W es) x) is c) in
+            let m = map_contains waiting_trace (set_value (is_module url) old (held.0, state)) x
+            (subst (λ (es : List Entry). Contains (W es) x) is c) in
             ⊎_elim (λ o. inl (subst (λ (z : Trace). Contains (W old) z) m.2 (contains_map waiting_trace old m.0 o)))
-            (λ n. inr (y, refl, subst (λ (z : Trace). IsMerged (nv_of nv) (serialize url) y (W old) z) (ap waiting_trace n.1 ∙ m.2) (merged_held n.0 n.2)))
+            (λ n. inr (
+              y,
+              refl,
+              subst (λ (z : Trace). IsMerged (nv_of nv) (serialize url) y (W old) z) (ap waiting_trace n.1 ∙ m.2)
+                  (merged_held n.0 n.2),
+            ))
             (changed_in (is_module url) old (held.0, state) m.0 m.1);
         some = λ q h.
             ap (λ (es : List Entry). list_any (is_of q) (W es)) is
@@ -160,7 +177,8 @@ module _ (nv : PackageNv) (url : Parts) (old new : List Entry) where
             ap (λ (es : List Entry). list_any (is_of (serialize url)) (W es)) is
             ∙ (any_map (is_of (serialize url)) waiting_trace (set_value (is_module url) old (held.0, state))
             ∙ any_of_changed (is_module url) (λ e. is_of (serialize url) (waiting_trace e)) old held (held.0, state) found (λ k t. t));
-        has_new = answer_is (λ z. (part : Part) (p : Path) → imported z part p ≡ true → joined (W new) (serialize url) part p ≡ true) (λ part p h.
+        has_new = answer_is (λ z. (part : Part) (p : Path) → imported z part p ≡ true → joined (W new) (serialize url) part p ≡ true)
+            (λ part p h.
             let f : Trace → Bool = λ x. is_of (serialize url) x && imported x.exports part p in
             ap (λ (es : List Entry). list_any f (W es)) is
             ∙ (any_map f waiting_trace (set_value (is_module url) old (held.0, state))
@@ -170,12 +188,14 @@ module _ (nv : PackageNv) (url : Parts) (old new : List Entry) where
 
   -- what waits, if all that waits for the module waits under the same package
   pub waiting : (answer : Option ImportedExports) → WaitsFor nv url answer old new →
-      ((y : ImportedExports) → answer ≡ Some y → (z : Trace) → Contains (W old) z → z.specifier ≡ serialize url → z.nv ≡ nv_of nv) → IsWaiting (nv_of nv)
+      ((y : ImportedExports) → answer ≡ Some y → (z : Trace) → Contains (W old) z → z.specifier ≡ serialize url → z.nv ≡ nv_of nv) →
+      IsWaiting (nv_of nv)
       (serialize url) answer (W old) (W new)
   waiting None h alike = none_waiting h
   waiting (Some y) h alike = go (lookup (is_module url) old) refl h
     where
-      go : (o : Option (PackageNv × ImportedExports)) → lookup (is_module url) old ≡ o → WaitsAt o old nv url y new → IsWaiting (nv_of nv) (serialize url)
+      go : (o : Option (PackageNv × ImportedExports)) → lookup (is_module url) old ≡ o → WaitsAt o old nv url y new →
+          IsWaiting (nv_of nv) (serialize url)
           (Some y) (W old) (W new)
       go None e h = new_waiting y h
       go (Some held) e h = held_waiting y held h.0 h.1 e h.2 h.3 (alike y refl)

@@ -54,7 +54,8 @@ module _ (world : World) (roots : List Nv) (t : Text) where
   abbrev Under : Nv → ImportedExports → Type 0
   Under p x = (d : NameDemand) → asked x d ≡ true → Chained world roots (of_module p t d)
 
-  by : (p q r : Nv) (a b c : NameDemand) → Chained world roots (of_module p t a) → Chained world roots (of_module q t b) → IsStarred a → HasDefault b →
+  by : (p q r : Nv) (a b c : NameDemand) → Chained world roots (of_module p t a) → Chained world roots (of_module q t b) → IsStarred a →
+      HasDefault b →
       (r ≡ p) ⊎ (r ≡ q) → (asked_by (whole_at (default_name ∷ [])) c ≡ true) ⊎ (c ≡ each_name) → Chained world roots (of_module r t c)
   by p q r a b c f g star default under to = widen f g (record { starred = star; default = default; under = under; to = to })
 
@@ -77,7 +78,8 @@ module _ (world : World) (roots : List Nv) (t : Text) where
         (or_cases (imported h Touched (default_name ∷ [])) (imported x Touched (default_name ∷ [])) w.default))
         (λ star_x.
         let s = star_of x star_x in
-        ⊎_elim (λ default_h. let e = default_of h default_h in let c = old e.0 e.1 in by p c.0 p s.0 e.0 d (new s.0 s.1) c.1 s.2 e.2 (inl refl) w.widens_to)
+        ⊎_elim (λ default_h. let e = default_of h default_h in let c =
+        old e.0 e.1 in by p c.0 p s.0 e.0 d (new s.0 s.1) c.1 s.2 e.2 (inl refl) w.widens_to)
         (λ default_x. let e = default_of x default_x in by p p p s.0 e.0 d (new s.0 s.1) (new e.0 e.1) s.2 e.2 (inl refl) w.widens_to)
         (or_cases (imported h Touched (default_name ∷ [])) (imported x Touched (default_name ∷ [])) w.default))
         (or_cases (is_star h) (is_star x) w.star)
@@ -91,14 +93,16 @@ module _ (world : World) (roots : List Nv) (t : Text) where
     pub widened_somewhere : Somewhere h → (q : Nv) × Chained world roots (of_module q t d)
     widened_somewhere old =
         let anywhere : Somewhere x = λ a e. (p, new a e) in
-        let s : Placed world roots t IsStarred = ⊎_elim (λ a. star_placed h a old) (λ b. star_placed x b anywhere) (or_cases (is_star h) (is_star x) w.star) in
+        let s : Placed world roots t IsStarred = ⊎_elim (λ a. star_placed h a old) (λ b. star_placed x b anywhere)
+        (or_cases (is_star h) (is_star x) w.star) in
         let e : Placed world roots t HasDefault =
         ⊎_elim (λ a. default_placed h a old) (λ b. default_placed x b anywhere) (or_cases (imported h Touched (default_name ∷ []))
         (imported x Touched (default_name ∷ [])) w.default) in
         (s.nv, by s.nv e.nv s.nv s.demand e.demand d s.chain e.chain s.is e.is (inl refl) w.widens_to)
 
   -- both under one package
-  pub widened_same : (p : Nv) (h x : ImportedExports) (d : NameDemand) → IsWide h x d → Under p x → Under p h → Chained world roots (of_module p t d)
+  pub widened_same : (p : Nv) (h x : ImportedExports) (d : NameDemand) → IsWide h x d → Under p x → Under p h →
+      Chained world roots (of_module p t d)
   widened_same p h x d w new old =
       let s : (a : NameDemand) × Chained world roots (of_module p t a) × IsStarred a =
       ⊎_elim (λ a. let m = star_of h a in (m.0, old m.0 m.1, m.2)) (λ b. let m = star_of x b in (m.0, new m.0 m.1, m.2))

@@ -5,10 +5,12 @@ use Rattle.std.specs.Str.{bytes_eq}
 use Rattle.fast_check_packages.specs.Package.{Nv}
 use Rattle.fast_check_names.specs.declared.lattice.imported_exports.ImportedExports.{ImportedExports}
 use Rattle.fast_check_names.specs.Names.{Path, NameSet, IsBelow}
-use Rattle.fast_check_names.specs.Imports.{default_name, imported, NameDemand, names_but_default, each_name, subset_at, whole_at}
+use Rattle.fast_check_names.specs.Imports.{default_name, imported, NameDemand, names_but_default, each_name, subset_at}
+use Rattle.fast_check_names.specs.Imports.{whole_at}
 use Rattle.fast_check_demands.specs.Demands.{Demand as SymbolDemand}
 use Rattle.fast_check_demands.specs.Account.{IsCovered as IsSymbolCovered}
-use Rattle.fast_check_worklists.specs.Demands.{Text, same_nv, asked, asked_by, one, Demand, of_package, of_module, of_symbol, World, Follows}
+use Rattle.fast_check_worklists.specs.Demands.{Text, same_nv, asked, asked_by, one, Demand, of_package, of_module}
+use Rattle.fast_check_worklists.specs.Demands.{of_symbol, World, Follows}
 
 -- names of a module that were asked for together, for a package: each single demand of theirs
 pub record Trace : Type 0 where
@@ -55,8 +57,8 @@ traces_of followed = map (λ x. x.trace) followed
 abbrev pub IsSymbolMet : Nv → Text → SymbolDemand → Followed → Type 0
 IsSymbolMet nv t s x = (x.trace.nv ≡ nv) × (x.trace.specifier ≡ t) × IsSymbolCovered x.symbols s
 
--- A package is covered by itself; a demand of a module by those of its specifier, if there is one; a demand of a symbol by those of the same
--- package, module and symbol.
+-- A package is covered by itself; a demand of a module by those of its specifier, if there is one; a demand of a symbol
+-- by those of the same package, module and symbol.
 abbrev pub IsCovered : Account → Demand → Type 0
 IsCovered account (of_package p) = IsTrue (list_any (same_nv p) account.packages)
 IsCovered account (of_module nv t d) =
@@ -89,14 +91,16 @@ pub record IsWidening (p q : Nv) (a b : NameDemand) (r : Nv) (c : NameDemand) : 
 pub data Chained (world : World) (roots : List Nv) : Demand → Type 0 where
   root : {p : Nv} → Contains roots p → Chained world roots (of_package p)
   step : {d e : Demand} → Chained world roots d → Follows world d e → Chained world roots e
-  widen : {p q r : Nv} {t : Text} {a b c : NameDemand} → Chained world roots (of_module p t a) → Chained world roots (of_module q t b) →
+  widen : {p q r : Nv} {t : Text} {a b c : NameDemand} → Chained world roots (of_module p t a) →
+      Chained world roots (of_module q t b) →
       IsWidening p q a b r c → Chained world roots (of_module r t c)
 
 pub record IsAccount (world : World) (roots : List Nv) (account : Account) : Type 0 where
   pub chained : (d : Demand) → Has account d → Chained world roots d
   pub has_roots : (p : Nv) → Contains roots p → IsCovered account (of_package p)
   pub closed : (d e : Demand) → Has account d → Follows world d e → IsCovered account e
-  pub widened : (p q r : Nv) (t : Text) (a b c : NameDemand) → Has account (of_module p t a) → Has account (of_module q t b) →
+  pub widened : (p q r : Nv) (t : Text) (a b c : NameDemand) → Has account (of_module p t a) →
+      Has account (of_module q t b) →
       IsWidening p q a b r c → IsCovered account (of_module r t c)
 
 -- what was found is what demands of the account give, no more and no less

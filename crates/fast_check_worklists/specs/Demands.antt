@@ -5,9 +5,11 @@ use Rattle.std.specs.Str.{bytes_eq}
 use Rattle.std.specs.Ordering.{is_eq}
 use Rattle.fast_check_packages.specs.Package.{Nv, nv_cmp}
 use Rattle.fast_check_names.specs.declared.lattice.imported_exports.ImportedExports.{ImportedExports}
-use Rattle.fast_check_names.specs.declared.lattice.imported_exports.ImportedExports.TheVariants.{Star, StarWithDefault, Subset}
+use Rattle.fast_check_names.specs.declared.lattice.imported_exports.ImportedExports.TheVariants.{Star, StarWithDefault}
+use Rattle.fast_check_names.specs.declared.lattice.imported_exports.ImportedExports.TheVariants.{Subset}
 use Rattle.fast_check_names.specs.Names.{Path, NameSet, paths, is_touched, whole_path, has_subset, has_whole}
-use Rattle.fast_check_names.specs.Imports.{NameDemand, names_but_default, each_name, subset_at, whole_at, all_but_default, all_names}
+use Rattle.fast_check_names.specs.Imports.{NameDemand, names_but_default, each_name, subset_at, whole_at}
+use Rattle.fast_check_names.specs.Imports.{all_but_default, all_names}
 use Rattle.fast_check_demands.specs.Demands.{Demand as SymbolDemand}
 
 -- a specifier, by its text
@@ -22,7 +24,8 @@ same_nv a b = is_eq (nv_cmp a b)
 abbrev pub Wanted : Type 0
 Wanted = NameDemand → Bool
 
--- the single demands of a name set: the empty path touched, each path that holds a subset touched, and each path that is whole
+-- the single demands of a name set: the empty path touched, each path that holds a subset touched, and each path that
+-- is whole
 abbrev pub set_demands : NameSet → Wanted
 set_demands f names_but_default = false
 set_demands f each_name = false

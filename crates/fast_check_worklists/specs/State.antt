@@ -13,7 +13,8 @@ use Rattle.fast_check_demands.specs.Demands.{Demand as SymbolDemand}
 use Rattle.fast_check_worklists.specs.declared.asked.Step.{Step}
 use Rattle.fast_check_worklists.specs.declared.asked.Step.TheVariants.{Package, Module}
 use Rattle.fast_check_worklists.specs.declared.asked.Asked.{Asked}
-use Rattle.fast_check_worklists.specs.Demands.{Text, same_nv, asked, Want, to_package, to_module, to_symbol, Demand, of_package, of_module, of_symbol, World}
+use Rattle.fast_check_worklists.specs.Demands.{Text, same_nv, asked, Want, to_package, to_module, to_symbol, Demand}
+use Rattle.fast_check_worklists.specs.Demands.{of_package, of_module, of_symbol, World}
 use Rattle.fast_check_worklists.specs.Account.{Trace, Followed, HasIn, IsSymbolMet}
 
 abbrev pub want_of : Step → Want
@@ -44,7 +45,9 @@ AddsPackage p old new = new ≡ cond (list_any (same_nv p) old) old (old ++ p �
 
 abbrev pub AsksModule : PackageNv → Parts → ImportedExports → State → State → Type 0
 AsksModule nv url x a b =
-    (b.packages ≡ a.packages) × ((answer : Option ImportedExports) × Handles a.handled url x answer b.handled × WaitsFor nv url answer a.waiting b.waiting)
+    (b.packages ≡ a.packages) ×
+    ((answer : Option ImportedExports) × Handles a.handled url x answer b.handled ×
+    WaitsFor nv url answer a.waiting b.waiting)
 
 abbrev pub AsksPackage : PackageNv → State → State → Type 0
 AsksPackage nv a b = (b.handled ≡ a.handled) × (b.waiting ≡ a.waiting) × AddsPackage (nv_of nv) a.packages b.packages
@@ -62,12 +65,14 @@ AsksAll (s ∷ steps) a b = (mid : State) × AsksOne s a mid × AsksAll steps mi
 pub data Reached (world : World) (x : Trace) : SymbolDemand → Type 0 where
   root : (d : NameDemand) (s : SymbolDemand) → IsTrue (asked x.exports d) →
       Contains (world (of_module x.nv x.specifier d)) (to_symbol x.nv x.specifier s) → Reached world x s
-  step : (s e : SymbolDemand) → Reached world x s → Contains (world (of_symbol x.nv x.specifier s)) (to_symbol x.nv x.specifier e) → Reached world x e
+  step : (s e : SymbolDemand) → Reached world x s → Contains (world (of_symbol x.nv x.specifier s))
+      (to_symbol x.nv x.specifier e) → Reached world x e
 
 -- the demands of symbols of a trace are those to which it leads, up to cover
 pub record IsSearched (world : World) (x : Followed) : Type 0 where
   pub reached : (s : SymbolDemand) → Contains x.symbols s → Reached world x.trace s
-  pub closed : (d : Demand) → HasIn x d → (p : Nv) (t : Text) (s : SymbolDemand) → Contains (world d) (to_symbol p t s) → IsSymbolMet p t s x
+  pub closed : (d : Demand) → HasIn x d → (p : Nv) (t : Text) (s : SymbolDemand) →
+      Contains (world d) (to_symbol p t s) → IsSymbolMet p t s x
 
 -- wants of other than symbols
 abbrev pub IsOuter : Want → Type 0
@@ -86,7 +91,8 @@ pub record AreGiven {Y : Type 0} (gives : Demand → List Y) (x : Followed) (giv
   pub complete : (d : Demand) (y : Y) → HasIn x d → Contains (gives d) y → Contains given y
 
 -- a trace was followed
-pub record IsFollowed {Y : Type 0} (world : World) (gives : Demand → List Y) (trace : Trace) (a b : State) (old new : List Y) : Type 0 where
+pub record IsFollowed {Y : Type 0} (world : World) (gives : Demand → List Y) (trace : Trace) (a b : State)
+    (old new : List Y) : Type 0 where
   pub symbols : List SymbolDemand
   pub steps : List Step
   pub given : List Y
@@ -97,7 +103,8 @@ pub record IsFollowed {Y : Type 0} (world : World) (gives : Demand → List Y) (
   pub new_is : new ≡ old ++ given
 
 -- the entry points of a package were asked for
-pub record IsEntered {Y : Type 0} (world : World) (gives : Demand → List Y) (nv : Nv) (a b : State) (old new : List Y) : Type 0 where
+pub record IsEntered {Y : Type 0} (world : World) (gives : Demand → List Y) (nv : Nv) (a b : State)
+    (old new : List Y) : Type 0 where
   pub steps : List Step
   pub wants : map want_of steps ≡ world (of_package nv)
   pub asks : AsksAll steps a b

@@ -28,21 +28,28 @@ entry_of t = (t.specifier, (t.package_nv, t.exports_to_trace))
 
 -- A new module goes last, with a copy of what is demanded of it, which is answered whole.
 -- To a module that is there what is demanded is added, in its place.
-abbrev pub HandlesAt : Option ImportedExports → List (Parts × ImportedExports) → Parts → ImportedExports → Option ImportedExports →
+abbrev pub HandlesAt : Option ImportedExports → List (Parts × ImportedExports) → Parts → ImportedExports →
+    Option ImportedExports →
     List (Parts × ImportedExports) → Type 0
-HandlesAt None old url traced answer new = (answer ≡ Some traced) × (copy : ImportedExports) × IsCopy traced copy × (new ≡ old ++ (url, copy) ∷ [])
-HandlesAt (Some held) old url traced answer new = (state : ImportedExports) × IsAdded held traced answer state × (new ≡ set_value (is_module url) old state)
+HandlesAt None old url traced answer new = (answer ≡ Some traced) × (copy : ImportedExports) × IsCopy traced copy ×
+    (new ≡ old ++ (url, copy) ∷ [])
+HandlesAt (Some held) old url traced answer new = (state : ImportedExports) × IsAdded held traced answer state ×
+    (new ≡ set_value (is_module url) old state)
 
-abbrev pub Handles : List (Parts × ImportedExports) → Parts → ImportedExports → Option ImportedExports → List (Parts × ImportedExports) → Type 0
+abbrev pub Handles : List (Parts × ImportedExports) → Parts → ImportedExports → Option ImportedExports →
+    List (Parts × ImportedExports) → Type 0
 Handles old url traced answer new = HandlesAt (lookup (is_module url) old) old url traced answer new
 
 -- A new module goes last, with its package and what is demanded of it.
 -- A module that is there keeps its place and the package that asked first, and what is demanded is added.
-abbrev pub WaitsAt : Option (PackageNv × ImportedExports) → List (Parts × (PackageNv × ImportedExports)) → PackageNv → Parts → ImportedExports →
+abbrev pub WaitsAt : Option (PackageNv × ImportedExports) → List (Parts × (PackageNv × ImportedExports)) → PackageNv →
+    Parts → ImportedExports →
     List (Parts × (PackageNv × ImportedExports)) → Type 0
 WaitsAt None old nv url traced new = new ≡ old ++ (url, (nv, traced)) ∷ []
 WaitsAt (Some held) old nv url traced new =
-    (state : ImportedExports) × (answer : Option ImportedExports) × IsAdded held.1 traced answer state × (new ≡ set_value (is_module url) old (held.0, state))
+    (state : ImportedExports) × (answer : Option ImportedExports) × IsAdded held.1 traced answer state ×
+    (new ≡ set_value (is_module url) old (held.0, state))
 
-abbrev pub Waits : List (Parts × (PackageNv × ImportedExports)) → PackageNv → Parts → ImportedExports → List (Parts × (PackageNv × ImportedExports)) → Type 0
+abbrev pub Waits : List (Parts × (PackageNv × ImportedExports)) → PackageNv → Parts → ImportedExports →
+    List (Parts × (PackageNv × ImportedExports)) → Type 0
 Waits old nv url traced new = WaitsAt (lookup (is_module url) old) old nv url traced new

@@ -29,11 +29,13 @@ use Rattle.fast_check_new_nodes.specs.Shown.{default_type}
 use Rattle.fast_check_values.specs.Looked.{known_type, known_answer, patterns, params_looked}
 use Rattle.fast_check_helpers.specs.OptionalParams.{is_optional_param}
 use Rattle.std.specs.List.{list_all}
-use Rattle.fast_check_values.proofs.Behind.{behind_along, items_are, trees_are, adds_given, parts_step, parts_refused, items_step, items_end, with_pat, param_added, default_made}
+use Rattle.fast_check_values.proofs.Behind.{behind_along, items_are, trees_are, adds_given, parts_step, parts_refused, items_step}
+use Rattle.fast_check_values.proofs.Behind.{items_end, with_pat, param_added, default_made}
 use Rattle.fast_check_values.proofs.Heights.{height_less}
-use Rattle.fast_check_values.proofs.Looked.{seen_left_out, seen_untyped_array, seen_typed_array, seen_untyped_object, seen_typed_object, none_of}
-use Rattle.fast_check_values.proofs.Looked.{not_leaf, not_arrow, seen_parted, seen_whole, seen_arrow, seen_slotted, seen_refused, seen_known}
-use Rattle.fast_check_values.proofs.Looked.{next_part, next_slot, next_pat, next_param, seen_by_kind, other_pat, other_left, slot_is}
+use Rattle.fast_check_values.proofs.Looked.{seen_left_out, seen_untyped_array, seen_typed_array, seen_untyped_object, seen_typed_object}
+use Rattle.fast_check_values.proofs.Looked.{none_of, not_leaf, not_arrow, seen_parted, seen_whole, seen_arrow, seen_slotted, seen_refused}
+use Rattle.fast_check_values.proofs.Looked.{seen_known, next_part, next_slot, next_pat, next_param, seen_by_kind, other_pat, other_left}
+use Rattle.fast_check_values.proofs.Looked.{slot_is}
 use Rattle.fast_check_values.proofs.Arrows.{arrow_known, arrow_valued}
 use Rattle.fast_check_values.proofs.+leave.Goals as goal
 
@@ -50,45 +52,55 @@ expressions::leave_expr-returns-then-contains t c =
 pub expressions::leave_expr-returns-then-contains-2 : goal.expressions::leave_expr-returns-then-contains-2
 expressions::leave_expr-returns-then-contains-2 t c =
     let k = c.kind-kind.ensures in
-    let compound : is_compound (kind_of (seen c.args.expr)) ≡ false = sym (c.contains.ensures.value ∙ ap is_compound k) ∙ c.if-contains.false in
+    let compound : is_compound (kind_of (seen c.args.expr)) ≡ false = sym (c.contains.ensures.value ∙ ap is_compound k) ∙
+    c.if-contains.false in
     let plain : is_plain (kind_of (seen c.args.expr)) ≡ true = sym (c.contains-2.ensures.value ∙ ap is_plain k) ∙ c.if-contains-2.true in
-    adds_same (ap answer_to (seen_whole (bindings_of c.args.info.now) (seen c.args.expr) c.args.place compound plain) ∙ ap (λ (x : Tree). faultless (Some x))
+    adds_same
+    (ap answer_to (seen_whole (bindings_of c.args.info.now) (seen c.args.expr) c.args.place compound plain) ∙
+    ap (λ (x : Tree). faultless (Some x))
     (sym c.in_ok-to_tree.ensures))
     (adds_nothing (Some c.in_ok-to_tree.field-0) c.args.faults.now.items)
 
 pub expressions::leave_expr-transform_arrow-requires : goal.expressions::leave_expr-transform_arrow-requires
 expressions::leave_expr-transform_arrow-requires t c =
-    let plain : is_plain (kind_of (seen c.args.expr)) ≡ false = sym (c.contains-2.ensures.value ∙ ap is_plain c.kind-kind.ensures) ∙ c.if-contains-2.false in
+    let plain : is_plain (kind_of (seen c.args.expr)) ≡ false = sym (c.contains-2.ensures.value ∙ ap is_plain c.kind-kind.ensures) ∙
+    c.if-contains-2.false in
     (omega (arith, c.decreases, height_part (seen c.args.expr) 0 (not_leaf (kind_of (seen c.args.expr)) plain)), tt)
 
 pub expressions::leave_expr-returns-then-eq : goal.expressions::leave_expr-returns-then-eq
 expressions::leave_expr-returns-then-eq t c =
     let arrow : kind_of (seen c.args.expr) ≡ kinds.ArrowExpr = sym c.kind-kind.ensures ∙ is_kind c.kind-kind.result kinds.ArrowExpr
     (sym c.eq.ensures ∙ c.if-eq.true) in
-    adds_same (ap answer_to (seen_arrow (bindings_of c.args.info.now) (seen c.args.expr) c.args.place arrow)) c.in_ok-transform_arrow.ensures
+    adds_same
+    (ap answer_to (seen_arrow (bindings_of c.args.info.now) (seen c.args.expr) c.args.place arrow)) c.in_ok-transform_arrow.ensures
 
 pub expressions::leave_expr-leave_slots-requires : goal.expressions::leave_expr-leave_slots-requires
 expressions::leave_expr-leave_slots-requires t c =
-    let plain : is_plain (kind_of (seen c.args.expr)) ≡ false = sym (c.contains-2.ensures.value ∙ ap is_plain c.kind-kind.ensures) ∙ c.if-contains-2.false in
+    let plain : is_plain (kind_of (seen c.args.expr)) ≡ false = sym (c.contains-2.ensures.value ∙ ap is_plain c.kind-kind.ensures) ∙
+    c.if-contains-2.false in
     (omega (arith, c.decreases, height_part (seen c.args.expr) 0 (not_leaf (kind_of (seen c.args.expr)) plain)), tt)
 
 pub expressions::leave_expr-returns-in-Some : goal.expressions::leave_expr-returns-in-Some
 expressions::leave_expr-returns-in-Some t c =
     let k = c.kind-kind.ensures in
-    let compound : is_compound (kind_of (seen c.args.expr)) ≡ false = sym (c.contains.ensures.value ∙ ap is_compound k) ∙ c.if-contains.false in
+    let compound : is_compound (kind_of (seen c.args.expr)) ≡ false = sym (c.contains.ensures.value ∙ ap is_compound k) ∙
+    c.if-contains.false in
     let plain : is_plain (kind_of (seen c.args.expr)) ≡ false = sym (c.contains-2.ensures.value ∙ ap is_plain k) ∙ c.if-contains-2.false in
     let row = sym c.in_ok-row.ensures ∙ ap option_copied c.in-Some.is in
     IfOk-weaker c.leave_slots.result _ _
-    (λ tree h. adds_same (ap answer_to (seen_slotted (bindings_of c.args.info.now) (seen c.args.expr) c.args.place c.in-Some.row.now compound plain row)) h)
+    (λ tree h. adds_same
+    (ap answer_to (seen_slotted (bindings_of c.args.info.now) (seen c.args.expr) c.args.place c.in-Some.row.now compound plain row)) h)
     c.leave_slots.ensures
 
 pub expressions::leave_expr-returns-in-None : goal.expressions::leave_expr-returns-in-None
 expressions::leave_expr-returns-in-None t c =
     let k = c.kind-kind.ensures in
-    let compound : is_compound (kind_of (seen c.args.expr)) ≡ false = sym (c.contains.ensures.value ∙ ap is_compound k) ∙ c.if-contains.false in
+    let compound : is_compound (kind_of (seen c.args.expr)) ≡ false = sym (c.contains.ensures.value ∙ ap is_compound k) ∙
+    c.if-contains.false in
     let plain : is_plain (kind_of (seen c.args.expr)) ≡ false = sym (c.contains-2.ensures.value ∙ ap is_plain k) ∙ c.if-contains-2.false in
     let row = sym c.in_ok-row.ensures ∙ ap option_copied c.in-None.is in
-    let arrow = λ (e : kind_of (seen c.args.expr) ≡ kinds.ArrowExpr). not_arrow c.kind-kind.result (sym c.eq.ensures ∙ c.if-eq.false) (k ∙ e) in
+    let arrow = λ (e : kind_of (seen c.args.expr) ≡ kinds.ArrowExpr). not_arrow c.kind-kind.result (sym c.eq.ensures ∙ c.if-eq.false)
+    (k ∙ e) in
     adds_same (ap answer_to (seen_refused (bindings_of c.args.info.now) (seen c.args.expr) c.args.place compound plain row arrow))
     (adds_nothing None c.args.faults.now.items)
 
@@ -119,7 +131,8 @@ expressions::leave_slots-loop-index-preserved t c =
     let i = c.loop-index.index in
     let within : i < length row = c.loop-index-test.true in
     let next = behind_along (next_slot u e c.args.place row i slots.Span within) c.loop-index.invariant in
-    let given = adds_same (ap (λ (p : Tree). answer_to (slot_seen u (get_or row i slots.Span) p (expr_seen u) c.args.place)) (sym c.part.ensures))
+    let given =
+    adds_same (ap (λ (p : Tree). answer_to (slot_seen u (get_or row i slots.Span) p (expr_seen u) c.args.place)) (sym c.part.ensures))
     (adds_given c.in-Some.is c.in_ok-tree.ensures) in
     items_are (sym c.in_ok-push-in-Some.ensures.ok) (parts_step c.loop-index.stay c.in-Some.tree _ _ next given)
 
@@ -138,11 +151,16 @@ pub functions::transform_arrow-returns-in_ok-params-in-Some : goal.functions::tr
 functions::transform_arrow-returns-in_ok-params-in-Some t c =
     let u = bindings_of c.args.info.now in
     let a = seen c.args.arrow in
-    let at : c.or_own-place.result ≡ or_own c.args.place (ArrowExpr-span a) = c.or_own-place.ensures ∙ ap (or_own c.args.place) c.of-form.ensures.span in
+    let at : c.or_own-place.result ≡ or_own c.args.place (ArrowExpr-span a) = c.or_own-place.ensures ∙
+    ap (or_own c.args.place) c.of-form.ensures.span in
     let type = adds_same (ap (λ (p : SourceRange). known_answer (known_type u.unresolved p a)) (sym at))
     (adds_given c.in-Some.is c.in_ok-return_type.ensures) in
-    let pats = adds_same (ap (λ (p : Tree). answer_of (pats_seen u (expr_seen u) (parts p))) (sym c.of-form.ensures.params)) c.in_ok-params-in-Some.ensures in
-    IfOk-weaker c.signed_arrow.result _ _ (λ tree e. adds_given (ap Some (sym e)) (arrow_known u c.args.place a type pats)) c.signed_arrow.ensures
+    let pats =
+    adds_same
+    (ap (λ (p : Tree). answer_of (pats_seen u (expr_seen u) (parts p)))
+    (sym c.of-form.ensures.params)) c.in_ok-params-in-Some.ensures in
+    IfOk-weaker c.signed_arrow.result _ _
+    (λ tree e. adds_given (ap Some (sym e)) (arrow_known u c.args.place a type pats)) c.signed_arrow.ensures
 
 pub functions::transform_arrow-returns-in_ok-params-in-None : goal.functions::transform_arrow-returns-in_ok-params-in-None
 functions::transform_arrow-returns-in_ok-params-in-None t c =
@@ -154,8 +172,10 @@ functions::transform_arrow-returns-in_ok-params-in-None t c =
     (adds_given c.in-None.is c.in_ok-return_type.ensures) in
     let value = adds_same (λ i. demanded (fault_at (return_type_missing false (sym f.is_async i)) (sym at i))
     (answer_to (expr_seen u (sym f.body i) None))) c.in_ok-value-in-None.ensures in
-    let pats = adds_same (ap (λ (p : Tree). answer_of (pats_seen u (expr_seen u) (parts p))) (sym f.params)) c.in_ok-params-in-None.ensures in
-    IfOk-weaker c.kept_arrow.result _ _ (λ tree e. adds_given (ap Some (sym e)) (arrow_valued u c.args.place a type value pats)) c.kept_arrow.ensures
+    let pats =
+    adds_same (ap (λ (p : Tree). answer_of (pats_seen u (expr_seen u) (parts p))) (sym f.params)) c.in_ok-params-in-None.ensures in
+    IfOk-weaker c.kept_arrow.result _ _
+    (λ tree e. adds_given (ap Some (sym e)) (arrow_valued u c.args.place a type value pats)) c.kept_arrow.ensures
 
 pub functions::transform_fn-transform_params-requires : goal.functions::transform_fn-transform_params-requires
 functions::transform_fn-transform_params-requires t c = grind (arith, height_at_most)
@@ -170,12 +190,14 @@ parameters::transform_assign_pat-returns-in-Some t c =
     let u = bindings_of c.args.info.now in
     let b = c.args.is_optional in
     let pat = seen c.args.pat in
-    let ident : kind_of (AssignPat-left pat) ≡ kinds.BindingIdent = sym (c.kind.ensures ∙ ap kind_of c.of.ensures.left) ∙ c.in-BindingIdent.is in
+    let ident : kind_of (AssignPat-left pat) ≡ kinds.BindingIdent = sym (c.kind.ensures ∙ ap kind_of c.of.ensures.left) ∙
+    c.in-BindingIdent.is in
     let scope = ap (λ (x : SyntaxContext). default_type x pat) c.unresolved_context.ensures in
     let known : default_type u.unresolved pat ≡ Some c.in-Some.ty = sym (c.in_ok-ty-in-BindingIdent.ensures ∙ scope) ∙ c.in-Some.is in
     IfOk-weaker c.without_default.result _ _
     (λ tree e. adds_same (ap answer_to (seen_known u b pat c.in-Some.ty ident known) ∙
-    ap (λ (x : Tree). faultless (Some x)) (sym (e ∙ ap (λ (l : Tree). without_default b (BindingIdent-id l) c.in-Some.ty) c.of.ensures.left)))
+    ap (λ (x : Tree). faultless (Some x))
+    (sym (e ∙ ap (λ (l : Tree). without_default b (BindingIdent-id l) c.in-Some.ty) c.of.ensures.left)))
     (adds_nothing (Some tree) c.args.faults.now.items)) c.without_default.ensures
 
 pub parameters::transform_params-transform_param_pat-requires : goal.parameters::transform_params-transform_param_pat-requires
@@ -199,24 +221,28 @@ pub parameters::transform_param_pat-returns-in-AssignPat : goal.parameters::tran
 parameters::transform_param_pat-returns-in-AssignPat t c =
     let kind = sym c.kind.ensures ∙ c.in-AssignPat.is in
     IfOk-weaker c.transform_assign_pat.result _ _
-    (λ tree h. adds_same (ap answer_to (seen_by_kind (bindings_of c.args.info.now) c.args.is_optional (seen c.args.pat) kinds.AssignPat kind)) h)
+    (λ tree h. adds_same
+    (ap answer_to (seen_by_kind (bindings_of c.args.info.now) c.args.is_optional (seen c.args.pat) kinds.AssignPat kind)) h)
     c.transform_assign_pat.ensures
 
 pub parameters::transform_param_pat-returns-in-RestPat : goal.parameters::transform_param_pat-returns-in-RestPat
 parameters::transform_param_pat-returns-in-RestPat t c =
     let kind = sym c.kind.ensures ∙ c.in-RestPat.is in
     IfOk-weaker c.transform_rest.result _ _
-    (λ tree h. adds_same (ap answer_to (seen_by_kind (bindings_of c.args.info.now) c.args.is_optional (seen c.args.pat) kinds.RestPat kind)) h)
+    (λ tree h. adds_same
+    (ap answer_to (seen_by_kind (bindings_of c.args.info.now) c.args.is_optional (seen c.args.pat) kinds.RestPat kind)) h)
     c.transform_rest.ensures
 
 pub parameters::transform_param_pat-returns-in_default : goal.parameters::transform_param_pat-returns-in_default
 parameters::transform_param_pat-returns-in_default t c =
     let d = c.in_default in
     let k = c.kind.ensures in
-    let other = other_pat (bindings_of c.args.info.now) c.args.is_optional (seen c.args.pat) (kind_of (seen c.args.pat)) (λ e. d.not-BindingIdent (k ∙ e))
+    let other = other_pat (bindings_of c.args.info.now) c.args.is_optional (seen c.args.pat) (kind_of (seen c.args.pat))
+    (λ e. d.not-BindingIdent (k ∙ e))
     (λ e. d.not-AssignPat (k ∙ e)) (λ e. d.not-RestPat (k ∙ e)) (λ e. d.not-ArrayPat (k ∙ e)) (λ e. d.not-ObjectPat (k ∙ e)) in
     IfOk-weaker c.unsupported.result _ _
-    (λ tree h. adds_same (ap answer_to (other ∙ ap (λ (p : SourceRange). faulty UnsupportedDestructuring p) (sym c.range_of_node.ensures))) h)
+    (λ tree h. adds_same
+    (ap answer_to (other ∙ ap (λ (p : SourceRange). faulty UnsupportedDestructuring p) (sym c.range_of_node.ensures))) h)
     c.unsupported.ensures
 
 pub parameters::transform_assign_pat-returns-in_default : goal.parameters::transform_assign_pat-returns-in_default
@@ -267,7 +293,8 @@ expressions::leave_slots-returns-in-None t c =
     let i = c.loop-index.index in
     let within : i < length row = c.loop-index-test.true in
     let next = behind_along (next_slot u e c.args.place row i slots.Span within) c.loop-index.invariant in
-    let given = adds_same (ap (λ (p : Tree). answer_to (slot_seen u (get_or row i slots.Span) p (expr_seen u) c.args.place)) (sym c.part.ensures))
+    let given =
+    adds_same (ap (λ (p : Tree). answer_to (slot_seen u (get_or row i slots.Span) p (expr_seen u) c.args.place)) (sym c.part.ensures))
     (adds_given c.in-None.is c.in_ok-tree.ensures) in
     adds_made (option_map (node (kind_of e))) (parts_refused c.loop-index.stay _ _ next given)
 
@@ -276,7 +303,8 @@ expressions::leave_slots-returns-in-None t c =
 pub expressions::leave_slot-returns-in-Span : goal.expressions::leave_slot-returns-in-Span
 expressions::leave_slot-returns-in-Span t c =
     adds_same (slot_is (bindings_of c.args.info.now) c.args.slot slots.Span (seen c.args.part) c.args.place c.in-Span.is
-    ∙ ap (λ (r : SourceRange). faultless (Some (tree.Range r))) (sym c.range.ensures)) (adds_nothing (Some (tree.Range c.range.result)) c.args.faults.now.items)
+    ∙ ap (λ (r : SourceRange). faultless (Some (tree.Range r))) (sym c.range.ensures))
+    (adds_nothing (Some (tree.Range c.range.result)) c.args.faults.now.items)
 
 pub expressions::leave_slot-returns-in-Scope : goal.expressions::leave_slot-returns-in-Scope
 expressions::leave_slot-returns-in-Scope t c =
@@ -299,15 +327,19 @@ expressions::leave_slot-returns-in_ok-never_in_parens-in-Never t c =
 pub expressions::leave_slot-returns-in-Value : goal.expressions::leave_slot-returns-in-Value
 expressions::leave_slot-returns-in-Value t c =
     IfOk-weaker c.leave_expr.result _ _
-    (λ tree h. adds_same (slot_is (bindings_of c.args.info.now) c.args.slot slots.Value (seen c.args.part) c.args.place c.in-Value.is) h) c.leave_expr.ensures
+    (λ tree h. adds_same
+    (slot_is (bindings_of c.args.info.now) c.args.slot slots.Value
+    (seen c.args.part) c.args.place c.in-Value.is) h) c.leave_expr.ensures
 
 pub expressions::leave_slot-returns-in_ok-transform_fn-in-Function : goal.expressions::leave_slot-returns-in_ok-transform_fn-in-Function
 expressions::leave_slot-returns-in_ok-transform_fn-in-Function t c =
     let u = bindings_of c.args.info.now in
     let f = seen c.args.part in
-    let at : c.or_own-place.result ≡ or_own c.args.place (Function-span f) = c.or_own-place.ensures ∙ ap (or_own c.args.place) c.of.ensures.span in
+    let at : c.or_own-place.result ≡ or_own c.args.place (Function-span f) = c.or_own-place.ensures ∙
+    ap (or_own c.args.place) c.of.ensures.span in
     adds_same (slot_is u c.args.slot slots.Function f c.args.place c.in-Function.is
-    ∙ ap (λ (p : SourceRange). answer_to (function_seen u (expr_seen u) ExpressionLike p f)) (sym at)) c.in_ok-transform_fn-in-Function.ensures
+    ∙ ap (λ (p : SourceRange). answer_to (function_seen u (expr_seen u) ExpressionLike p f))
+    (sym at)) c.in_ok-transform_fn-in-Function.ensures
 
 -- ---- functions
 
@@ -317,7 +349,8 @@ functions::transform_fn-returns t c =
     let f = seen c.args.function in
     let params = adds_same (ap (λ (ps : Tree). answer_of (params_looked u (parts ps))) (sym c.of.ensures.params)) c.in_ok-params.ensures in
     IfOk-weaker c.signed_function.result _ _ (λ tree e. adds_given (ap Some (sym e))
-    (adds_joined (λ type ps. Some (signed_function (function_head f) type ps)) (adds_settled c.in_ok-return_type.ensures) params)) c.signed_function.ensures
+    (adds_joined (λ type ps. Some (signed_function (function_head f) type ps))
+    (adds_settled c.in_ok-return_type.ensures) params)) c.signed_function.ensures
 
 -- ---- patterns by their kind
 
@@ -326,7 +359,8 @@ parameters::transform_param_pat-returns-in_ok-to_tree-in-BindingIdent t c =
     let kind = sym c.kind.ensures ∙ c.in-BindingIdent.is in
     let at = c.of-in-BindingIdent.ensures.span ∙ ap Ident-span c.of.ensures.id in
     IfOk-weaker c.typed.result _ _
-    (λ tree h. adds_same (ap answer_to (seen_by_kind (bindings_of c.args.info.now) c.args.is_optional (seen c.args.pat) kinds.BindingIdent kind) ∙
+    (λ tree h. adds_same
+    (ap answer_to (seen_by_kind (bindings_of c.args.info.now) c.args.is_optional (seen c.args.pat) kinds.BindingIdent kind) ∙
     sym (λ i. answer_to (typed (c.of.ensures.type_ann i) (at i) (c.in_ok-to_tree-in-BindingIdent.ensures i)))) h) c.typed.ensures
 
 pub parameters::transform_param_pat-returns-in_ok-emptied_array-in-ArrayPat : goal.parameters::transform_param_pat-returns-in_ok-emptied_array-in-ArrayPat
@@ -334,7 +368,8 @@ parameters::transform_param_pat-returns-in_ok-emptied_array-in-ArrayPat t c =
     let kind = sym c.kind.ensures ∙ c.in-ArrayPat.is in
     let of = c.of-in-ArrayPat.ensures in
     IfOk-weaker c.typed-in-ArrayPat.result _ _
-    (λ tree h. adds_same (ap answer_to (seen_by_kind (bindings_of c.args.info.now) c.args.is_optional (seen c.args.pat) kinds.ArrayPat kind) ∙
+    (λ tree h. adds_same
+    (ap answer_to (seen_by_kind (bindings_of c.args.info.now) c.args.is_optional (seen c.args.pat) kinds.ArrayPat kind) ∙
     sym (λ i. answer_to (typed (of.type_ann i) (of.span i) (c.in_ok-emptied_array-in-ArrayPat.ensures i)))) h) c.typed-in-ArrayPat.ensures
 
 pub parameters::transform_param_pat-returns-in_ok-emptied_object-in-ObjectPat : goal.parameters::transform_param_pat-returns-in_ok-emptied_object-in-ObjectPat
@@ -342,8 +377,10 @@ parameters::transform_param_pat-returns-in_ok-emptied_object-in-ObjectPat t c =
     let kind = sym c.kind.ensures ∙ c.in-ObjectPat.is in
     let of = c.of-in-ObjectPat.ensures in
     IfOk-weaker c.typed-in-ObjectPat.result _ _
-    (λ tree h. adds_same (ap answer_to (seen_by_kind (bindings_of c.args.info.now) c.args.is_optional (seen c.args.pat) kinds.ObjectPat kind) ∙
-    sym (λ i. answer_to (typed (of.type_ann i) (of.span i) (c.in_ok-emptied_object-in-ObjectPat.ensures i)))) h) c.typed-in-ObjectPat.ensures
+    (λ tree h. adds_same
+    (ap answer_to (seen_by_kind (bindings_of c.args.info.now) c.args.is_optional (seen c.args.pat) kinds.ObjectPat kind) ∙
+    sym (λ i. answer_to
+    (typed (of.type_ann i) (of.span i) (c.in_ok-emptied_object-in-ObjectPat.ensures i)))) h) c.typed-in-ObjectPat.ensures
 
 pub parameters::transform_assign_pat-returns-in_ok-left-in-BindingIdent : goal.parameters::transform_assign_pat-returns-in_ok-left-in-BindingIdent
 parameters::transform_assign_pat-returns-in_ok-left-in-BindingIdent t c =
@@ -357,7 +394,8 @@ parameters::transform_assign_pat-returns-in_ok-left-in-BindingIdent t c =
     let at = c.of-in-BindingIdent-2.ensures.span ∙ ap Ident-span (c.of-in-BindingIdent.ensures.id ∙ ap BindingIdent-id left) in
     IfOk-weaker c.leave_default.result _ _
     (λ tree h. adds_same (ap answer_to (seen_left_out u c.args.is_optional pat ident unknown) ∙ sym (λ i. answer_to
-    (default_seen (AssignPat-span pat) (at i) ((c.in_ok-left-in-BindingIdent.ensures ∙ left) i) (expr_seen u (AssignPat-right pat) (Some (at i)))))) h)
+    (default_seen (AssignPat-span pat) (at i) ((c.in_ok-left-in-BindingIdent.ensures ∙ left) i)
+    (expr_seen u (AssignPat-right pat) (Some (at i)))))) h)
     c.leave_default.ensures
 
 pub parameters::transform_assign_pat-returns-then-is_absent : goal.parameters::transform_assign_pat-returns-then-is_absent
@@ -394,10 +432,12 @@ parameters::transform_assign_pat-returns-then-is_absent-2 t c =
     let left = c.of.ensures.left in
     let of = c.of-in-ObjectPat.ensures in
     let kind : kind_of (AssignPat-left pat) ≡ kinds.ObjectPat = sym (c.kind.ensures ∙ ap kind_of left) ∙ c.in-ObjectPat.is in
-    let absent = ap is_absent (sym (of.type_ann ∙ ap ObjectPat-type_ann left)) ∙ (sym c.is_absent-in-ObjectPat.ensures ∙ c.if-is_absent-2.true) in
+    let absent = ap is_absent (sym (of.type_ann ∙ ap ObjectPat-type_ann left)) ∙
+    (sym c.is_absent-in-ObjectPat.ensures ∙ c.if-is_absent-2.true) in
     IfOk-weaker c.leave_default-then-is_absent-2.result _ _
     (λ tree h. adds_same (ap answer_to (seen_untyped_object u c.args.is_optional pat kind absent) ∙ sym (λ i. answer_to
-    (default_seen (AssignPat-span pat) ((of.span ∙ ap ObjectPat-span left) i) ((c.in_ok-left-in-ObjectPat.ensures ∙ ap emptied_object left) i)
+    (default_seen (AssignPat-span pat) ((of.span ∙ ap ObjectPat-span left) i)
+    ((c.in_ok-left-in-ObjectPat.ensures ∙ ap emptied_object left) i)
     (expr_seen u (AssignPat-right pat) None)))) h) c.leave_default-then-is_absent-2.ensures
 
 pub parameters::transform_assign_pat-returns-in_ok-never_value-in-ObjectPat : goal.parameters::transform_assign_pat-returns-in_ok-never_value-in-ObjectPat
@@ -407,7 +447,8 @@ parameters::transform_assign_pat-returns-in_ok-never_value-in-ObjectPat t c =
     let left = c.of.ensures.left in
     let of = c.of-in-ObjectPat.ensures in
     let kind : kind_of (AssignPat-left pat) ≡ kinds.ObjectPat = sym (c.kind.ensures ∙ ap kind_of left) ∙ c.in-ObjectPat.is in
-    let absent = ap is_absent (sym (of.type_ann ∙ ap ObjectPat-type_ann left)) ∙ (sym c.is_absent-in-ObjectPat.ensures ∙ c.if-is_absent-2.false) in
+    let absent = ap is_absent (sym (of.type_ann ∙ ap ObjectPat-type_ann left)) ∙
+    (sym c.is_absent-in-ObjectPat.ensures ∙ c.if-is_absent-2.false) in
     IfOk-weaker c.with_default-in-ObjectPat.result _ _
     (λ tree e. adds_same (ap answer_to (seen_typed_object u c.args.is_optional pat kind absent) ∙ ap (λ (x : Tree). faultless (Some x))
     (sym (e ∙ (λ i. assign_pat (AssignPat-span pat) ((c.in_ok-left-in-ObjectPat.ensures ∙ ap emptied_object left) i)
@@ -433,5 +474,7 @@ parameters::transform_params-returns t c =
     let all = c.parts-params.ensures in
     adds_same (ap (λ (ps : List Tree). answer_of (params_looked u ps)) (sym all))
     (items_end c.loop-index.items
-    (behind_along (ap (λ (ps : List Tree). answer_of (params_looked u ps)) (drop_all c.loop-index.index c.parts-params.result.now c.loop-index-test.false))
+    (behind_along
+    (ap (λ (ps : List Tree). answer_of (params_looked u ps))
+    (drop_all c.loop-index.index c.parts-params.result.now c.loop-index-test.false))
     c.loop-index.invariant))

@@ -50,19 +50,23 @@ decreases-parameters::transform_pats l = 16 * height (seen l.params) + 4
 abbrev pub invariant-expressions::leave_parts-loop-part : goal.invariant-expressions::leave_parts-loop-part
 invariant-expressions::leave_parts-loop-part l =
     Behind (behind l.items) (parts_answer (seens (map (λ p. expr_seen (bindings_of l.info) p None) l.part-items)))
-    (parts_answer (seens (map (λ p. expr_seen (bindings_of l.info) p None) (drop l.part-index l.part-items)))) l.initial.faults.items l.faults.items
+    (parts_answer
+    (seens (map (λ p. expr_seen (bindings_of l.info) p None) (drop l.part-index l.part-items)))) l.initial.faults.items l.faults.items
 
 abbrev pub invariant-expressions::leave_slots-loop-index : goal.invariant-expressions::leave_slots-loop-index
 invariant-expressions::leave_slots-loop-index l =
-    Behind (behind l.stay) (parts_answer (seens (slots_seen (bindings_of l.info) l.row 0 (seen l.expr) (expr_seen (bindings_of l.info)) l.place)))
-    (parts_answer (seens (slots_seen (bindings_of l.info) (drop l.index l.row) l.index (seen l.expr) (expr_seen (bindings_of l.info)) l.place)))
+    Behind (behind l.stay)
+    (parts_answer (seens (slots_seen (bindings_of l.info) l.row 0 (seen l.expr) (expr_seen (bindings_of l.info)) l.place)))
+    (parts_answer
+    (seens (slots_seen (bindings_of l.info) (drop l.index l.row) l.index (seen l.expr) (expr_seen (bindings_of l.info)) l.place)))
     l.initial.faults.items
     l.faults.items
 
 abbrev pub invariant-parameters::transform_pats-loop-index : goal.invariant-parameters::transform_pats-loop-index
 invariant-parameters::transform_pats-loop-index l =
     Behind (λ ts. l.items ++ ts) (answer_of (pats_seen (bindings_of l.info) (expr_seen (bindings_of l.info)) l.pats))
-    (answer_of (pats_seen (bindings_of l.info) (expr_seen (bindings_of l.info)) (drop l.index l.pats))) l.initial.faults.items l.faults.items
+    (answer_of
+    (pats_seen (bindings_of l.info) (expr_seen (bindings_of l.info)) (drop l.index l.pats))) l.initial.faults.items l.faults.items
 
 abbrev pub invariant-parameters::transform_params-loop-index : goal.invariant-parameters::transform_params-loop-index
 invariant-parameters::transform_params-loop-index l =

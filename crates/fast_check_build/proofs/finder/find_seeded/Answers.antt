@@ -15,10 +15,13 @@ returns-clause-found g c =
     let m = goal.JsrUrlProvider-dyn g c.args.jsr_url_provider.now in
     let used = used_of c.args.cache (λ x. let n = goal.FastCheckCache-dyn g x.now in
     used_item (n.hash_of x.now.1 c.args.seed.now) (n.stored x.now.1) c.args.graph.now) in
-    let k = with_used used (known_of c.args.graph.now c.args.root_symbol.now c.args.workspace_members.now (m.url_of c.args.jsr_url_provider.now.1)
+    let k = with_used used
+    (known_of c.args.graph.now c.args.root_symbol.now c.args.workspace_members.now (m.url_of c.args.jsr_url_provider.now.1)
     (m.nv_at c.args.jsr_url_provider.now.1)) in
-    subst (λ (ps : List PackageNv). IsFound k (map nv_of ps) c.in_ok-answers.answers) (c.as_slice.ensures.value ∙ c.into_vec-roots.ensures.items)
-    (found_public k (map nv_of c.as_slice.result.now) c.in_ok-found.found.items c.in_ok-answers.answers c.in_ok-found.ensures.found c.in_ok-answers.ensures
+    subst (λ (ps : List PackageNv). IsFound k (map nv_of ps) c.in_ok-answers.answers)
+    (c.as_slice.ensures.value ∙ c.into_vec-roots.ensures.items)
+    (found_public k
+    (map nv_of c.as_slice.result.now) c.in_ok-found.found.items c.in_ok-answers.answers c.in_ok-found.ensures.found c.in_ok-answers.ensures
     c.own_names_find.ensures)
 
 pub returns-in_err-found-clause-refused : goal.returns-in_err-found-clause-refused
@@ -26,7 +29,8 @@ returns-in_err-found-clause-refused g c =
     let m = goal.JsrUrlProvider-dyn g c.args.jsr_url_provider.now in
     let used = used_of c.args.cache (λ x. let n = goal.FastCheckCache-dyn g x.now in
     used_item (n.hash_of x.now.1 c.args.seed.now) (n.stored x.now.1) c.args.graph.now) in
-    let k = with_used used (known_of c.args.graph.now c.args.root_symbol.now c.args.workspace_members.now (m.url_of c.args.jsr_url_provider.now.1)
+    let k = with_used used
+    (known_of c.args.graph.now c.args.root_symbol.now c.args.workspace_members.now (m.url_of c.args.jsr_url_provider.now.1)
     (m.nv_at c.args.jsr_url_provider.now.1)) in
     let f = c.in_err-found.field-0.0 in
     passed_on c.from_residual.result f (IsRefusal k (map nv_of c.args.pending_nvs.items)) c.from_residual.ensures.1

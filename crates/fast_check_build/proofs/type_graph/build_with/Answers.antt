@@ -13,7 +13,8 @@ answer_and_set_all-requires g c =
     let d = c.args.cache.now.1 in
     let used = used_item (n.hash_of d c.hash_seed-seed.result.now) (n.stored d) c.args.graph.now in
     all_owned (with_used used (known_of c.args.graph.now c.args.root_symbol.now c.args.options.now.workspace_members.items
-    (m.url_of c.args.jsr_url_provider.now.1) (m.nv_at c.args.jsr_url_provider.now.1))) (map nv_of c.args.pending_nvs.items) c.in_ok-ranges.ranges
+    (m.url_of c.args.jsr_url_provider.now.1) (m.nv_at c.args.jsr_url_provider.now.1)))
+    (map nv_of c.args.pending_nvs.items) c.in_ok-ranges.ranges
     (rw c.as_slice.ensures.value at c.in_ok-ranges.ensures.found) c.len.ensures.ordered
 
 pub returns-clause-built : goal.returns-clause-built

@@ -15,7 +15,8 @@ use Rattle.fast_check_build_command.proofs.request.build_answers.OwnLists.{own-2
 -- what holds of the packages as they are lent holds of them
 lent : (P : (j : Entry (λ X. Ghosts X) Dict) → Bor j.0.Denot → Type 0) (x : Bor (part-2-1.entry tt).0.Denot)
     → P (own-2.entry (inl tt)) (carry (λ X. Ghosts X) Dict (part-2-1.entry tt) (own-2.entry (inl tt)) same-2-1 x) → P (part-2-1.entry tt) x
-lent P x h = subst (λ (X : Type 0). X) (carried_same (λ X. Ghosts X) Dict (part-2-1.entry tt) (own-2.entry (inl tt)) same-2-1 (Type 0) P x) h
+lent P x h =
+    subst (λ (X : Type 0). X) (carried_same (λ X. Ghosts X) Dict (part-2-1.entry tt) (own-2.entry (inl tt)) same-2-1 (Type 0) P x) h
 
 pub returns-in-Ok-clause-built : goal.returns-in-Ok-clause-built
 returns-in-Ok-clause-built c =

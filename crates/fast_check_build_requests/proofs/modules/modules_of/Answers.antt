@@ -12,7 +12,8 @@ loop-name-init c =
 
 pub returns-in_err-module-clause-fault : goal.returns-in_err-module-clause-fault
 returns-in_err-module-clause-fault c =
-    let first = λ (f : TableFault) (h : IsFaultOf c.in-Some.parts f). fails c.args.modules.items c.loop-name.name-iterator.rest.items c.loop-name.made.items
+    let first = λ (f : TableFault) (h : IsFaultOf c.in-Some.parts f).
+    fails c.args.modules.items c.loop-name.name-iterator.rest.items c.loop-name.made.items
     (c.in-Some.name, c.in-Some.parts) c.next.new.self.rest.items f c.loop-name.invariant c.in-Some.ensures.steps.0 h in
     search (rules, first)
 

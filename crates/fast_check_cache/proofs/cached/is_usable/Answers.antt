@@ -11,5 +11,6 @@ pub returns : goal.returns
 returns c =
     let graph = c.args.graph.now in
     c.have_sources.ensures
-    ∙ (ap (λ (ms : List (Parts × FastCheckCacheModuleItem)). list_all (λ (m : Parts × FastCheckCacheModuleItem). source_hash_of m.1 == source_hash graph m.0) ms)
+    ∙ (ap (λ (ms : List (Parts × FastCheckCacheModuleItem)). list_all
+    (λ (m : Parts × FastCheckCacheModuleItem). source_hash_of m.1 == source_hash graph m.0) ms)
     c.deref.ensures.value ∙ sym (all_seen graph c.args.item.now.modules.items))

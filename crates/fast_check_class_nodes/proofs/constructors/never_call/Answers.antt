@@ -12,4 +12,5 @@ returns c =
     let callee = ap (λ (p : Tree × Tree). p.0) c.in_ok-callee.ensures ∙ c.of-call.ensures.callee in
     let type_args = ap (λ (p : Tree × Tree). p.1) c.in_ok-callee.ensures ∙ c.of-call.ensures.type_args in
     IfOk-weaker c.into_tree.result _ _
-    (λ tree e. e ∙ (λ i. call_expr (c.of-call.ensures.span i) (c.of-call.ensures.ctxt i) (callee i) (args i) (type_args i))) c.into_tree.ensures
+    (λ tree e. e ∙
+    (λ i. call_expr (c.of-call.ensures.span i) (c.of-call.ensures.ctxt i) (callee i) (args i) (type_args i))) c.into_tree.ensures

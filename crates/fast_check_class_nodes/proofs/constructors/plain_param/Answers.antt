@@ -14,7 +14,8 @@ returns-then-eq c =
     let decorators = c.list-decorators.ensures ∙ ap list c.new.ensures in
     let pat = c.in_ok-pat.ensures ∙ c.of.ensures.param in
     IfOk-weaker c.into_tree.result _ _
-    (λ tree e. e ∙ ((λ i. param (c.of.ensures.span i) (decorators i) (pat i)) ∙ plain_property (seen c.args.param) property)) c.into_tree.ensures
+    (λ tree e. e ∙
+    ((λ i. param (c.of.ensures.span i) (decorators i) (pat i)) ∙ plain_property (seen c.args.param) property)) c.into_tree.ensures
 
 pub returns : goal.returns
 returns c =

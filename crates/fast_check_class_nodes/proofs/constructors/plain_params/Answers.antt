@@ -7,7 +7,8 @@ use Rattle.fast_check_class_nodes.proofs.constructors.plain_params.Goals as goal
 
 pub loop-param-preserved : goal.loop-param-preserved
 loop-param-preserved c =
-    mapped_more (λ t. plain_param t) c.parts-param-items.result.now c.loop-param.param-index (seen c.read.result) c.loop-param-test.true (search rules)
+    mapped_more (λ t. plain_param t) c.parts-param-items.result.now c.loop-param.param-index (seen c.read.result) c.loop-param-test.true
+    (search rules)
     c.loop-param.invariant c.in_ok-plain_param.ensures c.in_ok-push.ensures.ok
 
 pub returns : goal.returns

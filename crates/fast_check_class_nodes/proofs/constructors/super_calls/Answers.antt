@@ -11,14 +11,19 @@ loop-stmt-preserved c =
     let items = c.parts-stmt-items.result.now in
     elim c.if-is_super_call.branch [
       | then-is_super_call+in_ok-super_call+in_ok-push w ↦
-          taken_more (λ s. super_call s) (λ s. is_super_call s) items c.loop-stmt.stmt-index (seen c.read-stmt.result) c.loop-stmt-test.true (search rules)
-          (sym c.is_super_call.ensures ∙ w.if-is_super_call.true) c.loop-stmt.invariant w.in_ok-super_call.ensures (w.items-is ∙ w.in_ok-push.ensures.ok)
+          taken_more (λ s. super_call s) (λ s. is_super_call s) items c.loop-stmt.stmt-index (seen c.read-stmt.result) c.loop-stmt-test.true
+          (search rules)
+          (sym c.is_super_call.ensures ∙ w.if-is_super_call.true) c.loop-stmt.invariant w.in_ok-super_call.ensures
+          (w.items-is ∙ w.in_ok-push.ensures.ok)
       | else-is_super_call w ↦
-          passed_more (λ s. super_call s) (λ s. is_super_call s) items c.loop-stmt.stmt-index (seen c.read-stmt.result) c.loop-stmt-test.true (search rules)
+          passed_more (λ s. super_call s) (λ s. is_super_call s) items c.loop-stmt.stmt-index
+          (seen c.read-stmt.result) c.loop-stmt-test.true (search rules)
           (sym c.is_super_call.ensures ∙ w.if-is_super_call.false) (w.items-is ∙ c.loop-stmt.invariant)
     ]
 
 pub returns : goal.returns
 returns c =
-    c.list.ensures ∙ ap list (taken_all (λ s. super_call s) (λ s. is_super_call s) c.loop-stmt.stmt-index c.loop-stmt-test.false c.parts-stmt-items.ensures
+    c.list.ensures ∙
+    ap list (taken_all (λ s. super_call s)
+    (λ s. is_super_call s) c.loop-stmt.stmt-index c.loop-stmt-test.false c.parts-stmt-items.ensures
     c.loop-stmt.invariant)

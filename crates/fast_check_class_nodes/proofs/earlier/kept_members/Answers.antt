@@ -34,7 +34,8 @@ loop-member-preserved c =
           next.tells,
           kept_same c.args.members.now c.loop-member.member-index m c.loop-member-test.true (search rules) before
               w.if-branch.false next.stays_is (map seen c.if-branch.kept.items)
-              (c.loop-member.invariant.1.1 ∙ ap (λ xs. map seen xs ++ each_behind if_kept before (drop c.loop-member.member-index c.args.members.now))
+              (c.loop-member.invariant.1.1 ∙
+              ap (λ xs. map seen xs ++ each_behind if_kept before (drop c.loop-member.member-index c.args.members.now))
               (ap items (sym w.kept-is))),
         ),
       )
@@ -42,5 +43,6 @@ loop-member-preserved c =
 
 pub returns : goal.returns
 returns c =
-    kept_all c.args.members.now c.loop-member.member-index c.loop-member-test.false c.loop-member.invariant.0 (map seen c.loop-member.kept.items)
+    kept_all c.args.members.now c.loop-member.member-index c.loop-member-test.false c.loop-member.invariant.0
+    (map seen c.loop-member.kept.items)
     c.loop-member.invariant.1.1

@@ -5,7 +5,8 @@ use Rattle.fast_check_syntax.specs.Shape.{kind_of}
 use Rattle.fast_check_signatures.specs.Classes.{is_reference, property_of_kind}
 use Rattle.fast_check_syntax.specs.declared.kind.Kind.TheVariants as kinds
 use Rattle.fast_check_syntax.specs.Part.{seen}
-use Rattle.fast_check_class_nodes.proofs.References.{reference_by, no_reference, no_property, member_reference, at-ComputedPropName-expr, lower, lower_odd}
+use Rattle.fast_check_class_nodes.proofs.References.{reference_by, no_reference, no_property, member_reference, at-ComputedPropName-expr}
+use Rattle.fast_check_class_nodes.proofs.References.{lower, lower_odd}
 use Rattle.fast_check_class_nodes.proofs.superclasses.+reference.Goals as goal
 
 pub is_reference-returns-in-Ident : goal.is_reference-returns-in-Ident
@@ -28,8 +29,14 @@ is_reference-is_reference_property-requires t c =
     (omega (arith, c.decreases, lower (seen c.args.expr) at-MemberExpr-prop.place c.in-MemberExpr.ensures c.of.ensures.prop refl), tt)
 
 pub is_reference_property-is_reference-requires : goal.is_reference_property-is_reference-requires
-is_reference_property-is_reference-requires t c =
-    (omega (arith, c.decreases, lower (seen c.args.prop) at-ComputedPropName-expr.place c.in-ComputedPropName.ensures c.of.ensures.expr refl), tt)
+is_reference_property-is_reference-requires t c = (
+  omega (
+    arith,
+    c.decreases,
+    lower (seen c.args.prop) at-ComputedPropName-expr.place c.in-ComputedPropName.ensures c.of.ensures.expr refl,
+  ),
+  tt,
+)
 
 pub is_reference-returns-then-is_reference : goal.is_reference-returns-then-is_reference
 is_reference-returns-then-is_reference t c =

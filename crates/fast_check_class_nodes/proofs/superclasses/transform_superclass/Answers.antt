@@ -16,5 +16,6 @@ returns-then-is_reference c =
 
 pub returns : goal.returns
 returns c =
-    superclass_faulty (seen c.args.superclass) (sym c.is_absent.ensures ∙ c.if-is_absent.false) (sym c.is_reference.ensures ∙ c.if-is_reference.false)
+    superclass_faulty (seen c.args.superclass) (sym c.is_absent.ensures ∙ c.if-is_absent.false)
+    (sym c.is_reference.ensures ∙ c.if-is_reference.false)
     (c.in_ok-push.ensures.items ∙ ap (λ r. c.args.faults.now.items ++ fault_at UnsupportedSuperClassExpr r ∷ []) c.range_of_node.ensures)

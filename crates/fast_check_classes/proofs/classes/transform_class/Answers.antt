@@ -14,6 +14,10 @@ pub returns : goal.returns
 returns c =
     let u = bindings_of c.args.info.now in
     let asked = is_implementation c.args.public_ranges.now in
-    let superclass = adds_settled (adds_same (ap (λ (t : Tree). answer_to (superclass_seen t)) (sym c.of.ensures.super_class)) c.in_ok-super_class.ensures) in
-    let members = adds_same (ap (λ (t : Tree). answer_of (members_seen u asked (parts t))) (sym c.of.ensures.body)) c.in_ok-members.ensures in
-    some_of c.class_of.result c.class_of.ensures (adds_joined (λ s ms. Some (class_of (class_head (seen c.args.class)) s ms)) superclass members) refl
+    let superclass =
+    adds_settled
+    (adds_same (ap (λ (t : Tree). answer_to (superclass_seen t)) (sym c.of.ensures.super_class)) c.in_ok-super_class.ensures) in
+    let members =
+    adds_same (ap (λ (t : Tree). answer_of (members_seen u asked (parts t))) (sym c.of.ensures.body)) c.in_ok-members.ensures in
+    some_of c.class_of.result c.class_of.ensures
+    (adds_joined (λ s ms. Some (class_of (class_head (seen c.args.class)) s ms)) superclass members) refl

@@ -11,7 +11,8 @@ use Rattle.fast_check_classes.proofs.constructors.constructor_params.Goals as go
 pub returns-then-is_private : goal.returns-then-is_private
 returns-then-is_private c =
     private_params (bindings_of c.args.info.now) (is_implementation c.args.public_ranges.now) (seen c.args.member)
-    (ap is_private (sym c.of.ensures.accessibility) ∙ (sym c.is_private.ensures ∙ c.if-is_private.true)) c.new.ensures c.args.faults.now.items
+    (ap is_private (sym c.of.ensures.accessibility) ∙
+    (sym c.is_private.ensures ∙ c.if-is_private.true)) c.new.ensures c.args.faults.now.items
 
 pub returns-then-is_impl_with_overloads : goal.returns-then-is_impl_with_overloads
 returns-then-is_impl_with_overloads c =
@@ -19,7 +20,8 @@ returns-then-is_impl_with_overloads c =
     let plain = c.in_ok-params.ensures ∙ ap (λ ps. list (map (λ p. plain_param p) (parts ps))) c.of.ensures.params in
     let asked = ap (is_implementation c.args.public_ranges.now) (sym c.of.ensures.span) ∙
     (sym c.is_impl_with_overloads.ensures ∙ c.if-is_impl_with_overloads.true) in
-    implementation_params (bindings_of c.args.info.now) (is_implementation c.args.public_ranges.now) (seen c.args.member) c.any_params.result private asked
+    implementation_params (bindings_of c.args.info.now) (is_implementation c.args.public_ranges.now)
+    (seen c.args.member) c.any_params.result private asked
     (c.read.ensures ∙ plain) c.args.faults.now.items c.any_params.ensures
 
 pub returns : goal.returns
@@ -28,5 +30,6 @@ returns c =
     let plain = c.in_ok-params.ensures ∙ ap (λ ps. list (map (λ p. plain_param p) (parts ps))) c.of.ensures.params in
     let asked = ap (is_implementation c.args.public_ranges.now) (sym c.of.ensures.span) ∙
     (sym c.is_impl_with_overloads.ensures ∙ c.if-is_impl_with_overloads.false) in
-    own_params (bindings_of c.args.info.now) (is_implementation c.args.public_ranges.now) (seen c.args.member) c.transform_params.result private asked
+    own_params (bindings_of c.args.info.now) (is_implementation c.args.public_ranges.now)
+    (seen c.args.member) c.transform_params.result private asked
     (c.read-2.ensures ∙ plain) _ _ c.transform_params.ensures

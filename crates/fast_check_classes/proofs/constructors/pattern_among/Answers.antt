@@ -9,12 +9,14 @@ loop-param-init c = refl
 
 pub returns-then-is_pattern_property : goal.returns-then-is_pattern_property
 returns-then-is_pattern_property c =
-    pattern_here c.args.params.now c.loop-param.param-index (seen c.read-param.result) c.loop-param-test.true (search rules) c.loop-param.invariant
+    pattern_here c.args.params.now c.loop-param.param-index (seen c.read-param.result) c.loop-param-test.true
+    (search rules) c.loop-param.invariant
     (sym c.is_pattern_property.ensures ∙ c.if-is_pattern_property.true) (c.range_of_node.ensures ∙ ap range_of_node c.param_target.ensures)
 
 pub loop-param-preserved : goal.loop-param-preserved
 loop-param-preserved c =
-    pattern_later c.args.params.now c.loop-param.param-index (seen c.read-param.result) c.loop-param-test.true (search rules) c.loop-param.invariant
+    pattern_later c.args.params.now c.loop-param.param-index (seen c.read-param.result) c.loop-param-test.true
+    (search rules) c.loop-param.invariant
     (sym c.is_pattern_property.ensures ∙ c.if-is_pattern_property.false)
 
 pub returns : goal.returns

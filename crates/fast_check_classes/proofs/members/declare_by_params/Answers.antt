@@ -9,13 +9,15 @@ use Rattle.fast_check_classes.proofs.members.declare_by_params.Goals as goal
 pub returns-then-not-is_constructor : goal.returns-then-not-is_constructor
 returns-then-not-is_constructor c =
     unchanged c.args.unresolved (seen c.args.member)
-    (declares_none c.args.unresolved (seen c.args.member) (sym c.is_constructor.ensures ∙ c.if-not-is_constructor.true)) refl c.args.items.now
+    (declares_none c.args.unresolved (seen c.args.member)
+    (sym c.is_constructor.ensures ∙ c.if-not-is_constructor.true)) refl c.args.items.now
 
 pub returns-in-Some : goal.returns-in-Some
 returns-in-Some c =
     unchanged c.args.unresolved (seen c.args.member)
     (declares_at_fault c.args.unresolved (seen c.args.member) (sym c.is_constructor.ensures ∙ c.if-not-is_constructor.false)
-    c.parts-params.result.now (c.parts-params.ensures ∙ ap parts c.of.ensures.params) c.in-Some.field-0 (sym c.pattern_among.ensures ∙ c.in-Some.is)) refl
+    c.parts-params.result.now (c.parts-params.ensures ∙ ap parts c.of.ensures.params) c.in-Some.field-0
+    (sym c.pattern_among.ensures ∙ c.in-Some.is)) refl
     c.args.items.now
 
 pub returns-in-None : goal.returns-in-None

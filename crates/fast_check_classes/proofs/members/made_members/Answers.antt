@@ -16,6 +16,7 @@ loop-member-preserved c =
 
 pub returns : goal.returns
 returns c =
-    declared_all (λ m. declared_by_params c.args.unresolved m) c.args.kept.now c.loop-member.member-index c.loop-member-test.false c.in_ok-items.items
+    declared_all
+    (λ m. declared_by_params c.args.unresolved m) c.args.kept.now c.loop-member.member-index c.loop-member-test.false c.in_ok-items.items
     c.loop-member.invariant
     ∙ ap (λ (xs : List Tree). xs ++ flat_map (λ m. declared_by_params c.args.unresolved m) (map seen c.args.kept.now)) c.in_ok-items.ensures

@@ -9,5 +9,7 @@ use Rattle.fast_check_classes.proofs.members.transform_kept.Given as goal
 
 abbrev pub invariant-loop-member : goal.invariant-loop-member
 invariant-loop-member l =
-    Behind (λ ts. l.items ++ ts) (made (λ ts. l.initial.items ++ ts) (kept_answer (bindings_of l.info) (is_implementation l.public_ranges) (map seen l.kept)))
-    (kept_answer (bindings_of l.info) (is_implementation l.public_ranges) (map seen (drop l.member-index l.kept))) l.initial.faults.items l.faults.items
+    Behind (λ ts. l.items ++ ts)
+    (made (λ ts. l.initial.items ++ ts) (kept_answer (bindings_of l.info) (is_implementation l.public_ranges) (map seen l.kept)))
+    (kept_answer (bindings_of l.info) (is_implementation l.public_ranges)
+    (map seen (drop l.member-index l.kept))) l.initial.faults.items l.faults.items

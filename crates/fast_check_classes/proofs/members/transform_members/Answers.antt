@@ -16,10 +16,13 @@ pub returns : goal.returns
 returns c =
     let slice = ap (map seen) c.as_slice.ensures.value in
     let slice-2 = ap (map seen) c.as_slice-2.ensures.value in
-    let made = c.in_ok-items.ensures ∙ (λ i. hash_mark c.parts-members.result.now ++ flat_map (λ m. declared_by_params (c.unresolved_context.ensures i) m)
+    let made = c.in_ok-items.ensures ∙
+    (λ i. hash_mark c.parts-members.result.now ++ flat_map (λ m. declared_by_params (c.unresolved_context.ensures i) m)
     ((slice ∙ sym slice-2) i)) in
     IfOk-weaker c.transform_kept.result _ _
-    (λ all h. adds_same (ap (λ (ms : List Tree). answer_of (members_seen (bindings_of c.args.info.now) (is_implementation c.args.public_ranges.now) ms))
+    (λ all h. adds_same
+    (ap (λ (ms : List Tree). answer_of (members_seen (bindings_of c.args.info.now) (is_implementation c.args.public_ranges.now) ms))
     (sym c.parts-members.ensures))
-    (all_members (bindings_of c.args.info.now) (is_implementation c.args.public_ranges.now) c.parts-members.result.now h (slice-2 ∙ c.in_ok-kept.ensures) made))
+    (all_members (bindings_of c.args.info.now) (is_implementation c.args.public_ranges.now) c.parts-members.result.now h
+    (slice-2 ∙ c.in_ok-kept.ensures) made))
     c.transform_kept.ensures

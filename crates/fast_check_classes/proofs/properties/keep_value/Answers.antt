@@ -12,7 +12,8 @@ use Rattle.fast_check_classes.proofs.properties.keep_value.Goals as goal
 pub returns-then-is_absent : goal.returns-then-is_absent
 returns-then-is_absent c =
     let place = c.range_of_node-place.ensures ∙ ap range_of_node c.of.ensures.key in
-    absent_value (bindings_of c.args.info.now) (seen c.args.member) (ap is_absent (sym c.of.ensures.value) ∙ (sym c.is_absent.ensures ∙ c.if-is_absent.true))
+    absent_value (bindings_of c.args.info.now) (seen c.args.member)
+    (ap is_absent (sym c.of.ensures.value) ∙ (sym c.is_absent.ensures ∙ c.if-is_absent.true))
     (c.in_ok-push.ensures.items ∙ ap (λ r. c.args.faults.now.items ++ fault_at MissingExplicitType r ∷ []) place)
 
 pub returns : goal.returns

@@ -11,7 +11,8 @@ use Rattle.fast_check_classes.proofs.properties.transform_accessor.Goals as goal
 pub returns-in_ok-accessor_head-in-Some : goal.returns-in_ok-accessor_head-in-Some
 returns-in_ok-accessor_head-in-Some c =
     some_of c.declared.result c.declared.ensures
-    (typed_accessor (bindings_of c.args.info.now) (seen c.args.member) c.in-Some.ty (sym c.in_ok-ty.ensures ∙ c.in-Some.is) c.args.faults.now.items)
+    (typed_accessor (bindings_of c.args.info.now) (seen c.args.member) c.in-Some.ty
+    (sym c.in_ok-ty.ensures ∙ c.in-Some.is) c.args.faults.now.items)
     (ap (λ h. declared_property h c.in-Some.ty) c.in_ok-accessor_head-in-Some.ensures)
 
 pub returns-in_ok-push-in-None : goal.returns-in_ok-push-in-None

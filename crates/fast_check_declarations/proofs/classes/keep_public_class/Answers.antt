@@ -6,7 +6,8 @@ use Rattle.fast_check_declarations.proofs.classes.keep_public_class.Goals as goa
 
 pub returns-then-not-contains : goal.returns-then-not-contains
 returns-then-not-contains c =
-    class_goes (seen_around c.args.asked) c.args.place (seen c.args.decl) (sym c.contains.ensures ∙ c.if-not-contains.true) c.args.faults.now.items
+    class_goes (seen_around c.args.asked) c.args.place (seen c.args.decl)
+    (sym c.contains.ensures ∙ c.if-not-contains.true) c.args.faults.now.items
 
 pub returns : goal.returns
 returns c =

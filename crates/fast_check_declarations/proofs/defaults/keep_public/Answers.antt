@@ -9,7 +9,8 @@ use Rattle.fast_check_declarations.proofs.defaults.keep_public.Goals as goal
 
 pub returns-in-Value : goal.returns-in-Value
 returns-in-Value c =
-    IfOk-weaker c.keep_value.result _ _ (λ tree h. value_decl (seen_around c.args.asked) (seen c.args.item) c.in-Value.is h) c.keep_value.ensures
+    IfOk-weaker c.keep_value.result _ _
+    (λ tree h. value_decl (seen_around c.args.asked) (seen c.args.item) c.in-Value.is h) c.keep_value.ensures
 
 pub returns-in_ok-decl-in-Class : goal.returns-in_ok-decl-in-Class
 returns-in_ok-decl-in-Class c =

@@ -10,9 +10,12 @@ pub returns-in_err-push_joined-clause-refused : goal.returns-in_err-push_joined-
 returns-in_err-push_joined-clause-refused c =
     let base = c.args.base.now in
     let f = c.in_err-push_joined.field-0.0 in
-    passed_on c.from_residual.result f (Tells (nv_of c.args.nv.now) (first_refused base (map string_bytes c.args.texts.now))) c.from_residual.ensures.1
+    passed_on c.from_residual.result f
+    (Tells (nv_of c.args.nv.now) (first_refused base (map string_bytes c.args.texts.now))) c.from_residual.ensures.1
     (tells_of (nv_of c.args.nv.now) (first_refused base (c.as_str.result.now ∷ [])) (first_refused base (map string_bytes c.args.texts.now))
-    (λ y h. first_at (λ (t : List ℕ). is_none (joined base t)) string_bytes c.args.texts.now c.loop-text.text-index c.text-item.result c.loop-text-test.true
+    (λ y h. first_at
+    (λ (t : List ℕ). is_none
+    (joined base t)) string_bytes c.args.texts.now c.loop-text.text-index c.text-item.result c.loop-text-test.true
     c.text-item.is c.loop-text.invariant.all y (ap (λ (t : List ℕ). first_refused base (t ∷ [])) (sym c.as_str.ensures.value) ∙ h))
     f c.in_err-push_joined.ensures.refused)
 
@@ -24,9 +27,12 @@ loop-text-preserved c =
       joined = c.in_ok-push_joined.ensures.pushed ∙
           (ap (λ (us : List Parts). us ++ option_to_list (joined base c.as_str.result.now)) c.loop-text.invariant.joined ∙
           (ap (λ (t : List ℕ). all_joined base done ++ option_to_list (joined base t)) c.as_str.ensures.value ∙
-          sym (flat_after (λ (t : List ℕ). option_to_list (joined base t)) string_bytes c.args.texts.now c.loop-text.text-index c.text-item.result
+          sym (flat_after
+          (λ (t : List ℕ). option_to_list (joined base t)) string_bytes c.args.texts.now c.loop-text.text-index c.text-item.result
           c.loop-text-test.true c.text-item.is)));
-      all = none_after (λ (t : List ℕ). is_none (joined base t)) string_bytes c.args.texts.now c.loop-text.text-index c.text-item.result c.loop-text-test.true
+      all = none_after
+          (λ (t : List ℕ). is_none
+          (joined base t)) string_bytes c.args.texts.now c.loop-text.text-index c.text-item.result c.loop-text-test.true
           c.text-item.is c.loop-text.invariant.all
           (ap (λ (t : List ℕ). is_none (joined base t)) (sym c.as_str.ensures.value) ∙ c.in_ok-push_joined.ensures.joins);
     }

@@ -17,7 +17,8 @@ pub loop-object-preserved : goal.loop-object-preserved
 loop-object-preserved c =
     let before = c.loop-object in
     let steps = sym c.in-Some.ensures.steps in
-    let both = rest_extends (merged_seen (c.in-Some.object, c.in-Some.namespace)) (flat_map merged_seen c.next.new.self) c.in_ok-push_namespace.ensures
+    let both = rest_extends (merged_seen (c.in-Some.object, c.in-Some.namespace))
+    (flat_map merged_seen c.next.new.self) c.in_ok-push_namespace.ensures
     (ap (λ es. before.items ++ (answer_of (flat_map merged_seen es)).stays) steps ∙ before.invariant.items)
     (ap (λ es. before.faults.items ++ (answer_of (flat_map merged_seen es)).faults) steps ∙ before.invariant.faults) in
     record { items = both.0; faults = both.1 }

@@ -23,5 +23,6 @@ returns c =
     ∙ ((λ i. insert_entry same_id (c.get_mut.follows.holds-at-none i).entries c.args.property.object
     (merged_one c.args.property c.push.new.self
     (c.in_ok-push.ensures.ok ∙ ap (λ ds. ds ++ c.args.property.declarator ∷ []) c.new-declarators.ensures) i))
-    ∙ (insert_entry-new same_id c.args.namespaces.now c.args.property.object (merged (c.args.property ∷ [])) (sym c.in_default.ensures.value)
+    ∙ (insert_entry-new same_id c.args.namespaces.now c.args.property.object (merged (c.args.property ∷ []))
+    (sym c.in_default.ensures.value)
     ∙ placed_last c.args.property c.args.namespaces.now.entries (sym c.in_default.ensures.value)))

@@ -6,4 +6,6 @@ use Rattle.fast_check_expandos.proofs.namespaces.push_conflicts.Given as goal
 
 abbrev pub invariant-loop-reference : goal.invariant-loop-reference
 invariant-loop-reference l =
-    Extends (answer_of (map (conflict_seen l.object) (take l.reference-index l.reference-items))) l.initial.items l.items l.initial.faults.items l.faults.items
+    Extends (answer_of
+    (map (conflict_seen l.object)
+    (take l.reference-index l.reference-items))) l.initial.items l.items l.initial.faults.items l.faults.items

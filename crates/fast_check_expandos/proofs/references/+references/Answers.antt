@@ -36,7 +36,8 @@ pub push_each-loop-inner-preserved : goal.push_each-loop-inner-preserved
 push_each-loop-inner-preserved t c =
     let found = references c.args.scope (exports_name (option_copied c.args.symbol)) in
     each_more found c.parts-inner-items.result.now c.loop-inner.inner-index c.inner-item.result c.args.out.now.items c.loop-inner-test.true
-    c.inner-item.is c.loop-inner.invariant (c.in_ok-push_references.ensures ∙ ap (λ (u : Tree). c.loop-inner.out.items ++ found u) c.read.ensures)
+    c.inner-item.is c.loop-inner.invariant
+    (c.in_ok-push_references.ensures ∙ ap (λ (u : Tree). c.loop-inner.out.items ++ found u) c.read.ensures)
 
 pub push_each-returns : goal.push_each-returns
 push_each-returns t c =

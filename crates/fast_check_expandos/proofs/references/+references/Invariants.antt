@@ -15,4 +15,5 @@ decreases-push_each l = 2 * height (seen l.part)
 
 abbrev pub invariant-push_each-loop-inner : goal.invariant-push_each-loop-inner
 invariant-push_each-loop-inner l =
-    l.out.items ≡ l.initial.out.items ++ flat_map (references l.scope (exports_name (option_copied l.symbol))) (take l.inner-index l.inner-items)
+    l.out.items ≡ l.initial.out.items ++ flat_map (references l.scope (exports_name (option_copied l.symbol)))
+    (take l.inner-index l.inner-items)

@@ -33,7 +33,8 @@ returns-in_err-enter-clause-refused g c =
     used_item (n.hash_of x.now.1 c.args.seed.now) (n.stored x.now.1) c.args.sources.graph.now) in
     let k = with_used used (known c.args.sources (m.url_of c.args.provider.now.1) (m.nv_at c.args.provider.now.1)) in
     let f = c.in_err-enter.field-0.0 in
-    passed_on c.from_residual-in_err-enter.result f (IsRefusedOf k (map nv_of c.args.asked.now.packages.keys)) c.from_residual-in_err-enter.ensures.1
+    passed_on c.from_residual-in_err-enter.result f
+    (IsRefusedOf k (map nv_of c.args.asked.now.packages.keys)) c.from_residual-in_err-enter.ensures.1
     (refused_of k c.args.asked.now.packages.keys c.args.next c.index.result.now (nv_of c.in_ok-nv.nv)
     (omega (arith, c.if-next-len.false, c.len.ensures))
     (sym (get_or_from_slice_get c.args.asked.now.packages.keys c.args.next c.index.result.now c.index.result.now c.index.ensures)) c.in_ok-nv.ensures

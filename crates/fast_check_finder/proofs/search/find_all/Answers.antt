@@ -44,7 +44,8 @@ turns-smaller g c =
     (λ x. (goal.FastCheckCache-dyn g x.now).stored x.now.1) c.args.sources.graph.now in
     let i = c.turns.invariant in
     let rs = map nv_of c.args.roots.now in
-    (later (world k) (gives k) k.owner (orderly k) rs (reach k ds rs) (universe k ds rs has) i.way.0 c.turns.next (state_of c.turns.asked) (state_of c.turn.new.asked)
+    (later (world k) (gives k) k.owner (orderly k) rs (reach k ds rs) (universe k ds rs has) i.way.0 c.turns.next (state_of c.turns.asked)
+    (state_of c.turn.new.asked)
     (flat_map yields_of c.turns.found.items) (flat_map yields_of c.turn.new.found.items) i.way.1 i.bounded c.in-Some.after
     (rw c.in-Some.is at c.in_ok-after.ensures.turned)).falls
 
@@ -59,8 +60,10 @@ turns-preserved g c =
     (λ x. (goal.FastCheckCache-dyn g x.now).stored x.now.1) c.args.sources.graph.now in
     let i = c.turns.invariant in
     let rs = map nv_of c.args.roots.now in
-    let l = later (world k) (gives k) k.owner (orderly k) rs (reach k ds rs) (universe k ds rs has) i.way.0 c.turns.next (state_of c.turns.asked)
-    (state_of c.turn.new.asked) (flat_map yields_of c.turns.found.items) (flat_map yields_of c.turn.new.found.items) i.way.1 i.bounded c.in-Some.after
+    let l = later (world k) (gives k) k.owner (orderly k) rs (reach k ds rs) (universe k ds rs has) i.way.0 c.turns.next
+    (state_of c.turns.asked)
+    (state_of c.turn.new.asked) (flat_map yields_of c.turns.found.items)
+    (flat_map yields_of c.turn.new.found.items) i.way.1 i.bounded c.in-Some.after
     (rw c.in-Some.is at c.in_ok-after.ensures.turned) in
     record { way = (l.traces, l.next_way); bounded = l.still }
 
@@ -75,7 +78,8 @@ returns-clause-found g c =
     (λ x. (goal.FastCheckCache-dyn g x.now).stored x.now.1) c.args.sources.graph.now in
     let i = c.turns.invariant in
     let rs = map nv_of c.args.roots.now in
-    let o = over (world k) (gives k) k.owner (orderly k) rs (reach k ds rs) (universe k ds rs has) i.way.0 c.turns.next (state_of c.turns.asked)
+    let o = over (world k) (gives k) k.owner (orderly k) rs (reach k ds rs) (universe k ds rs has) i.way.0 c.turns.next
+    (state_of c.turns.asked)
     (state_of c.turn.new.asked) (flat_map yields_of c.turns.found.items) (flat_map yields_of c.turn.new.found.items) i.way.1 i.bounded
     (rw c.in_default.is at c.in_ok-after.ensures.turned) in
     (o.0, o.1, o.2, all_join k o.0 c.turn.new.found.items o.2)

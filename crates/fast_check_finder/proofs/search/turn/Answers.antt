@@ -19,8 +19,10 @@ returns-in_ok-after-in-None-clause-turned g c =
     let used = used_of c.args.cache (λ x. let n = goal.FastCheckCache-dyn g x.now in
     used_item (n.hash_of x.now.1 c.args.seed.now) (n.stored x.now.1) c.args.sources.graph.now) in
     let k = with_used used (known c.args.sources (m.url_of c.args.provider.now.1) (m.nv_at c.args.provider.now.1)) in
-    same_turn (world k) (gives k) c.args.next (handled c.args.asked.now.handled) (map nv_of c.args.asked.now.packages.keys) (pending c.args.asked.now.waiting)
-    (pending c.pop.new.self) (state_of c.enter_next.new.asked) (flat_map yields_of c.args.found.now.items) (flat_map yields_of c.enter_next.new.found.items)
+    same_turn (world k) (gives k) c.args.next (handled c.args.asked.now.handled) (map nv_of c.args.asked.now.packages.keys)
+    (pending c.args.asked.now.waiting)
+    (pending c.pop.new.self) (state_of c.enter_next.new.asked) (flat_map yields_of c.args.found.now.items)
+    (flat_map yields_of c.enter_next.new.found.items)
     c.in_ok-after-in-None.after c.in-None.ensures.taken c.in_ok-after-in-None.ensures.turned
 
 pub returns-in_ok-follow-in-Some-clause-turned : goal.returns-in_ok-follow-in-Some-clause-turned

@@ -18,16 +18,19 @@ use Rattle.fast_check_findings.proofs.diagnostics.each_told.Goals as goal
 
 pub loop-fault-preserved : goal.loop-fault-preserved
 loop-fault-preserved c = record {
-  told = λ test. ap (list_any (tells test)) c.in_ok-push.ensures.items ∙ (any_push (tells test) c.loop-fault.out.items c.diagnostic_of.result ∙
+  told = λ test. ap (list_any (tells test)) c.in_ok-push.ensures.items ∙
+      (any_push (tells test) c.loop-fault.out.items c.diagnostic_of.result ∙
       (ap (λ b. b || tells test c.diagnostic_of.result) (c.loop-fault.invariant.told test) ∙
       (ap (λ o. list_any (passes test) c.loop-fault.yielded || where_found test o) c.diagnostic_of.ensures ∙
       sym (any_push (passes test) c.loop-fault.yielded (c.in-Some.fault, c.in-Some.text_info)))));
   of = subst (λ (xs : List FastCheckDiagnostic). AreOf xs (c.loop-fault.yielded ++ (c.in-Some.fault, c.in-Some.text_info) ∷ []))
       (sym c.in_ok-push.ensures.items)
-      (of_push c.loop-fault.out.items c.loop-fault.yielded c.diagnostic_of.result (c.in-Some.fault, c.in-Some.text_info) c.loop-fault.invariant.of
+      (of_push c.loop-fault.out.items c.loop-fault.yielded c.diagnostic_of.result
+      (c.in-Some.fault, c.in-Some.text_info) c.loop-fault.invariant.of
       c.diagnostic_of.ensures);
   only = ap (list_any is_other) c.in_ok-push.ensures.items ∙ (any_push is_other c.loop-fault.out.items c.diagnostic_of.result ∙
-      (ap (λ b. b || is_other c.diagnostic_of.result) c.loop-fault.invariant.only ∙ ap (λ o. not (where_found any_fault o)) c.diagnostic_of.ensures));
+      (ap (λ b. b || is_other c.diagnostic_of.result) c.loop-fault.invariant.only ∙
+      ap (λ o. not (where_found any_fault o)) c.diagnostic_of.ensures));
 }
 
 pub returns-clause-told : goal.returns-clause-told
@@ -39,5 +42,6 @@ pub returns-clause-once : goal.returns-clause-once
 returns-clause-once c =
     let all : map (λ p. p) c.loop-fault.yielded ≡ c.args.once.entries = search (rules, iter_end) in
     told_once c.loop-fault.out.items c.loop-fault.yielded c.loop-fault.invariant.of
-    (subst (λ (es : List (DemandFault × RcStr Global)). IsDistinct (eq_by_cmp order.cmp-value.it) (keys_of es)) (sym (sym (map-id c.loop-fault.yielded) ∙ all))
+    (subst (λ (es : List (DemandFault × RcStr Global)). IsDistinct (eq_by_cmp order.cmp-value.it) (keys_of es))
+    (sym (sym (map-id c.loop-fault.yielded) ∙ all))
     (IsDistinct-from_sorted order.cmp-value.it (keys_of c.args.once.entries) c.into_iter-fault-iterator.ensures.into_iter_gives.5))

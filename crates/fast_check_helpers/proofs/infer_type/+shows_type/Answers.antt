@@ -17,7 +17,8 @@ returns-in-TsAsExpr t c =
 pub returns-in-TsTypeAssertion : goal.returns-in-TsTypeAssertion
 returns-in-TsTypeAssertion t c =
     c.is_simple_type-in-TsTypeAssertion.ensures ∙ (ap is_simple_type c.of-in-TsTypeAssertion.ensures.type_ann
-    ∙ sym (shows_at c.args.unresolved (seen c.args.value) kinds.TsTypeAssertion (sym c.kind-kind.ensures ∙ c.in-TsTypeAssertion.is) ∙ shown_if _ _))
+    ∙ sym (shows_at c.args.unresolved (seen c.args.value) kinds.TsTypeAssertion (sym c.kind-kind.ensures ∙ c.in-TsTypeAssertion.is) ∙
+    shown_if _ _))
 
 pub returns-in-CallExpr : goal.returns-in-CallExpr
 returns-in-CallExpr t c =
@@ -29,8 +30,11 @@ pub returns-in-Tpl : goal.returns-in-Tpl
 returns-in-Tpl t c = sym (shows_at c.args.unresolved (seen c.args.value) kinds.Tpl (sym c.kind-kind.ensures ∙ c.in-Tpl.is))
 
 pub shows_type-requires : goal.shows_type-requires
-shows_type-requires t c =
-    (lower_than (seen c.args.value) _ c.decreases (λ leaf. passes c.kind-kind.result _ (sym c.in-Some.is ∙ c.value_in.ensures) (c.kind-kind.ensures ∙ leaf)) c.part.ensures, tt)
+shows_type-requires t c = (
+  lower_than (seen c.args.value) _ c.decreases
+      (λ leaf. passes c.kind-kind.result _ (sym c.in-Some.is ∙ c.value_in.ensures) (c.kind-kind.ensures ∙ leaf)) c.part.ensures,
+  tt,
+)
 
 pub returns-in-Some : goal.returns-in-Some
 returns-in-Some t c =
@@ -46,7 +50,8 @@ returns-in-Some t c =
 pub returns-in-None : goal.returns-in-None
 returns-in-None t c =
     let d = c.in_default in
-    c.is_typed_literal.ensures ∙ sym (ap is_some (inferred_value Mutable c.args.unresolved (seen c.args.value) c.kind-kind.result (sym c.kind-kind.ensures) (record {
+    c.is_typed_literal.ensures ∙
+    sym (ap is_some (inferred_value Mutable c.args.unresolved (seen c.args.value) c.kind-kind.result (sym c.kind-kind.ensures) (record {
       as_type = d.not-TsAsExpr;
       assertion = d.not-TsTypeAssertion;
       call = d.not-CallExpr;

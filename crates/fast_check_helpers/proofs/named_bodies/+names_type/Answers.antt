@@ -11,14 +11,18 @@ pub returns-in-TsAsExpr : goal.returns-in-TsAsExpr
 returns-in-TsAsExpr t c = sym (names_at (seen c.args.value) kinds.TsAsExpr (sym c.kind-kind.ensures ∙ c.in-TsAsExpr.is))
 
 pub returns-in-TsTypeAssertion : goal.returns-in-TsTypeAssertion
-returns-in-TsTypeAssertion t c = sym (names_at (seen c.args.value) kinds.TsTypeAssertion (sym c.kind-kind.ensures ∙ c.in-TsTypeAssertion.is))
+returns-in-TsTypeAssertion t c =
+    sym (names_at (seen c.args.value) kinds.TsTypeAssertion (sym c.kind-kind.ensures ∙ c.in-TsTypeAssertion.is))
 
 pub returns-in-Tpl : goal.returns-in-Tpl
 returns-in-Tpl t c = sym (names_at (seen c.args.value) kinds.Tpl (sym c.kind-kind.ensures ∙ c.in-Tpl.is))
 
 pub names_type-requires : goal.names_type-requires
-names_type-requires t c =
-    (lower_than (seen c.args.value) _ c.decreases (λ leaf. passes c.kind-kind.result _ (sym c.in-Some.is ∙ c.value_in.ensures) (c.kind-kind.ensures ∙ leaf)) c.part.ensures, tt)
+names_type-requires t c = (
+  lower_than (seen c.args.value) _ c.decreases
+      (λ leaf. passes c.kind-kind.result _ (sym c.in-Some.is ∙ c.value_in.ensures) (c.kind-kind.ensures ∙ leaf)) c.part.ensures,
+  tt,
+)
 
 pub returns-in-Some : goal.returns-in-Some
 returns-in-Some t c =

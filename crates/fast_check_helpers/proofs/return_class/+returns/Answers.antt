@@ -48,7 +48,8 @@ analyze_fields-loop-place-preserved t c =
 
 pub analyze_fields-returns : goal.analyze_fields-returns
 analyze_fields-returns t c =
-    each_all _ c.args.analysis _ _ c.loop-place.invariant _ c.loop-place-test.false (c.entered-place-items.ensures ∙ ap entered c.kind.ensures)
+    each_all _ c.args.analysis _ _ c.loop-place.invariant _ c.loop-place-test.false
+    (c.entered-place-items.ensures ∙ ap entered c.kind.ensures)
 
 pub analyze_each-loop-stmt-init : goal.analyze_each-loop-stmt-init
 analyze_each-loop-stmt-init t c = refl

@@ -11,7 +11,8 @@ use Rattle.fast_check_syntax.proofs.Tests.{or_first, or_second}
 use Rattle.fast_check_helpers.proofs.simple_type.+simple.Goals as goal
 
 pub is_simple_type-returns-in-TsKeywordType : goal.is_simple_type-returns-in-TsKeywordType
-is_simple_type-returns-in-TsKeywordType t c = sym (simple_at (seen c.args.ty) kinds.TsKeywordType (sym c.kind-kind.ensures ∙ c.in-TsKeywordType.is))
+is_simple_type-returns-in-TsKeywordType t c =
+    sym (simple_at (seen c.args.ty) kinds.TsKeywordType (sym c.kind-kind.ensures ∙ c.in-TsKeywordType.is))
 
 pub is_simple_type-returns-in-TsThisType : goal.is_simple_type-returns-in-TsThisType
 is_simple_type-returns-in-TsThisType t c = sym (simple_at (seen c.args.ty) kinds.TsThisType (sym c.kind-kind.ensures ∙ c.in-TsThisType.is))
@@ -25,29 +26,38 @@ is_simple_type-returns-in-TsLitType t c =
     ∙ sym (simple_at (seen c.args.ty) kinds.TsLitType (sym c.kind-kind.ensures ∙ c.in-TsLitType.is)))
 
 pub is_simple_type-is_simple_type-requires : goal.is_simple_type-is_simple_type-requires
-is_simple_type-is_simple_type-requires t c =
-    (lower_odd (seen c.args.ty) at-TsTypeRef-type_params.place c.decreases (sym c.in-TsTypeRef.is ∙ c.kind-kind.ensures) c.of-in-TsTypeRef.ensures.type_params refl, tt)
+is_simple_type-is_simple_type-requires t c = (
+  lower_odd (seen c.args.ty) at-TsTypeRef-type_params.place c.decreases
+      (sym c.in-TsTypeRef.is ∙ c.kind-kind.ensures) c.of-in-TsTypeRef.ensures.type_params refl,
+  tt,
+)
 
 pub is_simple_type-returns-then-is_absent : goal.is_simple_type-returns-then-is_absent
 is_simple_type-returns-then-is_absent t c =
     let absent = c.is_absent.ensures ∙ ap is_absent c.of-in-TsTypeRef.ensures.type_params in
-    or_first _ _ (sym absent ∙ c.if-is_absent.true) absent ∙ sym (simple_at (seen c.args.ty) kinds.TsTypeRef (sym c.kind-kind.ensures ∙ c.in-TsTypeRef.is))
+    or_first _ _ (sym absent ∙ c.if-is_absent.true) absent ∙ sym
+    (simple_at (seen c.args.ty) kinds.TsTypeRef (sym c.kind-kind.ensures ∙ c.in-TsTypeRef.is))
 
 pub is_simple_type-returns-else-is_absent : goal.is_simple_type-returns-else-is_absent
 is_simple_type-returns-else-is_absent t c =
     let of = c.of-in-TsTypeRef.ensures in
-    or_second _ _ (sym (c.is_absent.ensures ∙ ap is_absent of.type_params) ∙ c.if-is_absent.false) (c.is_simple_type.ensures ∙ ap is_simple_type of.type_params)
+    or_second _ _ (sym (c.is_absent.ensures ∙ ap is_absent of.type_params) ∙ c.if-is_absent.false)
+    (c.is_simple_type.ensures ∙ ap is_simple_type of.type_params)
     ∙ sym (simple_at (seen c.args.ty) kinds.TsTypeRef (sym c.kind-kind.ensures ∙ c.in-TsTypeRef.is))
 
 pub is_simple_type-are_simple_types-requires : goal.is_simple_type-are_simple_types-requires
 is_simple_type-are_simple_types-requires t c = (lower_list (seen c.args.ty) c.decreases, tt)
 
 pub is_simple_type-returns-in-List : goal.is_simple_type-returns-in-List
-is_simple_type-returns-in-List t c = c.are_simple_types.ensures ∙ sym (simple_each (seen c.args.ty) (sym c.kind-kind.ensures ∙ c.in-List.is))
+is_simple_type-returns-in-List t c = c.are_simple_types.ensures ∙
+    sym (simple_each (seen c.args.ty) (sym c.kind-kind.ensures ∙ c.in-List.is))
 
 pub is_simple_type-is_simple_type-requires-in-Some : goal.is_simple_type-is_simple_type-requires-in-Some
-is_simple_type-is_simple_type-requires-in-Some t c =
-    (lower_part (seen c.args.ty) _ c.decreases (λ leaf. holds c.kind-kind.result _ (sym c.in-Some.is ∙ c.types_in.ensures) (c.kind-kind.ensures ∙ leaf)) c.part.ensures, tt)
+is_simple_type-is_simple_type-requires-in-Some t c = (
+  lower_part (seen c.args.ty) _ c.decreases
+      (λ leaf. holds c.kind-kind.result _ (sym c.in-Some.is ∙ c.types_in.ensures) (c.kind-kind.ensures ∙ leaf)) c.part.ensures,
+  tt,
+)
 
 pub is_simple_type-returns-in-Some : goal.is_simple_type-returns-in-Some
 is_simple_type-returns-in-Some t c =

@@ -13,4 +13,5 @@ returns-then-not-contains c =
 pub returns : goal.returns
 returns c =
     made_alias (seen_around c.args.asked) (seen c.args.item)
-    (ap (is_public c.args.asked.public_ranges.now) (sym c.of.ensures.span) ∙ (sym c.contains.ensures ∙ c.if-not-contains.false)) c.in_ok-to_tree.ensures
+    (ap (is_public c.args.asked.public_ranges.now) (sym c.of.ensures.span) ∙
+    (sym c.contains.ensures ∙ c.if-not-contains.false)) c.in_ok-to_tree.ensures

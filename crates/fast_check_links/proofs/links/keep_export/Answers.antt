@@ -9,7 +9,8 @@ use Rattle.fast_check_links.proofs.links.keep_export.Goals as goal
 
 pub returns-then-is_empty : goal.returns-then-is_empty
 returns-then-is_empty c =
-    no_export (seen_around c.args.asked) (seen c.args.item) c.in_ok-specifiers.ensures c.of-type_only.ensures.specifiers (c.if-is_empty.ensures.0 refl)
+    no_export (seen_around c.args.asked) (seen c.args.item) c.in_ok-specifiers.ensures c.of-type_only.ensures.specifiers
+    (c.if-is_empty.ensures.0 refl)
 
 pub returns : goal.returns
 returns c =

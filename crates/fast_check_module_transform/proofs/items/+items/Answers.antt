@@ -23,7 +23,8 @@ use Rattle.fast_check_module_transform.proofs.ByRule.{assigned_is, same_properti
 use Rattle.fast_check_declarations.specs.surroundings.skeleton.Rules.{is_assigned, item_rule}
 use Rattle.fast_check_module_transform.proofs.Namespaces.{inside_at_most, refused_module, private_namespace, public_namespace}
 use Rattle.fast_check_module_transform.proofs.Namespaces.{nothing_refused, nothing_private, all_inside}
-use Rattle.fast_check_module_transform.proofs.Removed.{item_lower, inside, below, below_nothing, below_declared, below_exported, without_append, removed_if_none, removed_if_some, removed_if_assigned, one_more}
+use Rattle.fast_check_module_transform.proofs.Removed.{item_lower, inside, below, below_nothing, below_declared, below_exported}
+use Rattle.fast_check_module_transform.proofs.Removed.{without_append, removed_if_none, removed_if_some, removed_if_assigned, one_more}
 use Rattle.fast_check_module_transform.proofs.items.+items.Goals as goal
 
 -- ---- the items of a body
@@ -71,7 +72,8 @@ keep_each-loop-item-preserved-then-is_assigned t c =
     let kept = c.in_ok-keep_assignment.ensures in
     record {
       answer = one_more_assigned around all i item c.loop-item-test.true here rule c.of.ensures.expr c.loop-item.invariant.answer kept.answer;
-      properties = more_properties around all i item c.loop-item-test.true here rule c.of.ensures.expr _ c.loop-item.invariant.properties kept.properties;
+      properties =
+          more_properties around all i item c.loop-item-test.true here rule c.of.ensures.expr _ c.loop-item.invariant.properties kept.properties;
       comments = c.remove_leading.ensures ∙ ((λ i. without_leading (start i) (c.loop-item.invariant.comments i))
           ∙ sym (one_more around all i item ((range_of_node item).start ∷ []) c.args.comments.now c.loop-item-test.true here
           (removed_if_assigned around item rule)));
@@ -98,7 +100,8 @@ keep_each-loop-item-preserved-in-None t c =
           (c.remove_leading-in-None.ensures ∙ (λ i. without_leading (start i)
           ((kept.comments ∙ ap (without_all_leading (below around item)) c.loop-item.invariant.comments) i)))
           ∙ sym (one_more around all i item (below around item ++ starts) c.args.comments.now
-          c.loop-item-test.true here (removed_if_none around item (sym c.is_assigned.ensures ∙ c.if-is_assigned.false) kept.answer (ap as_list c.in-None.is))
+          c.loop-item-test.true here
+          (removed_if_none around item (sym c.is_assigned.ensures ∙ c.if-is_assigned.false) kept.answer (ap as_list c.in-None.is))
           ∙ without_append (below around item) starts _));
     }
 
@@ -117,7 +120,8 @@ keep_each-loop-item-preserved t c =
       properties = same_properties around all i item c.loop-item-test.true here
           (sym c.is_assigned.ensures ∙ c.if-is_assigned.false) _ c.loop-item.invariant.properties;
       comments = c.in_ok-remove_inside-in-Some.ensures
-          ∙ (ap (without_all_leading (inside around item)) (kept.comments ∙ ap (without_all_leading (below around item)) c.loop-item.invariant.comments)
+          ∙ (ap (without_all_leading (inside around item))
+          (kept.comments ∙ ap (without_all_leading (below around item)) c.loop-item.invariant.comments)
           ∙ sym (one_more around all i item (below around item ++ inside around item)
           c.args.comments.now c.loop-item-test.true here (removed_if_some around item kept.answer (ap as_list c.in-Some.is))
           ∙ without_append (below around item) (inside around item) _));
@@ -125,11 +129,13 @@ keep_each-loop-item-preserved t c =
 
 pub keep_each-returns-clause-answer : goal.keep_each-returns-clause-answer
 keep_each-returns-clause-answer t c =
-    all_items (seen_around c.args.asked) c.loop-item.item-index c.loop-item-test.false c.parts-item-items.ensures c.loop-item.invariant.answer
+    all_items
+    (seen_around c.args.asked) c.loop-item.item-index c.loop-item-test.false c.parts-item-items.ensures c.loop-item.invariant.answer
 
 pub keep_each-returns-clause-properties : goal.keep_each-returns-clause-properties
 keep_each-returns-clause-properties t c =
-    all_properties (seen_around c.args.asked) c.loop-item.item-index c.loop-item-test.false c.parts-item-items.ensures _ c.loop-item.invariant.properties
+    all_properties
+    (seen_around c.args.asked) c.loop-item.item-index c.loop-item-test.false c.parts-item-items.ensures _ c.loop-item.invariant.properties
 
 pub keep_each-returns-clause-comments : goal.keep_each-returns-clause-comments
 keep_each-returns-clause-comments t c =
@@ -144,7 +150,8 @@ keep_namespace-keep_items-requires t c =
 
 pub keep_namespace-returns-in-Some-clause-answer : goal.keep_namespace-returns-in-Some-clause-answer
 keep_namespace-returns-in-Some-clause-answer t c =
-    refused_module (seen_around c.args.asked) c.args.place (seen c.args.decl) (sym c.module_fault.ensures ∙ c.in-Some.is) c.in_ok-push.ensures.items
+    refused_module (seen_around c.args.asked) c.args.place (seen c.args.decl)
+    (sym c.module_fault.ensures ∙ c.in-Some.is) c.in_ok-push.ensures.items
 
 pub keep_namespace-returns-in-Some-clause-comments : goal.keep_namespace-returns-in-Some-clause-comments
 keep_namespace-returns-in-Some-clause-comments t c =
@@ -160,7 +167,8 @@ keep_namespace-returns-then-not-contains-clause-answer t c =
 pub keep_namespace-returns-then-not-contains-clause-comments : goal.keep_namespace-returns-then-not-contains-clause-comments
 keep_namespace-returns-then-not-contains-clause-comments t c =
     ap (λ starts. without_all_leading starts c.args.comments.now)
-    (sym (nothing_private (seen_around c.args.asked) c.args.place (seen c.args.decl) (sym c.module_fault.ensures ∙ none_of c.module_fault.result
+    (sym (nothing_private (seen_around c.args.asked) c.args.place (seen c.args.decl)
+    (sym c.module_fault.ensures ∙ none_of c.module_fault.result
     (λ f e. c.in_default.not-Some f e))
     (sym c.contains.ensures ∙ c.if-not-contains.true)))
 
@@ -168,7 +176,8 @@ pub keep_namespace-returns-clause-answer : goal.keep_namespace-returns-clause-an
 keep_namespace-returns-clause-answer t c =
     public_namespace (seen_around c.args.asked) c.args.place (seen c.args.decl) (sym c.module_fault.ensures ∙ none_of c.module_fault.result
     (λ f e. c.in_default.not-Some f e))
-    (sym c.contains.ensures ∙ c.if-not-contains.false) c.in_ok-items.ensures.answer c.inside.ensures c.items_inside.ensures c.in_ok-namespace_with.ensures
+    (sym c.contains.ensures ∙
+    c.if-not-contains.false) c.in_ok-items.ensures.answer c.inside.ensures c.items_inside.ensures c.in_ok-namespace_with.ensures
 
 pub keep_namespace-returns-clause-comments : goal.keep_namespace-returns-clause-comments
 keep_namespace-returns-clause-comments t c =
@@ -182,7 +191,8 @@ keep_namespace-returns-clause-comments t c =
 
 pub keep_decl-returns-in-Variables-clause-answer : goal.keep_decl-returns-in-Variables-clause-answer
 keep_decl-returns-in-Variables-clause-answer t c =
-    IfOk-weaker c.keep_statement.result _ _ (λ tree h. variables (seen_around c.args.asked) c.args.place (seen c.args.decl) c.in-Variables.is h)
+    IfOk-weaker c.keep_statement.result _ _
+    (λ tree h. variables (seen_around c.args.asked) c.args.place (seen c.args.decl) c.in-Variables.is h)
     c.keep_statement.ensures
 
 pub keep_decl-returns-in-Function-clause-answer : goal.keep_decl-returns-in-Function-clause-answer
@@ -192,7 +202,8 @@ keep_decl-returns-in-Function-clause-answer t c =
 
 pub keep_decl-returns-in-Class-clause-answer : goal.keep_decl-returns-in-Class-clause-answer
 keep_decl-returns-in-Class-clause-answer t c =
-    IfOk-weaker c.keep_public_class.result _ _ (λ tree h. classes (seen_around c.args.asked) c.args.place (seen c.args.decl) c.in-Class.is h)
+    IfOk-weaker c.keep_public_class.result _ _
+    (λ tree h. classes (seen_around c.args.asked) c.args.place (seen c.args.decl) c.in-Class.is h)
     c.keep_public_class.ensures
 
 pub keep_decl-returns-in-Using-clause-answer : goal.keep_decl-returns-in-Using-clause-answer
@@ -203,7 +214,8 @@ keep_decl-returns-in-Using-clause-answer t c =
 pub keep_decl-returns-in-Standing-clause-answer : goal.keep_decl-returns-in-Standing-clause-answer
 keep_decl-returns-in-Standing-clause-answer t c =
     IfOk-weaker c.keep_standing.result _ _
-    (λ tree h. standing (seen_around c.args.asked) c.args.place (seen c.args.decl) c.in-Standing.is tree h c.args.faults.now.items) c.keep_standing.ensures
+    (λ tree h. standing (seen_around c.args.asked) c.args.place
+    (seen c.args.decl) c.in-Standing.is tree h c.args.faults.now.items) c.keep_standing.ensures
 
 pub keep_decl-returns-in-Namespace-clause-answer : goal.keep_decl-returns-in-Namespace-clause-answer
 keep_decl-returns-in-Namespace-clause-answer t c =
@@ -216,37 +228,44 @@ keep_decl-returns-in-NoDeclaration-clause-answer t c =
 
 pub keep_decl-returns-in-Variables-clause-comments : goal.keep_decl-returns-in-Variables-clause-comments
 keep_decl-returns-in-Variables-clause-comments t c =
-    IfOk-weaker c.keep_statement.result _ _ (λ tree h. ap (λ r. without_all_leading (starts_in_body start_look (seen_around c.args.asked) c.args.place
+    IfOk-weaker c.keep_statement.result _ _
+    (λ tree h. ap (λ r. without_all_leading (starts_in_body start_look (seen_around c.args.asked) c.args.place
     (seen c.args.decl) r) c.args.comments.now) (sym c.in-Variables.is)) c.keep_statement.ensures
 
 pub keep_decl-returns-in-Function-clause-comments : goal.keep_decl-returns-in-Function-clause-comments
 keep_decl-returns-in-Function-clause-comments t c =
-    IfOk-weaker c.keep_public_function.result _ _ (λ tree h. ap (λ r. without_all_leading (starts_in_body start_look (seen_around c.args.asked) c.args.place
+    IfOk-weaker c.keep_public_function.result _ _
+    (λ tree h. ap (λ r. without_all_leading (starts_in_body start_look (seen_around c.args.asked) c.args.place
     (seen c.args.decl) r) c.args.comments.now) (sym c.in-Function.is)) c.keep_public_function.ensures
 
 pub keep_decl-returns-in-Class-clause-comments : goal.keep_decl-returns-in-Class-clause-comments
 keep_decl-returns-in-Class-clause-comments t c =
-    IfOk-weaker c.keep_public_class.result _ _ (λ tree h. ap (λ r. without_all_leading (starts_in_body start_look (seen_around c.args.asked) c.args.place
+    IfOk-weaker c.keep_public_class.result _ _
+    (λ tree h. ap (λ r. without_all_leading (starts_in_body start_look (seen_around c.args.asked) c.args.place
     (seen c.args.decl) r) c.args.comments.now) (sym c.in-Class.is)) c.keep_public_class.ensures
 
 pub keep_decl-returns-in-Standing-clause-comments : goal.keep_decl-returns-in-Standing-clause-comments
 keep_decl-returns-in-Standing-clause-comments t c =
-    IfOk-weaker c.keep_standing.result _ _ (λ tree h. ap (λ r. without_all_leading (starts_in_body start_look (seen_around c.args.asked) c.args.place
+    IfOk-weaker c.keep_standing.result _ _
+    (λ tree h. ap (λ r. without_all_leading (starts_in_body start_look (seen_around c.args.asked) c.args.place
     (seen c.args.decl) r) c.args.comments.now) (sym c.in-Standing.is)) c.keep_standing.ensures
 
 pub keep_decl-returns-in-Using-clause-comments : goal.keep_decl-returns-in-Using-clause-comments
 keep_decl-returns-in-Using-clause-comments t c =
-    IfOk-weaker c.keep_using.result _ _ (λ tree h. ap (λ r. without_all_leading (starts_in_body start_look (seen_around c.args.asked) c.args.place
+    IfOk-weaker c.keep_using.result _ _
+    (λ tree h. ap (λ r. without_all_leading (starts_in_body start_look (seen_around c.args.asked) c.args.place
     (seen c.args.decl) r) c.args.comments.now) (sym c.in-Using.is)) c.keep_using.ensures
 
 pub keep_decl-returns-in-Namespace-clause-comments : goal.keep_decl-returns-in-Namespace-clause-comments
 keep_decl-returns-in-Namespace-clause-comments t c =
-    IfOk-weaker c.keep_namespace.result _ _ (λ tree h. h ∙ ap (λ r. without_all_leading (starts_in_body start_look (seen_around c.args.asked) c.args.place
+    IfOk-weaker c.keep_namespace.result _ _
+    (λ tree h. h ∙ ap (λ r. without_all_leading (starts_in_body start_look (seen_around c.args.asked) c.args.place
     (seen c.args.decl) r) c.args.comments.now) (sym c.in-Namespace.is)) c.keep_namespace.ensures.comments
 
 pub keep_decl-returns-in-NoDeclaration-clause-comments : goal.keep_decl-returns-in-NoDeclaration-clause-comments
 keep_decl-returns-in-NoDeclaration-clause-comments t c =
-    ap (λ r. without_all_leading (starts_in_body start_look (seen_around c.args.asked) c.args.place (seen c.args.decl) r) c.args.comments.now)
+    ap (λ r. without_all_leading
+    (starts_in_body start_look (seen_around c.args.asked) c.args.place (seen c.args.decl) r) c.args.comments.now)
     (sym c.in-NoDeclaration.is)
 
 -- ---- exports
@@ -281,24 +300,28 @@ keep_export-returns-in-None-clause-comments t c =
 pub keep_item-returns-in-Declared-clause-answer : goal.keep_item-returns-in-Declared-clause-answer
 keep_item-returns-in-Declared-clause-answer t c =
     IfOk-weaker c.keep_decl.result _ _
-    (λ tree h. declared (seen_around c.args.asked) (seen c.args.item) (sym c.item_rule.ensures ∙ c.in-Declared.is) h c.range_of_node.ensures)
+    (λ tree h. declared (seen_around c.args.asked) (seen c.args.item)
+    (sym c.item_rule.ensures ∙ c.in-Declared.is) h c.range_of_node.ensures)
     c.keep_decl.ensures.answer
 
 pub keep_item-returns-in-Exported-clause-answer : goal.keep_item-returns-in-Exported-clause-answer
 keep_item-returns-in-Exported-clause-answer t c =
     IfOk-weaker c.keep_export.result _ _
-    (λ tree h. exported (seen_around c.args.asked) (seen c.args.item) (sym c.item_rule.ensures ∙ c.in-Exported.is) h) c.keep_export.ensures.answer
+    (λ tree h. exported (seen_around c.args.asked) (seen c.args.item)
+    (sym c.item_rule.ensures ∙ c.in-Exported.is) h) c.keep_export.ensures.answer
 
 pub keep_item-returns-in-Linked-clause-answer : goal.keep_item-returns-in-Linked-clause-answer
 keep_item-returns-in-Linked-clause-answer t c =
     IfOk-weaker c.keep_link.result _ _
-    (λ tree h. linked (seen_around c.args.asked) (seen c.args.item) (sym c.item_rule.ensures ∙ c.in-Linked.is) tree h c.args.faults.now.items)
+    (λ tree h. linked (seen_around c.args.asked) (seen c.args.item)
+    (sym c.item_rule.ensures ∙ c.in-Linked.is) tree h c.args.faults.now.items)
     c.keep_link.ensures
 
 pub keep_item-returns-in-Default-clause-answer : goal.keep_item-returns-in-Default-clause-answer
 keep_item-returns-in-Default-clause-answer t c =
     IfOk-weaker c.keep_default.result _ _
-    (λ tree h. default_export (seen_around c.args.asked) (seen c.args.item) (sym c.item_rule.ensures ∙ c.in-Default.is) h) c.keep_default.ensures
+    (λ tree h. default_export (seen_around c.args.asked) (seen c.args.item)
+    (sym c.item_rule.ensures ∙ c.in-Default.is) h) c.keep_default.ensures
 
 pub keep_item-returns-in-Refused-clause-answer : goal.keep_item-returns-in-Refused-clause-answer
 keep_item-returns-in-Refused-clause-answer t c =
@@ -323,19 +346,22 @@ keep_item-returns-in-Exported-clause-comments t c =
 pub keep_item-returns-in-Linked-clause-comments : goal.keep_item-returns-in-Linked-clause-comments
 keep_item-returns-in-Linked-clause-comments t c =
     IfOk-weaker c.keep_link.result _ _
-    (λ tree h. below_nothing (seen_around c.args.asked) (seen c.args.item) c.args.comments.now (sym c.item_rule.ensures ∙ c.in-Linked.is) refl)
+    (λ tree h. below_nothing (seen_around c.args.asked) (seen c.args.item) c.args.comments.now
+    (sym c.item_rule.ensures ∙ c.in-Linked.is) refl)
     c.keep_link.ensures
 
 pub keep_item-returns-in-Default-clause-comments : goal.keep_item-returns-in-Default-clause-comments
 keep_item-returns-in-Default-clause-comments t c =
     IfOk-weaker c.keep_default.result _ _
-    (λ tree h. below_nothing (seen_around c.args.asked) (seen c.args.item) c.args.comments.now (sym c.item_rule.ensures ∙ c.in-Default.is) refl)
+    (λ tree h. below_nothing (seen_around c.args.asked) (seen c.args.item) c.args.comments.now
+    (sym c.item_rule.ensures ∙ c.in-Default.is) refl)
     c.keep_default.ensures
 
 pub keep_item-returns-in-Refused-clause-comments : goal.keep_item-returns-in-Refused-clause-comments
 keep_item-returns-in-Refused-clause-comments t c =
     IfOk-weaker c.refuse.result _ _
-    (λ tree h. below_nothing (seen_around c.args.asked) (seen c.args.item) c.args.comments.now (sym c.item_rule.ensures ∙ c.in-Refused.is) refl)
+    (λ tree h. below_nothing (seen_around c.args.asked) (seen c.args.item) c.args.comments.now
+    (sym c.item_rule.ensures ∙ c.in-Refused.is) refl)
     c.refuse.ensures
 
 pub keep_item-returns-in-Silent-clause-comments : goal.keep_item-returns-in-Silent-clause-comments

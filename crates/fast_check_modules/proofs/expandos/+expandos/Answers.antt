@@ -16,7 +16,8 @@ push_expandos-returns t c =
     let old = c.args.out.now.items in
     on_ok_weaker c.push_each.result
     (λ h. h ∙ (ap (λ (es : List Expando). es ++ flat_map expandos (parts part)) c.in_ok-push_own.ensures
-    ∙ (append_assoc old (own_expando part) (flat_map expandos (parts part)) ∙ ap (λ (es : List Expando). old ++ es) (sym (expandos_out part)))))
+    ∙ (append_assoc old (own_expando part) (flat_map expandos (parts part)) ∙
+    ap (λ (es : List Expando). old ++ es) (sym (expandos_out part)))))
     c.push_each.ensures
 
 pub push_each-push_expandos-requires : goal.push_each-push_expandos-requires
@@ -29,7 +30,8 @@ push_each-push_expandos-requires t c = (
 pub push_each-loop-inner-preserved : goal.push_each-loop-inner-preserved
 push_each-loop-inner-preserved t c =
     each_more expandos c.parts-inner-items.result.now c.loop-inner.inner-index c.inner-item.result c.args.out.now.items c.loop-inner-test.true
-    c.inner-item.is c.loop-inner.invariant (c.in_ok-push_expandos.ensures ∙ ap (λ (u : Tree). c.loop-inner.out.items ++ expandos u) c.read.ensures)
+    c.inner-item.is c.loop-inner.invariant
+    (c.in_ok-push_expandos.ensures ∙ ap (λ (u : Tree). c.loop-inner.out.items ++ expandos u) c.read.ensures)
 
 pub push_each-returns : goal.push_each-returns
 push_each-returns t c =

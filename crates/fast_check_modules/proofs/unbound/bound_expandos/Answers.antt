@@ -8,7 +8,8 @@ use Rattle.fast_check_modules.proofs.unbound.bound_expandos.Goals as goal
 pub returns-then-branch-clause-fault : goal.returns-then-branch-clause-fault
 returns-then-branch-clause-fault c =
     let read = c.deref.ensures.value ∙ c.in_ok-expandos.ensures in
-    ap (λ (es : List Expando). list_any (is_ranged_unbound c.args.tables.now) es) (sym read) ∙ (sym c.in_ok-any_unbound.ensures ∙ c.if-branch.true)
+    ap (λ (es : List Expando). list_any (is_ranged_unbound c.args.tables.now) es) (sym read) ∙
+    (sym c.in_ok-any_unbound.ensures ∙ c.if-branch.true)
 
 pub returns-clause-bound : goal.returns-clause-bound
 returns-clause-bound c =

@@ -7,7 +7,8 @@ use Rattle.fast_check_name_demands.proofs.single.+below.Goals as goal
 
 pub push_below-returns-in_ok-push-in-All : goal.push_below-returns-in_ok-push-in-All
 push_below-returns-in_ok-push-in-All t c =
-    pushed_whole (path_of c.args.path.items) c.args.exports c.in-All.is (map demand_of c.args.out.now.items) (map demand_of c.push.new.self.items)
+    pushed_whole (path_of c.args.path.items) c.args.exports c.in-All.is (map demand_of c.args.out.now.items)
+    (map demand_of c.push.new.self.items)
     (ap (map demand_of) c.in_ok-push-in-All.ensures.items ∙ map-append demand_of c.args.out.now.items _)
 
 pub push_below-returns-in_ok-push-in-Subset : goal.push_below-returns-in_ok-push-in-Subset
@@ -30,10 +31,13 @@ push_names-push_below-requires t c = (
 
 pub push_names-loop-name-preserved : goal.push_names-loop-name-preserved
 push_names-loop-name-preserved t c = (
-  listed_more c.args.names c.loop-name.yielded c.loop-name.name-iterator.rest.items (c.in-Some.name, c.in-Some.exports) c.next.new.self.rest.items
+  listed_more c.args.names c.loop-name.yielded c.loop-name.name-iterator.rest.items
+      (c.in-Some.name, c.in-Some.exports) c.next.new.self.rest.items
       c.loop-name.invariant.0 c.in-Some.ensures.steps.0,
-  gains_more (path_of c.args.path.now) c.loop-name.yielded (c.in-Some.name, c.in-Some.exports) (path_of c.in_ok-below.below.items) c.in_ok-below.ensures
-      (map demand_of c.args.out.now.items) (map demand_of c.loop-name.out.items) (map demand_of c.push_below.new.out.items) c.loop-name.invariant.1
+  gains_more (path_of c.args.path.now) c.loop-name.yielded (c.in-Some.name, c.in-Some.exports)
+      (path_of c.in_ok-below.below.items) c.in_ok-below.ensures
+      (map demand_of c.args.out.now.items) (map demand_of c.loop-name.out.items)
+      (map demand_of c.push_below.new.out.items) c.loop-name.invariant.1
       c.in_ok-push_below.ensures,
 )
 

@@ -15,5 +15,6 @@ returns c = elim c.if-is_empty.branch [
       (of_no_names c.args.names (c.is_empty.ensures.none w.if-is_empty.true))
   | else-is_empty+in_ok-push_names w ↦
       let some = c.is_empty.ensures.some w.if-is_empty.false in
-      of_names c.args.names some.0 (map demand_of c.if-is_empty.out.items) some.1 (rw w.out-is (rw c.new-out.ensures.items at w.in_ok-push_names.ensures))
+      of_names c.args.names some.0 (map demand_of c.if-is_empty.out.items) some.1
+      (rw w.out-is (rw c.new-out.ensures.items at w.in_ok-push_names.ensures))
 ]

@@ -5,7 +5,8 @@ use Rattle.fast_check_name_demands.proofs.single.name_demands.Goals as goal
 
 pub returns-in_ok-vec-in-Star : goal.returns-in_ok-vec-in-Star
 returns-in_ok-vec-in-Star c =
-    demands_of_star c.args.exports c.in-Star.is (map demand_of c.in_ok-vec-in-Star.field-0.items) (ap (map demand_of) c.in_ok-vec-in-Star.ensures.items)
+    demands_of_star c.args.exports c.in-Star.is (map demand_of c.in_ok-vec-in-Star.field-0.items)
+    (ap (map demand_of) c.in_ok-vec-in-Star.ensures.items)
 
 pub returns-in_ok-vec-in-StarWithDefault : goal.returns-in_ok-vec-in-StarWithDefault
 returns-in_ok-vec-in-StarWithDefault c =

@@ -11,7 +11,9 @@ use Rattle.fast_check_new_nodes.proofs.Promises.{no_reference, not_global, by_ar
 use Rattle.fast_check_new_nodes.proofs.nodes.is_promise.Goals as goal
 
 pub returns : goal.returns
-returns c = no_reference c.args.unresolved (seen c.args.ty) (ap (λ (k : Kind). k is TsTypeRef) (sym c.kind.ensures) ∙ (sym c.eq.ensures ∙ c.if-eq.false))
+returns c =
+    no_reference c.args.unresolved (seen c.args.ty)
+    (ap (λ (k : Kind). k is TsTypeRef) (sym c.kind.ensures) ∙ (sym c.eq.ensures ∙ c.if-eq.false))
 
 pub returns-else-is_global : goal.returns-else-is_global
 returns-else-is_global c =

@@ -15,7 +15,8 @@ pub returns-then-is_empty-clause-reasons : goal.returns-then-is_empty-clause-rea
 returns-then-is_empty-clause-reasons c =
     let found = c.take_diagnostics-found in
     let none = empty_vec found.result c.is_empty.result c.is_empty.ensures c.if-is_empty.true in
-    told_rest c.args.options.now.should_error_on_first_diagnostic c.args.graph.now c.args.root_symbol.now (c.args.specifier, c.args.public_ranges)
+    told_rest c.args.options.now.should_error_on_first_diagnostic c.args.graph.now c.args.root_symbol.now
+    (c.args.specifier, c.args.public_ranges)
     found.new.self c.answer_if_tree.result
     (left_same c.args.public_ranges found.new.self found.result found.ensures.taken found.ensures.left none)
     (sym found.ensures.taken ∙ none) c.answer_if_tree.ensures.reasons

@@ -8,7 +8,8 @@ abbrev pub invariant-loop-specifier : goal.invariant-loop-specifier
 invariant-loop-specifier l = record {
   all : l.yielded ++ l.specifier-iterator ≡ l.fn.module_ranges.entries;
   reasons : AllZip Tells (package_reasons l.options.should_error_on_first_diagnostic l.graph l.root_symbol l.yielded) l.wrong.items;
-  shown : ShowsMore l.graph (tree_modules l.root_symbol (sound_front l.options.should_error_on_first_diagnostic l.graph l.root_symbol l.yielded))
+  shown : ShowsMore l.graph
+      (tree_modules l.root_symbol (sound_front l.options.should_error_on_first_diagnostic l.graph l.root_symbol l.yielded))
       l.initial.answers.items l.answers.items;
   goes_on : l.options.should_error_on_first_diagnostic ≡ true → l.wrong.items ≡ [];
 }

@@ -4,7 +4,8 @@ use Rattle.fast_check_package_answers.proofs.answer.answer_tree.Goals as goal
 
 pub returns-in_ok-push-in-Ok-clause-shown : goal.returns-in_ok-push-in-Ok-clause-shown
 returns-in_ok-push-in-Ok-clause-shown c =
-    λ e. shows_tree c.args.graph.now (record { specifier = c.args.specifier; info = c.args.es_module_info.now; public = c.args.public_ranges.now })
+    λ e. shows_tree c.args.graph.now
+    (record { specifier = c.args.specifier; info = c.args.es_module_info.now; public = c.args.public_ranges.now })
     c.in_ok-made.field-0 c.in-Ok.made c.args.answers.now.items c.push.new.self.items c.in-Ok.is c.in_ok-made.ensures.skeleton
     c.in_ok-made.ensures.grammar c.in_ok-made.ensures.comments c.in_ok-made.ensures.sources c.in_ok-push-in-Ok.ensures.items
 

@@ -14,7 +14,8 @@ pub returns-in_err-more-clause-err : goal.returns-in_err-more-clause-err
 returns-in_err-more-clause-err g c =
     let m = goal.FastCheckCache-dyn g c.args.cache.now in
     let d = c.args.cache.now.1 in
-    set_first c.from_residual.result (m.hash_of d c.args.seed.now) c.args.options.now.should_error_on_first_diagnostic c.args.graph.now c.args.root_symbol.now c.loop-nv.yielded
+    set_first c.from_residual.result
+    (m.hash_of d c.args.seed.now) c.args.options.now.should_error_on_first_diagnostic c.args.graph.now c.args.root_symbol.now c.loop-nv.yielded
     c.loop-nv.nv-iterator c.args.ranges.entries (m.stored d) _ c.loop-nv.invariant.all (c.in_err-more.ensures.err ∙ c.loop-nv.invariant.set)
 
 pub returns-in_err-append-clause-err : goal.returns-in_err-append-clause-err
@@ -23,10 +24,13 @@ returns-in_err-append-clause-err g c =
     let d = c.args.cache.now.1 in
     let p : PackageNv × PackagePublicRanges = (c.in-Some.nv, c.in-Some.package_ranges) in
     let first = c.args.options.now.should_error_on_first_diagnostic in
-    set_first c.from_residual-in_err-append.result (m.hash_of d c.args.seed.now) first c.args.graph.now c.args.root_symbol.now (c.loop-nv.yielded ++ p ∷ []) c.next.new.self
+    set_first c.from_residual-in_err-append.result (m.hash_of d c.args.seed.now) first c.args.graph.now c.args.root_symbol.now
+    (c.loop-nv.yielded ++ p ∷ []) c.next.new.self
     c.args.ranges.entries (m.stored d) _
-    (append_assoc c.loop-nv.yielded (p ∷ []) c.next.new.self ∙ (sym (ap (λ es. c.loop-nv.yielded ++ es) c.in-Some.ensures.steps) ∙ c.loop-nv.invariant.all))
-    (set_more (m.hash_of d c.args.seed.now) _ first c.args.graph.now c.args.root_symbol.now c.loop-nv.yielded p (nv_of c.in-Some.nv) (m.stored d) _ _
+    (append_assoc c.loop-nv.yielded (p ∷ []) c.next.new.self ∙
+    (sym (ap (λ es. c.loop-nv.yielded ++ es) c.in-Some.ensures.steps) ∙ c.loop-nv.invariant.all))
+    (set_more (m.hash_of d c.args.seed.now) _ first c.args.graph.now c.args.root_symbol.now c.loop-nv.yielded p (nv_of c.in-Some.nv)
+    (m.stored d) _ _
     (ap (λ h. h c.args.seed.now) c.loop-nv.invariant.hash) refl c.loop-nv.invariant.set c.in_ok-more.ensures.set)
 
 pub loop-nv-preserved-in_ok-append : goal.loop-nv-preserved-in_ok-append
@@ -40,7 +44,8 @@ loop-nv-preserved-in_ok-append g c =
     c.in_ok-more.ensures.answered c.in_ok-append.ensures.items in record {
       all = t.0;
       answered = t.1;
-      set = set_more (m.hash_of d c.args.seed.now) _ first c.args.graph.now c.args.root_symbol.now c.loop-nv.yielded p (nv_of c.in-Some.nv) (m.stored d) _ _
+      set = set_more (m.hash_of d c.args.seed.now) _ first c.args.graph.now c.args.root_symbol.now c.loop-nv.yielded p (nv_of c.in-Some.nv)
+          (m.stored d) _ _
           (ap (λ h. h c.args.seed.now) c.loop-nv.invariant.hash) refl c.loop-nv.invariant.set c.in_ok-more.ensures.set;
       hash = c.in_ok-more.ensures.hash ∙ c.loop-nv.invariant.hash;
     }
@@ -56,7 +61,8 @@ loop-nv-preserved g c =
     c.in_ok-more.ensures.answered c.in_ok-append.ensures.items in record {
       all = t.0;
       answered = t.1;
-      set = set_more (m.hash_of d c.args.seed.now) _ first c.args.graph.now c.args.root_symbol.now c.loop-nv.yielded p (nv_of c.in-Some.nv) (m.stored d) _ _
+      set = set_more (m.hash_of d c.args.seed.now) _ first c.args.graph.now c.args.root_symbol.now c.loop-nv.yielded p (nv_of c.in-Some.nv)
+          (m.stored d) _ _
           (ap (λ h. h c.args.seed.now) c.loop-nv.invariant.hash) refl c.loop-nv.invariant.set c.in_ok-more.ensures.set;
       hash = c.in_ok-more.ensures.hash ∙ c.loop-nv.invariant.hash;
     }

@@ -12,7 +12,8 @@ pub loop-specifier-preserved : goal.loop-specifier-preserved
 loop-specifier-preserved c = λ t q.
     let test = found_module_says t q in
     let given : Parts × EntryFault → Bool = λ f. is_text t f.0 && (is_recorded q || fault_says (entry_fault f.1) q) in
-    ap (list_any test) c.in_ok-push.ensures.items ∙ (any_push test c.loop-specifier.modules.items (c.in-Some.specifier, c.entry_parts.result) ∙
+    ap (list_any test) c.in_ok-push.ensures.items ∙
+    (any_push test c.loop-specifier.modules.items (c.in-Some.specifier, c.entry_parts.result) ∙
     (ap (λ b. b || test (c.in-Some.specifier, c.entry_parts.result)) (c.loop-specifier.invariant t q) ∙
     (ap (λ b. list_any given c.loop-specifier.yielded || (is_text t c.in-Some.specifier && b)) (c.entry_parts.ensures q) ∙
     sym (any_push given c.loop-specifier.yielded (c.in-Some.specifier, c.in-Some.fault)))))

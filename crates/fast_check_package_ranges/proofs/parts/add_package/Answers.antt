@@ -8,18 +8,24 @@ pub returns-in_ok-insert-in-None : goal.returns-in_ok-insert-in-None
 returns-in_ok-insert-in-None c = λ nv q.
     let found = c.args.found in
     let nv_key = c.args.package in
-    says_after package_total (is_package nv) (package_one nv) (λ p. package_says p q) nv_key c.args.packages.now c.insert.new.self c.in_ok-parts-in-None.parts
+    says_after package_total (is_package nv) (package_one nv)
+    (λ p. package_says p q) nv_key c.args.packages.now c.insert.new.self c.in_ok-parts-in-None.parts
     (found_says found q)
-    (lookup_put package_total (is_package nv) (package_one nv) nv_key c.args.packages.now c.remove.new.self c.insert.new.self c.in_ok-parts-in-None.parts
+    (lookup_put package_total (is_package nv)
+    (package_one nv) nv_key c.args.packages.now c.remove.new.self c.insert.new.self c.in_ok-parts-in-None.parts
     c.remove.ensures.updates c.in_ok-insert-in-None.ensures.updates)
-    (c.in_ok-parts-in-None.ensures q ∙ sym (ap (λ o. where_found (λ p. package_says p q) o || found_says found q) (sym c.remove.ensures.value ∙ c.in-None.is)))
+    (c.in_ok-parts-in-None.ensures q ∙
+    sym (ap (λ o. where_found (λ p. package_says p q) o || found_says found q) (sym c.remove.ensures.value ∙ c.in-None.is)))
 
 pub returns-in_ok-insert-in-Some : goal.returns-in_ok-insert-in-Some
 returns-in_ok-insert-in-Some c = λ nv q.
     let found = c.args.found in
     let nv_key = c.args.package in
-    says_after package_total (is_package nv) (package_one nv) (λ p. package_says p q) nv_key c.args.packages.now c.insert-in-Some.new.self c.join.new.self
+    says_after package_total (is_package nv) (package_one nv)
+    (λ p. package_says p q) nv_key c.args.packages.now c.insert-in-Some.new.self c.join.new.self
     (found_says found q)
-    (lookup_put package_total (is_package nv) (package_one nv) nv_key c.args.packages.now c.remove.new.self c.insert-in-Some.new.self c.join.new.self
+    (lookup_put package_total (is_package nv)
+    (package_one nv) nv_key c.args.packages.now c.remove.new.self c.insert-in-Some.new.self c.join.new.self
     c.remove.ensures.updates c.in_ok-insert-in-Some.ensures.updates)
-    (c.in_ok-join-in-Some.ensures q ∙ sym (ap (λ o. where_found (λ p. package_says p q) o || found_says found q) (sym c.remove.ensures.value ∙ c.in-Some.is)))
+    (c.in_ok-join-in-Some.ensures q ∙
+    sym (ap (λ o. where_found (λ p. package_says p q) o || found_says found q) (sym c.remove.ensures.value ∙ c.in-Some.is)))

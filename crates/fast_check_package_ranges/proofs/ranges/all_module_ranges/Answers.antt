@@ -10,29 +10,36 @@ use Rattle.fast_check_package_ranges.proofs.Converted.{convert_none, convert_mor
 use Rattle.fast_check_package_ranges.proofs.ranges.all_module_ranges.Goals as goal
 
 pub loop-specifier-init : goal.loop-specifier-init
-loop-specifier-init c = convert_none text_total is_text text_one AreModuleAnswers c.args.modules.entries c.new-made.result.entries c.new-made.ensures.empty
+loop-specifier-init c =
+    convert_none text_total is_text text_one AreModuleAnswers c.args.modules.entries c.new-made.result.entries c.new-made.ensures.empty
 
 pub loop-specifier-preserved : goal.loop-specifier-preserved
 loop-specifier-preserved c =
     let given = c.into_iter-specifier-iterator.ensures.into_iter_gives in
-    let turn = btree_map_turn (λ p. p) c.loop-specifier.yielded c.into_iter-specifier-iterator.result c.loop-specifier.specifier-iterator c.next.new.self
+    let turn =
+    btree_map_turn
+    (λ p. p) c.loop-specifier.yielded c.into_iter-specifier-iterator.result c.loop-specifier.specifier-iterator c.next.new.self
     c.next.result (c.in-Some.specifier, c.in-Some.parts) c.loop-specifier.yielded_by c.in-Some.is c.next.ensures.steps
     text_total c.args.modules given.0 given.5 in
     convert_more text_total is_text text_one AreModuleAnswers c.args.modules.entries c.loop-specifier.yielded c.in-Some.specifier c.in-Some.parts
     c.in_ok-ranges.ranges c.loop-specifier.made c.insert.new.self turn.1 c.in_ok-insert.ensures.updates
-    (λ t yes. subst (λ (u : List ℕ). IsModuleAnswer u c.in-Some.parts c.in_ok-ranges.ranges) (sym ((bytes_decides t (serialize c.in-Some.specifier)).0 yes))
+    (λ t yes. subst (λ (u : List ℕ). IsModuleAnswer u c.in-Some.parts c.in_ok-ranges.ranges)
+    (sym ((bytes_decides t (serialize c.in-Some.specifier)).0 yes))
     c.in_ok-ranges.ensures)
     c.loop-specifier.invariant
 
 pub loop-specifier-preserved-in_ok-insert : goal.loop-specifier-preserved-in_ok-insert
 loop-specifier-preserved-in_ok-insert c =
     let given = c.into_iter-specifier-iterator.ensures.into_iter_gives in
-    let turn = btree_map_turn (λ p. p) c.loop-specifier.yielded c.into_iter-specifier-iterator.result c.loop-specifier.specifier-iterator c.next.new.self
+    let turn =
+    btree_map_turn
+    (λ p. p) c.loop-specifier.yielded c.into_iter-specifier-iterator.result c.loop-specifier.specifier-iterator c.next.new.self
     c.next.result (c.in-Some.specifier, c.in-Some.parts) c.loop-specifier.yielded_by c.in-Some.is c.next.ensures.steps
     text_total c.args.modules given.0 given.5 in
     convert_more text_total is_text text_one AreModuleAnswers c.args.modules.entries c.loop-specifier.yielded c.in-Some.specifier c.in-Some.parts
     c.in_ok-ranges.ranges c.loop-specifier.made c.insert.new.self turn.1 c.in_ok-insert.ensures.updates
-    (λ t yes. subst (λ (u : List ℕ). IsModuleAnswer u c.in-Some.parts c.in_ok-ranges.ranges) (sym ((bytes_decides t (serialize c.in-Some.specifier)).0 yes))
+    (λ t yes. subst (λ (u : List ℕ). IsModuleAnswer u c.in-Some.parts c.in_ok-ranges.ranges)
+    (sym ((bytes_decides t (serialize c.in-Some.specifier)).0 yes))
     c.in_ok-ranges.ensures)
     c.loop-specifier.invariant
 

@@ -14,4 +14,5 @@ returns c =
     let tokens = written.tokens_now ∙ ap (λ ts. ts ++ tokens_of value) c.new-out.ensures.tokens in
     c.in_ok-push.ensures.items
     ∙ ap (λ text. text ++ line_end)
-    (c.into_inner-line.ensures.items ∙ (ap (λ text. text ++ print c.write_both.new.out.tokens) before ∙ (ap print tokens ∙ print-outline value)))
+    (c.into_inner-line.ensures.items ∙
+    (ap (λ text. text ++ print c.write_both.new.out.tokens) before ∙ (ap print tokens ∙ print-outline value)))

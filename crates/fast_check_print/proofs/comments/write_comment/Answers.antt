@@ -10,4 +10,5 @@ returns c =
     let range = adds-then _ _ _ _ _ span (adds-ok _ _ _ _ _ c.in_ok-write_range.was c.write_range.ensures) in
     let text = adds-then _ _ _ _ _ range (adds-token_ok _ _ _ _ _ c.in_ok-key-3.was c.key-3.ensures) in
     let all = adds-then _ _ _ _ _ text (adds-token_ok _ _ _ _ _ c.in_ok-string-2.was c.string-2.ensures) in
-    rw (← c.comment_kind_text.ensures, ← c.as_str.ensures) (adds-last c.end_object.result _ _ _ _ _ all (adds-token _ _ _ _ c.end_object.ensures))
+    rw (← c.comment_kind_text.ensures, ← c.as_str.ensures)
+    (adds-last c.end_object.result _ _ _ _ _ all (adds-token _ _ _ _ c.end_object.ensures))

@@ -7,4 +7,5 @@ use Rattle.fast_check_print.proofs.comments.write_places.Given as goal
 
 -- the other entries still have to come
 abbrev pub invariant-loop-position : goal.invariant-loop-position
-invariant-loop-position l = Remains (tokens_of (places_data l.fn.places)) l.fn.out l.out (rest_of_items (map entry_data l.position-iterator))
+invariant-loop-position l = Remains (tokens_of (places_data l.fn.places)) l.fn.out l.out
+    (rest_of_items (map entry_data l.position-iterator))

@@ -8,4 +8,5 @@ use Rattle.fast_check_print.proofs.diagnostic.write_diagnostics.Given as goal
 -- the other diagnostics still have to come
 abbrev pub invariant-loop-diagnostic : goal.invariant-loop-diagnostic
 invariant-loop-diagnostic l =
-    Remains (tokens_of (diagnostics_array l.fn.diagnostics)) l.fn.out l.out (rest_of_items (map diagnostic_data (drop l.diagnostic-index l.diagnostics)))
+    Remains (tokens_of (diagnostics_array l.fn.diagnostics)) l.fn.out l.out
+    (rest_of_items (map diagnostic_data (drop l.diagnostic-index l.diagnostics)))

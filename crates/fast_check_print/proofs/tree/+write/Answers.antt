@@ -1,5 +1,5 @@
-use Rattle.std.proofs.Common.{◌≡◌, ℕ, ◌+◌, ◌<◌, [], ◌∷◌, ◌++◌, length, drop, map, get_or, option_map, refl, sym, ap, ◌∙◌, subst, append_assoc}
-use Rattle.std.proofs.Common.{replicate, if◌then◌else◌, OnOk, arith}
+use Rattle.std.proofs.Common.{◌≡◌, ℕ, ◌+◌, ◌<◌, [], ◌∷◌, ◌++◌, length, drop, map, get_or, option_map, refl, sym, ap, ◌∙◌, subst}
+use Rattle.std.proofs.Common.{append_assoc, replicate, if◌then◌else◌, OnOk, arith}
 use Rattle.std.proofs.lemmas.List.{length-map}
 use Rattle.std.proofs.lemmas.Option.{slice_get-map, slice_get_read, slice_get_past}
 use Rattle.json.specs.Token.{begin_object, end_object, key}
@@ -7,7 +7,8 @@ use Rattle.json.specs.Tree.{members_tokens}
 use Rattle.serde_json.specs.Written.{members_outline}
 use Rattle.fast_check_schema.specs.Rows.{field_row}
 use Rattle.fast_check_schema.specs.Schema.{fields_of}
-use Rattle.fast_check_print.specs.Printing.{json_of, node_data, list_data, part_data, fields_data, members_of_fields, variant_names, under, content_data}
+use Rattle.fast_check_print.specs.Printing.{json_of, node_data, list_data, part_data, fields_data, members_of_fields, variant_names, under}
+use Rattle.fast_check_print.specs.Printing.{content_data}
 use Rattle.fast_check_print.specs.Writing.{Adds, tokens_of, opening}
 use Rattle.fast_check_print.proofs.Adding.{Remains, remains-first, adds-token, adds-then, adds-token_ok, adds-last}
 use Rattle.fast_check_print.proofs.Members.{rest_of_members, Within, members-listed, within-by_name, next-within, next-member}
@@ -26,7 +27,8 @@ write_fields-loop-place-init t c =
     let rest = rest_of_members (map field_row c.fields-fields.result.now) parts places in
     let is : rest ≡ members_tokens (members_outline (members_of_fields fields parts (length fields))) =
     ap (λ f. rest_of_members f parts places) all ∙
-    (ap (rest_of_members fields parts) order ∙ ap (λ ms. members_tokens (members_outline ms)) (sym (members-listed fields parts (length fields)))) in
+    (ap (rest_of_members fields parts) order ∙ ap (λ ms. members_tokens (members_outline ms))
+    (sym (members-listed fields parts (length fields)))) in
     let opened = adds-token_ok _ _ _ _ _ c.in_ok-begin_object.was c.begin_object.ensures in (
       subst (λ ts. Remains (begin_object ∷ ts) c.args.out.now c.begin_object.new.self rest) is
           (remains-first (begin_object ∷ []) rest c.args.out.now c.begin_object.new.self opened),
@@ -37,9 +39,12 @@ write_fields-loop-place-init t c =
 has-field : (t : ℕ) (c : goal.write_fields-Joined-get t) →
     get_or c.written_order-place-items.result.now c.loop-place.place-index 0 < length c.fields-fields.result.now
 has-field t c =
-    let within = next-within (map field_row c.fields-fields.result.now) c.written_order-place-items.result.now c.loop-place.place-index c.loop-place-test.true
+    let within =
+    next-within
+    (map field_row c.fields-fields.result.now) c.written_order-place-items.result.now c.loop-place.place-index c.loop-place-test.true
     c.loop-place.invariant.1 in
-    subst (λ n. get_or c.written_order-place-items.result.now c.loop-place.place-index 0 < n) (length-map c.fields-fields.result.now field_row) within.0
+    subst (λ n. get_or c.written_order-place-items.result.now c.loop-place.place-index 0 < n)
+    (length-map c.fields-fields.result.now field_row) within.0
 
 pub write_fields-loop-place-preserved : goal.write_fields-loop-place-preserved
 write_fields-loop-place-preserved t c =
@@ -57,8 +62,10 @@ write_fields-loop-place-preserved t c =
           let row = slice_get-map field_row c.fields-fields.result.now (get_or places index 0) ∙ ap (option_map field_row) found in
           let next = next-member rows parts places index
           (field_row field) whole c.args.out.now c.loop-place.out w.write_member.new.out c.loop-place-test.true row c.loop-place.invariant.0
-          w.in_ok-write_member.ensures in
-          (subst (λ out. Remains whole c.args.out.now out (rest_of_members rows parts (drop (index + 1) places))) (sym w.out-is) next, others)
+          w.in_ok-write_member.ensures in (
+            subst (λ out. Remains whole c.args.out.now out (rest_of_members rows parts (drop (index + 1) places))) (sym w.out-is) next,
+            others,
+          )
       | write_fields-in_default w ↦
           let none : ⊥ = omega (arith, has-field t c, w.in_default.ensures.lookup.3) in
           absurd none
@@ -74,7 +81,8 @@ write_node-returns t c =
     ap (λ b. if b then list_data parts c.args.form else under names value) (sym c.if-eq.ensures) in
     let all = adds-then (opening names) (tokens_of value) _ _ _ c.in_ok-opened.ensures.tokens c.in_ok-write_content.ensures in
     let closed = adds-last c.close_variants.result (opening names ++ tokens_of value) _ _ _ _ all c.close_variants.ensures in
-    let is : (opening names ++ tokens_of value) ++ replicate c.in_ok-opened.opened end_object ≡ tokens_of (node_data kind parts c.args.form) =
+    let is : (opening names ++ tokens_of value) ++ replicate c.in_ok-opened.opened end_object ≡ tokens_of
+    (node_data kind parts c.args.form) =
     append_assoc (opening names) (tokens_of value) (replicate c.in_ok-opened.opened end_object)
     ∙ (ap (λ n. opening names ++ (tokens_of value ++ replicate n end_object)) c.in_ok-opened.ensures.count.0 ∙
     (sym (tokens-under names value) ∙ ap tokens_of (sym node))) in
@@ -87,7 +95,8 @@ write_member-returns-in-Some t c =
     let part = slice_get-map json_of c.args.parts.now c.args.place ∙ ap (option_map json_of) found in
     let named = adds-token_ok _ _ _ _ _ c.in_ok-key.was c.key.ensures in
     let all = adds-last c.write_tree.result _ _ _ _ _ named c.write_tree.ensures in
-    subst (λ p. OnOk c.write_tree.result (Adds (key c.args.field.now.0.now ∷ tokens_of (part_data p c.args.field.now.1)) c.args.out.now c.write_tree.new.out))
+    subst (λ p. OnOk c.write_tree.result
+    (Adds (key c.args.field.now.0.now ∷ tokens_of (part_data p c.args.field.now.1)) c.args.out.now c.write_tree.new.out))
     (sym part) all
 
 pub write_member-returns-in-None : goal.write_member-returns-in-None
@@ -96,5 +105,6 @@ write_member-returns-in-None t c =
     ap (option_map json_of) (slice_get_past c.args.parts.now c.args.place c.in-None.ensures.lookup.3) in
     let named = adds-token_ok _ _ _ _ _ c.in_ok-key.was c.key.ensures in
     let all = adds-last c.null.result _ _ _ _ _ named (adds-token _ _ _ _ c.null.ensures) in
-    subst (λ p. OnOk c.null.result (Adds (key c.args.field.now.0.now ∷ tokens_of (part_data p c.args.field.now.1)) c.args.out.now c.null.new.self))
+    subst (λ p. OnOk c.null.result
+    (Adds (key c.args.field.now.0.now ∷ tokens_of (part_data p c.args.field.now.1)) c.args.out.now c.null.new.self))
     (sym past) all

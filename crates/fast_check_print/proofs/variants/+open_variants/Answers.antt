@@ -8,11 +8,13 @@ use Rattle.fast_check_print.proofs.variants.+open_variants.Goals as goal
 
 -- where the choice has a variant for the kind
 names-found : (t : ℕ) (c : goal.In_ok-open_variants-in-Some t)
-    → variant_names c.args.levels c.args.kind c.args.form ≡ c.in-Some.variant.0.now ∷ variant_names (c.args.levels - 1) c.args.kind c.in-Some.variant.1
+    → variant_names c.args.levels c.args.kind c.args.form ≡ c.in-Some.variant.0.now ∷
+    variant_names (c.args.levels - 1) c.args.kind c.in-Some.variant.1
 names-found t c =
     ap (variant_names c.args.levels c.args.kind) c.in-Choice.is
     ∙ (variant_names-choice c.args.levels c.args.kind c.in-Choice.choice c.if-levels-gt0.true
-    ∙ ap (λ found. names_from found (variant_names (c.args.levels - 1) c.args.kind)) (sym c.variant_of.ensures ∙ ap (option_map variant_row) c.in-Some.is))
+    ∙ ap (λ found. names_from found (variant_names (c.args.levels - 1) c.args.kind))
+    (sym c.variant_of.ensures ∙ ap (option_map variant_row) c.in-Some.is))
 
 pub returns-in_ok-open_variants-in-Some-clause-tokens : goal.returns-in_ok-open_variants-in-Some-clause-tokens
 returns-in_ok-open_variants-in-Some-clause-tokens t c =

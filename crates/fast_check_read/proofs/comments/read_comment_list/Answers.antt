@@ -25,7 +25,8 @@ pub returns-in_err-read_comment : goal.returns-in_err-read_comment
 returns-in_err-read_comment c =
     let all = then_some _ (items_there _ _ _ c.in_ok-read_array.ensures.ok c.deref-item-items.ensures.value) in
     answers_passed _ _ _ c.from_residual-in_err-read_comment.ensures.1 (λ bad.
-    all ∙ none_here comments (λ v. comment_of (view v)) (λ v vs. refl) _ _ _ _ _ _ c.loop-item-test.true c.item-item.is c.loop-item.invariant
+    all ∙ none_here comments (λ v. comment_of (view v))
+    (λ v vs. refl) _ _ _ _ _ _ c.loop-item-test.true c.item-item.is c.loop-item.invariant
     (c.in_err-read_comment.ensures bad))
 
 pub returns-in_err-push : goal.returns-in_err-push

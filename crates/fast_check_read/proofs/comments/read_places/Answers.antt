@@ -6,7 +6,8 @@ use Rattle.fast_check_comments.specs.declared.comment.Comment.{Comment}
 use Rattle.fast_check_read.specs.Each.{each}
 use Rattle.fast_check_read.specs.Comments.{entry_of, laid}
 use Rattle.fast_check_read.specs.Pieces.{items_list}
-use Rattle.fast_check_read.proofs.Each.{answers_none, answers_out, answers_passed, then_none, then_some, items_there, one_more, none_here, none_left}
+use Rattle.fast_check_read.proofs.Each.{answers_none, answers_out, answers_passed, then_none, then_some, items_there, one_more, none_here}
+use Rattle.fast_check_read.proofs.Each.{none_left}
 use Rattle.fast_check_read.proofs.comments.read_places.Goals as goal
 
 abbrev entries : List Value → Option (List (SourcePos × List Comment))

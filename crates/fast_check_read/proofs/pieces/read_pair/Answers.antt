@@ -9,7 +9,8 @@ use Rattle.fast_check_read.proofs.pieces.read_pair.Goals as goal
 use Rattle.fast_check_read.proofs.pieces.read_pair.Goals.{in_default-via-then-as_slice-lt2, in_default-via-else-as_slice-lt2+else-this-lt3}
 
 pub returns-in_err-read_array-clause-pair : goal.returns-in_err-read_array-clause-pair
-returns-in_err-read_array-clause-pair c = gives_none _ _ c.from_residual.result (then_none _ c.in_err-read_array.ensures.err.1) c.from_residual.ensures.0
+returns-in_err-read_array-clause-pair c = gives_none _ _ c.from_residual.result
+    (then_none _ c.in_err-read_array.ensures.err.1) c.from_residual.ensures.0
 
 pub returns-in_err-read_array-clause-err : goal.returns-in_err-read_array-clause-err
 returns-in_err-read_array-clause-err c = bad_passed c.from_residual.result _ c.from_residual.ensures.1 c.in_err-read_array.ensures.err.0

@@ -31,4 +31,5 @@ returns c =
     let start = some_of_ok _ _ _ c.in_ok-read_u32.ensures in
     let end = some_of_ok _ _ _ c.in_ok-read_u32-2.ensures in
     ap (λ range. ok_or range BadForm) (sym (then_some _ (sym c.in_ok-start.ensures.pair)
-    ∙ (ap (λ start. range_of_ends start (u32_of (view c.in_ok-start.end.now))) start ∙ ap (range_of_ends (Some c.in_ok-read_u32.field-0)) end)))
+    ∙ (ap (λ start. range_of_ends start (u32_of (view c.in_ok-start.end.now))) start ∙
+    ap (range_of_ends (Some c.in_ok-read_u32.field-0)) end)))

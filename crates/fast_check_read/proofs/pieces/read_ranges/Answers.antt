@@ -23,7 +23,8 @@ bounds-item-items-item-index c = c.loop-item-test.true
 pub returns-in_err-read_range : goal.returns-in_err-read_range
 returns-in_err-read_range c =
     let all = then_some _ (items_there _ _ _ c.in_ok-read_array.ensures.ok c.deref-item-items.ensures.value) in
-    let none = none_here ranges (λ v. range_of_data (view v)) (λ v vs. refl) _ _ _ _ _ _ c.loop-item-test.true c.item-item.is c.loop-item.invariant
+    let none =
+    none_here ranges (λ v. range_of_data (view v)) (λ v vs. refl) _ _ _ _ _ _ c.loop-item-test.true c.item-item.is c.loop-item.invariant
     (none_of_err _ _ _ c.in_err-read_range.ensures) in
     answers_none _ _ (all ∙ none) c.from_residual-in_err-read_range.ensures.0
 

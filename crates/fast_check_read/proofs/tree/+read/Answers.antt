@@ -1,5 +1,6 @@
 use borrow.Author.Count.{falls}
-use Rattle.std.proofs.Common.{ℕ, List, [], ◌∷◌, Bor, String, Global, Option, Some, None, sym, ap, ◌∙◌, subst, option_map, option_and_then, map, refl}
+use Rattle.std.proofs.Common.{ℕ, List, [], ◌∷◌, Bor, String, Global, Option, Some, None, sym, ap, ◌∙◌, subst, option_map, option_and_then}
+use Rattle.std.proofs.Common.{map, refl}
 use Rattle.serde_json.specs.View.{view, items_view, members_view}
 use Rattle.serde_json.specs.declared.value.Value.{Value}
 use Rattle.fast_check_syntax.specs.Shape.{list, node}
@@ -9,14 +10,14 @@ use Rattle.fast_check_schema.specs.Schema.{fields_of}
 use Rattle.fast_check_schema.specs.declared.form.Count.{Count}
 use Rattle.fast_check_schema.specs.declared.form.Form.{Form}
 use Rattle.fast_check_read.specs.Each.{each, Answers}
-use Rattle.fast_check_read.specs.Reading.{reading, tree_of, field_or_default, item_readings, member_readings, list_items, option_items, counted, field_tree}
-use Rattle.fast_check_read.specs.Reading.{option_tree, or_absent, Reading}
-use Rattle.fast_check_read.proofs.Each.{answers_none, answers_out, answers_passed, some_of_ok, none_of_err, then_none, then_some, one_more, none_here}
-use Rattle.fast_check_read.proofs.Each.{all_done, nothing_done, pushed}
+use Rattle.fast_check_read.specs.Reading.{reading, tree_of, field_or_default, item_readings, member_readings, list_items, option_items}
+use Rattle.fast_check_read.specs.Reading.{counted, field_tree, option_tree, or_absent, Reading}
+use Rattle.fast_check_read.proofs.Each.{answers_none, answers_out, answers_passed, some_of_ok, none_of_err, then_none, then_some, one_more}
+use Rattle.fast_check_read.proofs.Each.{none_here, all_done, nothing_done, pushed}
 use Rattle.fast_check_read.proofs.Members.{field_tree_found}
-use Rattle.fast_check_read.proofs.Words.{tree_of_flag, tree_of_context, tree_of_text, tree_of_range, tree_of_word, tree_of_struct, tree_of_choice}
-use Rattle.fast_check_read.proofs.Words.{tree_of_marked}
-use Rattle.fast_check_read.proofs.Words.{word_found, members_there, array_there, one_member, no_list, no_options, reading_is_null}
+use Rattle.fast_check_read.proofs.Words.{tree_of_flag, tree_of_context, tree_of_text, tree_of_range, tree_of_word, tree_of_struct}
+use Rattle.fast_check_read.proofs.Words.{tree_of_choice, tree_of_marked, word_found, members_there, array_there, one_member, no_list}
+use Rattle.fast_check_read.proofs.Words.{no_options, reading_is_null}
 use Rattle.fast_check_read.proofs.tree.+read.Goals as goal
 
 -- ---- fields
@@ -54,7 +55,8 @@ read_list-returns-in_err-read_tree t c =
     let form = c.args.form in
     answers_passed _ _ _ c.from_residual-in_err-read_tree.ensures.1 (λ bad.
     ap (λ vs. option_map list (trees form vs)) (sym c.deref-value-items.ensures.value)
-    ∙ ap (option_map list) (none_here (trees form) (λ v. tree_of (view v) form) (λ v vs. refl) _ _ _ _ _ _ c.loop-value-test.true c.value-item.is
+    ∙ ap (option_map list)
+    (none_here (trees form) (λ v. tree_of (view v) form) (λ v vs. refl) _ _ _ _ _ _ c.loop-value-test.true c.value-item.is
     c.loop-value.invariant (c.in_err-read_tree.ensures bad)))
 
 pub read_list-returns-in_err-push : goal.read_list-returns-in_err-push
@@ -63,14 +65,16 @@ read_list-returns-in_err-push t c = answers_out _ _ c.from_residual-in_err-push.
 pub read_list-loop-value-preserved : goal.read_list-loop-value-preserved
 read_list-loop-value-preserved t c =
     let form = c.args.form in
-    one_more (trees form) (λ v. tree_of (view v) form) (λ v vs. refl) _ _ _ _ _ _ _ _ c.loop-value-test.true c.value-item.is c.loop-value.invariant
+    one_more (trees form) (λ v. tree_of (view v) form)
+    (λ v vs. refl) _ _ _ _ _ _ _ _ c.loop-value-test.true c.value-item.is c.loop-value.invariant
     c.in_ok-read_tree.ensures (pushed _ _ _ c.in_ok-push.ensures.ok)
 
 pub read_list-returns : goal.read_list-returns
 read_list-returns t c =
     let form = c.args.form in
     ap (λ vs. option_map list (trees form vs)) (sym c.deref-value-items.ensures.value)
-    ∙ (ap (option_map list) (all_done (trees form) refl _ _ _ _ c.loop-value-test.false c.loop-value.invariant) ∙ ap Some (sym c.list.ensures))
+    ∙ (ap (option_map list) (all_done (trees form) refl _ _ _ _ c.loop-value-test.false c.loop-value.invariant) ∙
+    ap Some (sym c.list.ensures))
 
 -- ---- of a list of options
 
@@ -91,7 +95,8 @@ read_options-returns-in_err-read_option t c =
     let form = c.args.form in
     answers_passed _ _ _ c.from_residual-in_err-read_option.ensures.1 (λ bad.
     ap (λ vs. option_map list (options form vs)) (sym c.deref-value-items.ensures.value)
-    ∙ ap (option_map list) (none_here (options form) (λ v. option_tree (reading (view v)) form) (λ v vs. refl) _ _ _ _ _ _ c.loop-value-test.true
+    ∙ ap (option_map list)
+    (none_here (options form) (λ v. option_tree (reading (view v)) form) (λ v vs. refl) _ _ _ _ _ _ c.loop-value-test.true
     c.value-item.is c.loop-value.invariant (c.in_err-read_option.ensures bad)))
 
 pub read_options-returns-in_err-push : goal.read_options-returns-in_err-push
@@ -107,7 +112,8 @@ pub read_options-returns : goal.read_options-returns
 read_options-returns t c =
     let form = c.args.form in
     ap (λ vs. option_map list (options form vs)) (sym c.deref-value-items.ensures.value)
-    ∙ (ap (option_map list) (all_done (options form) refl _ _ _ _ c.loop-value-test.false c.loop-value.invariant) ∙ ap Some (sym c.list.ensures))
+    ∙ (ap (option_map list) (all_done (options form) refl _ _ _ _ c.loop-value-test.false c.loop-value.invariant) ∙
+    ap Some (sym c.list.ensures))
 
 -- ---- what stands so often
 
@@ -126,16 +132,19 @@ read_counted-returns-in_err-read_array-in-ListOfOptions t c =
 
 pub read_counted-returns-in-One : goal.read_counted-returns-in-One
 read_counted-returns-in-One t c =
-    subst (λ expected. Answers expected c.read_tree.result) (sym (ap (counted (reading (view c.args.value.now)) c.args.form) c.in-One.is)) c.read_tree.ensures
+    subst (λ expected. Answers expected c.read_tree.result)
+    (sym (ap (counted (reading (view c.args.value.now)) c.args.form) c.in-One.is)) c.read_tree.ensures
 
 pub read_counted-returns-in-Option : goal.read_counted-returns-in-Option
 read_counted-returns-in-Option t c =
-    subst (λ expected. Answers expected c.read_option.result) (sym (ap (counted (reading (view c.args.value.now)) c.args.form) c.in-Option.is))
+    subst (λ expected. Answers expected c.read_option.result)
+    (sym (ap (counted (reading (view c.args.value.now)) c.args.form) c.in-Option.is))
     c.read_option.ensures
 
 pub read_counted-returns-in_ok-read_array-in-List : goal.read_counted-returns-in_ok-read_array-in-List
 read_counted-returns-in_ok-read_array-in-List t c =
-    subst (λ expected. Answers expected c.read_list.result) (sym (array_there _ _ c.args.form _ _ c.in_ok-read_array-in-List.ensures.ok c.in-List.is))
+    subst (λ expected. Answers expected c.read_list.result)
+    (sym (array_there _ _ c.args.form _ _ c.in_ok-read_array-in-List.ensures.ok c.in-List.is))
     c.read_list.ensures
 
 pub read_counted-returns-in_ok-read_array-in-ListOfOptions : goal.read_counted-returns-in_ok-read_array-in-ListOfOptions
@@ -153,7 +162,9 @@ read_counted-returns-in_ok-read_array-in_default t c =
 pub read_tree-returns-in_err-read_bool-in-Flag : goal.read_tree-returns-in_err-read_bool-in-Flag
 read_tree-returns-in_err-read_bool-in-Flag t c =
     let value = view c.args.value.now in
-    answers_none _ _ (ap (tree_of value) c.in-Flag.is ∙ (tree_of_flag value ∙ ap (option_map Flag) (none_of_err _ _ _ c.in_err-read_bool-in-Flag.ensures)))
+    answers_none _ _
+    (ap (tree_of value) c.in-Flag.is ∙
+    (tree_of_flag value ∙ ap (option_map Flag) (none_of_err _ _ _ c.in_err-read_bool-in-Flag.ensures)))
     c.from_residual.ensures.0
 
 pub read_tree-returns-in_err-read_u32-in-Context : goal.read_tree-returns-in_err-read_u32-in-Context
@@ -166,7 +177,8 @@ read_tree-returns-in_err-read_u32-in-Context t c =
 pub read_tree-returns-in_err-read_text-in-Text : goal.read_tree-returns-in_err-read_text-in-Text
 read_tree-returns-in_err-read_text-in-Text t c =
     let value = view c.args.value.now in
-    answers_none _ _ (ap (tree_of value) c.in-Text.is ∙ (tree_of_text value ∙ ap (option_map Text) (sym c.in_err-read_text-in-Text.ensures.text)))
+    answers_none _ _
+    (ap (tree_of value) c.in-Text.is ∙ (tree_of_text value ∙ ap (option_map Text) (sym c.in_err-read_text-in-Text.ensures.text)))
     c.from_residual-in_err-read_text-in-Text.ensures.0
 
 pub read_tree-returns-in_err-from_str-in-Text : goal.read_tree-returns-in_err-from_str-in-Text
@@ -175,7 +187,9 @@ read_tree-returns-in_err-from_str-in-Text t c = answers_out _ _ c.from_residual-
 pub read_tree-returns-in_err-read_range-in-Range : goal.read_tree-returns-in_err-read_range-in-Range
 read_tree-returns-in_err-read_range-in-Range t c =
     let value = view c.args.value.now in
-    answers_none _ _ (ap (tree_of value) c.in-Range.is ∙ (tree_of_range value ∙ ap (option_map Range) (none_of_err _ _ _ c.in_err-read_range-in-Range.ensures)))
+    answers_none _ _
+    (ap (tree_of value) c.in-Range.is ∙
+    (tree_of_range value ∙ ap (option_map Range) (none_of_err _ _ _ c.in_err-read_range-in-Range.ensures)))
     c.from_residual-in_err-read_range-in-Range.ensures.0
 
 pub read_tree-returns-in_err-read_word-in-Word : goal.read_tree-returns-in_err-read_word-in-Word
@@ -188,19 +202,22 @@ read_tree-returns-in_err-read_word-in-Word t c =
 pub read_tree-returns-in_err-read_members-in-Struct : goal.read_tree-returns-in_err-read_members-in-Struct
 read_tree-returns-in_err-read_members-in-Struct t c =
     let value = view c.args.value.now in
-    answers_none _ _ (ap (tree_of value) c.in-Struct.is ∙ (tree_of_struct value _ ∙ then_none _ c.in_err-read_members-in-Struct.ensures.err.1))
+    answers_none _ _
+    (ap (tree_of value) c.in-Struct.is ∙ (tree_of_struct value _ ∙ then_none _ c.in_err-read_members-in-Struct.ensures.err.1))
     c.from_residual-in_err-read_members-in-Struct.ensures.0
 
 pub read_tree-returns-in_err-read_members-in-Choice : goal.read_tree-returns-in_err-read_members-in-Choice
 read_tree-returns-in_err-read_members-in-Choice t c =
     let value = view c.args.value.now in
-    answers_none _ _ (ap (tree_of value) c.in-Choice.is ∙ (tree_of_choice value _ ∙ then_none _ c.in_err-read_members-in-Choice.ensures.err.1))
+    answers_none _ _
+    (ap (tree_of value) c.in-Choice.is ∙ (tree_of_choice value _ ∙ then_none _ c.in_err-read_members-in-Choice.ensures.err.1))
     c.from_residual-in_err-read_members-in-Choice.ensures.0
 
 pub read_tree-returns-in_err-read_members-in-Marked : goal.read_tree-returns-in_err-read_members-in-Marked
 read_tree-returns-in_err-read_members-in-Marked t c =
     let value = view c.args.value.now in
-    answers_none _ _ (ap (tree_of value) c.in-Marked.is ∙ (tree_of_marked value _ ∙ then_none _ c.in_err-read_members-in-Marked.ensures.err.1))
+    answers_none _ _
+    (ap (tree_of value) c.in-Marked.is ∙ (tree_of_marked value _ ∙ then_none _ c.in_err-read_members-in-Marked.ensures.err.1))
     c.from_residual-in_err-read_members-in-Marked.ensures.0
 
 pub read_tree-returns-in_ok-read_bool-in-Flag : goal.read_tree-returns-in_ok-read_bool-in-Flag
@@ -218,7 +235,8 @@ pub read_tree-returns-in_ok-from_str-in-Text : goal.read_tree-returns-in_ok-from
 read_tree-returns-in_ok-from_str-in-Text t c =
     let value = view c.args.value.now in
     ap (tree_of value) c.in-Text.is ∙ (tree_of_text value
-    ∙ (ap (option_map Text) (sym c.in_ok-read_text-in-Text.ensures.text) ∙ ap (λ text. Some (Text text)) (sym c.in_ok-from_str-in-Text.ensures)))
+    ∙ (ap (option_map Text) (sym c.in_ok-read_text-in-Text.ensures.text) ∙
+    ap (λ text. Some (Text text)) (sym c.in_ok-from_str-in-Text.ensures)))
 
 pub read_tree-returns-in_ok-read_range-in-Range : goal.read_tree-returns-in_ok-read_range-in-Range
 read_tree-returns-in_ok-read_range-in-Range t c =
@@ -228,7 +246,8 @@ read_tree-returns-in_ok-read_range-in-Range t c =
 pub read_tree-returns-in_ok-read_word-in-Word : goal.read_tree-returns-in_ok-read_word-in-Word
 read_tree-returns-in_ok-read_word-in-Word t c =
     ap (tree_of (view c.args.value.now)) c.in-Word.is
-    ∙ (tree_of_word (view c.args.value.now) c.in-Word.list ∙ ap (option_map Word) (word_found _ _ _ (sym c.read_word.ensures ∙ c.in_ok-read_word-in-Word.was)))
+    ∙ (tree_of_word (view c.args.value.now) c.in-Word.list ∙ ap (option_map Word)
+    (word_found _ _ _ (sym c.read_word.ensures ∙ c.in_ok-read_word-in-Word.was)))
 
 pub read_tree-returns-in_ok-read_members-in-Struct : goal.read_tree-returns-in_ok-read_members-in-Struct
 read_tree-returns-in_ok-read_members-in-Struct t c =
@@ -267,7 +286,8 @@ read_node-returns-in_err-read_field t c =
     let members = member_readings (members_view c.args.members.now.entries) in
     answers_passed _ _ _ c.from_residual-in_err-read_field.ensures.1 (λ bad.
     ap (λ rows. option_map (node c.args.kind) (each (field_tree members) rows)) (sym c.fields-fields.ensures)
-    ∙ ap (option_map (node c.args.kind)) (none_here (parts members) (λ field. field_tree members (field_row field)) (λ v vs. refl) _ _ _ _ _ _
+    ∙ ap (option_map (node c.args.kind))
+    (none_here (parts members) (λ field. field_tree members (field_row field)) (λ v vs. refl) _ _ _ _ _ _
     c.loop-field-test.true refl c.loop-field.invariant (c.in_err-read_field.ensures bad)))
 
 pub read_node-returns-in_err-push : goal.read_node-returns-in_err-push
@@ -298,7 +318,8 @@ read_marked-returns-in_err-node-in-Some t c = answers_out _ _ c.from_residual-in
 pub read_marked-returns-in_ok-node-in-Some : goal.read_marked-returns-in_ok-node-in-Some
 read_marked-returns-in_ok-node-in-Some t c =
     then_some _ (sym c.in-Some.ensures)
-    ∙ (ap (option_map (λ tree. node c.args.mark (tree ∷ []))) c.in_ok-read_choice-in-Some.ensures ∙ ap Some (sym c.in_ok-node-in-Some.ensures))
+    ∙ (ap (option_map (λ tree. node c.args.mark (tree ∷ []))) c.in_ok-read_choice-in-Some.ensures ∙
+    ap Some (sym c.in_ok-node-in-Some.ensures))
 
 pub read_marked-returns-in-None : goal.read_marked-returns-in-None
 read_marked-returns-in-None t c = λ bad. then_none _ (sym c.in-None.ensures)
@@ -312,7 +333,8 @@ read_option-returns-then-is_null t c =
 
 pub read_option-returns-else-is_null : goal.read_option-returns-else-is_null
 read_option-returns-else-is_null t c =
-    subst (λ expected. Answers expected c.read_tree.result) (sym (ap (λ is_null. or_absent is_null (tree_of (view c.args.value.now) c.args.form))
+    subst (λ expected. Answers expected c.read_tree.result)
+    (sym (ap (λ is_null. or_absent is_null (tree_of (view c.args.value.now) c.args.form))
     (reading_is_null (view c.args.value.now) ∙ (sym c.is_null.ensures ∙ c.if-is_null.false)))) c.read_tree.ensures
 
 pub read_list-loop-value-smaller : goal.read_list-loop-value-smaller
@@ -343,7 +365,8 @@ read_choice-returns-in-Some t c =
     let member : String Global × Value = (c.in-Some-None.name.now, c.in-Some-None.content.now) in
     let with_more : List (String Global × Value) → List (String Global × Value) = λ more. member ∷ more in
     let entries = sym c.iter-entries.ensures.rest ∙ (c.in-Some-None.ensures.steps ∙ ap with_more c.in-Some-None.ensures'.steps.0) in
-    subst (λ expected. Answers expected c.read_tree.result) (sym (one_member _ member.0 member.1 c.args.choice entries _ c.as_str.ensures.value
+    subst (λ expected. Answers expected c.read_tree.result)
+    (sym (one_member _ member.0 member.1 c.args.choice entries _ c.as_str.ensures.value
     ∙ ap (of_variants c.in-Some-None.content.now) (sym c.in-Some.ensures))) c.read_tree.ensures
 
 pub read_choice-returns-in-None : goal.read_choice-returns-in-None
@@ -351,4 +374,5 @@ read_choice-returns-in-None t c = λ bad.
     let member : String Global × Value = (c.in-Some-None.name.now, c.in-Some-None.content.now) in
     let with_more : List (String Global × Value) → List (String Global × Value) = λ more. member ∷ more in
     let entries = sym c.iter-entries.ensures.rest ∙ (c.in-Some-None.ensures.steps ∙ ap with_more c.in-Some-None.ensures'.steps.0) in
-    one_member _ member.0 member.1 c.args.choice entries _ c.as_str.ensures.value ∙ ap (of_variants c.in-Some-None.content.now) (sym c.in-None.ensures)
+    one_member _ member.0 member.1 c.args.choice entries _ c.as_str.ensures.value ∙
+    ap (of_variants c.in-Some-None.content.now) (sym c.in-None.ensures)

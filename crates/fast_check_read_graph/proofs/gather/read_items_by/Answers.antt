@@ -9,5 +9,6 @@ pub returns : goal.returns
 returns g c =
     let items = list_of g.T.FromJsonBy.read_of (view c.args.value.now) in
     reads_as _ _ _ _ (sym
-    (ap (λ empty. option_map (all_gathered (λ xs x. xs ++ x ∷ []) (map g.T.FromJsonBy.seen empty)) items) c.new.ensures.items ∙ all_items items))
+    (ap (λ empty. option_map (all_gathered (λ xs x. xs ++ x ∷ []) (map g.T.FromJsonBy.seen empty)) items) c.new.ensures.items ∙
+    all_items items))
     c.gather_all.ensures

@@ -14,7 +14,8 @@ returns-in-Js c = reads_as _ _ _ _ (chosen source_module_named _ _ _ _ c.in_ok-n
 pub returns-in_err-read_hash-in-Json : goal.returns-in_err-read_hash-in-Json
 returns-in_err-read_hash-in-Json c =
     reads_passed _ _ _ c.in_err-read_hash-in-Json.field-0.0 c.from_residual-in_err-read_hash-in-Json.ensures.1 (λ bad.
-    chosen source_module_named _ _ _ _ c.in_ok-name.ensures.variant c.in-Json.is ∙ ap (option_map Json) (c.in_err-read_hash-in-Json.ensures bad))
+    chosen source_module_named _ _ _ _ c.in_ok-name.ensures.variant c.in-Json.is ∙
+    ap (option_map Json) (c.in_err-read_hash-in-Json.ensures bad))
 
 pub returns-in_ok-read_hash-in-Json : goal.returns-in_ok-read_hash-in-Json
 returns-in_ok-read_hash-in-Json c =
@@ -23,7 +24,8 @@ returns-in_ok-read_hash-in-Json c =
 pub returns-in_err-read_hash-in-Wasm : goal.returns-in_err-read_hash-in-Wasm
 returns-in_err-read_hash-in-Wasm c =
     reads_passed _ _ _ c.in_err-read_hash-in-Wasm.field-0.0 c.from_residual-in_err-read_hash-in-Wasm.ensures.1 (λ bad.
-    chosen source_module_named _ _ _ _ c.in_ok-name.ensures.variant c.in-Wasm.is ∙ ap (option_map Wasm) (c.in_err-read_hash-in-Wasm.ensures bad))
+    chosen source_module_named _ _ _ _ c.in_ok-name.ensures.variant c.in-Wasm.is ∙
+    ap (option_map Wasm) (c.in_err-read_hash-in-Wasm.ensures bad))
 
 pub returns-in_ok-read_hash-in-Wasm : goal.returns-in_ok-read_hash-in-Wasm
 returns-in_ok-read_hash-in-Wasm c =

@@ -25,7 +25,8 @@ returns-in_err-id-in-QualifiedId c =
 
 pub returns-in_ok-id-in-QualifiedId : goal.returns-in_ok-id-in-QualifiedId
 returns-in_ok-id-in-QualifiedId c =
-    chosen dep_named _ _ _ _ c.in_ok-name.ensures.variant c.in-QualifiedId.is ∙ map_some (λ p. seen.QualifiedId p.0 p.1) c.in_ok-id-in-QualifiedId.ensures
+    chosen dep_named _ _ _ _ c.in_ok-name.ensures.variant c.in-QualifiedId.is ∙
+    map_some (λ p. seen.QualifiedId p.0 p.1) c.in_ok-id-in-QualifiedId.ensures
 
 pub returns-in_err-specifier-in-ImportType : goal.returns-in_err-specifier-in-ImportType
 returns-in_err-specifier-in-ImportType c =

@@ -9,5 +9,6 @@ use Rattle.fast_check_read_tables.proofs.symbols.read_export_list.Goals as goal
 
 pub returns : goal.returns
 returns c =
-    reads_as _ _ _ _ (gathered_as (λ exports e. put_export e.0 e.1 exports) all_put [] c.new.result (list_of export_of (view c.args.value.now))
+    reads_as _ _ _ _
+    (gathered_as (λ exports e. put_export e.0 e.1 exports) all_put [] c.new.result (list_of export_of (view c.args.value.now))
     puts_gathered c.new.ensures) c.gather_all.ensures

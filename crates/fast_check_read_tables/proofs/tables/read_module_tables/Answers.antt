@@ -25,7 +25,8 @@ made module_symbol symbols swc_ids re_export_all_nodes resolved_exports = record
 pub returns-in_err-symbols : goal.returns-in_err-symbols
 returns-in_err-symbols c =
     let value = view c.args.value.now in
-    let swc_ids = reads_seen _ (λ (v : Vec (Id × SymbolId) Global). v.items) _ _ (λ v. map_same _ v.items (λ _. refl)) c.read_list.ensures in
+    let swc_ids = reads_seen _ (λ (v : Vec (Id × SymbolId) Global). v.items) _ _
+    (λ v. map_same _ v.items (λ _. refl)) c.read_list.ensures in
     let names = both_reads _ _ _ _ _ _ _ c.both-names.ensures c.read_list_by.ensures swc_ids in
     let exports = both_reads _ _ _ _ _ _ _ c.both-exports.ensures c.read_list_by-2.ensures c.read_list-2.ensures in
     let none = both_reads _ _ _ _ _ _ _ c.in_err-symbols.ensures names exports in
@@ -39,7 +40,8 @@ returns-in_err-symbols c =
 pub returns : goal.returns
 returns c =
     let value = view c.args.value.now in
-    let swc_ids = reads_seen _ (λ (v : Vec (Id × SymbolId) Global). v.items) _ _ (λ v. map_same _ v.items (λ _. refl)) c.read_list.ensures in
+    let swc_ids = reads_seen _ (λ (v : Vec (Id × SymbolId) Global). v.items) _ _
+    (λ v. map_same _ v.items (λ _. refl)) c.read_list.ensures in
     let names = both_reads _ _ _ _ _ _ _ c.both-names.ensures c.read_list_by.ensures swc_ids in
     let exports = both_reads _ _ _ _ _ _ _ c.both-exports.ensures c.read_list_by-2.ensures c.read_list-2.ensures in
     given_some _ c.in_ok-module_symbol.ensures

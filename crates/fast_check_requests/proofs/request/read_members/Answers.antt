@@ -22,7 +22,8 @@ returns c = (
   record {
     graph = refl;
     es_module = c.in_ok-es_module.ensures.2;
-    public_ranges = record { ranges = c.in_ok-public_ranges.ensures.public; implementations = c.in_ok-public_ranges.ensures.implementations };
+    public_ranges =
+        record { ranges = c.in_ok-public_ranges.ensures.public; implementations = c.in_ok-public_ranges.ensures.implementations };
     first = refl;
   },
 )

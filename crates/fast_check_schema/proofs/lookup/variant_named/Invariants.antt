@@ -6,4 +6,5 @@ use Rattle.fast_check_schema.proofs.lookup.variant_named.Given as goal
 -- no variant so far has the name
 abbrev pub invariant-loop-variant : goal.invariant-loop-variant
 invariant-loop-variant l =
-    variant_by_name l.name (map variant_row l.variant-items) ≡ variant_by_name l.name (map variant_row (drop l.variant-index l.variant-items))
+    variant_by_name l.name (map variant_row l.variant-items) ≡ variant_by_name l.name
+    (map variant_row (drop l.variant-index l.variant-items))

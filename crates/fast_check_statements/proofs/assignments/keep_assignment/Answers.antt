@@ -3,13 +3,15 @@ use Rattle.std.proofs.lemmas.Result.{on_ok_weaker}
 use Rattle.fast_check_syntax.specs.Part.{seen}
 use Rattle.fast_check_ranges.specs.Ranges.{range_of_node}
 use Rattle.fast_check_surroundings.specs.Surroundings.{seen_around}
-use Rattle.fast_check_statements.proofs.AssignmentCases.{hidden_assignment, hidden_properties, tested_assignment, nothing_missing, no_property, property_stays}
+use Rattle.fast_check_statements.proofs.AssignmentCases.{hidden_assignment, hidden_properties, tested_assignment, nothing_missing}
+use Rattle.fast_check_statements.proofs.AssignmentCases.{no_property, property_stays}
 use Rattle.fast_check_statements.proofs.assignments.keep_assignment.Goals as goal
 
 pub returns-then-not-contains-clause-answer : goal.returns-then-not-contains-clause-answer
 returns-then-not-contains-clause-answer c =
     let around = seen_around c.args.asked in
-    hidden_assignment around (seen c.args.assignment) (ap around.is_public (sym c.of.ensures.span) ∙ (sym c.contains.ensures ∙ c.if-not-contains.true))
+    hidden_assignment around (seen c.args.assignment)
+    (ap around.is_public (sym c.of.ensures.span) ∙ (sym c.contains.ensures ∙ c.if-not-contains.true))
     c.args.faults.now.items
 
 pub returns-then-not-contains-clause-properties : goal.returns-then-not-contains-clause-properties
@@ -23,9 +25,11 @@ pub returns-then-not-is_expando_assignment-clause-answer : goal.returns-then-not
 returns-then-not-is_expando_assignment-clause-answer c =
     let around = seen_around c.args.asked in
     let a = seen c.args.assignment in
-    tested_assignment around a (ap around.is_public (sym c.of.ensures.span) ∙ (sym c.contains.ensures ∙ c.if-not-contains.false)) c.in_ok-value.value
+    tested_assignment around a
+    (ap around.is_public (sym c.of.ensures.span) ∙ (sym c.contains.ensures ∙ c.if-not-contains.false)) c.in_ok-value.value
     c.in_ok-value.ensures (c.range_of_node.ensures ∙ ap range_of_node c.of.ensures.right) c.of.ensures.right
-    (nothing_missing around a (sym c.is_expando_assignment.ensures ∙ c.if-not-is_expando_assignment.true) c.in_ok-value.value c.keep_value.new.faults.items)
+    (nothing_missing around a
+    (sym c.is_expando_assignment.ensures ∙ c.if-not-is_expando_assignment.true) c.in_ok-value.value c.keep_value.new.faults.items)
 
 pub returns-then-not-is_expando_assignment-clause-properties : goal.returns-then-not-is_expando_assignment-clause-properties
 returns-then-not-is_expando_assignment-clause-properties c =
@@ -42,7 +46,8 @@ returns-clause-answer c =
     let around = seen_around c.args.asked in
     let a = seen c.args.assignment in
     on_ok_weaker c.keep_property.result
-    (λ f. tested_assignment around a (ap around.is_public (sym c.of.ensures.span) ∙ (sym c.contains.ensures ∙ c.if-not-contains.false)) c.in_ok-value.value
+    (λ f. tested_assignment around a
+    (ap around.is_public (sym c.of.ensures.span) ∙ (sym c.contains.ensures ∙ c.if-not-contains.false)) c.in_ok-value.value
     c.in_ok-value.ensures (c.range_of_node.ensures ∙ ap range_of_node c.of.ensures.right) c.of.ensures.right f)
     c.keep_property.ensures.faults
 

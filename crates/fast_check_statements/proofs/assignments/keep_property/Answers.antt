@@ -39,7 +39,8 @@ returns-in-None-clause-properties c =
     let old = c.args.properties.now.items in
     on_ok_weaker c.push_missing.result
     (λ f. sym (append-nil old)
-    ∙ ap (λ v. old ++ kept_property (objects_of c.args.asked.es_module_info.now) (AssignExpr-span a) (AssignExpr-left a) v) (sym c.in-None.is))
+    ∙ ap (λ v. old ++ kept_property (objects_of c.args.asked.es_module_info.now) (AssignExpr-span a) (AssignExpr-left a) v)
+    (sym c.in-None.is))
     c.push_missing.ensures
 
 pub returns-in-None-clause-faults : goal.returns-in-None-clause-faults
@@ -49,7 +50,8 @@ returns-in-None-clause-faults c =
     let s = c.in_ok-symbol.ensures ∙ ap (λ t. symbol_of_swc info.tables (object_of t)) c.of.ensures.left in
     let old = c.args.faults.now.items in
     on_ok_weaker c.push_missing.result
-    (λ f. f ∙ (ap (λ t. old ++ (if exports_name (option_copied c.in_ok-symbol.symbol) (property_name t) then [] else fault_at MissingExplicitType
+    (λ f. f ∙
+    (ap (λ t. old ++ (if exports_name (option_copied c.in_ok-symbol.symbol) (property_name t) then [] else fault_at MissingExplicitType
     (MemberExpr-span t) ∷ [])) c.of.ensures.left
     ∙ (ap (λ fs. old ++ fs) (missing_is (objects_of info) a c.requires
     (ap (λ g. g (property_name (AssignExpr-left a))) (exports_are info (AssignExpr-left a) s refl)))

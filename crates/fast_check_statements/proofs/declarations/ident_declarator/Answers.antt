@@ -36,4 +36,5 @@ returns-in-None c =
     let shown = (λ i. inferred_type c.args.mutability (sym c.unresolved_context.ensures i) (sym c.of.ensures.init i)) ∙
     (sym c.in_ok-ty.ensures.inferred ∙ c.in-None.is) in
     IfOk-weaker c.valued_declarator.result _ _
-    (λ tree h. valued_ident (seen_around c.args.asked) c.args.mutability (seen c.args.declarator) absent shown h) c.valued_declarator.ensures
+    (λ tree h. valued_ident (seen_around c.args.asked) c.args.mutability
+    (seen c.args.declarator) absent shown h) c.valued_declarator.ensures

@@ -7,7 +7,8 @@ use Rattle.fast_check_statements.proofs.Declared.{no_statement, made_statement}
 use Rattle.fast_check_statements.proofs.declarations.keep_statement.Goals as goal
 
 pub returns-then-is_empty : goal.returns-then-is_empty
-returns-then-is_empty c = no_statement (seen_around c.args.asked) (seen c.args.statement) c.in_ok-decls.ensures (c.if-is_empty.ensures.0 refl)
+returns-then-is_empty c = no_statement (seen_around c.args.asked) (seen c.args.statement) c.in_ok-decls.ensures
+    (c.if-is_empty.ensures.0 refl)
 
 pub returns : goal.returns
 returns c =

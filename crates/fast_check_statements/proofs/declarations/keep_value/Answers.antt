@@ -7,7 +7,8 @@ use Rattle.fast_check_statements.proofs.declarations.keep_value.Goals as goal
 
 pub returns-then-is_absent : goal.returns-then-is_absent
 returns-then-is_absent c =
-    absent_value (seen_around c.args.asked) c.args.place (seen c.args.value) (sym c.is_absent.ensures ∙ c.if-is_absent.true) c.args.faults.now.items
+    absent_value (seen_around c.args.asked) c.args.place (seen c.args.value)
+    (sym c.is_absent.ensures ∙ c.if-is_absent.true) c.args.faults.now.items
 
 pub returns : goal.returns
 returns c = IfOk-weaker c.leave_expr.result _ _

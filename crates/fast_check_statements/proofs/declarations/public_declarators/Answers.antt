@@ -11,14 +11,16 @@ loop-declarator-init c = no_declarators (seen_around c.args.asked) (seen c.args.
 
 pub loop-declarator-preserved : goal.loop-declarator-preserved
 loop-declarator-preserved c =
-    one_more_declarator (seen_around c.args.asked) (seen c.args.statement) c.parts-declarator-items.result.now c.loop-declarator.declarator-index
+    one_more_declarator (seen_around c.args.asked)
+    (seen c.args.statement) c.parts-declarator-items.result.now c.loop-declarator.declarator-index
     (seen c.read.result)
     c.loop-declarator-test.true (search rules) c.loop-declarator.invariant c.in_ok-keep_declarator.ensures
     (c.in_ok-push-in-Some.ensures.ok ∙ ap (λ o. c.loop-declarator.items ++ as_list o) (sym c.in-Some.is))
 
 pub loop-declarator-preserved-in-None : goal.loop-declarator-preserved-in-None
 loop-declarator-preserved-in-None c =
-    one_more_declarator (seen_around c.args.asked) (seen c.args.statement) c.parts-declarator-items.result.now c.loop-declarator.declarator-index
+    one_more_declarator (seen_around c.args.asked)
+    (seen c.args.statement) c.parts-declarator-items.result.now c.loop-declarator.declarator-index
     (seen c.read.result)
     c.loop-declarator-test.true (search rules) c.loop-declarator.invariant c.in_ok-keep_declarator.ensures
     (sym (append-nil c.loop-declarator.items) ∙ ap (λ o. c.loop-declarator.items ++ as_list o) (sym c.in-None.is))

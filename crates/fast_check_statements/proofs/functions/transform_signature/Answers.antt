@@ -17,6 +17,7 @@ pub returns : goal.returns
 returns c =
     IfOk-weaker c.transform_fn.result _ _
     (λ tree h. signature (seen_around c.args.asked) c.args.place (seen c.args.decl)
-    (sym c.is_impl_with_overloads.ensures ∙ c.if-is_impl_with_overloads.false) {name = c.of-2.result.span} {function = seen c.of.result.function} {t = tree} h
+    (sym c.is_impl_with_overloads.ensures ∙ c.if-is_impl_with_overloads.false) {name = c.of-2.result.span} {function =
+    seen c.of.result.function} {t = tree} h
     (c.of-2.ensures.span ∙ ap Ident-span c.of.ensures.ident) c.of.ensures.function)
     c.transform_fn.ensures

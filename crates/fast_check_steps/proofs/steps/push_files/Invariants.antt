@@ -11,5 +11,7 @@ abbrev pub invariant-loop-file : goal.invariant-loop-file
 invariant-loop-file g l =
     let m = goal.JsrUrlProvider-dyn g l.provider.now in
     map want_of l.out.items ≡ map want_of l.initial.out.items
-    ++ flat_map (file_wants (known l.asker.sources (m.url_of l.provider.now.1) (m.nv_at l.provider.now.1)) (nv_of l.asker.package.now) l.asker.traced)
+    ++ flat_map
+    (file_wants (known l.asker.sources (m.url_of l.provider.now.1) (m.nv_at l.provider.now.1))
+    (nv_of l.asker.package.now) l.asker.traced)
     (map file_demand_of (take l.file-index l.files))

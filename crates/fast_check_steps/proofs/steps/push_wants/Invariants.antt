@@ -11,5 +11,7 @@ abbrev pub invariant-loop-want : goal.invariant-loop-want
 invariant-loop-want g l =
     let m = goal.JsrUrlProvider-dyn g l.provider.now in
     map want_of l.out.items ≡ map want_of l.initial.out.items
-    ++ flat_map (left_wants (known l.asker.sources (m.url_of l.provider.now.1) (m.nv_at l.provider.now.1)) (nv_of l.asker.package.now) l.asker.traced)
+    ++ flat_map
+    (left_wants (known l.asker.sources (m.url_of l.provider.now.1) (m.nv_at l.provider.now.1))
+    (nv_of l.asker.package.now) l.asker.traced)
     (map want_seen (take l.want-index l.wants))

@@ -5,4 +5,5 @@ use Rattle.fast_check_surroundings.proofs.sources.relative_url.Goals as goal
 
 pub returns : goal.returns
 returns c =
-    IfOk-weaker c.make_relative.result _ _ (λ text h. relative_is c.args.base.now c.args.url.now (option_map string_bytes text) h) c.make_relative.ensures
+    IfOk-weaker c.make_relative.result _ _
+    (λ text h. relative_is c.args.base.now c.args.url.now (option_map string_bytes text) h) c.make_relative.ensures

@@ -15,5 +15,6 @@ loop-member-preserved c =
     index_more c.args.symbols.now ids i id c.loop-member.index c.put_symbol.new.index c.loop-member-test.true
     (sym (get_or_from_slice_get ids i id id (slice_get-get_or ids i (record { 0 = 0 }) c.loop-member-test.true)))
     (λ name. c.in_ok-put_symbol.ensures name
-    ∙ ap (λ (o : Option Symbol). option_or (export_named name c.loop-member.index) (cond (symbol_is_named name o) (Some id) None)) c.get.ensures)
+    ∙ ap (λ (o : Option Symbol). option_or (export_named name c.loop-member.index)
+    (cond (symbol_is_named name o) (Some id) None)) c.get.ensures)
     c.loop-member.invariant

@@ -7,8 +7,11 @@ use Rattle.fast_check_transform_faults.proofs.diagnostics.diagnostics_of.Goals a
 
 pub loop-fault-preserved : goal.loop-fault-preserved
 loop-fault-preserved c =
-    let one = subst (λ (f : Fault). IsDiagnosticOf c.args.es_module_info.now f c.in_ok-diagnostic_of.field-0) c.fault-item.is c.in_ok-diagnostic_of.ensures in
-    let more = next_of c.args.es_module_info.now c.args.faults.now c.loop-fault.fault-index c.loop-fault.diagnostics.items c.fault-item.result
+    let one =
+    subst (λ (f : Fault).
+    IsDiagnosticOf c.args.es_module_info.now f c.in_ok-diagnostic_of.field-0) c.fault-item.is c.in_ok-diagnostic_of.ensures in
+    let more =
+    next_of c.args.es_module_info.now c.args.faults.now c.loop-fault.fault-index c.loop-fault.diagnostics.items c.fault-item.result
     c.in_ok-diagnostic_of.field-0
     c.loop-fault-test.true c.loop-fault.invariant one in
     subst (AreDiagnosticsOf c.args.es_module_info.now _) (sym {A = List FastCheckDiagnostic} c.in_ok-push.ensures.items) more

@@ -20,5 +20,6 @@ returns-clause-entered g c =
     let old = flat_map yields_of c.args.found.now.items in
     let new = flat_map yields_of c.enter_some.new.found.items in
     entered_at k (nv_of c.args.nv.now) (state_of c.args.asked.now) (state_of c.enter_some.new.asked) old new
-    (subst (λ (e : Entrance). Enters k.graph used (nv_of c.args.nv.now) e (state_of c.args.asked.now) (state_of c.enter_some.new.asked) old new)
+    (subst (λ (e : Entrance). Enters k.graph used (nv_of c.args.nv.now) e (state_of c.args.asked.now)
+    (state_of c.enter_some.new.asked) old new)
     (sym c.in_ok-entry_points.ensures.entered) c.in_ok-enter_some.ensures)

@@ -13,4 +13,5 @@ returns-in-None g c =
     let used = used_of c.args.cache (λ x. let n = goal.FastCheckCache-dyn g x.now in
     used_item (n.hash_of x.now.1 c.args.seed.now) (n.stored x.now.1) c.args.graph.now) in
     entered_nowhere c.args.graph.now used (nv_of c.args.nv.now) c.args.entry_points c.in-None.is
-    (state_of c.args.asked.now) (state_of c.args.asked.now) refl (flat_map yields_of c.args.found.now.items) (flat_map yields_of c.args.found.now.items) refl
+    (state_of c.args.asked.now) (state_of c.args.asked.now) refl (flat_map yields_of c.args.found.now.items)
+    (flat_map yields_of c.args.found.now.items) refl

@@ -5,4 +5,5 @@ use Rattle.fast_check_worklists.specs.State.{want_of}
 use Rattle.fast_check_turns.proofs.packages.kept_steps.Given as goal
 
 abbrev pub invariant-loop-nv : goal.invariant-loop-nv
-invariant-loop-nv l = map want_of l.out.items ++ map to_package (map nv_of l.nv-iterator) ≡ map to_package (map nv_of l.item.dependencies.keys)
+invariant-loop-nv l = map want_of l.out.items ++ map to_package (map nv_of l.nv-iterator) ≡ map to_package
+    (map nv_of l.item.dependencies.keys)

@@ -6,4 +6,5 @@ use Rattle.fast_check_values.proofs.functions.any_params.Given as goal
 
 abbrev pub invariant-loop-place : goal.invariant-loop-place
 invariant-loop-place l =
-    Behind (λ ts. l.items ++ ts) (answer_of (any_params_from 0 l.param-items)) (answer_of (any_params_from l.place (drop l.place l.param-items))) [] []
+    Behind (λ ts. l.items ++ ts) (answer_of (any_params_from 0 l.param-items))
+    (answer_of (any_params_from l.place (drop l.place l.param-items))) [] []

@@ -17,7 +17,8 @@ returns-in_ok-ty-in-Some c =
     let body = c.args.body in
     let named = ap (λ u. named_return u body.is_generator (seen body.block)) (sym scope) ∙ (sym c.in_ok-ty.ensures ∙ c.in-Some.is) in
     IfOk-weaker c.type_ann.result _ _
-    (λ tree e. body_named (bindings_of c.args.info.now).unresolved c.args.kind body.is_async body.is_generator c.args.place (seen body.block) named
+    (λ tree e. body_named (bindings_of c.args.info.now).unresolved c.args.kind body.is_async body.is_generator c.args.place
+    (seen body.block) named
     (e ∙ ap type_ann (c.in_ok-ty-in-Some.ensures ∙ ap (λ u. promised u body.is_async c.in-Some.ty) scope))) c.type_ann.ensures
 
 pub returns-in-None : goal.returns-in-None
@@ -26,6 +27,9 @@ returns-in-None c =
     let body = c.args.body in
     let named = ap (λ u. named_return u body.is_generator (seen body.block)) (sym scope) ∙ (sym c.in_ok-ty.ensures ∙ c.in-None.is) in
     IfOk-weaker c.type_by_class.result _ _
-    (λ tree h. body_classed (bindings_of c.args.info.now).unresolved c.args.kind body.is_async body.is_generator c.args.place (seen body.block) named
-    (adds_same (ap (λ k. answer_to (class_seen c.args.kind body.is_async c.args.place k)) (sym c.analyze_return_stmts_in_function_body-class.ensures)) h))
+    (λ tree h. body_classed (bindings_of c.args.info.now).unresolved c.args.kind body.is_async body.is_generator c.args.place
+    (seen body.block) named
+    (adds_same
+    (ap (λ k. answer_to (class_seen c.args.kind body.is_async c.args.place k))
+    (sym c.analyze_return_stmts_in_function_body-class.ensures)) h))
     c.type_by_class.ensures

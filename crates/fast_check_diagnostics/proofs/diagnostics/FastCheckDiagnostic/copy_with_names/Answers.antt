@@ -3,8 +3,10 @@ use Rattle.fast_check_diagnostics.specs.declared.diagnostics.FastCheckDiagnostic
 use Rattle.fast_check_diagnostics.specs.DiagnosticCopy.{IsDiagnosticCopy, with_names}
 use Rattle.fast_check_diagnostics.proofs.Copies.{copies_found, other_names}
 use Rattle.fast_check_diagnostics.proofs.diagnostics.FastCheckDiagnostic.copy_with_names.Goals as goal
-use Rattle.fast_check_diagnostics.proofs.diagnostics.FastCheckDiagnostic.copy_with_names.Goals.{in-NotFoundReference, in-UnsupportedComplexReference}
-use Rattle.fast_check_diagnostics.proofs.diagnostics.FastCheckDiagnostic.copy_with_names.Goals.{in-UnsupportedPrivateMemberReference, in_default}
+use Rattle.fast_check_diagnostics.proofs.diagnostics.FastCheckDiagnostic.copy_with_names.Goals.{in-NotFoundReference}
+use Rattle.fast_check_diagnostics.proofs.diagnostics.FastCheckDiagnostic.copy_with_names.Goals.{in-UnsupportedComplexReference}
+use Rattle.fast_check_diagnostics.proofs.diagnostics.FastCheckDiagnostic.copy_with_names.Goals.{in-UnsupportedPrivateMemberReference}
+use Rattle.fast_check_diagnostics.proofs.diagnostics.FastCheckDiagnostic.copy_with_names.Goals.{in_default}
 
 -- the diagnostic of a kind that holds the place and the names
 abbrev wanted : goal.Joined-self → FastCheckDiagnostic → FastCheckDiagnostic

@@ -3,11 +3,14 @@ use Rattle.fast_check_diagnostics.specs.declared.diagnostics.FastCheckDiagnostic
 use Rattle.fast_check_diagnostics.specs.DiagnosticCopy.{IsDiagnosticCopy, with_range}
 use Rattle.fast_check_diagnostics.proofs.Copies.{copies_found, other_ranges}
 use Rattle.fast_check_diagnostics.proofs.diagnostics.FastCheckDiagnostic.copy_with_range.Goals as goal
-use Rattle.fast_check_diagnostics.proofs.diagnostics.FastCheckDiagnostic.copy_with_range.Goals.{in-MissingExplicitType, in-MissingExplicitReturnType}
+use Rattle.fast_check_diagnostics.proofs.diagnostics.FastCheckDiagnostic.copy_with_range.Goals.{in-MissingExplicitType}
+use Rattle.fast_check_diagnostics.proofs.diagnostics.FastCheckDiagnostic.copy_with_range.Goals.{in-MissingExplicitReturnType}
 use Rattle.fast_check_diagnostics.proofs.diagnostics.FastCheckDiagnostic.copy_with_range.Goals.{in-UnsupportedAmbientModule}
 use Rattle.fast_check_diagnostics.proofs.diagnostics.FastCheckDiagnostic.copy_with_range.Goals.{in-UnsupportedDefaultExportExpr}
-use Rattle.fast_check_diagnostics.proofs.diagnostics.FastCheckDiagnostic.copy_with_range.Goals.{in-UnsupportedDestructuring, in-UnsupportedGlobalModule}
-use Rattle.fast_check_diagnostics.proofs.diagnostics.FastCheckDiagnostic.copy_with_range.Goals.{in-UnsupportedRequire, in-UnsupportedSuperClassExpr}
+use Rattle.fast_check_diagnostics.proofs.diagnostics.FastCheckDiagnostic.copy_with_range.Goals.{in-UnsupportedDestructuring}
+use Rattle.fast_check_diagnostics.proofs.diagnostics.FastCheckDiagnostic.copy_with_range.Goals.{in-UnsupportedGlobalModule}
+use Rattle.fast_check_diagnostics.proofs.diagnostics.FastCheckDiagnostic.copy_with_range.Goals.{in-UnsupportedRequire}
+use Rattle.fast_check_diagnostics.proofs.diagnostics.FastCheckDiagnostic.copy_with_range.Goals.{in-UnsupportedSuperClassExpr}
 use Rattle.fast_check_diagnostics.proofs.diagnostics.FastCheckDiagnostic.copy_with_range.Goals.{in-UnsupportedTsExportAssignment}
 use Rattle.fast_check_diagnostics.proofs.diagnostics.FastCheckDiagnostic.copy_with_range.Goals.{in-UnsupportedTsNamespaceExport, in_default}
 

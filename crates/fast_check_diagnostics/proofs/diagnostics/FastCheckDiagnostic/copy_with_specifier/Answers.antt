@@ -4,8 +4,8 @@ use Rattle.fast_check_diagnostics.specs.DiagnosticCopy.{IsDiagnosticCopy, with_s
 use Rattle.fast_check_diagnostics.proofs.Copies.{copies_found, other_specifiers}
 use Rattle.fast_check_diagnostics.proofs.diagnostics.FastCheckDiagnostic.copy_with_specifier.Goals as goal
 use Rattle.fast_check_diagnostics.proofs.diagnostics.FastCheckDiagnostic.copy_with_specifier.Goals.{in-UnsupportedNestedJavaScript}
-use Rattle.fast_check_diagnostics.proofs.diagnostics.FastCheckDiagnostic.copy_with_specifier.Goals.{in-UnsupportedJavaScriptEntrypoint, in-ExportNotFound}
-use Rattle.fast_check_diagnostics.proofs.diagnostics.FastCheckDiagnostic.copy_with_specifier.Goals.{in_default}
+use Rattle.fast_check_diagnostics.proofs.diagnostics.FastCheckDiagnostic.copy_with_specifier.Goals.{in-UnsupportedJavaScriptEntrypoint}
+use Rattle.fast_check_diagnostics.proofs.diagnostics.FastCheckDiagnostic.copy_with_specifier.Goals.{in-ExportNotFound, in_default}
 
 -- the diagnostic of the module
 abbrev wanted : goal.Joined-self → FastCheckDiagnostic → FastCheckDiagnostic
@@ -20,7 +20,8 @@ returns c =
       | in-ExportNotFound w ↦ copies_found (ap (wanted c) w.in-ExportNotFound.is) w.result-is copied
       | in_default w ↦
           let n = w.in_default in
-          let last = other_specifiers c.args.self.now c.args.specifier.now n.not-UnsupportedNestedJavaScript n.not-UnsupportedJavaScriptEntrypoint
+          let last =
+          other_specifiers c.args.self.now c.args.specifier.now n.not-UnsupportedNestedJavaScript n.not-UnsupportedJavaScriptEntrypoint
           n.not-ExportNotFound in
           copies_found last w.result-is copied
     ]

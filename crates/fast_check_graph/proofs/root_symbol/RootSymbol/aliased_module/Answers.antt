@@ -16,4 +16,5 @@ pub returns : goal.returns
 returns c =
     let found = c.get.ensures.value ∙ at_specifier c.args.specifier.now c.args.self.now.aliases.entries in
     c.own_module.ensures ∙ sym
-    (ap (λ (o : Option Parts). option_and_then (module_named c.args.self.now.modules.entries) o) (sym found ∙ ap option_copied c.in_ok-get.was))
+    (ap (λ (o : Option Parts). option_and_then (module_named c.args.self.now.modules.entries) o)
+    (sym found ∙ ap option_copied c.in_ok-get.was))

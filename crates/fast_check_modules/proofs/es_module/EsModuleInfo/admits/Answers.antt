@@ -9,7 +9,8 @@ pub returns-clause-exactly : goal.returns-clause-exactly
 returns-clause-exactly c =
     let m = c.self.inside in
     let public = c.args.public_ranges.now in
-    rw (← c.self.view_is) (admits_when (record { specifier = m.specifier; source = m.source; tables = m.tables }) public c.any_public_unbound.result
+    rw (← c.self.view_is)
+    (admits_when (record { specifier = m.specifier; source = m.source; tables = m.tables }) public c.any_public_unbound.result
     (c.any_public_unbound.ensures
     ∙ ap (λ (es : List Expando). list_any (is_public_unbound m.tables public) es) (c.deref.ensures.value ∙ c.self.invariant.read)))
 
@@ -17,7 +18,8 @@ pub returns-clause-own : goal.returns-clause-own
 returns-clause-own c =
     let m = c.self.inside in
     let public = c.args.public_ranges.now in
-    rw (← c.self.view_is) (own_admitted (record { specifier = m.specifier; source = m.source; tables = m.tables }) public c.any_public_unbound.result
+    rw (← c.self.view_is)
+    (own_admitted (record { specifier = m.specifier; source = m.source; tables = m.tables }) public c.any_public_unbound.result
     (c.any_public_unbound.ensures
     ∙ ap (λ (es : List Expando). list_any (is_public_unbound m.tables public) es) (c.deref.ensures.value ∙ c.self.invariant.read))
     c.self.invariant.bound)

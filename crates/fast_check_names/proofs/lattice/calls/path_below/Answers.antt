@@ -8,4 +8,5 @@ pub returns-then-is_empty : goal.returns-then-is_empty
 returns-then-is_empty c = let none : length c.args.parts.now ≡ 0 = search rules in all_whole c.args.parts.now none
 
 pub returns : goal.returns
-returns c = let some : length c.args.parts.now ≡ 0 → ⊥ = search rules in subset_whole (paths c.in_ok-names.names) c.args.parts.now some c.in_ok-names.ensures
+returns c = let some : length c.args.parts.now ≡ 0 → ⊥ = search rules in subset_whole
+    (paths c.in_ok-names.names) c.args.parts.now some c.in_ok-names.ensures

@@ -16,5 +16,7 @@ loop-below-preserved c =
 pub returns : goal.returns
 returns c = λ t n j e.
     let es = c.names_of-below-items.result.now in
-    let kept : IsKept PlainP es = subst (λ (xs : List Entry). IsKept PlainP xs) (take_all c.loop-below.below-index es c.loop-below-test.false) c.loop-below.invariant in
-    subst (λ (o : Option Below). Found (PlainP n) o) (ap (λ (xs : List Entry). found xs n) c.names_of-below-items.ensures.names ∙ e) (kept n)
+    let kept : IsKept PlainP es = subst (λ (xs : List Entry). IsKept PlainP xs)
+    (take_all c.loop-below.below-index es c.loop-below-test.false) c.loop-below.invariant in
+    subst (λ (o : Option Below). Found (PlainP n) o) (ap (λ (xs : List Entry). found xs n) c.names_of-below-items.ensures.names ∙ e)
+    (kept n)

@@ -12,7 +12,8 @@ loop-i-preserved c =
     let i = c.loop-i.i in
     let f : Entry → Entry = λ e. (e.0, moved_below (lower c.args.gone) e.1) in
     let within : i < length es = omega (arith, c.args.names.now.ok.0, c.len-i-end.ensures) in
-    let is : d ≡ get_or es i d = c.index_mut-listed.ensures.value ∙ (ap (λ (xs : List Entry). get_or xs i d) c.loop-i.invariant ∙ still f es i d within) in
+    let is : d ≡ get_or es i d = c.index_mut-listed.ensures.value ∙
+    (ap (λ (xs : List Entry). get_or xs i d) c.loop-i.invariant ∙ still f es i d within) in
     let wrote : (let x : Entry = (d.0, c.lowered-listed.result) in x) ≡ f (get_or es i d) =
     ap (λ (b : Below). let x : Entry = (d.0, b) in x) c.lowered-listed.ensures ∙ ap f is in
     ap (λ (xs : List Entry). set xs i (d.0, c.lowered-listed.result)) c.loop-i.invariant ∙

@@ -15,7 +15,8 @@ invariant_of-node c =
     ap names_in c.lower_names.ensures ∙ mapped_names (moved_below (lower c.args.gone)) node.names.items in
     record {
       once = once_along c.lower_names.new.names.items node.names.items same node.once;
-      order = order_along (names_in c.lower_names.new.names.items) (names_in node.names.items) (lists node.runs.items) node.sorted same node.order;
+      order = order_along (names_in c.lower_names.new.names.items) (names_in node.names.items)
+          (lists node.runs.items) node.sorted same node.order;
     }
 
 pub loop-i-preserved : goal.loop-i-preserved
@@ -30,5 +31,6 @@ loop-i-preserved c =
     (ap (λ (xs : List (List Entry)). get_or xs i []) c.loop-i.invariant ∙ still (lower_entries c.args.gone) ls i [] within) in
     listings_set c.loop-i.nodes.items i _ ∙
     (ap (λ (xs : List (List Entry)). set xs i c.lower_names.new.names.items) c.loop-i.invariant ∙
-    (ap (λ (es : List Entry). set (map (lower_entries c.args.gone) (take i ls) ++ drop i ls) i es) (c.lower_names.ensures ∙ ap (lower_entries c.args.gone) held) ∙
+    (ap (λ (es : List Entry). set (map (lower_entries c.args.gone) (take i ls) ++ drop i ls) i es)
+    (c.lower_names.ensures ∙ ap (lower_entries c.args.gone) held) ∙
     one_more (lower_entries c.args.gone) ls i [] within))

@@ -15,7 +15,8 @@ invariant_of-node c =
     let name = read_name es c.in-Some.place c.index_mut.result.now place.0 c.index_mut.ensures.value in
     record {
       once = once_set es c.in-Some.place (c.index_mut.result.now.0, All) node.once name;
-      order = order_along _ (names_in es) (lists node.runs.items) node.sorted (names_set es c.in-Some.place (c.index_mut.result.now.0, All) name) node.order;
+      order = order_along _ (names_in es) (lists node.runs.items) node.sorted
+          (names_set es c.in-Some.place (c.index_mut.result.now.0, All) name) node.order;
     }
 
 pub returns-in-Some-clause-written : goal.returns-in-Some-clause-written

@@ -22,7 +22,8 @@ joint-requires t c =
     let l = c.requires.other_tree.later c.args.other name c.in-Subset.next held in
     let below : c.args.other < c.in-Subset.next.0 = l.0 in
     let within : c.in-Subset.next.0 < length others = l.1 in
-    let link = looked nodes nodes c.args.at name c.as_str.result.now c.in-Some-Subset.field-0 (Subset c.in-Some-Subset.no) refl c.as_str.ensures.value
+    let link = looked nodes nodes c.args.at name c.as_str.result.now c.in-Some-Subset.field-0
+    (Subset c.in-Some-Subset.no) refl c.as_str.ensures.value
     c.in-Some-Subset.ensures c.in-Some-Subset.field-0-is in
     let old = c.requires.tree.later c.args.at name c.in-Some-Subset.no link in
     (search rules, (old.1, (c.requires.tree, c.requires.other_tree)))
@@ -33,10 +34,12 @@ returns t c =
     let d : Entry = c.index-names-0.result in
     let name = string_bytes d.0 in
     let one : length c.names_of-names.result.now ≡ 1 = omega (arith, c.if-names-ne1.false) in
-    let link = looked nodes nodes c.args.at name c.as_str.result.now c.in-Some-Subset.field-0 (Subset c.in-Some-Subset.no) refl c.as_str.ensures.value
+    let link = looked nodes nodes c.args.at name c.as_str.result.now c.in-Some-Subset.field-0
+    (Subset c.in-Some-Subset.no) refl c.as_str.ensures.value
     c.in-Some-Subset.ensures c.in-Some-Subset.field-0-is in
     if_some_from c.joint.result
-    (joint_down (entry nodes) (length nodes) c.args.at (entry c.args.others.now) c.args.other name c.in-Some-Subset.no c.in-Subset.next c.requires.tree link
+    (joint_down (entry nodes) (length nodes) c.args.at
+    (entry c.args.others.now) c.args.other name c.in-Some-Subset.no c.in-Subset.next c.requires.tree link
     (λ n. ap (λ (es : List Entry). found es n) (sym c.names_of-names.ensures.names) ∙
     (found_alone c.names_of-names.result.now d one c.index-names-0.is n ∙
     ap (λ (b : Below). cond (bytes_eq name n) (Some b) None) c.in-Subset.is)))

@@ -32,18 +32,21 @@ returns-clause-behind c =
     let shifted = c.shift_nodes.new.nodes.items in
     let some : 0 < length tree = omega (arith, c.requires.tree_some, c.args.tree.ok.0) in
     let same : length shifted ≡ length tree = omega (arith, c.shift_nodes.ensures.len, c.args.tree.ok.0, c.shift_nodes.new.nodes.ok.0) in
-    let ok : is_ok c.append.result ≡ true = c.append.ensures.succeeds (omega (arith, c.requires.room, c.remove-root.ensures.len, c.shift_nodes.ensures.len)) in
+    let ok : is_ok c.append.result ≡ true = c.append.ensures.succeeds
+    (omega (arith, c.requires.room, c.remove-root.ensures.len, c.shift_nodes.ensures.len)) in
     let items : c.append.new.self.items ≡ c.args.nodes.now.items ++ remove shifted 0 =
     rw (c.append.ensures.items, ok) (ap (λ (ns : List Node). c.args.nodes.now.items ++ ns) c.remove-root.ensures.items) in (
       remove shifted 0,
       items,
       λ k n.
-          root_behind (c.len.result - 1) tree shifted c.remove-root.result some same c.shift_nodes.ensures.shifted c.remove-root.ensures.value k n ∙
+          root_behind
+          (c.len.result - 1) tree shifted c.remove-root.result some same c.shift_nodes.ensures.shifted c.remove-root.ensures.value k n ∙
           ap (λ (m : ℕ). shift (m - 1) (entry tree (suc k) n)) (c.len.ensures ∙ c.args.nodes.now.ok.0),
     )
 
 pub returns-clause-len : goal.returns-clause-len
 returns-clause-len c =
-    let ok : is_ok c.append.result ≡ true = c.append.ensures.succeeds (omega (arith, c.requires.room, c.remove-root.ensures.len, c.shift_nodes.ensures.len)) in
+    let ok : is_ok c.append.result ≡ true = c.append.ensures.succeeds
+    (omega (arith, c.requires.room, c.remove-root.ensures.len, c.shift_nodes.ensures.len)) in
     let len : c.append.new.self.len ≡ c.args.nodes.now.len + c.remove-root.new.self.len = rw (c.append.ensures.len, ok) in
     omega (arith, len, c.remove-root.ensures.len, c.shift_nodes.ensures.len)

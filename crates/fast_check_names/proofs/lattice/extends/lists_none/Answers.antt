@@ -12,14 +12,18 @@ pub loop-name-preserved : goal.loop-name-preserved
 loop-name-preserved c =
     let d : Entry = c.loop-name-item.result in
     let name = string_bytes d.0 in
-    let held : c.find_at.result ≡ entry c.args.nodes.now c.args.at name = c.find_at.ensures ∙ ap (λ (n : Name). entry c.args.nodes.now c.args.at n) c.as_str.ensures.value in
+    let held : c.find_at.result ≡ entry c.args.nodes.now c.args.at name = c.find_at.ensures ∙
+    ap (λ (n : Name). entry c.args.nodes.now c.args.at n) c.as_str.ensures.value in
     let none = none_from_not (entry c.args.nodes.now c.args.at name) (ap is_some (sym held) ∙ sym c.if-is_some.ensures) in
-    kept_more (λ n b. entry c.args.nodes.now c.args.at n ≡ None) c.args.names.now c.requires c.loop-name.name-index d c.loop-name-test.true c.loop-name-item.is
+    kept_more
+    (λ n b. entry c.args.nodes.now c.args.at n ≡
+    None) c.args.names.now c.requires c.loop-name.name-index d c.loop-name-test.true c.loop-name-item.is
     c.loop-name.invariant none
 
 pub returns : goal.returns
 returns c = λ t n some.
     let es = c.args.names.now in
     let P : Name → Below → Type 0 = λ n b. entry c.args.nodes.now c.args.at n ≡ None in
-    let kept : IsKept P es = subst (λ (xs : List Entry). IsKept P xs) (take_all c.loop-name.name-index es c.loop-name-test.false) c.loop-name.invariant in
+    let kept : IsKept P es = subst (λ (xs : List Entry). IsKept P xs)
+    (take_all c.loop-name.name-index es c.loop-name-test.false) c.loop-name.invariant in
     held_from (entry c.args.nodes.now c.args.at n ≡ None) (found es n) (kept n) some

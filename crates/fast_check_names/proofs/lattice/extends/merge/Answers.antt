@@ -38,7 +38,8 @@ put_names-requires-clause-room c =
     (c.index_mut-node.ensures.value ∙
     ap (λ (ns : List Node). get_or ns c.args.at x) (b.1 ∙ ap (λ (ns : List Node). ns ++ b.0) c.move_into.ensures.items)) c.index.ensures in
     let some : 0 < length c.args.tree.items = omega (arith, c.requires.some, c.args.tree.ok.0) in
-    let count : length root.names.items ≡ length (get_or (listings c.args.tree.items) 0 []) = ap length (items_at c.args.tree.items 0 root some c.index-2.ensures) in
+    let count : length root.names.items ≡ length (get_or (listings c.args.tree.items) 0 []) =
+    ap length (items_at c.args.tree.items 0 root some c.index-2.ensures) in
     omega (
       arith,
       c.move_into-2.ensures.room c.len.result
@@ -56,17 +57,21 @@ returns-clause-merge c =
     let tree = c.args.tree.items in
     let x = c.index_mut-node.result.now in
     let b = c.append_below-names.ensures.behind in
-    let long : length c.move_into.new.items.items ≡ c.args.nodes.now.len = ap length c.move_into.ensures.items ∙ sym c.args.nodes.now.ok.0 in
+    let long : length c.move_into.new.items.items ≡ c.args.nodes.now.len = ap length c.move_into.ensures.items ∙
+    sym c.args.nodes.now.ok.0 in
     merges nodes tree b.0 c.append_below-names.new.nodes.items c.args.nodes.now.len c.args.at x _ c.args.nodes.now.ok.0 c.requires.within
     (b.1 ∙ ap (λ (ns : List Node). ns ++ b.0) c.move_into.ensures.items)
     (λ k n. b.2 k n ∙ ap (λ (m : ℕ). shift (m - 1) (entry tree (suc k) n)) long)
     c.index_mut-node.ensures.value
-    (λ n. c.put_names.ensures.found n ∙ (ap (λ (es : List Entry). either_of (found es n) (found c.append_below-names.result.items n)) c.move_into-2.ensures.items ∙
-    ap (either_of (found x.names.items n)) (c.append_below-names.ensures.names n ∙ ap (λ (m : ℕ). shift (m - 1) (entry tree 0 n)) c.move_into.ensures.len)))
+    (λ n. c.put_names.ensures.found n ∙
+    (ap (λ (es : List Entry). either_of (found es n) (found c.append_below-names.result.items n)) c.move_into-2.ensures.items ∙
+    ap (either_of (found x.names.items n))
+    (c.append_below-names.ensures.names n ∙ ap (λ (m : ℕ). shift (m - 1) (entry tree 0 n)) c.move_into.ensures.len)))
 
 pub returns-clause-tree : goal.returns-clause-tree
 returns-clause-tree c =
     tree_along _ _ ((c.args.nodes.now.len - 1) + c.args.tree.len) _ refl
     (omega (arith, c.append_below-names.ensures.len, c.move_into.ensures.len, c.requires.within))
-    (tree_merged (entry c.args.nodes.now.items) (entry c.args.tree.items) _ c.args.nodes.now.len c.args.tree.len c.args.at c.requires.old_tree c.requires.tree
+    (tree_merged (entry c.args.nodes.now.items)
+    (entry c.args.tree.items) _ c.args.nodes.now.len c.args.tree.len c.args.at c.requires.old_tree c.requires.tree
     c.requires.some c.requires.within c.requires.apart (returns-clause-merge c))

@@ -24,7 +24,8 @@ sort_from-node-requires-clause-once c =
     let fs = c.args.names.items in
     let ok : is_ok c.append.result ≡ true = c.append.ensures.succeeds c.requires.room in
     let items : c.append.new.self.items ≡ es ++ fs = rw (c.append.ensures.items, ok) in
-    once_along c.as_slice.result.now (es ++ fs) (ap names_in (c.as_slice.ensures.value ∙ items)) (once_append es fs node.once c.requires.once c.requires.apart)
+    once_along c.as_slice.result.now (es ++ fs) (ap names_in (c.as_slice.ensures.value ∙ items))
+    (once_append es fs node.once c.requires.once c.requires.apart)
 
 pub invariant_of-node : goal.invariant_of-node
 invariant_of-node c =
@@ -34,7 +35,8 @@ invariant_of-node c =
     let ok : is_ok c.append.result ≡ true = c.append.ensures.succeeds c.requires.room in
     let items : c.append.new.self.items ≡ es ++ fs = rw (c.append.ensures.items, ok) in
     record {
-      once = once_along c.append.new.self.items (es ++ fs) (ap names_in items) (once_append es fs node.once c.requires.once c.requires.apart);
+      once = once_along c.append.new.self.items (es ++ fs) (ap names_in items)
+          (once_append es fs node.once c.requires.once c.requires.apart);
       order = rw c.as_slice.ensures.value at c.sort_from-node.ensures;
     }
 

@@ -18,14 +18,16 @@ pub sort_from-node-requires-clause-once : goal.sort_from-node-requires-clause-on
 sort_from-node-requires-clause-once c =
     let es = c.args.node.now.names.items in
     let e : Entry = (c.args.name, c.args.below) in
-    once_along c.as_slice.result.now (es ++ e ∷ []) (ap names_in (c.as_slice.ensures.value ∙ c.in_ok-push.ensures.items)) (once_push es e c.args.node.now.once c.requires)
+    once_along c.as_slice.result.now (es ++ e ∷ []) (ap names_in (c.as_slice.ensures.value ∙ c.in_ok-push.ensures.items))
+    (once_push es e c.args.node.now.once c.requires)
 
 pub invariant_of-node-2 : goal.invariant_of-node-2
 invariant_of-node-2 c =
     let es = c.args.node.now.names.items in
     let e : Entry = (c.args.name, c.args.below) in
     record {
-      once = once_along c.push.new.self.items (es ++ e ∷ []) (ap names_in c.in_ok-push.ensures.items) (once_push es e c.args.node.now.once c.requires);
+      once = once_along c.push.new.self.items (es ++ e ∷ []) (ap names_in c.in_ok-push.ensures.items)
+          (once_push es e c.args.node.now.once c.requires);
       order = rw c.as_slice.ensures.value at c.sort_from-node.ensures;
     }
 

@@ -13,7 +13,8 @@ returns-then-slot-eq0 c =
     let run = c.slot_of-slot.result.run in
     let at = c.slot_of-slot.result.at in
     gap_lacks es xss c.args.sorted c.args.name.now (place xss run at) c.requires
-    (slot_gap es xss c.args.name.now run at c.requires.filled c.requires.rising c.slot_of-slot.ensures (λ h. absurd (omega (arith, h, c.if-slot-eq0.true))))
+    (slot_gap es xss c.args.name.now run at c.requires.filled c.requires.rising c.slot_of-slot.ensures
+    (λ h. absurd (omega (arith, h, c.if-slot-eq0.true))))
 
 pub returns-then-eq : goal.returns-then-eq
 returns-then-eq c =
@@ -22,10 +23,12 @@ returns-then-eq c =
     let run = c.slot_of-slot.result.run in
     let at = c.slot_of-slot.result.at in
     let some : 0 < at = omega (arith, c.if-slot-eq0.false) in
-    let there : run < length runs = omega (arith, run_there (lists runs) run (omega (arith, some, c.slot_of-slot.ensures.within)), count_is runs) in
+    let there : run < length runs =
+    omega (arith, run_there (lists runs) run (omega (arith, some, c.slot_of-slot.ensures.within)), count_is runs) in
     let is = number_is runs run (at - 1) c.index-runs-slot.result c.index-number.result.now there c.index-runs-slot.is
     (omega (arith, some, c.slot_of-slot.ensures.within)) c.index-number.ensures in (
-      subst (λ (k : ℕ). k < c.args.sorted) (sym is) (slot_within es (names_in es) (lists runs) c.args.sorted c.args.name.now run at c.requires c.slot_of-slot.ensures some),
+      subst (λ (k : ℕ). k < c.args.sorted) (sym is)
+          (slot_within es (names_in es) (lists runs) c.args.sorted c.args.name.now run at c.requires c.slot_of-slot.ensures some),
       sym c.name_of.ensures ∙ same_bytes c.name_of.result.now c.args.name.now (sym c.eq.ensures ∙ c.if-eq.true),
     )
 
@@ -42,4 +45,5 @@ returns c =
     (omega (arith, some, c.slot_of-slot.ensures.within)) c.index-number.ensures in
     gap_lacks es xss c.args.sorted c.args.name.now (place xss run at) c.requires
     (slot_gap es xss c.args.name.now run at c.requires.filled c.requires.rising c.slot_of-slot.ensures
-    (λ h e. other_bytes c.name_of.result.now c.args.name.now (sym c.eq.ensures ∙ c.if-eq.false) (c.name_of.ensures ∙ (ap (λ k. name_at es k) is ∙ e))))
+    (λ h e. other_bytes c.name_of.result.now c.args.name.now (sym c.eq.ensures ∙ c.if-eq.false)
+    (c.name_of.ensures ∙ (ap (λ k. name_at es k) is ∙ e))))

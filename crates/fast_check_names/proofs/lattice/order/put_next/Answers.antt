@@ -16,7 +16,8 @@ returns-then-is_empty-clause-done c =
     let more : c.args.sorted < length (names_in es) = omega (arith, c.requires.within, length-map es (λ (e : Entry). string_bytes e.0)) in
     on_true_from c.put_first.result
     (λ put. order_put (names_in es) (lists runs.items) (lists c.put_first.new.runs.items) c.args.sorted 0 c.requires.order
-    (empty_gap (names_in es) (lists runs.items) (name_at es c.args.sorted) (omega (arith, none, runs.ok.0, count_is runs.items))) put c.put_first.ensures.filled more)
+    (empty_gap (names_in es) (lists runs.items) (name_at es c.args.sorted)
+    (omega (arith, none, runs.ok.0, count_is runs.items))) put c.put_first.ensures.filled more)
     c.put_first.ensures.inserted
 
 pub returns-clause-done : goal.returns-clause-done
@@ -32,12 +33,15 @@ returns-clause-done c =
     let slot : IsSlot es xss n run at = subst (λ (m : Name). IsSlot es xss m run at) c.name_of.ensures read in
     let gap : IsGap (keys (names_in es) (concat xss)) n (place xss run at) =
     slot_gap es xss n run at c.requires.order.filled c.requires.order.rising slot
-    (λ h e. c.requires.absent (get_or (run_at xss run) (at - 1) 0) (slot_within es (names_in es) xss c.args.sorted n run at c.requires.order slot h) e) in
+    (λ h e. c.requires.absent (get_or (run_at xss run) (at - 1) 0)
+    (slot_within es (names_in es) xss c.args.sorted n run at c.requires.order slot h) e) in
     on_true_from c.put.result
-    (λ put. order_put (names_in es) xss (lists c.put.new.runs.items) c.args.sorted (place xss run at) c.requires.order gap put c.put.ensures.filled more)
+    (λ put. order_put (names_in es) xss (lists c.put.new.runs.items) c.args.sorted
+    (place xss run at) c.requires.order gap put c.put.ensures.filled more)
     c.put.ensures.inserted
 
 pub returns-clause-left : goal.returns-clause-left
 returns-clause-left c = on_false_from c.put.result
-    (λ same. order_same (names_in c.args.names.now) (lists c.args.runs.now.items) (lists c.put.new.runs.items) c.args.sorted c.requires.order same c.put.ensures.filled)
+    (λ same. order_same (names_in c.args.names.now) (lists c.args.runs.now.items)
+    (lists c.put.new.runs.items) c.args.sorted c.requires.order same c.put.ensures.filled)
     c.put.ensures.left

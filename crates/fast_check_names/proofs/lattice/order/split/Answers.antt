@@ -13,9 +13,12 @@ returns-clause-same c =
     let rest = c.reserve.new.self.items in
     let lower = c.split_off.new.self in
     let within : c.args.run < length runs = omega (arith, c.requires.within, c.args.runs.now.ok.0) in
-    let room = on_ok_then c.reserve.result (is_ok_from c.reserve.result c.is_err.result c.is_err.ensures.value c.if-is_err.false) c.reserve.ensures.ok in
+    let room =
+    on_ok_then c.reserve.result
+    (is_ok_from c.reserve.result c.is_err.result c.is_err.ensures.value c.if-is_err.false) c.reserve.ensures.ok in
     let ok : is_ok c.insert.result ≡ true = c.insert.ensures.succeeds (omega (arith, room)) in
-    let new : c.insert.new.self.items ≡ insert (set rest c.args.run lower) (c.args.run + 1) c.in-Ok.upper = rw (c.insert.ensures.items, ok) in
+    let new : c.insert.new.self.items ≡ insert (set rest c.args.run lower) (c.args.run + 1) c.in-Ok.upper =
+    rw (c.insert.ensures.items, ok) in
     split_same runs rest c.insert.new.self.items c.args.run _ c.index_mut-long.result.now lower c.in-Ok.upper within c.reserve.ensures.items c.index_mut-long.ensures.value
     c.in-Ok.ensures.items c.in-Ok.ensures.tail new
 
@@ -26,9 +29,12 @@ returns-clause-filled c =
     let long = c.index_mut-long.result.now in
     let lower = c.split_off.new.self in
     let within : c.args.run < length runs = omega (arith, c.requires.within, c.args.runs.now.ok.0) in
-    let room = on_ok_then c.reserve.result (is_ok_from c.reserve.result c.is_err.result c.is_err.ensures.value c.if-is_err.false) c.reserve.ensures.ok in
+    let room =
+    on_ok_then c.reserve.result
+    (is_ok_from c.reserve.result c.is_err.result c.is_err.ensures.value c.if-is_err.false) c.reserve.ensures.ok in
     let ok : is_ok c.insert.result ≡ true = c.insert.ensures.succeeds (omega (arith, room)) in
-    let new : c.insert.new.self.items ≡ insert (set rest c.args.run lower) (c.args.run + 1) c.in-Ok.upper = rw (c.insert.ensures.items, ok) in
+    let new : c.insert.new.self.items ≡ insert (set rest c.args.run lower) (c.args.run + 1) c.in-Ok.upper =
+    rw (c.insert.ensures.items, ok) in
     let same : long ≡ c.index.result.now =
     c.index_mut-long.ensures.value ∙ (ap (λ (rs : List (Vec _ Global)). get_or rs c.args.run long) c.reserve.ensures.items ∙
     (get_or_default runs c.args.run long c.index.result.now within ∙ sym c.index.ensures)) in

@@ -10,7 +10,8 @@ pub returns-in_err-place : goal.returns-in_err-place
 returns-in_err-place c =
     let rows = c.self.inside.listed.packages.items in
     rw (c.from_residual.ensures, ← c.self.view_is)
-    (row_none rows c.as_bytes.result.now (serialize c.args.url.now) c.first_within.result (c.as_bytes.ensures.value ∙ c.as_str.ensures.value)
+    (row_none rows c.as_bytes.result.now (serialize c.args.url.now) c.first_within.result
+    (c.as_bytes.ensures.value ∙ c.as_str.ensures.value)
     (c.first_within.ensures (texts_of rows) c.self.invariant.urls) c.in_err-place.was)
 
 pub returns : goal.returns

@@ -10,9 +10,11 @@ loop-size-init c = λ texts h.
 pub loop-size-preserved : goal.loop-size-preserved
 loop-size-preserved c = λ texts h.
     one_length texts c.args.text.now c.in-Some.size.now c.loop-size.size-iterator c.next.new.self c.loop-size.first c.first_as_long.result
-    c.earlier-first.result _ c.in-Some.ensures.steps c.earlier-first.ensures (c.first_as_long.ensures texts h) (c.loop-size.invariant texts h)
+    c.earlier-first.result _ c.in-Some.ensures.steps c.earlier-first.ensures (c.first_as_long.ensures texts h)
+    (c.loop-size.invariant texts h)
 
 pub returns : goal.returns
 returns c = λ texts h.
-    no_length texts c.args.text.now c.loop-size.size-iterator c.loop-size.first _ (c.in-None.ensures.steps).0 (c.loop-size.invariant texts h)
+    no_length texts c.args.text.now c.loop-size.size-iterator c.loop-size.first _ (c.in-None.ensures.steps).0
+    (c.loop-size.invariant texts h)
     ∙ of_all_lengths texts c.args.self.now c.args.text.now h

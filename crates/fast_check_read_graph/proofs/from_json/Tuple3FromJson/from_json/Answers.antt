@@ -27,4 +27,5 @@ returns g c =
     let third = g.C.FromJson.read_of (view c.in_ok-first.third.now) in
     let first_two = both_reads _ _ _ _ _ _ _ c.both-first_two.ensures c.from_json.ensures c.from_json-2.ensures in
     given_some _ (sym c.in_ok-first.ensures.items)
-    ∙ (given_three first second third triple ∙ map_some _ (both_reads _ _ _ _ _ _ _ c.in_ok-first-2.ensures first_two c.from_json-3.ensures))
+    ∙ (given_three first second third triple ∙
+    map_some _ (both_reads _ _ _ _ _ _ _ c.in_ok-first-2.ensures first_two c.from_json-3.ensures))

@@ -9,4 +9,5 @@ use Rattle.fast_check_read_graph.proofs.graph.BTreeMapUrlBTreeMapStringUrlFromJs
 pub returns : goal.returns
 returns c =
     reads_as _ _ _ _ (gathered_as (λ resolutions e. resolved_also e resolutions) all_resolved no_resolutions (seen_resolutions c.new.result)
-    (list_of (three_of url_of as_str url_of) (view c.args.value.now)) resolutions_gathered (no_texts c.new.result c.new.ensures.empty)) c.gather_all.ensures
+    (list_of (three_of url_of as_str url_of) (view c.args.value.now)) resolutions_gathered
+    (no_texts c.new.result c.new.ensures.empty)) c.gather_all.ensures

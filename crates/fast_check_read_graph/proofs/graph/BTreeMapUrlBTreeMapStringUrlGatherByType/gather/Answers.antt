@@ -9,5 +9,6 @@ returns c =
     map_some _ c.in_ok-referrer.ensures
     ∙ ap Some (sym (put_resolved c.in_ok-referrer.referrer c.in_ok-referrer.url c.in_ok-referrer.text
     c.args.self.now c.remove-texts.new.self c.insert-2.new.self c.unwrap_or-texts.result c.new.result c.insert.new.self
-    c.remove-texts.ensures.updates (c.unwrap_or-texts.ensures ∙ ap (λ o. unwrap_or o c.new.result) c.remove-texts.ensures.value) c.new.ensures.empty
+    c.remove-texts.ensures.updates
+    (c.unwrap_or-texts.ensures ∙ ap (λ o. unwrap_or o c.new.result) c.remove-texts.ensures.value) c.new.ensures.empty
     c.in_ok-insert.ensures.updates c.in_ok-insert-2.ensures.updates))

@@ -7,4 +7,5 @@ use Rattle.fast_check_read_graph.proofs.graph.IndexMapStringStringGatherByType.g
 pub returns : goal.returns
 returns c =
     map_some _ c.in_ok-name.ensures
-    ∙ ap Some (sym (ap seen_exports c.in_ok-insert.ensures.entries ∙ inserted_seen c.in_ok-name.name c.in_ok-name.text c.args.self.now.entries))
+    ∙ ap Some
+    (sym (ap seen_exports c.in_ok-insert.ensures.entries ∙ inserted_seen c.in_ok-name.name c.in_ok-name.text c.args.self.now.entries))

@@ -11,7 +11,8 @@ returns-in_err-name c = reads_none _ _ _ (given_none _ (sym c.in_err-name.ensure
 pub returns-in_err-from_json-in-Target : goal.returns-in_err-from_json-in-Target
 returns-in_err-from_json-in-Target c =
     reads_passed _ _ _ c.in_err-from_json-in-Target.field-0.0 c.from_residual-in_err-from_json-in-Target.ensures.1 (λ bad.
-    chosen decl_kind_named _ _ _ _ c.in_ok-name.ensures.variant c.in-Target.is ∙ ap (option_map seen.Target) (c.in_err-from_json-in-Target.ensures bad))
+    chosen decl_kind_named _ _ _ _ c.in_ok-name.ensures.variant c.in-Target.is ∙
+    ap (option_map seen.Target) (c.in_err-from_json-in-Target.ensures bad))
 
 pub returns-in_ok-from_json-in-Target : goal.returns-in_ok-from_json-in-Target
 returns-in_ok-from_json-in-Target c =
@@ -29,14 +30,17 @@ returns-in_ok-id-in-QualifiedTarget c =
     ∙ map_some (λ p. seen.QualifiedTarget p.0 p.1) c.in_ok-id-in-QualifiedTarget.ensures
 
 pub returns-in-FileRef : goal.returns-in-FileRef
-returns-in-FileRef c = reads_as _ _ _ _ (chosen decl_kind_named _ _ _ _ c.in_ok-name.ensures.variant c.in-FileRef.is) c.read_file_ref.ensures
+returns-in-FileRef c =
+    reads_as _ _ _ _ (chosen decl_kind_named _ _ _ _ c.in_ok-name.ensures.variant c.in-FileRef.is) c.read_file_ref.ensures
 
 pub returns-in_err-read_definition-in-Definition : goal.returns-in_err-read_definition-in-Definition
 returns-in_err-read_definition-in-Definition c =
-    reads_passed _ _ _ c.in_err-read_definition-in-Definition.field-0.0 c.from_residual-in_err-read_definition-in-Definition.ensures.1 (λ bad.
+    reads_passed _ _ _ c.in_err-read_definition-in-Definition.field-0.0 c.from_residual-in_err-read_definition-in-Definition.ensures.1
+    (λ bad.
     chosen decl_kind_named _ _ _ _ c.in_ok-name.ensures.variant c.in-Definition.is
     ∙ ap (option_map seen.Definition) (c.in_err-read_definition-in-Definition.ensures bad))
 
 pub returns-in_ok-read_definition-in-Definition : goal.returns-in_ok-read_definition-in-Definition
 returns-in_ok-read_definition-in-Definition c =
-    chosen decl_kind_named _ _ _ _ c.in_ok-name.ensures.variant c.in-Definition.is ∙ map_some seen.Definition c.in_ok-read_definition-in-Definition.ensures
+    chosen decl_kind_named _ _ _ _ c.in_ok-name.ensures.variant c.in-Definition.is ∙
+    map_some seen.Definition c.in_ok-read_definition-in-Definition.ensures

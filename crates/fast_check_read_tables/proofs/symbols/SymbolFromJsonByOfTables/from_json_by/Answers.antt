@@ -10,7 +10,8 @@ use Rattle.fast_check_read.proofs.Each.{some_of_ok}
 use Rattle.fast_check_read_graph.proofs.Given.{given_some, map_some, map_same, option_same}
 use Rattle.fast_check_read_tables.proofs.symbols.SymbolFromJsonByOfTables.from_json_by.Goals as goal
 
-abbrev made : SymbolId → Option SymbolId → Bool → Option (List ℕ) → Option (List ℕ) → List (List ℕ × SymbolId) → List SymbolId → List Decl → SeenSymbol
+abbrev made : SymbolId → Option SymbolId → Bool → Option (List ℕ) → Option (List ℕ) → List (List ℕ × SymbolId) → List SymbolId → List Decl →
+    SeenSymbol
 made id parent_id is_private_member maybe_name qualified_name exports members decls = record {
   id = id;
   parent_id = parent_id;
@@ -36,7 +37,8 @@ returns-in_err-names c =
     ∙ (given_some _ (c.in_ok-parent_id.ensures ∙ ap Some (option_same c.in_ok-parent_id.parent_id))
     ∙ (given_some _ (some_of_ok _ _ _ c.in_ok-is_private_member.ensures)
     ∙ (given_five (optional as_str (codes "maybe_name") value) (optional as_str (codes "qualified_name") value)
-    (or_default [] exports_of (get (codes "exports") value)) (listed symbol_id_of (codes "members") value) (listed decl_of (codes "decls") value)
+    (or_default [] exports_of (get (codes "exports") value)) (listed symbol_id_of (codes "members") value)
+    (listed decl_of (codes "decls") value)
     (made c.in_ok-id.id c.in_ok-parent_id.parent_id c.in_ok-is_private_member.is_private_member)
     ∙ ap (option_map _) (none bad)))))
 
@@ -52,6 +54,7 @@ returns c =
     ∙ (given_some _ (c.in_ok-parent_id.ensures ∙ ap Some (option_same c.in_ok-parent_id.parent_id))
     ∙ (given_some _ (some_of_ok _ _ _ c.in_ok-is_private_member.ensures)
     ∙ (given_five (optional as_str (codes "maybe_name") value) (optional as_str (codes "qualified_name") value)
-    (or_default [] exports_of (get (codes "exports") value)) (listed symbol_id_of (codes "members") value) (listed decl_of (codes "decls") value)
+    (or_default [] exports_of (get (codes "exports") value)) (listed symbol_id_of (codes "members") value)
+    (listed decl_of (codes "decls") value)
     (made c.in_ok-id.id c.in_ok-parent_id.parent_id c.in_ok-is_private_member.is_private_member)
     ∙ map_some _ (both_reads _ _ _ _ _ _ _ c.in_ok-names.ensures names rest))))

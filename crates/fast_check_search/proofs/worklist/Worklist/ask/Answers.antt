@@ -21,7 +21,8 @@ pub returns-clause-kept : goal.returns-clause-kept
 returns-clause-kept c =
     let is = key_made c.done_demand.result c.essence.result c.done_demand.ensures.names c.done_demand.ensures.demand in
     kept_one c.args.self.now (after c) c.args.demand c.essence.result c.requires c.in_ok-push.ensures.items c.essence.ensures
-    (subst (λ (k : DoneDemand). Updates order.cmp-value.it c.args.self.now.done c.insert.new.self k true) is c.in_ok-insert.ensures.updates) (fresh c)
+    (subst (λ (k : DoneDemand). Updates order.cmp-value.it c.args.self.now.done c.insert.new.self k true) is c.in_ok-insert.ensures.updates)
+    (fresh c)
 
 pub returns-clause-covered : goal.returns-clause-covered
 returns-clause-covered c = covered_one c.args.self.now (after c) c.args.demand c.in_ok-push.ensures.items

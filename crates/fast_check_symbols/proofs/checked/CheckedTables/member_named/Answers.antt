@@ -9,7 +9,8 @@ use Rattle.fast_check_symbols.proofs.checked.CheckedTables.member_named.Goals as
 pub returns-in_err-place : goal.returns-in_err-place
 returns-in_err-place c =
     rw (c.from_residual.ensures, ← c.self.view_is)
-    (found_by_place c.self.inside.symbols c.self.inside.members.items c.args.id c.args.name.now None (sym c.place.ensures ∙ c.in_err-place.was)
+    (found_by_place c.self.inside.symbols c.self.inside.members.items c.args.id c.args.name.now None
+    (sym c.place.ensures ∙ c.in_err-place.was)
     c.self.invariant)
 
 pub returns-in_err-index : goal.returns-in_err-index

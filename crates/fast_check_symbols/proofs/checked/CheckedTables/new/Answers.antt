@@ -11,7 +11,8 @@ returns-then-misses_symbol-clause-fault c =
 pub returns-then-lacks_declaration-clause-fault : goal.returns-then-lacks_declaration-clause-fault
 returns-then-lacks_declaration-clause-fault c = (
   misses_none c.args.tables
-      (sym (misses_is c.args.tables _ _ _ c.in_ok-symbols.ensures c.deref.ensures.value c.misses_symbol.ensures) ∙ c.if-misses_symbol.false),
+      (sym (misses_is c.args.tables _ _ _ c.in_ok-symbols.ensures c.deref.ensures.value c.misses_symbol.ensures) ∙
+      c.if-misses_symbol.false),
   lacks c.args.tables (sym (lacks_is c.args.tables _ _ (c.as_slice.ensures ∙ c.in_ok-symbols.ensures) c.lacks_declaration.ensures)
       ∙ c.if-lacks_declaration.true),
 )
@@ -29,8 +30,10 @@ pub returns-clause-well_formed : goal.returns-clause-well_formed
 returns-clause-well_formed c = record {
   mentioned_have_symbols =
       misses_none c.args.tables
-      (sym (misses_is c.args.tables _ _ _ c.in_ok-symbols.ensures c.deref.ensures.value c.misses_symbol.ensures) ∙ c.if-misses_symbol.false);
+      (sym (misses_is c.args.tables _ _ _ c.in_ok-symbols.ensures c.deref.ensures.value c.misses_symbol.ensures) ∙
+      c.if-misses_symbol.false);
   symbols_have_declarations =
       lacks_none c.args.tables
-      (sym (lacks_is c.args.tables _ _ (c.as_slice.ensures ∙ c.in_ok-symbols.ensures) c.lacks_declaration.ensures) ∙ c.if-lacks_declaration.false);
+      (sym (lacks_is c.args.tables _ _ (c.as_slice.ensures ∙ c.in_ok-symbols.ensures) c.lacks_declaration.ensures) ∙
+      c.if-lacks_declaration.false);
 }

@@ -19,5 +19,6 @@ returns c =
     let xs = c.args.self.now in
     let i = c.in_ok-place.place in
     got xs i (symbol_of c.args.id xs) c.get.result
-    (subst (λ (p : Option ℕ). IsFound xs (symbol_of c.args.id xs) p) (sym c.place.ensures ∙ c.in_ok-place.was) (last_found (has_id c.args.id) xs))
+    (subst (λ (p : Option ℕ). IsFound xs (symbol_of c.args.id xs) p) (sym c.place.ensures ∙ c.in_ok-place.was)
+    (last_found (has_id c.args.id) xs))
     (subst (λ (ys : List Symbol). IsItemAt ys i c.get.result) (c.deref.ensures.value ∙ c.self.view_is) c.get.ensures.lookup)

@@ -15,4 +15,5 @@ returns-in_ok-hint-in-UnsupportedExpandoProperty c =
 
 pub returns-in_default : goal.returns-in_default
 returns-in_default c =
-    let plain = other_hints c.args.self.now c.in_default.not-MissingExplicitReturnType c.in_default.not-UnsupportedExpandoProperty in search rules
+    let plain =
+    other_hints c.args.self.now c.in_default.not-MissingExplicitReturnType c.in_default.not-UnsupportedExpandoProperty in search rules

@@ -13,9 +13,11 @@ returns-clause-joined c =
     let w = rooted (entry c.cover.new.nodes.items) in
     let n = string_bytes c.args.export in
     let m = paths c.in_ok-more.more in
-    let kept : IsSame w s = paths_along c.args.self.now.nodes.items c.cover.new.nodes.items (OnFalse_at c.if-cover.false c.cover.ensures.kept) in
+    let kept : IsSame w s = paths_along c.args.self.now.nodes.items c.cover.new.nodes.items
+    (OnFalse_at c.if-cover.false c.cover.ensures.kept) in
     on_ok_from c.join.result
     (λ (j : IsJoin w m (paths c.join.new.self)).
-    join_both w m s (whole n []) (paths c.join.new.self) (paths c.join.new.self) kept (whole_is m everything n [] c.in_ok-more.ensures (λ part q. refl))
+    join_both w m s (whole n []) (paths c.join.new.self) (paths c.join.new.self) kept
+    (whole_is m everything n [] c.in_ok-more.ensures (λ part q. refl))
     (same_self (paths c.join.new.self)) j)
     c.join.ensures.joined

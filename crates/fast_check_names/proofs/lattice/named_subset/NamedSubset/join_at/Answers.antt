@@ -13,7 +13,8 @@ merge-requires-clause-apart c =
     let s = entry c.put_root.new.nodes.items in
     let copy = c.in_ok-copy.copy in
     names_lacked g h s c.args.at c.args.other c.requires.apart
-    (λ part p. rooted_same (entry copy.nodes.items) s c.in_ok-put_root.ensures.same part p ∙ (rw c.as_slice.ensures.value at c.in_ok-copy.ensures) part p)
+    (λ part p. rooted_same (entry copy.nodes.items) s c.in_ok-put_root.ensures.same part p ∙
+    (rw c.as_slice.ensures.value at c.in_ok-copy.ensures) part p)
 
 pub returns-clause-joined : goal.returns-clause-joined
 returns-clause-joined c =
@@ -29,7 +30,8 @@ returns-clause-joined c =
     (λ (is : IsMerge g c.args.self.now.nodes.len c.args.at s w).
     root_gains g h w (c.requires.enough w
     (merged g s w c.args.self.now.nodes.len c.put_root.new.nodes.len c.args.at c.args.self.now.tree made.tree made.some c.requires.within
-    (names_lacked g h s c.args.at c.args.other c.requires.apart same) is (subset_of (below_node h c.args.other)) (λ part n q. sym (same part (n ∷ q))))))
+    (names_lacked g h s c.args.at c.args.other c.requires.apart same) is (subset_of (below_node h c.args.other))
+    (λ part n q. sym (same part (n ∷ q))))))
     c.merge.ensures.merge
 
 pub returns-clause-err : goal.returns-clause-err
