@@ -19,7 +19,7 @@ INNER = "-- Inner: no contract of a public call cites what stands here."
 # The calls whose contracts are the promises, by crate, or by module of a crate (`crate::module`). None: every public function there.
 CHAPTERS = {
     "transform": {"fast_check_module_transform": ["transform"], "fast_check_transformer::transformer": None, "fast_check_skeleton": ["hash_mark"]},
-    "law": {"fast_check_skeleton": None, "fast_check_skeleton": ["two_worlds", "hidden_items"], "fast_check_transformer": None},
+    "law": {"fast_check_skeleton": ["two_worlds", "hidden_changes", "hidden_items"], "fast_check_transformer": None},
     "account": {"fast_check_build": ["find_public_ranges", "find", "new"]},
     "build": {
         "fast_check_build": None, "fast_check_package_answers": None, "fast_check_cache::cache": None, "fast_check_cache::item": None,

@@ -1,4 +1,3 @@
--- Inner: no contract of a public call cites what stands here.
 -- The nodes of one path.
 use Rattle.std.specs.Prelude.{ℕ, zero, suc, ◌+◌, ◌==◌, List, [], ◌∷◌, Option, Some, None, cond}
 use Rattle.std.specs.Str.{bytes_eq}
