@@ -221,6 +221,8 @@ def main(words):
     if not os.access(program, os.X_OK):
         print(f"no program: {words[0]}", file=sys.stderr)
         return 2
+    # also where a shell began this behind another command, and let it ignore interrupts
+    signal.signal(signal.SIGINT, signal.default_int_handler)
     print(f"seed={seed}", flush=True)
     began = time.monotonic()
     tally, done = try_all(program, count, seed, beside, first)
