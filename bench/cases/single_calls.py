@@ -4,8 +4,10 @@ The worlds are answered by `package_rules`, forms by `forms`, caches by `cache_c
 transformer by the answers of the runs of the same requests, which `vectors` makes. What the others print is stated by hand in the files of
 `stated/`; those of names and places repeat the lines that they read.
 """
+import copy
 import json
 import os
+import sys
 
 import cache_cases
 import cached_builds
@@ -13,6 +15,7 @@ import forms
 import packages
 import search_cases  # which adds to the worlds, as reference_cases does
 from package_cases import CASES as WORLDS
+from runs import Module, keyword, line
 
 STATED = os.path.join(os.path.dirname(os.path.abspath(__file__)), "stated")
 
@@ -81,6 +84,36 @@ def transformers(runs):
     return {"transformers": "".join(f"{name}.json\n" for name in names)}, "\n".join(lines) + "\n"
 
 
+# ---- trees that are nested deeper than JSON is read
+
+
+# how many parentheses stand around the value, and of how many arrays the written type is
+DEPTHS = [(0, 0), (1, 1), (1000, 0), (0, 1000), (1000, 1000)]
+
+
+def array_type(arrays):
+    """The type of so many arrays of numbers, each at the value."""
+    made = keyword("TsNumberKeyword", [16, 17])
+    for _ in range(arrays):
+        made = {"TsArrayType": {"span": [16, 17], "elem_type": made}}
+    return made
+
+
+def deep():
+    """Values in parentheses, which show the type of what stands in them, and written types, which stay."""
+    sys.setrecursionlimit(10_000)
+    module = Module().statement("let", ("x", None, "1", True))
+    lines = []
+    for parentheses, arrays in DEPTHS:
+        made = copy.deepcopy(module.answer()["Ok"]["program"])
+        if arrays:
+            named = made["body"][0]["ModuleDecl"]["ExportDecl"]["decl"]["Var"]["decls"][0]["name"]["Ident"]
+            named["type_ann"] = {"span": [16, 17], "type_ann": array_type(arrays)}
+        lines += [f"{parentheses} {arrays}", "    " + line(made).rstrip("\n"), "    its copy is equal to it: true"]
+    depths = "".join(f"{parentheses} {arrays}\n" for parentheses, arrays in DEPTHS)
+    return {"deep": depths, "deep.json": line(module.request())}, "\n".join(lines) + "\n"
+
+
 # ---- worlds
 
 
@@ -99,4 +132,5 @@ def parts(runs):
     """For each part, in order, its files and what it prints."""
     made, printed = forms.part()
     return [({}, stated("example")), cache_cases.part(), cached_builds.part(), ({"forms": made}, printed), repeated("names"), repeated("places"),
-            ({}, stated("unfound")), ({}, stated("faults")), worlds(), transformers(runs)]
+            ({}, stated("unfound")), ({}, stated("faults")), worlds(), transformers(runs),
+            deep()]

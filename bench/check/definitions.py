@@ -31,7 +31,7 @@ CHAPTERS = {
         "fast_check_graph": None, "fast_check_comments": None, "fast_check_syntax": None, "fast_check_helpers": None,
     },
     "json": {
-        "fast_check_read": None, "fast_check_print::comments": None, "fast_check_print::pieces": None, "fast_check_print::tree": None,
+        "fast_check_read": None, "fast_check_write::comments": None, "fast_check_write::pieces": None, "fast_check_write::tree": None,
         "fast_check_read_graph": None, "fast_check_read_tables": None, "fast_check_schema": None,
         "fast_check_json::law": None,
     },

@@ -2,6 +2,7 @@
 
 ghost use Rattle.std.specs.Prelude.{◌≡◌, ⊤, map, MatchOption, IfOk, IfErr};
 ghost use Rattle.fast_check_packages.specs.Package.{nv_of};
+ghost use Rattle.fast_check_packages.specs.MembersIn.{members_in};
 ghost use Rattle.fast_check_cache.specs.Cache.{IsSeed};
 ghost use Rattle.fast_check_cache.specs.CachedPackages.{used_item};
 ghost use Rattle.fast_check_finder.specs.turns.steps.Sources.{with_used};
@@ -10,10 +11,10 @@ ghost use Rattle.fast_check_finder.specs.Refusals.{IsRefusal};
 ghost use Rattle.fast_check_build.specs.Found.{known_of, IsFound, WithSeed};
 
 use fast_check_cache::{FastCheckCache, PackagePublicRanges};
-use fast_check_finder::{Sources, find_all};
+use fast_check_finder::{FinderInput, Sources, find_all};
 use fast_check_graph::{ModuleGraph, RootSymbol};
 use fast_check_package_ranges::package_ranges;
-use fast_check_packages::{BuildFault, JsrUrlProvider, PackageNv, WorkspaceMember};
+use fast_check_packages::{BuildFault, IndexedMembers, JsrUrlProvider, PackageNv, WorkspaceMember};
 use std::alloc::Global;
 use std::collections::{BTreeMap, VecDeque};
 
@@ -30,36 +31,24 @@ fn seed_of(cache: Option<&dyn FastCheckCache>) -> &'static str
 /// What is public in these packages, and in all that follow from them, by the items of a cache under keys of this seed.
 pub(crate) fn find_seeded(
     alloc: Global,
+    input: FinderInput<'_>,
     cache: Option<&dyn FastCheckCache>,
-    seed: &str,
     jsr_url_provider: &dyn JsrUrlProvider,
-    graph: &ModuleGraph,
-    root_symbol: &RootSymbol,
-    workspace_members: &[WorkspaceMember],
     pending_nvs: VecDeque<PackageNv>,
 ) -> Result<BTreeMap<PackageNv, PackagePublicRanges>, BuildFault>
-    ensures found { let used = used_of cache.entry (λ c. used_item (hash_of c.now seed.now) (stored c.now) graph.now) in
-        let k = known_of graph.now root_symbol.now workspace_members.now (url_of jsr_url_provider.now) (nv_at jsr_url_provider.now) in
+    ensures found { let s = input.entry.sources in
+        let used = used_of cache.entry (λ c. used_item (hash_of c.now input.entry.seed.now) (stored c.now) s.graph.now) in
+        let k = known_of s.graph.now s.root_symbol.now (members_in s.workspace_members.now) (url_of jsr_url_provider.now) (nv_at jsr_url_provider.now) in
         IfOk result (IsFound (with_used used k) (map nv_of pending_nvs.items)) }
-    ensures refused { let used = used_of cache.entry (λ c. used_item (hash_of c.now seed.now) (stored c.now) graph.now) in
-        let k = known_of graph.now root_symbol.now workspace_members.now (url_of jsr_url_provider.now) (nv_at jsr_url_provider.now) in
+    ensures refused { let s = input.entry.sources in
+        let used = used_of cache.entry (λ c. used_item (hash_of c.now input.entry.seed.now) (stored c.now) s.graph.now) in
+        let k = known_of s.graph.now s.root_symbol.now (members_in s.workspace_members.now) (url_of jsr_url_provider.now) (nv_at jsr_url_provider.now) in
         IfErr result (IsRefusal (with_used used k) (map nv_of pending_nvs.items)) }
 {
-    let sources = Sources {
-        graph,
-        root_symbol,
-        workspace_members,
-    };
-    root_symbol.own_names_find();
+    // Each module is found by its own name.
+    input.sources.root_symbol.own_names_find();
     let roots = pending_nvs.into_vec();
-    let found = find_all(
-        alloc,
-        sources,
-        jsr_url_provider,
-        cache,
-        seed,
-        roots.as_slice(),
-    )?;
+    let found = find_all(alloc, input, jsr_url_provider, cache, roots.as_slice())?;
     let answers = package_ranges(alloc, found)?;
     Ok(answers)
 }
@@ -87,16 +76,14 @@ pub fn find_public_ranges(
         IsRefusal (with_used (used_item (hash_of c.now seed) (stored c.now) graph.now) k) (map nv_of pending_nvs.items) fault))) }
 {
     let seed = seed_of(cache);
-    find_seeded(
-        alloc,
-        cache,
-        seed,
-        jsr_url_provider,
+    let members = IndexedMembers::new(alloc, workspace_members)?;
+    let sources = Sources {
         graph,
         root_symbol,
-        workspace_members,
-        pending_nvs,
-    )
+        workspace_members: &members,
+    };
+    let input = FinderInput { sources, seed };
+    find_seeded(alloc, input, cache, jsr_url_provider, pending_nvs)
 }
 
 /// Finds what is public in the packages that are handed in.

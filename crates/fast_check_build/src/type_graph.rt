@@ -10,10 +10,11 @@ ghost use Rattle.fast_check_build.specs.Lent.{OldNew};
 
 use crate::finder::{find_public_ranges, find_seeded};
 use fast_check_cache::FastCheckCache;
+use fast_check_finder::{FinderInput, Sources};
 use fast_check_graph::{ModuleGraph, RootSymbol};
 use fast_check_package_answers::transform::TransformOptions;
-use fast_check_package_answers::{ModuleAnswer, answer_all, answer_and_set_all};
-use fast_check_packages::{BuildFault, JsrUrlProvider, PackageNv};
+use fast_check_package_answers::{BuildInput, ModuleAnswer, answer_all, answer_and_set_all};
+use fast_check_packages::{BuildFault, IndexedMembers, JsrUrlProvider, PackageNv};
 use std::alloc::Global;
 use std::collections::VecDeque;
 
@@ -22,34 +23,32 @@ fn build_with(
     alloc: Global,
     cache: &mut dyn FastCheckCache,
     jsr_url_provider: &dyn JsrUrlProvider,
-    graph: &ModuleGraph,
-    root_symbol: &RootSymbol,
+    input: BuildInput<'_>,
     pending_nvs: VecDeque<PackageNv>,
-    options: &TransformOptions,
 ) -> Result<Vec<ModuleAnswer>, BuildFault>
-    ensures built { let k = known_of graph.now root_symbol.now options.now.workspace_members.items (url_of jsr_url_provider.now) (nv_at jsr_url_provider.now) in
+    ensures built { let i = input.entry in
+        let k = known_of i.graph.now i.root_symbol.now i.options.now.workspace_members.items (url_of jsr_url_provider.now) (nv_at jsr_url_provider.now) in
         IfOk result (λ answers. WithSeed (seed_text cache.old) (λ seed.
-        IsBuiltWith (with_used (used_item (hash_of cache.old seed) (stored cache.old) graph.now) k) (map nv_of pending_nvs.items)
-        options.now.should_error_on_first_diagnostic (hash_of cache.old seed) (stored cache.old) (stored cache.new) answers.items)) }
-    ensures stopped { let k = known_of graph.now root_symbol.now options.now.workspace_members.items (url_of jsr_url_provider.now) (nv_at jsr_url_provider.now) in
+        IsBuiltWith (with_used (used_item (hash_of cache.old seed) (stored cache.old) i.graph.now) k) (map nv_of pending_nvs.items)
+        i.options.now.should_error_on_first_diagnostic (hash_of cache.old seed) (stored cache.old) (stored cache.new) answers.items)) }
+    ensures stopped { let i = input.entry in
+        let k = known_of i.graph.now i.root_symbol.now i.options.now.workspace_members.items (url_of jsr_url_provider.now) (nv_at jsr_url_provider.now) in
         IfErr result (λ fault. WithSeed (seed_text cache.old) (λ seed.
-        IsStopped (with_used (used_item (hash_of cache.old seed) (stored cache.old) graph.now) k) (map nv_of pending_nvs.items)
-        options.now.should_error_on_first_diagnostic (hash_of cache.old seed) (stored cache.old) (stored cache.new) fault)) }
+        IsStopped (with_used (used_item (hash_of cache.old seed) (stored cache.old) i.graph.now) k) (map nv_of pending_nvs.items)
+        i.options.now.should_error_on_first_diagnostic (hash_of cache.old seed) (stored cache.old) (stored cache.new) fault)) }
 {
     let seed = cache.hash_seed();
-    let ranges = find_seeded(
-        alloc,
-        Some(&*cache),
-        seed,
-        jsr_url_provider,
-        graph,
-        root_symbol,
-        options.workspace_members.as_slice(),
-        pending_nvs,
-    )?;
+    let members = IndexedMembers::new(alloc, input.options.workspace_members.as_slice())?;
+    let sources = Sources {
+        graph: input.graph,
+        root_symbol: input.root_symbol,
+        workspace_members: &members,
+    };
+    let lent = FinderInput { sources, seed };
+    let ranges = find_seeded(alloc, lent, Some(&*cache), jsr_url_provider, pending_nvs)?;
     // The map is in order.
     let _ = ranges.len();
-    let answers = answer_and_set_all(alloc, cache, seed, graph, root_symbol, ranges, options)?;
+    let answers = answer_and_set_all(alloc, cache, seed, input, ranges)?;
     Ok(answers)
 }
 
@@ -57,30 +56,29 @@ fn build_with(
 fn build_without(
     alloc: Global,
     jsr_url_provider: &dyn JsrUrlProvider,
-    graph: &ModuleGraph,
-    root_symbol: &RootSymbol,
+    input: BuildInput<'_>,
     pending_nvs: VecDeque<PackageNv>,
-    options: &TransformOptions,
 ) -> Result<Vec<ModuleAnswer>, BuildFault>
-    ensures built { let k = known_of graph.now root_symbol.now options.now.workspace_members.items (url_of jsr_url_provider.now) (nv_at jsr_url_provider.now) in
-        IfOk result (λ answers. IsBuilt k (map nv_of pending_nvs.items) options.now.should_error_on_first_diagnostic answers.items) }
-    ensures refused { let k = known_of graph.now root_symbol.now options.now.workspace_members.items (url_of jsr_url_provider.now)
-        (nv_at jsr_url_provider.now) in
+    ensures built { let i = input.entry in
+        let k = known_of i.graph.now i.root_symbol.now i.options.now.workspace_members.items (url_of jsr_url_provider.now) (nv_at jsr_url_provider.now) in
+        IfOk result (λ answers. IsBuilt k (map nv_of pending_nvs.items) i.options.now.should_error_on_first_diagnostic answers.items) }
+    ensures refused { let i = input.entry in
+        let k = known_of i.graph.now i.root_symbol.now i.options.now.workspace_members.items (url_of jsr_url_provider.now) (nv_at jsr_url_provider.now) in
         IfErr result (IsRefusal k (map nv_of pending_nvs.items)) }
 {
-    let members = options.workspace_members.as_slice();
+    let members = input.options.workspace_members.as_slice();
     let ranges = find_public_ranges(
         alloc,
         None,
         jsr_url_provider,
-        graph,
-        root_symbol,
+        input.graph,
+        input.root_symbol,
         members,
         pending_nvs,
     )?;
     // The map is in order.
     let _ = ranges.len();
-    let answers = answer_all(alloc, graph, root_symbol, ranges, options)?;
+    let answers = answer_all(alloc, input, ranges)?;
     Ok(answers)
 }
 
@@ -119,23 +117,13 @@ pub fn build_fast_check_type_graph(
         IsStopped (with_used (used_item (hash_of old seed) (stored old) graph.now) k) (map nv_of pending_nvs.items)
         options.now.should_error_on_first_diagnostic (hash_of old seed) (stored old) (stored new) fault))) cache.entry cache.exit }
 {
+    let input = BuildInput {
+        graph,
+        root_symbol,
+        options,
+    };
     match cache {
-        Some(cache) => build_with(
-            alloc,
-            cache,
-            jsr_url_provider,
-            graph,
-            root_symbol,
-            pending_nvs,
-            options,
-        ),
-        None => build_without(
-            alloc,
-            jsr_url_provider,
-            graph,
-            root_symbol,
-            pending_nvs,
-            options,
-        ),
+        Some(cache) => build_with(alloc, cache, jsr_url_provider, input, pending_nvs),
+        None => build_without(alloc, jsr_url_provider, input, pending_nvs),
     }
 }

@@ -62,7 +62,7 @@ one_or_none true = lit< tt
 one_or_none false = lit< tt
 
 pub answer_status : (asked : BuildRequest) (line : List ℕ) (status : ℕ) → AnswersBuild asked line status → status < 2
-answer_status asked line status h = subst (λ n. n < 2) (sym h.is_line.status_told) (one_or_none (list_any has_diagnostics h.answers))
+answer_status asked line status h = subst (λ n. n < 2) (sym h.is_line.status_is) (one_or_none (list_any has_diagnostics h.answers))
 
 -- bytes are not refused by the words, by their file or by an output
 pub of_bytes : (refusal : Refusal) (bytes : List ℕ) → RefusesBytes refusal bytes → IsOfBytes refusal

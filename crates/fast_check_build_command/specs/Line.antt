@@ -3,7 +3,7 @@ use Rattle.std.specs.Prelude.{◌≡◌, ℕ, List, ◌++◌, Bool, true, false,
 use Rattle.std.specs.List.{list_any}
 use Rattle.serde_json.specs.Written.{compact_text}
 use Rattle.fast_check_requests.specs.Refusal.{line_end}
-use Rattle.fast_check_print.specs.Answers.{answers_data}
+use Rattle.fast_check_write.specs.Answers.{answers_data}
 use Rattle.fast_check_build.specs.package_answers.PackageAnswer.{Answer}
 
 -- a line of the compact JSON of the answers, in their order
@@ -22,4 +22,4 @@ status_of answers = if list_any has_diagnostics answers then 1 else 0
 -- the line of these answers, with its status
 pub record IsLineOf (answers : List Answer) (line : List ℕ) (status : ℕ) : Type 0 where
   pub text : line ≡ line_of answers
-  pub status_told : status ≡ status_of answers
+  pub status_is : status ≡ status_of answers

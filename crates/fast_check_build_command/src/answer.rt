@@ -5,13 +5,13 @@ ghost use Rattle.std.specs.List.{list_any};
 ghost use Rattle.fast_check_build_command.specs.Line.{line_of, status_of, has_diagnostics, IsLineOf};
 
 use fast_check_build::package_answers::ModuleAnswer;
-use fast_check_print::write_answers;
 use fast_check_requests::Answer;
+use fast_check_write::write_answers;
 use json::Writer;
 use std::alloc::{AllocError, Global};
 
 /// The answers in their order, as a line of compact JSON: `[["file:///a.ts", {"Ok": module}], ..]`. Each is dropped when it is written.
-fn print_answers_line(alloc: Global, answers: Vec<ModuleAnswer>) -> Result<Vec<u8>, AllocError>
+fn line_of_answers(alloc: Global, answers: Vec<ModuleAnswer>) -> Result<Vec<u8>, AllocError>
     ensures { IfOk result (λ line. line.items ≡ line_of answers.items) }
 {
     let mut out = Writer::new(Vec::new(alloc));
@@ -36,7 +36,7 @@ fn any_has_diagnostics(answers: &[ModuleAnswer]) -> bool
 }
 
 /// The line of the answers, with its status.
-pub fn tell_answers(alloc: Global, answers: Vec<ModuleAnswer>) -> Result<Answer, AllocError>
+pub fn answer_of(alloc: Global, answers: Vec<ModuleAnswer>) -> Result<Answer, AllocError>
     ensures { IfOk result (λ answer. IsLineOf answers.items answer.line.items answer.status) }
 {
     let status = if any_has_diagnostics(answers.as_slice()) {
@@ -44,6 +44,6 @@ pub fn tell_answers(alloc: Global, answers: Vec<ModuleAnswer>) -> Result<Answer,
     } else {
         0
     };
-    let line = print_answers_line(alloc, answers)?;
+    let line = line_of_answers(alloc, answers)?;
     Ok(Answer { line, status })
 }

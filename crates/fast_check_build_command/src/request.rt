@@ -5,7 +5,7 @@ ghost use Rattle.fast_check_packages.specs.Package.{nv_of};
 ghost use Rattle.fast_check_build.specs.Build.{IsBuilt};
 ghost use Rattle.fast_check_build_command.specs.Build.{known_by, IsExportRefusal, BuildsAnswers, AnswersBuild, RefusesBuild};
 
-use crate::answer::tell_answers;
+use crate::answer::answer_of;
 use fast_check_build::build_fast_check_type_graph;
 use fast_check_build::package_answers::ModuleAnswer;
 use fast_check_build_requests::{BuildRequest, root_symbol_of};
@@ -77,5 +77,5 @@ pub fn answer_request(alloc: Global, request: BuildRequest) -> Result<Answer, Re
     ensures refusal { IfErr result (RefusesBuild request) }
 {
     let answers = request_answers(alloc, request)?;
-    Ok(tell_answers(alloc, answers)?)
+    Ok(answer_of(alloc, answers)?)
 }

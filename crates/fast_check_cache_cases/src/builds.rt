@@ -2,7 +2,7 @@
 
 use crate::read::{Run, read_name, read_run};
 use crate::run_cache::RunCache;
-use crate::told::{tell_answers, tell_items};
+use crate::said_answers::{say_answers, say_items};
 use fast_check_build::build_fast_check_type_graph;
 use fast_check_build::package_answers::ModuleAnswer;
 use fast_check_build::package_answers::transform::TransformOptions;
@@ -82,22 +82,22 @@ fn build_cached(
     )
 }
 
-fn tell_fault(alloc: Global, fault: BuildFault, said: &mut Said) {
-    said.tell_made(format!(in alloc; "\n    {fault}"));
+fn say_fault(alloc: Global, fault: BuildFault, said: &mut Said) {
+    said.say_made(format!(in alloc; "\n    {fault}"));
 }
 
-/// Tells what is answered with a cache beside what is answered without, and what was set.
-fn tell_built(alloc: Global, workspace: &Workspace, cache: &mut RunCache, said: &mut Said) {
+/// Says what is answered with a cache beside what is answered without, and what was set.
+fn say_built(alloc: Global, workspace: &Workspace, cache: &mut RunCache, said: &mut Said) {
     let plain = build_plain(alloc, workspace).unwrap_or(Vec::new(alloc));
     match build_cached(alloc, cache, workspace) {
-        Ok(answers) => tell_answers(&answers, &plain, said),
-        Err(fault) => tell_fault(alloc, fault, said),
+        Ok(answers) => say_answers(&answers, &plain, said),
+        Err(fault) => say_fault(alloc, fault, said),
     }
-    tell_items(alloc, &cache.take_log(alloc), said);
+    say_items(alloc, &cache.take_log(alloc), said);
 }
 
 /// Builds a workspace so many times, or tells that its tables are bad.
-fn tell_workspace(
+fn say_workspace(
     alloc: Global,
     workspace: Option<Workspace>,
     times: u64,
@@ -105,47 +105,47 @@ fn tell_workspace(
     said: &mut Said,
 ) {
     let Some(workspace) = workspace else {
-        said.tell("\n  bad tables");
+        said.say("\n  bad tables");
         return;
     };
     for _ in 0..times {
-        said.tell("\n  build");
-        tell_built(alloc, &workspace, cache, said);
+        said.say("\n  build");
+        say_built(alloc, &workspace, cache, said);
     }
 }
 
 /// Builds each request with the cache of the run.
-fn tell_run(alloc: Global, run: Run, said: &mut Said) {
+fn say_run(alloc: Global, run: Run, said: &mut Said) {
     let Run {
         mut cache,
         requests,
         times,
     } = run;
     for request in requests {
-        tell_workspace(alloc, workspace_of(alloc, request), times, &mut cache, said);
+        say_workspace(alloc, workspace_of(alloc, request), times, &mut cache, said);
     }
 }
 
-fn tell_line(alloc: Global, value: &Value, said: &mut Said) -> Result<(), ReadError> {
-    said.tell_path("run ", read_name(value)?, "");
-    tell_run(alloc, read_run(alloc, value)?, said);
+fn say_line(alloc: Global, value: &Value, said: &mut Said) -> Result<(), ReadError> {
+    said.say_path("run ", read_name(value)?, "");
+    say_run(alloc, read_run(alloc, value)?, said);
     Ok(())
 }
 
-fn tell_text(alloc: Global, line: &str, said: &mut Said) {
+fn say_text(alloc: Global, line: &str, said: &mut Said) {
     match Value::from_str(alloc, line) {
-        Ok(value) => match tell_line(alloc, &value, said) {
+        Ok(value) => match say_line(alloc, &value, said) {
             Ok(()) => {}
-            Err(ReadError::BadForm) => said.tell("\n  bad form"),
+            Err(ReadError::BadForm) => said.say("\n  bad form"),
             Err(ReadError::OutOfMemory) => said.lack(),
         },
-        Err(_) => said.tell("no JSON"),
+        Err(_) => said.say("no JSON"),
     }
 }
 
 fn run_line(rt: &HostRuntime, line: &str) -> io::Result<()> {
     let mut said = Said::new(rt.alloc());
-    tell_text(rt.alloc(), line, &mut said);
+    say_text(rt.alloc(), line, &mut said);
     println!(rt; "{}", said.text().unwrap_or("out of memory"))
 }
 

@@ -77,7 +77,7 @@ fn item(alloc: Global, module: FastCheckCacheModuleItem) -> Result<FastCheckCach
 }
 
 /// Prints what was found under a key.
-fn print_found(rt: &HostRuntime, found: &Option<FastCheckCacheItem>) -> Result<()> {
+fn say_found(rt: &HostRuntime, found: &Option<FastCheckCacheItem>) -> Result<()> {
     let Some(item) = found else {
         println!(rt; "    nothing")?;
         return Ok(());
@@ -121,19 +121,19 @@ fn show_items(rt: &HostRuntime, cache: &mut dyn FastCheckCache) -> Result<()> {
     let key = show_key(rt, &*cache, "@example/hello")?;
     let other = show_key(rt, &*cache, "@example/world")?;
     println!(rt; "  before a set")?;
-    print_found(rt, &cache.get(key)?)?;
+    say_found(rt, &cache.get(key)?)?;
     let kept = item(rt.alloc(), skeleton(rt.alloc(), 7)?)?;
     let copy = kept.clone()?;
     println!(rt; "  after a set")?;
     cache.set(key, kept)?;
     let found = cache.get(key)?;
-    print_found(rt, &found)?;
+    say_found(rt, &found)?;
     println!(rt; "    is what was set: {}", found == Some(copy))?;
     println!(rt; "  after another set under the key")?;
     cache.set(key, item(rt.alloc(), diagnostic(8))?)?;
-    print_found(rt, &cache.get(key)?)?;
+    say_found(rt, &cache.get(key)?)?;
     println!(rt; "  under another key")?;
-    print_found(rt, &cache.get(other)?)
+    say_found(rt, &cache.get(other)?)
 }
 
 /// Shows a cache with the seed of the rules, and one with a seed of its own.

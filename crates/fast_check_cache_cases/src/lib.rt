@@ -8,7 +8,7 @@ mod items;
 mod memory;
 mod read;
 mod run_cache;
-mod told;
+mod said_answers;
 
 pub use builds::run_cached_builds;
 pub use calls::run_cache_cases;

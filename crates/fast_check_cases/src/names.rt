@@ -23,7 +23,7 @@ struct Case {
     pending: PendingTraces,
 }
 
-/// Tells what the call of a line answers and leaves.
+/// Says what the call of a line answers and leaves.
 fn call(alloc: Global, case: &mut Case, command: &str, words: &[String], said: &mut Said) {
     if call_on_set(alloc, &mut case.set, command, words, said)
         || call_below(alloc, &mut case.below, command, words, said)
@@ -36,7 +36,7 @@ fn call(alloc: Global, case: &mut Case, command: &str, words: &[String], said: &
         "wait" => demands::wait(alloc, &mut case.pending, words, said),
         "pop" => demands::pop(alloc, &mut case.pending, said),
         "as_nv" => packages::as_nv(alloc, words, said),
-        _ => said.tell("no such call"),
+        _ => said.say("no such call"),
     }
 }
 
@@ -61,12 +61,12 @@ fn words_of(alloc: Global, line: &str, said: &mut Said) -> Vec<String> {
     words
 }
 
-/// Tells what the call of a line answers and leaves, if it has one.
-fn tell_line(alloc: Global, case: &mut Case, line: &str, said: &mut Said) {
+/// Says what the call of a line answers and leaves, if it has one.
+fn say_line(alloc: Global, case: &mut Case, line: &str, said: &mut Said) {
     let words = words_of(alloc, line, said);
     if let Some((command, words)) = words.split_first() {
         if command.as_str() != "#" {
-            said.tell("\n    ");
+            said.say("\n    ");
             call(alloc, case, command.as_str(), words, said);
         }
     }
@@ -75,7 +75,7 @@ fn tell_line(alloc: Global, case: &mut Case, line: &str, said: &mut Said) {
 /// Prints a line, and what is told of it.
 fn run_line(rt: &HostRuntime, case: &mut Case, line: &str) -> io::Result<()> {
     let mut said = Said::new(rt.alloc());
-    tell_line(rt.alloc(), case, line, &mut said);
+    say_line(rt.alloc(), case, line, &mut said);
     println!(rt; "{line}{}", said.text().unwrap_or("\n    out of memory"))
 }
 

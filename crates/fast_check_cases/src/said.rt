@@ -2,7 +2,7 @@
 ghost use Rattle.std.specs.Prelude.{◌≡◌, [], ◌++◌, Some, None, OnSome, MatchResult, is_ok, if◌then◌else◌};
 ghost use Rattle.std.specs.Option.{option_copied};
 ghost use Rattle.std.specs.String.{string_bytes};
-ghost use Rattle.fast_check_cases.specs.Tells.{Tells, text_of_flag};
+ghost use Rattle.fast_check_cases.specs.Says.{Says, text_of_flag};
 
 use std::alloc::{AllocError, Global};
 use std::marker::Model;
@@ -35,38 +35,38 @@ impl Said {
         }
     }
 
-    /// Tells a text.
-    pub fn tell(&mut self, text: &str)
-        ensures { Tells text.now self.old self.new }
+    /// Says a text.
+    pub fn say(&mut self, text: &str)
+        ensures { Says text.now self.old self.new }
     {
         let told = self.text.push_str(text);
         self.note(told);
     }
 
-    /// Tells a text that was made, if it was.
-    pub fn tell_made(&mut self, made: Result<String, AllocError>)
-        ensures { MatchResult made (λ text. Tells (string_bytes text) self.old self.new) (λ _. self.new ≡ None) }
+    /// Says a text that was made, if it was.
+    pub fn say_made(&mut self, made: Result<String, AllocError>)
+        ensures { MatchResult made (λ text. Says (string_bytes text) self.old self.new) (λ _. self.new ≡ None) }
     {
         match made {
-            Ok(text) => self.tell(text.as_str()),
+            Ok(text) => self.say(text.as_str()),
             Err(_) => self.lack(),
         }
     }
 
-    /// Tells a path of three pieces.
-    pub fn tell_path(&mut self, before: &str, name: &str, after: &str)
-        ensures { Tells (before.now ++ (name.now ++ after.now)) self.old self.new }
+    /// Says a path of three pieces.
+    pub fn say_path(&mut self, before: &str, name: &str, after: &str)
+        ensures { Says (before.now ++ (name.now ++ after.now)) self.old self.new }
     {
-        self.tell(before);
-        self.tell(name);
-        self.tell(after);
+        self.say(before);
+        self.say(name);
+        self.say(after);
     }
 
-    /// Tells a flag, as `true` or `false`.
-    pub fn tell_flag(&mut self, flag: bool)
-        ensures { Tells (text_of_flag flag) self.old self.new }
+    /// Says a flag, as `true` or `false`.
+    pub fn say_flag(&mut self, flag: bool)
+        ensures { Says (text_of_flag flag) self.old self.new }
     {
-        self.tell(if flag { "true" } else { "false" });
+        self.say(if flag { "true" } else { "false" });
     }
 
     /// A copy of a text. Where memory is wanting, nothing is a text any more.

@@ -9,7 +9,7 @@ fn main(rt: HostRuntime) -> ExitCode {
     let mut err = rt.stderr();
     let ending = match read_call(&rt) {
         Ok((words, file)) => run(rt.alloc(), words.as_slice(), file, &mut out, &mut err),
-        Err(refusal) => refusal.told(&mut err),
+        Err(refusal) => refusal.write_line(&mut err),
     };
     ExitCode::from(ending.status)
 }

@@ -11,8 +11,8 @@ use Rattle.fast_check_symbol_demands.specs.symbols.Symbols.{symbol_of}
 use Rattle.fast_check_symbol_demands.specs.symbols.Exports.{export_named}
 use Rattle.fast_check_symbol_demands.specs.symbols.Tables.{Tables}
 use Rattle.fast_check_symbol_demands.specs.declared.demand.Namespace.{Namespace}
-use Rattle.fast_check_demands.specs.declared.fault.FaultKind.{FaultKind}
-use Rattle.fast_check_demands.specs.declared.fault.FaultKind.TheVariants.{PrivateMember, NotFound, TooComplex}
+use Rattle.fast_check_demands.specs.declared.fault.DemandFaultKind.{DemandFaultKind}
+use Rattle.fast_check_demands.specs.declared.fault.DemandFaultKind.TheVariants.{PrivateMember, NotFound, TooComplex}
 use Rattle.fast_check_demands.specs.declared.fault.SymbolFault.{SymbolFault}
 use Rattle.fast_check_symbol_demands.specs.Demands.{Demand, Asked, by_reference, as_child, by_path, same_symbol}
 use Rattle.fast_check_symbol_demands.specs.Decls.{binds, is_implementation, is_function, has_alias, is_closed}
@@ -75,7 +75,7 @@ implementations t d = each_of (asked_implementations d.asked) (symbol_of d.symbo
 -- what is wrong with a demand: of which kind, at which symbol, with the names below it that were asked for, and who
 -- asked
 pub record Fault : Type 0 where
-  pub kind : FaultKind
+  pub kind : DemandFaultKind
   pub symbol : SymbolId
   pub names : Path
   pub referrer : SymbolId
@@ -83,7 +83,7 @@ pub record Fault : Type 0 where
 abbrev pub fault_seen : SymbolFault → Fault
 fault_seen f = record { kind = f.kind; symbol = f.symbol; names = path_of f.names.now; referrer = f.referrer }
 
-abbrev pub fault_at : FaultKind → Path → Demand → Fault
+abbrev pub fault_at : DemandFaultKind → Path → Demand → Fault
 fault_at kind path d = record { kind = kind; symbol = d.symbol; names = path; referrer = d.referrer }
 
 abbrev pub is_parent : SymbolId → Option SymbolId → Bool

@@ -12,7 +12,7 @@ use fast_check_symbol_demands::{Ask, SymbolDemand, has_alias, is_closed, is_same
 
 /// What is wrong with a demand.
 #[derive(Clone, Copy, Debug, PartialEq, Eq, PartialOrd, Ord)]
-pub enum FaultKind {
+pub enum DemandFaultKind {
     /// A private member is referred to.
     PrivateMember,
     /// A class or a namespace has no such name.
@@ -24,13 +24,17 @@ pub enum FaultKind {
 /// A fault of a demand: at a symbol, with the names below it that were asked for, by another symbol.
 #[derive(Clone, Copy, PartialEq, Eq, PartialOrd, Ord)]
 pub struct SymbolFault<'a> {
-    pub kind: FaultKind,
+    pub kind: DemandFaultKind,
     pub symbol: SymbolId,
     pub names: &'a [String],
     pub referrer: SymbolId,
 }
 
-fn fault_at<'a>(kind: FaultKind, names: &'a [String], demand: SymbolDemand<'_>) -> SymbolFault<'a>
+fn fault_at<'a>(
+    kind: DemandFaultKind,
+    names: &'a [String],
+    demand: SymbolDemand<'_>,
+) -> SymbolFault<'a>
     ensures { fault_seen result ≡ fault_there kind (path_of names.now) (demand_of demand.entry) }
 {
     SymbolFault {
@@ -54,7 +58,7 @@ fn private_fault<'a>(demand: SymbolDemand<'a>, symbol: &Symbol) -> Option<Symbol
     ensures { option_map fault_seen result ≡ private_fault (demand_of demand.entry) symbol.now }
 {
     if symbol.is_private_member && !is_parent(demand.referrer, symbol.parent_id) {
-        return Some(fault_at(FaultKind::PrivateMember, &[], demand));
+        return Some(fault_at(DemandFaultKind::PrivateMember, &[], demand));
     }
     None
 }
@@ -67,12 +71,12 @@ fn member_fault<'a>(
     ensures { option_map fault_seen result ≡ member_fault (demand_of demand.entry) (path_of names.now) member }
 {
     match member {
-        None => Some(fault_at(FaultKind::NotFound, start_of(names, 2), demand)),
+        None => Some(fault_at(DemandFaultKind::NotFound, start_of(names, 2), demand)),
         Some(_) => {
             if names.len() <= 2 {
                 return None;
             }
-            Some(fault_at(FaultKind::TooComplex, start_of(names, 3), demand))
+            Some(fault_at(DemandFaultKind::TooComplex, start_of(names, 3), demand))
         }
     }
 }
@@ -107,7 +111,7 @@ fn export_fault<'a>(
     match export {
         None => {
             if closed {
-                return Some(fault_at(FaultKind::NotFound, start_of(names, 1), demand));
+                return Some(fault_at(DemandFaultKind::NotFound, start_of(names, 1), demand));
             }
             None
         }

@@ -13,6 +13,6 @@ pub use fast_check_symbol_demands::{
     Ask, Demands, Extent, Namespace, SymbolDemand, binds, is_implementation,
 };
 pub use fast_check_syntax::SourceRange;
-pub use fault::{FaultKind, SymbolFault, fault_of};
+pub use fault::{DemandFaultKind, SymbolFault, fault_of};
 pub use follow::demands_of;
 pub use public::{push_implementations, push_ranges};

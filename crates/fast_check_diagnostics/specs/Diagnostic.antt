@@ -24,9 +24,9 @@ use Rattle.fast_check_diagnostics.specs.declared.diagnostics.FastCheckDiagnostic
 use Rattle.fast_check_diagnostics.specs.declared.diagnostics.FastCheckDiagnostic.TheVariants.{UnsupportedJavaScriptEntrypoint}
 use Rattle.fast_check_diagnostics.specs.declared.diagnostics.FastCheckDiagnostic.TheVariants.{Emit, ExportNotFound}
 use Rattle.fast_check_diagnostics.specs.declared.diagnostics.FastCheckDiagnostic.TheVariants.{Cached}
-use Rattle.fast_check_diagnostics.specs.declared.diagnostics.report.DiagnosticLevel.{DiagnosticLevel}
-use Rattle.fast_check_diagnostics.specs.declared.diagnostics.report.DiagnosticLevel.TheVariants.{Error, Warning}
-use Rattle.fast_check_diagnostics.specs.Report.{Report, Snippet, Location, AtPosition, AtModule}
+use Rattle.fast_check_diagnostics.specs.declared.diagnostics.view.DiagnosticLevel.{DiagnosticLevel}
+use Rattle.fast_check_diagnostics.specs.declared.diagnostics.view.DiagnosticLevel.TheVariants.{Error, Warning}
+use Rattle.fast_check_diagnostics.specs.DiagnosticView.{DiagnosticView, Snippet, Location, AtPosition, AtModule}
 use Rattle.fast_check_diagnostics.specs.Subject.{Subject, Part, Whole}
 use Rattle.fast_check_diagnostics.specs.KindTexts.{KindTexts}
 
@@ -326,8 +326,8 @@ snippet_at description range =
     record { text = rc_str_bytes range.text_info; range = range.range; description = description }
 
 -- all that is told of it: no mended source text is offered
-abbrev pub report_of : FastCheckDiagnostic → Report
-report_of d = record {
+abbrev pub view_of : FastCheckDiagnostic → DiagnosticView
+view_of d = record {
   level = level_of d;
   code = code_of d;
   message = message_of d;

@@ -1,7 +1,7 @@
 pub mod PublicRanges
 pub mod DiagnosticRange
 pub mod DiagnosticCopy
-pub mod Report
+pub mod DiagnosticView
 pub mod Subject
 pub mod KindTexts
 pub mod Diagnostic

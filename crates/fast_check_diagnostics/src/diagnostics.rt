@@ -4,17 +4,17 @@ ghost use Rattle.std.specs.Option.{option_copied};
 
 mod copies;
 mod range;
-mod report;
+mod shown;
 mod texts;
-mod told;
+mod view;
 
 use crate::diagnostics::texts::Texts;
 pub use range::FastCheckDiagnosticRange;
-pub use report::{Diagnostic, DiagnosticLevel, DiagnosticLocation, DiagnosticSnippet};
 use std::alloc::AllocError;
 use std::error::Error;
 use std::fmt;
 use url::Url;
+pub use view::{Diagnostic, DiagnosticLevel, DiagnosticLocation, DiagnosticSnippet};
 
 /// Why a module has no skeleton. It prints as its message.
 #[derive(Debug, Drop)]

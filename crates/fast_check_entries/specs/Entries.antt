@@ -1,23 +1,21 @@
 -- The entry points of a package, and what is wrong with them.
-use Rattle.std.specs.Prelude.{◌≡◌, ℕ, Bool, true, ◌&&◌, cond, List, [], map, fold, Option, Some, None, option_map}
-use Rattle.std.specs.Prelude.{is_none, option_to_list}
+use Rattle.std.specs.Prelude.{◌≡◌, ℕ, cond, List, [], map, fold, Option, Some, None, option_map, is_none}
+use Rattle.std.specs.Prelude.{option_to_list}
 use Rattle.std.specs.Prelude.{String, string_bytes}
 use Rattle.std.specs.List.{find, flat_map}
 use Rattle.std.specs.Map.{values_of}
 use Rattle.std.specs.Option.{option_or}
 use Rattle.std.specs.Result.{result_ok}
-use Rattle.std.specs.Ordering.{is_eq, nat_cmp}
+use Rattle.std.specs.Ordering.{nat_cmp}
 use Rattle.std.specs.Cmp.Lexicographic.{slice_cmp}
 use Rattle.std.specs.BTreeSet.{insert_key}
-use Rattle.std.specs.Str.{bytes_eq}
 use Rattle.std.specs.declared.alloc.Global.{Global}
 use Rattle.std.specs.declared.vec.Vec.{Vec}
-use Rattle.semver.specs.Identifiers.{parts_of}
-use Rattle.semver.specs.declared.Version.{Version}
 use Rattle.url.specs.Parts.{Parts, serialize}
 use Rattle.url.specs.Parser.{parse_url}
-use Rattle.fast_check_packages.specs.Package.{Nv, VersionParts, nv_of, version_cmp}
+use Rattle.fast_check_packages.specs.Package.{Nv, nv_of}
 use Rattle.fast_check_packages.specs.declared.package.WorkspaceMember.{WorkspaceMember}
+use Rattle.fast_check_packages.specs.Members.{member_named}
 use Rattle.fast_check_graph.specs.declared.graph.ModuleGraph.{ModuleGraph}
 use Rattle.fast_check_graph.specs.declared.module.Module.{Module}
 use Rattle.fast_check_graph.specs.Graph.{module_at, exports_of}
@@ -28,18 +26,6 @@ use Rattle.fast_check_findings.specs.declared.finding.EntryFault.{EntryFault}
 use Rattle.fast_check_findings.specs.declared.finding.EntryFault.TheVariants.{NotFound, Untyped}
 
 -- exports
-
--- the version of a member is absent, or equal
-abbrev pub has_version : VersionParts → Option Version → Bool
-has_version v None = true
-has_version v (Some w) = is_eq (version_cmp v (parts_of w))
-
-abbrev pub is_member : Nv → WorkspaceMember → Bool
-is_member nv m = bytes_eq nv.0 (string_bytes m.name) && has_version nv.1 m.version
-
--- the first member of the workspace that the package is
-abbrev pub member_named : List WorkspaceMember → Nv → Option WorkspaceMember
-member_named members nv = find (is_member nv) members
 
 -- export names with their texts
 abbrev pub Exports : Type 0

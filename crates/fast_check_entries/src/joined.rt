@@ -2,12 +2,13 @@
 ghost use Rattle.std.specs.Prelude.{◌≡◌, ◌++◌, ◌∷◌, [], Some, None, false, map, is_none, option_to_list, OnOk, IfOk, IfErr, string_bytes};
 ghost use Rattle.std.specs.Option.{option_copied};
 ghost use Rattle.fast_check_packages.specs.Package.{nv_of};
+ghost use Rattle.fast_check_packages.specs.MembersIn.{members_in};
 ghost use Rattle.fast_check_entries.specs.Entries.{joined, all_joined, first_refused, entrance_by, entrance_as, entrance_of, entrance_seen};
 ghost use Rattle.fast_check_entries.specs.Entries.{Tells, TellsRefused};
 
-use crate::exports::{base_of, exports_of, member_named};
+use crate::exports::{base_of, exports_of};
 use fast_check_graph::ModuleGraph;
-use fast_check_packages::{BuildFault, JsrUrlProvider, PackageNv, WorkspaceMember};
+use fast_check_packages::{BuildFault, IndexedMembers, JsrUrlProvider, PackageNv, WorkspaceMember};
 use indexmap::IndexMap;
 use std::alloc::{AllocError, Global};
 use url::{ParseError, Url};
@@ -114,12 +115,12 @@ fn member_entry_points(
 pub fn entry_points(
     alloc: Global,
     graph: &ModuleGraph,
-    members: &[WorkspaceMember],
+    members: &IndexedMembers<'_>,
     provider: &dyn JsrUrlProvider,
     nv: &PackageNv,
 ) -> Result<Option<Vec<Url>>, BuildFault>
-    ensures entered { IfOk result (λ urls. entrance_of graph.now members.now (url_of provider.now) (nv_of nv.now) ≡ entrance_seen urls) }
-    ensures refused { IfErr result (TellsRefused (nv_of nv.now) (entrance_of graph.now members.now (url_of provider.now) (nv_of nv.now))) }
+    ensures entered { IfOk result (λ urls. entrance_of graph.now (members_in members.now) (url_of provider.now) (nv_of nv.now) ≡ entrance_seen urls) }
+    ensures refused { IfErr result (TellsRefused (nv_of nv.now) (entrance_of graph.now (members_in members.now) (url_of provider.now) (nv_of nv.now))) }
 {
-    member_entry_points(alloc, graph, member_named(members, nv), provider, nv)
+    member_entry_points(alloc, graph, members.named(nv), provider, nv)
 }

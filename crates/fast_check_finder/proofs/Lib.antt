@@ -1,6 +1,6 @@
 pub use Rattle.fast_check_turns.proofs as turn_proofs
 mod Paths
 mod Reach
-mod Turns
+mod TurnLaws
 mod Refused
 mod Stored

@@ -1,14 +1,17 @@
-//! What is found in worlds of packages, calls of a transformer, and what is told of diagnostics. `fast_check_vectors` runs them.
+//! What is found in worlds of packages, calls of a transformer, transforms of trees that are nested deep, and what is told of diagnostics.
+//! `fast_check_vectors` runs them.
 #![tactic(auto)]
 
+mod deep;
 mod faults;
 mod places;
+mod said_answers;
 mod said_packages;
-mod told;
 mod transformers;
 mod unfound;
 mod worlds;
 
+pub use deep::run_deep_cases;
 pub use faults::run_fault_cases;
 pub use places::run_place_cases;
 pub use transformers::run_transformer_cases;

@@ -45,22 +45,22 @@ fn hash_of(place: &FastCheckDiagnosticRange) -> u64 {
     state.finish()
 }
 
-/// Tells whether two places are equal, and hash alike where they are.
-fn tell_compared(
+/// Says whether two places are equal, and hash alike where they are.
+fn say_compared(
     place: &FastCheckDiagnosticRange,
     other: &FastCheckDiagnosticRange,
     said: &mut Said,
 ) {
     if place == other {
-        said.tell("equal, hashed alike ");
-        said.tell_flag(hash_of(place) == hash_of(other));
+        said.say("equal, hashed alike ");
+        said.say_flag(hash_of(place) == hash_of(other));
     } else {
-        said.tell("not equal");
+        said.say("not equal");
     }
 }
 
-/// Tells what the place of a line is to the first, and to its copy.
-fn tell_line(
+/// Says what the place of a line is to the first, and to its copy.
+fn say_line(
     alloc: Global,
     first: &FastCheckDiagnosticRange,
     line: &str,
@@ -68,18 +68,18 @@ fn tell_line(
 ) -> Result<()> {
     let place = place_of(alloc, line)?;
     let copy = place.clone()?;
-    said.tell_path("", line, "\n    to the first: ");
-    tell_compared(first, &place, said);
-    said.tell("\n    to its copy: ");
-    tell_compared(&place, &copy, said);
-    said.tell("\n");
+    said.say_path("", line, "\n    to the first: ");
+    say_compared(first, &place, said);
+    said.say("\n    to its copy: ");
+    say_compared(&place, &copy, said);
+    said.say("\n");
     Ok(())
 }
 
-fn tell_lines(alloc: Global, lines: &str, said: &mut Said) -> Result<()> {
+fn say_lines(alloc: Global, lines: &str, said: &mut Said) -> Result<()> {
     let first = place_of(alloc, lines.lines().next().unwrap_or(""))?;
     for line in lines.lines() {
-        tell_line(alloc, &first, line, said)?;
+        say_line(alloc, &first, line, said)?;
     }
     Ok(())
 }
@@ -88,7 +88,7 @@ fn tell_lines(alloc: Global, lines: &str, said: &mut Said) -> Result<()> {
 pub fn run_place_cases(rt: &HostRuntime) -> Result<()> {
     let lines = fs::read_to_string(rt, "places")?;
     let mut said = Said::new(rt.alloc());
-    tell_lines(rt.alloc(), lines.as_str(), &mut said)?;
+    say_lines(rt.alloc(), lines.as_str(), &mut said)?;
     print!(rt; "{}", said.text().unwrap_or("out of memory\n"))?;
     Ok(())
 }

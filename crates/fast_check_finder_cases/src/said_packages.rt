@@ -1,4 +1,4 @@
 //! What is found of packages, as text.
 mod packages;
 
-pub use crate::said_packages::packages::tell_packages;
+pub use crate::said_packages::packages::say_packages;

@@ -2,23 +2,23 @@
 //! with it. Prints what each call answers, and which diagnostics are kept then, each by its code and the place where it begins.
 mod calls;
 
-use crate::transformers::calls::tell_calls;
+use crate::transformers::calls::say_calls;
 use fast_check_cases::Said;
 use fast_check_requests::{Refusal, read_request};
 use std::alloc::Global;
 use std::{fs, io};
 
 /// Transforms the module of a request.
-fn tell_request(alloc: Global, bytes: &[u8], said: &mut Said) -> Result<(), Refusal> {
-    tell_calls(alloc, read_request(alloc, bytes)?, said)
+fn say_request(alloc: Global, bytes: &[u8], said: &mut Said) -> Result<(), Refusal> {
+    say_calls(alloc, read_request(alloc, bytes)?, said)
 }
 
 fn run_file(rt: &HostRuntime, name: &str) -> io::Result<()> {
     println!(rt; "{name}")?;
     let bytes = fs::read(rt, name)?;
     let mut said = Said::new(rt.alloc());
-    if let Err(refusal) = tell_request(rt.alloc(), bytes.as_slice(), &mut said) {
-        said.tell(refusal.line());
+    if let Err(refusal) = say_request(rt.alloc(), bytes.as_slice(), &mut said) {
+        said.say(refusal.line());
     }
     match said.text() {
         Some(text) => println!(rt; "{text}"),

@@ -1,10 +1,10 @@
 //! The two kinds of diagnostics that neither finder nor transform finds.
 
-use crate::told::tell_diagnostic;
+use crate::said_answers::say_diagnostic;
 use anyhow::Result;
 use fast_check_cases::Said;
 use fast_check_diagnostics::FastCheckDiagnostic;
-use fast_check_print::write_diagnostics;
+use fast_check_write::write_diagnostics;
 use json::Writer;
 use std::alloc::{AllocError, Global};
 use std::array;
@@ -37,33 +37,33 @@ fn write_copy(
     write_diagnostics(alloc, out, array::from_ref(&copy))
 }
 
-/// Tells the JSON of a copy.
-fn tell_json(alloc: Global, diagnostic: &FastCheckDiagnostic, said: &mut Said) {
+/// Says the JSON of a copy.
+fn say_json(alloc: Global, diagnostic: &FastCheckDiagnostic, said: &mut Said) {
     let mut out = Writer::new(Vec::new(alloc));
     said.note(write_copy(alloc, &mut out, diagnostic));
     match String::from_utf8(out.into_inner()) {
-        Ok(text) => said.tell(text.as_str()),
+        Ok(text) => said.say(text.as_str()),
         Err(_) => said.lack(),
     }
 }
 
-/// Tells a diagnostic that was made, if it was.
-fn tell_made(alloc: Global, made: Result<FastCheckDiagnostic>, said: &mut Said) {
+/// Says a diagnostic that was made, if it was.
+fn say_made(alloc: Global, made: Result<FastCheckDiagnostic>, said: &mut Said) {
     match made {
         Ok(diagnostic) => {
-            tell_json(alloc, &diagnostic, said);
-            tell_diagnostic(alloc, &diagnostic, said);
+            say_json(alloc, &diagnostic, said);
+            say_diagnostic(alloc, &diagnostic, said);
         }
         Err(_) => said.lack(),
     }
-    said.tell("\n");
+    said.say("\n");
 }
 
 /// Prints what is told of both kinds.
 pub fn run_unfound_cases(rt: &HostRuntime) -> Result<()> {
     let mut said = Said::new(rt.alloc());
-    tell_made(rt.alloc(), cached(rt.alloc()), &mut said);
-    tell_made(rt.alloc(), emit(rt.alloc()), &mut said);
+    say_made(rt.alloc(), cached(rt.alloc()), &mut said);
+    say_made(rt.alloc(), emit(rt.alloc()), &mut said);
     print!(rt; "{}", said.text().unwrap_or("out of memory\n"))?;
     Ok(())
 }

@@ -6,7 +6,7 @@ mod provider;
 mod refused;
 mod world;
 
-use crate::worlds::refused::{find, refuse_calls, tell_found};
+use crate::worlds::refused::{find, refuse_calls, say_found};
 use crate::worlds::world::{World, world_of};
 use fast_check_build_requests::{BuildRequest, read_build_request};
 use fast_check_cases::Said;
@@ -19,8 +19,8 @@ use serde_json::Value;
 use std::alloc::Global;
 use std::{fs, io};
 
-/// Tells what is found of the packages that are handed in, also with calls of the provider refused. Answers whether a call was.
-fn tell_packages_of(
+/// Says what is found of the packages that are handed in, also with calls of the provider refused. Answers whether a call was.
+fn say_packages_of(
     alloc: Global,
     world: &World,
     pending: &[PackageNv],
@@ -28,15 +28,15 @@ fn tell_packages_of(
     said: &mut Said,
 ) -> bool {
     let mut told = Said::new(alloc);
-    tell_found(alloc, find(alloc, world, pending), ranges, &mut told);
+    say_found(alloc, find(alloc, world, pending), ranges, &mut told);
     match told.text() {
-        Some(text) => said.tell(text),
+        Some(text) => said.say(text),
         None => said.lack(),
     }
     refuse_calls(alloc, world, pending, ranges, &told, said)
 }
 
-fn tell_request(
+fn say_request(
     alloc: Global,
     request: BuildRequest,
     ranges: &[SourceRange],
@@ -44,42 +44,42 @@ fn tell_request(
 ) -> bool {
     match world_of(alloc, request) {
         Ok((world, pending)) => {
-            return tell_packages_of(alloc, &world, pending.as_slice(), ranges, said);
+            return say_packages_of(alloc, &world, pending.as_slice(), ranges, said);
         }
         Err(TableFault::OutOfMemory) => said.lack(),
-        Err(_) => said.tell("\n  bad tables"),
+        Err(_) => said.say("\n  bad tables"),
     }
     false
 }
 
-/// Tells what is found in a world. Answers whether a call of its provider was refused.
-fn tell_world(alloc: Global, value: &Value, said: &mut Said) -> Result<bool, ReadError> {
+/// Says what is found in a world. Answers whether a call of its provider was refused.
+fn say_world(alloc: Global, value: &Value, said: &mut Said) -> Result<bool, ReadError> {
     let ranges: Vec<SourceRange> = read_list(alloc, value, "ranges")?;
     let request = read_build_request(alloc, value)?;
-    Ok(tell_request(alloc, request, ranges.as_slice(), said))
+    Ok(say_request(alloc, request, ranges.as_slice(), said))
 }
 
-/// Tells the name of a world, and what is found in it. Answers whether a call of its provider was refused.
-fn tell_line(alloc: Global, value: &Value, said: &mut Said) -> Result<bool, ReadError> {
+/// Says the name of a world, and what is found in it. Answers whether a call of its provider was refused.
+fn say_line(alloc: Global, value: &Value, said: &mut Said) -> Result<bool, ReadError> {
     let name = read_text(value.get("name").ok_or(ReadError::BadForm)?)?;
-    said.tell_path("world ", name, "");
-    tell_world(alloc, value, said)
+    said.say_path("world ", name, "");
+    say_world(alloc, value, said)
 }
 
-fn tell_refused(error: ReadError, said: &mut Said) {
+fn say_refused(error: ReadError, said: &mut Said) {
     match error {
-        ReadError::BadForm => said.tell("\n  bad form"),
+        ReadError::BadForm => said.say("\n  bad form"),
         ReadError::OutOfMemory => said.lack(),
     }
 }
 
-fn tell_text(alloc: Global, line: &str, said: &mut Said) -> bool {
+fn say_text(alloc: Global, line: &str, said: &mut Said) -> bool {
     match Value::from_str(alloc, line) {
-        Ok(value) => match tell_line(alloc, &value, said) {
+        Ok(value) => match say_line(alloc, &value, said) {
             Ok(has_refused) => return has_refused,
-            Err(error) => tell_refused(error, said),
+            Err(error) => say_refused(error, said),
         },
-        Err(_) => said.tell("no JSON"),
+        Err(_) => said.say("no JSON"),
     }
     false
 }
@@ -87,7 +87,7 @@ fn tell_text(alloc: Global, line: &str, said: &mut Said) -> bool {
 /// Runs the world of a line. Answers whether a call of its provider was refused.
 fn run_line(rt: &HostRuntime, line: &str) -> io::Result<bool> {
     let mut said = Said::new(rt.alloc());
-    let has_refused = tell_text(rt.alloc(), line, &mut said);
+    let has_refused = say_text(rt.alloc(), line, &mut said);
     println!(rt; "{}", said.text().unwrap_or("out of memory"))?;
     Ok(has_refused)
 }

@@ -8,9 +8,9 @@ use Rattle.std.specs.Prelude.{string_bytes}
 use Rattle.url.specs.Parts.{serialize}
 use Rattle.fast_check_syntax.specs.declared.source.SourceRange.{SourceRange}
 use Rattle.fast_check_syntax.specs.contracts.source.SourceRangeOrd.TheImpl as range_order
-use Rattle.fast_check_demands.specs.contracts.fault.FaultKindOrd.TheImpl as kind_order
-use Rattle.fast_check_demands.specs.declared.fault.FaultKind.{FaultKind}
-use Rattle.fast_check_demands.specs.declared.fault.FaultKind.TheVariants.{PrivateMember, NotFound, TooComplex}
+use Rattle.fast_check_demands.specs.contracts.fault.DemandFaultKindOrd.TheImpl as kind_order
+use Rattle.fast_check_demands.specs.declared.fault.DemandFaultKind.{DemandFaultKind}
+use Rattle.fast_check_demands.specs.declared.fault.DemandFaultKind.TheVariants.{PrivateMember, NotFound, TooComplex}
 use Rattle.fast_check_diagnostics.specs.PublicRanges.{same_range}
 use Rattle.fast_check_findings.specs.Diagnostics.{same_kind}
 use Rattle.fast_check_findings.specs.Faults.{PlacedFault}
@@ -19,7 +19,7 @@ use Rattle.fast_check_findings.specs.declared.demand_fault.DemandFault.{DemandFa
 use Rattle.fast_check_findings.specs.Diagnostics.{same_fault}
 use Rattle.fast_check_findings.specs.Faults.{placed_with}
 
-kinds_tie : (a b : FaultKind) → same_kind a b ≡ is_eq (kind_order.cmp-value.it a b)
+kinds_tie : (a b : DemandFaultKind) → same_kind a b ≡ is_eq (kind_order.cmp-value.it a b)
 kinds_tie PrivateMember PrivateMember = refl
 kinds_tie PrivateMember NotFound = refl
 kinds_tie PrivateMember TooComplex = refl
@@ -52,7 +52,7 @@ and_both false b h g = h
 same_number : (n : ℕ) → (n == n) ≡ true
 same_number n = (unsigned_Decides n n).1 refl
 
-kind_itself : (k : FaultKind) → same_kind k k ≡ true
+kind_itself : (k : DemandFaultKind) → same_kind k k ≡ true
 kind_itself PrivateMember = refl
 kind_itself NotFound = refl
 kind_itself TooComplex = refl

@@ -6,8 +6,8 @@ use Rattle.fast_check_diagnostics.specs.declared.diagnostics.FastCheckDiagnostic
 use Rattle.std.specs.Str.{bytes_eq}
 use Rattle.url.specs.Parts.{serialize}
 use Rattle.fast_check_diagnostics.specs.PublicRanges.{same_range}
-use Rattle.fast_check_demands.specs.declared.fault.FaultKind.{FaultKind}
-use Rattle.fast_check_demands.specs.declared.fault.FaultKind.TheVariants.{PrivateMember, NotFound, TooComplex}
+use Rattle.fast_check_demands.specs.declared.fault.DemandFaultKind.{DemandFaultKind}
+use Rattle.fast_check_demands.specs.declared.fault.DemandFaultKind.TheVariants.{PrivateMember, NotFound, TooComplex}
 use Rattle.fast_check_findings.specs.Faults.{PlacedFault, placed_in, demand_fault}
 use Rattle.fast_check_findings.specs.declared.demand_fault.DemandFault.{DemandFault}
 
@@ -23,7 +23,7 @@ tells test d = where_found test (demand_fault d)
 abbrev pub any_fault : PlacedFault → Bool
 any_fault r = true
 
-abbrev pub same_kind : FaultKind → FaultKind → Bool
+abbrev pub same_kind : DemandFaultKind → DemandFaultKind → Bool
 same_kind PrivateMember PrivateMember = true
 same_kind NotFound NotFound = true
 same_kind TooComplex TooComplex = true

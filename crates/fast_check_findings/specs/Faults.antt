@@ -16,22 +16,22 @@ use Rattle.fast_check_diagnostics.specs.declared.diagnostics.FastCheckDiagnostic
 use Rattle.fast_check_diagnostics.specs.declared.diagnostics.FastCheckDiagnostic.TheVariants.{NotFoundReference}
 use Rattle.fast_check_diagnostics.specs.declared.diagnostics.FastCheckDiagnostic.TheVariants.{UnsupportedComplexReference}
 use Rattle.fast_check_diagnostics.specs.declared.diagnostics.FastCheckDiagnostic.TheVariants.{UnsupportedPrivateMemberReference}
-use Rattle.fast_check_demands.specs.declared.fault.FaultKind.{FaultKind}
-use Rattle.fast_check_demands.specs.declared.fault.FaultKind.TheVariants.{PrivateMember, NotFound, TooComplex}
+use Rattle.fast_check_demands.specs.declared.fault.DemandFaultKind.{DemandFaultKind}
+use Rattle.fast_check_demands.specs.declared.fault.DemandFaultKind.TheVariants.{PrivateMember, NotFound, TooComplex}
 use Rattle.fast_check_demands.specs.Yields.{Fault}
 use Rattle.fast_check_findings.specs.declared.demand_fault.DemandFault.{DemandFault}
 use Rattle.fast_check_findings.specs.declared.demand_fault.FaultyModule.{FaultyModule}
 
 -- of which kind, in which module and source text, at which place in it, the name that was asked for, and who asked
 pub record PlacedFault : Type 0 where
-  pub kind : FaultKind
+  pub kind : DemandFaultKind
   pub specifier : Parts
   pub text : List ℕ
   pub range : SourceRange
   pub name : List ℕ
   pub referrer : List ℕ
 
-abbrev pub placed_of : FaultKind → FastCheckDiagnosticRange → List ℕ → List ℕ → PlacedFault
+abbrev pub placed_of : DemandFaultKind → FastCheckDiagnosticRange → List ℕ → List ℕ → PlacedFault
 placed_of kind place name referrer =
     record {
       kind = kind;

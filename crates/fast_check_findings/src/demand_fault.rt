@@ -9,7 +9,7 @@ ghost use Rattle.fast_check_symbols.specs.Symbols.{symbol_of};
 ghost use Rattle.fast_check_demands.specs.Yields.{fault_seen};
 ghost use Rattle.fast_check_findings.specs.Faults.{placed_in, name_of, full_name, below, first_range, first_of, source_of, placed_at, placed};
 
-use fast_check_demands::{CheckedTables, FaultKind, SourceRange, SymbolFault, SymbolId};
+use fast_check_demands::{CheckedTables, DemandFaultKind, SourceRange, SymbolFault, SymbolId};
 use fast_check_symbols::Symbol;
 use std::alloc::{AllocError, Global};
 use std::rc::RcStr;
@@ -28,7 +28,7 @@ pub struct FaultyModule<'a> {
 #[derive(PartialEq, Eq, PartialOrd, Ord, Drop)]
 pub struct DemandFault {
     pub range: SourceRange,
-    pub kind: FaultKind,
+    pub kind: DemandFaultKind,
     /// The name that was asked for.
     pub name: String,
     /// The name of the symbol that asked.

@@ -7,7 +7,7 @@ ghost use Rattle.fast_check_findings.specs.Faults.{PlacedFault, placed_with, dem
 ghost use Rattle.fast_check_findings.specs.Diagnostics.{IsFair, passes, is_other, tell_one_fault, tells};
 
 use crate::demand_fault::DemandFault;
-use fast_check_demands::FaultKind;
+use fast_check_demands::DemandFaultKind;
 use fast_check_diagnostics::{FastCheckDiagnostic, FastCheckDiagnosticRange};
 use std::alloc::{AllocError, Global};
 use std::collections::BTreeMap;
@@ -31,17 +31,17 @@ fn diagnostic_of(fault: DemandFault, text_info: RcStr) -> FastCheckDiagnostic
         text_info,
     };
     match kind {
-        FaultKind::PrivateMember => FastCheckDiagnostic::UnsupportedPrivateMemberReference {
+        DemandFaultKind::PrivateMember => FastCheckDiagnostic::UnsupportedPrivateMemberReference {
             range,
             name,
             referrer,
         },
-        FaultKind::NotFound => FastCheckDiagnostic::NotFoundReference {
+        DemandFaultKind::NotFound => FastCheckDiagnostic::NotFoundReference {
             range,
             name,
             referrer,
         },
-        FaultKind::TooComplex => FastCheckDiagnostic::UnsupportedComplexReference {
+        DemandFaultKind::TooComplex => FastCheckDiagnostic::UnsupportedComplexReference {
             range,
             name,
             referrer,

@@ -13,7 +13,7 @@ use fast_check_links::static_sources;
 use fast_check_modules::EsModuleInfo;
 use fast_check_modules::diagnostics::{FastCheckDiagnostic, ModulePublicRanges};
 use fast_check_parsed_source::{FastCheckModule, ModuleInfo, WorkspaceMember};
-use fast_check_transform_faults::tell;
+use fast_check_transform_faults::diagnose;
 use std::alloc::{AllocError, Global};
 
 /// How modules are transformed.
@@ -55,7 +55,7 @@ pub fn transform(
     } = keep_module(alloc, graph, es_module_info, public_ranges)?;
     if !faults.is_empty() {
         let first_alone = options.should_error_on_first_diagnostic;
-        return Ok(Err(tell(alloc, es_module_info, faults, first_alone)?));
+        return Ok(Err(diagnose(alloc, es_module_info, faults, first_alone)?));
     }
     let sources = static_sources(alloc, program.read())?;
     Ok(Ok(FastCheckModule {

@@ -1,3 +1,4 @@
+pub mod Copies
 mod Depth
 mod Parts
 mod Turns

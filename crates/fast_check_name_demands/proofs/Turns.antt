@@ -1,8 +1,6 @@
 -- The turns of the walk through a set's names.
-use Rattle.std.proofs.Common.{◌≡◌, ◌∙◌, sym, ap, refl, subst, ◌≤◌, List, [], ◌∷◌, ◌++◌, length, String, string_bytes, append_assoc, arith}
+use Rattle.std.proofs.Common.{◌≡◌, ◌∙◌, sym, ap, refl, subst, ◌≤◌, List, [], ◌∷◌, ◌++◌, length, append_assoc, arith}
 use Rattle.std.specs.Prelude.{◌⊎◌}
-use Rattle.std.specs.List.{AllZip}
-use Rattle.std.specs.declared.alloc.Global.{Global}
 use Rattle.std.proofs.lemmas.List.{append-nil}
 use Rattle.std.proofs.lemmas.List.Elements.{Contains-append_left, Contains-push}
 use Rattle.fast_check_names.specs.declared.lattice.named_subset.Exports.{Exports}
@@ -10,7 +8,7 @@ use Rattle.fast_check_names.specs.declared.lattice.named_subset.Exports.TheVaria
 use Rattle.fast_check_names.specs.declared.lattice.named_subset.NamedSubset.{NamedSubset}
 use Rattle.fast_check_names.specs.declared.lattice.imported_exports.ImportedExports.{ImportedExports}
 use Rattle.fast_check_names.specs.declared.lattice.imported_exports.ImportedExports.TheVariants.{Star, StarWithDefault}
-use Rattle.fast_check_names.specs.Names.{Path, path_of, paths, paths_below, IsListed}
+use Rattle.fast_check_names.specs.Names.{Path, paths, paths_below, IsListed}
 use Rattle.fast_check_names.specs.Imports.{names_but_default, each_name}
 use Rattle.fast_check_demands.specs.symbol_demands.declared.demand.Extent.TheVariants.{Touched, Whole}
 use Rattle.fast_check_name_demands.specs.Files.{path_demand}
@@ -19,14 +17,6 @@ use Rattle.fast_check_name_demands.proofs.Depth.{depth, depth_below, below_depth
 use Rattle.fast_check_name_demands.proofs.Parts.{Demands, Entry, IsPartOfEach, below_name, name_of, entry_paths, gains_one, gains_both}
 use Rattle.fast_check_name_demands.proofs.Parts.{gains_as, part_of_all, part_of_subset, parts_by_name, parts_more, of_star, but_default}
 use Rattle.fast_check_name_demands.proofs.Parts.{with_default}
-
--- copies of names spell the same path
-pub copied_path : (parts copies : List (String Global)) → AllZip (λ s t. string_bytes t ≡ string_bytes s) parts copies →
-    path_of copies ≡ path_of parts
-copied_path [] [] h = refl
-copied_path [] (t ∷ copies) h = absurd h
-copied_path (s ∷ parts) [] h = absurd h
-copied_path (s ∷ parts) (t ∷ copies) h = ap (λ n. n ∷ path_of copies) h.0 ∙ ap (λ p. string_bytes s ∷ p) (copied_path parts copies h.1)
 
 pub pushed_whole : (path : Path) (x : Exports) → x ≡ All → (old new : Demands) → new ≡ old ++ path_demand path Whole ∷ [] →
     Gains (IsPartOf path (paths_below x)) old new

@@ -21,8 +21,8 @@ use Rattle.fast_check_demands.specs.symbol_demands.declared.demand.Extent.TheVar
 use Rattle.fast_check_demands.specs.Demands.{Demand, Asked, by_reference, as_child, by_path}
 use Rattle.fast_check_demands.specs.Decls.{binds, is_implementation}
 use Rattle.fast_check_demands.specs.Rules.{each_of}
-use Rattle.fast_check_name_demands.specs.declared.want.WantedNames.{WantedNames}
-use Rattle.fast_check_name_demands.specs.declared.want.WantedNames.TheVariants as wanted
+use Rattle.fast_check_name_demands.specs.declared.want.NameDemand.{NameDemand as Single}
+use Rattle.fast_check_name_demands.specs.declared.want.NameDemand.TheVariants as singles
 use Rattle.fast_check_name_demands.specs.declared.want.FileWant.{FileWant}
 
 -- what is asked of the file that a text names
@@ -40,11 +40,10 @@ path_demand (n ∷ p) Touched = subset_at (n ∷ p)
 path_demand (n ∷ p) Whole = whole_at (n ∷ p)
 
 -- what a value of the code stands for
-abbrev pub names_of : WantedNames → NameDemand
-names_of wanted.AllButDefault = names_but_default
-names_of wanted.All = each_name
-names_of wanted.Nothing = subset_at []
-names_of (wanted.Path first rest extent) = path_demand (first.now ∷ path_of rest.now) extent
+abbrev pub names_of : Single → NameDemand
+names_of singles.AllButDefault = names_but_default
+names_of singles.All = each_name
+names_of (singles.Path names extent) = path_demand (path_of names.items) extent
 
 abbrev pub file_demand_of : FileWant → FileDemand
 file_demand_of w = wants w.specifier.now (names_of w.names)

@@ -3,19 +3,11 @@
 use Rattle.std.specs.Prelude.{◌≡◌, ◌↔◌, ◌⊎◌, Bool, false, List, [], ◌++◌, IsTrue}
 use Rattle.std.specs.List.{Contains}
 use Rattle.fast_check_names.specs.declared.lattice.imported_exports.ImportedExports.{ImportedExports}
-use Rattle.fast_check_names.specs.Names.{Path, path_of, NameSet, has_subset, has_whole}
-use Rattle.fast_check_names.specs.Imports.{NameDemand, names_but_default, each_name, subset_at, demands}
+use Rattle.fast_check_names.specs.Names.{Path, NameSet, has_subset, has_whole}
+use Rattle.fast_check_names.specs.Imports.{NameDemand, subset_at, demands}
 use Rattle.fast_check_demands.specs.symbol_demands.declared.demand.Extent.{Extent}
 use Rattle.fast_check_demands.specs.symbol_demands.declared.demand.Extent.TheVariants.{Touched, Whole}
 use Rattle.fast_check_name_demands.specs.Files.{path_demand}
-use Rattle.fast_check_name_demands.specs.declared.single.NameDemand.{NameDemand as Single}
-use Rattle.fast_check_name_demands.specs.declared.single.NameDemand.TheVariants as singles
-
--- what a value of the code stands for
-abbrev pub demand_of : Single → NameDemand
-demand_of singles.AllButDefault = names_but_default
-demand_of singles.All = each_name
-demand_of (singles.Path names extent) = path_demand (path_of names.items) extent
 
 -- whether a set demands the path to this extent: as a subset, or whole and nothing shorter
 abbrev pub is_demanded_at : NameSet → Path → Extent → Bool

@@ -9,5 +9,5 @@ mod want;
 pub use fast_check_demands as demands;
 pub use list::FileWants;
 pub use references::push_files;
-pub use single::{NameDemand, name_demands, wanted_names};
-pub use want::{FileWant, WantedNames, by_path};
+pub use single::name_demands;
+pub use want::{FileWant, NameDemand};

@@ -2,7 +2,7 @@
 ghost use Rattle.std.specs.Prelude.{◌≡◌, [], ◌∷◌, ◌++◌, map, OnOk};
 ghost use Rattle.fast_check_name_demands.specs.Files.{file_demand_of};
 
-use crate::want::{FileWant, WantedNames};
+use crate::want::{FileWant, NameDemand};
 use std::alloc::{AllocError, Global};
 use std::marker::Model;
 
@@ -34,8 +34,8 @@ impl<'a> FileWants<'a> {
     }
 
     /// One more.
-    pub fn push(&mut self, specifier: &'a str, names: WantedNames<'a>) -> Result<(), AllocError>
-        ensures { OnOk result (self.new ≡ self.old ++ wants specifier.now (names_of names.entry) ∷ []) }
+    pub fn push(&mut self, specifier: &'a str, names: NameDemand) -> Result<(), AllocError>
+        ensures { OnOk result (self.new ≡ self.old ++ wants specifier.now (names_of names) ∷ []) }
     {
         self.items.push(FileWant { specifier, names })?;
         Ok(())

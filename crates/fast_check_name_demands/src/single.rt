@@ -2,23 +2,12 @@
 ghost use Rattle.std.specs.Prelude.{◌≡◌, [], ◌∷◌, ◌++◌, map, OnOk, IfOk, string_bytes};
 ghost use Rattle.fast_check_names.specs.Names.{path_of, paths, paths_below};
 ghost use Rattle.fast_check_name_demands.specs.Files.{names_of};
-ghost use Rattle.fast_check_name_demands.specs.NameDemands.{demand_of, IsPartOf, Gains, AreDemands};
+ghost use Rattle.fast_check_name_demands.specs.NameDemands.{IsPartOf, Gains, AreDemands};
 
-use crate::want::{WantedNames, by_path};
+use crate::want::NameDemand;
 use fast_check_demands::Extent;
 use fast_check_names::{Exports, ImportedExports, NamedSubset};
 use std::alloc::{AllocError, Global};
-
-/// A single thing that is demanded of a module.
-#[derive(Drop)]
-pub enum NameDemand {
-    /// Each export but `default`.
-    AllButDefault,
-    /// Each export.
-    All,
-    /// What a path of names leads to; without names, that the module is there.
-    Path(Vec<String>, Extent),
-}
 
 /// The path and one more name below it.
 fn longer(alloc: Global, path: &[String], name: String) -> Result<Vec<String>, AllocError>
@@ -37,7 +26,7 @@ fn push_below(
     exports: Exports,
     out: &mut Vec<NameDemand>,
 ) -> Result<(), AllocError>
-    ensures { OnOk result (Gains (IsPartOf (path_of path.items) (paths_below exports)) (map demand_of out.old.items) (map demand_of out.new.items)) }
+    ensures { OnOk result (Gains (IsPartOf (path_of path.items) (paths_below exports)) (map names_of out.old.items) (map names_of out.new.items)) }
 {
     match exports {
         Exports::All => {
@@ -60,7 +49,7 @@ fn push_names(
     names: NamedSubset,
     out: &mut Vec<NameDemand>,
 ) -> Result<(), AllocError>
-    ensures { OnOk result (Gains (IsPartOf (path_of path.now) (paths names)) (map demand_of out.old.items) (map demand_of out.new.items)) }
+    ensures { OnOk result (Gains (IsPartOf (path_of path.now) (paths names)) (map names_of out.old.items) (map names_of out.new.items)) }
 {
     for (name, exports) in names.into_names(alloc)? {
         let below = longer(alloc, path, name)?;
@@ -70,7 +59,7 @@ fn push_names(
 }
 
 fn demands_of_set(alloc: Global, names: NamedSubset) -> Result<Vec<NameDemand>, AllocError>
-    ensures { IfOk result (λ out. AreDemands (ImportedExports.Subset names) (map demand_of out.items)) }
+    ensures { IfOk result (λ out. AreDemands (ImportedExports.Subset names) (map names_of out.items)) }
 {
     let mut out = Vec::new(alloc);
     if names.is_empty() {
@@ -83,35 +72,11 @@ fn demands_of_set(alloc: Global, names: NamedSubset) -> Result<Vec<NameDemand>, 
 
 /// The single things that a value demands of a module, in no promised order. Of no names, that the module is there.
 pub fn name_demands(alloc: Global, exports: ImportedExports) -> Result<Vec<NameDemand>, AllocError>
-    ensures { IfOk result (λ out. AreDemands exports (map demand_of out.items)) }
+    ensures { IfOk result (λ out. AreDemands exports (map names_of out.items)) }
 {
     match exports {
         ImportedExports::Star => Ok(vec![in alloc; NameDemand::AllButDefault]?),
         ImportedExports::StarWithDefault => Ok(vec![in alloc; NameDemand::All]?),
         ImportedExports::Subset(names) => demands_of_set(alloc, names),
     }
-}
-
-fn wanted(demand: &NameDemand) -> WantedNames<'_>
-    ensures { names_of result ≡ demand_of demand.now }
-{
-    match demand {
-        NameDemand::AllButDefault => WantedNames::AllButDefault,
-        NameDemand::All => WantedNames::All,
-        NameDemand::Path(names, extent) => by_path(names.as_slice(), *extent),
-    }
-}
-
-/// The same single things, as the rules of a module that is followed take them.
-pub fn wanted_names(
-    alloc: Global,
-    demands: &[NameDemand],
-) -> Result<Vec<WantedNames<'_>>, AllocError>
-    ensures { IfOk result (λ out. map names_of out.items ≡ map demand_of demands.now) }
-{
-    let mut out = Vec::new(alloc);
-    for demand in demands {
-        out.push(wanted(demand))?;
-    }
-    Ok(out)
 }

@@ -7,9 +7,10 @@ ghost use Rattle.fast_check_package_answers.specs.Reasons.{Tells, reasons_in_tre
 ghost use Rattle.fast_check_package_answers.specs.PackageAnswer.{ShowsMore, with_tree, tree_modules, OwnsModule, OwnsAll};
 ghost use Rattle.fast_check_package_answers.specs.PackageAnswer.{IsRefused, IsFoundAnswer, IsPackageAnswer};
 
+use crate::input::BuildInput;
 use crate::used::used_answers;
 use fast_check_cache::PackagePublicRanges;
-use fast_check_graph::{ModuleGraph, ModuleInfo, RootSymbol};
+use fast_check_graph::ModuleInfo;
 use fast_check_module_transform::{TransformOptions, transform};
 use fast_check_modules::EsModuleInfo;
 use fast_check_modules::diagnostics::{FastCheckDiagnostic, ModulePublicRanges};
@@ -28,24 +29,29 @@ pub type ModuleAnswer = (
 #[tactic(auto, using(crate::proofs::Lists::stays_pushed, crate::proofs::Lists::stays_same))]
 fn answer_tree(
     alloc: Global,
-    graph: &ModuleGraph,
+    input: BuildInput<'_>,
     es_module_info: &EsModuleInfo,
     specifier: Url,
     public_ranges: &ModulePublicRanges,
-    options: &TransformOptions,
     answers: &mut Vec<ModuleAnswer>,
 ) -> Result<Vec<FastCheckDiagnostic>, AllocError>
     requires { AreOwnRanges es_module_info.now.tables public_ranges.now }
-    ensures reasons { IfOk result (λ wrong. AllZip Tells
-        (reasons_in_tree options.now.should_error_on_first_diagnostic graph.now public_ranges.now (Some (ModuleInfo.Esm es_module_info.now)))
+    ensures reasons { let i = input.entry in IfOk result (λ wrong. AllZip Tells
+        (reasons_in_tree i.options.now.should_error_on_first_diagnostic i.graph.now public_ranges.now (Some (ModuleInfo.Esm es_module_info.now)))
         wrong.items) }
-    ensures shown { IfOk result (λ wrong. wrong.items ≡ [] → ShowsMore graph.now
+    ensures shown { let i = input.entry in IfOk result (λ wrong. wrong.items ≡ [] → ShowsMore i.graph.now
         (with_tree (specifier, public_ranges.now) (Some (ModuleInfo.Esm es_module_info.now))) answers.old.items answers.new.items) }
     ensures stay { OnOk result (take (length answers.old.items) answers.new.items ≡ answers.old.items) }
 {
     // Ranges of the module's own tables are admitted.
     let _ = es_module_info.admits(public_ranges);
-    match transform(alloc, graph, es_module_info, public_ranges, options)? {
+    match transform(
+        alloc,
+        input.graph,
+        es_module_info,
+        public_ranges,
+        input.options,
+    )? {
         Ok(made) => {
             answers.push((specifier, Ok(made)))?;
             Ok(Vec::new(alloc))
@@ -58,29 +64,26 @@ fn answer_tree(
 #[tactic(auto, using(crate::proofs::Lists::stays_pushed, crate::proofs::Lists::stays_same))]
 fn answer_if_tree(
     alloc: Global,
-    graph: &ModuleGraph,
-    root_symbol: &RootSymbol,
+    input: BuildInput<'_>,
     specifier: Url,
     public_ranges: &ModulePublicRanges,
-    options: &TransformOptions,
     answers: &mut Vec<ModuleAnswer>,
 ) -> Result<Vec<FastCheckDiagnostic>, AllocError>
-    requires { OwnsModule root_symbol.now (specifier, public_ranges.now) }
-    ensures reasons { IfOk result (λ wrong. AllZip Tells
-        (reasons_in_tree options.now.should_error_on_first_diagnostic graph.now public_ranges.now (found_module root_symbol.now specifier))
+    requires { OwnsModule input.root_symbol.now (specifier, public_ranges.now) }
+    ensures reasons { let i = input.entry in IfOk result (λ wrong. AllZip Tells
+        (reasons_in_tree i.options.now.should_error_on_first_diagnostic i.graph.now public_ranges.now (found_module i.root_symbol.now specifier))
         wrong.items) }
-    ensures shown { IfOk result (λ wrong. wrong.items ≡ [] → ShowsMore graph.now
-        (with_tree (specifier, public_ranges.now) (found_module root_symbol.now specifier)) answers.old.items answers.new.items) }
+    ensures shown { let i = input.entry in IfOk result (λ wrong. wrong.items ≡ [] → ShowsMore i.graph.now
+        (with_tree (specifier, public_ranges.now) (found_module i.root_symbol.now specifier)) answers.old.items answers.new.items) }
     ensures stay { OnOk result (take (length answers.old.items) answers.new.items ≡ answers.old.items) }
 {
-    match root_symbol.module_from_specifier(&specifier) {
+    match input.root_symbol.module_from_specifier(&specifier) {
         Some(ModuleInfo::Esm(info)) => answer_tree(
             alloc,
-            graph,
+            input,
             info,
             specifier,
             public_ranges,
-            options,
             answers,
         ),
         _ => Ok(Vec::new(alloc)),
@@ -92,31 +95,21 @@ fn answer_if_tree(
 #[tactic(auto, using(crate::proofs::Lists::stays_pushed, crate::proofs::Lists::stays_same))]
 fn answer_module(
     alloc: Global,
-    graph: &ModuleGraph,
-    root_symbol: &RootSymbol,
+    input: BuildInput<'_>,
     specifier: Url,
     mut public_ranges: ModulePublicRanges,
-    options: &TransformOptions,
     answers: &mut Vec<ModuleAnswer>,
 ) -> Result<Vec<FastCheckDiagnostic>, AllocError>
-    requires { OwnsModule root_symbol.now (specifier, public_ranges) }
-    ensures reasons { IfOk result (λ wrong. AllZip Tells
-        (module_reasons options.now.should_error_on_first_diagnostic graph.now root_symbol.now (specifier, public_ranges)) wrong.items) }
-    ensures shown { IfOk result (λ wrong. wrong.items ≡ [] → ShowsMore graph.now
-        (with_tree (specifier, public_ranges) (found_module root_symbol.now specifier)) answers.old.items answers.new.items) }
+    requires { OwnsModule input.root_symbol.now (specifier, public_ranges) }
+    ensures reasons { let i = input.entry in IfOk result (λ wrong. AllZip Tells
+        (module_reasons i.options.now.should_error_on_first_diagnostic i.graph.now i.root_symbol.now (specifier, public_ranges)) wrong.items) }
+    ensures shown { let i = input.entry in IfOk result (λ wrong. wrong.items ≡ [] → ShowsMore i.graph.now
+        (with_tree (specifier, public_ranges) (found_module i.root_symbol.now specifier)) answers.old.items answers.new.items) }
     ensures stay { OnOk result (take (length answers.old.items) answers.new.items ≡ answers.old.items) }
 {
     let found = public_ranges.take_diagnostics();
     if found.is_empty() {
-        return answer_if_tree(
-            alloc,
-            graph,
-            root_symbol,
-            specifier,
-            &public_ranges,
-            options,
-            answers,
-        );
+        return answer_if_tree(alloc, input, specifier, &public_ranges, answers);
     }
     Ok(found)
 }
@@ -151,33 +144,23 @@ fn ends_early(options: &TransformOptions, wrong: &[FastCheckDiagnostic]) -> bool
 /// that one, or of all where nothing is wrong, go to the answers, in order.
 pub(crate) fn answer_modules(
     alloc: Global,
-    graph: &ModuleGraph,
-    root_symbol: &RootSymbol,
+    input: BuildInput<'_>,
     module_ranges: BTreeMap<Url, ModulePublicRanges>,
-    options: &TransformOptions,
     answers: &mut Vec<ModuleAnswer>,
 ) -> Result<Vec<FastCheckDiagnostic>, AllocError>
-    requires { OwnsAll root_symbol.now module_ranges.entries }
-    ensures reasons { IfOk result (λ wrong. AllZip Tells
-        (package_reasons options.now.should_error_on_first_diagnostic graph.now root_symbol.now module_ranges.entries) wrong.items) }
-    ensures shown { OnOk result (ShowsMore graph.now
-        (tree_modules root_symbol.now (sound_front options.now.should_error_on_first_diagnostic graph.now root_symbol.now module_ranges.entries))
+    requires { OwnsAll input.root_symbol.now module_ranges.entries }
+    ensures reasons { let i = input.entry in IfOk result (λ wrong. AllZip Tells
+        (package_reasons i.options.now.should_error_on_first_diagnostic i.graph.now i.root_symbol.now module_ranges.entries) wrong.items) }
+    ensures shown { let i = input.entry in OnOk result (ShowsMore i.graph.now
+        (tree_modules i.root_symbol.now (sound_front i.options.now.should_error_on_first_diagnostic i.graph.now i.root_symbol.now module_ranges.entries))
         answers.old.items answers.new.items) }
 {
     let mut wrong = Vec::new(alloc);
     for (specifier, public_ranges) in module_ranges {
         let answered = answers.len();
-        let more = answer_module(
-            alloc,
-            graph,
-            root_symbol,
-            specifier,
-            public_ranges,
-            options,
-            answers,
-        )?;
+        let more = answer_module(alloc, input, specifier, public_ranges, answers)?;
         add_wrong(more, &mut wrong, answered, answers)?;
-        if ends_early(options, &wrong) {
+        if ends_early(input.options, &wrong) {
             return Ok(wrong);
         }
     }
@@ -230,14 +213,12 @@ pub(crate) fn skeletons_or_wrong(
 /// The answer of a package that no cache answers.
 fn answer_found(
     alloc: Global,
-    graph: &ModuleGraph,
-    root_symbol: &RootSymbol,
+    input: BuildInput<'_>,
     package_ranges: PackagePublicRanges,
-    options: &TransformOptions,
 ) -> Result<Vec<ModuleAnswer>, AllocError>
-    requires own { OwnsAll root_symbol.now package_ranges.module_ranges.entries }
-    ensures { IfOk result (λ answers.
-        IsFoundAnswer graph.now root_symbol.now package_ranges options.now.should_error_on_first_diagnostic answers.items) }
+    requires own { OwnsAll input.root_symbol.now package_ranges.module_ranges.entries }
+    ensures { let i = input.entry in IfOk result (λ answers.
+        IsFoundAnswer i.graph.now i.root_symbol.now package_ranges i.options.now.should_error_on_first_diagnostic answers.items) }
 {
     let PackagePublicRanges {
         entrypoints,
@@ -246,14 +227,7 @@ fn answer_found(
         dependencies: _,
     } = package_ranges;
     let mut skeletons = Vec::new(alloc);
-    let wrong = answer_modules(
-        alloc,
-        graph,
-        root_symbol,
-        module_ranges,
-        options,
-        &mut skeletons,
-    )?;
+    let wrong = answer_modules(alloc, input, module_ranges, &mut skeletons)?;
     let answers = skeletons_or_wrong(alloc, entrypoints, skeletons, &wrong)?;
     Ok(answers)
 }
@@ -269,17 +243,15 @@ fn answer_found(
 #[tactic(auto, using(crate::proofs::Turns::by_found, crate::proofs::Turns::by_used))]
 pub fn answer_package(
     alloc: Global,
-    graph: &ModuleGraph,
-    root_symbol: &RootSymbol,
+    input: BuildInput<'_>,
     package_ranges: PackagePublicRanges,
-    options: &TransformOptions,
 ) -> Result<Vec<ModuleAnswer>, AllocError>
-    requires own { OwnsAll root_symbol.now package_ranges.module_ranges.entries }
-    ensures { IfOk result (λ answers.
-        IsPackageAnswer graph.now root_symbol.now package_ranges options.now.should_error_on_first_diagnostic answers.items) }
+    requires own { OwnsAll input.root_symbol.now package_ranges.module_ranges.entries }
+    ensures { let i = input.entry in IfOk result (λ answers.
+        IsPackageAnswer i.graph.now i.root_symbol.now package_ranges i.options.now.should_error_on_first_diagnostic answers.items) }
 {
     if package_ranges.cache_items.is_empty() {
-        let answers = answer_found(alloc, graph, root_symbol, package_ranges, options)?;
+        let answers = answer_found(alloc, input, package_ranges)?;
         return Ok(answers);
     }
     let answers = used_answers(alloc, package_ranges.cache_items)?;

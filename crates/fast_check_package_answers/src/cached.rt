@@ -7,27 +7,24 @@ ghost use Rattle.fast_check_package_answers.specs.Kept.{item_for, with_package};
 ghost use Rattle.fast_check_package_answers.specs.PackageAnswer.{IsFoundAnswer, IsPackageAnswer, OwnsAll};
 
 use crate::answer::{ModuleAnswer, answer_modules, skeletons_or_wrong};
+use crate::input::BuildInput;
 use crate::kept::keep_modules;
 use crate::used::used_answers;
 use fast_check_cache::{FastCheckCache, FastCheckCacheItem, PackagePublicRanges, key_of};
-use fast_check_graph::{ModuleGraph, RootSymbol};
-use fast_check_module_transform::TransformOptions;
 use fast_check_packages::PackageNv;
 use std::alloc::{AllocError, Global};
 
 /// The answer of a package that no cache answers, and what a cache is to keep of it.
 fn answer_and_keep(
     alloc: Global,
-    graph: &ModuleGraph,
-    root_symbol: &RootSymbol,
+    input: BuildInput<'_>,
     package_ranges: PackagePublicRanges,
-    options: &TransformOptions,
 ) -> Result<(Vec<ModuleAnswer>, FastCheckCacheItem), AllocError>
-    requires own { OwnsAll root_symbol.now package_ranges.module_ranges.entries }
-    ensures answered { IfOk result (λ made.
-        IsFoundAnswer graph.now root_symbol.now package_ranges options.now.should_error_on_first_diagnostic made.0.items) }
-    ensures kept { IfOk result (λ made.
-        item_of made.1 ≡ item_for options.now.should_error_on_first_diagnostic graph.now root_symbol.now package_ranges) }
+    requires own { OwnsAll input.root_symbol.now package_ranges.module_ranges.entries }
+    ensures answered { let i = input.entry in IfOk result (λ made.
+        IsFoundAnswer i.graph.now i.root_symbol.now package_ranges i.options.now.should_error_on_first_diagnostic made.0.items) }
+    ensures kept { let i = input.entry in IfOk result (λ made.
+        item_of made.1 ≡ item_for i.options.now.should_error_on_first_diagnostic i.graph.now i.root_symbol.now package_ranges) }
 {
     let PackagePublicRanges {
         entrypoints,
@@ -36,15 +33,8 @@ fn answer_and_keep(
         dependencies,
     } = package_ranges;
     let mut skeletons = Vec::new(alloc);
-    let wrong = answer_modules(
-        alloc,
-        graph,
-        root_symbol,
-        module_ranges,
-        options,
-        &mut skeletons,
-    )?;
-    let modules = keep_modules(alloc, graph, &skeletons, &wrong)?;
+    let wrong = answer_modules(alloc, input, module_ranges, &mut skeletons)?;
+    let modules = keep_modules(alloc, input.graph, &skeletons, &wrong)?;
     let answers = skeletons_or_wrong(alloc, entrypoints, skeletons, &wrong)?;
     let item = FastCheckCacheItem {
         dependencies,
@@ -58,22 +48,21 @@ fn answer_found_and_set(
     alloc: Global,
     cache: &mut dyn FastCheckCache,
     seed: &str,
-    graph: &ModuleGraph,
-    root_symbol: &RootSymbol,
+    input: BuildInput<'_>,
     nv: &PackageNv,
     package_ranges: PackagePublicRanges,
-    options: &TransformOptions,
 ) -> Result<Vec<ModuleAnswer>, AllocError>
-    requires own { OwnsAll root_symbol.now package_ranges.module_ranges.entries }
-    ensures answered { IfOk result (λ answers.
-        IsFoundAnswer graph.now root_symbol.now package_ranges options.now.should_error_on_first_diagnostic answers.items) }
-    ensures set { OnOk result (stored cache.new ≡ with_item (hash_of cache.old seed.now (nv_of nv.now) (map serialize package_ranges.entrypoints.keys))
-        (item_for options.now.should_error_on_first_diagnostic graph.now root_symbol.now package_ranges) (stored cache.old)) }
+    requires own { OwnsAll input.root_symbol.now package_ranges.module_ranges.entries }
+    ensures answered { let i = input.entry in IfOk result (λ answers.
+        IsFoundAnswer i.graph.now i.root_symbol.now package_ranges i.options.now.should_error_on_first_diagnostic answers.items) }
+    ensures set { let i = input.entry in
+        OnOk result (stored cache.new ≡ with_item (hash_of cache.old seed.now (nv_of nv.now) (map serialize package_ranges.entrypoints.keys))
+        (item_for i.options.now.should_error_on_first_diagnostic i.graph.now i.root_symbol.now package_ranges) (stored cache.old)) }
     ensures err { OnErr result (stored cache.new ≡ stored cache.old) }
     ensures hash { hash_of cache.new ≡ hash_of cache.old }
 {
     let key = key_of(&*cache, seed, nv, &package_ranges.entrypoints);
-    let (answers, item) = answer_and_keep(alloc, graph, root_symbol, package_ranges, options)?;
+    let (answers, item) = answer_and_keep(alloc, input, package_ranges)?;
     cache.set(key, item)?;
     Ok(answers)
 }
@@ -87,31 +76,21 @@ pub fn answer_and_set(
     alloc: Global,
     cache: &mut dyn FastCheckCache,
     seed: &str,
-    graph: &ModuleGraph,
-    root_symbol: &RootSymbol,
+    input: BuildInput<'_>,
     nv: &PackageNv,
     package_ranges: PackagePublicRanges,
-    options: &TransformOptions,
 ) -> Result<Vec<ModuleAnswer>, AllocError>
-    requires own { OwnsAll root_symbol.now package_ranges.module_ranges.entries }
-    ensures answered { IfOk result (λ answers.
-        IsPackageAnswer graph.now root_symbol.now package_ranges options.now.should_error_on_first_diagnostic answers.items) }
-    ensures set { OnOk result (stored cache.new ≡ with_package (hash_of cache.old seed.now) options.now.should_error_on_first_diagnostic
-        graph.now root_symbol.now (nv_of nv.now) package_ranges (stored cache.old)) }
+    requires own { OwnsAll input.root_symbol.now package_ranges.module_ranges.entries }
+    ensures answered { let i = input.entry in IfOk result (λ answers.
+        IsPackageAnswer i.graph.now i.root_symbol.now package_ranges i.options.now.should_error_on_first_diagnostic answers.items) }
+    ensures set { let i = input.entry in
+        OnOk result (stored cache.new ≡ with_package (hash_of cache.old seed.now) i.options.now.should_error_on_first_diagnostic
+        i.graph.now i.root_symbol.now (nv_of nv.now) package_ranges (stored cache.old)) }
     ensures err { OnErr result (stored cache.new ≡ stored cache.old) }
     ensures hash { hash_of cache.new ≡ hash_of cache.old }
 {
     if package_ranges.cache_items.is_empty() {
-        let answers = answer_found_and_set(
-            alloc,
-            cache,
-            seed,
-            graph,
-            root_symbol,
-            nv,
-            package_ranges,
-            options,
-        )?;
+        let answers = answer_found_and_set(alloc, cache, seed, input, nv, package_ranges)?;
         return Ok(answers);
     }
     let answers = used_answers(alloc, package_ranges.cache_items)?;

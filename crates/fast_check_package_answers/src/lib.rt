@@ -4,6 +4,7 @@
 
 mod answer;
 mod cached;
+mod input;
 mod kept;
 mod law;
 mod packages;
@@ -11,5 +12,6 @@ mod used;
 
 pub use answer::{ModuleAnswer, answer_package};
 pub use fast_check_module_transform as transform;
+pub use input::BuildInput;
 pub use law::first_alone;
 pub use packages::{answer_all, answer_and_set_all};

@@ -1,3 +1,4 @@
 pub mod Beginnings
 pub mod First
+pub mod MembersFound
 pub mod Rows

@@ -3,6 +3,8 @@
 
 mod fault;
 mod listed;
+mod member_places;
+mod members;
 mod package;
 mod packages;
 mod provider;
@@ -11,6 +13,7 @@ mod texts;
 pub use crate::package::{PackageNv, WorkspaceMember};
 pub use fault::BuildFault;
 pub use listed::ListedPackages;
+pub use members::IndexedMembers;
 pub use packages::IndexedPackages;
 pub use provider::JsrUrlProvider;
 pub use texts::TextIndex;

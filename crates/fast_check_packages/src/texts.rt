@@ -20,7 +20,7 @@ pub struct TextIndex {
 }
 
 /// The earlier of two places.
-fn earlier(place: Option<usize>, other: Option<usize>) -> Option<usize>
+pub(crate) fn earlier(place: Option<usize>, other: Option<usize>) -> Option<usize>
     ensures { result ≡ earlier place other }
 {
     match (place, other) {
@@ -36,7 +36,7 @@ fn earlier(place: Option<usize>, other: Option<usize>) -> Option<usize>
 }
 
 /// Puts the place of a text, unless the text has one.
-fn put_first(
+pub(crate) fn put_first(
     alloc: Global,
     places: &mut BTreeMap<Vec<u8>, usize>,
     text: &[u8],

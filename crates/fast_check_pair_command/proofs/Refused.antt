@@ -54,7 +54,7 @@ zero_or_one (Err ds) (Err es) = lit< tt
 pub answer_status : (asked : PairRequest) (line : List ℕ) (status : ℕ) → AnswersPair asked line status → status < 2
 answer_status asked line status h =
     let answer = h.answer.1 in
-    subst (λ n. n < 2) (sym answer.status_told) (zero_or_one answer.first answer.second)
+    subst (λ n. n < 2) (sym answer.status_is) (zero_or_one answer.first answer.second)
 
 -- bytes are not refused by the words, by their file or by an output
 pub of_bytes : (refusal : Refusal) (bytes : List ℕ) → RefusesBytes refusal bytes → IsOfBytes refusal

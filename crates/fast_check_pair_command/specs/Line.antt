@@ -4,8 +4,8 @@ use Rattle.serde_json.specs.Data.{Data}
 use Rattle.fast_check_graph.specs.declared.graph.ModuleGraph.{ModuleGraph}
 use Rattle.fast_check_modules.specs.EsModule.{EsModule}
 use Rattle.fast_check_modules.specs.diagnostics.PublicRanges.{PublicRanges}
-use Rattle.fast_check_print.specs.Answer.{answer_data}
-use Rattle.fast_check_print.specs.Pieces.{pair_data}
+use Rattle.fast_check_write.specs.Answer.{answer_data}
+use Rattle.fast_check_write.specs.Pieces.{pair_data}
 use Rattle.fast_check_transform_command.specs.Line.{line_of_data}
 use Rattle.fast_check_transformer.specs.Transformed.{ModuleAnswer, IsTransformed}
 
@@ -27,4 +27,4 @@ pub record IsPairAnswer (graph : ModuleGraph) (a : EsModule) (ranges_a : PublicR
   pub is_first : IsTransformed graph a ranges_a first_alone first
   pub is_second : IsTransformed graph b ranges_b first_alone second
   pub text : line ≡ line_of_data (answers_data first second)
-  pub status_told : status ≡ status_of first second
+  pub status_is : status ≡ status_of first second

@@ -1,18 +1,18 @@
 //! The line that `pair` answers.
 
 ghost use Rattle.std.specs.Prelude.{◌≡◌, IfOk, OnOk};
-ghost use Rattle.fast_check_print.specs.Writing.{WritesData};
+ghost use Rattle.fast_check_write.specs.Writing.{WritesData};
 ghost use Rattle.fast_check_transform_command.specs.Line.{line_of_data};
 ghost use Rattle.fast_check_pair_command.specs.Line.{answers_data};
 
 use fast_check_modules::diagnostics::FastCheckDiagnostic;
 use fast_check_parsed_source::FastCheckModule;
-use fast_check_print::write_answer;
+use fast_check_write::write_answer;
 use json::Writer;
 use std::alloc::{AllocError, Global};
 
 /// The answers to both modules, the first one's first, as a line of compact JSON: `[{"Ok": module}, {"Err": [diagnostic, ..]}]`.
-pub fn print_answers_line(
+pub fn line_of_answers(
     alloc: Global,
     first: &Result<FastCheckModule, Vec<FastCheckDiagnostic>>,
     second: &Result<FastCheckModule, Vec<FastCheckDiagnostic>>,

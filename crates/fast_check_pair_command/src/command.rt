@@ -9,7 +9,7 @@ ghost use Rattle.fast_check_pair_command.specs.Input.{HoldsPair, LacksPair};
 ghost use Rattle.fast_check_pair_command.specs.Line.{status_of, IsPairAnswer};
 ghost use Rattle.fast_check_pair_command.specs.Pair.{AnswersModules, RefusesModules, AnswersPair, RefusesPair, IsAnswerTo, RefusesBytes};
 
-use crate::answer::print_answers_line;
+use crate::answer::line_of_answers;
 use crate::input::read_pair;
 use crate::request::{PairRequest, Side};
 use fast_check_graph::ModuleGraph;
@@ -132,7 +132,7 @@ fn answer_modules(
     )?;
     Ok(Answer {
         status: status_of(&first, &second),
-        line: print_answers_line(alloc, &first, &second)?,
+        line: line_of_answers(alloc, &first, &second)?,
     })
 }
 

@@ -59,4 +59,4 @@ refusal_of_error read_errors.OutOfMemory = OutOfMemory
 -- and holds then, what is known
 abbrev pub IsTold : Refusal → Option (List ℕ) → Option (List ℕ) → Ending → Type 0
 IsTold refusal old new ending = (ending.status ≡ status_of refusal) ×
-    (IsTrue ending.is_told → Appends old new (line_of refusal))
+    (IsTrue ending.is_written → Appends old new (line_of refusal))

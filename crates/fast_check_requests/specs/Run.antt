@@ -44,5 +44,5 @@ HasAnswer named Answers words file = (line : List ℕ) × (status : ℕ) × Answ
 abbrev pub IsAnswered : {C : Type 0} → (List ℕ → Option C) → (C → List ℕ → List ℕ → ℕ → Type 0) → List (List ℕ) → File
     → Option (List ℕ) → Option (List ℕ) → Ending → Type 0
 IsAnswered named Answers words file old new ending =
-    IsTrue ending.is_told ×
+    IsTrue ending.is_written ×
     ((line : List ℕ) × Appends old new line × AnswersCall named Answers words file line ending.status)

@@ -5,5 +5,5 @@ pub struct Ending {
     /// The status that the program ends with.
     pub status: u8,
     /// Whether the line was taken whole: an answer by standard output, a refusal by standard error.
-    pub is_told: bool,
+    pub is_written: bool,
 }

@@ -36,11 +36,11 @@ pub fn run_commands<C: Command, R: Read + Drop, O: Write, E: Write>(
         Ok(answer) => match out.write_all(answer.line.as_slice()) {
             Ok(()) => Ending {
                 status: answer.status,
-                is_told: true,
+                is_written: true,
             },
-            Err(_) => Refusal::Unwritable.told(err),
+            Err(_) => Refusal::Unwritable.write_line(err),
         },
-        Err(refusal) => refusal.told(err),
+        Err(refusal) => refusal.write_line(err),
     }
 }
 

@@ -61,13 +61,13 @@ impl Refusal {
     }
 
     /// Writes the line, and answers the status, with whether the line was taken. A line that is not taken changes no status.
-    pub fn told<E: Write>(self, err: &mut E) -> Ending
+    pub fn write_line<E: Write>(self, err: &mut E) -> Ending
         ensures { IsTold self (E.contents err.old) (E.contents err.new) result }
     {
         let written = err.write_all(self.line().as_bytes());
         Ending {
             status: self.status(),
-            is_told: written.is_ok(),
+            is_written: written.is_ok(),
         }
     }
 }

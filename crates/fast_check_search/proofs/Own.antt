@@ -17,7 +17,7 @@ use Rattle.fast_check_name_demands.specs.demands.Yields.{decl_ranges, is_within,
 use Rattle.fast_check_name_demands.specs.demands.Yields.{asked_ranges, ranges, symbol_implementations, asked_implementations}
 use Rattle.fast_check_name_demands.specs.demands.Yields.{implementations}
 use Rattle.fast_check_name_demands.specs.demands.Account.{IsYield}
-use Rattle.fast_check_search.specs.Turn.{AreTableRanges}
+use Rattle.fast_check_search.specs.Found.{AreTableRanges}
 use Rattle.fast_check_search.proofs.Each.{Contains_first, Contains_later, contains_map, contains_flat_map, Each, each_nil, each_append}
 use Rattle.fast_check_search.proofs.Each.{each_cons, each_map, each_flat, each_cond, each_each_of}
 use Rattle.fast_check_search.proofs.Inside.{last_inside}

@@ -1,4 +1,4 @@
 pub mod Done
 pub mod Worklist
-pub mod Turn
+pub mod Found
 pub mod Universe

@@ -2,7 +2,7 @@
 #![tactic(auto)]
 
 mod done;
-mod turns;
+mod found;
 mod worklist;
 
-pub use turns::{Found, search};
+pub use found::{Found, search};

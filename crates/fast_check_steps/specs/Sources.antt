@@ -1,14 +1,15 @@
 -- What is known of modules and packages.
 use Rattle.std.specs.Prelude.{Bool, false, cond, not, ◌||◌, List, Option, Some, None, option_map, codes, nat_eq}
-use Rattle.std.specs.Prelude.{string_bytes}
-use Rattle.std.specs.List.{find, starts_with}
+use Rattle.std.specs.List.{starts_with}
 use Rattle.std.specs.Map.{lookup}
 use Rattle.std.specs.Option.{option_and_then, option_or}
 use Rattle.std.specs.Str.{bytes_eq}
 use Rattle.std.specs.Borrow.{Bor}
 use Rattle.url.specs.Parts.{Parts, serialize}
-use Rattle.fast_check_packages.specs.Package.{Nv, version_or_zero}
+use Rattle.fast_check_packages.specs.Package.{Nv}
 use Rattle.fast_check_packages.specs.declared.package.WorkspaceMember.{WorkspaceMember}
+use Rattle.fast_check_packages.specs.Members.{member_nv, member_of}
+use Rattle.fast_check_packages.specs.MembersIn.{members_in}
 use Rattle.fast_check_cache.specs.Cache.{ItemView}
 use Rattle.fast_check_graph.specs.declared.graph.ModuleGraph.{ModuleGraph}
 use Rattle.fast_check_graph.specs.declared.module.Module.{Module}
@@ -19,9 +20,6 @@ use Rattle.fast_check_graph.specs.Root.{module_named}
 use Rattle.fast_check_traces.specs.declared.modules.TracedModule.{TracedModule}
 use Rattle.fast_check_worklists.specs.Demands.{Text}
 use Rattle.fast_check_steps.specs.declared.sources.Sources.{Sources}
-
-abbrev pub member_nv : WorkspaceMember → Nv
-member_nv m = (string_bytes m.name, version_or_zero m.version)
 
 -- the item of a package with these entry points (in order, each once) that is used in place of what would be found
 abbrev pub Used : Type 0
@@ -41,10 +39,6 @@ pub record Known : Type 0 where
   pub owner : Text → Option Nv
   pub used : Used
 
--- the first member whose base begins the text
-abbrev pub member_of : List WorkspaceMember → Text → Option WorkspaceMember
-member_of members t = find (λ m. starts_with nat_eq t (serialize m.base)) members
-
 -- a file belongs to a member of the workspace, or to no package; other specifiers to what the provider says
 abbrev pub owner_by : List WorkspaceMember → (Text → Option Nv) → Text → Option Nv
 owner_by members nv_at t = cond (starts_with nat_eq t (codes "file:")) (option_map member_nv (member_of members t))
@@ -54,9 +48,9 @@ abbrev pub known : Sources → (Nv → Parts) → (Text → Option Nv) → Known
 known s url_of nv_at = record {
   graph = s.graph.now;
   root_symbol = s.root_symbol.now;
-  workspace_members = s.workspace_members.now;
+  workspace_members = members_in s.workspace_members.now;
   url_of = url_of;
-  owner = owner_by s.workspace_members.now nv_at;
+  owner = owner_by (members_in s.workspace_members.now) nv_at;
   used = none_used;
 }
 

@@ -7,7 +7,7 @@ ghost use Rattle.fast_check_worklists.specs.Demands.{asked, asked_by};
 ghost use Rattle.fast_check_steps.specs.Exports.{touched_below};
 
 use fast_check_demands::Extent;
-use fast_check_name_demands::WantedNames;
+use fast_check_name_demands::NameDemand;
 use fast_check_names::{Exports, ImportedExports, NamedSubset};
 use std::alloc::{AllocError, Global};
 
@@ -78,18 +78,27 @@ fn no_exports(alloc: Global) -> ImportedExports
     ImportedExports::Subset(NamedSubset::default(alloc))
 }
 
-/// What is asked of a module, as the lists of what was asked keep it.
-pub fn exports_of(alloc: Global, names: WantedNames<'_>) -> Result<ImportedExports, AllocError>
-    ensures { IfOk result (λ x. asked x ≡ asked_by (names_of names.entry)) }
+/// A path, as far as it is asked for; without names, the module alone.
+fn named_exports(
+    alloc: Global,
+    names: &[String],
+    extent: Extent,
+) -> Result<ImportedExports, AllocError>
+    ensures { IfOk result (λ x. asked x ≡ asked_by (path_demand (path_of names.now) extent)) }
 {
-    match names {
-        WantedNames::AllButDefault => Ok(ImportedExports::Star),
-        WantedNames::All => Ok(ImportedExports::StarWithDefault),
-        WantedNames::Nothing => Ok(no_exports(alloc)),
-        WantedNames::Path {
-            first,
-            rest,
-            extent,
-        } => path_exports(alloc, first, rest, extent),
+    match names.split_first() {
+        None => Ok(no_exports(alloc)),
+        Some((first, rest)) => path_exports(alloc, first.as_str(), rest, extent),
+    }
+}
+
+/// What is asked of a module, as the lists of what was asked keep it.
+pub fn exports_of(alloc: Global, demand: &NameDemand) -> Result<ImportedExports, AllocError>
+    ensures { IfOk result (λ x. asked x ≡ asked_by (names_of demand.now)) }
+{
+    match demand {
+        NameDemand::AllButDefault => Ok(ImportedExports::Star),
+        NameDemand::All => Ok(ImportedExports::StarWithDefault),
+        NameDemand::Path(names, extent) => named_exports(alloc, names.as_slice(), *extent),
     }
 }

@@ -1,13 +1,14 @@
 //! What is known of modules and packages beside the tables of a module.
-ghost use Rattle.std.specs.Prelude.{◌≡◌, nat_eq, option_map, IfOk};
+ghost use Rattle.std.specs.Prelude.{◌≡◌, option_map, IfOk};
 ghost use Rattle.std.specs.Option.{option_copied};
-ghost use Rattle.std.specs.List.{starts_with};
 ghost use Rattle.url.specs.Parts.{serialize};
 ghost use Rattle.fast_check_packages.specs.Package.{nv_of};
-ghost use Rattle.fast_check_steps.specs.Sources.{info_at, member_nv, member_of as member_at, owner_by, untyped_at};
+ghost use Rattle.fast_check_packages.specs.Members.{member_nv};
+ghost use Rattle.fast_check_packages.specs.MembersIn.{members_in};
+ghost use Rattle.fast_check_steps.specs.Sources.{info_at, owner_by, untyped_at};
 
 use fast_check_graph::{ModuleGraph, ModuleInfo, RootSymbol};
-use fast_check_packages::{JsrUrlProvider, PackageNv, WorkspaceMember};
+use fast_check_packages::{IndexedMembers, JsrUrlProvider, PackageNv, WorkspaceMember};
 use std::alloc::{AllocError, Global};
 use url::Url;
 
@@ -16,7 +17,7 @@ use url::Url;
 pub struct Sources<'a> {
     pub graph: &'a ModuleGraph,
     pub root_symbol: &'a RootSymbol,
-    pub workspace_members: &'a [WorkspaceMember],
+    pub workspace_members: &'a IndexedMembers<'a>,
 }
 
 /// The module that is followed under a specifier: one of the graph that is typed and has tables.
@@ -44,20 +45,6 @@ pub fn is_untyped(graph: &ModuleGraph, specifier: &Url) -> bool
     }
 }
 
-/// Whether a text begins with the base of a member.
-fn is_below(text: &str, member: &WorkspaceMember) -> bool
-    ensures { result ≡ starts_with nat_eq text.now (serialize member.now.base) }
-{
-    text.as_bytes().starts_with(member.base.as_str().as_bytes())
-}
-
-/// The first member whose base begins a text.
-fn member_of<'a>(members: &'a [WorkspaceMember], text: &str) -> Option<&'a WorkspaceMember>
-    ensures { option_copied result ≡ member_at members.now text.now }
-{
-    members.iter().find(|member| is_below(text, member))
-}
-
 /// The name and version of a member.
 fn member_nv_of(
     alloc: Global,
@@ -74,15 +61,15 @@ fn member_nv_of(
 /// The package that a specifier belongs to: that of a member of the workspace for a file, and else what the provider says.
 pub fn owner_of(
     alloc: Global,
-    members: &[WorkspaceMember],
+    members: &IndexedMembers<'_>,
     provider: &dyn JsrUrlProvider,
     specifier: &Url,
 ) -> Result<Option<PackageNv>, AllocError>
-    ensures { IfOk result (λ nv. option_map nv_of nv ≡ owner_by members.now (nv_at provider.now) (serialize specifier.now)) }
+    ensures { IfOk result (λ nv. option_map nv_of nv ≡ owner_by (members_in members.now) (nv_at provider.now) (serialize specifier.now)) }
 {
     let text = specifier.as_str();
     if text.as_bytes().starts_with(b"file:") {
-        return member_nv_of(alloc, member_of(members, text));
+        return member_nv_of(alloc, members.around(text));
     }
     provider.package_url_to_nv(specifier)
 }

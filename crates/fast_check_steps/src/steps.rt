@@ -5,6 +5,7 @@ ghost use Rattle.std.specs.Option.{option_copied};
 ghost use Rattle.std.specs.List.{flat_map};
 ghost use Rattle.url.specs.Parts.{serialize};
 ghost use Rattle.fast_check_packages.specs.Package.{nv_of};
+ghost use Rattle.fast_check_packages.specs.MembersIn.{members_in};
 ghost use Rattle.fast_check_name_demands.specs.Files.{names_of, file_demand_of};
 ghost use Rattle.fast_check_traces.specs.Wants.{want_of as want_seen, re_exported};
 ghost use Rattle.fast_check_worklists.specs.Demands.{asked, asked_by};
@@ -14,11 +15,11 @@ ghost use Rattle.fast_check_steps.specs.Wants.{file_at, behind, resolved, file_w
 
 use crate::exports::exports_of;
 use crate::sources::{Sources, owner_of};
-use fast_check_name_demands::{FileWant, FileWants, WantedNames};
+use fast_check_name_demands::{FileWant, FileWants, NameDemand};
 use fast_check_names::ImportedExports;
 use fast_check_packages::{JsrUrlProvider, PackageNv};
 use fast_check_traces::{ModuleWant, ModuleWants, TracedModule};
-use fast_check_worklists::{Step, is_same};
+use fast_check_worklists::{Step, is_same_package};
 use std::alloc::{AllocError, Global};
 use url::Url;
 
@@ -44,7 +45,7 @@ fn push_file_at(
     match owner {
         None => Ok(()),
         Some(owner) => {
-            if is_same(nv, &owner) {
+            if is_same_package(nv, &owner) {
                 out.push(Step::Module(owner, target.clone()?, exports))?;
                 return Ok(());
             }
@@ -68,7 +69,7 @@ fn push_behind(
     match owner {
         None => Ok(()),
         Some(owner) => {
-            if is_same(nv, &owner) {
+            if is_same_package(nv, &owner) {
                 out.push(Step::Module(owner, target.clone()?, exports))?;
                 return Ok(());
             }
@@ -85,14 +86,14 @@ fn push_target(
     asker: Asker<'_>,
     provider: &dyn JsrUrlProvider,
     target: &Url,
-    names: WantedNames<'_>,
+    demand: &NameDemand,
     out: &mut Vec<Step>,
 ) -> Result<(), AllocError>
     ensures { OnOk result (map want_of out.new.items
-        ≡ map want_of out.old.items ++ file_at (nv_of asker.entry.package.now) (serialize target.now) (asked_by (names_of names.entry))
-        (owner_by asker.entry.sources.workspace_members.now (nv_at provider.now) (serialize target.now))) }
+        ≡ map want_of out.old.items ++ file_at (nv_of asker.entry.package.now) (serialize target.now) (asked_by (names_of demand.now))
+        (owner_by (members_in asker.entry.sources.workspace_members.now) (nv_at provider.now) (serialize target.now))) }
 {
-    let exports = exports_of(alloc, names)?;
+    let exports = exports_of(alloc, demand)?;
     let owner = owner_of(alloc, asker.sources.workspace_members, provider, target)?;
     push_file_at(asker.package, target, exports, owner, out)
 }
@@ -103,14 +104,14 @@ fn push_left(
     asker: Asker<'_>,
     provider: &dyn JsrUrlProvider,
     target: &Url,
-    names: WantedNames<'_>,
+    demand: &NameDemand,
     out: &mut Vec<Step>,
 ) -> Result<(), AllocError>
     ensures { OnOk result (map want_of out.new.items
-        ≡ map want_of out.old.items ++ behind (nv_of asker.entry.package.now) (serialize target.now) (asked_by (names_of names.entry))
-        (owner_by asker.entry.sources.workspace_members.now (nv_at provider.now) (serialize target.now))) }
+        ≡ map want_of out.old.items ++ behind (nv_of asker.entry.package.now) (serialize target.now) (asked_by (names_of demand.now))
+        (owner_by (members_in asker.entry.sources.workspace_members.now) (nv_at provider.now) (serialize target.now))) }
 {
-    let exports = exports_of(alloc, names)?;
+    let exports = exports_of(alloc, demand)?;
     let owner = owner_of(alloc, asker.sources.workspace_members, provider, target)?;
     push_behind(asker.package, target, exports, owner, out)
 }
@@ -129,17 +130,17 @@ fn push_file(
     alloc: Global,
     asker: Asker<'_>,
     provider: &dyn JsrUrlProvider,
-    file: FileWant<'_>,
+    file: &FileWant<'_>,
     out: &mut Vec<Step>,
 ) -> Result<(), AllocError>
     ensures { let k = known asker.entry.sources (url_of provider.now) (nv_at provider.now) in
         OnOk result (map want_of out.new.items
         ≡ map want_of out.old.items ++ file_wants k (nv_of asker.entry.package.now) asker.entry.traced
-        (file_demand_of file.entry)) }
+        (file_demand_of file.now)) }
 {
     match resolved(asker.traced, file.specifier) {
         None => Ok(()),
-        Some(target) => push_target(alloc, asker, provider, target, file.names, out),
+        Some(target) => push_target(alloc, asker, provider, target, &file.names, out),
     }
 }
 
@@ -159,8 +160,8 @@ fn push_again(
     match resolved(asker.traced, text) {
         None => Ok(()),
         Some(target) => {
-            let names = WantedNames::AllButDefault;
-            push_left(alloc, asker, provider, target, names, out)
+            let demand = NameDemand::AllButDefault;
+            push_left(alloc, asker, provider, target, &demand, out)
         }
     }
 }
@@ -180,8 +181,8 @@ fn push_want(
 {
     match want {
         ModuleWant::ReExported(text) => push_again(alloc, asker, provider, text, out),
-        ModuleWant::Answered(target, names) => {
-            push_left(alloc, asker, provider, target, names, out)
+        ModuleWant::Answered(target, demand) => {
+            push_left(alloc, asker, provider, target, demand, out)
         }
     }
 }
@@ -200,7 +201,7 @@ fn push_files(
         (map file_demand_of files.now)) }
 {
     for file in files {
-        push_file(alloc, asker, provider, *file, out)?;
+        push_file(alloc, asker, provider, file, out)?;
     }
     Ok(())
 }

@@ -7,10 +7,10 @@ use Rattle.fast_check_names.specs.Names.{Name}
 use Rattle.fast_check_names.specs.Imports.{NameDemand, names_but_default, each_name, subset_at, whole_at}
 use Rattle.fast_check_modules.specs.symbols.declared.tables.ReExportAllNode.{ReExportAllNode}
 use Rattle.fast_check_modules.specs.symbols.Tables.{table_ranges}
-use Rattle.fast_check_search.specs.Turn.{AreTableRanges}
+use Rattle.fast_check_search.specs.Found.{AreTableRanges}
 use Rattle.fast_check_search.proofs.Each.{Contains_first, Contains_later, contains_map, Each, each_nil, each_one, each_map, each_flat}
 use Rattle.fast_check_search.proofs.Each.{each_cond}
-use Rattle.fast_check_name_demands.specs.declared.want.WantedNames.{WantedNames}
+use Rattle.fast_check_name_demands.specs.declared.want.NameDemand.{NameDemand as Single}
 use Rattle.fast_check_name_demands.specs.Files.{names_of}
 use Rattle.fast_check_traces.specs.declared.modules.TracedModule.{TracedModule}
 use Rattle.fast_check_traces.specs.Modules.{own_tables, own_export, answer_of, first_with}
@@ -63,5 +63,5 @@ module _ (m : TracedModule) where
   own_demand (whole_at []) = each_nil Own
   own_demand (whole_at (n ∷ p)) = own_path n
 
-  pub own_re_exports : (names : List WantedNames) → AreTableRanges (own_tables m) (flat_map (λ w. re_export_ranges m (names_of w)) names)
+  pub own_re_exports : (names : List Single) → AreTableRanges (own_tables m) (flat_map (λ w. re_export_ranges m (names_of w)) names)
   own_re_exports names = each_flat Own (λ w. re_export_ranges m (names_of w)) names (λ w _. own_demand (names_of w))

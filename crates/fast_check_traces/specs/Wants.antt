@@ -3,7 +3,7 @@
 use Rattle.std.specs.Prelude.{ℕ, is_some, cond, List, [], ◌∷◌, map, Option, Some, None, string_bytes}
 use Rattle.url.specs.Parts.{Parts}
 use Rattle.fast_check_syntax.specs.declared.source.SourceRange.{SourceRange}
-use Rattle.fast_check_names.specs.Names.{Name}
+use Rattle.fast_check_names.specs.Names.{Name, Path}
 use Rattle.fast_check_names.specs.Imports.{NameDemand, names_but_default, each_name, subset_at, whole_at}
 use Rattle.fast_check_modules.specs.symbols.declared.tables.ReExportAllNode.{ReExportAllNode}
 use Rattle.fast_check_demands.specs.Rules.{each_of}
@@ -21,7 +21,7 @@ pub data Want : Type 0 where
 -- what a value of the code stands for
 abbrev pub want_of : ModuleWant → Want
 want_of (ReExported text) = re_exported text.now
-want_of (Answered url names) = answered url.now (names_of names)
+want_of (Answered url demand) = answered url.now (names_of demand.now)
 
 -- ranges
 
@@ -59,10 +59,12 @@ answered_at demand answer = each_of (λ url. answered url demand ∷ []) answer
 abbrev pub path_wants : TracedModule → Name → NameDemand → List Want
 path_wants m name demand = cond (is_some (own_export (own_tables m) name)) [] (answered_at demand (answer_to m name))
 
+abbrev pub named_wants : TracedModule → Path → NameDemand → List Want
+named_wants m [] demand = []
+named_wants m (n ∷ p) demand = path_wants m n demand
+
 abbrev pub module_wants : TracedModule → NameDemand → List Want
 module_wants m names_but_default = all_wants (own_tables m).re_exports
 module_wants m each_name = all_wants (own_tables m).re_exports
-module_wants m (subset_at []) = []
-module_wants m (subset_at (n ∷ p)) = path_wants m n (subset_at (n ∷ p))
-module_wants m (whole_at []) = []
-module_wants m (whole_at (n ∷ p)) = path_wants m n (whole_at (n ∷ p))
+module_wants m (subset_at p) = named_wants m p (subset_at p)
+module_wants m (whole_at p) = named_wants m p (whole_at p)

@@ -3,7 +3,7 @@ ghost use Rattle.std.specs.Prelude.{◌≡◌, List, IfOk};
 ghost use Rattle.std.specs.List.{flat_map};
 ghost use Rattle.fast_check_demands.specs.Demands.{Demand};
 ghost use Rattle.fast_check_demands.specs.Account.{IsAccount};
-ghost use Rattle.fast_check_search.specs.Turn.{IsFound, AreTableRanges};
+ghost use Rattle.fast_check_search.specs.Found.{IsFound, AreTableRanges};
 ghost use Rattle.fast_check_name_demands.specs.Files.{names_of};
 ghost use Rattle.fast_check_traces.specs.Modules.{own_tables as tables_at};
 ghost use Rattle.fast_check_traces.specs.Roots.{roots};
@@ -14,7 +14,7 @@ use crate::modules::{TracedModule, own_tables};
 use crate::re_exports::{re_export_ranges, wants_of};
 use crate::roots::roots_of;
 use fast_check_demands::SourceRange;
-use fast_check_name_demands::WantedNames;
+use fast_check_name_demands::NameDemand;
 use fast_check_search::{Found, search};
 use std::alloc::{AllocError, Global};
 
@@ -33,13 +33,13 @@ pub struct Traced<'a> {
 pub fn trace<'a>(
     alloc: Global,
     traced: TracedModule<'a>,
-    names: &[WantedNames<'a>],
+    demands: &'a [NameDemand],
 ) -> Result<Traced<'a>, AllocError>
     ensures account { IfOk result (λ t. (account : List Demand)
-        × IsAccount (tables_at traced.entry) (flat_map (λ w. roots (tables_at traced.entry) (names_of w)) names.now) account
+        × IsAccount (tables_at traced.entry) (flat_map (λ d. roots (tables_at traced.entry) (names_of d)) demands.now) account
         × IsFound (tables_at traced.entry) account t.found) }
-    ensures re_exports { IfOk result (λ t. t.re_export_ranges.items ≡ flat_map (λ w. ranges_through traced.entry (names_of w)) names.now) }
-    ensures wants { IfOk result (λ t. t.wants ≡ flat_map (λ w. module_wants traced.entry (names_of w)) names.now) }
+    ensures re_exports { IfOk result (λ t. t.re_export_ranges.items ≡ flat_map (λ d. ranges_through traced.entry (names_of d)) demands.now) }
+    ensures wants { IfOk result (λ t. t.wants ≡ flat_map (λ d. module_wants traced.entry (names_of d)) demands.now) }
 
     // What is public is of the module's own ranges, so a module of these tables admits it.
     ensures own_ranges { IfOk result (λ t. AreTableRanges (tables_at traced.entry) t.found.ranges.items) }
@@ -47,11 +47,11 @@ pub fn trace<'a>(
     ensures own_re_exports { IfOk result (λ t. AreTableRanges (tables_at traced.entry) t.re_export_ranges.items) }
 {
     let tables = own_tables(traced);
-    let roots = roots_of(alloc, tables, names)?;
+    let roots = roots_of(alloc, tables, demands)?;
     let found = search(alloc, tables, roots.as_slice())?;
     Ok(Traced {
         found,
-        re_export_ranges: re_export_ranges(alloc, traced, names)?,
-        wants: wants_of(alloc, traced, names)?,
+        re_export_ranges: re_export_ranges(alloc, traced, demands)?,
+        wants: wants_of(alloc, traced, demands)?,
     })
 }

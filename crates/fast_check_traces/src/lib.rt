@@ -8,7 +8,7 @@ mod re_exports;
 mod roots;
 
 pub use fast_check_graph::{ModuleGraph, ModuleInfo, RootSymbol};
-pub use fast_check_name_demands::{FileWant, FileWants, WantedNames, by_path};
+pub use fast_check_name_demands::{FileWant, FileWants, NameDemand};
 pub use fast_check_search::Found;
 pub use follow::{Traced, trace};
 pub use list::{ModuleWant, ModuleWants};

@@ -2,7 +2,7 @@
 ghost use Rattle.std.specs.Prelude.{◌≡◌, [], ◌∷◌, ◌++◌, map, OnOk};
 ghost use Rattle.fast_check_traces.specs.Wants.{want_of};
 
-use fast_check_name_demands::WantedNames;
+use fast_check_name_demands::NameDemand;
 use std::alloc::{AllocError, Global};
 use std::marker::Model;
 use url::Url;
@@ -13,7 +13,7 @@ pub enum ModuleWant<'a> {
     /// Each export but `default` of the file that a text names, since all of it is exported again.
     ReExported(&'a str),
     /// A name of the module that answers it.
-    Answered(&'a Url, WantedNames<'a>),
+    Answered(&'a Url, &'a NameDemand),
 }
 
 /// What is asked of other modules, in the order in which it came.

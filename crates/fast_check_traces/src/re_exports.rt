@@ -5,13 +5,13 @@ ghost use Rattle.std.specs.List.{flat_map};
 ghost use Rattle.fast_check_names.specs.Names.{path_of};
 ghost use Rattle.fast_check_name_demands.specs.Files.{names_of, path_demand};
 ghost use Rattle.fast_check_traces.specs.Modules.{own_tables as tables_at};
-ghost use Rattle.fast_check_traces.specs.Wants.{re_exported, answered, node_ranges, first_range, path_ranges, re_export_ranges, answered_at, path_wants, module_wants};
+ghost use Rattle.fast_check_traces.specs.Wants.{re_exported, answered, node_ranges, first_range, path_ranges, re_export_ranges, answered_at, path_wants, named_wants, module_wants};
 
 use crate::list::{ModuleWant, ModuleWants};
 use crate::modules::{TracedModule, answer_to, first_with, own_export, own_tables};
 use fast_check_demands::{Extent, SourceRange};
 use fast_check_modules::ReExportAllNode;
-use fast_check_name_demands::WantedNames;
+use fast_check_name_demands::NameDemand;
 use std::alloc::{AllocError, Global};
 use url::Url;
 
@@ -67,23 +67,37 @@ fn push_named_ranges(
     }
 }
 
-fn push_ranges(
+fn push_names_ranges(
     traced: TracedModule<'_>,
-    names: WantedNames<'_>,
+    names: &[String],
+    extent: Extent,
     out: &mut Vec<SourceRange>,
 ) -> Result<(), AllocError>
-    ensures { OnOk result (out.new.items ≡ out.old.items ++ re_export_ranges traced.entry (names_of names.entry)) }
+    ensures { OnOk result (out.new.items ≡ out.old.items ++ re_export_ranges traced.entry (path_demand (path_of names.now) extent)) }
 {
-    match names {
-        WantedNames::AllButDefault | WantedNames::All => {
+    match names.split_first() {
+        None => Ok(()),
+        Some((first, rest)) => push_named_ranges(traced, first.as_str(), rest, extent, out),
+    }
+}
+
+fn push_ranges(
+    traced: TracedModule<'_>,
+    demand: &NameDemand,
+    out: &mut Vec<SourceRange>,
+) -> Result<(), AllocError>
+    ensures { OnOk result (out.new.items ≡ out.old.items ++ re_export_ranges traced.entry (names_of demand.now)) }
+{
+    match demand {
+        NameDemand::AllButDefault | NameDemand::All => {
             push_all_ranges(own_tables(traced).re_export_all_nodes(), out)
         }
-        WantedNames::Nothing => Ok(()),
-        WantedNames::Path {
-            first,
-            rest,
-            extent,
-        } => push_named_ranges(traced, first, rest, extent, out),
+        NameDemand::Path(names, extent) => push_names_ranges(
+            traced,
+            names.as_slice(),
+            *extent,
+            out,
+        ),
     }
 }
 
@@ -91,13 +105,13 @@ fn push_ranges(
 pub fn re_export_ranges(
     alloc: Global,
     traced: TracedModule<'_>,
-    names: &[WantedNames<'_>],
+    demands: &[NameDemand],
 ) -> Result<Vec<SourceRange>, AllocError>
-    ensures { IfOk result (λ out. out.items ≡ flat_map (λ w. re_export_ranges traced.entry (names_of w)) names.now) }
+    ensures { IfOk result (λ out. out.items ≡ flat_map (λ d. re_export_ranges traced.entry (names_of d)) demands.now) }
 {
     let mut out = Vec::new(alloc);
-    for wanted in names {
-        push_ranges(traced, *wanted, &mut out)?;
+    for demand in demands {
+        push_ranges(traced, demand, &mut out)?;
     }
     Ok(out)
 }
@@ -116,73 +130,58 @@ fn push_all_wants<'a>(
 
 fn push_answered<'a>(
     answer: Option<&'a Url>,
-    first: &'a str,
-    rest: &'a [String],
-    extent: Extent,
+    demand: &'a NameDemand,
     out: &mut ModuleWants<'a>,
 ) -> Result<(), AllocError>
-    ensures { OnOk result (out.new ≡ out.old ++ answered_at (path_demand (first.now ∷ path_of rest.now) extent) (option_copied answer.entry)) }
+    ensures { OnOk result (out.new ≡ out.old ++ answered_at (names_of demand.now) (option_copied answer.entry)) }
 {
     match answer {
         None => Ok(()),
-        Some(module) => out.push(ModuleWant::Answered(
-            module,
-            WantedNames::Path {
-                first,
-                rest,
-                extent,
-            },
-        )),
+        Some(module) => out.push(ModuleWant::Answered(module, demand)),
     }
 }
 
 fn push_path_wants<'a>(
     traced: TracedModule<'a>,
-    first: &'a str,
-    rest: &'a [String],
-    extent: Extent,
+    first: &str,
+    demand: &'a NameDemand,
     out: &mut ModuleWants<'a>,
 ) -> Result<(), AllocError>
-    ensures { OnOk result (out.new ≡ out.old ++ path_wants traced.entry first.now (path_demand (first.now ∷ path_of rest.now) extent)) }
+    ensures { OnOk result (out.new ≡ out.old ++ path_wants traced.entry first.now (names_of demand.now)) }
 {
     match own_export(own_tables(traced), first) {
         Some(_) => Ok(()),
-        None => push_answered(answer_to(traced, first), first, rest, extent, out),
+        None => push_answered(answer_to(traced, first), demand, out),
     }
 }
 
 fn push_named_wants<'a>(
     traced: TracedModule<'a>,
-    first: &'a str,
-    rest: &'a [String],
-    extent: Extent,
+    names: &[String],
+    demand: &'a NameDemand,
     out: &mut ModuleWants<'a>,
 ) -> Result<(), AllocError>
-    ensures { OnOk result (out.new ≡ out.old ++ module_wants traced.entry (path_demand (first.now ∷ path_of rest.now) extent)) }
+    ensures { OnOk result (out.new ≡ out.old ++ named_wants traced.entry (path_of names.now) (names_of demand.now)) }
 {
-    match extent {
-        Extent::Touched => push_path_wants(traced, first, rest, Extent::Touched, out),
-        Extent::Whole => push_path_wants(traced, first, rest, Extent::Whole, out),
+    match names.split_first() {
+        None => Ok(()),
+        Some((first, _)) => push_path_wants(traced, first.as_str(), demand, out),
     }
 }
 
+#[tactic(auto, using(crate::proofs::Named::named_there))]
 fn push_wants<'a>(
     traced: TracedModule<'a>,
-    names: WantedNames<'a>,
+    demand: &'a NameDemand,
     out: &mut ModuleWants<'a>,
 ) -> Result<(), AllocError>
-    ensures { OnOk result (out.new ≡ out.old ++ module_wants traced.entry (names_of names.entry)) }
+    ensures { OnOk result (out.new ≡ out.old ++ module_wants traced.entry (names_of demand.now)) }
 {
-    match names {
-        WantedNames::AllButDefault | WantedNames::All => {
+    match demand {
+        NameDemand::AllButDefault | NameDemand::All => {
             push_all_wants(own_tables(traced).re_export_all_nodes(), out)
         }
-        WantedNames::Nothing => Ok(()),
-        WantedNames::Path {
-            first,
-            rest,
-            extent,
-        } => push_named_wants(traced, first, rest, extent, out),
+        NameDemand::Path(names, _) => push_named_wants(traced, names.as_slice(), demand, out),
     }
 }
 
@@ -190,13 +189,13 @@ fn push_wants<'a>(
 pub fn wants_of<'a>(
     alloc: Global,
     traced: TracedModule<'a>,
-    names: &[WantedNames<'a>],
+    demands: &'a [NameDemand],
 ) -> Result<ModuleWants<'a>, AllocError>
-    ensures { IfOk result (λ out. out ≡ flat_map (λ w. module_wants traced.entry (names_of w)) names.now) }
+    ensures { IfOk result (λ out. out ≡ flat_map (λ d. module_wants traced.entry (names_of d)) demands.now) }
 {
     let mut out = ModuleWants::new(alloc);
-    for wanted in names {
-        push_wants(traced, *wanted, &mut out)?;
+    for demand in demands {
+        push_wants(traced, demand, &mut out)?;
     }
     Ok(out)
 }

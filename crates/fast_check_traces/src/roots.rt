@@ -10,7 +10,7 @@ ghost use Rattle.fast_check_traces.specs.Roots.{is_exported_in, references_as, e
 
 use crate::modules::own_export;
 use fast_check_demands::{Ask, CheckedTables, Demands, Extent, Namespace, SymbolDemand, binds};
-use fast_check_name_demands::WantedNames;
+use fast_check_name_demands::NameDemand;
 use fast_check_symbols::{Symbol, SymbolDecl, SymbolExports, SymbolId};
 use std::alloc::{AllocError, Global};
 
@@ -181,22 +181,31 @@ fn push_named<'a>(
     }
 }
 
-fn push_roots<'a>(
+fn push_names<'a>(
     tables: &CheckedTables,
-    names: WantedNames<'a>,
+    names: &'a [String],
+    extent: Extent,
     out: &mut Demands<'a>,
 ) -> Result<(), AllocError>
-    ensures { OnOk result (out.new ≡ out.old ++ roots tables.now (names_of names.entry)) }
+    ensures { OnOk result (out.new ≡ out.old ++ roots tables.now (path_demand (path_of names.now) extent)) }
 {
-    match names {
-        WantedNames::AllButDefault => push_star(tables, false, out),
-        WantedNames::All => push_star(tables, true, out),
-        WantedNames::Nothing => Ok(()),
-        WantedNames::Path {
-            first,
-            rest,
-            extent,
-        } => push_named(tables, first, rest, extent, out),
+    match names.split_first() {
+        None => Ok(()),
+        Some((first, rest)) => push_named(tables, first.as_str(), rest, extent, out),
+    }
+}
+
+fn push_roots<'a>(
+    tables: &CheckedTables,
+    demand: &'a NameDemand,
+    out: &mut Demands<'a>,
+) -> Result<(), AllocError>
+    ensures { OnOk result (out.new ≡ out.old ++ roots tables.now (names_of demand.now)) }
+{
+    match demand {
+        NameDemand::AllButDefault => push_star(tables, false, out),
+        NameDemand::All => push_star(tables, true, out),
+        NameDemand::Path(names, extent) => push_names(tables, names.as_slice(), *extent, out),
     }
 }
 
@@ -204,13 +213,13 @@ fn push_roots<'a>(
 pub fn roots_of<'a>(
     alloc: Global,
     tables: &CheckedTables,
-    names: &[WantedNames<'a>],
+    demands: &'a [NameDemand],
 ) -> Result<Demands<'a>, AllocError>
-    ensures { IfOk result (λ out. out ≡ flat_map (λ w. roots tables.now (names_of w)) names.now) }
+    ensures { IfOk result (λ out. out ≡ flat_map (λ d. roots tables.now (names_of d)) demands.now) }
 {
     let mut out = Demands::new(alloc);
-    for wanted in names {
-        push_roots(tables, *wanted, &mut out)?;
+    for demand in demands {
+        push_roots(tables, demand, &mut out)?;
     }
     Ok(out)
 }

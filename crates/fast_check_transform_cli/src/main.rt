@@ -18,7 +18,7 @@ fn main(rt: HostRuntime) -> ExitCode {
                 &mut err,
             )
         }
-        Err(refusal) => refusal.told(&mut err),
+        Err(refusal) => refusal.write_line(&mut err),
     };
     ExitCode::from(ending.status)
 }

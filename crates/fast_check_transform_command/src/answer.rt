@@ -1,17 +1,17 @@
 //! The line that the program answers.
 
 ghost use Rattle.std.specs.Prelude.{◌≡◌, IfOk};
-ghost use Rattle.fast_check_print.specs.Answer.{answer_data};
+ghost use Rattle.fast_check_write.specs.Answer.{answer_data};
 ghost use Rattle.fast_check_transform_command.specs.Line.{line_of_data};
 
 use fast_check_modules::diagnostics::FastCheckDiagnostic;
 use fast_check_parsed_source::FastCheckModule;
-use fast_check_print::write_answer;
+use fast_check_write::write_answer;
 use json::Writer;
 use std::alloc::{AllocError, Global};
 
 /// `{"Ok": module}`, or `{"Err": [diagnostic, ..]}`, as a line of compact JSON.
-pub fn print_line(
+pub fn line_of(
     alloc: Global,
     answer: &Result<FastCheckModule, Vec<FastCheckDiagnostic>>,
 ) -> Result<Vec<u8>, AllocError>

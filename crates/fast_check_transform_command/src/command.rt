@@ -7,7 +7,7 @@ ghost use Rattle.fast_check_requests.specs.Run.{IsOfBytes};
 ghost use Rattle.fast_check_transform_command.specs.Line.{IsAnswer};
 ghost use Rattle.fast_check_transform_command.specs.Transform.{AnswersModule, RefusesModule, AnswersRequest, RefusesRequest, IsAnswerTo, RefusesBytes};
 
-use crate::answer::print_line;
+use crate::answer::line_of;
 use fast_check_graph::ModuleGraph;
 use fast_check_module_transform::{TransformOptions, transform};
 use fast_check_modules::EsModuleInfo;
@@ -94,7 +94,7 @@ fn answer_module(
 {
     let answer = transform(alloc, graph, es_module_info, public_ranges, options)?;
     Ok(Answer {
-        line: print_line(alloc, &answer)?,
+        line: line_of(alloc, &answer)?,
         status: if answer.is_ok() { 0 } else { 1 },
     })
 }

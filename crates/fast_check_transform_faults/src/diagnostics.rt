@@ -105,7 +105,7 @@ fn diagnostics_of(
 }
 
 /// The faults of a module as diagnostics, in their order, or the first of them alone.
-pub fn tell(
+pub fn diagnose(
     alloc: Global,
     es_module_info: &EsModuleInfo,
     mut faults: Vec<Fault>,

@@ -3,4 +3,4 @@
 
 mod diagnostics;
 
-pub use diagnostics::tell;
+pub use diagnostics::diagnose;

@@ -13,7 +13,7 @@ use Rattle.fast_check_entries.specs.findings.declared.finding.EntryFault.{EntryF
 use Rattle.fast_check_entries.specs.findings.Yields.{Yield, known_package, entry_point, kept}
 use Rattle.fast_check_entries.specs.Entries.{all_faults, entrance_seen, in_order}
 use Rattle.fast_check_worklists.specs.Demands.{to_package}
-use Rattle.fast_check_worklists.specs.declared.asked.Step.{Step}
+use Rattle.fast_check_worklists.specs.declared.worklist.Step.{Step}
 use Rattle.fast_check_worklists.specs.State.{want_of, State, AsksAll}
 use Rattle.fast_check_steps.specs.Sources.{Used}
 use Rattle.fast_check_turns.specs.Rules.{entry_want, unless_faulty, entry_wants}

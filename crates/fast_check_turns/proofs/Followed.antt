@@ -27,7 +27,7 @@ use Rattle.fast_check_worklists.proofs.Asking.{asked_some}
 use Rattle.fast_check_worklists.specs.Demands.{Text, asked, Want, to_package, to_module, to_symbol, Demand, of_package, of_module}
 use Rattle.fast_check_worklists.specs.Demands.{of_symbol}
 use Rattle.fast_check_worklists.specs.Account.{Followed, HasIn, IsSymbolMet}
-use Rattle.fast_check_worklists.specs.declared.asked.Step.{Step}
+use Rattle.fast_check_worklists.specs.declared.worklist.Step.{Step}
 use Rattle.fast_check_worklists.specs.State.{State, want_of, AsksAll, Reached, root, step, IsSearched, IsOuter, AreWants, AreGiven}
 use Rattle.fast_check_worklists.specs.State.{IsFollowed}
 use Rattle.fast_check_name_demands.specs.NameDemands.{AreDemands, IsEmpty}

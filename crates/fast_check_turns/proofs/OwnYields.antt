@@ -19,7 +19,7 @@ use Rattle.fast_check_demands.specs.Demands.{Demand as SymbolDemand}
 use Rattle.fast_check_demands.specs.Rules.{each_of}
 use Rattle.fast_check_demands.specs.Yields.{ranges, implementations, Fault, faults}
 use Rattle.fast_check_entries.specs.findings.Faults.{PlacedFault, placed}
-use Rattle.fast_check_search.specs.Turn.{AreTableRanges}
+use Rattle.fast_check_search.specs.Found.{AreTableRanges}
 use Rattle.fast_check_search.proofs.Each.{Contains_first, Contains_later, Each, each_nil, each_one, each_append, each_cons, each_map}
 use Rattle.fast_check_search.proofs.Each.{each_flat, each_cond, each_each_of}
 use Rattle.fast_check_search.proofs.Own.{own_ranges, own_implementations}

@@ -9,10 +9,10 @@ use Rattle.fast_check_demands.specs.Account.{IsAccount as IsSymbolAccount}
 use Rattle.fast_check_demands.specs.Yields.{fault_seen}
 use Rattle.fast_check_entries.specs.findings.declared.finding.FoundModule.{FoundModule}
 use Rattle.fast_check_entries.specs.findings.Faults.{placed, placed_in}
-use Rattle.fast_check_name_demands.specs.declared.want.WantedNames.{WantedNames}
+use Rattle.fast_check_name_demands.specs.declared.want.NameDemand.{NameDemand as Single}
 use Rattle.fast_check_name_demands.specs.Files.{names_of}
-use Rattle.fast_check_search.specs.declared.turns.Found.{Found}
-use Rattle.fast_check_search.specs.Turn.{IsFound}
+use Rattle.fast_check_search.specs.declared.found.Found.{Found}
+use Rattle.fast_check_search.specs.Found.{IsFound}
 use Rattle.fast_check_traces.specs.declared.modules.TracedModule.{TracedModule}
 use Rattle.fast_check_traces.specs.Modules.{own_tables}
 use Rattle.fast_check_traces.specs.Roots.{roots}
@@ -24,7 +24,7 @@ use Rattle.fast_check_turns.specs.Yields.{source_in}
 use Rattle.fast_check_turns.specs.Traced.{IsTraced}
 use Rattle.fast_check_turns.proofs.Lists.{flat_mapped}
 
-module _ (k : Known) (nv : Nv) (m : TracedModule) (names : List WantedNames) where
+module _ (k : Known) (nv : Nv) (m : TracedModule) (names : List Single) where
   mapped : {Y : Type 0} (f : NameDemand → List Y) → flat_map (λ w. f (names_of w)) names ≡ flat_map f (map names_of names)
   mapped f = sym (flat_mapped f names_of names)
 

@@ -17,7 +17,7 @@ use Rattle.fast_check_search.proofs.Each.{Contains_none, Each}
 use Rattle.fast_check_worklists.proofs.Asking.{asked_some}
 use Rattle.fast_check_worklists.specs.Demands.{Text, asked, Want, to_symbol, Demand, of_package, of_module, of_symbol}
 use Rattle.fast_check_worklists.specs.Account.{Trace, Followed, HasIn}
-use Rattle.fast_check_worklists.specs.declared.asked.Step.{Step}
+use Rattle.fast_check_worklists.specs.declared.worklist.Step.{Step}
 use Rattle.fast_check_worklists.specs.State.{want_of, State, AsksAll, IsFollowed, IsEntered}
 use Rattle.fast_check_steps.specs.Sources.{Known, node_at, named_at, typed_info, info_at, traced_as, module_at, is_untyped}
 use Rattle.fast_check_turns.specs.Rules.{names_wants, entrance_at, world}

@@ -6,7 +6,7 @@ use Rattle.fast_check_packages.specs.Package.{Nv}
 use Rattle.fast_check_cache.specs.Cache.{ItemView}
 use Rattle.fast_check_graph.specs.declared.graph.ModuleGraph.{ModuleGraph}
 use Rattle.fast_check_worklists.specs.Demands.{Want}
-use Rattle.fast_check_worklists.specs.declared.asked.Step.{Step}
+use Rattle.fast_check_worklists.specs.declared.worklist.Step.{Step}
 use Rattle.fast_check_worklists.specs.State.{want_of, State, AsksAll}
 use Rattle.fast_check_entries.specs.findings.Yields.{Yield}
 use Rattle.fast_check_entries.specs.Entries.{Entrance}

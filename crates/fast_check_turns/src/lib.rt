@@ -1,14 +1,17 @@
 //! What one turn of the search asks and gives: a package that is entered, or a module that is followed.
 #![tactic(auto)]
 
-mod findings;
+mod input;
 mod modules;
 mod packages;
+mod progress;
 mod traced;
 
 pub use fast_check_entries::findings::{
     EnteredPackage, EntryFault, Finding, FollowedModule, FoundModule, KeptPackage, UntypedModule,
 };
 pub use fast_check_steps::Sources;
+pub use input::FinderInput;
 pub use modules::follow;
 pub use packages::enter;
+pub use progress::Progress;

@@ -12,15 +12,15 @@ ghost use Rattle.fast_check_turns.specs.Rules.{world};
 ghost use Rattle.fast_check_turns.specs.Traced.{IsTracedFor};
 ghost use Rattle.fast_check_turns.specs.Yields.{dependencies, untyped_yields, gives};
 
-use crate::findings::push_finding;
+use crate::progress::{Progress, push_finding};
 use crate::traced::{dependencies_of, traced_module};
 use fast_check_entries::findings::{Finding, FollowedModule, FoundModule, UntypedModule};
 use fast_check_graph::{ModuleGraph, ModuleInfo};
-use fast_check_name_demands::{name_demands, wanted_names};
+use fast_check_name_demands::name_demands;
 use fast_check_packages::{JsrUrlProvider, PackageNv};
 use fast_check_steps::{Asker, Sources, info_of, is_untyped};
 use fast_check_traces::TracedModule;
-use fast_check_worklists::{Asked, PendingTrace, Step};
+use fast_check_worklists::{PendingTrace, Step};
 use std::alloc::{AllocError, Global};
 
 /// What is found of a module that is followed for a package, with the packages that it asks for.
@@ -62,7 +62,6 @@ fn follow_in(
         ..
     } = trace;
     let demands = name_demands(alloc, exports_to_trace)?;
-    let names = wanted_names(alloc, demands.as_slice())?;
     let asker = Asker {
         sources,
         package: &package_nv,
@@ -72,7 +71,7 @@ fn follow_in(
             info,
         },
     };
-    let (steps, found) = traced_module(alloc, asker, provider, names.as_slice())?;
+    let (steps, found) = traced_module(alloc, asker, provider, demands.as_slice())?;
     let finding = followed_module(alloc, package_nv, info, steps.as_slice(), found)?;
     Ok((steps, finding))
 }
@@ -108,23 +107,22 @@ pub fn follow(
     sources: Sources<'_>,
     provider: &dyn JsrUrlProvider,
     trace: PendingTrace,
-    asked: &mut Asked,
-    found: &mut Vec<Finding>,
+    progress: &mut Progress,
 ) -> Result<(), AllocError>
     ensures { let without = known sources.entry (url_of provider.now) (nv_at provider.now) in
         OnOk result ((used : Used) → let k = with_used used without in
-        IsFollowed (world k) (gives k) (trace_of trace) (state_of asked.old) (state_of asked.new)
-        (flat_map yields_of found.old.items) (flat_map yields_of found.new.items)) }
+        IsFollowed (world k) (gives k) (trace_of trace) (state_of progress.old.worklist) (state_of progress.new.worklist)
+        (flat_map yields_of progress.old.found.items) (flat_map yields_of progress.new.found.items)) }
 {
     match info_of(sources.graph, sources.root_symbol, &trace.specifier) {
         None => {
-            leave_out(sources.graph, trace, found)?;
+            leave_out(sources.graph, trace, &mut progress.found)?;
             Ok(())
         }
         Some(info) => {
             let (steps, finding) = follow_in(alloc, sources, provider, info, trace)?;
-            push_finding(found, finding)?;
-            asked.ask_all(alloc, steps)?;
+            push_finding(&mut progress.found, finding)?;
+            progress.worklist.ask_all(alloc, steps)?;
             Ok(())
         }
     }

@@ -1,6 +1,6 @@
 //! A package that is entered.
 
-ghost use Rattle.std.specs.Prelude.{◌≡◌, ◌++◌, ◌∷◌, [], None, map, option_map, OnOk, IfOk, IfErr};
+ghost use Rattle.std.specs.Prelude.{◌≡◌, ◌++◌, ◌∷◌, [], None, map, OnOk, IfOk, IfErr};
 ghost use Rattle.std.specs.List.{flat_map};
 ghost use Rattle.url.specs.Parts.{serialize};
 ghost use Rattle.fast_check_packages.specs.Package.{nv_of};
@@ -17,15 +17,15 @@ ghost use Rattle.fast_check_turns.specs.Yields.{entry_fault_yields, gives};
 ghost use Rattle.fast_check_turns.specs.Turns.{AsksAndTells, EntersAt, Enters};
 ghost use Rattle.fast_check_turns.specs.Lent.{used_of};
 
-use crate::findings::push_finding;
+use crate::input::FinderInput;
+use crate::progress::{Progress, push_finding};
 use fast_check_cache::{FastCheckCache, FastCheckCacheItem, look_up};
 use fast_check_entries::findings::{EnteredPackage, EntryFault, Finding, KeptPackage};
 use fast_check_entries::{entry_faults, entry_point_set, entry_points};
 use fast_check_graph::ModuleGraph;
 use fast_check_names::ImportedExports;
 use fast_check_packages::{BuildFault, JsrUrlProvider, PackageNv};
-use fast_check_steps::Sources;
-use fast_check_worklists::{Asked, Step, copy_of};
+use fast_check_worklists::{Step, copy_of};
 use std::alloc::{AllocError, Global};
 use std::collections::BTreeSet;
 use url::Url;
@@ -89,17 +89,17 @@ fn enter_at(
     graph: &ModuleGraph,
     nv: &PackageNv,
     entry_points: Vec<Url>,
-    asked: &mut Asked,
-    found: &mut Vec<Finding>,
+    progress: &mut Progress,
 ) -> Result<(), AllocError>
     ensures { OnOk result (EntersAt graph.now (nv_of nv.now) entry_points.items None
-        (state_of asked.old) (state_of asked.new) (flat_map yields_of found.old.items) (flat_map yields_of found.new.items)) }
+        (state_of progress.old.worklist) (state_of progress.new.worklist)
+        (flat_map yields_of progress.old.found.items) (flat_map yields_of progress.new.found.items)) }
 {
     let faults = entry_faults(alloc, graph, entry_points.as_slice())?;
     let steps = entry_steps(alloc, nv, entry_points.as_slice(), faults.as_slice())?;
     let finding = entered_package(nv, entry_points, faults)?;
-    push_finding(found, finding)?;
-    asked.ask_all(alloc, steps)?;
+    push_finding(&mut progress.found, finding)?;
+    progress.worklist.ask_all(alloc, steps)?;
     Ok(())
 }
 
@@ -128,11 +128,11 @@ fn enter_kept(
     nv: &PackageNv,
     entry_points: BTreeSet<Url>,
     item: FastCheckCacheItem,
-    asked: &mut Asked,
-    found: &mut Vec<Finding>,
+    progress: &mut Progress,
 ) -> Result<(), AllocError>
     ensures { OnOk result (AsksAndTells (map to_package (item_of item).0) (kept (nv_of nv.now) entry_points.keys (item_of item) ∷ [])
-        (state_of asked.old) (state_of asked.new) (flat_map yields_of found.old.items) (flat_map yields_of found.new.items)) }
+        (state_of progress.old.worklist) (state_of progress.new.worklist)
+        (flat_map yields_of progress.old.found.items) (flat_map yields_of progress.new.found.items)) }
 {
     let steps = kept_steps(alloc, &item)?;
     let package = copy_of(nv)?;
@@ -141,79 +141,53 @@ fn enter_kept(
         entry_points,
         item,
     };
-    push_finding(found, Finding::Kept(kept))?;
-    asked.ask_all(alloc, steps)?;
+    push_finding(&mut progress.found, Finding::Kept(kept))?;
+    progress.worklist.ask_all(alloc, steps)?;
     Ok(())
-}
-
-/// Enters a package with these entry points, by its item where that is used.
-fn enter_with(
-    alloc: Global,
-    graph: &ModuleGraph,
-    nv: &PackageNv,
-    entry_points: Vec<Url>,
-    sorted: BTreeSet<Url>,
-    item: Option<FastCheckCacheItem>,
-    asked: &mut Asked,
-    found: &mut Vec<Finding>,
-) -> Result<(), AllocError>
-    requires { sorted.keys ≡ in_order entry_points.items }
-    ensures { OnOk result (EntersAt graph.now (nv_of nv.now) entry_points.items (option_map item_of item)
-        (state_of asked.old) (state_of asked.new) (flat_map yields_of found.old.items) (flat_map yields_of found.new.items)) }
-{
-    match item {
-        None => enter_at(alloc, graph, nv, entry_points, asked, found),
-        Some(item) => enter_kept(alloc, nv, sorted, item, asked, found),
-    }
 }
 
 /// Asks the cache for a package with these entry points, and enters it.
 fn enter_known(
     alloc: Global,
-    graph: &ModuleGraph,
+    input: FinderInput<'_>,
     cache: Option<&dyn FastCheckCache>,
-    seed: &str,
     nv: &PackageNv,
     entry_points: Vec<Url>,
-    asked: &mut Asked,
-    found: &mut Vec<Finding>,
+    progress: &mut Progress,
 ) -> Result<(), AllocError>
-    ensures { let used = used_of cache.entry (λ c. used_item (hash_of c.now seed.now) (stored c.now) graph.now) in
-        OnOk result (EntersAt graph.now (nv_of nv.now) entry_points.items (used (nv_of nv.now) (in_order entry_points.items))
-        (state_of asked.old) (state_of asked.new) (flat_map yields_of found.old.items) (flat_map yields_of found.new.items)) }
+    ensures { let i = input.entry in
+        let used = used_of cache.entry (λ c. used_item (hash_of c.now i.seed.now) (stored c.now) i.sources.graph.now) in
+        OnOk result (EntersAt i.sources.graph.now (nv_of nv.now) entry_points.items (used (nv_of nv.now) (in_order entry_points.items))
+        (state_of progress.old.worklist) (state_of progress.new.worklist)
+        (flat_map yields_of progress.old.found.items) (flat_map yields_of progress.new.found.items)) }
 {
     let sorted = entry_point_set(alloc, entry_points.as_slice())?;
-    let item = look_up(cache, seed, graph, nv, &sorted)?;
-    enter_with(alloc, graph, nv, entry_points, sorted, item, asked, found)
+    let graph = input.sources.graph;
+    let item = look_up(cache, input.seed, graph, nv, &sorted)?;
+    match item {
+        None => enter_at(alloc, graph, nv, entry_points, progress),
+        Some(item) => enter_kept(alloc, nv, sorted, item, progress),
+    }
 }
 
 /// Enters a package, if its entry points are known.
 fn enter_some(
     alloc: Global,
-    graph: &ModuleGraph,
+    input: FinderInput<'_>,
     cache: Option<&dyn FastCheckCache>,
-    seed: &str,
     nv: &PackageNv,
     entry_points: Option<Vec<Url>>,
-    asked: &mut Asked,
-    found: &mut Vec<Finding>,
+    progress: &mut Progress,
 ) -> Result<(), AllocError>
-    ensures { let used = used_of cache.entry (λ c. used_item (hash_of c.now seed.now) (stored c.now) graph.now) in
-        OnOk result (Enters graph.now used (nv_of nv.now) (entrance_seen entry_points)
-        (state_of asked.old) (state_of asked.new) (flat_map yields_of found.old.items) (flat_map yields_of found.new.items)) }
+    ensures { let i = input.entry in
+        let used = used_of cache.entry (λ c. used_item (hash_of c.now i.seed.now) (stored c.now) i.sources.graph.now) in
+        OnOk result (Enters i.sources.graph.now used (nv_of nv.now) (entrance_seen entry_points)
+        (state_of progress.old.worklist) (state_of progress.new.worklist)
+        (flat_map yields_of progress.old.found.items) (flat_map yields_of progress.new.found.items)) }
 {
     match entry_points {
         None => Ok(()),
-        Some(entry_points) => enter_known(
-            alloc,
-            graph,
-            cache,
-            seed,
-            nv,
-            entry_points,
-            asked,
-            found,
-        ),
+        Some(entry_points) => enter_known(alloc, input, cache, nv, entry_points, progress),
     }
 }
 
@@ -221,24 +195,23 @@ fn enter_some(
 /// export text that does not join, before the cache is asked.
 pub fn enter(
     alloc: Global,
-    sources: Sources<'_>,
+    input: FinderInput<'_>,
     provider: &dyn JsrUrlProvider,
     cache: Option<&dyn FastCheckCache>,
-    seed: &str,
     nv: &PackageNv,
-    asked: &mut Asked,
-    found: &mut Vec<Finding>,
+    progress: &mut Progress,
 ) -> Result<(), BuildFault>
-    ensures entered { let used = used_of cache.entry (λ c. used_item (hash_of c.now seed.now) (stored c.now) sources.entry.graph.now) in
-        let k = with_used used (known sources.entry (url_of provider.now) (nv_at provider.now)) in
-        OnOk result (IsEntered (world k) (gives k) (nv_of nv.now) (state_of asked.old) (state_of asked.new)
-        (flat_map yields_of found.old.items) (flat_map yields_of found.new.items)) }
+    ensures entered { let i = input.entry in
+        let used = used_of cache.entry (λ c. used_item (hash_of c.now i.seed.now) (stored c.now) i.sources.graph.now) in
+        let k = with_used used (known i.sources (url_of provider.now) (nv_at provider.now)) in
+        OnOk result (IsEntered (world k) (gives k) (nv_of nv.now) (state_of progress.old.worklist) (state_of progress.new.worklist)
+        (flat_map yields_of progress.old.found.items) (flat_map yields_of progress.new.found.items)) }
     ensures refused { IfErr result (TellsRefused (nv_of nv.now)
-        (entrance_at (known sources.entry (url_of provider.now) (nv_at provider.now)) (nv_of nv.now))) }
+        (entrance_at (known input.entry.sources (url_of provider.now) (nv_at provider.now)) (nv_of nv.now))) }
 {
-    let members = sources.workspace_members;
-    let graph = sources.graph;
+    let members = input.sources.workspace_members;
+    let graph = input.sources.graph;
     let entry_points = entry_points(alloc, graph, members, provider, nv)?;
-    enter_some(alloc, graph, cache, seed, nv, entry_points, asked, found)?;
+    enter_some(alloc, input, cache, nv, entry_points, progress)?;
     Ok(())
 }

@@ -19,7 +19,7 @@ use fast_check_graph::ModuleInfo;
 use fast_check_packages::{JsrUrlProvider, PackageNv};
 use fast_check_search::Found;
 use fast_check_steps::{Asker, steps_of};
-use fast_check_traces::{Traced, TracedModule, WantedNames, tables_of, trace};
+use fast_check_traces::{NameDemand, Traced, TracedModule, tables_of, trace};
 use fast_check_worklists::Step;
 use std::alloc::{AllocError, Global};
 use std::rc::RcStr;
@@ -72,16 +72,16 @@ pub fn traced_module(
     alloc: Global,
     asker: Asker<'_>,
     provider: &dyn JsrUrlProvider,
-    names: &[WantedNames<'_>],
+    demands: &[NameDemand],
 ) -> Result<(Vec<Step>, FoundModule), AllocError>
     ensures { let k = known asker.entry.sources (url_of provider.now) (nv_at provider.now) in
-        IfOk result (λ r. IsTraced k (nv_of asker.entry.package.now) asker.entry.traced (map names_of names.now) (map want_of r.0.items) r.1) }
+        IfOk result (λ r. IsTraced k (nv_of asker.entry.package.now) asker.entry.traced (map names_of demands.now) (map want_of r.0.items) r.1) }
 {
     let Traced {
         found,
         mut re_export_ranges,
         wants,
-    } = trace(alloc, asker.traced, names)?;
+    } = trace(alloc, asker.traced, demands)?;
     let Found {
         mut ranges,
         implementations,

@@ -12,7 +12,8 @@ use fast_check_cases::{run_form_cases, run_name_cases};
 use fast_check_commands::{Ending, run};
 use fast_check_example::run_example;
 use fast_check_finder_cases::{
-    run_fault_cases, run_finder_cases, run_place_cases, run_transformer_cases, run_unfound_cases,
+    run_deep_cases, run_fault_cases, run_finder_cases, run_place_cases, run_transformer_cases,
+    run_unfound_cases,
 };
 use std::alloc::AllocError;
 use std::fs::File;
@@ -20,7 +21,7 @@ use std::io::Write;
 use std::{env, fs, io};
 
 /// All parts.
-const PARTS: [&str; 11] = [
+const PARTS: [&str; 12] = [
     "runs",
     "example",
     "caches",
@@ -32,6 +33,7 @@ const PARTS: [&str; 11] = [
     "faults",
     "worlds",
     "transformers",
+    "deep",
 ];
 
 /// Runs `fast-check` with the words of each line of the file `cases`.
@@ -46,7 +48,7 @@ fn run_vectors(rt: &HostRuntime) -> io::Result<()> {
             let ending = run_line(rt, line, &mut out)?;
             let status = ending.status;
             println!(rt; "status {status}")?;
-            if !ending.is_told {
+            if !ending.is_written {
                 println!(rt; "the line was not taken")?;
             }
         }
@@ -68,6 +70,7 @@ fn run_part(rt: &HostRuntime, part: &str) -> Result<()> {
         "faults" => run_fault_cases(rt),
         "worlds" => Ok(run_finder_cases(rt)?),
         "transformers" => Ok(run_transformer_cases(rt)?),
+        "deep" => Ok(run_deep_cases(rt)?),
         other => bail!("no part: {other}"),
     }
 }

@@ -3,7 +3,7 @@ use Rattle.std.proofs.Common.{◌≡◌, ◌∙◌, sym, ap, refl, subst, Bool, 
 use Rattle.std.specs.List.{list_any}
 use Rattle.fast_check_packages.specs.declared.package.PackageNv.{PackageNv}
 use Rattle.fast_check_packages.specs.Package.{nv_of}
-use Rattle.fast_check_worklists.specs.declared.asked.Step.{Step}
+use Rattle.fast_check_worklists.specs.declared.worklist.Step.{Step}
 use Rattle.fast_check_worklists.specs.Demands.{same_nv}
 use Rattle.fast_check_worklists.specs.State.{State, AddsPackage, AsksOne, AsksAll}
 

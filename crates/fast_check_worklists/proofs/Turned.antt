@@ -17,8 +17,8 @@ use Rattle.fast_check_names.specs.Names.{IsBelow}
 use Rattle.fast_check_names.specs.Imports.{imported, NameDemand, each_name}
 use Rattle.fast_check_names.proofs.Forms.{least_all}
 use Rattle.fast_check_demands.specs.Demands.{Demand as SymbolDemand}
-use Rattle.fast_check_worklists.specs.declared.asked.Step.{Step}
-use Rattle.fast_check_worklists.specs.declared.asked.Step.TheVariants.{Package as PackageStep, Module as ModuleStep}
+use Rattle.fast_check_worklists.specs.declared.worklist.Step.{Step}
+use Rattle.fast_check_worklists.specs.declared.worklist.Step.TheVariants.{Package as PackageStep, Module as ModuleStep}
 use Rattle.fast_check_worklists.specs.Demands.{Text, Wanted, same_nv, asked, one, Want, to_package, to_module, to_symbol, Demand}
 use Rattle.fast_check_worklists.specs.Demands.{of_package, of_module, of_symbol, World, Gives, Follows}
 use Rattle.fast_check_worklists.specs.Account.{Trace, Followed, Account, HasIn, Has, traces_of, Chained, step, is_of, joined, IsSymbolMet}

@@ -10,9 +10,9 @@ use Rattle.fast_check_worklists.specs.declared.traced_modules.PendingTrace.{Pend
 use Rattle.fast_check_packages.specs.Package.{Nv, nv_of}
 use Rattle.fast_check_worklists.specs.Traces.{handled, pending, Handles, Waits}
 use Rattle.fast_check_demands.specs.Demands.{Demand as SymbolDemand}
-use Rattle.fast_check_worklists.specs.declared.asked.Step.{Step}
-use Rattle.fast_check_worklists.specs.declared.asked.Step.TheVariants.{Package, Module}
-use Rattle.fast_check_worklists.specs.declared.asked.Asked.{Asked}
+use Rattle.fast_check_worklists.specs.declared.worklist.Step.{Step}
+use Rattle.fast_check_worklists.specs.declared.worklist.Step.TheVariants.{Package, Module}
+use Rattle.fast_check_worklists.specs.declared.worklist.Worklist.{Worklist}
 use Rattle.fast_check_worklists.specs.Demands.{Text, same_nv, asked, Want, to_package, to_module, to_symbol, Demand}
 use Rattle.fast_check_worklists.specs.Demands.{of_package, of_module, of_symbol, World}
 use Rattle.fast_check_worklists.specs.Account.{Trace, Followed, HasIn, IsSymbolMet}
@@ -27,7 +27,7 @@ pub record State : Type 0 where
   pub waiting : List (Parts × (PackageNv × ImportedExports))
   pub packages : List Nv
 
-abbrev pub state_of : Asked → State
+abbrev pub state_of : Worklist → State
 state_of a = record { handled = handled a.handled; waiting = pending a.waiting; packages = map nv_of a.packages.keys }
 
 abbrev pub trace_of : PendingTrace → Trace

@@ -1,7 +1,7 @@
 //! Calls on what is demanded of a module, and on the modules that were followed or wait to be.
 
 use crate::names::packages::package_of;
-use crate::names::sets::{name_and_rest, set_of, tell_set};
+use crate::names::sets::{name_and_rest, say_set, set_of};
 use crate::said::Said;
 use fast_check_names::{FileDepName, ImportedExports};
 use fast_check_worklists::{HandledExports, PendingTrace, PendingTraces};
@@ -17,19 +17,19 @@ fn demand_of(alloc: Global, words: &[String], said: &mut Said) -> ImportedExport
     }
 }
 
-fn tell_demand(alloc: Global, demand: &ImportedExports, said: &mut Said) {
+fn say_demand(alloc: Global, demand: &ImportedExports, said: &mut Said) {
     match demand {
-        ImportedExports::Star => said.tell(" *"),
-        ImportedExports::StarWithDefault => said.tell(" **"),
-        ImportedExports::Subset(set) => tell_set(alloc, set, said),
+        ImportedExports::Star => said.say(" *"),
+        ImportedExports::StarWithDefault => said.say(" **"),
+        ImportedExports::Subset(set) => say_set(alloc, set, said),
     }
 }
 
-fn tell_answer(alloc: Global, answer: &Option<ImportedExports>, said: &mut Said) {
-    said.tell("answers");
+fn say_answer(alloc: Global, answer: &Option<ImportedExports>, said: &mut Said) {
+    said.say("answers");
     match answer {
-        None => said.tell(" nothing"),
-        Some(demand) => tell_demand(alloc, demand, said),
+        None => said.say(" nothing"),
+        Some(demand) => say_demand(alloc, demand, said),
     }
 }
 
@@ -58,14 +58,14 @@ fn from_file_dep_name(
 fn add(alloc: Global, demand: &mut ImportedExports, words: &[String], said: &mut Said) {
     match demand.add(alloc, demand_of(alloc, words, said)) {
         Ok(answer) => {
-            tell_answer(alloc, &answer, said);
-            said.tell(", ");
+            say_answer(alloc, &answer, said);
+            said.say(", ");
         }
         Err(_) => said.lack(),
     }
 }
 
-/// Tells what a call on what is demanded of a module answers and leaves, and says whether it is such a call.
+/// Says what a call on what is demanded of a module answers and leaves, and says whether it is such a call.
 pub fn call(
     alloc: Global,
     demand: &mut ImportedExports,
@@ -79,8 +79,8 @@ pub fn call(
         "add_demand" => add(alloc, demand, words, said),
         _ => return false,
     }
-    said.tell("leaves");
-    tell_demand(alloc, demand, said);
+    said.say("leaves");
+    say_demand(alloc, demand, said);
     true
 }
 
@@ -89,7 +89,7 @@ pub fn handle(alloc: Global, handled: &mut HandledExports, words: &[String], sai
     let (module, demand) = name_and_rest(words);
     match Url::parse(alloc, module) {
         Ok(module) => follow(alloc, handled, &module, demand, said),
-        Err(_) => said.tell("no URL"),
+        Err(_) => said.say("no URL"),
     }
 }
 
@@ -101,7 +101,7 @@ fn follow(
     said: &mut Said,
 ) {
     match handled.add(alloc, module, demand_of(alloc, demand, said)) {
-        Ok(answer) => tell_answer(alloc, &answer, said),
+        Ok(answer) => say_answer(alloc, &answer, said),
         Err(_) => said.lack(),
     }
 }
@@ -116,21 +116,21 @@ pub fn wait(alloc: Global, pending: &mut PendingTraces, words: &[String], said: 
             let package = package_of(alloc, name, major, said);
             let added = pending.add(alloc, package, module, demand_of(alloc, demand, said));
             said.note(added);
-            said.tell("waits");
+            said.say("waits");
         }
-        Err(_) => said.tell("no URL"),
+        Err(_) => said.say("no URL"),
     }
 }
 
-/// Tells the package, the module and the demand that are taken.
+/// Says the package, the module and the demand that are taken.
 pub fn pop(alloc: Global, pending: &mut PendingTraces, said: &mut Said) {
     match pending.pop() {
-        None => said.tell("answers nothing"),
-        Some(trace) => tell_trace(alloc, &trace, said),
+        None => said.say("answers nothing"),
+        Some(trace) => say_trace(alloc, &trace, said),
     }
 }
 
-fn tell_trace(alloc: Global, trace: &PendingTrace, said: &mut Said) {
-    said.tell_made(format!(in alloc; "answers {} {}", trace.package_nv, trace.specifier));
-    tell_demand(alloc, &trace.exports_to_trace, said);
+fn say_trace(alloc: Global, trace: &PendingTrace, said: &mut Said) {
+    said.say_made(format!(in alloc; "answers {} {}", trace.package_nv, trace.specifier));
+    say_demand(alloc, &trace.exports_to_trace, said);
 }

@@ -21,7 +21,7 @@ pub fn package_of(alloc: Global, name: &str, major: &str, said: &mut Said) -> Pa
     }
 }
 
-/// Tells the package of a workspace member, by its base, its name, and its major number if it has a version.
+/// Says the package of a workspace member, by its base, its name, and its major number if it has a version.
 pub fn as_nv(alloc: Global, words: &[String], said: &mut Said) {
     let (base, words) = name_and_rest(words);
     let (name, version) = name_and_rest(words);
@@ -33,15 +33,15 @@ pub fn as_nv(alloc: Global, words: &[String], said: &mut Said) {
                 version: version.first().map(|major| version_of(major.as_str())),
                 exports: IndexMap::new(alloc),
             };
-            tell_nv(alloc, &member, said);
+            say_nv(alloc, &member, said);
         }
-        Err(_) => said.tell("no URL"),
+        Err(_) => said.say("no URL"),
     }
 }
 
-fn tell_nv(alloc: Global, member: &WorkspaceMember, said: &mut Said) {
+fn say_nv(alloc: Global, member: &WorkspaceMember, said: &mut Said) {
     match copied_nv(alloc, member) {
-        Ok(nv) => said.tell_made(format!(in alloc; "{nv}")),
+        Ok(nv) => said.say_made(format!(in alloc; "{nv}")),
         Err(_) => said.lack(),
     }
 }

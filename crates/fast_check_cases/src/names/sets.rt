@@ -39,21 +39,21 @@ pub fn set_of(alloc: Global, paths: &[String], said: &mut Said) -> NamedSubset {
     set
 }
 
-/// Tells the paths of a set in the order of their names, each behind `before`.
-fn tell_paths(alloc: Global, set: NamedSubset, before: &str, levels: u8, said: &mut Said) {
+/// Says the paths of a set in the order of their names, each behind `before`.
+fn say_paths(alloc: Global, set: NamedSubset, before: &str, levels: u8, said: &mut Said) {
     let Ok(names) = set.into_names(alloc) else {
         said.lack();
         return;
     };
     for (name, exports) in names {
         match exports {
-            Exports::All => said.tell_path(before, name.as_str(), ""),
+            Exports::All => said.say_path(before, name.as_str(), ""),
             Exports::Subset(below) => {
                 if below.is_empty() || levels == 0 {
-                    said.tell_path(before, name.as_str(), ".");
+                    said.say_path(before, name.as_str(), ".");
                 } else {
                     match format!(in alloc; "{before}{name}.") {
-                        Ok(path) => tell_paths(alloc, below, path.as_str(), levels - 1, said),
+                        Ok(path) => say_paths(alloc, below, path.as_str(), levels - 1, said),
                         Err(_) => said.lack(),
                     }
                 }
@@ -62,14 +62,14 @@ fn tell_paths(alloc: Global, set: NamedSubset, before: &str, levels: u8, said: &
     }
 }
 
-/// Tells the paths of a set, each behind a space.
-pub fn tell_set(alloc: Global, set: &NamedSubset, said: &mut Said) {
+/// Says the paths of a set, each behind a space.
+pub fn say_set(alloc: Global, set: &NamedSubset, said: &mut Said) {
     if set.is_empty() {
-        said.tell(" no name");
+        said.say(" no name");
         return;
     }
     match set.clone() {
-        Ok(copy) => tell_paths(alloc, copy, " ", LEVELS, said),
+        Ok(copy) => say_paths(alloc, copy, " ", LEVELS, said),
         Err(_) => said.lack(),
     }
 }
@@ -82,10 +82,10 @@ fn below_of(alloc: Global, words: &[String], said: &mut Said) -> Exports {
     }
 }
 
-fn tell_below(alloc: Global, exports: &Exports, said: &mut Said) {
+fn say_below(alloc: Global, exports: &Exports, said: &mut Said) {
     match exports {
-        Exports::All => said.tell(" all"),
-        Exports::Subset(set) => tell_set(alloc, set, said),
+        Exports::All => said.say(" all"),
+        Exports::Subset(set) => say_set(alloc, set, said),
     }
 }
 
@@ -114,9 +114,9 @@ fn add_named(alloc: Global, set: &mut NamedSubset, words: &[String], said: &mut 
 fn extend(alloc: Global, set: &mut NamedSubset, words: &[String], said: &mut Said) {
     match set.extend(alloc, set_of(alloc, words, said)) {
         Ok(answer) => {
-            said.tell("answers");
-            tell_set(alloc, &answer, said);
-            said.tell(", ");
+            said.say("answers");
+            say_set(alloc, &answer, said);
+            said.say(", ");
         }
         Err(_) => said.lack(),
     }
@@ -149,7 +149,7 @@ fn change(
     true
 }
 
-/// Tells what a call on a set answers and leaves, and says whether it is such a call.
+/// Says what a call on a set answers and leaves, and says whether it is such a call.
 pub fn call_on_set(
     alloc: Global,
     set: &mut NamedSubset,
@@ -160,17 +160,17 @@ pub fn call_on_set(
     match command {
         "equals" => {
             let other = set_of(alloc, words, said);
-            said.tell_flag(*set == other);
+            said.say_flag(*set == other);
         }
-        "contains_name" => said.tell_flag(set.contains_name(name_and_rest(words).0)),
-        "is_empty" => said.tell_flag(set.is_empty()),
-        "node_count" => said.tell_made(format!(in alloc; "{}", set.node_count())),
+        "contains_name" => said.say_flag(set.contains_name(name_and_rest(words).0)),
+        "is_empty" => said.say_flag(set.is_empty()),
+        "node_count" => said.say_made(format!(in alloc; "{}", set.node_count())),
         _ => {
             if !change(alloc, set, command, words, said) {
                 return false;
             }
-            said.tell("leaves");
-            tell_set(alloc, set, said);
+            said.say("leaves");
+            say_set(alloc, set, said);
         }
     }
     true
@@ -178,11 +178,11 @@ pub fn call_on_set(
 
 fn extend_below(alloc: Global, exports: &mut Exports, words: &[String], said: &mut Said) {
     match exports.extend(alloc, below_of(alloc, words, said)) {
-        Ok(None) => said.tell("answers nothing, "),
+        Ok(None) => said.say("answers nothing, "),
         Ok(Some(answer)) => {
-            said.tell("answers");
-            tell_below(alloc, &answer, said);
-            said.tell(", ");
+            said.say("answers");
+            say_below(alloc, &answer, said);
+            said.say(", ");
         }
         Err(_) => said.lack(),
     }
@@ -193,7 +193,7 @@ fn add_qualified_below(alloc: Global, exports: &mut Exports, words: &[String], s
     said.note(exports.add_qualified(alloc, name, qualified));
 }
 
-/// Tells what a call on what is demanded below a name answers and leaves, and says whether it is such a call.
+/// Says what a call on what is demanded below a name answers and leaves, and says whether it is such a call.
 pub fn call_below(
     alloc: Global,
     exports: &mut Exports,
@@ -204,7 +204,7 @@ pub fn call_below(
     match command {
         "below_equals" => {
             let other = below_of(alloc, words, said);
-            said.tell_flag(*exports == other);
+            said.say_flag(*exports == other);
             return true;
         }
         "below_set" => *exports = below_of(alloc, words, said),
@@ -212,7 +212,7 @@ pub fn call_below(
         "below_extend" => extend_below(alloc, exports, words, said),
         _ => return false,
     }
-    said.tell("leaves");
-    tell_below(alloc, exports, said);
+    said.say("leaves");
+    say_below(alloc, exports, said);
     true
 }

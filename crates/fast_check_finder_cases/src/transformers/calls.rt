@@ -1,5 +1,5 @@
 //! Calls of a transformer, and what is told of them.
-use crate::told::tell_diagnostic;
+use crate::said_answers::say_diagnostic;
 use fast_check_cases::Said;
 use fast_check_graph::ModuleGraph;
 use fast_check_modules::diagnostics::{Diagnostic, FastCheckDiagnostic, ModulePublicRanges};
@@ -8,56 +8,56 @@ use fast_check_requests::{EsModuleParts, Refusal, TransformRequest};
 use fast_check_transformer::FastCheckTransformer;
 use std::alloc::{AllocError, Global};
 
-/// Tells the code of each diagnostic, and the place where it begins.
-fn tell_codes(alloc: Global, diagnostics: &[FastCheckDiagnostic], said: &mut Said) {
+/// Says the code of each diagnostic, and the place where it begins.
+fn say_codes(alloc: Global, diagnostics: &[FastCheckDiagnostic], said: &mut Said) {
     for diagnostic in diagnostics {
-        said.tell(" ");
-        said.tell(diagnostic.code());
+        said.say(" ");
+        said.say(diagnostic.code());
         if let Some(place) = diagnostic.range() {
-            said.tell_made(format!(in alloc; " at {}", place.range.start.0));
+            said.say_made(format!(in alloc; " at {}", place.range.start.0));
         }
     }
 }
 
-/// Tells all of each diagnostic.
-fn tell_diagnostics(alloc: Global, diagnostics: &[FastCheckDiagnostic], said: &mut Said) {
+/// Says all of each diagnostic.
+fn say_diagnostics(alloc: Global, diagnostics: &[FastCheckDiagnostic], said: &mut Said) {
     for diagnostic in diagnostics {
-        said.tell_path("    refused: ", diagnostic.code(), "");
-        tell_diagnostic(alloc, diagnostic, said);
-        said.tell("\n");
+        said.say_path("    refused: ", diagnostic.code(), "");
+        say_diagnostic(alloc, diagnostic, said);
+        said.say("\n");
     }
 }
 
 /// Makes one call, and tells what it answers and what is kept then.
-fn tell_call(
+fn say_call(
     alloc: Global,
     transformer: &mut FastCheckTransformer<'_>,
     said: &mut Said,
 ) -> Result<(), AllocError> {
     match transformer.transform(alloc)? {
-        Ok(_) => said.tell("    a module\n"),
+        Ok(_) => said.say("    a module\n"),
         Err(diagnostics) => {
-            tell_diagnostics(alloc, diagnostics.as_slice(), said);
+            say_diagnostics(alloc, diagnostics.as_slice(), said);
         }
     }
-    said.tell("    kept:");
-    tell_codes(alloc, transformer.diagnostics(), said);
-    said.tell("\n");
+    said.say("    kept:");
+    say_codes(alloc, transformer.diagnostics(), said);
+    said.say("\n");
     Ok(())
 }
 
 /// Makes two calls.
-fn tell_two(
+fn say_two(
     alloc: Global,
     mut transformer: FastCheckTransformer<'_>,
     said: &mut Said,
 ) -> Result<(), AllocError> {
-    tell_call(alloc, &mut transformer, said)?;
-    tell_call(alloc, &mut transformer, said)
+    say_call(alloc, &mut transformer, said)?;
+    say_call(alloc, &mut transformer, said)
 }
 
 /// Makes the calls for a module.
-fn tell_info(
+fn say_info(
     alloc: Global,
     graph: &ModuleGraph,
     info: &EsModuleInfo,
@@ -67,12 +67,12 @@ fn tell_info(
     if !info.admits(public_ranges) {
         return Err(Refusal::RangesNotAdmitted);
     }
-    said.tell("  all\n");
+    said.say("  all\n");
     let all = FastCheckTransformer::new(graph, info, public_ranges, false);
-    tell_two(alloc, all, said)?;
-    said.tell("  the first alone\n");
+    say_two(alloc, all, said)?;
+    said.say("  the first alone\n");
     let first_alone = FastCheckTransformer::new(graph, info, public_ranges, true);
-    Ok(tell_two(alloc, first_alone, said)?)
+    Ok(say_two(alloc, first_alone, said)?)
 }
 
 fn info_of(alloc: Global, parts: EsModuleParts) -> Result<EsModuleInfo, TableFault> {
@@ -85,11 +85,7 @@ fn info_of(alloc: Global, parts: EsModuleParts) -> Result<EsModuleInfo, TableFau
 }
 
 /// Makes two calls without the option, and two with it.
-pub fn tell_calls(
-    alloc: Global,
-    request: TransformRequest,
-    said: &mut Said,
-) -> Result<(), Refusal> {
+pub fn say_calls(alloc: Global, request: TransformRequest, said: &mut Said) -> Result<(), Refusal> {
     let TransformRequest {
         graph,
         es_module,
@@ -97,7 +93,7 @@ pub fn tell_calls(
         ..
     } = request;
     match info_of(alloc, es_module) {
-        Ok(info) => tell_info(alloc, &graph, &info, &public_ranges, said),
+        Ok(info) => say_info(alloc, &graph, &info, &public_ranges, said),
         Err(fault) => Err(fault.into()),
     }
 }

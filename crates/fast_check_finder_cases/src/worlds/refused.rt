@@ -1,5 +1,5 @@
 //! A world again, with the calls of its provider refused from each on.
-use crate::said_packages::tell_packages;
+use crate::said_packages::say_packages;
 use crate::worlds::world::World;
 use fast_check_build::PublicRangeFinder;
 use fast_check_cache::PackagePublicRanges;
@@ -30,12 +30,12 @@ pub fn find(alloc: Global, world: &World, pending: &[PackageNv]) -> Found {
     finder.find(alloc, None, &world.provider)
 }
 
-/// Tells what was found.
-pub fn tell_found(alloc: Global, found: Found, ranges: &[SourceRange], said: &mut Said) {
+/// Says what was found.
+pub fn say_found(alloc: Global, found: Found, ranges: &[SourceRange], said: &mut Said) {
     match found {
-        Ok(found) => tell_packages(alloc, ranges, found, said),
+        Ok(found) => say_packages(alloc, ranges, found, said),
         Err(BuildFault::InvalidExport { package, export }) => {
-            said.tell_made(format!(in alloc; "\n  invalid export {export} of {package}"))
+            said.say_made(format!(in alloc; "\n  invalid export {export} of {package}"))
         }
         Err(BuildFault::OutOfMemory) => said.lack(),
     }
@@ -54,17 +54,17 @@ pub fn refuse_calls(
     for calls in 0..MOST_CALLS {
         world.provider.answer(calls);
         let mut told = Said::new(alloc);
-        tell_found(alloc, find(alloc, world, pending), ranges, &mut told);
+        say_found(alloc, find(alloc, world, pending), ranges, &mut told);
         if !world.provider.has_refused() {
             if told.text() != wanted.text() {
-                said.tell("\n  another answer after calls were refused");
+                said.say("\n  another answer after calls were refused");
             }
             return calls > 0;
         }
         if told.text().is_some() {
-            said.tell("\n  an answer where a call was refused");
+            said.say("\n  an answer where a call was refused");
         }
     }
-    said.tell("\n  more calls than are tried");
+    said.say("\n  more calls than are tried");
     true
 }

@@ -1,6 +1,7 @@
 use Rattle.std.proofs.Common.{◌∙◌, subst, List, map}
 use Rattle.fast_check_packages.specs.Package.{nv_of}
 use Rattle.fast_check_packages.specs.declared.package.PackageNv.{PackageNv}
+use Rattle.fast_check_packages.specs.MembersIn.{members_in}
 use Rattle.fast_check_cache.specs.CachedPackages.{used_item}
 use Rattle.fast_check_finder.specs.turns.Lent.{used_of}
 use Rattle.fast_check_finder.specs.turns.steps.Sources.{with_used}
@@ -14,9 +15,10 @@ pub returns-clause-found : goal.returns-clause-found
 returns-clause-found g c =
     let m = goal.JsrUrlProvider-dyn g c.args.jsr_url_provider.now in
     let used = used_of c.args.cache (λ x. let n = goal.FastCheckCache-dyn g x.now in
-    used_item (n.hash_of x.now.1 c.args.seed.now) (n.stored x.now.1) c.args.graph.now) in
+    used_item (n.hash_of x.now.1 c.args.input.seed.now) (n.stored x.now.1) c.args.input.sources.graph.now) in
     let k = with_used used
-    (known_of c.args.graph.now c.args.root_symbol.now c.args.workspace_members.now (m.url_of c.args.jsr_url_provider.now.1)
+    (known_of c.args.input.sources.graph.now c.args.input.sources.root_symbol.now (members_in c.args.input.sources.workspace_members.now)
+    (m.url_of c.args.jsr_url_provider.now.1)
     (m.nv_at c.args.jsr_url_provider.now.1)) in
     subst (λ (ps : List PackageNv). IsFound k (map nv_of ps) c.in_ok-answers.answers)
     (c.as_slice.ensures.value ∙ c.into_vec-roots.ensures.items)
@@ -28,9 +30,10 @@ pub returns-in_err-found-clause-refused : goal.returns-in_err-found-clause-refus
 returns-in_err-found-clause-refused g c =
     let m = goal.JsrUrlProvider-dyn g c.args.jsr_url_provider.now in
     let used = used_of c.args.cache (λ x. let n = goal.FastCheckCache-dyn g x.now in
-    used_item (n.hash_of x.now.1 c.args.seed.now) (n.stored x.now.1) c.args.graph.now) in
+    used_item (n.hash_of x.now.1 c.args.input.seed.now) (n.stored x.now.1) c.args.input.sources.graph.now) in
     let k = with_used used
-    (known_of c.args.graph.now c.args.root_symbol.now c.args.workspace_members.now (m.url_of c.args.jsr_url_provider.now.1)
+    (known_of c.args.input.sources.graph.now c.args.input.sources.root_symbol.now (members_in c.args.input.sources.workspace_members.now)
+    (m.url_of c.args.jsr_url_provider.now.1)
     (m.nv_at c.args.jsr_url_provider.now.1)) in
     let f = c.in_err-found.field-0.0 in
     passed_on c.from_residual.result f (IsRefusal k (map nv_of c.args.pending_nvs.items)) c.from_residual.ensures.1

@@ -1,4 +1,4 @@
-use Rattle.std.proofs.Common.{map}
+use Rattle.std.proofs.Common.{◌∙◌, map}
 use Rattle.fast_check_packages.specs.Package.{nv_of}
 use Rattle.fast_check_cache.specs.CachedPackages.{used_item}
 use Rattle.fast_check_finder.specs.turns.steps.Sources.{with_used}
@@ -11,11 +11,11 @@ answer_and_set_all-requires g c =
     let m = goal.JsrUrlProvider-dyn g c.args.jsr_url_provider.now in
     let n = goal.FastCheckCache-dyn g c.args.cache.now in
     let d = c.args.cache.now.1 in
-    let used = used_item (n.hash_of d c.hash_seed-seed.result.now) (n.stored d) c.args.graph.now in
-    all_owned (with_used used (known_of c.args.graph.now c.args.root_symbol.now c.args.options.now.workspace_members.items
+    let used = used_item (n.hash_of d c.hash_seed-seed.result.now) (n.stored d) c.args.input.graph.now in
+    all_owned (with_used used (known_of c.args.input.graph.now c.args.input.root_symbol.now c.args.input.options.now.workspace_members.items
     (m.url_of c.args.jsr_url_provider.now.1) (m.nv_at c.args.jsr_url_provider.now.1)))
     (map nv_of c.args.pending_nvs.items) c.in_ok-ranges.ranges
-    (rw c.as_slice.ensures.value at c.in_ok-ranges.ensures.found) c.len.ensures.ordered
+    (rw (c.in_ok-members.ensures ∙ c.as_slice.ensures.value) at c.in_ok-ranges.ensures.found) c.len.ensures.ordered
 
 pub returns-clause-built : goal.returns-clause-built
 returns-clause-built g c = (
@@ -24,7 +24,7 @@ returns-clause-built g c = (
   record {
     built = record {
       ranges = c.in_ok-ranges.ranges;
-      found = rw c.as_slice.ensures.value at c.in_ok-ranges.ensures.found;
+      found = rw (c.in_ok-members.ensures ∙ c.as_slice.ensures.value) at c.in_ok-ranges.ensures.found;
       packages_in_order = c.len.ensures.ordered;
       answered = c.in_ok-answers.ensures.answered;
     };

@@ -8,7 +8,7 @@ pub answer_all-requires : goal.answer_all-requires
 answer_all-requires g c =
     let m = goal.JsrUrlProvider-dyn g c.args.jsr_url_provider.now in
     all_owned
-    (known_of c.args.graph.now c.args.root_symbol.now c.args.options.now.workspace_members.items
+    (known_of c.args.input.graph.now c.args.input.root_symbol.now c.args.input.options.now.workspace_members.items
     (m.url_of c.args.jsr_url_provider.now.1)
     (m.nv_at c.args.jsr_url_provider.now.1)) (map nv_of c.args.pending_nvs.items) c.in_ok-ranges.ranges
     (rw c.as_slice-members.ensures.value at c.in_ok-ranges.ensures.found) c.len.ensures.ordered

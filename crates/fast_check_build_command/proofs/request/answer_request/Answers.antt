@@ -10,5 +10,5 @@ pub returns-clause-answer : goal.returns-clause-answer
 returns-clause-answer c = record {
   answers = c.in_ok-answers.answers.items;
   answered = c.in_ok-answers.ensures.built;
-  is_line = c.in_ok-tell_answers.ensures;
+  is_line = c.in_ok-answer_of.ensures;
 }

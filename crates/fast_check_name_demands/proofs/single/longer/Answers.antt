@@ -1,7 +1,7 @@
 use Rattle.std.proofs.Common.{◌∙◌, ap, ◌∷◌, [], ◌++◌, string_bytes}
 use Rattle.std.proofs.lemmas.List.{map-append}
 use Rattle.fast_check_names.specs.Names.{path_of}
-use Rattle.fast_check_name_demands.proofs.Turns.{copied_path}
+use Rattle.fast_check_name_demands.proofs.Copies.{copied_path}
 use Rattle.fast_check_name_demands.proofs.single.longer.Goals as goal
 
 pub returns : goal.returns

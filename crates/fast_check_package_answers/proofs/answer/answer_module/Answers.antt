@@ -9,13 +9,13 @@ answer_if_tree-requires c =
     let found = c.take_diagnostics-found in
     let none = empty_vec found.result c.is_empty.result c.is_empty.ensures c.if-is_empty.true in
     let same = left_same c.args.public_ranges found.new.self found.result found.ensures.taken found.ensures.left none in
-    subst (λ (public : PublicRanges). OwnsModule c.args.root_symbol.now (c.args.specifier, public)) (sym same) c.requires
+    subst (λ (public : PublicRanges). OwnsModule c.args.input.root_symbol.now (c.args.specifier, public)) (sym same) c.requires
 
 pub returns-then-is_empty-clause-reasons : goal.returns-then-is_empty-clause-reasons
 returns-then-is_empty-clause-reasons c =
     let found = c.take_diagnostics-found in
     let none = empty_vec found.result c.is_empty.result c.is_empty.ensures c.if-is_empty.true in
-    told_rest c.args.options.now.should_error_on_first_diagnostic c.args.graph.now c.args.root_symbol.now
+    told_rest c.args.input.options.now.should_error_on_first_diagnostic c.args.input.graph.now c.args.input.root_symbol.now
     (c.args.specifier, c.args.public_ranges)
     found.new.self c.answer_if_tree.result
     (left_same c.args.public_ranges found.new.self found.result found.ensures.taken found.ensures.left none)
@@ -25,7 +25,8 @@ pub returns-then-is_empty-clause-shown : goal.returns-then-is_empty-clause-shown
 returns-then-is_empty-clause-shown c =
     let found = c.take_diagnostics-found in
     let none = empty_vec found.result c.is_empty.result c.is_empty.ensures c.if-is_empty.true in
-    shows_rest c.args.graph.now c.args.root_symbol.now (c.args.specifier, c.args.public_ranges) found.new.self c.args.answers.now.items
+    shows_rest c.args.input.graph.now c.args.input.root_symbol.now
+    (c.args.specifier, c.args.public_ranges) found.new.self c.args.answers.now.items
     c.answer_if_tree.new.answers.items c.answer_if_tree.result
     (left_same c.args.public_ranges found.new.self found.result found.ensures.taken found.ensures.left none) c.answer_if_tree.ensures.shown
 

@@ -5,7 +5,7 @@ use Rattle.fast_check_package_answers.proofs.answer.answer_modules.Goals as goal
 
 pub answer_module-requires : goal.answer_module-requires
 answer_module-requires c =
-    owns_next c.args.root_symbol.now c.loop-specifier.yielded
+    owns_next c.args.input.root_symbol.now c.loop-specifier.yielded
     (c.in-Some.specifier, c.in-Some.public_ranges) c.next.new.self c.args.module_ranges.entries
     (sym (ap (λ es. c.loop-specifier.yielded ++ es) c.in-Some.ensures.steps) ∙ c.loop-specifier.invariant.all) c.requires
 
@@ -13,30 +13,30 @@ pub returns-then-ends_early-clause-reasons : goal.returns-then-ends_early-clause
 returns-then-ends_early-clause-reasons c =
     let m : PublicModule = (c.in-Some.specifier, c.in-Some.public_ranges) in
     let done = c.loop-specifier.yielded in
-    let first = c.args.options.now.should_error_on_first_diagnostic in
+    let first = c.args.input.options.now.should_error_on_first_diagnostic in
     let last = early first c.deref.result.now c.ends_early.result c.ends_early.ensures c.if-ends_early.true in
     let split = append_assoc done (m ∷ []) c.next.new.self ∙
     (sym (ap (λ es. done ++ es) c.in-Some.ensures.steps) ∙ c.loop-specifier.invariant.all) in
-    told_all first c.args.graph.now c.args.root_symbol.now
+    told_all first c.args.input.graph.now c.args.input.root_symbol.now
     (done ++ m ∷ []) c.next.new.self c.args.module_ranges.entries c.add_wrong.new.wrong.items
     last.0 (λ e. last.1 (c.deref.ensures.value ∙ e)) split
-    (told_more first c.args.graph.now c.args.root_symbol.now done m c.loop-specifier.wrong.items c.in_ok-more.more.items c.add_wrong.new.wrong.items
+    (told_more first c.args.input.graph.now c.args.input.root_symbol.now done m c.loop-specifier.wrong.items c.in_ok-more.more.items c.add_wrong.new.wrong.items
     c.loop-specifier.invariant.goes_on c.loop-specifier.invariant.reasons c.in_ok-more.ensures.reasons c.in_ok-add_wrong.ensures.added)
 
 pub returns-then-ends_early-clause-shown : goal.returns-then-ends_early-clause-shown
 returns-then-ends_early-clause-shown c =
     let m : PublicModule = (c.in-Some.specifier, c.in-Some.public_ranges) in
     let done = c.loop-specifier.yielded in
-    let first = c.args.options.now.should_error_on_first_diagnostic in
+    let first = c.args.input.options.now.should_error_on_first_diagnostic in
     let last = early first c.deref.result.now c.ends_early.result c.ends_early.ensures c.if-ends_early.true in
     let split = append_assoc done (m ∷ []) c.next.new.self ∙
     (sym (ap (λ es. done ++ es) c.in-Some.ensures.steps) ∙ c.loop-specifier.invariant.all) in
-    shows_all first c.args.graph.now c.args.root_symbol.now
+    shows_all first c.args.input.graph.now c.args.input.root_symbol.now
     (done ++ m ∷ []) c.next.new.self c.args.module_ranges.entries c.args.answers.now.items
     c.add_wrong.new.answers.items c.add_wrong.new.wrong.items (λ e. last.1 (c.deref.ensures.value ∙ e)) split
-    (told_more first c.args.graph.now c.args.root_symbol.now done m c.loop-specifier.wrong.items c.in_ok-more.more.items c.add_wrong.new.wrong.items
+    (told_more first c.args.input.graph.now c.args.input.root_symbol.now done m c.loop-specifier.wrong.items c.in_ok-more.more.items c.add_wrong.new.wrong.items
     c.loop-specifier.invariant.goes_on c.loop-specifier.invariant.reasons c.in_ok-more.ensures.reasons c.in_ok-add_wrong.ensures.added)
-    (shows_turn first c.args.graph.now c.args.root_symbol.now done m c.args.answers.now.items c.loop-specifier.answers.items
+    (shows_turn first c.args.input.graph.now c.args.input.root_symbol.now done m c.args.answers.now.items c.loop-specifier.answers.items
     c.answer_module.new.answers.items c.add_wrong.new.answers.items c.len-answered.result c.loop-specifier.wrong.items c.in_ok-more.more.items
     c.add_wrong.new.wrong.items c.loop-specifier.invariant.reasons c.in_ok-more.ensures.reasons c.in_ok-add_wrong.ensures.added
     c.in_ok-add_wrong.ensures.kept c.in_ok-add_wrong.ensures.cut
@@ -47,13 +47,14 @@ pub loop-specifier-preserved : goal.loop-specifier-preserved
 loop-specifier-preserved c =
     let m : PublicModule = (c.in-Some.specifier, c.in-Some.public_ranges) in
     let done = c.loop-specifier.yielded in
-    let first = c.args.options.now.should_error_on_first_diagnostic in record {
+    let first = c.args.input.options.now.should_error_on_first_diagnostic in record {
       all = append_assoc done (m ∷ []) c.next.new.self ∙
           (sym (ap (λ es. done ++ es) c.in-Some.ensures.steps) ∙ c.loop-specifier.invariant.all);
-      reasons = told_more first c.args.graph.now c.args.root_symbol.now done m c.loop-specifier.wrong.items c.in_ok-more.more.items
+      reasons =
+          told_more first c.args.input.graph.now c.args.input.root_symbol.now done m c.loop-specifier.wrong.items c.in_ok-more.more.items
           c.add_wrong.new.wrong.items c.loop-specifier.invariant.goes_on c.loop-specifier.invariant.reasons c.in_ok-more.ensures.reasons
           c.in_ok-add_wrong.ensures.added;
-      shown = shows_turn first c.args.graph.now c.args.root_symbol.now done m c.args.answers.now.items c.loop-specifier.answers.items
+      shown = shows_turn first c.args.input.graph.now c.args.input.root_symbol.now done m c.args.answers.now.items c.loop-specifier.answers.items
           c.answer_module.new.answers.items c.add_wrong.new.answers.items c.len-answered.result c.loop-specifier.wrong.items c.in_ok-more.more.items
           c.add_wrong.new.wrong.items c.loop-specifier.invariant.reasons c.in_ok-more.ensures.reasons c.in_ok-add_wrong.ensures.added
           c.in_ok-add_wrong.ensures.kept c.in_ok-add_wrong.ensures.cut (c.len-answered.ensures ∙ c.loop-specifier.answers.ok.0)

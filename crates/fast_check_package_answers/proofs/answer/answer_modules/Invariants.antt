@@ -7,9 +7,11 @@ use Rattle.fast_check_package_answers.proofs.answer.answer_modules.Given as goal
 abbrev pub invariant-loop-specifier : goal.invariant-loop-specifier
 invariant-loop-specifier l = record {
   all : l.yielded ++ l.specifier-iterator ≡ l.fn.module_ranges.entries;
-  reasons : AllZip Tells (package_reasons l.options.should_error_on_first_diagnostic l.graph l.root_symbol l.yielded) l.wrong.items;
-  shown : ShowsMore l.graph
-      (tree_modules l.root_symbol (sound_front l.options.should_error_on_first_diagnostic l.graph l.root_symbol l.yielded))
+  reasons : AllZip Tells
+      (package_reasons l.input.options.now.should_error_on_first_diagnostic l.input.graph.now l.input.root_symbol.now l.yielded) l.wrong.items;
+  shown : ShowsMore l.input.graph.now
+      (tree_modules l.input.root_symbol.now
+      (sound_front l.input.options.now.should_error_on_first_diagnostic l.input.graph.now l.input.root_symbol.now l.yielded))
       l.initial.answers.items l.answers.items;
-  goes_on : l.options.should_error_on_first_diagnostic ≡ true → l.wrong.items ≡ [];
+  goes_on : l.input.options.now.should_error_on_first_diagnostic ≡ true → l.wrong.items ≡ [];
 }

@@ -4,13 +4,13 @@ use Rattle.fast_check_package_answers.proofs.packages.answer_all.Goals as goal
 
 pub answer_one-requires : goal.answer_one-requires
 answer_one-requires c =
-    owned_next c.args.root_symbol.now c.loop-package_ranges.yielded
+    owned_next c.args.input.root_symbol.now c.loop-package_ranges.yielded
     (c.in-Some.field-0-0, c.in-Some.package_ranges) c.next.new.self c.args.ranges.entries
     (sym (ap (λ es. c.loop-package_ranges.yielded ++ es) c.in-Some.ensures.steps) ∙ c.loop-package_ranges.invariant.all) c.requires
 
 pub loop-package_ranges-preserved-in_ok-append : goal.loop-package_ranges-preserved-in_ok-append
 loop-package_ranges-preserved-in_ok-append c =
-    let t = turned c.args.graph.now c.args.root_symbol.now c.args.options.now.should_error_on_first_diagnostic c.loop-package_ranges.yielded (
+    let t = turned c.args.input.graph.now c.args.input.root_symbol.now c.args.input.options.now.should_error_on_first_diagnostic c.loop-package_ranges.yielded (
       c.in-Some.field-0-0,
       c.in-Some.package_ranges,
     ) _ c.next.new.self c.args.ranges.entries c.loop-package_ranges.answers.items c.in_ok-more.more.items
@@ -20,7 +20,7 @@ loop-package_ranges-preserved-in_ok-append c =
 
 pub loop-package_ranges-preserved : goal.loop-package_ranges-preserved
 loop-package_ranges-preserved c =
-    let t = turned c.args.graph.now c.args.root_symbol.now c.args.options.now.should_error_on_first_diagnostic c.loop-package_ranges.yielded (
+    let t = turned c.args.input.graph.now c.args.input.root_symbol.now c.args.input.options.now.should_error_on_first_diagnostic c.loop-package_ranges.yielded (
       c.in-Some.field-0-0,
       c.in-Some.package_ranges,
     ) _ c.next.new.self c.args.ranges.entries c.loop-package_ranges.answers.items c.in_ok-more.more.items

@@ -8,9 +8,9 @@ invariant-loop-nv g l =
     let n = goal.FastCheckCache-dyn g l.initial.cache.now in
     let now = l.cache.now.1 in
     let old = l.initial.cache.now.1 in
-    let first = l.options.should_error_on_first_diagnostic in record {
+    let first = l.input.options.now.should_error_on_first_diagnostic in record {
       all : l.yielded ++ l.nv-iterator ≡ l.fn.ranges.entries;
-      answered : AreAnswered l.graph l.root_symbol first l.yielded l.answers.items;
-      set : m.stored now ≡ sets (n.hash_of old l.seed) first l.graph l.root_symbol l.yielded (n.stored old);
+      answered : AreAnswered l.input.graph.now l.input.root_symbol.now first l.yielded l.answers.items;
+      set : m.stored now ≡ sets (n.hash_of old l.seed) first l.input.graph.now l.input.root_symbol.now l.yielded (n.stored old);
       hash : m.hash_of now ≡ n.hash_of old;
     }

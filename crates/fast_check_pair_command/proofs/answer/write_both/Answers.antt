@@ -1,4 +1,4 @@
-use Rattle.fast_check_print.proofs.Adding.{adds-token, adds-last, adds-token_ok}
+use Rattle.fast_check_write.proofs.Adding.{adds-token, adds-last, adds-token_ok}
 use Rattle.fast_check_pair_command.proofs.answer.write_both.Goals as goal
 
 pub returns : goal.returns

@@ -1,6 +1,6 @@
 use Rattle.std.proofs.Common.{sym, subst, List}
 use Rattle.fast_check_syntax.specs.declared.source.SourceRange.{SourceRange}
-use Rattle.fast_check_search.specs.Turn.{AreTableRanges}
+use Rattle.fast_check_search.specs.Found.{AreTableRanges}
 use Rattle.fast_check_traces.specs.Modules.{own_tables as tables_at}
 use Rattle.fast_check_traces.proofs.OwnRanges.{own_re_exports}
 use Rattle.fast_check_traces.proofs.follow.trace.Goals as goal
@@ -13,4 +13,4 @@ returns-clause-own_implementations c = rw c.own_tables-tables.ensures at c.in_ok
 
 pub returns-clause-own_re_exports : goal.returns-clause-own_re_exports
 returns-clause-own_re_exports c = subst (λ (xs : List SourceRange). AreTableRanges (tables_at c.args.traced) xs)
-    (sym c.in_ok-re_export_ranges.ensures) (own_re_exports c.args.traced c.args.names.now)
+    (sym c.in_ok-re_export_ranges.ensures) (own_re_exports c.args.traced c.args.demands.now)

@@ -4,5 +4,5 @@ use Rattle.fast_check_name_demands.specs.Files.{names_of}
 use Rattle.fast_check_traces.specs.Wants.{module_wants}
 use Rattle.fast_check_traces.proofs.re_exports.wants_of.Given as goal
 
-abbrev pub invariant-loop-wanted : goal.invariant-loop-wanted
-invariant-loop-wanted l = l.out ≡ flat_map (λ w. module_wants l.traced (names_of w)) (take l.wanted-index l.names)
+abbrev pub invariant-loop-demand : goal.invariant-loop-demand
+invariant-loop-demand l = l.out ≡ flat_map (λ d. module_wants l.traced (names_of d)) (take l.demand-index l.demands)

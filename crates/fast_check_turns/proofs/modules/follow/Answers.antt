@@ -11,8 +11,8 @@ pub returns-in_ok-leave_out-in-None : goal.returns-in_ok-leave_out-in-None
 returns-in_ok-leave_out-in-None g c used =
     let m = goal.JsrUrlProvider-dyn g c.args.provider.now in
     let k = with_used used (known c.args.sources (m.url_of c.args.provider.now.1) (m.nv_at c.args.provider.now.1)) in
-    followed_nowhere k (trace_of c.args.trace) (state_of c.args.asked.now) (state_of c.args.asked.now)
-    (flat_map yields_of c.args.found.now.items) (flat_map yields_of c.leave_out.new.found.items)
+    followed_nowhere k (trace_of c.args.trace) (state_of c.args.progress.now.worklist) (state_of c.args.progress.now.worklist)
+    (flat_map yields_of c.args.progress.now.found.items) (flat_map yields_of c.leave_out.new.found.items)
     (sym c.info_of.ensures ∙ ap option_copied c.in-None.is) refl c.in_ok-leave_out-in-None.ensures
 
 pub returns-in_ok-ask_all-in-Some : goal.returns-in_ok-ask_all-in-Some
@@ -21,5 +21,6 @@ returns-in_ok-ask_all-in-Some g c used =
     let k = with_used used (known c.args.sources (m.url_of c.args.provider.now.1) (m.nv_at c.args.provider.now.1)) in
     followed_one k (trace_of c.args.trace) c.in-Some.info.now (sym c.info_of.ensures ∙ ap option_copied c.in-Some.is)
     c.in_ok-steps-in-Some.steps.items (yields_of c.in_ok-steps-in-Some.finding) (c.in_ok-steps-in-Some.ensures used)
-    (state_of c.args.asked.now) (state_of c.ask_all.new.self) c.in_ok-ask_all-in-Some.ensures
-    (flat_map yields_of c.args.found.now.items) (flat_map yields_of c.push_finding.new.found.items) c.in_ok-push_finding-in-Some.ensures
+    (state_of c.args.progress.now.worklist) (state_of c.ask_all.new.self) c.in_ok-ask_all-in-Some.ensures
+    (flat_map yields_of c.args.progress.now.found.items)
+    (flat_map yields_of c.push_finding.new.found.items) c.in_ok-push_finding-in-Some.ensures

@@ -1,7 +1,7 @@
-use Rattle.std.proofs.Common.{◌∙◌, sym, ap, subst, List, map}
+use Rattle.std.proofs.Common.{sym, ap, subst, List, map}
 use Rattle.fast_check_names.specs.Imports.{NameDemand}
 use Rattle.fast_check_name_demands.specs.Files.{names_of}
-use Rattle.fast_check_name_demands.specs.NameDemands.{demand_of, AreDemands}
+use Rattle.fast_check_name_demands.specs.NameDemands.{AreDemands}
 use Rattle.fast_check_turns.proofs.modules.follow_in.Goals as goal
 
 -- the module is lent anew, so what was traced of it is said again
@@ -9,9 +9,9 @@ pub returns : goal.returns
 returns g c used =
     let t = c.in_ok-steps.ensures in
     record {
-      names = map names_of c.as_slice-2.result.now;
+      names = map names_of c.as_slice.result.now;
       are_names = subst (λ (ds : List NameDemand). AreDemands c.args.trace.exports_to_trace ds)
-          (sym (ap (map names_of) c.as_slice-2.ensures.value ∙ (c.in_ok-names.ensures ∙ ap (map demand_of) c.as_slice.ensures.value)))
+          (sym (ap (map names_of) c.as_slice.ensures.value))
           c.in_ok-demands.ensures;
       found = c.in_ok-steps.found;
       traced = record {
@@ -28,5 +28,5 @@ returns g c used =
         found_faults = t.found_faults;
         faults_are = t.faults_are;
       };
-      given_is = rw c.as_slice-3.ensures.value at c.in_ok-finding.ensures;
+      given_is = rw c.as_slice-2.ensures.value at c.in_ok-finding.ensures;
     }

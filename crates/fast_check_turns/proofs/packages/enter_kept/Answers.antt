@@ -12,6 +12,6 @@ returns c = (
   c.in_ok-steps.ensures,
   c.in_ok-ask_all.ensures,
   c.in_ok-push_finding.ensures ∙
-      ap (λ (p : Nv). flat_map yields_of c.args.found.now.items ++
+      ap (λ (p : Nv). flat_map yields_of c.args.progress.now.found.items ++
       (kept p c.args.entry_points.keys (item_of c.args.item) ∷ [])) c.in_ok-package.ensures,
 )

@@ -11,7 +11,7 @@ use Rattle.fast_check_turns.proofs.packages.enter_some.Goals as goal
 pub returns-in-None : goal.returns-in-None
 returns-in-None g c =
     let used = used_of c.args.cache (λ x. let n = goal.FastCheckCache-dyn g x.now in
-    used_item (n.hash_of x.now.1 c.args.seed.now) (n.stored x.now.1) c.args.graph.now) in
-    entered_nowhere c.args.graph.now used (nv_of c.args.nv.now) c.args.entry_points c.in-None.is
-    (state_of c.args.asked.now) (state_of c.args.asked.now) refl (flat_map yields_of c.args.found.now.items)
-    (flat_map yields_of c.args.found.now.items) refl
+    used_item (n.hash_of x.now.1 c.args.input.seed.now) (n.stored x.now.1) c.args.input.sources.graph.now) in
+    entered_nowhere c.args.input.sources.graph.now used (nv_of c.args.nv.now) c.args.entry_points c.in-None.is
+    (state_of c.args.progress.now.worklist) (state_of c.args.progress.now.worklist) refl
+    (flat_map yields_of c.args.progress.now.found.items) (flat_map yields_of c.args.progress.now.found.items) refl

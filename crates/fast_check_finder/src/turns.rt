@@ -1,0 +1,117 @@
+//! The turns of the finder, until nothing waits.
+
+ghost use Rattle.std.specs.Prelude.{◌≡◌, [], Some, map, OnOk, IfOk, IfErr};
+ghost use Rattle.std.specs.List.{flat_map};
+ghost use Rattle.fast_check_packages.specs.Package.{nv_of};
+ghost use Rattle.fast_check_cache.specs.CachedPackages.{used_item};
+ghost use Rattle.fast_check_worklists.specs.Traces.{pending};
+ghost use Rattle.fast_check_worklists.specs.Account.{Account, IsAccount, IsYield};
+ghost use Rattle.fast_check_worklists.specs.State.{state_of};
+ghost use Rattle.fast_check_worklists.specs.Turn.{IsTurn};
+ghost use Rattle.fast_check_findings.specs.Findings.{yields_of};
+ghost use Rattle.fast_check_turns.specs.steps.Sources.{known, with_used};
+ghost use Rattle.fast_check_turns.specs.Lent.{used_of};
+ghost use Rattle.fast_check_turns.specs.Rules.{world};
+ghost use Rattle.fast_check_turns.specs.Yields.{gives};
+ghost use Rattle.fast_check_finder.specs.Refusals.{IsRefusal, IsRefusedOf, JoinAll};
+
+use fast_check_cache::FastCheckCache;
+use fast_check_packages::{BuildFault, JsrUrlProvider, PackageNv};
+use fast_check_turns::{FinderInput, Finding, Progress, enter, follow};
+use fast_check_worklists::{begin, copy_of};
+use std::alloc::{AllocError, Global};
+
+/// Enters the next package, if there is one, and answers the number of those that were entered.
+fn enter_next(
+    alloc: Global,
+    input: FinderInput<'_>,
+    provider: &dyn JsrUrlProvider,
+    cache: Option<&dyn FastCheckCache>,
+    next: usize,
+    progress: &mut Progress,
+) -> Result<Option<usize>, BuildFault>
+    requires { pending progress.old.worklist.waiting ≡ [] }
+    ensures turned { let i = input.entry in
+        let used = used_of cache.entry (λ c. used_item (hash_of c.now i.seed.now) (stored c.now) i.sources.graph.now) in
+        let k = with_used used (known i.sources (url_of provider.now) (nv_at provider.now)) in
+        IfOk result (IsTurn (world k) (gives k) next (state_of progress.old.worklist) (state_of progress.new.worklist)
+        (flat_map yields_of progress.old.found.items) (flat_map yields_of progress.new.found.items)) }
+    ensures refused { let i = input.entry in
+        let used = used_of cache.entry (λ c. used_item (hash_of c.now i.seed.now) (stored c.now) i.sources.graph.now) in
+        let k = with_used used (known i.sources (url_of provider.now) (nv_at provider.now)) in
+        IfErr result (IsRefusedOf k (map nv_of progress.old.worklist.packages.keys)) }
+{
+    if next >= progress.worklist.packages.len() {
+        return Ok(None);
+    }
+    let nv = copy_of(&progress.worklist.packages[next])?;
+    enter(alloc, input, provider, cache, &nv, progress)?;
+    Ok(Some(next + 1))
+}
+
+/// Follows what waits last, or enters the next package where nothing waits. Answers the number of packages that were entered, and None where
+/// nothing is left.
+fn turn(
+    alloc: Global,
+    input: FinderInput<'_>,
+    provider: &dyn JsrUrlProvider,
+    cache: Option<&dyn FastCheckCache>,
+    next: usize,
+    progress: &mut Progress,
+) -> Result<Option<usize>, BuildFault>
+    ensures turned { let i = input.entry in
+        let used = used_of cache.entry (λ c. used_item (hash_of c.now i.seed.now) (stored c.now) i.sources.graph.now) in
+        let k = with_used used (known i.sources (url_of provider.now) (nv_at provider.now)) in
+        IfOk result (IsTurn (world k) (gives k) next (state_of progress.old.worklist) (state_of progress.new.worklist)
+        (flat_map yields_of progress.old.found.items) (flat_map yields_of progress.new.found.items)) }
+    ensures refused { let i = input.entry in
+        let used = used_of cache.entry (λ c. used_item (hash_of c.now i.seed.now) (stored c.now) i.sources.graph.now) in
+        let k = with_used used (known i.sources (url_of provider.now) (nv_at provider.now)) in
+        IfErr result (IsRefusedOf k (map nv_of progress.old.worklist.packages.keys)) }
+{
+    match progress.worklist.waiting.pop() {
+        None => {
+            let after = enter_next(alloc, input, provider, cache, next, progress)?;
+            Ok(after)
+        }
+        Some(trace) => {
+            follow(alloc, input.sources, provider, trace, progress)?;
+            Ok(Some(next))
+        }
+    }
+}
+
+/// Follows the packages that are handed in, and all that follows from them, and answers what is found: what the demands of an account yield,
+/// neither more nor less.
+///
+/// A package whose item in the cache is used is followed to the dependencies of the item alone. The search ends on every cache.
+///
+/// A package whose exports neither the graph nor a member of the workspace has is passed over. An export text that does not join refuses the
+/// build: `InvalidExport` has the first one of its package. `OutOfMemory` where memory is wanting, or a URL comes to 4 GB.
+pub fn find_all(
+    alloc: Global,
+    input: FinderInput<'_>,
+    provider: &dyn JsrUrlProvider,
+    cache: Option<&dyn FastCheckCache>,
+    roots: &[PackageNv],
+) -> Result<Vec<Finding>, BuildFault>
+    ensures found { let i = input.entry in
+        let used = used_of cache.entry (λ c. used_item (hash_of c.now i.seed.now) (stored c.now) i.sources.graph.now) in
+        let k = with_used used (known i.sources (url_of provider.now) (nv_at provider.now)) in
+        IfOk result (λ found. (account : Account) × IsAccount (world k) (map nv_of roots.now) account
+        × IsYield (gives k) account (flat_map yields_of found.items)
+        × JoinAll k account) }
+    ensures refused { let i = input.entry in
+        let used = used_of cache.entry (λ c. used_item (hash_of c.now i.seed.now) (stored c.now) i.sources.graph.now) in
+        let k = with_used used (known i.sources (url_of provider.now) (nv_at provider.now)) in
+        IfErr result (IsRefusal k (map nv_of roots.now)) }
+{
+    let worklist = begin(alloc, roots)?;
+    let found = Vec::new(alloc);
+    let mut progress = Progress { worklist, found };
+    let mut next = 0;
+    'turns: while let Some(after) = turn(alloc, input, provider, cache, next, &mut progress)? {
+        next = after;
+    }
+    Ok(progress.found)
+}

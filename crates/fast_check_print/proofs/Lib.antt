@@ -1,6 +1,0 @@
-pub mod Adding
-pub mod Items
-mod Members
-mod VariantNames
-mod Arrays
-mod Reports

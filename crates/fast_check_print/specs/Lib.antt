@@ -1,7 +1,0 @@
-pub mod Comments
-pub mod Pieces
-pub mod Printing
-pub mod Writing
-pub mod Answer
-pub mod Answers
-pub mod Diagnostics

@@ -1,0 +1,58 @@
+use Rattle.std.proofs.Common.{ap, map, length, arith, ◌≤◌}
+use Rattle.std.proofs.lemmas.Option.{get_or_from_slice_get}
+use Rattle.fast_check_name_demands.specs.demands.Demands.{demand_of}
+use Rattle.fast_check_name_demands.specs.demands.Yields.{fault_seen}
+use Rattle.fast_check_search.specs.Universe.{limit}
+use Rattle.fast_check_search.specs.Worklist.{asked}
+use Rattle.fast_check_search.proofs.Closure.{begun, turned, ended, nothing_found}
+use Rattle.fast_check_search.proofs.Inside.{few_asked}
+use Rattle.fast_check_search.proofs.Own.{own_found, own_found_implementations}
+use Rattle.fast_check_search.proofs.found.search.Goals as goal
+
+pub loop-next-init : goal.loop-next-init
+loop-next-init c =
+    let a = c.in_ok-ask_all.ensures in
+    let f = c.new-found.ensures in
+    record {
+      way = begun c.args.tables.now (map demand_of c.args.roots.now) (asked c.ask_all.new.self) c.new-found.result
+          (rw c.new-work.ensures.demands at a.grown) a.covered
+          (nothing_found c.args.tables.now c.new-found.result f.ranges f.implementations (ap (map fault_seen) f.faults) f.files);
+      kept = a.kept;
+    }
+
+pub loop-next-preserved : goal.loop-next-preserved
+loop-next-preserved c =
+    let a = c.in_ok-ask_named.ensures in
+    let i = c.loop-next.invariant in
+    record {
+      way = turned c.args.tables.now (map demand_of c.args.roots.now) (asked c.loop-next.work) (asked c.ask_named.new.work) c.loop-next.next
+          (demand_of c.at-demand.result) c.loop-next.found c.add.new.self
+          i.way (omega (arith, c.len.ensures, c.loop-next-test.true))
+          (get_or_from_slice_get (asked c.loop-next.work) c.loop-next.next _ _ c.at-demand.ensures) a.grown a.covered c.in_ok-add.ensures;
+      kept = a.kept;
+    }
+
+pub returns-clause-account : goal.returns-clause-account
+returns-clause-account c =
+    let e = ended c.args.tables.now (map demand_of c.args.roots.now) (asked c.loop-next.work) c.loop-next.next c.loop-next.found
+    (omega (arith, c.len.ensures, c.loop-next-test.false)) c.loop-next.invariant.way in
+    (asked c.loop-next.work, e.0, e.1)
+
+pub returns-clause-own_ranges : goal.returns-clause-own_ranges
+returns-clause-own_ranges c =
+    let e = ended c.args.tables.now (map demand_of c.args.roots.now) (asked c.loop-next.work) c.loop-next.next c.loop-next.found
+    (omega (arith, c.len.ensures, c.loop-next-test.false)) c.loop-next.invariant.way in
+    own_found c.args.tables.now (asked c.loop-next.work) c.loop-next.found.ranges.items e.1.public
+
+pub returns-clause-own_implementations : goal.returns-clause-own_implementations
+returns-clause-own_implementations c =
+    let e = ended c.args.tables.now (map demand_of c.args.roots.now) (asked c.loop-next.work) c.loop-next.next c.loop-next.found
+    (omega (arith, c.len.ensures, c.loop-next-test.false)) c.loop-next.invariant.way in
+    own_found_implementations c.args.tables.now (asked c.loop-next.work) c.loop-next.found.implementations.items e.1.implementing
+
+pub loop-next-smaller : goal.loop-next-smaller
+loop-next-smaller c =
+    let i = c.loop-next.invariant in
+    let few : length (asked c.loop-next.work) ≤ limit c.args.tables.now (map demand_of c.args.roots.now) =
+    few_asked c.args.tables.now (map demand_of c.args.roots.now) (asked c.loop-next.work) i.way.chained i.kept.distinct in
+    omega (arith, few, c.len.ensures, c.loop-next-test.true)

@@ -1,0 +1,24 @@
+//! How far the finder came.
+
+ghost use Rattle.std.specs.Prelude.{◌≡◌, ◌++◌, OnOk};
+ghost use Rattle.std.specs.List.{flat_map};
+ghost use Rattle.fast_check_entries.specs.findings.Findings.{yields_of};
+
+use fast_check_entries::findings::Finding;
+use fast_check_worklists::Worklist;
+use std::alloc::AllocError;
+
+/// What was asked for so far, and what was found.
+#[derive(Drop)]
+pub struct Progress {
+    pub worklist: Worklist,
+    pub found: Vec<Finding>,
+}
+
+/// Adds what was found in a turn.
+pub fn push_finding(found: &mut Vec<Finding>, finding: Finding) -> Result<(), AllocError>
+    ensures { OnOk result (flat_map yields_of found.new.items ≡ flat_map yields_of found.old.items ++ yields_of finding) }
+{
+    found.push(finding)?;
+    Ok(())
+}

@@ -1,0 +1,105 @@
+//! What was asked for of packages and modules, and what of it waits.
+ghost use Rattle.std.specs.Prelude.{◌≡◌, map, OnOk, IfOk};
+ghost use Rattle.fast_check_packages.specs.Package.{nv_of};
+ghost use Rattle.fast_check_worklists.specs.Demands.{same_nv};
+ghost use Rattle.fast_check_worklists.specs.State.{state_of, AsksModule, AsksPackage, AsksOne, AsksAll};
+ghost use Rattle.fast_check_worklists.specs.Turn.{IsBegun};
+
+use crate::traced_modules::{HandledExports, PendingTraces};
+use fast_check_names::ImportedExports;
+use fast_check_packages::PackageNv;
+use indexmap::IndexSet;
+use std::alloc::{AllocError, Global};
+use std::cmp::Ordering;
+use url::Url;
+
+/// What is asked for next.
+#[derive(Drop)]
+pub enum Step {
+    /// A package, on which the one that asks depends.
+    Package(PackageNv),
+    /// Names of a module, for a package.
+    Module(PackageNv, Url, ImportedExports),
+}
+
+/// What was asked for: of each module so far, what of it waits, and the packages in the order in which they came.
+#[derive(Drop)]
+pub struct Worklist {
+    pub handled: HandledExports,
+    pub waiting: PendingTraces,
+    pub packages: IndexSet<PackageNv>,
+}
+
+impl Worklist {
+    /// Asks for a package, once.
+    fn ask_package(&mut self, nv: PackageNv) -> Result<(), AllocError>
+        ensures { OnOk result (AsksPackage nv (state_of self.old) (state_of self.new)) }
+    {
+        self.packages.insert(nv)?;
+        Ok(())
+    }
+
+    /// Asks for names of a module. Only what is new waits.
+    fn ask_module(
+        &mut self,
+        alloc: Global,
+        nv: PackageNv,
+        specifier: Url,
+        exports: ImportedExports,
+    ) -> Result<(), AllocError>
+        ensures { OnOk result (AsksModule nv specifier exports (state_of self.old) (state_of self.new)) }
+    {
+        if let Some(new) = self.handled.add(alloc, &specifier, exports)? {
+            self.waiting.add(alloc, nv, specifier, new)?;
+        }
+        Ok(())
+    }
+
+    fn ask(&mut self, alloc: Global, step: Step) -> Result<(), AllocError>
+        ensures { OnOk result (AsksOne step (state_of self.old) (state_of self.new)) }
+    {
+        match step {
+            Step::Package(nv) => self.ask_package(nv),
+            Step::Module(nv, specifier, exports) => self.ask_module(alloc, nv, specifier, exports),
+        }
+    }
+
+    /// Asks for each of these, in turn.
+    pub fn ask_all(&mut self, alloc: Global, steps: Vec<Step>) -> Result<(), AllocError>
+        ensures { OnOk result (AsksAll steps.items (state_of self.old) (state_of self.new)) }
+    {
+        for step in steps {
+            self.ask(alloc, step)?;
+        }
+        Ok(())
+    }
+}
+
+/// Whether two packages have the same name and version.
+pub fn is_same_package(a: &PackageNv, b: &PackageNv) -> bool
+    ensures { result ≡ same_nv (nv_of a.now) (nv_of b.now) }
+{
+    a.cmp(b).is_eq()
+}
+
+/// A copy of a package.
+pub fn copy_of(nv: &PackageNv) -> Result<PackageNv, AllocError>
+    ensures { IfOk result (λ copy. nv_of copy ≡ nv_of nv.now) }
+{
+    nv.clone()
+}
+
+/// The packages that are handed in, each once.
+pub fn begin(alloc: Global, roots: &[PackageNv]) -> Result<Worklist, AllocError>
+    ensures { IfOk result (λ worklist. IsBegun (map nv_of roots.now) (state_of worklist)) }
+{
+    let mut worklist = Worklist {
+        handled: HandledExports::default(alloc),
+        waiting: PendingTraces::default(alloc),
+        packages: IndexSet::new(alloc),
+    };
+    for nv in roots {
+        worklist.ask_package(copy_of(nv)?)?;
+    }
+    Ok(worklist)
+}
