@@ -1,0 +1,337 @@
+-- A node goes, and each that a node lists that goes; the others get their numbers and move down.
+use Rattle.std.proofs.Common.{◌≡◌, ◌∙◌, sym, ap, refl, subst, ⊎_elim, ◌⊎◌, ℕ, zero, suc, ◌+◌, ◌<◌, ◌≤◌, Bool, true, false, ◌||◌, cond, eqb, List}
+use Rattle.std.proofs.Common.{[], ◌∷◌, ◌++◌, Option, Some, None, arith, length, get_or, set, take, string_bytes, add-one}
+use Rattle.std.specs.List.{SwappedAt}
+use Rattle.std.specs.Str.{bytes_eq}
+use Rattle.std.specs.Option.{is_some}
+use Rattle.std.proofs.lemmas.Bool.{false≢true, both_ways, cases_Bool, cases_lt, cases_order, cond_both, cond-true, cond-false, or_left, or_right, or_from}
+use Rattle.std.proofs.lemmas.Bool.{eq-eqb, ne_eqb}
+use Rattle.std.proofs.lemmas.Bool.Decides.{eqb_tells}
+use Rattle.std.proofs.lemmas.List.{get_or-map, get_or-set_same, get_or-set_other, get_or_past, get_or-take, take-map, take_more, length-map}
+use Rattle.fast_check_names.specs.declared.lattice.node.Node.{Node}
+use Rattle.fast_check_names.specs.declared.lattice.node.NodeNo.{NodeNo}
+use Rattle.fast_check_names.specs.declared.lattice.node.Below.{Below}
+use Rattle.fast_check_names.specs.declared.lattice.node.Below.TheVariants.{All, Subset}
+use Rattle.fast_check_names.specs.Order.{Name, Entry, found, name_at, IsOnce, IsAbsentBefore}
+use Rattle.fast_check_names.specs.Graph.{Graph, IsTree, listings}
+use Rattle.fast_check_names.specs.Numbers.{stays, number, number_or_zero, rank, is_node, lists_node, AreGone, AreRanks, IsWithout, AreMovedDown}
+use Rattle.fast_check_names.proofs.Walks.{name_tells}
+use Rattle.fast_check_names.proofs.Places.{found_none}
+
+-- how many stay before the next node
+rank_at : (f : ℕ → Bool) (k : ℕ) (b : Bool) → f k ≡ b → rank f (k + 1) ≡ cond b (rank f k + 1) (rank f k)
+rank_at f k b e = ap (λ (m : ℕ). rank f m) (add-one k) ∙ ap (λ c. cond c (rank f k + 1) (rank f k)) e
+
+pub rank_stays : (f : ℕ → Bool) (k : ℕ) → f k ≡ true → rank f (k + 1) ≡ rank f k + 1
+rank_stays f k e = rank_at f k true e
+
+pub rank_gone : (f : ℕ → Bool) (k : ℕ) → f k ≡ false → rank f (k + 1) ≡ rank f k
+rank_gone f k e = rank_at f k false e
+
+pub rank_upto : (f : ℕ → Bool) (k : ℕ) → rank f k ≤ k
+rank_upto f zero = let h : 0 ≤ 0 = omega arith in h
+rank_upto f (suc k) =
+    let h = rank_upto f k in
+    cond_both (f k) (rank f k + 1) (rank f k) (λ x. x ≤ suc k) (λ e. omega (arith, h)) (λ e. omega (arith, h))
+
+pub rank_grows : (f : ℕ → Bool) (j k : ℕ) → j ≤ k → rank f j ≤ rank f k
+rank_grows f j zero h = let e : j ≡ 0 = omega (arith, h) in omega (arith, ap (λ (m : ℕ). rank f m) e)
+rank_grows f j (suc k) h = ⊎_elim
+    (λ (l : j < suc k).
+    let up = rank_grows f j k (omega (arith, l)) in
+    cond_both (f k) (rank f k + 1) (rank f k) (λ x. rank f j ≤ x) (λ e. omega (arith, up)) (λ e. up))
+    (λ (l : suc k ≤ j). let e : j ≡ suc k = omega (arith, h, l) in omega (arith, ap (λ (m : ℕ). rank f m) e))
+    (cases_lt j (suc k))
+
+pub rank_rises : (f : ℕ → Bool) (j k : ℕ) → f j ≡ true → j < k → rank f j < rank f k
+rank_rises f j k e h = omega (arith, rank_stays f j e, rank_grows f (j + 1) k (omega (arith, h)))
+
+abbrev IsRanked : (ℕ → Bool) → ℕ → ℕ → Type 0
+IsRanked f size m = (k : ℕ) × (k < size) × (f k ≡ true) × (rank f k ≡ m)
+
+ranked_more : (f : ℕ → Bool) (size m : ℕ) → IsRanked f size m → IsRanked f (suc size) m
+ranked_more f size m r = (r.0, omega (arith, r.1), r.2, r.3)
+
+-- each number below the count is that of one that stays
+pub rank_onto : (f : ℕ → Bool) (size m : ℕ) → m < rank f size → (k : ℕ) × (k < size) × (f k ≡ true) × (rank f k ≡ m)
+rank_onto f zero m h = absurd (let z : m < 0 = h in omega (arith, z))
+rank_onto f (suc size) m h = ⊎_elim
+    (λ (t : f size ≡ true).
+    let e : rank f (suc size) ≡ rank f size + 1 = ap (λ c. cond c (rank f size + 1) (rank f size)) t in
+    ⊎_elim (λ (l : m < rank f size). ranked_more f size m (rank_onto f size m l))
+    (λ (l : rank f size ≤ m). let r : IsRanked f (suc size) m = (size, omega arith, t, omega (arith, l, h, e)) in r)
+    (cases_lt m (rank f size)))
+    (λ (t : f size ≡ false).
+    let e : rank f (suc size) ≡ rank f size = ap (λ c. cond c (rank f size + 1) (rank f size)) t in
+    ranked_more f size m (rank_onto f size m (omega (arith, h, e))))
+    (cases_Bool (f size))
+
+-- a number is written
+pub stays_set : (numbers : List (Option ℕ)) (i k : ℕ) (o : Option ℕ) → i < length numbers →
+    stays (set numbers i o) k ≡ cond (eqb i k) (is_some o) (stays numbers k)
+stays_set numbers i k o within = ⊎_elim
+    (λ (t : (eqb i k ≡ true) × (i ≡ k)).
+    ap (λ (m : ℕ). is_some (get_or (set numbers i o) m None)) (sym t.1) ∙
+    (ap is_some (get_or-set_same numbers i o None within) ∙ ap (λ b. cond b (is_some o) (stays numbers k)) (sym t.0)))
+    (λ (t : (eqb i k ≡ false) × (i ≡ k → ⊥)).
+    ap is_some (get_or-set_other numbers i k o None (λ e. t.1 (sym e))) ∙ ap (λ b. cond b (is_some o) (stays numbers k)) (sym t.0))
+    (eqb_tells i k)
+
+pub past_stays : (numbers : List (Option ℕ)) (k : ℕ) → length numbers ≤ k → stays numbers k ≡ false
+past_stays numbers k h = ap is_some (get_or_past numbers k None h)
+
+-- a number behind the nodes changes nothing
+pub past_gone : (numbers : List (Option ℕ)) (j : NodeNo) → length numbers ≤ j.0 → AreGone (is_node (Subset j)) numbers numbers
+past_gone numbers j h k = ⊎_elim
+    (λ (t : (eqb j.0 k ≡ true) × (j.0 ≡ k)).
+    past_stays numbers k (omega (arith, h, t.1)) ∙ ap (λ b. cond b false (stays numbers k)) (sym t.0))
+    (λ (t : (eqb j.0 k ≡ false) × (j.0 ≡ k → ⊥)). ap (λ b. cond b false (stays numbers k)) (sym t.0))
+    (eqb_tells j.0 k)
+
+turned : (a b c : Bool) → (a || (b || c)) ≡ (b || (a || c))
+turned true true c = refl
+turned true false c = refl
+turned false true c = refl
+turned false false c = refl
+
+lists_more : (es : List Entry) (e : Entry) (k : ℕ) → lists_node (es ++ e ∷ []) k ≡ (is_node e.1 k || lists_node es k)
+lists_more [] e k = refl
+lists_more (d ∷ es) e k =
+    ap (λ b. is_node d.1 k || b) (lists_more es e k) ∙ turned (is_node d.1 k) (is_node e.1 k) (lists_node es k)
+
+one_by_one : (a b c : Bool) → cond (a || b) false c ≡ cond a false (cond b false c)
+one_by_one true b c = refl
+one_by_one false b c = refl
+
+-- what the next name leads to is gone too
+pub gone_more : (es : List Entry) (i : ℕ) (e : Entry) (old now new : List (Option ℕ)) → i < length es → e ≡ get_or es i e →
+    AreGone (lists_node (take i es)) old now →
+    AreGone (is_node e.1) now new → AreGone (lists_node (take (i + 1) es)) old new
+gone_more es i e old now new within is before more k =
+    let all : take (i + 1) es ≡ take i es ++ e ∷ [] = take_more es i e within ∙ ap (λ (x : Entry). take i es ++ x ∷ []) (sym is) in
+    more k ∙ (ap (λ b. cond (is_node e.1 k) false b) (before k) ∙
+    (sym (one_by_one (is_node e.1 k) (lists_node (take i es) k) (stays old k)) ∙
+    ap (λ b. cond b false (stays old k)) (sym (lists_more (take i es) e k) ∙ ap (λ (xs : List Entry). lists_node xs k) (sym all))))
+
+none_no : (b : Below) → None ≡ Some b → ⊥
+none_no b e = cc
+
+some_is : (b d : Below) → Some b ≡ Some d → b ≡ d
+some_is b d e = cc
+
+-- what is found is listed
+pub listed_node : (es : List Entry) (n : Name) (j : NodeNo) → found es n ≡ Some (Subset j) → lists_node es j.0 ≡ true
+listed_node [] n j e = absurd (none_no (Subset j) e)
+listed_node (d ∷ es) n j e = ⊎_elim
+    (λ (t : bytes_eq (string_bytes d.0) n ≡ true).
+    let is : d.1 ≡ Subset j = some_is d.1 (Subset j) (ap (λ b. cond b (Some d.1) (found es n)) (sym t) ∙ e) in
+    or_left (is_node d.1 j.0) (lists_node es j.0) (ap (λ (b : Below). is_node b j.0) is ∙ eq-eqb j.0 j.0 refl))
+    (λ (t : bytes_eq (string_bytes d.0) n ≡ false).
+    or_right (is_node d.1 j.0) (lists_node es j.0)
+    (listed_node es n j (ap (λ b. cond b (Some d.1) (found es n)) (sym t) ∙ e)))
+    (cases_Bool (bytes_eq (string_bytes d.0) n))
+
+not_node : (b : Below) (k : ℕ) → (b ≡ Subset (record { 0 = k }) → ⊥) → is_node b k ≡ false
+not_node All k h = refl
+not_node (Subset j) k h = ne_eqb j.0 k (λ e. h (ap (λ i. Subset (record { 0 = i })) e))
+
+once_behind : (d : Entry) (es : List Entry) → IsOnce (d ∷ es) → IsOnce es
+once_behind d es once i j l w same = once (suc i) (suc j) (omega (arith, l)) (omega (arith, w)) same
+
+first_absent : (d : Entry) (es : List Entry) → IsOnce (d ∷ es) → IsAbsentBefore es (string_bytes d.0) (length es)
+first_absent d es once k l e = once 0 (suc k) (omega arith) (omega (arith, l)) (sym e)
+
+-- what is found behind the first is found
+found_behind : (d : Entry) (es : List Entry) → IsOnce (d ∷ es) → (n : Name) (b : Below) → found es n ≡ Some b → found (d ∷ es) n ≡ Some b
+found_behind d es once n b e = ⊎_elim
+    (λ (t : (bytes_eq (string_bytes d.0) n ≡ true) × (string_bytes d.0 ≡ n)).
+    let none : found es n ≡ None = ap (λ (m : Name). found es m) (sym t.1) ∙ found_none es (string_bytes d.0) (first_absent d es once) in
+    absurd (none_no b (sym none ∙ e)))
+    (λ (t : (bytes_eq (string_bytes d.0) n ≡ false) × (string_bytes d.0 ≡ n → ⊥)).
+    ap (λ c. cond c (Some d.1) (found es n)) t.0 ∙ e)
+    (name_tells (string_bytes d.0) n)
+
+own : (n : Name) → bytes_eq n n ≡ true
+own n = ⊎_elim (λ (t : (bytes_eq n n ≡ true) × (n ≡ n)). t.0) (λ (t : (bytes_eq n n ≡ false) × (n ≡ n → ⊥)). absurd (t.1 refl)) (name_tells n n)
+
+-- what is not found is not listed
+pub unlisted : (es : List Entry) → IsOnce es → (k : ℕ) → ((n : Name) → found es n ≡ Some (Subset (record { 0 = k })) → ⊥) → lists_node es k ≡ false
+unlisted [] once k h = refl
+unlisted (d ∷ es) once k h = or_from (is_node d.1 k) (lists_node es k)
+    (not_node d.1 k (λ e. h (string_bytes d.0)
+    (ap (λ b. cond b (Some d.1) (found es (string_bytes d.0))) (own (string_bytes d.0)) ∙ ap (λ (b : Below). Some b) e)))
+    (unlisted es (once_behind d es once) k (λ n e. h n (found_behind d es once n (Subset (record { 0 = k })) e)))
+
+-- the nodes before i have been looked at: of those, and of no others, what they list may be gone
+pub record IsDropping (g : Graph) (gone i : ℕ) (f : ℕ → Bool) : Type 0 where
+  pub itself : f gone ≡ false
+  pub down : (k : ℕ) (n : Name) (j : NodeNo) → k < i → g k n ≡ Some (Subset j) → f k ≡ false → f j.0 ≡ false
+  pub up : (k : ℕ) (n : Name) (j : NodeNo) → g k n ≡ Some (Subset j) → f k ≡ true → (j.0 ≡ gone → ⊥) → f j.0 ≡ true
+  pub ahead : (k : ℕ) (n : Name) (j : NodeNo) → i ≤ k → g k n ≡ Some (Subset j) → (j.0 ≡ gone → ⊥) → f j.0 ≡ true
+  pub before : (k : ℕ) → k < gone → f k ≡ true
+
+module _ (g : Graph) (size : ℕ) (tree : IsTree g size) (gone : ℕ) where
+  pub dropping_first : (f : ℕ → Bool) → gone < size → f gone ≡ false → ((k : ℕ) → k < size → (k ≡ gone → ⊥) → f k ≡ true) →
+      IsDropping g gone gone f
+  dropping_first f within itself all = record {
+    itself = itself;
+    down = λ k n j l e t. absurd (false≢true (sym t ∙ all k (omega (arith, l, within)) (λ d. omega (arith, d, l))));
+    up = λ k n j e t d. all j.0 (tree.later k n j e).1 d;
+    ahead = λ k n j l e d. all j.0 (tree.later k n j e).1 d;
+    before = λ k l. all k (omega (arith, l, within)) (λ d. omega (arith, d, l));
+  }
+
+  -- a node that stays is passed by
+  pub dropping_past : (i : ℕ) (f : ℕ → Bool) → IsDropping g gone i f → f i ≡ true → IsDropping g gone (i + 1) f
+  dropping_past i f is here = record {
+    itself = is.itself;
+    down = λ k n j l e t. ⊎_elim
+        (λ (h : k < i). is.down k n j h e t)
+        (λ (h : i ≤ k). let same : k ≡ i = omega (arith, h, l) in absurd (false≢true (sym t ∙ (ap f same ∙ here)))) (cases_lt k i);
+    up = is.up;
+    ahead = λ k n j l e d. is.ahead k n j (omega (arith, l)) e d;
+    before = is.before;
+  }
+
+  -- what a node lists that is gone, goes
+  module _ (i : ℕ) (f : ℕ → Bool) (is : IsDropping g gone i f) (here : f i ≡ false) (low : gone ≤ i) (listed h : ℕ → Bool)
+      (new : (k : ℕ) → h k ≡ cond (listed k) false (f k)) (all : (n : Name) (j : NodeNo) → g i n ≡ Some (Subset j) → listed j.0 ≡ true)
+      (only : (k : ℕ) → ((n : Name) → g i n ≡ Some (Subset (record { 0 = k })) → ⊥) → listed k ≡ false) where
+    goes_on : (k : ℕ) → f k ≡ false → h k ≡ false
+    goes_on k e = new k ∙ (ap (λ b. cond (listed k) false b) e ∙ cond_both (listed k) false false (λ b. b ≡ false) (λ t. refl) (λ t. refl))
+
+    same_as : (k : ℕ) → ((n : Name) → g i n ≡ Some (Subset (record { 0 = k })) → ⊥) → h k ≡ f k
+    same_as k lacks = new k ∙ ap (λ b. cond b false (f k)) (only k lacks)
+
+    same_before : (k : ℕ) → k ≤ i → h k ≡ f k
+    same_before k l = same_as k (λ n e. omega (arith, l, (tree.later i n (record { 0 = k }) e).0))
+
+    -- what another node lists
+    same_other : (k : ℕ) (n : Name) (j : NodeNo) → g k n ≡ Some (Subset j) → (k ≡ i → ⊥) → h j.0 ≡ f j.0
+    same_other k n j e other = same_as j.0 (λ m d. other (tree.once k n i m j e d).0)
+
+    stayed : (k : ℕ) → h k ≡ true → f k ≡ true
+    stayed k t = ⊎_elim (λ (e : f k ≡ true). e) (λ (e : f k ≡ false). absurd (false≢true (sym (goes_on k e) ∙ t))) (cases_Bool (f k))
+
+    pub dropping_more : IsDropping g gone (i + 1) h
+    dropping_more = record {
+      itself = goes_on gone is.itself;
+      down = λ k n j l e t. ⊎_elim
+          (λ (s : k < i). goes_on j.0 (is.down k n j s e (sym (same_before k (omega (arith, s))) ∙ t)))
+          (λ (s : i ≤ k).
+          let same : k ≡ i = omega (arith, s, l) in
+          new j.0 ∙ ap (λ b. cond b false (f j.0)) (all n j (subst (λ (m : ℕ). g m n ≡ Some (Subset j)) same e)))
+          (cases_lt k i);
+      up = λ k n j e t d. same_other k n j e (λ s. false≢true (sym (goes_on k (ap f s ∙ here)) ∙ t)) ∙ is.up k n j e (stayed k t) d;
+      ahead = λ k n j l e d. same_other k n j e (λ s. omega (arith, s, l)) ∙ is.ahead k n j (omega (arith, l)) e d;
+      before = λ k l. same_before k (omega (arith, l, low)) ∙ is.before k l;
+    }
+
+  pub dropping_end : (i : ℕ) (f : ℕ → Bool) → IsDropping g gone i f → size ≤ i → IsWithout g gone f
+  dropping_end i f is end = record {
+    itself = is.itself;
+    down = λ k n j e t. let l = tree.later k n j e in is.down k n j (omega (arith, l.0, l.1, end)) e t;
+    up = is.up;
+    before = is.before;
+  }
+
+-- a node that is read at another place
+read_moved : (xs ys : List Node) (i j : ℕ) → i < length ys → j < length xs → ((d : Node) → get_or ys i d ≡ get_or xs j d) →
+    get_or (listings ys) i [] ≡ get_or (listings xs) j []
+read_moved [] ys i j h l e = absurd (omega (arith, l))
+read_moved (x ∷ xs) ys i j h l e =
+    let f : Node → List Entry = λ y. y.names.items in
+    get_or-map f ys i x [] h ∙ (ap f (e x) ∙ sym (get_or-map f (x ∷ xs) j x [] l))
+
+-- the nodes before i that stay have moved down, and those from i on stand where they stood
+pub record IsMoving (f : ℕ → Bool) (size i next : ℕ) (old new : List (List Entry)) : Type 0 where
+  pub next_is : next ≡ rank f i
+  pub moved : (k : ℕ) → k < i → f k ≡ true → get_or new (rank f k) [] ≡ get_or old k []
+  pub ahead : (k : ℕ) → i ≤ k → k < size → get_or new k [] ≡ get_or old k []
+
+module _ (f : ℕ → Bool) (size i next : ℕ) (old : List (List Entry)) (xs : List Node) (is : IsMoving f size i next old (listings xs)) where
+  pub moving_past : f i ≡ false → IsMoving f size (i + 1) next old (listings xs)
+  moving_past gone = record {
+    next_is = is.next_is ∙ sym (rank_gone f i gone);
+    moved = λ k l t. ⊎_elim (λ (h : k < i). is.moved k h t)
+        (λ (h : i ≤ k). let same : k ≡ i = omega (arith, h, l) in absurd (false≢true (sym gone ∙ (ap f (sym same) ∙ t)))) (cases_lt k i);
+    ahead = λ k l w. is.ahead k (omega (arith, l)) w;
+  }
+
+  pub next_upto : next ≤ i
+  next_upto = omega (arith, is.next_is, rank_upto f i)
+
+  pub moving_swap : (ys : List Node) → f i ≡ true → i < size → length xs ≡ size → length ys ≡ size → SwappedAt xs ys next i →
+      IsMoving f size (i + 1) (next + 1) old (listings ys)
+  moving_swap ys here within long same swapped = record {
+    next_is = omega (arith, is.next_is, rank_stays f i here);
+    moved = λ k l t. ⊎_elim
+        (λ (h : k < i).
+        let less = rank_rises f k i t h in
+        let small : rank f k < size = omega (arith, less, next_upto, is.next_is, within) in
+        read_moved xs ys (rank f k) (rank f k) (omega (arith, small, same)) (omega (arith, small, long))
+        (λ d. swapped.2 (rank f k) d (λ e. omega (arith, e, less, is.next_is)) (λ e. omega (arith, e, less, next_upto, is.next_is))) ∙
+        is.moved k h t)
+        (λ (h : i ≤ k).
+        let e : k ≡ i = omega (arith, h, l) in
+        ap (λ (m : ℕ). get_or (listings ys) (rank f m) []) e ∙
+        (ap (λ (m : ℕ). get_or (listings ys) m []) (sym is.next_is) ∙
+        (read_moved xs ys next i (omega (arith, next_upto, within, same)) (omega (arith, within, long)) swapped.0 ∙
+        (is.ahead i (omega arith) within ∙ ap (λ (m : ℕ). get_or old m []) (sym e)))))
+        (cases_lt k i);
+    ahead = λ k l w.
+        read_moved xs ys k k (omega (arith, w, same)) (omega (arith, w, long))
+        (λ d. swapped.2 k d (λ e. omega (arith, e, l, next_upto)) (λ e. omega (arith, e, l))) ∙
+        is.ahead k (omega (arith, l)) w;
+  }
+
+  pub moving_end : (ys : List Node) → size ≤ i → i ≤ size → ys ≡ take next xs → AreMovedDown f size old (listings ys)
+  moving_end ys end upto cut k l t =
+      let h : Node → List Entry = λ y. y.names.items in
+      let small : rank f k < next = omega (arith, is.next_is, rank_rises f k i t (omega (arith, l, end))) in
+      ap (λ (zs : List Node). get_or (listings zs) (rank f k) []) cut ∙
+      (ap (λ (ls : List (List Entry)). get_or ls (rank f k) []) (sym (take-map h next xs)) ∙
+      (get_or-take next (listings xs) (rank f k) [] small ∙ is.moved k (omega (arith, l, end)) t))
+
+-- the nodes before i that stay have their numbers, and none is gone that was not
+pub record IsNumbering (i next : ℕ) (old new : List (Option ℕ)) : Type 0 where
+  pub next_is : next ≡ rank (stays old) i
+  pub same : (k : ℕ) → stays new k ≡ stays old k
+  pub ranks : (k : ℕ) → k < i → stays old k ≡ true → number new k ≡ rank (stays old) k
+
+module _ (i next : ℕ) (old new : List (Option ℕ)) (is : IsNumbering i next old new) where
+  pub numbering_past : stays new i ≡ false → IsNumbering (i + 1) next old new
+  numbering_past gone = record {
+    next_is = is.next_is ∙ sym (rank_gone (stays old) i (sym (is.same i) ∙ gone));
+    same = is.same;
+    ranks = λ k l t. ⊎_elim (λ (h : k < i). is.ranks k h t)
+        (λ (h : i ≤ k).
+        let e : k ≡ i = omega (arith, h, l) in absurd (false≢true (sym gone ∙ (is.same i ∙ (ap (stays old) (sym e) ∙ t))))) (cases_lt k i);
+  }
+
+  pub numbering_more : stays new i ≡ true → i < length new → IsNumbering (i + 1) (next + 1) old (set new i (Some next))
+  numbering_more here within = record {
+    next_is = omega (arith, is.next_is, rank_stays (stays old) i (sym (is.same i) ∙ here));
+    same = λ k. ⊎_elim
+        (λ (t : (eqb i k ≡ true) × (i ≡ k)).
+        stays_set new i k (Some next) within ∙
+        (ap (λ b. cond b true (stays new k)) t.0 ∙ (sym here ∙ (ap (stays new) t.1 ∙ is.same k))))
+        (λ (t : (eqb i k ≡ false) × (i ≡ k → ⊥)).
+        stays_set new i k (Some next) within ∙ (ap (λ b. cond b true (stays new k)) t.0 ∙ is.same k))
+        (eqb_tells i k);
+    ranks = λ k l t. ⊎_elim
+        (λ (h : k < i). ap number_or_zero (get_or-set_other new i k (Some next) None (λ e. omega (arith, e, h))) ∙ is.ranks k h t)
+        (λ (h : i ≤ k).
+        let e : k ≡ i = omega (arith, h, l) in
+        ap (λ (m : ℕ). number (set new i (Some next)) m) e ∙
+        (ap number_or_zero (get_or-set_same new i (Some next) None within) ∙ (is.next_is ∙ ap (λ (m : ℕ). rank (stays old) m) (sym e))))
+        (cases_lt k i);
+  }
+
+  pub numbering_end : length new ≤ i → AreRanks new
+  numbering_end end k t =
+      let f : stays new ≡ stays old = λ m j. is.same j m in
+      is.ranks k (small (cases_lt k i)) (sym (is.same k) ∙ t) ∙ ap (λ (h : ℕ → Bool). rank h k) (sym f)
+    where
+      small : (k < i) ⊎ (i ≤ k) → k < i
+      small s = ⊎_elim (λ (h : k < i). h) (λ (h : i ≤ k). absurd (false≢true (sym (past_stays new k (omega (arith, h, end))) ∙ t))) s
