@@ -1,13 +1,12 @@
 -- All is written over a subset, whose node is taken out with all below it.
-use Rattle.std.proofs.Common.{◌≡◌, ◌∙◌, sym, ap, refl, subst, ⊎_elim, ℕ, ◌+◌, ◌<◌, ◌≤◌, Bool, true, false, ◌&&◌, cond, eqb}
+use Rattle.std.proofs.Common.{◌≡◌, ◌∙◌, sym, ap, refl, subst, ⊎_elim, ℕ, ◌<◌, ◌≤◌, true, false, ◌&&◌, cond, eqb}
 use Rattle.std.proofs.Common.{[], ◌∷◌, List, Option, Some, None, arith, get_or, length, map}
 use Rattle.std.specs.Str.{bytes_eq}
 use Rattle.std.proofs.lemmas.Bool.{false≢true, eq-eqb, cases_Bool}
 use Rattle.fast_check_names.specs.declared.lattice.node.NodeNo.{NodeNo}
-use Rattle.fast_check_names.specs.declared.lattice.node.Below.{Below}
 use Rattle.fast_check_names.specs.declared.lattice.node.Below.TheVariants.{All, Subset}
 use Rattle.fast_check_names.specs.declared.lattice.node.Node.{Node}
-use Rattle.fast_check_names.specs.Order.{Name, Entry, found}
+use Rattle.fast_check_names.specs.Order.{Name, found}
 use Rattle.fast_check_names.specs.Graph.{Graph, IsTree, IsWritten, listings, entry, moved, moved_below}
 use Rattle.fast_check_names.specs.Names.{whole_below, everything, IsAdded}
 use Rattle.fast_check_names.specs.Numbers.{stays, number, rank, moved_entries, IsWithout, AreRanks, AreMovedDown}
@@ -70,9 +69,6 @@ module _ (g h w : Graph) (size at : ℕ) (name : Name) (no : NodeNo) (numbers : 
   parent_stays k n j e t = ⊎_elim (λ (s : stays numbers k ≡ true). s)
       (λ (s : stays numbers k ≡ false). absurd (false≢true (sym (without.down k n j e s) ∙ t)))
       (cases_Bool (stays numbers k))
-
-  at_rank : (k : ℕ) → stays numbers k ≡ true → rank (stays numbers) k ≡ number numbers k
-  at_rank k t = sym (ranks k t)
 
   compacted : IsCompacted h size (stays numbers) (number numbers) w (rank (stays numbers) size)
   compacted = record {

@@ -1,32 +1,25 @@
 -- A node goes, and each that a node lists that goes; the others get their numbers and move down.
-use Rattle.std.proofs.Common.{◌≡◌, ◌∙◌, sym, ap, refl, subst, ⊎_elim, ◌⊎◌, ℕ, zero, suc, ◌+◌, ◌<◌, ◌≤◌, Bool, true, false, ◌||◌, cond, eqb, List}
-use Rattle.std.proofs.Common.{[], ◌∷◌, ◌++◌, Option, Some, None, arith, length, get_or, set, take, string_bytes, add-one}
+use Rattle.std.proofs.Common.{◌≡◌, ◌∙◌, sym, ap, refl, subst, ⊎_elim, ℕ, zero, suc, ◌+◌, ◌<◌, ◌≤◌, Bool, true, false, ◌||◌, cond, List}
+use Rattle.std.proofs.Common.{[], ◌∷◌, ◌++◌, Option, Some, None, arith, length, get_or, take, string_bytes, add-one}
 use Rattle.std.specs.List.{SwappedAt}
 use Rattle.std.specs.Str.{bytes_eq}
-use Rattle.std.specs.Option.{is_some}
-use Rattle.std.proofs.lemmas.Bool.{false≢true, both_ways, cases_Bool, cases_lt, cases_order, cond_both, cond-true, cond-false, or_left, or_right, or_from}
+use Rattle.std.proofs.lemmas.Bool.{false≢true, cases_Bool, cases_lt, cond_both, or_left, or_right, or_from}
 use Rattle.std.proofs.lemmas.Bool.{eq-eqb, ne_eqb}
-use Rattle.std.proofs.lemmas.Bool.Decides.{eqb_tells}
-use Rattle.std.proofs.lemmas.List.{get_or-map, get_or-set_same, get_or-set_other, get_or_past, get_or-take, take-map, take_more, length-map}
+use Rattle.std.proofs.lemmas.List.{get_or-map, get_or-take, take-map, take_more}
 use Rattle.fast_check_names.specs.declared.lattice.node.Node.{Node}
 use Rattle.fast_check_names.specs.declared.lattice.node.NodeNo.{NodeNo}
 use Rattle.fast_check_names.specs.declared.lattice.node.Below.{Below}
 use Rattle.fast_check_names.specs.declared.lattice.node.Below.TheVariants.{All, Subset}
-use Rattle.fast_check_names.specs.Order.{Name, Entry, found, name_at, IsOnce, IsAbsentBefore}
+use Rattle.fast_check_names.specs.Order.{Name, Entry, found, IsOnce, IsAbsentBefore}
 use Rattle.fast_check_names.specs.Graph.{Graph, IsTree, listings}
-use Rattle.fast_check_names.specs.Numbers.{stays, number, number_or_zero, rank, is_node, lists_node, AreGone, AreRanks, IsWithout, AreMovedDown}
+use Rattle.fast_check_names.specs.Numbers.{stays, number, rank, is_node, lists_node, AreGone, AreMovedDown}
 use Rattle.fast_check_names.proofs.Walks.{name_tells}
 use Rattle.fast_check_names.proofs.Places.{found_none}
+use Rattle.fast_check_names.proofs.Extends.{itself}
 
 -- how many stay before the next node
-rank_at : (f : ℕ → Bool) (k : ℕ) (b : Bool) → f k ≡ b → rank f (k + 1) ≡ cond b (rank f k + 1) (rank f k)
-rank_at f k b e = ap (λ (m : ℕ). rank f m) (add-one k) ∙ ap (λ c. cond c (rank f k + 1) (rank f k)) e
-
 pub rank_stays : (f : ℕ → Bool) (k : ℕ) → f k ≡ true → rank f (k + 1) ≡ rank f k + 1
-rank_stays f k e = rank_at f k true e
-
-pub rank_gone : (f : ℕ → Bool) (k : ℕ) → f k ≡ false → rank f (k + 1) ≡ rank f k
-rank_gone f k e = rank_at f k false e
+rank_stays f k e = ap (λ (m : ℕ). rank f m) (add-one k) ∙ ap (λ b. cond b (rank f k + 1) (rank f k)) e
 
 pub rank_upto : (f : ℕ → Bool) (k : ℕ) → rank f k ≤ k
 rank_upto f zero = let h : 0 ≤ 0 = omega arith in h
@@ -65,28 +58,6 @@ rank_onto f (suc size) m h = ⊎_elim
     let e : rank f (suc size) ≡ rank f size = ap (λ c. cond c (rank f size + 1) (rank f size)) t in
     ranked_more f size m (rank_onto f size m (omega (arith, h, e))))
     (cases_Bool (f size))
-
--- a number is written
-pub stays_set : (numbers : List (Option ℕ)) (i k : ℕ) (o : Option ℕ) → i < length numbers →
-    stays (set numbers i o) k ≡ cond (eqb i k) (is_some o) (stays numbers k)
-stays_set numbers i k o within = ⊎_elim
-    (λ (t : (eqb i k ≡ true) × (i ≡ k)).
-    ap (λ (m : ℕ). is_some (get_or (set numbers i o) m None)) (sym t.1) ∙
-    (ap is_some (get_or-set_same numbers i o None within) ∙ ap (λ b. cond b (is_some o) (stays numbers k)) (sym t.0)))
-    (λ (t : (eqb i k ≡ false) × (i ≡ k → ⊥)).
-    ap is_some (get_or-set_other numbers i k o None (λ e. t.1 (sym e))) ∙ ap (λ b. cond b (is_some o) (stays numbers k)) (sym t.0))
-    (eqb_tells i k)
-
-pub past_stays : (numbers : List (Option ℕ)) (k : ℕ) → length numbers ≤ k → stays numbers k ≡ false
-past_stays numbers k h = ap is_some (get_or_past numbers k None h)
-
--- a number behind the nodes changes nothing
-pub past_gone : (numbers : List (Option ℕ)) (j : NodeNo) → length numbers ≤ j.0 → AreGone (is_node (Subset j)) numbers numbers
-past_gone numbers j h k = ⊎_elim
-    (λ (t : (eqb j.0 k ≡ true) × (j.0 ≡ k)).
-    past_stays numbers k (omega (arith, h, t.1)) ∙ ap (λ b. cond b false (stays numbers k)) (sym t.0))
-    (λ (t : (eqb j.0 k ≡ false) × (j.0 ≡ k → ⊥)). ap (λ b. cond b false (stays numbers k)) (sym t.0))
-    (eqb_tells j.0 k)
 
 turned : (a b c : Bool) → (a || (b || c)) ≡ (b || (a || c))
 turned true true c = refl
@@ -151,15 +122,12 @@ found_behind d es once n b e = ⊎_elim
     ap (λ c. cond c (Some d.1) (found es n)) t.0 ∙ e)
     (name_tells (string_bytes d.0) n)
 
-own : (n : Name) → bytes_eq n n ≡ true
-own n = ⊎_elim (λ (t : (bytes_eq n n ≡ true) × (n ≡ n)). t.0) (λ (t : (bytes_eq n n ≡ false) × (n ≡ n → ⊥)). absurd (t.1 refl)) (name_tells n n)
-
 -- what is not found is not listed
 pub unlisted : (es : List Entry) → IsOnce es → (k : ℕ) → ((n : Name) → found es n ≡ Some (Subset (record { 0 = k })) → ⊥) → lists_node es k ≡ false
 unlisted [] once k h = refl
 unlisted (d ∷ es) once k h = or_from (is_node d.1 k) (lists_node es k)
     (not_node d.1 k (λ e. h (string_bytes d.0)
-    (ap (λ b. cond b (Some d.1) (found es (string_bytes d.0))) (own (string_bytes d.0)) ∙ ap (λ (b : Below). Some b) e)))
+    (ap (λ b. cond b (Some d.1) (found es (string_bytes d.0))) (itself (string_bytes d.0)) ∙ ap (λ (b : Below). Some b) e)))
     (unlisted es (once_behind d es once) k (λ n e. h n (found_behind d es once n (Subset (record { 0 = k })) e)))
 
 -- the nodes before i have been looked at: of those, and of no others, what they list may be gone
@@ -170,69 +138,39 @@ pub record IsDropping (g : Graph) (gone i : ℕ) (f : ℕ → Bool) : Type 0 whe
   pub ahead : (k : ℕ) (n : Name) (j : NodeNo) → i ≤ k → g k n ≡ Some (Subset j) → (j.0 ≡ gone → ⊥) → f j.0 ≡ true
   pub before : (k : ℕ) → k < gone → f k ≡ true
 
-module _ (g : Graph) (size : ℕ) (tree : IsTree g size) (gone : ℕ) where
-  pub dropping_first : (f : ℕ → Bool) → gone < size → f gone ≡ false → ((k : ℕ) → k < size → (k ≡ gone → ⊥) → f k ≡ true) →
-      IsDropping g gone gone f
-  dropping_first f within itself all = record {
-    itself = itself;
-    down = λ k n j l e t. absurd (false≢true (sym t ∙ all k (omega (arith, l, within)) (λ d. omega (arith, d, l))));
-    up = λ k n j e t d. all j.0 (tree.later k n j e).1 d;
-    ahead = λ k n j l e d. all j.0 (tree.later k n j e).1 d;
-    before = λ k l. all k (omega (arith, l, within)) (λ d. omega (arith, d, l));
-  }
+-- what a node lists that is gone, goes
+module _ (g : Graph) (size : ℕ) (tree : IsTree g size) (gone i : ℕ) (f : ℕ → Bool) (is : IsDropping g gone i f) (here : f i ≡ false)
+    (low : gone ≤ i) (listed h : ℕ → Bool)
+    (new : (k : ℕ) → h k ≡ cond (listed k) false (f k)) (all : (n : Name) (j : NodeNo) → g i n ≡ Some (Subset j) → listed j.0 ≡ true)
+    (only : (k : ℕ) → ((n : Name) → g i n ≡ Some (Subset (record { 0 = k })) → ⊥) → listed k ≡ false) where
+  goes_on : (k : ℕ) → f k ≡ false → h k ≡ false
+  goes_on k e = new k ∙ (ap (λ b. cond (listed k) false b) e ∙ cond_both (listed k) false false (λ b. b ≡ false) (λ t. refl) (λ t. refl))
 
-  -- a node that stays is passed by
-  pub dropping_past : (i : ℕ) (f : ℕ → Bool) → IsDropping g gone i f → f i ≡ true → IsDropping g gone (i + 1) f
-  dropping_past i f is here = record {
-    itself = is.itself;
+  same_as : (k : ℕ) → ((n : Name) → g i n ≡ Some (Subset (record { 0 = k })) → ⊥) → h k ≡ f k
+  same_as k lacks = new k ∙ ap (λ b. cond b false (f k)) (only k lacks)
+
+  same_before : (k : ℕ) → k ≤ i → h k ≡ f k
+  same_before k l = same_as k (λ n e. omega (arith, l, (tree.later i n (record { 0 = k }) e).0))
+
+  -- what another node lists
+  same_other : (k : ℕ) (n : Name) (j : NodeNo) → g k n ≡ Some (Subset j) → (k ≡ i → ⊥) → h j.0 ≡ f j.0
+  same_other k n j e other = same_as j.0 (λ m d. other (tree.once k n i m j e d).0)
+
+  stayed : (k : ℕ) → h k ≡ true → f k ≡ true
+  stayed k t = ⊎_elim (λ (e : f k ≡ true). e) (λ (e : f k ≡ false). absurd (false≢true (sym (goes_on k e) ∙ t))) (cases_Bool (f k))
+
+  pub dropping_more : IsDropping g gone (i + 1) h
+  dropping_more = record {
+    itself = goes_on gone is.itself;
     down = λ k n j l e t. ⊎_elim
-        (λ (h : k < i). is.down k n j h e t)
-        (λ (h : i ≤ k). let same : k ≡ i = omega (arith, h, l) in absurd (false≢true (sym t ∙ (ap f same ∙ here)))) (cases_lt k i);
-    up = is.up;
-    ahead = λ k n j l e d. is.ahead k n j (omega (arith, l)) e d;
-    before = is.before;
-  }
-
-  -- what a node lists that is gone, goes
-  module _ (i : ℕ) (f : ℕ → Bool) (is : IsDropping g gone i f) (here : f i ≡ false) (low : gone ≤ i) (listed h : ℕ → Bool)
-      (new : (k : ℕ) → h k ≡ cond (listed k) false (f k)) (all : (n : Name) (j : NodeNo) → g i n ≡ Some (Subset j) → listed j.0 ≡ true)
-      (only : (k : ℕ) → ((n : Name) → g i n ≡ Some (Subset (record { 0 = k })) → ⊥) → listed k ≡ false) where
-    goes_on : (k : ℕ) → f k ≡ false → h k ≡ false
-    goes_on k e = new k ∙ (ap (λ b. cond (listed k) false b) e ∙ cond_both (listed k) false false (λ b. b ≡ false) (λ t. refl) (λ t. refl))
-
-    same_as : (k : ℕ) → ((n : Name) → g i n ≡ Some (Subset (record { 0 = k })) → ⊥) → h k ≡ f k
-    same_as k lacks = new k ∙ ap (λ b. cond b false (f k)) (only k lacks)
-
-    same_before : (k : ℕ) → k ≤ i → h k ≡ f k
-    same_before k l = same_as k (λ n e. omega (arith, l, (tree.later i n (record { 0 = k }) e).0))
-
-    -- what another node lists
-    same_other : (k : ℕ) (n : Name) (j : NodeNo) → g k n ≡ Some (Subset j) → (k ≡ i → ⊥) → h j.0 ≡ f j.0
-    same_other k n j e other = same_as j.0 (λ m d. other (tree.once k n i m j e d).0)
-
-    stayed : (k : ℕ) → h k ≡ true → f k ≡ true
-    stayed k t = ⊎_elim (λ (e : f k ≡ true). e) (λ (e : f k ≡ false). absurd (false≢true (sym (goes_on k e) ∙ t))) (cases_Bool (f k))
-
-    pub dropping_more : IsDropping g gone (i + 1) h
-    dropping_more = record {
-      itself = goes_on gone is.itself;
-      down = λ k n j l e t. ⊎_elim
-          (λ (s : k < i). goes_on j.0 (is.down k n j s e (sym (same_before k (omega (arith, s))) ∙ t)))
-          (λ (s : i ≤ k).
-          let same : k ≡ i = omega (arith, s, l) in
-          new j.0 ∙ ap (λ b. cond b false (f j.0)) (all n j (subst (λ (m : ℕ). g m n ≡ Some (Subset j)) same e)))
-          (cases_lt k i);
-      up = λ k n j e t d. same_other k n j e (λ s. false≢true (sym (goes_on k (ap f s ∙ here)) ∙ t)) ∙ is.up k n j e (stayed k t) d;
-      ahead = λ k n j l e d. same_other k n j e (λ s. omega (arith, s, l)) ∙ is.ahead k n j (omega (arith, l)) e d;
-      before = λ k l. same_before k (omega (arith, l, low)) ∙ is.before k l;
-    }
-
-  pub dropping_end : (i : ℕ) (f : ℕ → Bool) → IsDropping g gone i f → size ≤ i → IsWithout g gone f
-  dropping_end i f is end = record {
-    itself = is.itself;
-    down = λ k n j e t. let l = tree.later k n j e in is.down k n j (omega (arith, l.0, l.1, end)) e t;
-    up = is.up;
-    before = is.before;
+        (λ (s : k < i). goes_on j.0 (is.down k n j s e (sym (same_before k (omega (arith, s))) ∙ t)))
+        (λ (s : i ≤ k).
+        let same : k ≡ i = omega (arith, s, l) in
+        new j.0 ∙ ap (λ b. cond b false (f j.0)) (all n j (subst (λ (m : ℕ). g m n ≡ Some (Subset j)) same e)))
+        (cases_lt k i);
+    up = λ k n j e t d. same_other k n j e (λ s. false≢true (sym (goes_on k (ap f s ∙ here)) ∙ t)) ∙ is.up k n j e (stayed k t) d;
+    ahead = λ k n j l e d. same_other k n j e (λ s. omega (arith, s, l)) ∙ is.ahead k n j (omega (arith, l)) e d;
+    before = λ k l. same_before k (omega (arith, l, low)) ∙ is.before k l;
   }
 
 -- a node that is read at another place
@@ -250,14 +188,6 @@ pub record IsMoving (f : ℕ → Bool) (size i next : ℕ) (old new : List (List
   pub ahead : (k : ℕ) → i ≤ k → k < size → get_or new k [] ≡ get_or old k []
 
 module _ (f : ℕ → Bool) (size i next : ℕ) (old : List (List Entry)) (xs : List Node) (is : IsMoving f size i next old (listings xs)) where
-  pub moving_past : f i ≡ false → IsMoving f size (i + 1) next old (listings xs)
-  moving_past gone = record {
-    next_is = is.next_is ∙ sym (rank_gone f i gone);
-    moved = λ k l t. ⊎_elim (λ (h : k < i). is.moved k h t)
-        (λ (h : i ≤ k). let same : k ≡ i = omega (arith, h, l) in absurd (false≢true (sym gone ∙ (ap f (sym same) ∙ t)))) (cases_lt k i);
-    ahead = λ k l w. is.ahead k (omega (arith, l)) w;
-  }
-
   pub next_upto : next ≤ i
   next_upto = omega (arith, is.next_is, rank_upto f i)
 
@@ -285,8 +215,8 @@ module _ (f : ℕ → Bool) (size i next : ℕ) (old : List (List Entry)) (xs : 
         is.ahead k (omega (arith, l)) w;
   }
 
-  pub moving_end : (ys : List Node) → size ≤ i → i ≤ size → ys ≡ take next xs → AreMovedDown f size old (listings ys)
-  moving_end ys end upto cut k l t =
+  pub moving_end : (ys : List Node) → size ≤ i → ys ≡ take next xs → AreMovedDown f size old (listings ys)
+  moving_end ys end cut k l t =
       let h : Node → List Entry = λ y. y.names.items in
       let small : rank f k < next = omega (arith, is.next_is, rank_rises f k i t (omega (arith, l, end))) in
       ap (λ (zs : List Node). get_or (listings zs) (rank f k) []) cut ∙
@@ -298,40 +228,3 @@ pub record IsNumbering (i next : ℕ) (old new : List (Option ℕ)) : Type 0 whe
   pub next_is : next ≡ rank (stays old) i
   pub same : (k : ℕ) → stays new k ≡ stays old k
   pub ranks : (k : ℕ) → k < i → stays old k ≡ true → number new k ≡ rank (stays old) k
-
-module _ (i next : ℕ) (old new : List (Option ℕ)) (is : IsNumbering i next old new) where
-  pub numbering_past : stays new i ≡ false → IsNumbering (i + 1) next old new
-  numbering_past gone = record {
-    next_is = is.next_is ∙ sym (rank_gone (stays old) i (sym (is.same i) ∙ gone));
-    same = is.same;
-    ranks = λ k l t. ⊎_elim (λ (h : k < i). is.ranks k h t)
-        (λ (h : i ≤ k).
-        let e : k ≡ i = omega (arith, h, l) in absurd (false≢true (sym gone ∙ (is.same i ∙ (ap (stays old) (sym e) ∙ t))))) (cases_lt k i);
-  }
-
-  pub numbering_more : stays new i ≡ true → i < length new → IsNumbering (i + 1) (next + 1) old (set new i (Some next))
-  numbering_more here within = record {
-    next_is = omega (arith, is.next_is, rank_stays (stays old) i (sym (is.same i) ∙ here));
-    same = λ k. ⊎_elim
-        (λ (t : (eqb i k ≡ true) × (i ≡ k)).
-        stays_set new i k (Some next) within ∙
-        (ap (λ b. cond b true (stays new k)) t.0 ∙ (sym here ∙ (ap (stays new) t.1 ∙ is.same k))))
-        (λ (t : (eqb i k ≡ false) × (i ≡ k → ⊥)).
-        stays_set new i k (Some next) within ∙ (ap (λ b. cond b true (stays new k)) t.0 ∙ is.same k))
-        (eqb_tells i k);
-    ranks = λ k l t. ⊎_elim
-        (λ (h : k < i). ap number_or_zero (get_or-set_other new i k (Some next) None (λ e. omega (arith, e, h))) ∙ is.ranks k h t)
-        (λ (h : i ≤ k).
-        let e : k ≡ i = omega (arith, h, l) in
-        ap (λ (m : ℕ). number (set new i (Some next)) m) e ∙
-        (ap number_or_zero (get_or-set_same new i (Some next) None within) ∙ (is.next_is ∙ ap (λ (m : ℕ). rank (stays old) m) (sym e))))
-        (cases_lt k i);
-  }
-
-  pub numbering_end : length new ≤ i → AreRanks new
-  numbering_end end k t =
-      let f : stays new ≡ stays old = λ m j. is.same j m in
-      is.ranks k (small (cases_lt k i)) (sym (is.same k) ∙ t) ∙ ap (λ (h : ℕ → Bool). rank h k) (sym f)
-    where
-      small : (k < i) ⊎ (i ≤ k) → k < i
-      small s = ⊎_elim (λ (h : k < i). h) (λ (h : i ≤ k). absurd (false≢true (sym (past_stays new k (omega (arith, h, end))) ∙ t))) s

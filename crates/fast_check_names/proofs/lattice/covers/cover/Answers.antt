@@ -1,4 +1,4 @@
-use Rattle.std.proofs.Common.{arith, ap, is_some}
+use Rattle.std.proofs.Common.{arith}
 use Rattle.fast_check_names.specs.declared.lattice.node.NodeNo.{NodeNo}
 use Rattle.fast_check_names.proofs.Covers.{tree_left, added_left}
 use Rattle.fast_check_names.proofs.lattice.covers.cover.Goals as goal

@@ -1,4 +1,4 @@
-use Rattle.std.proofs.Common.{arith, rules, ap, sym, ◌∙◌, ◌≡◌, ◌≤◌, ◌<◌, ℕ, true, vec_len}
+use Rattle.std.proofs.Common.{arith, rules, ap, sym, ◌∙◌, ◌≡◌, ℕ, vec_len}
 use Rattle.fast_check_names.specs.Graph.{listings}
 use Rattle.fast_check_names.specs.Numbers.{stays, rank}
 use Rattle.fast_check_names.proofs.Numbers.{next_upto, moving_swap, moving_end}
@@ -39,4 +39,4 @@ pub returns-clause-moved : goal.returns-clause-moved
 returns-clause-moved c =
     moving_end (stays c.args.numbers.now) c.args.nodes.now.len c.loop-i.i c.loop-i.next (listings c.args.nodes.now.items)
     c.loop-i.nodes.items c.loop-i.invariant c.truncate.new.self.items (omega (arith, c.loop-i-test.false, c.len-i-end.ensures))
-    (omega (arith, c.loop-i.auto.i-end, c.len-i-end.ensures)) c.truncate.ensures.items
+    c.truncate.ensures.items

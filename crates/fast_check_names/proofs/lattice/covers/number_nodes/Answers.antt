@@ -1,4 +1,4 @@
-use Rattle.std.proofs.Common.{arith, ◌≤◌}
+use Rattle.std.proofs.Common.{arith}
 use Rattle.fast_check_names.specs.Numbers.{stays}
 use Rattle.fast_check_names.proofs.Numbers.{rank_upto}
 use Rattle.fast_check_names.proofs.lattice.covers.number_nodes.Goals as goal

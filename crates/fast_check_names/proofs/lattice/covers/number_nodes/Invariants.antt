@@ -1,5 +1,3 @@
-use Rattle.std.proofs.Common.{◌≡◌, ℕ, ◌<◌, true}
-use Rattle.fast_check_names.specs.Numbers.{stays, number, rank}
 use Rattle.fast_check_names.proofs.Numbers.{IsNumbering}
 use Rattle.fast_check_names.proofs.lattice.covers.number_nodes.Given as goal
 
