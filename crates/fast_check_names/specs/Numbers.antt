@@ -34,9 +34,9 @@ abbrev pub lists_node : List Entry → ℕ → Bool
 lists_node [] k = false
 lists_node (e ∷ es) k = is_node e.1 k || lists_node es k
 
--- those that some test finds are gone, and the others stay as they did
+-- those that a test finds are gone, and the others are as they were
 abbrev pub AreGone : (ℕ → Bool) → List (Option ℕ) → List (Option ℕ) → Type 0
-AreGone gone old new = (k : ℕ) → stays new k ≡ cond (gone k) false (stays old k)
+AreGone gone old new = (k : ℕ) → get_or new k None ≡ cond (gone k) None (get_or old k None)
 
 -- a node goes, and each that a node lists that goes, and no other
 pub record IsWithout (g : Graph) (gone : ℕ) (f : ℕ → Bool) : Type 0 where

@@ -55,37 +55,26 @@ fn drop_listed(numbers: &mut Vec<Option<usize>>, names: &[(String, Below)])
     }
 }
 
-/// A node goes, and each that a node lists that goes: those stand behind it.
-fn drop_node(numbers: &mut Vec<Option<usize>>, nodes: &[Node], gone: usize)
+/// In one pass, since a node lists later ones alone: a node goes, and each that a node lists that goes, and each other gets its number, which is how
+/// many stay before it.
+fn number_nodes(numbers: &mut Vec<Option<usize>>, nodes: &[Node], gone: usize)
     requires within { gone < length nodes.now }
     requires tree { IsTree (entry nodes.now) (length nodes.now) }
     requires len { vec_len numbers.old ≡ length nodes.now }
     requires all { (k : ℕ) → k < length nodes.now → stays numbers.old.items k ≡ true }
     ensures len { vec_len numbers.new ≡ vec_len numbers.old }
     ensures without { IsWithout (entry nodes.now) gone (stays numbers.new.items) }
+    ensures ranks { AreRanks numbers.new.items }
 {
     numbers[gone] = None;
-    for at in gone..nodes.len() {
+    let mut next = 0;
+    for at in 0..nodes.len() {
         if is_staying(numbers.as_slice(), at) {
+            numbers[at] = Some(next);
+            next += 1;
             continue;
         }
         drop_listed(numbers, names_of(nodes, at));
-    }
-}
-
-/// Gives each node that stays its number: how many stay before it.
-fn number_nodes(numbers: &mut Vec<Option<usize>>)
-    ensures len { vec_len numbers.new ≡ vec_len numbers.old }
-    ensures same { (k : ℕ) → stays numbers.new.items k ≡ stays numbers.old.items k }
-    ensures ranks { AreRanks numbers.new.items }
-{
-    let mut next = 0;
-    for i in 0..numbers.len() {
-        if !is_staying(numbers.as_slice(), i) {
-            continue;
-        }
-        numbers[i] = Some(next);
-        next += 1;
     }
 }
 
@@ -103,8 +92,7 @@ fn numbers_without(
 {
     let mut numbers = Vec::new(alloc);
     numbers.resize(nodes.len(), Some(0))?;
-    drop_node(&mut numbers, nodes, gone);
-    number_nodes(&mut numbers);
+    number_nodes(&mut numbers, nodes, gone);
     Ok(numbers)
 }
 
