@@ -134,7 +134,8 @@ found_behind d es once n b e = ⊎_elim
     (name_tells (string_bytes d.0) n)
 
 -- what is not found is not listed
-pub unlisted : (es : List Entry) → IsOnce es → (k : ℕ) → ((n : Name) → found es n ≡ Some (Subset (record { 0 = k })) → ⊥) → lists_node es k ≡ false
+pub unlisted : (es : List Entry) → IsOnce es → (k : ℕ) → ((n : Name) → found es n ≡ Some (Subset (record { 0 = k })) → ⊥) →
+    lists_node es k ≡ false
 unlisted [] once k h = refl
 unlisted (d ∷ es) once k h = or_from (is_node d.1 k) (lists_node es k)
     (not_node d.1 k (λ e. h (string_bytes d.0)
@@ -210,7 +211,8 @@ module _ (g : Graph) (size : ℕ) (tree : IsTree g size) (gone i next : ℕ) (nu
     same_as k e = are k ∙ ap (λ b. cond b None (get_or numbers k None)) e
 
     goes_on : (k : ℕ) → stays numbers k ≡ false → stays new k ≡ false
-    goes_on k e = ⊎_elim (λ (t : listed k ≡ true). goes k t) (λ (t : listed k ≡ false). ap is_some (same_as k t) ∙ e) (cases_Bool (listed k))
+    goes_on k e = ⊎_elim (λ (t : listed k ≡ true). goes k t)
+        (λ (t : listed k ≡ false). ap is_some (same_as k t) ∙ e) (cases_Bool (listed k))
 
     stayed : (k : ℕ) → stays new k ≡ true → stays numbers k ≡ true
     stayed k t = ⊎_elim (λ (e : stays numbers k ≡ true). e)

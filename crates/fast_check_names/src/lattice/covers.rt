@@ -1,7 +1,7 @@
 //! A name that comes to stand whole takes the place of a subset, whose node goes, and with it each node that it lists. The numbers of those that stay
 //! are made first, and then nothing can fail.
 
-ghost use Rattle.std.specs.Prelude.{◌≡◌, ◌≤◌, ◌<◌, ℕ, Bool, true, false, IsTrue, IfOk, OnOk, OnErr, Some, ◌∷◌, [], vec_len, length, is_some, map};
+ghost use Rattle.std.specs.Prelude.{◌≡◌, ◌<◌, ℕ, true, IsTrue, IfOk, OnOk, OnErr, Some, ◌∷◌, [], vec_len, length, is_some, map};
 ghost use Rattle.fast_check_names.specs.declared.lattice.node.NodeNo.{NodeNo};
 ghost use Rattle.fast_check_names.specs.Graph.{entry, listings, moved_below, IsTree, IsWritten};
 ghost use Rattle.fast_check_names.specs.Names.{whole_below, IsAdded};
