@@ -5,7 +5,7 @@ ghost use Rattle.fast_check_packages.specs.Package.{nv_of};
 ghost use Rattle.fast_check_packages.specs.MembersIn.{members_in};
 ghost use Rattle.fast_check_cache.specs.Cache.{IsSeed};
 ghost use Rattle.fast_check_cache.specs.CachedPackages.{used_item};
-ghost use Rattle.fast_check_finder.specs.turns.steps.Sources.{with_used};
+ghost use Rattle.fast_check_finder.specs.turns.wants.Sources.{with_used};
 ghost use Rattle.fast_check_finder.specs.turns.Lent.{used_of};
 ghost use Rattle.fast_check_finder.specs.Refusals.{IsRefusal};
 ghost use Rattle.fast_check_build.specs.Found.{known_of, IsFound, WithSeed};
