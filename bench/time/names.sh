@@ -1,31 +1,50 @@
 #!/usr/bin/env bash
-# Grows two sets of names to 25,000, 50,000 and 100,000 names and extends one by the other.
-# For each size: the time to grow both, the time with `extend`, and the most memory that the run held.
+# Makes sets of names in each of some ways, and prints for each the seconds, the most memory that the run held, and the bytes of it for each name:
+#   grow        names one by one, of which each second one has a name below it
+#   mixed       names in an order that jumps to and fro
+#   third       paths of three names
+#   covered     paths of three names, each covered by its first name afterwards
+#   extended    a set that is extended by one name after another
+#   joined      two grown sets that share half of their names, one extended by the other
+#   deep        a path of names, copied, and extended by its copy
+#   cut         a path of names, covered by its first name
+# usage: bench/time/names.sh [PROGRAM]       builds what it runs (bench/time/driver.sh names), unless it is given
 set -eu
-program=$(mktemp)
-trap 'rm -f "$program"' EXIT
-"$(dirname "$0")/driver.sh" names "$program"
-python3 - "$program" <<'PY'
+program=${1:-}
+if [ -z "$program" ]; then
+  program=$(mktemp)
+  trap 'rm -f "$program"' EXIT
+  "$(dirname "$0")/driver.sh" names "$program"
+fi
+python3 - "$(readlink -f "$program")" <<'PY'
 import os, sys, tempfile, time
 
-def run(program, command, count):
-    """The seconds and the most memory, in MB, of one run over a file `cases` of one call."""
+COUNTS = {
+    "grow": (25_000, 100_000, 400_000), "mixed": (25_000, 100_000, 400_000), "third": (25_000, 100_000, 400_000), "covered": (3_000, 6_000, 12_000),
+    "extended": (10_000, 40_000, 160_000), "joined": (25_000, 100_000, 400_000), "deep": (1_000, 10_000, 100_000), "cut": (1_000, 10_000, 100_000),
+}
+
+
+def run(command, count):
+    """The seconds and the most memory, in bytes, of one run over a file `cases` of one call."""
     with tempfile.TemporaryDirectory() as room:
         os.chdir(room)
         with open("cases", "w") as cases:
             cases.write(f"{command} {count}\n")
         start = time.monotonic()
-        child = os.posix_spawn(program, [program], os.environ,
-                               file_actions=[(os.POSIX_SPAWN_OPEN, 1, os.devnull, os.O_WRONLY, 0)])
+        child = os.posix_spawn(sys.argv[1], [sys.argv[1]], os.environ, file_actions=[(os.POSIX_SPAWN_OPEN, 1, os.devnull, os.O_WRONLY, 0)])
         _, status, usage = os.wait4(child, 0)
         os.chdir("/")
-        if status != 0:
-            sys.exit(f"{command} {count} ended with {status}")
-        return time.monotonic() - start, usage.ru_maxrss / 1024
+        return status, time.monotonic() - start, usage.ru_maxrss * 1024
 
-print("names   grow s  extend s  memory MB")
-for count in (25_000, 50_000, 100_000):
-    grow, _ = run(sys.argv[1], "grow", count)
-    both, memory = run(sys.argv[1], "extend_grown", count)
-    print(f"{count:6}  {grow:6.3f}  {both - grow:8.3f}  {memory:9.1f}")
+
+print("                names  seconds  memory MB  bytes a name")
+for command, counts in COUNTS.items():
+    for count in counts:
+        runs = [run(command, count) for _ in range(3)]
+        if any(status for status, _, _ in runs):
+            print(f"{command:9}  {count:10,}  ended by {runs[0][0]}")
+            continue
+        seconds, held = min(it[1] for it in runs), min(it[2] for it in runs)
+        print(f"{command:9}  {count:10,}  {seconds:7.3f}  {held / 1e6:9.1f}  {held / count:12.0f}")
 PY

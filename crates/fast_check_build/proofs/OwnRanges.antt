@@ -18,7 +18,7 @@ use Rattle.fast_check_package_ranges.specs.findings.Yields.{known_package, entry
 use Rattle.fast_check_package_ranges.specs.findings.Yields.{implementing, faulty, kept}
 use Rattle.fast_check_package_ranges.specs.Questions.{ModuleQuestion, whether_public, whether_implementing, about, fault_says, is_recorded}
 use Rattle.fast_check_package_ranges.specs.Questions.{range_says, implementation_says, package_of, yield_says, yields_say}
-use Rattle.fast_check_finder.specs.turns.steps.Sources.{Known, named_at}
+use Rattle.fast_check_finder.specs.turns.wants.Sources.{Known, named_at}
 use Rattle.fast_check_finder.specs.turns.Yields.{gives}
 use Rattle.fast_check_finder.specs.turns.Own.{IsOwnRange, IsOwnYield}
 use Rattle.fast_check_finder.proofs.turn_proofs.OwnYields.{own_yields}

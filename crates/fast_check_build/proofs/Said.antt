@@ -16,7 +16,7 @@ use Rattle.fast_check_package_ranges.specs.Questions.{is_said}
 use Rattle.fast_check_package_ranges.specs.Parts.{lookup_package}
 use Rattle.fast_check_package_ranges.specs.Answers.{answer, AreAnswers}
 use Rattle.fast_check_package_ranges.proofs.KeptSays.{kept_silent}
-use Rattle.fast_check_finder.specs.turns.steps.Sources.{Used, none_used, with_used, Known}
+use Rattle.fast_check_finder.specs.turns.wants.Sources.{Used, none_used, with_used, Known}
 use Rattle.fast_check_finder.specs.turns.Lent.{used_of}
 use Rattle.fast_check_finder.specs.turns.Rules.{world}
 use Rattle.fast_check_finder.specs.turns.Yields.{gives}

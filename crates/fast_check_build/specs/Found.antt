@@ -15,7 +15,7 @@ use Rattle.fast_check_worklists.specs.Account.{Account, IsAccount, IsYield}
 use Rattle.fast_check_package_ranges.specs.findings.Yields.{Yield}
 use Rattle.fast_check_package_ranges.specs.Questions.{about, whether_public, whether_implementing}
 use Rattle.fast_check_package_ranges.specs.Answers.{answer, AreAnswers}
-use Rattle.fast_check_finder.specs.turns.steps.Sources.{none_used, Known, owner_by, named_at}
+use Rattle.fast_check_finder.specs.turns.wants.Sources.{none_used, Known, owner_by, named_at}
 use Rattle.fast_check_finder.specs.turns.Rules.{world}
 use Rattle.fast_check_finder.specs.turns.Yields.{gives}
 use Rattle.fast_check_finder.specs.turns.Own.{IsOwnRange}

@@ -5,7 +5,7 @@ ghost use Rattle.fast_check_packages.specs.Package.{nv_of};
 ghost use Rattle.fast_check_packages.specs.MembersIn.{members_in};
 ghost use Rattle.fast_check_cache.specs.Cache.{IsSeed};
 ghost use Rattle.fast_check_cache.specs.CachedPackages.{used_item};
-ghost use Rattle.fast_check_finder.specs.turns.steps.Sources.{with_used};
+ghost use Rattle.fast_check_finder.specs.turns.wants.Sources.{with_used};
 ghost use Rattle.fast_check_finder.specs.turns.Lent.{used_of};
 ghost use Rattle.fast_check_finder.specs.Refusals.{IsRefusal};
 ghost use Rattle.fast_check_build.specs.Found.{known_of, IsFound, WithSeed};
@@ -59,13 +59,13 @@ pub(crate) fn find_seeded(
 /// has the source that it was kept with, that item is answered in place of what would be found, and the packages that the item depends on are
 /// followed. `InvalidExport` has the first export text of a package that does not join to the package's URL. `OutOfMemory` where memory is wanting,
 /// or a URL comes to 4 GB.
-pub fn find_public_ranges(
+pub fn find_public_ranges<'a>(
     alloc: Global,
     cache: Option<&dyn FastCheckCache>,
     jsr_url_provider: &dyn JsrUrlProvider,
-    graph: &ModuleGraph,
-    root_symbol: &RootSymbol,
-    workspace_members: &[WorkspaceMember],
+    graph: &'a ModuleGraph,
+    root_symbol: &'a RootSymbol,
+    workspace_members: &'a [WorkspaceMember],
     pending_nvs: VecDeque<PackageNv>,
 ) -> Result<BTreeMap<PackageNv, PackagePublicRanges>, BuildFault>
     ensures found { let k = known_of graph.now root_symbol.now workspace_members.now (url_of jsr_url_provider.now) (nv_at jsr_url_provider.now) in

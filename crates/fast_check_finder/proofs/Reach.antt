@@ -54,8 +54,8 @@ use Rattle.fast_check_worklists.specs.Demands.{of_module, of_symbol}
 use Rattle.fast_check_worklists.specs.Measure.{IsWithin, IsPathWithin, IsInside, IsWantInside, IsUniverse}
 use Rattle.fast_check_findings.specs.declared.finding.EntryFault.{EntryFault}
 use Rattle.fast_check_turns.specs.entries.Entries.{Entrance, passed_over, refused, entered, all_faults, in_order}
-use Rattle.fast_check_turns.specs.steps.Sources.{Used, Known, is_text, node_at, named_at, typed_info, info_at, traced_as, module_at}
-use Rattle.fast_check_turns.specs.steps.Wants.{file_at, behind, resolved, file_wants, left_wants}
+use Rattle.fast_check_turns.specs.wants.Sources.{Used, Known, is_text, node_at, named_at, typed_info, info_at, traced_as, module_at}
+use Rattle.fast_check_turns.specs.wants.Wants.{file_at, behind, resolved, file_wants, left_wants}
 use Rattle.fast_check_turns.specs.Rules.{names_wants, symbol_wants, entry_want, unless_faulty, entrance_at, entered_wants, entry_wants}
 use Rattle.fast_check_turns.specs.Rules.{world}
 use Rattle.fast_check_finder.specs.Reach.{dep_names, kind_names, symbol_names, table_names, all_names, paths_up_to, targets, answers}

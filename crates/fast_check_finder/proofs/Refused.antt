@@ -19,7 +19,7 @@ use Rattle.fast_check_turns.specs.entries.Entries.{Entrance, passed_over, refuse
 use Rattle.fast_check_search.proofs.Each.{Contains_first, Each, each_nil, each_one, each_cons, each_append, each_map, each_flat}
 use Rattle.fast_check_worklists.specs.Demands.{Text, of_package}
 use Rattle.fast_check_worklists.specs.Account.{Account, Chained, IsYield}
-use Rattle.fast_check_turns.specs.steps.Sources.{Known}
+use Rattle.fast_check_turns.specs.wants.Sources.{Known}
 use Rattle.fast_check_turns.specs.Rules.{entrance_at, world}
 use Rattle.fast_check_turns.specs.Yields.{entry_yields, gives}
 use Rattle.fast_check_finder.specs.Refusals.{IsRefusal, IsNotRefused, JoinAll, IsRefusedOf}

@@ -11,7 +11,7 @@ use Rattle.fast_check_cache.specs.Cache.{ItemView}
 use Rattle.fast_check_graph.specs.declared.graph.ModuleGraph.{ModuleGraph}
 use Rattle.fast_check_cache.specs.CachedPackages.{usable, if_usable, at_key, used_item}
 use Rattle.fast_check_turns.specs.Lent.{used_of}
-use Rattle.fast_check_turns.specs.steps.Sources.{Used}
+use Rattle.fast_check_turns.specs.wants.Sources.{Used}
 use Rattle.fast_check_finder.specs.Reach.{dependencies_in, dependencies_below, lent_dependencies}
 use Rattle.fast_check_finder.proofs.Reach.{HasDependencies}
 

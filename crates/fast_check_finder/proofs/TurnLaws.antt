@@ -10,7 +10,7 @@ use Rattle.fast_check_worklists.proofs.Asks.{map_last}
 use Rattle.fast_check_worklists.specs.State.{trace_of, State, IsFollowed}
 use Rattle.fast_check_worklists.specs.Turn.{waiting_trace, IsTurn}
 use Rattle.fast_check_findings.specs.Yields.{Yield}
-use Rattle.fast_check_turns.specs.steps.Sources.{Known}
+use Rattle.fast_check_turns.specs.wants.Sources.{Known}
 use Rattle.fast_check_turns.specs.Rules.{world}
 use Rattle.fast_check_turns.specs.Yields.{gives}
 

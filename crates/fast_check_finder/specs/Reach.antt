@@ -21,7 +21,7 @@ use Rattle.fast_check_turns.specs.traces.Modules.{tables_in}
 use Rattle.fast_check_worklists.specs.Demands.{Text}
 use Rattle.fast_check_worklists.specs.Measure.{Universe}
 use Rattle.fast_check_turns.specs.entries.Entries.{Entrance, passed_over, refused, entered}
-use Rattle.fast_check_turns.specs.steps.Sources.{Known}
+use Rattle.fast_check_turns.specs.wants.Sources.{Known}
 use Rattle.fast_check_turns.specs.Rules.{entrance_at}
 
 -- the names that the tables of a module write

@@ -7,7 +7,7 @@ use Rattle.fast_check_packages.specs.declared.fault.BuildFault.TheVariants.{Inva
 use Rattle.fast_check_worklists.specs.Demands.{of_package}
 use Rattle.fast_check_worklists.specs.Account.{Account, Chained}
 use Rattle.fast_check_turns.specs.entries.Entries.{Entrance, passed_over, refused, entered}
-use Rattle.fast_check_turns.specs.steps.Sources.{Known}
+use Rattle.fast_check_turns.specs.wants.Sources.{Known}
 use Rattle.fast_check_turns.specs.Rules.{entrance_at, world}
 
 -- a package that is demanded, and its first export text that does not join. Of want of memory nothing is said

@@ -9,7 +9,7 @@ ghost use Rattle.fast_check_worklists.specs.Account.{Account, IsAccount, IsYield
 ghost use Rattle.fast_check_worklists.specs.State.{state_of};
 ghost use Rattle.fast_check_worklists.specs.Turn.{IsTurn};
 ghost use Rattle.fast_check_findings.specs.Findings.{yields_of};
-ghost use Rattle.fast_check_turns.specs.steps.Sources.{known, with_used};
+ghost use Rattle.fast_check_turns.specs.wants.Sources.{known, with_used};
 ghost use Rattle.fast_check_turns.specs.Lent.{used_of};
 ghost use Rattle.fast_check_turns.specs.Rules.{world};
 ghost use Rattle.fast_check_turns.specs.Yields.{gives};

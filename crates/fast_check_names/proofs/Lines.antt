@@ -1,12 +1,11 @@
 -- The nodes of one path: they are a tree, and its paths are those of the path whole.
-use Rattle.std.proofs.Common.{◌≡◌, ◌∙◌, sym, ap, refl, subst, ⊎_elim, ℕ, zero, suc, ◌+◌, ◌-◌, ◌<◌, ◌≤◌, Bool, true, false, ◌&&◌, cond, eqb}
-use Rattle.std.proofs.Common.{List, [], ◌∷◌, ◌++◌, Option, Some, None, arith, length, get_or, String}
+use Rattle.std.proofs.Common.{◌≡◌, ◌∙◌, sym, ap, refl, ⊎_elim, ℕ, zero, suc, ◌+◌, ◌-◌, ◌<◌, ◌≤◌, Bool, true, false, ◌&&◌, cond, eqb}
+use Rattle.std.proofs.Common.{List, [], ◌∷◌, ◌++◌, Some, None, arith, length, get_or, String}
 use Rattle.std.specs.declared.alloc.Global.{Global}
 use Rattle.std.specs.Str.{bytes_eq}
-use Rattle.std.proofs.lemmas.Bool.{false≢true, cases_lt, ne_eqb}
+use Rattle.std.proofs.lemmas.Bool.{cases_lt, ne_eqb}
 use Rattle.std.proofs.lemmas.Bool.Decides.{eqb_tells}
 use Rattle.std.proofs.lemmas.List.{length-append}
-use Rattle.fast_check_names.specs.declared.lattice.node.Below.{Below}
 use Rattle.fast_check_names.specs.declared.lattice.node.Below.TheVariants.{All, Subset}
 use Rattle.fast_check_names.specs.declared.lattice.node.Node.{Node}
 use Rattle.fast_check_names.specs.declared.lattice.node.NodeNo.{NodeNo}
@@ -15,7 +14,7 @@ use Rattle.fast_check_names.specs.Graph.{Graph, Path, Part, entry, reach, below_
 use Rattle.fast_check_names.specs.Line.{link_at, link, line_from, line}
 use Rattle.fast_check_names.specs.Names.{whole_below, whole_path, everything, path_of, subset_of, NameSet, IsSame}
 use Rattle.fast_check_names.proofs.Lists.{entry_front, entry_behind}
-use Rattle.fast_check_names.proofs.Places.{same_bytes, agrees}
+use Rattle.fast_check_names.proofs.Places.{agrees}
 use Rattle.fast_check_names.proofs.Puts.{none_is}
 use Rattle.fast_check_names.proofs.Copies.{past_none}
 use Rattle.fast_check_names.proofs.Walks.{name_tells}

@@ -1,9 +1,8 @@
 -- The nodes of one path.
-use Rattle.std.specs.Prelude.{ℕ, zero, suc, ◌+◌, ◌==◌, List, [], ◌∷◌, Option, Some, None, cond}
+use Rattle.std.specs.Prelude.{ℕ, zero, suc, ◌+◌, ◌==◌, [], ◌∷◌, Some, None, cond}
 use Rattle.std.specs.Str.{bytes_eq}
 use Rattle.fast_check_names.specs.declared.lattice.node.Below.{Below}
 use Rattle.fast_check_names.specs.declared.lattice.node.Below.TheVariants.{All, Subset}
-use Rattle.fast_check_names.specs.Order.{Name}
 use Rattle.fast_check_names.specs.Graph.{Graph, Path}
 
 -- what stands under the name of a place: all under the last

@@ -13,9 +13,9 @@ use Rattle.fast_check_entries.specs.findings.declared.finding.EntryFault.{EntryF
 use Rattle.fast_check_entries.specs.findings.Yields.{Yield, known_package, entry_point, kept}
 use Rattle.fast_check_entries.specs.Entries.{all_faults, entrance_seen, in_order}
 use Rattle.fast_check_worklists.specs.Demands.{to_package}
-use Rattle.fast_check_worklists.specs.declared.worklist.Step.{Step}
+use Rattle.fast_check_worklists.specs.declared.worklist.OuterWant.{OuterWant}
 use Rattle.fast_check_worklists.specs.State.{want_of, State, AsksAll}
-use Rattle.fast_check_steps.specs.Sources.{Used}
+use Rattle.fast_check_wants.specs.Sources.{Used}
 use Rattle.fast_check_turns.specs.Rules.{entry_want, unless_faulty, entry_wants}
 use Rattle.fast_check_turns.specs.Yields.{entry_fault_yields, entry_yields}
 use Rattle.fast_check_turns.specs.Turns.{AsksAndTells, EntersAt, Enters}
@@ -23,14 +23,14 @@ use Rattle.fast_check_turns.specs.Lent.{used_of}
 
 pub entered_with : (g : ModuleGraph) (nv : Nv) (urls seen asked : List Parts) (faults found : List (Parts × EntryFault)) → seen ≡ urls →
     asked ≡ urls →
-    found ≡ faults → faults ≡ all_faults g seen → (steps : List Step) →
-    map want_of steps ≡ unless_faulty found (map (entry_want nv) asked) →
+    found ≡ faults → faults ≡ all_faults g seen → (outer : List OuterWant) →
+    map want_of outer ≡ unless_faulty found (map (entry_want nv) asked) →
     (told : List Yield) → told ≡ known_package nv ∷
     (map (λ url. entry_point nv (serialize url)) urls ++ flat_map (entry_fault_yields nv) faults) →
-    (a b : State) → AsksAll steps a b → (old new : List Yield) → new ≡ old ++ told → EntersAt g nv urls None a b old new
-entered_with g nv urls seen asked faults found s t u f steps w told y a b asks old new n =
+    (a b : State) → AsksAll outer a b → (old new : List Yield) → new ≡ old ++ told → EntersAt g nv urls None a b old new
+entered_with g nv urls seen asked faults found s t u f outer w told y a b asks old new n =
     let all : faults ≡ all_faults g urls = f ∙ ap (all_faults g) s in (
-      steps,
+      outer,
       w ∙ (ap (λ (us : List Parts). unless_faulty found (map (entry_want nv) us)) t ∙
           ap (λ (fs : List (Parts × EntryFault)). unless_faulty fs (map (entry_want nv) urls)) (u ∙ all)),
       asks,

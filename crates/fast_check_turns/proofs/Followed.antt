@@ -27,12 +27,12 @@ use Rattle.fast_check_worklists.proofs.Asking.{asked_some}
 use Rattle.fast_check_worklists.specs.Demands.{Text, asked, Want, to_package, to_module, to_symbol, Demand, of_package, of_module}
 use Rattle.fast_check_worklists.specs.Demands.{of_symbol}
 use Rattle.fast_check_worklists.specs.Account.{Followed, HasIn, IsSymbolMet}
-use Rattle.fast_check_worklists.specs.declared.worklist.Step.{Step}
+use Rattle.fast_check_worklists.specs.declared.worklist.OuterWant.{OuterWant}
 use Rattle.fast_check_worklists.specs.State.{State, want_of, AsksAll, Reached, root, step, IsSearched, IsOuter, AreWants, AreGiven}
 use Rattle.fast_check_worklists.specs.State.{IsFollowed}
 use Rattle.fast_check_name_demands.specs.NameDemands.{AreDemands, IsEmpty}
-use Rattle.fast_check_steps.specs.Sources.{Known, module_at}
-use Rattle.fast_check_steps.specs.Wants.{file_wants, left_wants}
+use Rattle.fast_check_wants.specs.Sources.{Known, module_at}
+use Rattle.fast_check_wants.specs.Wants.{file_wants, left_wants}
 use Rattle.fast_check_turns.specs.Rules.{names_wants, symbol_wants, world}
 use Rattle.fast_check_entries.specs.findings.Yields.{Yield, recorded, public, implementing}
 use Rattle.fast_check_entries.specs.findings.Findings.{placed_yields, module_yields}
@@ -425,12 +425,12 @@ module _ (k : Known) (nv : Nv) (t : Text) (m : TracedModule) (here : module_at k
         (λ s i j. symbols_given s i y (subst (λ (o : Option TracedModule). Contains (each_of (symbol_yields k nv t s) o) y) here j)) d h c;
   }
 
-  pub followed_there : (steps : List Step) (before after : State) (old new_found : List Yield) → wants ≡ map want_of steps →
-      AsksAll steps before after →
+  pub followed_there : (outer : List OuterWant) (before after : State) (old new_found : List Yield) → wants ≡ map want_of outer →
+      AsksAll outer before after →
       new_found ≡ old ++ given → IsFollowed (world k) (gives k) new.trace before after old new_found
-  followed_there steps before after old new_found e asks is = record {
+  followed_there outer before after old new_found e asks is = record {
     symbols = a.symbols;
-    steps = steps;
+    outer = outer;
     given = given;
     searched = searched;
     wants = subst (λ (ws : List Want). AreWants (world k) new ws) e are_wants;

@@ -17,9 +17,9 @@ use Rattle.fast_check_search.proofs.Each.{Contains_none, Each}
 use Rattle.fast_check_worklists.proofs.Asking.{asked_some}
 use Rattle.fast_check_worklists.specs.Demands.{Text, asked, Want, to_symbol, Demand, of_package, of_module, of_symbol}
 use Rattle.fast_check_worklists.specs.Account.{Trace, Followed, HasIn}
-use Rattle.fast_check_worklists.specs.declared.worklist.Step.{Step}
+use Rattle.fast_check_worklists.specs.declared.worklist.OuterWant.{OuterWant}
 use Rattle.fast_check_worklists.specs.State.{want_of, State, AsksAll, IsFollowed, IsEntered}
-use Rattle.fast_check_steps.specs.Sources.{Known, node_at, named_at, typed_info, info_at, traced_as, module_at, is_untyped}
+use Rattle.fast_check_wants.specs.Sources.{Known, node_at, named_at, typed_info, info_at, traced_as, module_at, is_untyped}
 use Rattle.fast_check_turns.specs.Rules.{names_wants, entrance_at, world}
 use Rattle.fast_check_turns.specs.Yields.{names_yields, untyped_yields, gives}
 use Rattle.fast_check_turns.proofs.Followed.{followed_there}
@@ -81,7 +81,7 @@ module _ (k : Known) (x : Trace) (a b : State) (old new : List Yield) (none : in
   pub followed_nowhere : IsFollowed (world k) (gives k) x a b old new
   followed_nowhere = record {
     symbols = [];
-    steps = [];
+    outer = [];
     given = given;
     searched = record { reached = λ s c. absurd (Contains_none s c); closed = λ d h p t s c. absurd (no_want d h (to_symbol p t s) c) };
     wants = record { sound = λ w c. absurd (Contains_none w c); complete = λ d w h c o. absurd (no_want d h w c) };
@@ -99,13 +99,13 @@ module _ (k : Known) (x : Trace) (a b : State) (old new : List Yield) (none : in
 
 pub entered_at : (k : Known) (nv : Nv) (a b : State) (old new : List Yield) → Enters k.graph k.used nv (entrance_at k nv) a b old new →
     IsEntered (world k) (gives k) nv a b old new
-entered_at k nv a b old new h = record { steps = h.0; wants = h.1; asks = h.2; new_is = h.3 }
+entered_at k nv a b old new h = record { outer = h.0; wants = h.1; asks = h.2; new_is = h.3 }
 
-pub followed_one : (k : Known) (x : Trace) (info : ModuleInfo) → info_at k.graph k.root_symbol x.specifier ≡ Some info → (steps : List Step)
-    (given : List Yield) → IsTracedFor k (traced_as k info) x (map want_of steps) given → (a b : State) → AsksAll steps a b →
+pub followed_one : (k : Known) (x : Trace) (info : ModuleInfo) → info_at k.graph k.root_symbol x.specifier ≡ Some info → (outer : List OuterWant)
+    (given : List Yield) → IsTracedFor k (traced_as k info) x (map want_of outer) given → (a b : State) → AsksAll outer a b →
     (old new : List Yield) →
     new ≡ old ++ given → IsFollowed (world k) (gives k) x a b old new
-followed_one k x info e steps gift h a b asks old new is =
+followed_one k x info e outer gift h a b asks old new is =
     followed_there k x.nv x.specifier (traced_as k info) (ap (option_map (traced_as k)) e)
     (typed_only k x.nv x.specifier info e) x.exports h.names h.are_names
-    (map want_of steps) h.found h.traced steps a b old new refl asks (is ∙ ap (λ (ys : List Yield). old ++ ys) h.given_is)
+    (map want_of outer) h.found h.traced outer a b old new refl asks (is ∙ ap (λ (ys : List Yield). old ++ ys) h.given_is)

@@ -6,17 +6,17 @@ use Rattle.fast_check_packages.specs.Package.{Nv}
 use Rattle.fast_check_cache.specs.Cache.{ItemView}
 use Rattle.fast_check_graph.specs.declared.graph.ModuleGraph.{ModuleGraph}
 use Rattle.fast_check_worklists.specs.Demands.{Want}
-use Rattle.fast_check_worklists.specs.declared.worklist.Step.{Step}
+use Rattle.fast_check_worklists.specs.declared.worklist.OuterWant.{OuterWant}
 use Rattle.fast_check_worklists.specs.State.{want_of, State, AsksAll}
 use Rattle.fast_check_entries.specs.findings.Yields.{Yield}
 use Rattle.fast_check_entries.specs.Entries.{Entrance}
-use Rattle.fast_check_steps.specs.Sources.{Used}
+use Rattle.fast_check_wants.specs.Sources.{Used}
 use Rattle.fast_check_turns.specs.Rules.{entered_wants, entry_wants}
 use Rattle.fast_check_turns.specs.Yields.{entered_yields, entry_yields}
 
 -- these wants were asked for, and these yields were told
 abbrev pub AsksAndTells : List Want → List Yield → State → State → List Yield → List Yield → Type 0
-AsksAndTells wants told a b old new = (steps : List Step) × (map want_of steps ≡ wants) × AsksAll steps a b ×
+AsksAndTells wants told a b old new = (outer : List OuterWant) × (map want_of outer ≡ wants) × AsksAll outer a b ×
     (new ≡ old ++ told)
 
 -- what a package with these entry points asks for was asked for, and what it gives was told

@@ -7,7 +7,7 @@ ghost use Rattle.fast_check_packages.specs.Package.{nv_of};
 ghost use Rattle.fast_check_graph.specs.Root.{specifier_of};
 ghost use Rattle.fast_check_worklists.specs.State.{want_of, state_of, trace_of, IsFollowed};
 ghost use Rattle.fast_check_entries.specs.findings.Findings.{module_yields, yields_of};
-ghost use Rattle.fast_check_steps.specs.Sources.{Used, known, with_used, traced_as};
+ghost use Rattle.fast_check_wants.specs.Sources.{Used, known, with_used, traced_as};
 ghost use Rattle.fast_check_turns.specs.Rules.{world};
 ghost use Rattle.fast_check_turns.specs.Traced.{IsTracedFor};
 ghost use Rattle.fast_check_turns.specs.Yields.{dependencies, untyped_yields, gives};
@@ -18,9 +18,9 @@ use fast_check_entries::findings::{Finding, FollowedModule, FoundModule, Untyped
 use fast_check_graph::{ModuleGraph, ModuleInfo};
 use fast_check_name_demands::name_demands;
 use fast_check_packages::{JsrUrlProvider, PackageNv};
-use fast_check_steps::{Asker, Sources, info_of, is_untyped};
 use fast_check_traces::TracedModule;
-use fast_check_worklists::{PendingTrace, Step};
+use fast_check_wants::{Asker, Sources, info_of, is_untyped};
+use fast_check_worklists::{OuterWant, PendingTrace};
 use std::alloc::{AllocError, Global};
 
 /// What is found of a module that is followed for a package, with the packages that it asks for.
@@ -28,13 +28,13 @@ fn followed_module(
     alloc: Global,
     package: PackageNv,
     info: &ModuleInfo,
-    steps: &[Step],
+    outer: &[OuterWant],
     found: FoundModule,
 ) -> Result<Finding, AllocError>
     ensures { IfOk result (λ finding. yields_of finding
-        ≡ module_yields (nv_of «package») (serialize (specifier_of info.now)) found (dependencies (nv_of «package») (map want_of steps.now))) }
+        ≡ module_yields (nv_of «package») (serialize (specifier_of info.now)) found (dependencies (nv_of «package») (map want_of outer.now))) }
 {
-    let dependencies = dependencies_of(alloc, &package, steps)?;
+    let dependencies = dependencies_of(alloc, &package, outer)?;
     let specifier = info.specifier().clone()?;
     Ok(Finding::Followed(FollowedModule {
         package,
@@ -44,14 +44,14 @@ fn followed_module(
     }))
 }
 
-/// Follows names of a module with tables, for a package: the steps to others, and what is found of the module.
+/// Follows names of a module with tables, for a package: what it wants of others, and what is found of it.
 fn follow_in(
     alloc: Global,
     sources: Sources<'_>,
     provider: &dyn JsrUrlProvider,
     info: &ModuleInfo,
     trace: PendingTrace,
-) -> Result<(Vec<Step>, Finding), AllocError>
+) -> Result<(Vec<OuterWant>, Finding), AllocError>
     ensures { let without = known sources.entry (url_of provider.now) (nv_at provider.now) in
         IfOk result (λ r. (used : Used) → let k = with_used used without in
         IsTracedFor k (traced_as k info.now) (trace_of trace) (map want_of r.0.items) (yields_of r.1)) }
@@ -71,9 +71,9 @@ fn follow_in(
             info,
         },
     };
-    let (steps, found) = traced_module(alloc, asker, provider, demands.as_slice())?;
-    let finding = followed_module(alloc, package_nv, info, steps.as_slice(), found)?;
-    Ok((steps, finding))
+    let (outer, found) = traced_module(alloc, asker, provider, demands.as_slice())?;
+    let finding = followed_module(alloc, package_nv, info, outer.as_slice(), found)?;
+    Ok((outer, finding))
 }
 
 /// Tells a module whose types are not known, under the name by which it was asked for.
@@ -120,9 +120,9 @@ pub fn follow(
             Ok(())
         }
         Some(info) => {
-            let (steps, finding) = follow_in(alloc, sources, provider, info, trace)?;
+            let (outer, finding) = follow_in(alloc, sources, provider, info, trace)?;
             push_finding(&mut progress.found, finding)?;
-            progress.worklist.ask_all(alloc, steps)?;
+            progress.worklist.ask_all(alloc, outer)?;
             Ok(())
         }
     }

@@ -11,7 +11,7 @@ ghost use Rattle.fast_check_entries.specs.findings.Findings.{yields_of};
 ghost use Rattle.fast_check_entries.specs.Entries.{entrance_seen, in_order, TellsRefused};
 ghost use Rattle.fast_check_worklists.specs.Demands.{to_package};
 ghost use Rattle.fast_check_worklists.specs.State.{want_of, state_of, IsEntered};
-ghost use Rattle.fast_check_steps.specs.Sources.{known, with_used};
+ghost use Rattle.fast_check_wants.specs.Sources.{known, with_used};
 ghost use Rattle.fast_check_turns.specs.Rules.{entry_want, unless_faulty, entrance_at, world};
 ghost use Rattle.fast_check_turns.specs.Yields.{entry_fault_yields, gives};
 ghost use Rattle.fast_check_turns.specs.Turns.{AsksAndTells, EntersAt, Enters};
@@ -25,22 +25,26 @@ use fast_check_entries::{entry_faults, entry_point_set, entry_points};
 use fast_check_graph::ModuleGraph;
 use fast_check_names::ImportedExports;
 use fast_check_packages::{BuildFault, JsrUrlProvider, PackageNv};
-use fast_check_worklists::{Step, copy_of};
+use fast_check_worklists::{OuterWant, copy_of};
 use std::alloc::{AllocError, Global};
 use std::collections::BTreeSet;
 use url::Url;
 
 /// Adds that all names of an entry point are asked for.
-fn push_entry(nv: &PackageNv, specifier: &Url, out: &mut Vec<Step>) -> Result<(), AllocError>
+fn push_entry(nv: &PackageNv, specifier: &Url, out: &mut Vec<OuterWant>) -> Result<(), AllocError>
     ensures { OnOk result (map want_of out.new.items ≡ map want_of out.old.items ++ entry_want (nv_of nv.now) specifier.now ∷ []) }
 {
     let nv = nv.clone()?;
-    out.push(Step::Module(nv, specifier.clone()?, ImportedExports::StarWithDefault))?;
+    out.push(OuterWant::Module(nv, specifier.clone()?, ImportedExports::StarWithDefault))?;
     Ok(())
 }
 
 /// All names of each entry point.
-fn entries_of(alloc: Global, nv: &PackageNv, entry_points: &[Url]) -> Result<Vec<Step>, AllocError>
+fn entries_of(
+    alloc: Global,
+    nv: &PackageNv,
+    entry_points: &[Url],
+) -> Result<Vec<OuterWant>, AllocError>
     ensures { IfOk result (λ out. map want_of out.items ≡ map (entry_want (nv_of nv.now)) entry_points.now) }
 {
     let mut out = Vec::new(alloc);
@@ -51,12 +55,12 @@ fn entries_of(alloc: Global, nv: &PackageNv, entry_points: &[Url]) -> Result<Vec
 }
 
 /// What a package asks for: all names of its entry points, unless something is wrong with one of them.
-fn entry_steps(
+fn entry_wants(
     alloc: Global,
     nv: &PackageNv,
     entry_points: &[Url],
     faults: &[(Url, EntryFault)],
-) -> Result<Vec<Step>, AllocError>
+) -> Result<Vec<OuterWant>, AllocError>
     ensures { IfOk result (λ out. map want_of out.items ≡ unless_faulty faults.now (map (entry_want (nv_of nv.now)) entry_points.now)) }
 {
     match faults.split_first() {
@@ -96,23 +100,23 @@ fn enter_at(
         (flat_map yields_of progress.old.found.items) (flat_map yields_of progress.new.found.items)) }
 {
     let faults = entry_faults(alloc, graph, entry_points.as_slice())?;
-    let steps = entry_steps(alloc, nv, entry_points.as_slice(), faults.as_slice())?;
+    let outer = entry_wants(alloc, nv, entry_points.as_slice(), faults.as_slice())?;
     let finding = entered_package(nv, entry_points, faults)?;
     push_finding(&mut progress.found, finding)?;
-    progress.worklist.ask_all(alloc, steps)?;
+    progress.worklist.ask_all(alloc, outer)?;
     Ok(())
 }
 
 /// Adds that a package is asked for.
-fn push_package(nv: &PackageNv, out: &mut Vec<Step>) -> Result<(), AllocError>
+fn push_package(nv: &PackageNv, out: &mut Vec<OuterWant>) -> Result<(), AllocError>
     ensures { OnOk result (map want_of out.new.items ≡ map want_of out.old.items ++ to_package (nv_of nv.now) ∷ []) }
 {
-    out.push(Step::Package(copy_of(nv)?))?;
+    out.push(OuterWant::Package(copy_of(nv)?))?;
     Ok(())
 }
 
 /// What a package whose item is used asks for: its dependencies.
-fn kept_steps(alloc: Global, item: &FastCheckCacheItem) -> Result<Vec<Step>, AllocError>
+fn kept_wants(alloc: Global, item: &FastCheckCacheItem) -> Result<Vec<OuterWant>, AllocError>
     ensures { IfOk result (λ out. map want_of out.items ≡ map to_package (item_of item.now).0) }
 {
     let mut out = Vec::new(alloc);
@@ -134,7 +138,7 @@ fn enter_kept(
         (state_of progress.old.worklist) (state_of progress.new.worklist)
         (flat_map yields_of progress.old.found.items) (flat_map yields_of progress.new.found.items)) }
 {
-    let steps = kept_steps(alloc, &item)?;
+    let outer = kept_wants(alloc, &item)?;
     let package = copy_of(nv)?;
     let kept = KeptPackage {
         package,
@@ -142,7 +146,7 @@ fn enter_kept(
         item,
     };
     push_finding(&mut progress.found, Finding::Kept(kept))?;
-    progress.worklist.ask_all(alloc, steps)?;
+    progress.worklist.ask_all(alloc, outer)?;
     Ok(())
 }
 

@@ -9,7 +9,7 @@ ghost use Rattle.fast_check_name_demands.specs.Files.{names_of};
 ghost use Rattle.fast_check_worklists.specs.State.{want_of};
 ghost use Rattle.fast_check_entries.specs.findings.Faults.{placed_in, placed};
 ghost use Rattle.fast_check_entries.specs.findings.Yields.{dependency};
-ghost use Rattle.fast_check_steps.specs.Sources.{known};
+ghost use Rattle.fast_check_wants.specs.Sources.{known};
 ghost use Rattle.fast_check_turns.specs.Traced.{IsTraced};
 ghost use Rattle.fast_check_turns.specs.Yields.{text_of, source_with, source_in, dependency_of, dependencies};
 
@@ -18,9 +18,9 @@ use fast_check_entries::findings::{DemandFault, FaultyModule, FoundModule, fault
 use fast_check_graph::ModuleInfo;
 use fast_check_packages::{JsrUrlProvider, PackageNv};
 use fast_check_search::Found;
-use fast_check_steps::{Asker, steps_of};
 use fast_check_traces::{NameDemand, Traced, TracedModule, tables_of, trace};
-use fast_check_worklists::Step;
+use fast_check_wants::{Asker, outer_wants};
+use fast_check_worklists::OuterWant;
 use std::alloc::{AllocError, Global};
 use std::rc::RcStr;
 
@@ -67,13 +67,13 @@ fn faults_of(
     Ok(placed)
 }
 
-/// Follows these single demands of a module, for a package: the steps to others, and what is found of the module.
+/// Follows these single demands of a module, for a package: what it wants of others, and what is found of it.
 pub fn traced_module(
     alloc: Global,
     asker: Asker<'_>,
     provider: &dyn JsrUrlProvider,
     demands: &[NameDemand],
-) -> Result<(Vec<Step>, FoundModule), AllocError>
+) -> Result<(Vec<OuterWant>, FoundModule), AllocError>
     ensures { let k = known asker.entry.sources (url_of provider.now) (nv_at provider.now) in
         IfOk result (λ r. IsTraced k (nv_of asker.entry.package.now) asker.entry.traced (map names_of demands.now) (map want_of r.0.items) r.1) }
 {
@@ -89,27 +89,31 @@ pub fn traced_module(
         files,
     } = found;
     ranges.append(&mut re_export_ranges)?;
-    let steps = steps_of(alloc, asker, provider, &files, &wants)?;
+    let outer = outer_wants(alloc, asker, provider, &files, &wants)?;
     let placed = faults_of(alloc, asker.traced, faults.as_slice())?;
     let found = FoundModule {
         ranges,
         implementations,
         faults: placed,
     };
-    Ok((steps, found))
+    Ok((outer, found))
 }
 
-/// Adds the package that a step asks for, if it asks for one.
-fn push_dependency(nv: &PackageNv, step: &Step, out: &mut Vec<PackageNv>) -> Result<(), AllocError>
+/// Adds the package that a want asks for, if it asks for one.
+fn push_dependency(
+    nv: &PackageNv,
+    want: &OuterWant,
+    out: &mut Vec<PackageNv>,
+) -> Result<(), AllocError>
     ensures { OnOk result (map (λ p. dependency (nv_of nv.now) (nv_of p)) out.new.items
-        ≡ map (λ p. dependency (nv_of nv.now) (nv_of p)) out.old.items ++ dependency_of (nv_of nv.now) (want_of step.now)) }
+        ≡ map (λ p. dependency (nv_of nv.now) (nv_of p)) out.old.items ++ dependency_of (nv_of nv.now) (want_of want.now)) }
 {
-    match step {
-        Step::Package(on) => {
+    match want {
+        OuterWant::Package(on) => {
             out.push(on.clone()?)?;
             Ok(())
         }
-        Step::Module(_, _, _) => Ok(()),
+        OuterWant::Module(_, _, _) => Ok(()),
     }
 }
 
@@ -117,13 +121,13 @@ fn push_dependency(nv: &PackageNv, step: &Step, out: &mut Vec<PackageNv>) -> Res
 pub fn dependencies_of(
     alloc: Global,
     nv: &PackageNv,
-    steps: &[Step],
+    outer: &[OuterWant],
 ) -> Result<Vec<PackageNv>, AllocError>
-    ensures { IfOk result (λ out. map (λ p. dependency (nv_of nv.now) (nv_of p)) out.items ≡ dependencies (nv_of nv.now) (map want_of steps.now)) }
+    ensures { IfOk result (λ out. map (λ p. dependency (nv_of nv.now) (nv_of p)) out.items ≡ dependencies (nv_of nv.now) (map want_of outer.now)) }
 {
     let mut out = Vec::new(alloc);
-    for step in steps {
-        push_dependency(nv, step, &mut out)?;
+    for want in outer {
+        push_dependency(nv, want, &mut out)?;
     }
     Ok(out)
 }

@@ -3,13 +3,13 @@ use Rattle.std.proofs.Common.{◌≡◌, ◌∙◌, sym, ap, refl, subst, Bool, 
 use Rattle.std.specs.List.{list_any}
 use Rattle.fast_check_packages.specs.declared.package.PackageNv.{PackageNv}
 use Rattle.fast_check_packages.specs.Package.{nv_of}
-use Rattle.fast_check_worklists.specs.declared.worklist.Step.{Step}
+use Rattle.fast_check_worklists.specs.declared.worklist.OuterWant.{OuterWant}
 use Rattle.fast_check_worklists.specs.Demands.{same_nv}
 use Rattle.fast_check_worklists.specs.State.{State, AddsPackage, AsksOne, AsksAll}
 
-pub asks_more : (steps : List Step) (s : Step) (a b c : State) → AsksAll steps a b → AsksOne s b c → AsksAll (steps ++ s ∷ []) a c
+pub asks_more : (outer : List OuterWant) (s : OuterWant) (a b c : State) → AsksAll outer a b → AsksOne s b c → AsksAll (outer ++ s ∷ []) a c
 asks_more [] s a b c h k = (c, subst (λ (x : State). AsksOne s x c) h k, refl)
-asks_more (t ∷ steps) s a b c h k = (h.0, h.1, asks_more steps s h.0 b c h.2 k)
+asks_more (t ∷ outer) s a b c h k = (h.0, h.1, asks_more outer s h.0 b c h.2 k)
 
 pub any_map : {X Y : Type 0} (f : Y → Bool) (g : X → Y) (xs : List X) → list_any f (map g xs) ≡ list_any (λ x. f (g x)) xs
 any_map f g [] = refl

@@ -17,8 +17,8 @@ use Rattle.fast_check_names.specs.Names.{IsBelow}
 use Rattle.fast_check_names.specs.Imports.{imported, NameDemand, each_name}
 use Rattle.fast_check_names.proofs.Forms.{least_all}
 use Rattle.fast_check_demands.specs.Demands.{Demand as SymbolDemand}
-use Rattle.fast_check_worklists.specs.declared.worklist.Step.{Step}
-use Rattle.fast_check_worklists.specs.declared.worklist.Step.TheVariants.{Package as PackageStep, Module as ModuleStep}
+use Rattle.fast_check_worklists.specs.declared.worklist.OuterWant.{OuterWant}
+use Rattle.fast_check_worklists.specs.declared.worklist.OuterWant.TheVariants.{Package as PackageWant, Module as ModuleWant}
 use Rattle.fast_check_worklists.specs.Demands.{Text, Wanted, same_nv, asked, one, Want, to_package, to_module, to_symbol, Demand}
 use Rattle.fast_check_worklists.specs.Demands.{of_package, of_module, of_symbol, World, Gives, Follows}
 use Rattle.fast_check_worklists.specs.Account.{Trace, Followed, Account, HasIn, Has, traces_of, Chained, step, is_of, joined, IsSymbolMet}
@@ -78,9 +78,9 @@ module _ (world : World) (roots : List Nv) (u : Universe) (is_universe : IsUnive
     pub falls : Falls u a b
 
   module _ (home : Text → Option Nv) (done : List Trace) where
-    one_step : (s : Step) (a b : State) → IsKept world roots home done a → IsFair home (want_of s) → AsksOne s a b →
+    one_want : (s : OuterWant) (a b : State) → IsKept world roots home done a → IsFair home (want_of s) → AsksOne s a b →
         IsAfter home done a b (want_of s ∷ [])
-    one_step (PackageStep nv) a b kept fair asks = record {
+    one_want (PackageWant nv) a b kept fair asks = record {
       kept = kept_package world roots home done a b kept nv asks fair;
       more = more_package world roots home done a b kept nv asks fair;
       asked = λ w c e g. subst (λ (v : Want). Gives v e → IsAsked b e) (only_in (to_package (nv_of nv)) w c) (by_package e) g;
@@ -92,7 +92,7 @@ module _ (world : World) (roots : List Nv) (u : Universe) (is_universe : IsUnive
             (asked_package world roots home done a b kept nv asks fair same_self)
         by_package (of_module p t d) g = absurd g
         by_package (of_symbol p t d) g = absurd g
-    one_step (ModuleStep nv url x) a b kept fair asks = record {
+    one_want (ModuleWant nv url x) a b kept fair asks = record {
       kept = kept_module world roots home done a b kept nv url x asks fair.0 homely;
       more = more_module world roots home done a b kept nv url x asks fair.0 homely;
       asked = λ w c e g. subst (λ (v : Want). Gives v e → IsAsked b e) (only_in (to_module (nv_of nv) (serialize url) (asked x)) w c)
@@ -110,18 +110,18 @@ module _ (world : World) (roots : List Nv) (u : Universe) (is_universe : IsUnive
             let m = asked_module world roots home done a b kept nv url x asks fair.0 homely in
             (m.0, ap (handled_at b) (sym g.1) ∙ m.1, λ part r h. m.2 part r (one_in x d g.2 part r h))
 
-    all_steps : (steps : List Step) (a b : State) → IsKept world roots home done a →
-        ((w : Want) → Contains (map want_of steps) w → IsFair home w) →
-        AsksAll steps a b → IsAfter home done a b (map want_of steps)
-    all_steps [] a b kept fair asks = record {
+    all_wants : (outer : List OuterWant) (a b : State) → IsKept world roots home done a →
+        ((w : Want) → Contains (map want_of outer) w → IsFair home w) →
+        AsksAll outer a b → IsAfter home done a b (map want_of outer)
+    all_wants [] a b kept fair asks = record {
       kept = subst (IsKept world roots home done) (sym asks) kept;
       more = subst (IsMore a) (sym asks) (more_self a);
       asked = λ w c. absurd (none_in w c);
       falls = falls_self u a b asks;
     }
-    all_steps (s ∷ steps) a b kept fair asks =
-        let first = one_step s a asks.0 kept (fair (want_of s) (first_in (want_of s) (map want_of steps))) asks.1 in
-        let rest = all_steps steps asks.0 b first.kept (λ w c. fair w (rest_in (want_of s) w (map want_of steps) c)) asks.2 in
+    all_wants (s ∷ outer) a b kept fair asks =
+        let first = one_want s a asks.0 kept (fair (want_of s) (first_in (want_of s) (map want_of outer))) asks.1 in
+        let rest = all_wants outer asks.0 b first.kept (λ w c. fair w (rest_in (want_of s) w (map want_of outer) c)) asks.2 in
         record {
           kept = rest.kept;
           more = more_then a asks.0 b first.more rest.more;
@@ -129,7 +129,7 @@ module _ (world : World) (roots : List Nv) (u : Universe) (is_universe : IsUnive
           asked = λ w c e g.
               ⊎_elim (λ here. asked_more asks.0 b rest.more e
               (first.asked w (subst (λ (v : Want). Contains (v ∷ []) w) (sym here) (first_in w [])) e g))
-              (λ there. rest.asked w there e g) (split_in (want_of s) w (map want_of steps) c);
+              (λ there. rest.asked w there e g) (split_in (want_of s) w (map want_of outer) c);
         }
 
   -- the first trace that waits is followed next
@@ -240,43 +240,43 @@ module _ (world : World) (roots : List Nv) (u : Universe) (is_universe : IsUnive
       mine d h =
           kept_traces.traces x (Contains-append_left (traces_of done ++ x ∷ []) (waiting_of mid) x (Contains-push (traces_of done) x)) d h
 
-      chain : (w : Want) → Contains (map want_of f.steps) w → (e : Demand) → Gives w e → Chained world roots e
+      chain : (w : Want) → Contains (map want_of f.outer) w → (e : Demand) → Gives w e → Chained world roots e
       chain w c e g =
           let s = f.wants.sound w c in
           step (member_chained new f.searched mine s.0 s.1) (record { want = w; among = s.2; gives = g })
 
-      fair : (w : Want) → Contains (map want_of f.steps) w → IsFair owner w
+      fair : (w : Want) → Contains (map want_of f.outer) w → IsFair owner w
       fair (to_package p) c = chain (to_package p) c (of_package p) refl
       fair (to_module p t v) c =
           let s = f.wants.sound (to_module p t v) c in
           ((λ d g. chain (to_module p t v) c (of_module p t d) (refl, refl, g)), inl (home_of new s.0 s.1 p t v s.2))
-      fair (to_symbol p t s) c = no_symbol f.steps c
+      fair (to_symbol p t s) c = no_symbol f.outer c
         where
-          no_symbol : (steps : List Step) → Contains (map want_of steps) (to_symbol p t s) → ⊥
+          no_symbol : (outer : List OuterWant) → Contains (map want_of outer) (to_symbol p t s) → ⊥
           no_symbol [] c = none_in (to_symbol p t s) c
-          no_symbol (z ∷ zs) c = ⊎_elim (λ e. absurd (not_step z e)) (λ r. no_symbol zs r)
+          no_symbol (z ∷ zs) c = ⊎_elim (λ e. absurd (not_outer z e)) (λ r. no_symbol zs r)
               (split_in (want_of z) (to_symbol p t s) (map want_of zs) c)
             where
-              not_step : (z : Step) → want_of z ≡ to_symbol p t s → ⊥
-              not_step z e = step_outer z (subst (λ (w : Want). IsOuter w → ⊥) (sym e) (λ o. o))
+              not_outer : (z : OuterWant) → want_of z ≡ to_symbol p t s → ⊥
+              not_outer z e = is_outer z (subst (λ (w : Want). IsOuter w → ⊥) (sym e) (λ o. o))
                 where
-                  step_outer : (z : Step) → (IsOuter (want_of z) → ⊥) → ⊥
-                  step_outer (PackageStep nv) h = h tt
-                  step_outer (ModuleStep nv url x) h = h tt
+                  is_outer : (z : OuterWant) → (IsOuter (want_of z) → ⊥) → ⊥
+                  is_outer (PackageWant nv) h = h tt
+                  is_outer (ModuleWant nv url x) h = h tt
 
-      steps_after : IsAfter owner (traces_of done ++ x ∷ []) mid b (map want_of f.steps)
-      steps_after = all_steps owner (traces_of done ++ x ∷ []) f.steps mid b kept_traces fair f.asks
+      wants_after : IsAfter owner (traces_of done ++ x ∷ []) mid b (map want_of f.outer)
+      wants_after = all_wants owner (traces_of done ++ x ∷ []) f.outer mid b kept_traces fair f.asks
 
       more : IsMore a b
-      more = more_then a mid b more_mid steps_after.more
+      more = more_then a mid b more_mid wants_after.more
 
       -- what follows from the new trace is asked
       closed_new : (d : Demand) → HasIn new d → (e : Demand) → Follows world d e → IsAsked b e
       closed_new d h e g = by_want g.want g.among e g.gives
         where
           by_want : (w : Want) → Contains (world d) w → (e : Demand) → Gives w e → IsAsked b e
-          by_want (to_package p) c e g = steps_after.asked (to_package p) (f.wants.complete d (to_package p) h c tt) e g
-          by_want (to_module p t v) c e g = steps_after.asked (to_module p t v) (f.wants.complete d (to_module p t v) h c tt) e g
+          by_want (to_package p) c e g = wants_after.asked (to_package p) (f.wants.complete d (to_package p) h c tt) e g
+          by_want (to_module p t v) c e g = wants_after.asked (to_module p t v) (f.wants.complete d (to_module p t v) h c tt) e g
           by_want (to_symbol p t s) c (of_package q) g = absurd g
           by_want (to_symbol p t s) c (of_module q v e) g = absurd g
           by_want (to_symbol p t s) c (of_symbol q v e) g = tt
@@ -321,7 +321,7 @@ module _ (world : World) (roots : List Nv) (u : Universe) (is_universe : IsUnive
       pub followed : IsOnTheWay world gives owner roots now next b after × Falls u mid b
       followed = (
         record {
-          kept = subst (λ (ts : List Trace). IsKept world roots owner ts b) (sym (traces_more done new)) steps_after.kept;
+          kept = subst (λ (ts : List Trace). IsKept world roots owner ts b) (sym (traces_more done new)) wants_after.kept;
           reached = omega (arith, way.reached, more.longer);
           has_roots = λ p c. more.packages p (way.has_roots p c);
           searched = λ z c.
@@ -334,7 +334,7 @@ module _ (world : World) (roots : List Nv) (u : Universe) (is_universe : IsUnive
               asked_more a b more e (way.closed_packages p (subst (λ (ps : List Nv). Contains ps p) (more.front next way.reached) c) e g);
           yielded = yielded;
         },
-        steps_after.falls,
+        wants_after.falls,
       )
 
     -- the entry points of the next package are asked for, while nothing waits
@@ -356,12 +356,12 @@ module _ (world : World) (roots : List Nv) (u : Universe) (is_universe : IsUnive
         homes = λ z c. absurd (none_in z (subst (λ (zs : List Trace). Contains zs z) empty c));
       }
 
-      entry_chain : (w : Want) → Contains (map want_of enter.steps) w → (e : Demand) → Gives w e → Chained world roots e
+      entry_chain : (w : Want) → Contains (map want_of enter.outer) w → (e : Demand) → Gives w e → Chained world roots e
       entry_chain w c e g =
           step (way.kept.packages p (next, lt, here))
           (record { want = w; among = subst (λ (vs : List Want). Contains vs w) enter.wants c; gives = g })
 
-      entry_fair : (w : Want) → Contains (map want_of enter.steps) w → IsFair nobody w
+      entry_fair : (w : Want) → Contains (map want_of enter.outer) w → IsFair nobody w
       entry_fair (to_package q) c = entry_chain (to_package q) c (of_package q) refl
       entry_fair (to_module q t v) c = (
         (λ d g. entry_chain (to_module q t v) c (of_module q t d) (refl, refl, g)),
@@ -369,8 +369,8 @@ module _ (world : World) (roots : List Nv) (u : Universe) (is_universe : IsUnive
       )
       entry_fair (to_symbol q t s) c = orderly.no_symbols p q t s (subst (λ (vs : List Want). Contains vs (to_symbol q t s)) enter.wants c)
 
-      entry_after : IsAfter nobody (traces_of done) a b (map want_of enter.steps)
-      entry_after = all_steps nobody (traces_of done) enter.steps a b kept_alone entry_fair enter.asks
+      entry_after : IsAfter nobody (traces_of done) a b (map want_of enter.outer)
+      entry_after = all_wants nobody (traces_of done) enter.outer a b kept_alone entry_fair enter.asks
 
       front : take (next + 1) b.packages ≡ take next a.packages ++ p ∷ []
       front =

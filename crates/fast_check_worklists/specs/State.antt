@@ -10,14 +10,14 @@ use Rattle.fast_check_worklists.specs.declared.traced_modules.PendingTrace.{Pend
 use Rattle.fast_check_packages.specs.Package.{Nv, nv_of}
 use Rattle.fast_check_worklists.specs.Traces.{handled, pending, Handles, Waits}
 use Rattle.fast_check_demands.specs.Demands.{Demand as SymbolDemand}
-use Rattle.fast_check_worklists.specs.declared.worklist.Step.{Step}
-use Rattle.fast_check_worklists.specs.declared.worklist.Step.TheVariants.{Package, Module}
+use Rattle.fast_check_worklists.specs.declared.worklist.OuterWant.{OuterWant}
+use Rattle.fast_check_worklists.specs.declared.worklist.OuterWant.TheVariants.{Package, Module}
 use Rattle.fast_check_worklists.specs.declared.worklist.Worklist.{Worklist}
 use Rattle.fast_check_worklists.specs.Demands.{Text, same_nv, asked, Want, to_package, to_module, to_symbol, Demand}
 use Rattle.fast_check_worklists.specs.Demands.{of_package, of_module, of_symbol, World}
 use Rattle.fast_check_worklists.specs.Account.{Trace, Followed, HasIn, IsSymbolMet}
 
-abbrev pub want_of : Step → Want
+abbrev pub want_of : OuterWant → Want
 want_of (Package nv) = to_package (nv_of nv)
 want_of (Module nv url x) = to_module (nv_of nv) (serialize url) (asked x)
 
@@ -52,14 +52,14 @@ AsksModule nv url x a b =
 abbrev pub AsksPackage : PackageNv → State → State → Type 0
 AsksPackage nv a b = (b.handled ≡ a.handled) × (b.waiting ≡ a.waiting) × AddsPackage (nv_of nv) a.packages b.packages
 
-abbrev pub AsksOne : Step → State → State → Type 0
+abbrev pub AsksOne : OuterWant → State → State → Type 0
 AsksOne (Package nv) a b = AsksPackage nv a b
 AsksOne (Module nv url x) a b = AsksModule nv url x a b
 
--- each step in turn
-abbrev pub AsksAll : List Step → State → State → Type 0
+-- each of these wants in turn
+abbrev pub AsksAll : List OuterWant → State → State → Type 0
 AsksAll [] a b = b ≡ a
-AsksAll (s ∷ steps) a b = (mid : State) × AsksOne s a mid × AsksAll steps mid b
+AsksAll (s ∷ outer) a b = (mid : State) × AsksOne s a mid × AsksAll outer mid b
 
 -- demands of symbols to which a trace leads
 pub data Reached (world : World) (x : Trace) : SymbolDemand → Type 0 where
@@ -94,18 +94,18 @@ pub record AreGiven {Y : Type 0} (gives : Demand → List Y) (x : Followed) (giv
 pub record IsFollowed {Y : Type 0} (world : World) (gives : Demand → List Y) (trace : Trace) (a b : State)
     (old new : List Y) : Type 0 where
   pub symbols : List SymbolDemand
-  pub steps : List Step
+  pub outer : List OuterWant
   pub given : List Y
   pub searched : IsSearched world (record { trace = trace; symbols = symbols })
-  pub wants : AreWants world (record { trace = trace; symbols = symbols }) (map want_of steps)
+  pub wants : AreWants world (record { trace = trace; symbols = symbols }) (map want_of outer)
   pub yields : AreGiven gives (record { trace = trace; symbols = symbols }) given
-  pub asks : AsksAll steps a b
+  pub asks : AsksAll outer a b
   pub new_is : new ≡ old ++ given
 
 -- the entry points of a package were asked for
 pub record IsEntered {Y : Type 0} (world : World) (gives : Demand → List Y) (nv : Nv) (a b : State)
     (old new : List Y) : Type 0 where
-  pub steps : List Step
-  pub wants : map want_of steps ≡ world (of_package nv)
-  pub asks : AsksAll steps a b
+  pub outer : List OuterWant
+  pub wants : map want_of outer ≡ world (of_package nv)
+  pub asks : AsksAll outer a b
   pub new_is : new ≡ old ++ gives (of_package nv)

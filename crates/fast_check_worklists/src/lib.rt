@@ -5,4 +5,4 @@ mod traced_modules;
 mod worklist;
 
 pub use crate::traced_modules::{HandledExports, PendingTrace, PendingTraces};
-pub use worklist::{Step, Worklist, begin, copy_of, is_same_package};
+pub use worklist::{OuterWant, Worklist, begin, copy_of, is_same_package};

@@ -15,7 +15,7 @@ use url::Url;
 
 /// What is asked for next.
 #[derive(Drop)]
-pub enum Step {
+pub enum OuterWant {
     /// A package, on which the one that asks depends.
     Package(PackageNv),
     /// Names of a module, for a package.
@@ -55,21 +55,23 @@ impl Worklist {
         Ok(())
     }
 
-    fn ask(&mut self, alloc: Global, step: Step) -> Result<(), AllocError>
-        ensures { OnOk result (AsksOne step (state_of self.old) (state_of self.new)) }
+    fn ask(&mut self, alloc: Global, want: OuterWant) -> Result<(), AllocError>
+        ensures { OnOk result (AsksOne want (state_of self.old) (state_of self.new)) }
     {
-        match step {
-            Step::Package(nv) => self.ask_package(nv),
-            Step::Module(nv, specifier, exports) => self.ask_module(alloc, nv, specifier, exports),
+        match want {
+            OuterWant::Package(nv) => self.ask_package(nv),
+            OuterWant::Module(nv, specifier, exports) => self.ask_module(
+                alloc, nv, specifier, exports,
+            ),
         }
     }
 
     /// Asks for each of these, in turn.
-    pub fn ask_all(&mut self, alloc: Global, steps: Vec<Step>) -> Result<(), AllocError>
-        ensures { OnOk result (AsksAll steps.items (state_of self.old) (state_of self.new)) }
+    pub fn ask_all(&mut self, alloc: Global, outer: Vec<OuterWant>) -> Result<(), AllocError>
+        ensures { OnOk result (AsksAll outer.items (state_of self.old) (state_of self.new)) }
     {
-        for step in steps {
-            self.ask(alloc, step)?;
+        for want in outer {
+            self.ask(alloc, want)?;
         }
         Ok(())
     }

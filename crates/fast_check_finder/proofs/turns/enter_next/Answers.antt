@@ -5,7 +5,7 @@ use Rattle.fast_check_packages.specs.Package.{nv_of}
 use Rattle.fast_check_worklists.specs.Turn.{waiting_trace}
 use Rattle.fast_check_cache.specs.CachedPackages.{used_item}
 use Rattle.fast_check_turns.specs.Lent.{used_of}
-use Rattle.fast_check_turns.specs.steps.Sources.{known, with_used}
+use Rattle.fast_check_turns.specs.wants.Sources.{known, with_used}
 use Rattle.fast_check_turns.proofs.entry_proofs.Passed.{passed_on}
 use Rattle.fast_check_finder.specs.Refusals.{IsRefusedOf}
 use Rattle.fast_check_finder.proofs.Refused.{refused_of}

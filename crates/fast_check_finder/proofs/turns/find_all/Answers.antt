@@ -5,7 +5,7 @@ use Rattle.fast_check_worklists.specs.State.{state_of}
 use Rattle.fast_check_worklists.proofs.Last.{started, later, over}
 use Rattle.fast_check_cache.specs.CachedPackages.{used_item}
 use Rattle.fast_check_turns.specs.Lent.{used_of}
-use Rattle.fast_check_turns.specs.steps.Sources.{known, with_used}
+use Rattle.fast_check_turns.specs.wants.Sources.{known, with_used}
 use Rattle.fast_check_turns.specs.Rules.{world}
 use Rattle.fast_check_turns.specs.Yields.{gives}
 use Rattle.fast_check_findings.specs.Findings.{yields_of}

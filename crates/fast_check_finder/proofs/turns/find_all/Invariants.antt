@@ -7,7 +7,7 @@ use Rattle.fast_check_worklists.specs.Turn.{IsOnTheWay}
 use Rattle.fast_check_worklists.specs.Measure.{IsBounded, left}
 use Rattle.fast_check_cache.specs.CachedPackages.{used_item}
 use Rattle.fast_check_turns.specs.Lent.{used_of}
-use Rattle.fast_check_turns.specs.steps.Sources.{known, with_used}
+use Rattle.fast_check_turns.specs.wants.Sources.{known, with_used}
 use Rattle.fast_check_turns.specs.Rules.{world}
 use Rattle.fast_check_turns.specs.Yields.{gives}
 use Rattle.fast_check_findings.specs.Findings.{yields_of}

@@ -7,13 +7,13 @@ use Rattle.fast_check_turns.proofs.modules.follow_in.Goals as goal
 -- the module is lent anew, so what was traced of it is said again
 pub returns : goal.returns
 returns g c used =
-    let t = c.in_ok-steps.ensures in
+    let t = c.in_ok-outer.ensures in
     record {
       names = map names_of c.as_slice.result.now;
       are_names = subst (λ (ds : List NameDemand). AreDemands c.args.trace.exports_to_trace ds)
           (sym (ap (map names_of) c.as_slice.ensures.value))
           c.in_ok-demands.ensures;
-      found = c.in_ok-steps.found;
+      found = c.in_ok-outer.found;
       traced = record {
         symbols = t.symbols;
         account = t.account;

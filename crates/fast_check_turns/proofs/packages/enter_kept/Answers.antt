@@ -8,8 +8,8 @@ use Rattle.fast_check_turns.proofs.packages.enter_kept.Goals as goal
 
 pub returns : goal.returns
 returns c = (
-  c.in_ok-steps.steps.items,
-  c.in_ok-steps.ensures,
+  c.in_ok-outer.outer.items,
+  c.in_ok-outer.ensures,
   c.in_ok-ask_all.ensures,
   c.in_ok-push_finding.ensures ∙
       ap (λ (p : Nv). flat_map yields_of c.args.progress.now.found.items ++

@@ -1,6 +1,5 @@
-use Rattle.std.proofs.Common.{rules, ◌≡◌, length, [], string_bytes, List, String}
-use Rattle.std.specs.declared.alloc.Global.{Global}
-use Rattle.fast_check_names.specs.Names.{paths, path_of}
+use Rattle.std.proofs.Common.{rules, ◌≡◌, length}
+use Rattle.fast_check_names.specs.Names.{paths}
 use Rattle.fast_check_names.proofs.Lines.{subset_whole, all_whole}
 use Rattle.fast_check_names.proofs.lattice.calls.path_below.Goals as goal
 

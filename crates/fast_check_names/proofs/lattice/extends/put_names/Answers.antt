@@ -1,4 +1,4 @@
-use Rattle.std.proofs.Common.{arith, ap, ◌∙◌, ◌≡◌, ◌++◌, true, is_ok, string_bytes}
+use Rattle.std.proofs.Common.{ap, ◌∙◌, ◌≡◌, ◌++◌, true, is_ok, string_bytes}
 use Rattle.std.proofs.lemmas.List.{map-append}
 use Rattle.fast_check_names.specs.Order.{Entry, names_in, lists, found}
 use Rattle.fast_check_names.proofs.Places.{once_along}

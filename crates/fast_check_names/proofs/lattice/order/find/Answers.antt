@@ -1,4 +1,4 @@
-use Rattle.std.proofs.Common.{rules, arith, ◌∙◌, ◌<◌, ◌-◌, sym, ap, subst, length, ℕ}
+use Rattle.std.proofs.Common.{arith, ◌∙◌, ◌<◌, ◌-◌, sym, ap, subst, length, ℕ}
 use Rattle.fast_check_names.specs.Order.{lists, names_in, name_at}
 use Rattle.fast_check_names.specs.Slots.{place}
 use Rattle.fast_check_names.proofs.Places.{same_bytes, other_bytes}

@@ -1,5 +1,5 @@
 use Rattle.std.proofs.Common.{rules, arith, ◌≡◌, ◌<◌, ◌-◌, subst, length, get_or, string_bytes}
-use Rattle.std.specs.List.{concat, insert}
+use Rattle.std.specs.List.{concat}
 use Rattle.std.proofs.lemmas.List.{length-map}
 use Rattle.fast_check_names.specs.Order.{Name, Entry, lists, run_at, names_in, name_at, keys}
 use Rattle.fast_check_names.specs.Slots.{place, IsSlot, IsGap}

@@ -1,0 +1,239 @@
+-- The nodes of a subtree are copied in the order of a queue: q k is the node at place k, and w lists what the copies list.
+use Rattle.std.proofs.Common.{◌≡◌, ◌≢◌, ◌∙◌, sym, ap, refl, subst, ⊎_elim, ℕ, zero, suc, ◌+◌, ◌<◌, ◌≤◌, true, eqb, List, [], ◌∷◌, ◌++◌}
+use Rattle.std.proofs.Common.{Option, Some, None, arith, length, get_or, AllPairs}
+use Rattle.std.specs.List.{list_any}
+use Rattle.std.proofs.lemmas.Bool.{false≢true, cases_lt, cases_order, or_cases, eqb-true}
+use Rattle.std.proofs.lemmas.Bool.Decides.{Decides-eqb}
+use Rattle.std.proofs.lemmas.List.{get_or_default, length-append, get_or_append_left, get_or-append-add}
+use Rattle.std.proofs.lemmas.Map.Made.{IsDistinct-from_AllPairs}
+use Rattle.std.proofs.lemmas.Map.Steps.{length-le_from_distinct_below}
+use Rattle.fast_check_names.specs.declared.lattice.node.Node.{Node}
+use Rattle.fast_check_names.specs.declared.lattice.node.NodeNo.{NodeNo}
+use Rattle.fast_check_names.specs.declared.lattice.node.Below.{Below}
+use Rattle.fast_check_names.specs.declared.lattice.node.Below.TheVariants.{All, Subset}
+use Rattle.fast_check_names.specs.Order.{Name, found}
+use Rattle.fast_check_names.specs.Graph.{Graph, entry, moved, Part, Path, ends, reach, below_node, IsTree, IsAfter}
+use Rattle.fast_check_names.specs.Names.{IsSame}
+use Rattle.fast_check_names.specs.Queue.{nexts, IsCopyFrom}
+use Rattle.fast_check_names.proofs.Lists.{items_at, entry_front, entry_behind}
+use Rattle.fast_check_names.proofs.Queued.{found_copy, copy_range, copy_lists}
+use Rattle.fast_check_names.proofs.Walks.{is_after}
+
+-- the first i nodes of a queue of count nodes are copied
+pub record AreCopied (g : Graph) (size at : ℕ) (q : ℕ → ℕ) (count i : ℕ) (w : Graph) : Type 0 where
+  pub some : 0 < count
+  pub within : i ≤ count
+  pub first : q 0 ≡ at
+  pub low : (k : ℕ) → k < count → q k < size
+  pub above : (k : ℕ) → 0 < k → k < count → at < q k
+  pub alike : (k : ℕ) (n : Name) → k < i → g (q k) n ≡ moved q (w k n)
+  pub later : (k : ℕ) (n : Name) (j : NodeNo) → k < i → w k n ≡ Some (Subset j) → (k < j.0) × (j.0 < count)
+  pub parent : (j : ℕ) → 0 < j → j < count → (p : ℕ × Name) × (p.0 < i) × (w p.0 p.1 ≡ Some (Subset (record { 0 = j })))
+
+-- the queue begins with one node
+pub none_copied : (g : Graph) (size at : ℕ) (q : ℕ → ℕ) (w : Graph) → at < size → q 0 ≡ at → AreCopied g size at q 1 0 w
+none_copied g size at q w within first = record {
+  some = omega arith;
+  within = omega arith;
+  first = first;
+  low = λ k h. let z : k ≡ 0 = omega (arith, h) in let e : q k ≡ at = ap q z ∙ first in omega (arith, e, within);
+  above = λ k h l. absurd (omega (arith, h, l));
+  alike = λ k n h. absurd (omega (arith, h));
+  later = λ k n j h e. absurd (omega (arith, h));
+  parent = λ j h l. absurd (omega (arith, h, l));
+}
+
+moved_same : (q r : ℕ → ℕ) (o : Option Below) → ((j : NodeNo) → o ≡ Some (Subset j) → q j.0 ≡ r j.0) → moved q o ≡ moved r o
+moved_same q r None h = refl
+moved_same q r (Some All) h = refl
+moved_same q r (Some (Subset j)) h = ap (λ k. Some (Subset (record { 0 = k }))) (h j refl)
+
+-- the next node is copied, and those that it lists join the queue
+module _ (g w v : Graph) (size at i count long : ℕ) (q r : ℕ → ℕ) (tree : IsTree g size) (are : AreCopied g size at q count i w)
+    (next : i < count) (longer : count ≤ long)
+    (kept : (k : ℕ) → k < count → r k ≡ q k)
+    (front : (k : ℕ) (n : Name) → k < i → v k n ≡ w k n)
+    (here : (n : Name) → g (r i) n ≡ moved r (v i n))
+    (range : (n : Name) (j : NodeNo) → v i n ≡ Some (Subset j) → (count ≤ j.0) × (j.0 < long))
+    (listed : (j : ℕ) → count ≤ j → j < long → (n : Name) × (v i n ≡ Some (Subset (record { 0 = j })))) where
+  not_below : at ≤ r i
+  not_below = ⊎_elim
+      (λ (l : 0 < i). let a = are.above i l next in omega (arith, a, kept i next))
+      (λ (l : i ≤ 0). let z : i ≡ 0 = omega (arith, l) in let e : r i ≡ at = kept i next ∙ (ap q z ∙ are.first) in omega (arith, e))
+      (cases_lt 0 i)
+
+  new_node : (k : ℕ) → count ≤ k → k < long → (at < r k) × (r k < size)
+  new_node k low high =
+      let l = listed k low high in
+      let t = tree.later (r i) l.0 (record { 0 = r k }) (here l.0 ∙ ap (moved r) l.1) in
+      let b = not_below in
+      (omega (arith, t.0, b), t.1)
+
+  pub one_copied : AreCopied g size at r long (i + 1) v
+  one_copied = record {
+    some = let s = are.some in omega (arith, s, longer);
+    within = omega (arith, next, longer);
+    first = kept 0 are.some ∙ are.first;
+    low = λ k h. ⊎_elim
+        (λ (l : k < count). let a = are.low k l in omega (arith, a, kept k l))
+        (λ (l : count ≤ k). (new_node k l h).1)
+        (cases_lt k count);
+    above = λ k z h. ⊎_elim
+        (λ (l : k < count). let a = are.above k z l in omega (arith, a, kept k l))
+        (λ (l : count ≤ k). (new_node k l h).0)
+        (cases_lt k count);
+    alike = λ k n h. ⊎_elim
+        (λ (l : k < i).
+        ap (λ m. g m n) (kept k (omega (arith, l, next))) ∙ (are.alike k n l ∙ (moved_same q r (w k n)
+        (λ j e. let b = are.later k n j l e in sym (kept j.0 b.1)) ∙ ap (moved r) (sym (front k n l)))))
+        (λ (l : i ≤ k). let e : i ≡ k = omega (arith, h, l) in subst (λ (m : ℕ). g (r m) n ≡ moved r (v m n)) e (here n))
+        (cases_lt k i);
+    later = λ k n j h e. ⊎_elim
+        (λ (l : k < i). let b = are.later k n j l (sym (front k n l) ∙ e) in (b.0, omega (arith, b.1, longer)))
+        (λ (l : i ≤ k).
+        let s : k ≡ i = omega (arith, h, l) in
+        let b = range n j (ap (λ m. v m n) (sym s) ∙ e) in
+        (omega (arith, b.0, s, next), b.1))
+        (cases_lt k i);
+    parent = λ j z h. ⊎_elim
+        (λ (l : j < count). let p = are.parent j z l in (p.0, omega (arith, p.1), front p.0.0 p.0.1 p.1 ∙ p.2))
+        (λ (l : count ≤ j). let n = listed j l h in ((i, n.0), omega arith, n.1))
+        (cases_lt j count);
+  }
+
+subset_is : (i j : NodeNo) → Some (Subset i) ≡ Some (Subset j) → i.0 ≡ j.0
+subset_is i j e = let same : i ≡ j = cc in ap (λ (x : NodeNo). x.0) same
+
+none_no : (j : NodeNo) → None ≡ Some (Subset j) → ⊥
+none_no j e = cc
+
+-- where a list has a number
+place_from : (ks : List ℕ) (x : ℕ) → list_any (eqb x) ks ≡ true → (k : ℕ) × (k < length ks) × (get_or ks k 0 ≡ x)
+place_from [] x t = absurd (false≢true t)
+place_from (y ∷ ks) x t = ⊎_elim
+    (λ (h : eqb x y ≡ true). (0, omega arith, sym (eqb-true x y h)))
+    (λ (h : list_any (eqb x) ks ≡ true). let p = place_from ks x h in (suc p.0, omega (arith, p.1), p.2))
+    (or_cases (eqb x y) (list_any (eqb x) ks) t)
+
+module _ (g w : Graph) (size at i count : ℕ) (q : ℕ → ℕ) (tree : IsTree g size) (are : AreCopied g size at q count i w) where
+  -- a copy's reference comes from one of the node
+  refers : (k : ℕ) (n : Name) (j : NodeNo) → k < i → w k n ≡ Some (Subset j) → g (q k) n ≡ Some (Subset (record { 0 = q j.0 }))
+  refers k n j h e = are.alike k n h ∙ ap (moved q) e
+
+  -- no node stands twice in the queue
+  apart : (most k m : ℕ) → k < m → m < most → m < count → q k ≡ q m → ⊥
+  apart zero k m h l c e = omega (arith, l)
+  apart (suc most) k m h l c e =
+      let p = are.parent m (omega (arith, h)) c in
+      let a = refers p.0.0 p.0.1 (record { 0 = m }) p.1 p.2 in
+      let b = are.later p.0.0 p.0.1 (record { 0 = m }) p.1 p.2 in ⊎_elim
+      (λ (some : 0 < k).
+      let o = are.parent k some (omega (arith, h, c)) in
+      let d = refers o.0.0 o.0.1 (record { 0 = k }) o.1 o.2 in
+      let f = are.later o.0.0 o.0.1 (record { 0 = k }) o.1 o.2 in
+      let same = tree.once (q o.0.0) o.0.1 (q p.0.0) p.0.1 (record { 0 = q m }) (d ∙ ap (λ x. Some (Subset (record { 0 = x }))) e) a in
+      ⊎_elim
+      (λ (s : o.0.0 ≡ p.0.0).
+      let number = subset_is (record { 0 = k }) (record { 0 = m })
+      (sym o.2 ∙ (ap (λ x. w x o.0.1) s ∙ (ap (λ x. w p.0.0 x) same.1 ∙ p.2))) in
+      omega (arith, number, h))
+      (⊎_elim
+      (λ (s : o.0.0 < p.0.0). apart most o.0.0 p.0.0 s (omega (arith, b.0, l)) (omega (arith, b.0, c)) same.0)
+      (λ (s : p.0.0 < o.0.0). apart most p.0.0 o.0.0 s (omega (arith, f.0, h, l)) (omega (arith, f.0, h, c)) (sym same.0)))
+      (cases_order o.0.0 p.0.0))
+      (λ (none : k ≤ 0).
+      let z : k ≡ 0 = omega (arith, none) in
+      let first : q k ≡ at = ap q z ∙ are.first in
+      let u = are.above m (omega (arith, h)) c in
+      omega (arith, u, first, e))
+      (cases_lt 0 k)
+
+  one_place : (k m : ℕ) → k < count → m < count → q k ≡ q m → k ≡ m
+  one_place k m h l e = ⊎_elim (λ (s : k ≡ m). s) (⊎_elim
+      (λ (s : k < m). absurd (apart count k m s l l e))
+      (λ (s : m < k). absurd (apart count m k s h h (sym e)))) (cases_order k m)
+
+  -- so the queue is no longer than the nodes are many
+  module _ (ks : List ℕ) (long : length ks ≡ count) (is : (k : ℕ) → get_or ks k 0 ≡ q k) where
+    at_place : (k d : ℕ) → k < length ks → get_or ks k d ≡ q k
+    at_place k d h = get_or_default ks k d 0 h ∙ is k
+
+    differ : AllPairs (λ x y. x ≢ y) ks
+    differ k m d h l e = apart count k m h (omega (arith, l, long)) (omega (arith, l, long))
+        (sym (at_place k d (omega (arith, h, l))) ∙ (e ∙ at_place m d l))
+
+    pub count_bound : count ≤ size
+    count_bound = let b = length-le_from_distinct_below ks size
+        (IsDistinct-from_AllPairs Decides-eqb ks differ)
+        (λ x m. let p = place_from ks x m in
+        let h = are.low p.0 (omega (arith, p.1, long)) in
+        let e : x ≡ q p.0 = sym p.2 ∙ is p.0 in omega (arith, e, h)) in omega (arith, b, long)
+
+  -- all are copied
+  module _ (done : count ≤ i) (past : (k : ℕ) (n : Name) → i ≤ k → w k n ≡ None) where
+    in_copy : (k : ℕ) (n : Name) (j : NodeNo) → w k n ≡ Some (Subset j) → k < i
+    in_copy k n j e = ⊎_elim (λ (l : k < i). l) (λ (l : i ≤ k). absurd (none_no j (sym (past k n l) ∙ e))) (cases_lt k i)
+
+    pub tree_copied : IsTree w count
+    tree_copied =
+        let bound = are.within in record {
+          later = λ k n j e. are.later k n j (in_copy k n j e) e;
+          once = λ k n l m j e d.
+              let a = in_copy k n j e in
+              let b = in_copy l m j d in
+              let same = tree.once (q k) n (q l) m (record { 0 = q j.0 }) (refers k n j a e) (refers l m j b d) in
+              (one_place k l (omega (arith, a, bound)) (omega (arith, b, bound)) same.0, same.1);
+          parent = λ j z h. let p = are.parent j z h in (p.0, p.2);
+        }
+
+    moved_ends : (o : Option Below) (part : Part) → ends o part ≡ ends (moved q o) part
+    moved_ends None part = refl
+    moved_ends (Some All) part = refl
+    moved_ends (Some (Subset j)) part = refl
+
+    copied_reach : (o : Option Below) → IsAfter 0 count o → (part : Part) (p : Path) → reach w o part p ≡ reach g (moved q o) part p
+    copied_reach o h part [] = moved_ends o part
+    copied_reach None h part (n ∷ p) = refl
+    copied_reach (Some All) h part (n ∷ p) = refl
+    copied_reach (Some (Subset j)) h part (n ∷ p) =
+        copied_reach (w j.0 n) (is_after w count tree_copied 0 j.0 n (omega arith)) part p ∙
+        ap (λ o. reach g o part p) (sym (are.alike j.0 n (omega (arith, h.1, done))))
+
+    -- the copy has the paths of the node
+    pub same_copied : IsSame (below_node w 0) (below_node g at)
+    same_copied part [] = refl
+    same_copied part (n ∷ p) =
+        copied_reach (w 0 n) (is_after w count tree_copied 0 0 n (omega arith)) part p ∙
+        (ap (λ o. reach g o part p) (sym (are.alike 0 n (let s = are.some in omega (arith, s, done)))) ∙
+        ap (λ k. reach g (g k n) part p) are.first)
+
+-- the same over vectors: the node whose turn it is
+pub next_copied : (nodes copies : List Node) (queue : List ℕ) (at i : ℕ) (node copy : Node) → IsTree (entry nodes) (length nodes) →
+    AreCopied (entry nodes) (length nodes) at (λ k. get_or queue k 0) (length queue) i (entry copies) → length copies ≡ i →
+    i < length queue → node ≡ get_or nodes (get_or queue i 0) node →
+    IsCopyFrom (length queue) node.names.items copy.names.items →
+    AreCopied (entry nodes) (length nodes) at (λ k. get_or (queue ++ nexts node.names.items) k 0)
+    (length (queue ++ nexts node.names.items)) (i + 1) (entry (copies ++ copy ∷ []))
+next_copied nodes copies queue at i node copy tree are count next is lists =
+    let es = node.names.items in
+    let fs = copy.names.items in
+    let long = length-append queue (nexts es) in
+    let kept : (k : ℕ) → k < length queue → get_or (queue ++ nexts es) k 0 ≡ get_or queue k 0 = λ k h.
+    get_or_append_left queue (nexts es) 0 k h in
+    let turn : (n : Name) → entry (copies ++ copy ∷ []) i n ≡ found fs n = λ n.
+    let last : i ≡ length copies + 0 = omega (arith, count) in
+    ap (λ m. entry (copies ++ copy ∷ []) m n) last ∙ entry_behind copies (copy ∷ []) 0 n in
+    one_copied (entry nodes) (entry copies) (entry (copies ++ copy ∷ [])) (length nodes) at i (length queue) (length (queue ++ nexts es))
+    (λ k. get_or queue k 0) (λ k. get_or (queue ++ nexts es) k 0) tree are next (omega (arith, long)) kept
+    (λ k n h. entry_front copies (copy ∷ []) k n (omega (arith, h, count)))
+    (λ n.
+    ap (λ m. entry nodes m n) (kept i next) ∙
+    (ap (λ xs. found xs n) (sym (items_at nodes (get_or queue i 0) node (are.low i next) is)) ∙
+    (found_copy (λ k. get_or (queue ++ nexts es) k 0) (length queue) es fs lists (λ k h. get_or-append-add queue (nexts es) k 0) n ∙
+    ap (moved (λ k. get_or (queue ++ nexts es) k 0)) (sym (turn n)))))
+    (λ n j e.
+    let h = copy_range (length queue) es fs lists n j (sym (turn n) ∙ e) in
+    (h.0, omega (arith, h.1, long)))
+    (λ j low high.
+    let l = copy_lists (length queue) es fs lists copy.once j low (omega (arith, high, long)) in
+    (l.0, turn l.0 ∙ l.1))

@@ -1,0 +1,56 @@
+use Rattle.std.proofs.Common.{rules, arith, ◌≡◌, ◌<◌, ◌≤◌, ◌+◌, ◌∙◌, refl, subst, ap, ℕ, length, get_or, vec_len}
+use Rattle.std.proofs.lemmas.List.{get_or_default, length_push}
+use Rattle.fast_check_names.specs.declared.lattice.node.Node.{Node}
+use Rattle.fast_check_names.specs.Graph.{entry, IsTree}
+use Rattle.fast_check_names.specs.Queue.{IsCopyFrom}
+use Rattle.fast_check_names.proofs.Copies.{past_none}
+use Rattle.fast_check_names.proofs.Turns.{count_bound, next_copied, tree_copied, same_copied}
+use Rattle.fast_check_names.proofs.lattice.copies.copy_nodes.Goals as goal
+
+pub queue-smaller : goal.queue-smaller
+queue-smaller c =
+    let nodes = c.args.nodes.now in
+    let queue = c.queue.queue.items in
+    let bound : length queue ≤ length nodes = count_bound (entry nodes) (entry c.queue.copies.items) (length nodes) c.args.at c.queue.i
+    (length queue) (λ k. get_or queue k 0) c.requires.tree c.queue.invariant.are queue refl (λ k. refl) in
+    let next : c.queue.i < length queue = search rules in omega (arith, bound, next)
+
+pub queue-preserved : goal.queue-preserved
+queue-preserved c =
+    let nodes = c.args.nodes.now in
+    let queue = c.queue.queue.items in
+    let copies = c.queue.copies.items in
+    let node : Node = c.index-nodes-index.result in
+    let copy : Node = c.in_ok-copy.copy in
+    let next : c.queue.i < length queue = search rules in
+    let at : c.index.result.now ≡ get_or queue c.queue.i 0 =
+    c.index.ensures ∙ get_or_default queue c.queue.i c.index.result.now 0 next in
+    let is : node ≡ get_or nodes (get_or queue c.queue.i 0) node = c.index-nodes-index.is ∙ ap (λ k. get_or nodes k node) at in
+    let lists : IsCopyFrom (length queue) node.names.items copy.names.items = search rules in
+    rw (c.in_ok-push-2.ensures.items, c.in_ok-copy.ensures.queue)
+    (record {
+      count = length_push copies copy ∙ ap (λ k. k + 1) c.queue.invariant.count;
+      are = next_copied nodes copies queue c.args.at c.queue.i node copy c.requires.tree c.queue.invariant.are c.queue.invariant.count next is
+          lists;
+    })
+
+pub returns-clause-tree : goal.returns-clause-tree
+returns-clause-tree c =
+    let nodes = c.args.nodes.now in
+    let queue = c.queue.queue.items in
+    let copies = c.queue.copies.items in
+    let done : length queue ≤ c.queue.i = search rules in
+    let within = c.queue.invariant.are.within in
+    let same : length queue ≡ vec_len c.queue.copies = omega (arith, done, within, c.queue.invariant.count, c.queue.copies.ok.0) in
+    subst (λ (m : ℕ). IsTree (entry copies) m) same
+    (tree_copied (entry nodes) (entry copies) (length nodes) c.args.at c.queue.i (length queue) (λ k. get_or queue k 0) c.requires.tree
+    c.queue.invariant.are done (λ k n h. past_none copies k (omega (arith, h, c.queue.invariant.count)) n))
+
+pub returns-clause-same : goal.returns-clause-same
+returns-clause-same c =
+    let nodes = c.args.nodes.now in
+    let queue = c.queue.queue.items in
+    let copies = c.queue.copies.items in
+    let done : length queue ≤ c.queue.i = search rules in
+    same_copied (entry nodes) (entry copies) (length nodes) c.args.at c.queue.i (length queue) (λ k. get_or queue k 0) c.requires.tree
+    c.queue.invariant.are done (λ k n h. past_none copies k (omega (arith, h, c.queue.invariant.count)) n)

@@ -1,0 +1,7 @@
+use Rattle.fast_check_names.proofs.Numbers.{gone_more}
+use Rattle.fast_check_names.proofs.lattice.covers.drop_listed.Goals as goal
+
+pub loop-below-preserved : goal.loop-below-preserved
+loop-below-preserved c =
+    gone_more c.args.names.now c.loop-below.below-index c.loop-below-item.result c.args.numbers.now.items c.loop-below.numbers.items
+    c.drop_below.new.numbers.items c.loop-below-test.true c.loop-below-item.is c.loop-below.invariant c.drop_below.ensures.gone
