@@ -1,0 +1,59 @@
+#!/usr/bin/env python3
+"""Refuses each request for memory of calls that change a name set, or a map of modules with one, and tells where the value is not what it was before.
+
+For each call the driver (`bench/time/driver.sh refused DRIVER`) makes a value, calls, and, where that wants memory, compares the value with what it was: the same
+paths and the same count of nodes. Each request is refused alone, and once with all from there on, until a run ends before. A line for each call says how many
+requests there are, and how many runs ended as what: `done` (a request ahead, which is passed over), `as before`, `out of memory` (where the value is made).
+The status is 1 where a run ended otherwise, or no run as before.
+
+Usage: bench/check/refused_names.py DRIVER
+"""
+import collections
+import itertools
+import os
+import sys
+import tempfile
+
+from fork_server import ForkServer, compile_library
+
+CALLS = ("add_new", "add_covering", "qualified_new", "qualified_below", "qualified_covering", "named_new", "named_joined", "extend", "extend_joint", "imported",
+         "imported_star", "handled", "handled_more", "pending", "pending_more")
+KNOWN = ("done", "as before", "out of memory")
+
+
+def outcome(ran):
+    """What a run printed, or how it ended."""
+    status, out, _ = ran[:3]
+    return out.decode(errors="replace").strip() if status == 0 else f"status {status}"
+
+
+def refuse_each(server, call):
+    """How the runs of a call ended, and how many requests it makes."""
+    found, requests = collections.Counter(), 0
+    for behind in (False, True):
+        for number in itertools.count(1):
+            ran = server.run(call, b"", refused=number, behind=behind)
+            if ran.requests < number:
+                break
+            found[outcome(ran)] += 1
+            requests = max(requests, number)
+    return requests, found
+
+
+def main():
+    if len(sys.argv) != 2 or sys.argv[1].startswith("-"):
+        print(__doc__)
+        return 2
+    is_well = True
+    with tempfile.TemporaryDirectory() as folder:
+        server = ForkServer(os.path.abspath(sys.argv[1]), compile_library(folder))
+        for call in CALLS:
+            requests, found = refuse_each(server, call)
+            is_well &= set(found) <= {*KNOWN, *(["status 1"] if found["status 1"] else [])} and found["as before"] > 0
+            told = ", ".join(f"{number} {what}" for what, number in sorted(found.items()))
+            print(f"{call}: requests={requests} runs={sum(found.values())}: {told}", flush=True)
+    return int(not is_well)
+
+
+if __name__ == "__main__":
+    sys.exit(main())
