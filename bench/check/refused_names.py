@@ -3,7 +3,8 @@
 
 For each call the driver (`bench/time/driver.sh refused DRIVER`) makes a value, calls, and, where that wants memory, compares the value with what it was: the same
 paths and the same count of nodes. Each request is refused alone, and once with all from there on, until a run ends before. A line for each call says how many
-requests there are, and how many runs ended as what: `done` (a request ahead, which is passed over), `as before`, `out of memory` (where the value is made).
+requests there are, and how many runs ended as what: `done` (a request ahead, which is passed over), `as before`, `out of memory` (where the value is made, or the words
+are read: then with status 1).
 The status is 1 where a run ended otherwise, or no run as before.
 
 Usage: bench/check/refused_names.py DRIVER
@@ -16,14 +17,18 @@ import tempfile
 
 from fork_server import ForkServer, compile_library
 
-CALLS = ("add_new", "add_covering", "qualified_new", "qualified_below", "qualified_covering", "named_new", "named_joined", "extend", "extend_joint", "imported",
+CALLS = ("add_new", "add_covering", "path_new", "path_below", "path_covering", "named_new", "named_joined", "extend", "extend_joint", "imported",
          "imported_star", "handled", "handled_more", "pending", "pending_more")
 KNOWN = ("done", "as before", "out of memory")
+# A star takes the place of names without memory.
+NO_REQUEST = {"imported_star"}
 
 
 def outcome(ran):
     """What a run printed, or how it ended."""
     status, out, _ = ran[:3]
+    if status == 1 and not out:
+        return "out of memory"
     return out.decode(errors="replace").strip() if status == 0 else f"status {status}"
 
 
@@ -49,7 +54,7 @@ def main():
         server = ForkServer(os.path.abspath(sys.argv[1]), compile_library(folder))
         for call in CALLS:
             requests, found = refuse_each(server, call)
-            is_well &= set(found) <= {*KNOWN, *(["status 1"] if found["status 1"] else [])} and found["as before"] > 0
+            is_well &= set(found) <= set(KNOWN) and (found["as before"] > 0) == (call not in NO_REQUEST)
             told = ", ".join(f"{number} {what}" for what, number in sorted(found.items()))
             print(f"{call}: requests={requests} runs={sum(found.values())}: {told}", flush=True)
     return int(not is_well)
