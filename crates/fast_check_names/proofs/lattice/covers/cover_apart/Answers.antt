@@ -1,7 +1,7 @@
 use Rattle.std.proofs.Common.{arith}
 use Rattle.fast_check_names.specs.declared.lattice.node.NodeNo.{NodeNo}
 use Rattle.fast_check_names.proofs.Covers.{tree_left, added_left}
-use Rattle.fast_check_names.proofs.lattice.covers.cover.Goals as goal
+use Rattle.fast_check_names.proofs.lattice.covers.cover_apart.Goals as goal
 
 pub returns-clause-tree : goal.returns-clause-tree
 returns-clause-tree c =
