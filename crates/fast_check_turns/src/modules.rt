@@ -13,10 +13,10 @@ ghost use Rattle.fast_check_turns.specs.Traced.{IsTracedFor};
 ghost use Rattle.fast_check_turns.specs.Yields.{dependencies, untyped_yields, gives};
 
 use crate::progress::{Progress, push_finding};
-use crate::traced::{dependencies_of, traced_module};
+use crate::traced::{dependencies_of, found_of};
 use fast_check_entries::findings::{Finding, FollowedModule, FoundModule, UntypedModule};
 use fast_check_graph::{ModuleGraph, ModuleInfo};
-use fast_check_name_demands::name_demands;
+use fast_check_name_demands::{hold, name_demands};
 use fast_check_packages::{JsrUrlProvider, PackageNv};
 use fast_check_traces::TracedModule;
 use fast_check_wants::{Asker, Sources, info_of, is_untyped};
@@ -61,7 +61,8 @@ fn follow_in(
         exports_to_trace,
         ..
     } = trace;
-    let demands = name_demands(alloc, exports_to_trace)?;
+    let held = hold(alloc, &exports_to_trace)?;
+    let demands = name_demands(alloc, &held)?;
     let asker = Asker {
         sources,
         package: &package_nv,
@@ -71,7 +72,8 @@ fn follow_in(
             info,
         },
     };
-    let (outer, found) = traced_module(alloc, asker, provider, demands.as_slice())?;
+    let traced = fast_check_traces::trace(alloc, asker.traced, demands.as_slice())?;
+    let (outer, found) = found_of(alloc, asker, provider, traced)?;
     let finding = followed_module(alloc, package_nv, info, outer.as_slice(), found)?;
     Ok((outer, finding))
 }
