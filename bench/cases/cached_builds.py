@@ -196,6 +196,13 @@ def none_there():
     return World({"p": ["./none.ts"]})
 
 
+def four(changed=None):
+    """Four packages: p exports all of q, which has a fault, and r all of s."""
+    return with_hashes(World({word: ["./mod.ts"] for word in "pqrs"}, Module("p/mod.ts", export_all("@q"), let("x", value=lit("1")), resolved={"@q": "q/mod.ts"}),
+                             Module("q/mod.ts", let("a")), Module("r/mod.ts", export_all("@s"), resolved={"@s": "s/mod.ts"}),
+                             Module("s/mod.ts", let("y", value=lit("1"))), pending=["p", "r"]), changed)
+
+
 def unjoined():
     """Two packages, of which one has an export text that does not join."""
     return World({"p": ["./mod.ts"], "q": ["./mod.ts", "http://["]}, Module("p/mod.ts", let("x", value=lit("1"))), pending=["p", "q"])
@@ -211,6 +218,20 @@ def gone():
 def sound(*changed):
     """The modules without faults; the sources of these were changed."""
     return three(is_faulty=False, **dict.fromkeys(changed, 99))
+
+
+def refused(name, traits, worlds):
+    """Builds of which the first `get` is refused, then the second, and so on, until a run meets no refusal; and so with each `set`."""
+    for kind in ("get", "set"):
+        number, is_met = 0, True
+        while is_met:
+            number += 1
+            cache = Cache(**traits, **{f"refused_{kind}": number})
+            told = [Built(world, cache).fault for world in worlds]
+            is_met = "out of memory" in told
+            if is_met != (number <= {"get": cache.asked, "set": cache.set}[kind]) or told.count("out of memory") > 1:
+                raise SystemExit(f"{name}: {kind} {number} is not refused once")
+            yield f"of_{name}_{kind}_{number}_is_{'refused' if is_met else 'not_met'}", {**traits, f"refused_{kind}": number}, worlds
 
 
 def runs():
@@ -234,6 +255,11 @@ def runs():
     yield "a_module_of_hash_0_that_the_graph_lacks_later", {}, [single(), gone()]
     yield "a_module_of_hash_1_that_the_graph_lacks_later", {}, [with_hashes(single(), mod=1), gone()]
     yield "an_export_that_does_not_join", {}, [unjoined()]
+    # the second build finds the package again whose source is changed, by an item of which one hash is another, takes the fault of q from its item, and sets
+    # the item without modules again; the third takes the new item of p as well
+    without_modules = {"items": [[nv_of("r"), [url_of("r/mod.ts")], [nv_of("s")]]]}
+    yield from refused("four_packages", without_modules, [four(), four("p"), four("p")])
+    yield from refused("two_packages_of_three_modules", {}, [with_hashes(drawing())] * 2)
     for seed in range(30):
         world = with_hashes(random_builds.Writer(4000 + seed).world())
         yield f"a_random_workspace_{seed}", {}, [world, world]

@@ -447,3 +447,20 @@ module p/b.ts
   export n: define keyword
   answers n p/b.ts
 ''')
+
+case('two of four packages export all of another one', '''
+package p ./mod.ts
+package q ./mod.ts
+package r ./mod.ts
+package s ./mod.ts
+pending p r
+module p/mod.ts
+  export x: define keyword
+  again q/mod.ts
+module q/mod.ts
+  export a: define keyword
+module r/mod.ts
+  again s/mod.ts
+module s/mod.ts
+  export y: define keyword
+''')

@@ -1,4 +1,2 @@
-pub mod Copies
-mod Depth
+mod Held
 mod Parts
-mod Turns

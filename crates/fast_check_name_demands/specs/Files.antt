@@ -43,7 +43,8 @@ path_demand (n ∷ p) Whole = whole_at (n ∷ p)
 abbrev pub names_of : Single → NameDemand
 names_of singles.AllButDefault = names_but_default
 names_of singles.All = each_name
-names_of (singles.Path names extent) = path_demand (path_of names.items) extent
+names_of singles.There = subset_at []
+names_of (singles.Path first rest extent) = path_demand (first.now ∷ path_of rest.now) extent
 
 abbrev pub file_demand_of : FileWant → FileDemand
 file_demand_of w = wants w.specifier.now (names_of w.names)

@@ -1,25 +1,40 @@
 -- Inner: no contract of a public call cites what stands here.
 -- The single things that a value of demanded names stands for.
-use Rattle.std.specs.Prelude.{◌≡◌, ◌↔◌, ◌⊎◌, Bool, false, List, [], ◌++◌, IsTrue}
+use Rattle.std.specs.Prelude.{◌≡◌, ◌↔◌, ◌⊎◌, Bool, true, false, List, [], IsTrue}
 use Rattle.std.specs.List.{Contains}
 use Rattle.fast_check_names.specs.declared.lattice.imported_exports.ImportedExports.{ImportedExports}
-use Rattle.fast_check_names.specs.Names.{Path, NameSet, has_subset, has_whole}
-use Rattle.fast_check_names.specs.Imports.{NameDemand, subset_at, demands}
+use Rattle.fast_check_names.specs.declared.lattice.demanded.PathEnd.{PathEnd}
+use Rattle.fast_check_names.specs.Names.{Path, path_of}
+use Rattle.fast_check_names.specs.Ends.{IsToldBy, IsTold}
+use Rattle.fast_check_names.specs.Imports.{NameDemand, names_but_default, each_name, subset_at, demands}
 use Rattle.fast_check_demands.specs.symbol_demands.declared.demand.Extent.{Extent}
 use Rattle.fast_check_demands.specs.symbol_demands.declared.demand.Extent.TheVariants.{Touched, Whole}
+use Rattle.fast_check_name_demands.specs.declared.single.HeldDemands.{HeldDemands}
+use Rattle.fast_check_name_demands.specs.declared.single.HeldDemands.TheVariants.{AllButDefault, All, There, Paths}
 use Rattle.fast_check_name_demands.specs.Files.{path_demand}
 
--- whether a set demands the path to this extent: as a subset, or whole and nothing shorter
-abbrev pub is_demanded_at : NameSet → Path → Extent → Bool
-is_demanded_at f p Touched = has_subset f p
-is_demanded_at f p Whole = has_whole f p
+-- a path that is demanded whole, or as a subset
+abbrev pub extent_of : Bool → Extent
+extent_of true = Whole
+extent_of false = Touched
 
--- the demand is one of those that a set has below a path
-pub record IsPartOf (path : Path) (f : NameSet) (d : NameDemand) : Type 0 where
-  pub below : Path
-  pub extent : Extent
-  pub is : d ≡ path_demand (path ++ below) extent
-  pub has : IsTrue (is_demanded_at f below extent)
+-- the demand is of a path that is P
+abbrev pub IsOfPath : (Path → Bool → Type 0) → NameDemand → Type 0
+IsOfPath P d = (p : Path) × (is_whole : Bool) × (d ≡ path_demand p (extent_of is_whole)) × P p is_whole
+
+-- the demand is one of those that an end tells, or that some ends tell
+abbrev pub IsOfEnd : PathEnd → NameDemand → Type 0
+IsOfEnd e d = IsOfPath (IsToldBy (path_of e.names.items) e.from e.is_whole) d
+
+abbrev pub IsOfEnds : List PathEnd → NameDemand → Type 0
+IsOfEnds ends d = IsOfPath (IsTold ends) d
+
+-- the demand is one of those that are held
+abbrev pub IsOfHeld : HeldDemands → NameDemand → Type 0
+IsOfHeld AllButDefault d = d ≡ names_but_default
+IsOfHeld All d = d ≡ each_name
+IsOfHeld There d = d ≡ subset_at []
+IsOfHeld (Paths ends) d = IsOfEnds ends.items d
 
 -- the new list has what the old one has and those that are P
 abbrev pub Gains : (NameDemand → Type 0) → List NameDemand → List NameDemand → Type 0
@@ -36,3 +51,11 @@ IsDemandOf x d = IsTrue (demands x d) ⊎ (IsEmpty x × (d ≡ subset_at []))
 -- the list has exactly the demands of the value
 abbrev pub AreDemands : ImportedExports → List NameDemand → Type 0
 AreDemands x listed = (d : NameDemand) → Contains listed d ↔ IsDemandOf x d
+
+-- what is held is what the value demands
+abbrev pub Holds : ImportedExports → HeldDemands → Type 0
+Holds x held = (d : NameDemand) → IsOfHeld held d ↔ IsDemandOf x d
+
+-- the list has exactly the demands that are held
+abbrev pub AreHeld : HeldDemands → List NameDemand → Type 0
+AreHeld held listed = (d : NameDemand) → Contains listed d ↔ IsOfHeld held d

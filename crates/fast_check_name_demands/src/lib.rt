@@ -9,5 +9,5 @@ mod want;
 pub use fast_check_demands as demands;
 pub use list::FileWants;
 pub use references::push_files;
-pub use single::name_demands;
+pub use single::{HeldDemands, hold, name_demands};
 pub use want::{FileWant, NameDemand};

@@ -34,8 +34,8 @@ impl<'a> FileWants<'a> {
     }
 
     /// One more.
-    pub fn push(&mut self, specifier: &'a str, names: NameDemand) -> Result<(), AllocError>
-        ensures { OnOk result (self.new ≡ self.old ++ wants specifier.now (names_of names) ∷ []) }
+    pub fn push(&mut self, specifier: &'a str, names: NameDemand<'a>) -> Result<(), AllocError>
+        ensures { OnOk result (self.new ≡ self.old ++ wants specifier.now (names_of names.entry) ∷ []) }
     {
         self.items.push(FileWant { specifier, names })?;
         Ok(())

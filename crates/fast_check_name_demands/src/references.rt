@@ -11,50 +11,36 @@ use fast_check_demands::{
     Ask, CheckedTables, Extent, Namespace, SymbolDemand, binds, is_implementation,
 };
 use fast_check_symbols::{Symbol, SymbolDecl, SymbolDeclKind, SymbolDep, SymbolNodeDep};
-use std::alloc::{AllocError, Global};
+use std::alloc::AllocError;
 
-fn push_dep<'a>(
-    alloc: Global,
-    dep: &'a SymbolDep,
-    out: &mut FileWants<'a>,
-) -> Result<(), AllocError>
+fn push_dep<'a>(dep: &'a SymbolDep, out: &mut FileWants<'a>) -> Result<(), AllocError>
     ensures { OnOk result (out.new ≡ out.old ++ dep_files dep.now) }
 {
     match dep {
         SymbolDep::ImportType(specifier, parts) => {
-            let imported = by_import(alloc, parts.as_slice())?;
-            out.push(specifier.as_str(), imported)
+            out.push(specifier.as_str(), by_import(parts.as_slice()))
         }
         SymbolDep::Id(_) | SymbolDep::QualifiedId(_, _) => Ok(()),
     }
 }
 
-fn push_deps<'a>(
-    alloc: Global,
-    deps: &'a [SymbolNodeDep],
-    out: &mut FileWants<'a>,
-) -> Result<(), AllocError>
+fn push_deps<'a>(deps: &'a [SymbolNodeDep], out: &mut FileWants<'a>) -> Result<(), AllocError>
     ensures { OnOk result (out.new ≡ out.old ++ deps_files deps.now) }
 {
     for dep in deps {
-        push_dep(alloc, &dep.dep, out)?;
+        push_dep(&dep.dep, out)?;
     }
     Ok(())
 }
 
-fn push_kind<'a>(
-    alloc: Global,
-    kind: &'a SymbolDeclKind,
-    out: &mut FileWants<'a>,
-) -> Result<(), AllocError>
+fn push_kind<'a>(kind: &'a SymbolDeclKind, out: &mut FileWants<'a>) -> Result<(), AllocError>
     ensures { OnOk result (out.new ≡ out.old ++ kind_files kind.now) }
 {
     match kind {
         SymbolDeclKind::FileRef { specifier, name } => {
-            let export = by_reference(alloc, name)?;
-            out.push(specifier.as_str(), export)
+            out.push(specifier.as_str(), by_reference(name))
         }
-        SymbolDeclKind::Definition(Some(node)) => push_deps(alloc, node.deps.as_slice(), out),
+        SymbolDeclKind::Definition(Some(node)) => push_deps(node.deps.as_slice(), out),
         SymbolDeclKind::Target(_)
         | SymbolDeclKind::QualifiedTarget(_, _)
         | SymbolDeclKind::Definition(None) => Ok(()),
@@ -62,7 +48,6 @@ fn push_kind<'a>(
 }
 
 fn push_decl<'a>(
-    alloc: Global,
     namespace: Namespace,
     decl: &'a SymbolDecl,
     out: &mut FileWants<'a>,
@@ -70,14 +55,13 @@ fn push_decl<'a>(
     ensures { OnOk result (out.new ≡ out.old ++ decl_files namespace decl.now) }
 {
     if binds(decl, namespace) && !is_implementation(decl) {
-        push_kind(alloc, &decl.kind, out)
+        push_kind(&decl.kind, out)
     } else {
         Ok(())
     }
 }
 
 fn push_decls<'a>(
-    alloc: Global,
     namespace: Namespace,
     decls: &'a [SymbolDecl],
     out: &mut FileWants<'a>,
@@ -85,13 +69,12 @@ fn push_decls<'a>(
     ensures { OnOk result (out.new ≡ out.old ++ flat_map (decl_files namespace) decls.now) }
 {
     for decl in decls {
-        push_decl(alloc, namespace, decl, out)?;
+        push_decl(namespace, decl, out)?;
     }
     Ok(())
 }
 
 fn push_symbol<'a>(
-    alloc: Global,
     namespace: Namespace,
     symbol: &'a Symbol,
     out: &mut FileWants<'a>,
@@ -101,11 +84,10 @@ fn push_symbol<'a>(
     if symbol.is_private_member {
         return Ok(());
     }
-    push_decls(alloc, namespace, symbol.decls.as_slice(), out)
+    push_decls(namespace, symbol.decls.as_slice(), out)
 }
 
 fn push_alias<'a>(
-    alloc: Global,
     names: &'a [String],
     extent: Extent,
     kind: &'a SymbolDeclKind,
@@ -115,8 +97,7 @@ fn push_alias<'a>(
 {
     match kind {
         SymbolDeclKind::FileRef { specifier, name } => {
-            let path = by_path_in_file(alloc, name, names, extent)?;
-            out.push(specifier.as_str(), path)
+            out.push(specifier.as_str(), by_path_in_file(name, names, extent))
         }
         SymbolDeclKind::Target(_)
         | SymbolDeclKind::QualifiedTarget(_, _)
@@ -125,7 +106,6 @@ fn push_alias<'a>(
 }
 
 fn push_aliases<'a>(
-    alloc: Global,
     names: &'a [String],
     extent: Extent,
     decls: &'a [SymbolDecl],
@@ -134,13 +114,12 @@ fn push_aliases<'a>(
     ensures { OnOk result (out.new ≡ out.old ++ flat_map (λ x. alias_files (path_of names.now) extent x.kind) decls.now) }
 {
     for decl in decls {
-        push_alias(alloc, names, extent, &decl.kind, out)?;
+        push_alias(names, extent, &decl.kind, out)?;
     }
     Ok(())
 }
 
 fn push_asked<'a>(
-    alloc: Global,
     demand: SymbolDemand<'a>,
     symbol: &'a Symbol,
     out: &mut FileWants<'a>,
@@ -148,22 +127,13 @@ fn push_asked<'a>(
     ensures { OnOk result (out.new ≡ out.old ++ asked_files (asked_of demand.entry.ask) symbol.now) }
 {
     match demand.ask {
-        Ask::Reference(namespace) | Ask::Child(namespace) => push_symbol(
-            alloc, namespace, symbol, out,
-        ),
-        Ask::Path(names, extent) => push_aliases(
-            alloc,
-            names,
-            extent,
-            symbol.decls.as_slice(),
-            out,
-        ),
+        Ask::Reference(namespace) | Ask::Child(namespace) => push_symbol(namespace, symbol, out),
+        Ask::Path(names, extent) => push_aliases(names, extent, symbol.decls.as_slice(), out),
     }
 }
 
 /// Pushes what a demand asks of other files.
 pub fn push_files<'a>(
-    alloc: Global,
     tables: &'a CheckedTables,
     demand: SymbolDemand<'a>,
     out: &mut FileWants<'a>,
@@ -172,6 +142,6 @@ pub fn push_files<'a>(
 {
     match tables.symbol(demand.symbol) {
         None => Ok(()),
-        Some(symbol) => push_asked(alloc, demand, symbol, out),
+        Some(symbol) => push_asked(demand, symbol, out),
     }
 }

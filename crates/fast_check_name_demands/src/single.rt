@@ -1,82 +1,96 @@
 //! The single names that a value of demanded names stands for.
-ghost use Rattle.std.specs.Prelude.{◌≡◌, [], ◌∷◌, ◌++◌, map, OnOk, IfOk, string_bytes};
-ghost use Rattle.fast_check_names.specs.Names.{path_of, paths, paths_below};
+ghost use Rattle.std.specs.Prelude.{◌≡◌, ◌≤◌, [], ◌∷◌, map, length, OnOk, IfOk};
+ghost use Rattle.fast_check_names.specs.Names.{path_of};
+ghost use Rattle.fast_check_names.specs.Ends.{IsBeginning};
 ghost use Rattle.fast_check_name_demands.specs.Files.{names_of};
-ghost use Rattle.fast_check_name_demands.specs.NameDemands.{IsPartOf, Gains, AreDemands};
+ghost use Rattle.fast_check_name_demands.specs.NameDemands.{extent_of, IsOfPath, IsOfEnd, IsOfEnds, Gains, AreDemands, Holds};
 
-use crate::want::NameDemand;
+use crate::want::{NameDemand, by_path};
 use fast_check_demands::Extent;
-use fast_check_names::{Exports, ImportedExports, NamedSubset};
+use fast_check_names::{ImportedExports, PathEnd};
 use std::alloc::{AllocError, Global};
 
-/// The path and one more name below it.
-fn longer(alloc: Global, path: &[String], name: String) -> Result<Vec<String>, AllocError>
-    ensures { IfOk result (λ below. path_of below.items ≡ path_of path.now ++ string_bytes name ∷ []) }
-{
-    let mut below = path.to_vec(alloc)?;
-    below.push(name)?;
-    Ok(below)
+/// What a value demands of a module, held while its single demands are lent: no name of a path is copied for a beginning of it.
+#[derive(Drop)]
+pub enum HeldDemands {
+    /// Each export but `default`.
+    AllButDefault,
+    /// Each export.
+    All,
+    /// No name: that the module is there.
+    There,
+    /// Paths, by their ends.
+    Paths(Vec<PathEnd>),
 }
 
-/// Pushes what is demanded at a path.
-#[cycle(below)]
-fn push_below(
-    alloc: Global,
-    path: Vec<String>,
-    exports: Exports,
-    out: &mut Vec<NameDemand>,
-) -> Result<(), AllocError>
-    ensures { OnOk result (Gains (IsPartOf (path_of path.items) (paths_below exports)) (map names_of out.old.items) (map names_of out.new.items)) }
+/// Holds what a value demands.
+pub fn hold(alloc: Global, exports: &ImportedExports) -> Result<HeldDemands, AllocError>
+    ensures { IfOk result (Holds exports.now) }
 {
     match exports {
-        Exports::All => {
-            out.push(NameDemand::Path(path, Extent::Whole))?;
-            Ok(())
-        }
-        Exports::Subset(names) => {
-            push_names(alloc, path.as_slice(), names, out)?;
-            out.push(NameDemand::Path(path, Extent::Touched))?;
-            Ok(())
+        ImportedExports::Star => Ok(HeldDemands::AllButDefault),
+        ImportedExports::StarWithDefault => Ok(HeldDemands::All),
+        ImportedExports::Subset(names) => {
+            if names.is_empty() {
+                return Ok(HeldDemands::There);
+            }
+            Ok(HeldDemands::Paths(names.path_ends(alloc)?))
         }
     }
 }
 
-/// Pushes what is demanded below a path.
-#[cycle(below)]
-fn push_names(
-    alloc: Global,
-    path: &[String],
-    names: NamedSubset,
-    out: &mut Vec<NameDemand>,
-) -> Result<(), AllocError>
-    ensures { OnOk result (Gains (IsPartOf (path_of path.now) (paths names)) (map names_of out.old.items) (map names_of out.new.items)) }
+fn extent_of(is_whole: bool) -> Extent
+    ensures { result ≡ extent_of is_whole }
 {
-    for (name, exports) in names.into_names(alloc)? {
-        let below = longer(alloc, path, name)?;
-        push_below(alloc, below, exports, out)?;
+    if is_whole {
+        Extent::Whole
+    } else {
+        Extent::Touched
+    }
+}
+
+/// Pushes the beginnings of a path that have at least so many names, as subsets.
+fn push_beginnings<'a>(
+    names: &'a [String],
+    from: usize,
+    out: &mut Vec<NameDemand<'a>>,
+) -> Result<(), AllocError>
+    ensures { OnOk result (Gains (IsOfPath (IsBeginning (path_of names.now) from (length names.now))) (map names_of out.old.items) (map names_of out.new.items)) }
+{
+    for count in from..names.len() {
+        out.push(by_path(&names[..count], Extent::Touched))?;
     }
     Ok(())
 }
 
-fn demands_of_set(alloc: Global, names: NamedSubset) -> Result<Vec<NameDemand>, AllocError>
-    ensures { IfOk result (λ out. AreDemands (ImportedExports.Subset names) (map names_of out.items)) }
+/// Pushes what an end tells.
+fn push_end<'a>(end: &'a PathEnd, out: &mut Vec<NameDemand<'a>>) -> Result<(), AllocError>
+    ensures { OnOk result (Gains (IsOfEnd end.now) (map names_of out.old.items) (map names_of out.new.items)) }
+{
+    let names = end.names.as_slice();
+    push_beginnings(names, end.from, out)?;
+    out.push(by_path(names, extent_of(end.is_whole)))?;
+    Ok(())
+}
+
+fn demands_of_ends(alloc: Global, ends: &[PathEnd]) -> Result<Vec<NameDemand<'_>>, AllocError>
+    ensures { IfOk result (λ out. Gains (IsOfEnds ends.now) [] (map names_of out.items)) }
 {
     let mut out = Vec::new(alloc);
-    if names.is_empty() {
-        out.push(NameDemand::Path(Vec::new(alloc), Extent::Touched))?;
-    } else {
-        push_names(alloc, &[], names, &mut out)?;
+    for end in ends {
+        push_end(end, &mut out)?;
     }
     Ok(out)
 }
 
 /// The single things that a value demands of a module, in no promised order. Of no names, that the module is there.
-pub fn name_demands(alloc: Global, exports: ImportedExports) -> Result<Vec<NameDemand>, AllocError>
-    ensures { IfOk result (λ out. AreDemands exports (map names_of out.items)) }
+pub fn name_demands(alloc: Global, held: &HeldDemands) -> Result<Vec<NameDemand<'_>>, AllocError>
+    ensures { IfOk result (λ out. (exports : ImportedExports) → Holds exports held.now → AreDemands exports (map names_of out.items)) }
 {
-    match exports {
-        ImportedExports::Star => Ok(vec![in alloc; NameDemand::AllButDefault]?),
-        ImportedExports::StarWithDefault => Ok(vec![in alloc; NameDemand::All]?),
-        ImportedExports::Subset(names) => demands_of_set(alloc, names),
+    match held {
+        HeldDemands::AllButDefault => Ok(vec![in alloc; NameDemand::AllButDefault]?),
+        HeldDemands::All => Ok(vec![in alloc; NameDemand::All]?),
+        HeldDemands::There => Ok(vec![in alloc; NameDemand::There]?),
+        HeldDemands::Paths(ends) => demands_of_ends(alloc, ends.as_slice()),
     }
 }

@@ -1,8 +1,8 @@
 -- All is written over a subset, whose node is taken out with all below it.
-use Rattle.std.proofs.Common.{◌≡◌, ◌∙◌, sym, ap, refl, subst, ⊎_elim, ℕ, ◌<◌, ◌≤◌, true, false, ◌&&◌, cond, eqb}
+use Rattle.std.proofs.Common.{◌≡◌, ◌∙◌, sym, ap, refl, subst, ⊎_elim, ℕ, ◌<◌, ◌≤◌, Bool, true, false, ◌&&◌, cond, eqb}
 use Rattle.std.proofs.Common.{[], ◌∷◌, List, Option, Some, None, arith, get_or, length, map}
 use Rattle.std.specs.Str.{bytes_eq}
-use Rattle.std.proofs.lemmas.Bool.{false≢true, eq-eqb, cases_Bool}
+use Rattle.std.proofs.lemmas.Bool.{false≢true, eq-eqb, cases_Bool, cases_order}
 use Rattle.fast_check_names.specs.declared.lattice.node.NodeNo.{NodeNo}
 use Rattle.fast_check_names.specs.declared.lattice.node.Below.TheVariants.{All, Subset}
 use Rattle.fast_check_names.specs.declared.lattice.node.Node.{Node}
@@ -28,11 +28,19 @@ subset_is i j e = cc
 no_is : (i j : NodeNo) → i.0 ≡ j.0 → i ≡ j
 no_is i j e k = record { 0 = e k }
 
-module _ (g h w : Graph) (size at : ℕ) (name : Name) (no : NodeNo) (numbers : List (Option ℕ)) (tree : IsTree g size)
-    (link : g at name ≡ Some (Subset no)) (without : IsWithout g no.0 (stays numbers)) (ranks : AreRanks numbers)
+-- the nodes that stay have other numbers: those from 0 on, each once, and a node a lower one than those that it lists
+pub record IsRenamed (g : Graph) (size : ℕ) (f : ℕ → Bool) (to : ℕ → ℕ) (count : ℕ) : Type 0 where
+  pub first : to 0 ≡ 0
+  pub rises : (k : ℕ) (n : Name) (j : NodeNo) → f k ≡ true → f j.0 ≡ true → g k n ≡ Some (Subset j) → to k < to j.0
+  pub one : (j k : ℕ) → j < size → k < size → f j ≡ true → f k ≡ true → to j ≡ to k → j ≡ k
+  pub within : (k : ℕ) → k < size → f k ≡ true → to k < count
+  pub onto : (m : ℕ) → m < count → (k : ℕ) × (k < size) × (f k ≡ true) × (to k ≡ m)
+
+module _ (g h w : Graph) (size at : ℕ) (name : Name) (no : NodeNo) (f : ℕ → Bool) (to : ℕ → ℕ) (count : ℕ) (tree : IsTree g size)
+    (link : g at name ≡ Some (Subset no)) (without : IsWithout g no.0 f) (renamed : IsRenamed g size f to count)
     (written : IsWritten g at name (Some All) h)
-    (left : (k : ℕ) (n : Name) → k < size → stays numbers k ≡ true → w (rank (stays numbers) k) n ≡ moved (number numbers) (h k n))
-    (past : (k : ℕ) (n : Name) → rank (stays numbers) size ≤ k → w k n ≡ None) where
+    (left : (k : ℕ) (n : Name) → k < size → f k ≡ true → w (to k) n ≡ moved to (h k n))
+    (past : (k : ℕ) (n : Name) → count ≤ k → w k n ≡ None) where
   ends : (at < no.0) × (no.0 < size)
   ends = tree.later at name no link
 
@@ -65,12 +73,12 @@ module _ (g h w : Graph) (size at : ℕ) (name : Name) (no : NodeNo) (numbers : 
       all_no j (sym covered ∙ (subst (λ (i : ℕ). h i name ≡ Some (Subset j)) o.0 (subst (λ (m : Name). h k m ≡ Some (Subset j)) o.1 e)))
 
   -- what refers to a node that stays, stays
-  parent_stays : (k : ℕ) (n : Name) (j : NodeNo) → g k n ≡ Some (Subset j) → stays numbers j.0 ≡ true → stays numbers k ≡ true
-  parent_stays k n j e t = ⊎_elim (λ (s : stays numbers k ≡ true). s)
-      (λ (s : stays numbers k ≡ false). absurd (false≢true (sym (without.down k n j e s) ∙ t)))
-      (cases_Bool (stays numbers k))
+  parent_stays : (k : ℕ) (n : Name) (j : NodeNo) → g k n ≡ Some (Subset j) → f j.0 ≡ true → f k ≡ true
+  parent_stays k n j e t = ⊎_elim (λ (s : f k ≡ true). s)
+      (λ (s : f k ≡ false). absurd (false≢true (sym (without.down k n j e s) ∙ t)))
+      (cases_Bool (f k))
 
-  compacted : IsCompacted h size (stays numbers) (number numbers) w (rank (stays numbers) size)
+  compacted : IsCompacted h size f to w count
   compacted = record {
     later = λ k n j e. tree.later k n j (was k n j e);
     once = λ k n l m j e d. tree.once k n l m j (was k n j e) (was l m j d);
@@ -82,22 +90,23 @@ module _ (g h w : Graph) (size at : ℕ) (name : Name) (no : NodeNo) (numbers : 
           p.0,
           parent_stays p.0.0 p.0.1 (record { 0 = j }) p.1 t,
           omega (arith, l.0, l.1),
-          kept p.0.0 p.0.1 (record { 0 = j }) (λ e. false≢true (sym without.itself ∙ (ap (stays numbers) (sym e) ∙ t))) p.1,
+          kept p.0.0 p.0.1 (record { 0 = j }) (λ e. false≢true (sym without.itself ∙ (ap f (sym e) ∙ t))) p.1,
         );
-    first = ranks 0 (without.before 0 (omega (arith, ends.0)));
-    rises = λ j k a b l. omega (arith, ranks j a, ranks k b, rank_rises (stays numbers) j k a l);
-    within = λ k l t. omega (arith, ranks k t, rank_rises (stays numbers) k size t l);
-    onto = λ m l. let r = rank_onto (stays numbers) size m l in (r.0, r.1, r.2, ranks r.0 r.2 ∙ r.3);
-    keeps = λ k n l t. ap (λ (m : ℕ). w m n) (ranks k t) ∙ left k n l t;
-    past = λ m n l. past m n l;
+    first = renamed.first;
+    rises = λ k n j t d e. renamed.rises k n j t d (was k n j e);
+    one = renamed.one;
+    within = renamed.within;
+    onto = renamed.onto;
+    keeps = left;
+    past = past;
   }
 
-  pub tree_covered : IsTree w (rank (stays numbers) size)
-  tree_covered = tree_compacted h size (stays numbers) (number numbers) w (rank (stays numbers) size) compacted
+  pub tree_covered : IsTree w count
+  tree_covered = tree_compacted h size f to w count compacted
 
   pub cover_added : IsAdded g at (whole_below (name ∷ [])) w
   cover_added part n q =
-      rooted_compacted h size (stays numbers) (number numbers) w (rank (stays numbers) size) compacted (omega (arith, ends.1)) part (n ∷ q) ∙
+      rooted_compacted h size f to w count compacted (omega (arith, ends.1)) part (n ∷ q) ∙
       (let put = put_all g h size at name written in
       grown g h size at name put.now everything (whole_below (name ∷ [])) tree put.low (λ part x q. refl) put.gain 0
       (omega (arith, ends.1)) n part q)
@@ -113,20 +122,38 @@ module _ (nodes written moving all : List Node) (size count len at : ℕ) (name 
   count_is : len ≡ rank (stays numbers) size
   count_is = len_is ∙ ap (λ (m : ℕ). rank (stays numbers) m) same
 
+  bounds : (at < no.0) × (no.0 < size)
+  bounds = tree.later at name no link
+
+  renamed : IsRenamed (entry nodes) size (stays numbers) (number numbers) (rank (stays numbers) size)
+  renamed = record {
+    first = ranks 0 (without.before 0 (omega (arith, bounds.0)));
+    rises = λ k n j a b e.
+        omega (arith, ranks k a, ranks j.0 b, rank_rises (stays numbers) k j.0 a (tree.later k n j e).0);
+    one = λ j k w v a b e. ⊎_elim (λ (h : j ≡ k). h) (⊎_elim
+        (λ (h : j < k). absurd (omega (arith, ranks j a, ranks k b, rank_rises (stays numbers) j k a h, e)))
+        (λ (h : k < j). absurd (omega (arith, ranks j a, ranks k b, rank_rises (stays numbers) k j b h, e)))) (cases_order j k);
+    within = λ k l t. omega (arith, ranks k t, rank_rises (stays numbers) k size t l);
+    onto = λ m l. let r = rank_onto (stays numbers) size m l in (r.0, r.1, r.2, ranks r.0 r.2 ∙ r.3);
+  }
+
   left : (k : ℕ) (n : Name) → k < size → stays numbers k ≡ true →
-      entry all (rank (stays numbers) k) n ≡ moved (number numbers) (entry written k n)
+      entry all (number numbers k) n ≡ moved (number numbers) (entry written k n)
   left k n l t =
-      ap (λ es. found es n) (down k (omega (arith, l, same)) t) ∙
+      ap (λ (m : ℕ). entry all m n) (ranks k t) ∙
+      (ap (λ es. found es n) (down k (omega (arith, l, same)) t) ∙
       (ap (λ ls. found (get_or ls k []) n) renumbered ∙
       (ap (λ es. found es n) (mapped_at (moved_below (number numbers)) (listings written) k) ∙
-      mapped_found (moved_below (number numbers)) (moved (number numbers)) refl (λ b. refl) (get_or (listings written) k []) n))
+      mapped_found (moved_below (number numbers)) (moved (number numbers)) refl (λ b. refl) (get_or (listings written) k []) n)))
 
   past : (k : ℕ) (n : Name) → rank (stays numbers) size ≤ k → entry all k n ≡ None
   past k n l = past_none all k (omega (arith, l, count_is, long)) n
 
   pub tree_left : IsTree (entry all) len
   tree_left = subst (λ (m : ℕ). IsTree (entry all) m) (sym count_is)
-      (tree_covered (entry nodes) (entry written) (entry all) size at name no numbers tree link without ranks is_written left past)
+      (tree_covered (entry nodes) (entry written) (entry all) size at name no (stays numbers) (number numbers) (rank (stays numbers) size) tree link
+      without renamed is_written left past)
 
   pub added_left : IsAdded (entry nodes) at (whole_below (name ∷ [])) (entry all)
-  added_left = cover_added (entry nodes) (entry written) (entry all) size at name no numbers tree link without ranks is_written left past
+  added_left = cover_added (entry nodes) (entry written) (entry all) size at name no (stays numbers) (number numbers)
+      (rank (stays numbers) size) tree link without renamed is_written left past

@@ -5,7 +5,7 @@ use Rattle.std.specs.List.{SwappedAt}
 use Rattle.std.specs.Str.{bytes_eq}
 use Rattle.std.specs.Option.{is_some}
 use Rattle.std.proofs.lemmas.Bool.{false≢true, cases_Bool, cases_lt, cases_eq, cond_both, or_left, or_right, or_from}
-use Rattle.std.proofs.lemmas.Bool.{eq-eqb, ne_eqb}
+use Rattle.std.proofs.lemmas.Bool.{eq-eqb, ne_eqb, eqb-true}
 use Rattle.std.proofs.lemmas.List.{get_or-map, get_or-set_same, get_or-set_other, get_or_past, get_or-take, take-map, take_more}
 use Rattle.fast_check_names.specs.declared.lattice.node.Node.{Node}
 use Rattle.fast_check_names.specs.declared.lattice.node.NodeNo.{NodeNo}
@@ -81,6 +81,12 @@ lists_more [] e k = refl
 lists_more (d ∷ es) e k =
     ap (λ b. is_node d.1 k || b) (lists_more es e k) ∙ turned (is_node d.1 k) (is_node e.1 k) (lists_node es k)
 
+pub lists_taken : (es : List Entry) (i : ℕ) (e : Entry) → i < length es → e ≡ get_or es i e → (k : ℕ) →
+    lists_node (take (i + 1) es) k ≡ (is_node e.1 k || lists_node (take i es) k)
+lists_taken es i e within is k =
+    ap (λ (xs : List Entry). lists_node xs k) (take_more es i e within ∙ ap (λ (x : Entry). take i es ++ x ∷ []) (sym is)) ∙
+    lists_more (take i es) e k
+
 one_by_one : (a b : Bool) (o : Option ℕ) → cond (a || b) None o ≡ cond a None (cond b None o)
 one_by_one true b o = refl
 one_by_one false b o = refl
@@ -141,6 +147,24 @@ unlisted (d ∷ es) once k h = or_from (is_node d.1 k) (lists_node es k)
     (not_node d.1 k (λ e. h (string_bytes d.0)
     (ap (λ b. cond b (Some d.1) (found es (string_bytes d.0))) (itself (string_bytes d.0)) ∙ ap (λ (b : Below). Some b) e)))
     (unlisted es (once_behind d es once) k (λ n e. h n (found_behind d es once n (Subset (record { 0 = k })) e)))
+
+pub is_node_of : (b : Below) (k : ℕ) → is_node b k ≡ true → b ≡ Subset (record { 0 = k })
+is_node_of All k e = absurd (false≢true e)
+is_node_of (Subset j) k e = ap (λ (m : ℕ). Subset (record { 0 = m })) (eqb-true j.0 k e)
+
+-- what is listed is found
+pub node_listed : (es : List Entry) → IsOnce es → (k : ℕ) → lists_node es k ≡ true → (n : Name) × (found es n ≡ Some (Subset (record { 0 = k })))
+node_listed [] once k e = absurd (false≢true e)
+node_listed (d ∷ es) once k e = ⊎_elim
+    (λ (t : is_node d.1 k ≡ true). (
+      string_bytes d.0,
+      ap (λ b. cond b (Some d.1) (found es (string_bytes d.0))) (itself (string_bytes d.0)) ∙
+          ap (λ (b : Below). Some b) (is_node_of d.1 k t),
+    ))
+    (λ (t : is_node d.1 k ≡ false).
+    let n = node_listed es (once_behind d es once) k (sym (ap (λ b. b || lists_node es k) t) ∙ e) in
+    (n.0, found_behind d es once n.0 (Subset (record { 0 = k })) n.1))
+    (cases_Bool (is_node d.1 k))
 
 -- the nodes before i have been looked at: of those, and of no others, what they list may be gone
 pub record IsDropping (g : Graph) (gone i : ℕ) (f : ℕ → Bool) : Type 0 where
@@ -258,7 +282,7 @@ module _ (g : Graph) (size : ℕ) (tree : IsTree g size) (gone i next : ℕ) (nu
       (λ (h : i ≤ k). absurd (false≢true (sym (ap is_some (get_or_past numbers k None (omega (arith, h, end)))) ∙ t))) (cases_lt k i)) t
 
 -- a node that is read at another place
-read_moved : (xs ys : List Node) (i j : ℕ) → i < length ys → j < length xs → ((d : Node) → get_or ys i d ≡ get_or xs j d) →
+pub read_moved : (xs ys : List Node) (i j : ℕ) → i < length ys → j < length xs → ((d : Node) → get_or ys i d ≡ get_or xs j d) →
     get_or (listings ys) i [] ≡ get_or (listings xs) j []
 read_moved [] ys i j h l e = absurd (omega (arith, l))
 read_moved (x ∷ xs) ys i j h l e =

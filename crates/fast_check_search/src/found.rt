@@ -59,7 +59,6 @@ impl<'a> Found<'a> {
     /// Adds what one demand makes public, what is wrong with it, and what it asks of other files.
     fn add(
         &mut self,
-        alloc: Global,
         tables: &'a CheckedTables,
         demand: SymbolDemand<'a>,
     ) -> Result<(), AllocError>
@@ -68,7 +67,7 @@ impl<'a> Found<'a> {
         push_ranges(tables, demand, &mut self.ranges)?;
         push_implementations(tables, demand, &mut self.implementations)?;
         push_fault(fault_of(tables, demand), &mut self.faults)?;
-        push_files(alloc, tables, demand, &mut self.files)
+        push_files(tables, demand, &mut self.files)
     }
 }
 
@@ -107,7 +106,7 @@ pub fn search<'a>(
     let mut next = 0;
     while next < work.len() {
         let demand = work.at(next);
-        found.add(alloc, tables, demand)?;
+        found.add(tables, demand)?;
         ask_named(alloc, tables, demand, &mut work)?;
         next += 1;
     }

@@ -21,7 +21,7 @@ pub data Want : Type 0 where
 -- what a value of the code stands for
 abbrev pub want_of : ModuleWant → Want
 want_of (ReExported text) = re_exported text.now
-want_of (Answered url demand) = answered url.now (names_of demand.now)
+want_of (Answered url demand) = answered url.now (names_of demand)
 
 -- ranges
 

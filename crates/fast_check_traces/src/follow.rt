@@ -33,7 +33,7 @@ pub struct Traced<'a> {
 pub fn trace<'a>(
     alloc: Global,
     traced: TracedModule<'a>,
-    demands: &'a [NameDemand],
+    demands: &[NameDemand<'a>],
 ) -> Result<Traced<'a>, AllocError>
     ensures account { IfOk result (λ t. (account : List Demand)
         × IsAccount (tables_at traced.entry) (flat_map (λ d. roots (tables_at traced.entry) (names_of d)) demands.now) account

@@ -13,7 +13,7 @@ pub enum ModuleWant<'a> {
     /// Each export but `default` of the file that a text names, since all of it is exported again.
     ReExported(&'a str),
     /// A name of the module that answers it.
-    Answered(&'a Url, &'a NameDemand),
+    Answered(&'a Url, NameDemand<'a>),
 }
 
 /// What is asked of other modules, in the order in which it came.

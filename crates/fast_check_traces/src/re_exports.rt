@@ -5,7 +5,7 @@ ghost use Rattle.std.specs.List.{flat_map};
 ghost use Rattle.fast_check_names.specs.Names.{path_of};
 ghost use Rattle.fast_check_name_demands.specs.Files.{names_of, path_demand};
 ghost use Rattle.fast_check_traces.specs.Modules.{own_tables as tables_at};
-ghost use Rattle.fast_check_traces.specs.Wants.{re_exported, answered, node_ranges, first_range, path_ranges, re_export_ranges, answered_at, path_wants, named_wants, module_wants};
+ghost use Rattle.fast_check_traces.specs.Wants.{re_exported, answered, node_ranges, first_range, path_ranges, re_export_ranges, answered_at, path_wants, module_wants};
 
 use crate::list::{ModuleWant, ModuleWants};
 use crate::modules::{TracedModule, answer_to, first_with, own_export, own_tables};
@@ -67,37 +67,21 @@ fn push_named_ranges(
     }
 }
 
-fn push_names_ranges(
-    traced: TracedModule<'_>,
-    names: &[String],
-    extent: Extent,
-    out: &mut Vec<SourceRange>,
-) -> Result<(), AllocError>
-    ensures { OnOk result (out.new.items ≡ out.old.items ++ re_export_ranges traced.entry (path_demand (path_of names.now) extent)) }
-{
-    match names.split_first() {
-        None => Ok(()),
-        Some((first, rest)) => push_named_ranges(traced, first.as_str(), rest, extent, out),
-    }
-}
-
 fn push_ranges(
     traced: TracedModule<'_>,
-    demand: &NameDemand,
+    demand: NameDemand<'_>,
     out: &mut Vec<SourceRange>,
 ) -> Result<(), AllocError>
-    ensures { OnOk result (out.new.items ≡ out.old.items ++ re_export_ranges traced.entry (names_of demand.now)) }
+    ensures { OnOk result (out.new.items ≡ out.old.items ++ re_export_ranges traced.entry (names_of demand.entry)) }
 {
     match demand {
         NameDemand::AllButDefault | NameDemand::All => {
             push_all_ranges(own_tables(traced).re_export_all_nodes(), out)
         }
-        NameDemand::Path(names, extent) => push_names_ranges(
-            traced,
-            names.as_slice(),
-            *extent,
-            out,
-        ),
+        NameDemand::There => Ok(()),
+        NameDemand::Path(first, rest, extent) => {
+            push_named_ranges(traced, first, rest, extent, out)
+        }
     }
 }
 
@@ -105,13 +89,13 @@ fn push_ranges(
 pub fn re_export_ranges(
     alloc: Global,
     traced: TracedModule<'_>,
-    demands: &[NameDemand],
+    demands: &[NameDemand<'_>],
 ) -> Result<Vec<SourceRange>, AllocError>
     ensures { IfOk result (λ out. out.items ≡ flat_map (λ d. re_export_ranges traced.entry (names_of d)) demands.now) }
 {
     let mut out = Vec::new(alloc);
     for demand in demands {
-        push_ranges(traced, demand, &mut out)?;
+        push_ranges(traced, *demand, &mut out)?;
     }
     Ok(out)
 }
@@ -130,10 +114,10 @@ fn push_all_wants<'a>(
 
 fn push_answered<'a>(
     answer: Option<&'a Url>,
-    demand: &'a NameDemand,
+    demand: NameDemand<'a>,
     out: &mut ModuleWants<'a>,
 ) -> Result<(), AllocError>
-    ensures { OnOk result (out.new ≡ out.old ++ answered_at (names_of demand.now) (option_copied answer.entry)) }
+    ensures { OnOk result (out.new ≡ out.old ++ answered_at (names_of demand.entry) (option_copied answer.entry)) }
 {
     match answer {
         None => Ok(()),
@@ -144,10 +128,10 @@ fn push_answered<'a>(
 fn push_path_wants<'a>(
     traced: TracedModule<'a>,
     first: &str,
-    demand: &'a NameDemand,
+    demand: NameDemand<'a>,
     out: &mut ModuleWants<'a>,
 ) -> Result<(), AllocError>
-    ensures { OnOk result (out.new ≡ out.old ++ path_wants traced.entry first.now (names_of demand.now)) }
+    ensures { OnOk result (out.new ≡ out.old ++ path_wants traced.entry first.now (names_of demand.entry)) }
 {
     match own_export(own_tables(traced), first) {
         Some(_) => Ok(()),
@@ -155,33 +139,20 @@ fn push_path_wants<'a>(
     }
 }
 
-fn push_named_wants<'a>(
-    traced: TracedModule<'a>,
-    names: &[String],
-    demand: &'a NameDemand,
-    out: &mut ModuleWants<'a>,
-) -> Result<(), AllocError>
-    ensures { OnOk result (out.new ≡ out.old ++ named_wants traced.entry (path_of names.now) (names_of demand.now)) }
-{
-    match names.split_first() {
-        None => Ok(()),
-        Some((first, _)) => push_path_wants(traced, first.as_str(), demand, out),
-    }
-}
-
 #[tactic(auto, using(crate::proofs::Named::named_there))]
 fn push_wants<'a>(
     traced: TracedModule<'a>,
-    demand: &'a NameDemand,
+    demand: NameDemand<'a>,
     out: &mut ModuleWants<'a>,
 ) -> Result<(), AllocError>
-    ensures { OnOk result (out.new ≡ out.old ++ module_wants traced.entry (names_of demand.now)) }
+    ensures { OnOk result (out.new ≡ out.old ++ module_wants traced.entry (names_of demand.entry)) }
 {
     match demand {
         NameDemand::AllButDefault | NameDemand::All => {
             push_all_wants(own_tables(traced).re_export_all_nodes(), out)
         }
-        NameDemand::Path(names, _) => push_named_wants(traced, names.as_slice(), demand, out),
+        NameDemand::There => Ok(()),
+        NameDemand::Path(first, _, _) => push_path_wants(traced, first, demand, out),
     }
 }
 
@@ -189,13 +160,13 @@ fn push_wants<'a>(
 pub fn wants_of<'a>(
     alloc: Global,
     traced: TracedModule<'a>,
-    demands: &'a [NameDemand],
+    demands: &[NameDemand<'a>],
 ) -> Result<ModuleWants<'a>, AllocError>
     ensures { IfOk result (λ out. out ≡ flat_map (λ d. module_wants traced.entry (names_of d)) demands.now) }
 {
     let mut out = ModuleWants::new(alloc);
     for demand in demands {
-        push_wants(traced, demand, &mut out)?;
+        push_wants(traced, *demand, &mut out)?;
     }
     Ok(out)
 }

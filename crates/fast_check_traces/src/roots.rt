@@ -181,31 +181,18 @@ fn push_named<'a>(
     }
 }
 
-fn push_names<'a>(
-    tables: &CheckedTables,
-    names: &'a [String],
-    extent: Extent,
-    out: &mut Demands<'a>,
-) -> Result<(), AllocError>
-    ensures { OnOk result (out.new ≡ out.old ++ roots tables.now (path_demand (path_of names.now) extent)) }
-{
-    match names.split_first() {
-        None => Ok(()),
-        Some((first, rest)) => push_named(tables, first.as_str(), rest, extent, out),
-    }
-}
-
 fn push_roots<'a>(
     tables: &CheckedTables,
-    demand: &'a NameDemand,
+    demand: NameDemand<'a>,
     out: &mut Demands<'a>,
 ) -> Result<(), AllocError>
-    ensures { OnOk result (out.new ≡ out.old ++ roots tables.now (names_of demand.now)) }
+    ensures { OnOk result (out.new ≡ out.old ++ roots tables.now (names_of demand.entry)) }
 {
     match demand {
         NameDemand::AllButDefault => push_star(tables, false, out),
         NameDemand::All => push_star(tables, true, out),
-        NameDemand::Path(names, extent) => push_names(tables, names.as_slice(), *extent, out),
+        NameDemand::There => Ok(()),
+        NameDemand::Path(first, rest, extent) => push_named(tables, first, rest, extent, out),
     }
 }
 
@@ -213,13 +200,13 @@ fn push_roots<'a>(
 pub fn roots_of<'a>(
     alloc: Global,
     tables: &CheckedTables,
-    demands: &'a [NameDemand],
+    demands: &[NameDemand<'a>],
 ) -> Result<Demands<'a>, AllocError>
     ensures { IfOk result (λ out. out ≡ flat_map (λ d. roots tables.now (names_of d)) demands.now) }
 {
     let mut out = Demands::new(alloc);
     for demand in demands {
-        push_roots(tables, demand, &mut out)?;
+        push_roots(tables, *demand, &mut out)?;
     }
     Ok(out)
 }

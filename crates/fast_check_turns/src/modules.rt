@@ -5,6 +5,7 @@ ghost use Rattle.std.specs.List.{flat_map};
 ghost use Rattle.url.specs.Parts.{serialize};
 ghost use Rattle.fast_check_packages.specs.Package.{nv_of};
 ghost use Rattle.fast_check_graph.specs.Root.{specifier_of};
+ghost use Rattle.fast_check_name_demands.specs.NameDemands.{Holds};
 ghost use Rattle.fast_check_worklists.specs.State.{want_of, state_of, trace_of, IsFollowed};
 ghost use Rattle.fast_check_entries.specs.findings.Findings.{module_yields, yields_of};
 ghost use Rattle.fast_check_wants.specs.Sources.{Used, known, with_used, traced_as};
@@ -13,10 +14,10 @@ ghost use Rattle.fast_check_turns.specs.Traced.{IsTracedFor};
 ghost use Rattle.fast_check_turns.specs.Yields.{dependencies, untyped_yields, gives};
 
 use crate::progress::{Progress, push_finding};
-use crate::traced::{dependencies_of, traced_module};
+use crate::traced::{dependencies_of, found_of};
 use fast_check_entries::findings::{Finding, FollowedModule, FoundModule, UntypedModule};
 use fast_check_graph::{ModuleGraph, ModuleInfo};
-use fast_check_name_demands::name_demands;
+use fast_check_name_demands::{HeldDemands, hold, name_demands};
 use fast_check_packages::{JsrUrlProvider, PackageNv};
 use fast_check_traces::TracedModule;
 use fast_check_wants::{Asker, Sources, info_of, is_untyped};
@@ -44,34 +45,35 @@ fn followed_module(
     }))
 }
 
-/// Follows names of a module with tables, for a package: what it wants of others, and what is found of it.
-fn follow_in(
+/// Follows names of a module with tables, for a package: what it wants of others, and what is found of it. The names are held while their single
+/// demands are lent.
+fn follow_in<'a>(
     alloc: Global,
-    sources: Sources<'_>,
+    sources: Sources<'a>,
     provider: &dyn JsrUrlProvider,
-    info: &ModuleInfo,
+    info: &'a ModuleInfo,
     trace: PendingTrace,
+    held: &'a HeldDemands,
 ) -> Result<(Vec<OuterWant>, Finding), AllocError>
+    requires { Holds trace.exports_to_trace held.now }
     ensures { let without = known sources.entry (url_of provider.now) (nv_at provider.now) in
         IfOk result (λ r. (used : Used) → let k = with_used used without in
         IsTracedFor k (traced_as k info.now) (trace_of trace) (map want_of r.0.items) (yields_of r.1)) }
 {
-    let PendingTrace {
-        package_nv,
-        exports_to_trace,
-        ..
-    } = trace;
-    let demands = name_demands(alloc, exports_to_trace)?;
+    let module = TracedModule {
+        graph: sources.graph,
+        root_symbol: sources.root_symbol,
+        info,
+    };
+    let demands = name_demands(alloc, held)?;
+    let traced = fast_check_traces::trace(alloc, module, demands.as_slice())?;
+    let PendingTrace { package_nv, .. } = trace;
     let asker = Asker {
         sources,
         package: &package_nv,
-        traced: TracedModule {
-            graph: sources.graph,
-            root_symbol: sources.root_symbol,
-            info,
-        },
+        traced: module,
     };
-    let (outer, found) = traced_module(alloc, asker, provider, demands.as_slice())?;
+    let (outer, found) = found_of(alloc, asker, provider, traced)?;
     let finding = followed_module(alloc, package_nv, info, outer.as_slice(), found)?;
     Ok((outer, finding))
 }
@@ -120,7 +122,8 @@ pub fn follow(
             Ok(())
         }
         Some(info) => {
-            let (outer, finding) = follow_in(alloc, sources, provider, info, trace)?;
+            let held = hold(alloc, &trace.exports_to_trace)?;
+            let (outer, finding) = follow_in(alloc, sources, provider, info, trace, &held)?;
             push_finding(&mut progress.found, finding)?;
             progress.worklist.ask_all(alloc, outer)?;
             Ok(())

@@ -5,12 +5,11 @@ ghost use Rattle.std.specs.List.{flat_map};
 ghost use Rattle.std.specs.Rc.{rc_str_bytes};
 ghost use Rattle.fast_check_packages.specs.Package.{nv_of};
 ghost use Rattle.fast_check_demands.specs.Yields.{fault_seen};
-ghost use Rattle.fast_check_name_demands.specs.Files.{names_of};
 ghost use Rattle.fast_check_worklists.specs.State.{want_of};
 ghost use Rattle.fast_check_entries.specs.findings.Faults.{placed_in, placed};
 ghost use Rattle.fast_check_entries.specs.findings.Yields.{dependency};
 ghost use Rattle.fast_check_wants.specs.Sources.{known};
-ghost use Rattle.fast_check_turns.specs.Traced.{IsTraced};
+ghost use Rattle.fast_check_wants.specs.Wants.{file_wants, left_wants};
 ghost use Rattle.fast_check_turns.specs.Yields.{text_of, source_with, source_in, dependency_of, dependencies};
 
 use fast_check_demands::SymbolFault;
@@ -18,7 +17,7 @@ use fast_check_entries::findings::{DemandFault, FaultyModule, FoundModule, fault
 use fast_check_graph::ModuleInfo;
 use fast_check_packages::{JsrUrlProvider, PackageNv};
 use fast_check_search::Found;
-use fast_check_traces::{NameDemand, Traced, TracedModule, tables_of, trace};
+use fast_check_traces::{Traced, TracedModule, tables_of};
 use fast_check_wants::{Asker, outer_wants};
 use fast_check_worklists::OuterWant;
 use std::alloc::{AllocError, Global};
@@ -67,21 +66,27 @@ fn faults_of(
     Ok(placed)
 }
 
-/// Follows these single demands of a module, for a package: what it wants of others, and what is found of it.
-pub fn traced_module(
+/// What a module that was traced for a package wants of others, and what is found of it.
+pub fn found_of(
     alloc: Global,
     asker: Asker<'_>,
     provider: &dyn JsrUrlProvider,
-    demands: &[NameDemand],
+    traced: Traced<'_>,
 ) -> Result<(Vec<OuterWant>, FoundModule), AllocError>
-    ensures { let k = known asker.entry.sources (url_of provider.now) (nv_at provider.now) in
-        IfOk result (λ r. IsTraced k (nv_of asker.entry.package.now) asker.entry.traced (map names_of demands.now) (map want_of r.0.items) r.1) }
+    ensures wants { let k = known asker.entry.sources (url_of provider.now) (nv_at provider.now) in
+        let nv = nv_of asker.entry.package.now in
+        IfOk result (λ r. map want_of r.0.items ≡ flat_map (file_wants k nv asker.entry.traced) traced.entry.found.files
+        ++ flat_map (left_wants k nv asker.entry.traced) traced.entry.wants) }
+    ensures ranges { IfOk result (λ r. r.1.ranges.items ≡ traced.entry.found.ranges.items ++ traced.entry.re_export_ranges.items) }
+    ensures implementations { IfOk result (λ r. r.1.implementations.items ≡ traced.entry.found.implementations.items) }
+    ensures faults { IfOk result (λ r. map placed_in r.1.faults.items
+        ≡ flat_map (λ f. option_to_list (placed (source_in asker.entry.traced) f)) (map fault_seen traced.entry.found.faults.items)) }
 {
     let Traced {
         found,
         mut re_export_ranges,
         wants,
-    } = trace(alloc, asker.traced, demands)?;
+    } = traced;
     let Found {
         mut ranges,
         implementations,

@@ -78,27 +78,14 @@ fn no_exports(alloc: Global) -> ImportedExports
     ImportedExports::Subset(NamedSubset::default(alloc))
 }
 
-/// A path, as far as it is asked for; without names, the module alone.
-fn named_exports(
-    alloc: Global,
-    names: &[String],
-    extent: Extent,
-) -> Result<ImportedExports, AllocError>
-    ensures { IfOk result (λ x. asked x ≡ asked_by (path_demand (path_of names.now) extent)) }
-{
-    match names.split_first() {
-        None => Ok(no_exports(alloc)),
-        Some((first, rest)) => path_exports(alloc, first.as_str(), rest, extent),
-    }
-}
-
 /// What is asked of a module, as the lists of what was asked keep it.
-pub fn exports_of(alloc: Global, demand: &NameDemand) -> Result<ImportedExports, AllocError>
-    ensures { IfOk result (λ x. asked x ≡ asked_by (names_of demand.now)) }
+pub fn exports_of(alloc: Global, demand: NameDemand<'_>) -> Result<ImportedExports, AllocError>
+    ensures { IfOk result (λ x. asked x ≡ asked_by (names_of demand.entry)) }
 {
     match demand {
         NameDemand::AllButDefault => Ok(ImportedExports::Star),
         NameDemand::All => Ok(ImportedExports::StarWithDefault),
-        NameDemand::Path(names, extent) => named_exports(alloc, names.as_slice(), *extent),
+        NameDemand::There => Ok(no_exports(alloc)),
+        NameDemand::Path(first, rest, extent) => path_exports(alloc, first, rest, extent),
     }
 }

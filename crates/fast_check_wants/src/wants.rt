@@ -86,11 +86,11 @@ fn push_target(
     asker: Asker<'_>,
     provider: &dyn JsrUrlProvider,
     target: &Url,
-    demand: &NameDemand,
+    demand: NameDemand<'_>,
     out: &mut Vec<OuterWant>,
 ) -> Result<(), AllocError>
     ensures { OnOk result (map want_of out.new.items
-        ≡ map want_of out.old.items ++ file_at (nv_of asker.entry.package.now) (serialize target.now) (asked_by (names_of demand.now))
+        ≡ map want_of out.old.items ++ file_at (nv_of asker.entry.package.now) (serialize target.now) (asked_by (names_of demand.entry))
         (owner_by (members_in asker.entry.sources.workspace_members.now) (nv_at provider.now) (serialize target.now))) }
 {
     let exports = exports_of(alloc, demand)?;
@@ -104,11 +104,11 @@ fn push_left(
     asker: Asker<'_>,
     provider: &dyn JsrUrlProvider,
     target: &Url,
-    demand: &NameDemand,
+    demand: NameDemand<'_>,
     out: &mut Vec<OuterWant>,
 ) -> Result<(), AllocError>
     ensures { OnOk result (map want_of out.new.items
-        ≡ map want_of out.old.items ++ behind (nv_of asker.entry.package.now) (serialize target.now) (asked_by (names_of demand.now))
+        ≡ map want_of out.old.items ++ behind (nv_of asker.entry.package.now) (serialize target.now) (asked_by (names_of demand.entry))
         (owner_by (members_in asker.entry.sources.workspace_members.now) (nv_at provider.now) (serialize target.now))) }
 {
     let exports = exports_of(alloc, demand)?;
@@ -140,7 +140,7 @@ fn push_file(
 {
     match resolved(asker.traced, file.specifier) {
         None => Ok(()),
-        Some(target) => push_target(alloc, asker, provider, target, &file.names, out),
+        Some(target) => push_target(alloc, asker, provider, target, file.names, out),
     }
 }
 
@@ -161,7 +161,7 @@ fn push_again(
         None => Ok(()),
         Some(target) => {
             let demand = NameDemand::AllButDefault;
-            push_left(alloc, asker, provider, target, &demand, out)
+            push_left(alloc, asker, provider, target, demand, out)
         }
     }
 }

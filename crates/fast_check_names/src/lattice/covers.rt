@@ -10,6 +10,7 @@ ghost use Rattle.fast_check_names.specs.Numbers.{stays, number, rank, is_node, l
 use crate::lattice::calls::names_of;
 use crate::lattice::node::{Below, Node, NodeNo};
 use crate::lattice::nodes::place_of;
+use crate::lattice::stretch::{stretch_end, take_out};
 use std::alloc::{AllocError, Global};
 
 /// Whether a node stays.
@@ -144,7 +145,7 @@ fn move_down(nodes: &mut Vec<Node>, numbers: &[Option<usize>])
 }
 
 /// Writes All under a name that is listed.
-fn write_all(nodes: &mut Vec<Node>, at: usize, name: &str)
+pub fn write_all(nodes: &mut Vec<Node>, at: usize, name: &str)
     requires within { at < vec_len nodes.old }
     requires listed { IsTrue (is_some (entry nodes.old.items at name.now)) }
     ensures len { vec_len nodes.new ≡ vec_len nodes.old }
@@ -157,8 +158,8 @@ fn write_all(nodes: &mut Vec<Node>, at: usize, name: &str)
     }
 }
 
-/// Demands whole a name of node `at` under which a subset stands, whose node goes with all below it.
-pub fn cover(
+/// Demands whole a name of node `at` under which a subset stands, whose node goes with all below it, wherever they stand.
+fn cover_apart(
     nodes: &mut Vec<Node>,
     alloc: Global,
     at: usize,
@@ -177,4 +178,26 @@ pub fn cover(
     renumber_nodes(nodes, numbers.as_slice());
     move_down(nodes, numbers.as_slice());
     Ok(())
+}
+
+/// Demands whole a name of node `at` under which a subset stands, whose node goes with all below it.
+pub fn cover(
+    nodes: &mut Vec<Node>,
+    alloc: Global,
+    at: usize,
+    name: &str,
+    no: usize,
+) -> Result<(), AllocError>
+    requires within { at < vec_len nodes.old }
+    requires tree { IsTree (entry nodes.old.items) (vec_len nodes.old) }
+    requires listed { entry nodes.old.items at name.now ≡ Some (Below.Subset (record { 0 = no })) }
+    ensures tree { IsTree (entry nodes.new.items) (vec_len nodes.new) }
+    ensures added { OnOk result (IsAdded (entry nodes.old.items) at (whole_below (name.now ∷ [])) (entry nodes.new.items)) }
+    ensures err { OnErr result (listings nodes.new.items ≡ listings nodes.old.items) }
+{
+    if let Some(end) = stretch_end(nodes.as_slice(), no) {
+        take_out(nodes, at, name, no, end);
+        return Ok(());
+    }
+    cover_apart(nodes, alloc, at, name, no)
 }

@@ -1,18 +1,28 @@
-use Rattle.std.proofs.Common.{sym, ap, subst, List, map}
+use Rattle.std.proofs.Common.{◌∙◌, sym, ap, subst, List, map, ◌++◌}
+use Rattle.fast_check_packages.specs.Package.{nv_of}
 use Rattle.fast_check_names.specs.Imports.{NameDemand}
 use Rattle.fast_check_name_demands.specs.Files.{names_of}
 use Rattle.fast_check_name_demands.specs.NameDemands.{AreDemands}
+use Rattle.fast_check_worklists.specs.State.{want_of}
+use Rattle.fast_check_wants.specs.Sources.{known, traced_as}
+use Rattle.fast_check_turns.proofs.TracedWith.{traced_with}
 use Rattle.fast_check_turns.proofs.modules.follow_in.Goals as goal
 
 -- the module is lent anew, so what was traced of it is said again
 pub returns : goal.returns
 returns g c used =
-    let t = c.in_ok-outer.ensures in
+    let m = goal.JsrUrlProvider-dyn g c.args.provider.now in
+    let k = known c.args.sources (m.url_of c.args.provider.now.1) (m.nv_at c.args.provider.now.1) in
+    let found = c.in_ok-traced.traced in
+    let e = c.in_ok-outer.ensures in
+    let t = traced_with k (nv_of c.args.trace.package_nv) (traced_as k c.args.info.now) c.as_slice.result.now (map want_of c.in_ok-outer.outer.items) found.found found.re_export_ranges.items
+    found.wants c.in_ok-outer.found c.in_ok-traced.ensures.account c.in_ok-traced.ensures.re_exports c.in_ok-traced.ensures.wants
+    e.wants e.ranges e.implementations e.faults in
     record {
       names = map names_of c.as_slice.result.now;
       are_names = subst (λ (ds : List NameDemand). AreDemands c.args.trace.exports_to_trace ds)
           (sym (ap (map names_of) c.as_slice.ensures.value))
-          c.in_ok-demands.ensures;
+          (c.in_ok-demands.ensures c.args.trace.exports_to_trace c.requires);
       found = c.in_ok-outer.found;
       traced = record {
         symbols = t.symbols;

@@ -1,0 +1,21 @@
+-- Inner: no contract of a public call cites what stands here.
+-- What a walk through the nodes of a set has told so far.
+use Rattle.std.specs.Prelude.{ℕ, ◌≡◌, ◌+◌, ◌⊎◌, ◌↔◌, Bool, List, ◌++◌, length, IsTrue}
+use Rattle.fast_check_names.specs.declared.lattice.demanded.PathEnd.{PathEnd}
+use Rattle.fast_check_names.specs.Names.{Path, NameSet}
+use Rattle.fast_check_names.specs.Ends.{is_demanded, IsBeginning, IsTold}
+
+-- the new ends tell what the old ones do and what is P
+abbrev pub TellsMore : (Path → Bool → Type 0) → List PathEnd → List PathEnd → Type 0
+TellsMore P old new = (p : Path) (is_whole : Bool) → IsTold new p is_whole ↔ (IsTold old p is_whole ⊎ P p is_whole)
+
+-- what a set demands, below a path
+abbrev pub IsBelowPath : Path → NameSet → Path → Bool → Type 0
+IsBelowPath path f p is_whole = (q : Path) × (p ≡ path ++ q) × IsTrue (is_demanded f q is_whole)
+
+-- with the beginnings of the path, and, where the set has names, the path itself as a subset
+abbrev pub IsOfBelow : Path → ℕ → NameSet → Path → Bool → Type 0
+IsOfBelow path from f p is_whole = IsBeginning path from (length path) p is_whole ⊎ IsBelowPath path f p is_whole
+
+abbrev pub IsOfNames : Path → ℕ → NameSet → Path → Bool → Type 0
+IsOfNames path from f p is_whole = IsBeginning path from (length path + 1) p is_whole ⊎ IsBelowPath path f p is_whole

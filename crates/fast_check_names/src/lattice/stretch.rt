@@ -1,0 +1,194 @@
+//! Where the nodes that go stand in one stretch, the last ones take their places, as many as go. Where one that is left behind the stretch lists one of
+//! these, all nodes behind the stretch move down. Neither takes memory.
+
+ghost use Rattle.std.specs.Prelude.{◌≡◌, ◌<◌, ◌≤◌, ◌+◌, ◌-◌, ℕ, true, false, IsTrue, IfSome, Some, ◌∷◌, [], vec_len, length, is_some, get_or};
+ghost use Rattle.std.specs.Option.{MatchOption};
+ghost use Rattle.fast_check_names.specs.declared.lattice.node.NodeNo.{NodeNo};
+ghost use Rattle.fast_check_names.specs.Order.{name_at};
+ghost use Rattle.fast_check_names.specs.Graph.{entry, listings, IsTree, IsWritten};
+ghost use Rattle.fast_check_names.specs.Names.{whole_below, IsAdded};
+ghost use Rattle.fast_check_names.specs.Numbers.{is_node, lists_node, IsWithout};
+ghost use Rattle.fast_check_names.specs.Stretch.{is_within, is_outside, IsPlaceOf, IsStretch, IsFilling, HangOutside, HangApart, AreLowered, AreFilled};
+ghost use Rattle.fast_check_names.specs.Stretch.{IsParentAmong, LacksParentAmong, IsParentOutside, LacksParentOutside};
+
+use crate::lattice::calls::names_of;
+use crate::lattice::covers::write_all;
+use crate::lattice::node::{Below, Node, NodeNo};
+
+/// Where a stretch ends that goes on with the nodes that a list leads to, if these come next, in turn.
+fn end_past(names: &[(String, Below)], end: usize, size: usize) -> Option<usize>
+    requires { end ≤ size }
+    ensures within { IfSome result (λ next. (end ≤ next) × (next ≤ size)) }
+    ensures listed { IfSome result (λ next. (k : ℕ) → lists_node names.now k ≡ is_within end next k) }
+{
+    let mut next = end;
+    for (_, below) in names {
+        let Below::Subset(no) = *below else {
+            continue;
+        };
+        if no.0 != next || next == size {
+            return None;
+        }
+        next += 1;
+    }
+    Some(next)
+}
+
+/// Where the nodes end that go with one, if they stand in one stretch: each lists those that come next, in turn.
+pub fn stretch_end(nodes: &[Node], gone: usize) -> Option<usize>
+    requires within { gone < length nodes.now }
+    requires tree { IsTree (entry nodes.now) (length nodes.now) }
+    ensures stretch { IfSome result (IsStretch (length nodes.now) gone) }
+    ensures without { IfSome result (λ end. IsWithout (entry nodes.now) gone (is_outside gone end)) }
+{
+    let mut end = gone + 1;
+    for at in gone..nodes.len() {
+        if at == end {
+            return Some(end);
+        }
+        let Some(next) = end_past(names_of(nodes, at), end, nodes.len()) else {
+            return None;
+        };
+        end = next;
+    }
+    Some(end)
+}
+
+/// Whether this is the subset of a node.
+fn leads_to(below: Below, no: usize) -> bool
+    ensures { result ≡ is_node below no }
+{
+    match below {
+        Below::All => false,
+        Below::Subset(listed) => listed.0 == no,
+    }
+}
+
+/// Where a list has the subset of a node. The last places come first, since the last nodes came late.
+fn place_of_node(names: &[(String, Below)], no: usize) -> Option<usize>
+    ensures { MatchOption result (lists_node names.now no ≡ false) (IsPlaceOf names.now no) }
+{
+    let count = names.len();
+    for i in 0..count {
+        let place = count - 1 - i;
+        if leads_to(names[place].1, no) {
+            return Some(place);
+        }
+    }
+    None
+}
+
+/// A node that lists another, and the place, among those from one on and before another.
+fn parent_among(nodes: &[Node], low: usize, high: usize, no: usize) -> Option<(usize, usize)>
+    ensures { MatchOption result (LacksParentAmong (listings nodes.now) low high no) (IsParentAmong (listings nodes.now) low high no) }
+{
+    for at in low..high {
+        let Some(place) = place_of_node(names_of(nodes, at), no) else {
+            continue;
+        };
+        return Some((at, place));
+    }
+    None
+}
+
+/// A node outside of a stretch that lists another, and the place.
+fn parent_outside(nodes: &[Node], low: usize, high: usize, no: usize) -> Option<(usize, usize)>
+    requires order { low ≤ high }
+    requires before { high ≤ no }
+    ensures { MatchOption result (LacksParentOutside (listings nodes.now) low high no) (IsParentOutside (listings nodes.now) low high no) }
+{
+    match parent_among(nodes, high, no, no) {
+        Some(parent) => Some(parent),
+        None => parent_among(nodes, 0, low, no),
+    }
+}
+
+/// Whether each node that lists one from a number on stands outside of a stretch.
+fn hang_outside(nodes: &[Node], gone: usize, from: usize) -> bool
+    requires low { gone ≤ from }
+    requires tree { IsTree (entry nodes.now) (length nodes.now) }
+    ensures { IsTrue result → HangOutside (entry nodes.now) gone from (length nodes.now) }
+{
+    for no in from..nodes.len() {
+        if parent_outside(nodes, gone, from, no).is_none() {
+            return false;
+        }
+    }
+    true
+}
+
+/// From which node on the nodes take the places of those that go.
+fn first_to_move(nodes: &[Node], gone: usize, end: usize) -> usize
+    requires stretch { IsStretch (length nodes.now) gone end }
+    requires tree { IsTree (entry nodes.now) (length nodes.now) }
+    ensures filling { IsFilling (length nodes.now) gone end result }
+    ensures hang { HangApart (entry nodes.now) end result }
+{
+    let count = end - gone;
+    let behind = nodes.len() - end;
+    if behind <= count {
+        return end;
+    }
+    let from = nodes.len() - count;
+    if !hang_outside(nodes, gone, from) {
+        return end;
+    }
+    from
+}
+
+/// Writes the number of a node at a place where a node lists something.
+fn write_number(nodes: &mut Vec<Node>, at: usize, place: usize, no: usize)
+    requires within { at < vec_len nodes.old }
+    requires listed { place < length (get_or (listings nodes.old.items) at []) }
+    ensures len { vec_len nodes.new ≡ vec_len nodes.old }
+    ensures written { IsWritten (entry nodes.old.items) at (name_at (get_or (listings nodes.old.items) at []) place) (Some (Below.Subset (record { 0 = no }))) (entry nodes.new.items) }
+{
+    let node = &mut nodes[at];
+    node.names[place].1 = Below::Subset(NodeNo(no));
+}
+
+/// The numbers from one on fall to the places of those that go.
+fn lower(nodes: &mut Vec<Node>, gone: usize, from: usize)
+    requires low { gone ≤ from }
+    requires tree { IsTree (entry nodes.old.items) (vec_len nodes.old) }
+    ensures len { vec_len nodes.new ≡ vec_len nodes.old }
+    ensures lowered { AreLowered (entry nodes.old.items) gone from (vec_len nodes.old) (entry nodes.new.items) }
+{
+    let by = from - gone;
+    for no in from..nodes.len() {
+        let Some((at, place)) = parent_outside(nodes.as_slice(), gone, from, no) else {
+            continue;
+        };
+        write_number(nodes, at, place, no - by);
+    }
+}
+
+/// The nodes from one on take the places of those that go, in their order, and what is then at the end goes.
+fn fill(nodes: &mut Vec<Node>, gone: usize, end: usize, from: usize)
+    requires { IsFilling (vec_len nodes.old) gone end from }
+    ensures len { vec_len nodes.new + (end - gone) ≡ vec_len nodes.old }
+    ensures filled { AreFilled gone end from (vec_len nodes.old) (listings nodes.old.items) (listings nodes.new.items) }
+{
+    let left = nodes.len() - (end - gone);
+    let by = from - gone;
+    for at in from..nodes.len() {
+        nodes.swap(at - by, at);
+    }
+    nodes.truncate(left);
+}
+
+/// Demands whole a name of node `at` under which a subset stands, whose node goes with all below it, in one stretch.
+pub fn take_out(nodes: &mut Vec<Node>, at: usize, name: &str, gone: usize, end: usize)
+    requires within { at < vec_len nodes.old }
+    requires tree { IsTree (entry nodes.old.items) (vec_len nodes.old) }
+    requires listed { entry nodes.old.items at name.now ≡ Some (Below.Subset (record { 0 = gone })) }
+    requires stretch { IsStretch (vec_len nodes.old) gone end }
+    requires without { IsWithout (entry nodes.old.items) gone (is_outside gone end) }
+    ensures tree { IsTree (entry nodes.new.items) (vec_len nodes.new) }
+    ensures added { IsAdded (entry nodes.old.items) at (whole_below (name.now ∷ [])) (entry nodes.new.items) }
+{
+    let from = first_to_move(nodes.as_slice(), gone, end);
+    lower(nodes, gone, from);
+    write_all(nodes, at, name);
+    fill(nodes, gone, end, from);
+}
