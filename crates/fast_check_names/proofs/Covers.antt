@@ -151,7 +151,8 @@ module _ (nodes written moving all : List Node) (size count len at : ℕ) (name 
 
   pub tree_left : IsTree (entry all) len
   tree_left = subst (λ (m : ℕ). IsTree (entry all) m) (sym count_is)
-      (tree_covered (entry nodes) (entry written) (entry all) size at name no (stays numbers) (number numbers) (rank (stays numbers) size) tree link
+      (tree_covered (entry nodes) (entry written) (entry all) size at name no (stays numbers) (number numbers)
+      (rank (stays numbers) size) tree link
       without renamed is_written left past)
 
   pub added_left : IsAdded (entry nodes) at (whole_below (name ∷ [])) (entry all)

@@ -153,7 +153,8 @@ is_node_of All k e = absurd (false≢true e)
 is_node_of (Subset j) k e = ap (λ (m : ℕ). Subset (record { 0 = m })) (eqb-true j.0 k e)
 
 -- what is listed is found
-pub node_listed : (es : List Entry) → IsOnce es → (k : ℕ) → lists_node es k ≡ true → (n : Name) × (found es n ≡ Some (Subset (record { 0 = k })))
+pub node_listed : (es : List Entry) → IsOnce es → (k : ℕ) → lists_node es k ≡ true →
+    (n : Name) × (found es n ≡ Some (Subset (record { 0 = k })))
 node_listed [] once k e = absurd (false≢true e)
 node_listed (d ∷ es) once k e = ⊎_elim
     (λ (t : is_node d.1 k ≡ true). (

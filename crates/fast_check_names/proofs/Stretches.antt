@@ -1,11 +1,11 @@
 -- The nodes that go stand in one stretch, and others take their places.
 use Rattle.std.proofs.Common.{◌≡◌, ◌∙◌, sym, ap, refl, subst, ⊎_elim, inl, inr, ◌⊎◌, ℕ, zero, suc, ◌+◌, ◌-◌, ◌<◌, ◌≤◌, Bool, true, false}
-use Rattle.std.proofs.Common.{◌&&◌, ◌||◌, not, cond, eqb, leb, ltb, List, [], ◌∷◌, Option, Some, None, arith, length, get_or, take, drop}
+use Rattle.std.proofs.Common.{◌&&◌, ◌||◌, not, cond, eqb, leb, ltb, List, [], ◌∷◌, Option, Some, None, arith, length, get_or, take}
 use Rattle.std.specs.List.{SwappedAt}
 use Rattle.std.specs.Option.{MatchOption, is_some}
 use Rattle.std.specs.Str.{bytes_eq}
 use Rattle.std.proofs.lemmas.Bool.{false≢true, cases_Bool, cases_lt, cases_eq, eq-eqb, ne_eqb, lt-ltb, le-ltb, le-leb, lt-leb}
-use Rattle.std.proofs.lemmas.List.{get_or-map, get_or-take, take-map, drop_more, length-map}
+use Rattle.std.proofs.lemmas.List.{get_or-map, get_or-take, take-map, length-map}
 use Rattle.fast_check_names.specs.declared.lattice.node.Node.{Node}
 use Rattle.fast_check_names.specs.declared.lattice.node.NodeNo.{NodeNo}
 use Rattle.fast_check_names.specs.declared.lattice.node.Below.{Below}
@@ -14,11 +14,11 @@ use Rattle.fast_check_names.specs.Order.{Name, Entry, found, name_at, IsOnce}
 use Rattle.fast_check_names.specs.Graph.{Graph, IsTree, IsWritten, entry, listings, moved}
 use Rattle.fast_check_names.specs.Names.{whole_below, IsAdded}
 use Rattle.fast_check_names.specs.Numbers.{is_node, lists_node, IsWithout}
-use Rattle.fast_check_names.specs.Stretch.{is_within, is_outside, fallen, IsPlaceOf, IsParentAmong, LacksParentAmong}
+use Rattle.fast_check_names.specs.Stretch.{is_within, is_outside, fallen, IsPlaceOf}
 use Rattle.fast_check_names.specs.Stretch.{IsParentOutside, LacksParentOutside, HangOutside, IsFilling, HangApart, AreLowered, AreFilled}
 use Rattle.fast_check_names.proofs.Grafts.{at_or_not}
 use Rattle.fast_check_names.proofs.Places.{some_entry, agrees, once_before, found_first}
-use Rattle.fast_check_names.proofs.Numbers.{listed_node, lists_taken, node_listed, is_node_of, read_moved}
+use Rattle.fast_check_names.proofs.Numbers.{listed_node, lists_taken, node_listed, read_moved}
 use Rattle.fast_check_names.proofs.Compacted.{moved_back}
 use Rattle.fast_check_names.proofs.Covers.{IsRenamed, tree_covered, cover_added}
 use Rattle.fast_check_names.proofs.Copies.{past_none}
@@ -77,7 +77,8 @@ within_more low high k h = ⊎_elim
         (λ (s : (k < low) ⊎ (high ≤ k)). ⊎_elim
         (λ (a : k < low). within_low low high k a ∙ sym (within_low low (high + 1) k a))
         (λ (a : high ≤ k). within_high low high k a ∙ sym (within_high low (high + 1) k
-        (⊎_elim (λ (l : k < high + 1). let e : high ≡ k = omega (arith, l, a) in absurd (d e)) (λ (l : high + 1 ≤ k). l) (cases_lt k (high + 1))))) s)
+        (⊎_elim (λ (l : k < high + 1). let e : high ≡ k = omega (arith, l, a) in absurd (d e)) (λ (l : high + 1 ≤ k). l)
+        (cases_lt k (high + 1))))) s)
         (side low high k)
 
 pub all_from : (b : Below) → ((j : NodeNo) → b ≡ Subset j → ⊥) → b ≡ All
@@ -105,15 +106,6 @@ pub record IsGoing (g : Graph) (size gone at end : ℕ) : Type 0 where
   pub within : end ≤ size
   pub down : (k : ℕ) (n : Name) (j : NodeNo) → gone ≤ k → k < at → g k n ≡ Some (Subset j) → j.0 < end
   pub up : (m : ℕ) → gone < m → m < end → (p : ℕ × Name) × (gone ≤ p.0) × (p.0 < at) × (g p.0 p.1 ≡ Some (Subset (record { 0 = m })))
-
-pub going_start : (g : Graph) (size gone : ℕ) → gone < size → IsGoing g size gone gone (gone + 1)
-going_start g size gone h = record {
-  some = omega arith;
-  upto = omega arith;
-  within = omega (arith, h);
-  down = λ k n j a b e. absurd (omega (arith, a, b));
-  up = λ m a b. absurd (omega (arith, a, b));
-}
 
 pub going_more : (g : Graph) (size gone at end next : ℕ) (es : List Entry) → IsGoing g size gone at end → (at ≡ end → ⊥) → gone ≤ at →
     IsOnce es → ((n : Name) → found es n ≡ g at n) → (end ≤ next) × (next ≤ size) → ((k : ℕ) → lists_node es k ≡ is_within end next k) →
@@ -156,21 +148,9 @@ going_end g size gone at end tree is done = record {
   before = λ k l. outside_is gone end k (inl l);
 }
 
--- a place that has been looked at from the end
-pub looked_past : (es : List Entry) (place from node : ℕ) (e : Entry) → place < length es → e ≡ get_or es place e → from ≡ place + 1 →
-    is_node e.1 node ≡ false → lists_node (drop from es) node ≡ false → lists_node (drop place es) node ≡ false
-looked_past es place from node e within is next here behind =
-    ap (λ (xs : List Entry). lists_node xs node) (drop_more es place e within) ∙
-    (ap (λ (x : Entry). is_node x.1 node || lists_node (drop (place + 1) es) node) (sym is) ∙
-    (ap (λ b. b || lists_node (drop (place + 1) es) node) here ∙
-    (ap (λ (m : ℕ). lists_node (drop m es) node) (sym next) ∙ behind)))
-
-pub place_is : (es : List Entry) (i node : ℕ) (e : Entry) → i < length es → e ≡ get_or es i e → is_node e.1 node ≡ true → IsPlaceOf es node i
-place_is es i node e within is here =
-    (within, get_or-map (λ (x : Entry). x.1) es i e All within ∙ (ap (λ (x : Entry). x.1) (sym is) ∙ is_node_of e.1 node here))
-
 -- what stands at a place is found
-pub place_found : (es : List Entry) → IsOnce es → (node i : ℕ) → IsPlaceOf es node i → found es (name_at es i) ≡ Some (Subset (record { 0 = node }))
+pub place_found : (es : List Entry) → IsOnce es → (node i : ℕ) → IsPlaceOf es node i →
+    found es (name_at es i) ≡ Some (Subset (record { 0 = node }))
 place_found es once node i p =
     let d = some_entry es i p.0 in
     found_first es (name_at es i) i d p.0 refl (once_before es once (name_at es i) i p.0 refl) ∙
@@ -185,18 +165,6 @@ pub parent_found : (nodes : List Node) (k node i : ℕ) → IsPlaceOf (get_or (l
     entry nodes k (name_at (get_or (listings nodes) k []) i) ≡ Some (Subset (record { 0 = node }))
 parent_found nodes k node i p = place_found (get_or (listings nodes) k []) (once_at nodes k) node i p
 
-pub match_from : {X : Type 0} {A C : Type 0} {B D : X → Type 0} (o : Option X) → (A → C) → ((x : X) → B x → D x) → MatchOption o A B → MatchOption o C D
-match_from None f h m = f m
-match_from (Some x) f h m = h x m
-
-pub among_outside : (ls : List (List Entry)) (low high node : ℕ) → low ≤ high → high ≤ node → (p : ℕ × ℕ) → IsParentAmong ls 0 low node p →
-    IsParentOutside ls low high node p
-among_outside ls low high node a b p is = (inl is.1, omega (arith, is.1, a, b), is.2)
-
-pub lacks_outside : (ls : List (List Entry)) (low high node : ℕ) → LacksParentAmong ls high node node → LacksParentAmong ls 0 low node →
-    LacksParentOutside ls low high node
-lacks_outside ls low high node behind before k s l = ⊎_elim (λ a. before k (omega arith) a) (λ a. behind k a l) s
-
 pub match_some : {X : Type 0} (A : Type 0) (B : X → Type 0) (o : Option X) → is_some o ≡ true → MatchOption o A B → (x : X) × B x
 match_some A B None e m = absurd (false≢true e)
 match_some A B (Some x) e m = (x, m)
@@ -207,15 +175,11 @@ hang_more nodes size gone from node tree before p k n j e low high = ⊎_elim
     (λ (l : j.0 < node). before k n j e low l)
     (λ (l : node ≤ j.0).
     let same : j.0 ≡ node = omega (arith, l, high) in
-    let this = parent_found nodes p.0.0 j.0 p.0.1 (subst (λ (m : ℕ). IsPlaceOf (get_or (listings nodes) p.0.0 []) m p.0.1) (sym same) p.1.2) in
+    let this = parent_found nodes p.0.0 j.0 p.0.1
+    (subst (λ (m : ℕ). IsPlaceOf (get_or (listings nodes) p.0.0 []) m p.0.1) (sym same) p.1.2) in
     let o = tree.once k n p.0.0 (name_at (get_or (listings nodes) p.0.0 []) p.0.1) j e this in
     subst (λ (m : ℕ). (m < gone) ⊎ (from ≤ m)) (sym o.0) p.1.0)
     (cases_lt j.0 node)
-
-pub hang_apart : (g : Graph) (size gone end from : ℕ) → IsTree g size → gone < end → HangOutside g gone from size → HangApart g end from
-hang_apart g size gone end from tree some hang k n j e low behind = ⊎_elim
-    (λ (l : k < gone). absurd (omega (arith, l, some, behind))) (λ (l : from ≤ k). l)
-    (hang k n j e low (tree.later k n j e).1)
 
 -- other numbers
 pub moved_same : (f h : ℕ → ℕ) (o : Option Below) → ((j : NodeNo) → o ≡ Some (Subset j) → f j.0 ≡ h j.0) → moved f o ≡ moved h o
@@ -240,7 +204,8 @@ fallen_other low high by k d = ⊎_elim
     fallen_in low (high + 1) by k s.0 (omega (arith, s.1)) ∙ sym (fallen_in low high by k s.0 s.1))
     (λ (s : (k < low) ⊎ (high ≤ k)). fallen_out low (high + 1) by k (⊎_elim
     (λ (a : k < low). inl a)
-    (λ (a : high ≤ k). inr (⊎_elim (λ (l : k < high + 1). absurd (d (omega (arith, l, a)))) (λ (l : high + 1 ≤ k). l) (cases_lt k (high + 1)))) s) ∙
+    (λ (a : high ≤ k). inr (⊎_elim (λ (l : k < high + 1). absurd (d (omega (arith, l, a)))) (λ (l : high + 1 ≤ k). l)
+    (cases_lt k (high + 1)))) s) ∙
     sym (fallen_out low high by k s))
     (side low high k)
 
@@ -251,19 +216,8 @@ not_fallen low high by j e = ⊎_elim
     (λ (s : (j < low) ⊎ (high ≤ j)). sym (fallen_out low high by j s) ∙ e)
     (side low high j)
 
-subset_no : (i j : NodeNo) → Some (Subset i) ≡ Some (Subset j) → i.0 ≡ j.0
-subset_no i j e = ap (λ (x : NodeNo). x.0) (let d : i ≡ j = cc in d)
-
 no_is : (i j : NodeNo) → i.0 ≡ j.0 → i ≡ j
 no_is i j e k = record { 0 = e k }
-
-pub lowered_start : (g : Graph) (gone from : ℕ) → AreLowered g gone from from g
-lowered_start g gone from k n = sym (⊎_elim
-    (λ (t : is_outside gone from k ≡ true).
-    ap (λ b. cond b (moved (fallen from from (from - gone)) (g k n)) (g k n)) t ∙
-    moved_none (fallen from from (from - gone)) (g k n) (λ j e. fallen_out from from (from - gone) j.0 (cases_lt j.0 from)))
-    (λ (t : is_outside gone from k ≡ false). ap (λ b. cond b (moved (fallen from from (from - gone)) (g k n)) (g k n)) t)
-    (cases_Bool (is_outside gone from k)))
 
 module _ (g : Graph) (size gone from node : ℕ) (tree : IsTree g size) (nodes : List Node) (low : from ≤ node)
     (is : AreLowered g gone from node (entry nodes)) where
@@ -326,13 +280,9 @@ module _ (g : Graph) (size gone from node : ℕ) (tree : IsTree g size) (nodes :
       itself_at : (a b : Name) → a ≡ b → bytes_eq a b ≡ true
       itself_at a b e = agrees a b e
 
--- the nodes before one have come to their places
-pub filled_start : (size gone end from : ℕ) (ls : List (List Entry)) → AreFilled gone end from from ls ls
-filled_start size gone end from ls k l t = ap (λ (m : ℕ). get_or ls m []) (fallen_out from from (from - gone) k (cases_lt k from))
-
 -- a place that is filled is none of those that stay and do not move
-places_apart : (size gone end from at k : ℕ) → IsFilling size gone end from → from ≤ at → at < size → k < from → is_outside gone end k ≡ true →
-    k ≡ at - (from - gone) → ⊥
+places_apart : (size gone end from at k : ℕ) → IsFilling size gone end from → from ≤ at → at < size → k < from →
+    is_outside gone end k ≡ true → k ≡ at - (from - gone) → ⊥
 places_apart size gone end from at k filling low within less t e = ⊎_elim
     (λ (b : k < gone). omega (arith, b, e, low, filling.some, filling.behind))
     (λ (b : end ≤ k). ⊎_elim
@@ -365,7 +315,8 @@ module _ (size gone end from at : ℕ) (old : List (List Entry)) (xs : List Node
       (λ (s : (from ≤ k) × (k < at)). omega (arith, fallen_in from at (from - gone) k s.0 s.1, l, long))
       (λ (s : (k < from) ⊎ (at ≤ k)). omega (arith, fallen_out from at (from - gone) k s, l, long)) (side from at k) in
       ap (λ (m : ℕ). get_or (listings ys) m []) (fallen_other from at (from - gone) k d) ∙
-      (read_moved xs ys (fallen from at (from - gone) k) (fallen from at (from - gone) k) (omega (arith, less, count)) (omega (arith, less, same))
+      (read_moved xs ys (fallen from at (from - gone) k) (fallen from at (from - gone) k) (omega (arith, less, count))
+      (omega (arith, less, same))
       (λ x. swapped.2 (fallen from at (from - gone) k) x (λ e. apart k within t e) (λ e. d (not_fallen from at (from - gone) k e))) ∙
       is k l t))
       (cases_eq k at)
@@ -473,17 +424,6 @@ module _ (g : Graph) (size gone end from count : ℕ) (tree : IsTree g size) (fi
     onto = onto;
   }
 
--- what is listed is listed under another number
-pub still_listed : (g w : Graph) (gone from high at : ℕ) (name : Name) (j : NodeNo) → AreLowered g gone from high w →
-    g at name ≡ Some (Subset j) → is_some (w at name) ≡ true
-still_listed g w gone from high at name j lowered e = ap is_some (lowered at name) ∙ ⊎_elim
-    (λ (t : is_outside gone from at ≡ true).
-    ap (λ b. is_some (cond b (moved (fallen from high (from - gone)) (g at name)) (g at name))) t ∙
-    ap (λ (o : Option Below). is_some (moved (fallen from high (from - gone)) o)) e)
-    (λ (t : is_outside gone from at ≡ false).
-    ap (λ b. is_some (cond b (moved (fallen from high (from - gone)) (g at name)) (g at name))) t ∙ ap is_some e)
-    (cases_Bool (is_outside gone from at))
-
 -- numbers fall, All is written, and the places of those that go are filled
 module _ (nodes lowered written all : List Node) (size count at : ℕ) (name : Name) (first : NodeNo) (end from : ℕ)
     (tree : IsTree (entry nodes) size) (link : entry nodes at name ≡ Some (Subset first))
@@ -504,7 +444,8 @@ module _ (nodes lowered written all : List Node) (size count at : ℕ) (name : N
       (λ (u : is_outside first.0 from k ≡ true). ap (λ b. cond b (moved number (entry nodes k n)) (entry nodes k n)) u)
       (λ (u : is_outside first.0 from k ≡ false).
       let s = inside_from first.0 from k u in
-      let high : end ≤ k = ⊎_elim (λ (a : k < first.0). absurd (omega (arith, a, s.0))) (λ (a : end ≤ k). a) (outside_from first.0 end k t) in
+      let high : end ≤ k = ⊎_elim (λ (a : k < first.0). absurd (omega (arith, a, s.0))) (λ (a : end ≤ k). a)
+      (outside_from first.0 end k t) in
       ap (λ b. cond b (moved number (entry nodes k n)) (entry nodes k n)) u ∙
       sym (moved_none number (entry nodes k n) (λ j e. fallen_out from size (from - first.0) j.0 (⊎_elim
       (λ (a : j.0 < from). inl a)
@@ -520,7 +461,8 @@ module _ (nodes lowered written all : List Node) (size count at : ℕ) (name : N
       (λ (b : (eqb k at && bytes_eq name n) ≡ true).
       ap (λ c. cond c (Some All) (entry lowered k n)) b ∙ sym (ap (λ c. moved number (cond c (Some All) (entry nodes k n))) b))
       (λ (b : (eqb k at && bytes_eq name n) ≡ false).
-      ap (λ c. cond c (Some All) (entry lowered k n)) b ∙ (low_is k n t ∙ sym (ap (λ c. moved number (cond c (Some All) (entry nodes k n))) b)))
+      ap (λ c. cond c (Some All) (entry lowered k n)) b ∙
+      (low_is k n t ∙ sym (ap (λ c. moved number (cond c (Some All) (entry nodes k n))) b)))
       (cases_Bool (eqb k at && bytes_eq name n)))
 
   past : (k : ℕ) (n : Name) → count ≤ k → entry all k n ≡ None

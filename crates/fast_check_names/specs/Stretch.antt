@@ -1,6 +1,7 @@
 -- Inner: no contract of a public call cites what stands here.
 -- Where the nodes that go stand in one stretch, and others take their places.
-use Rattle.std.specs.Prelude.{ℕ, ◌≡◌, ◌<◌, ◌≤◌, ◌+◌, ◌-◌, ◌⊎◌, Bool, true, false, ◌&&◌, not, cond, leb, ltb, List, [], map}
+use Rattle.std.specs.Prelude.{ℕ, ◌≡◌, ◌<◌, ◌≤◌, ◌+◌, ◌-◌, ◌⊎◌, Bool, true, false, ◌&&◌, not, cond, leb, ltb, List}
+use Rattle.std.specs.Prelude.{[], map}
 use Rattle.std.specs.Prelude.{get_or, length, Some}
 use Rattle.fast_check_names.specs.declared.lattice.node.NodeNo.{NodeNo}
 use Rattle.fast_check_names.specs.declared.lattice.node.Below.{Below}
@@ -40,7 +41,8 @@ abbrev pub IsParentOutside : List (List Entry) → ℕ → ℕ → ℕ → ℕ �
 IsParentOutside ls low high node p = ((p.0 < low) ⊎ (high ≤ p.0)) × (p.0 < node) × IsPlaceOf (get_or ls p.0 []) node p.1
 
 abbrev pub LacksParentOutside : List (List Entry) → ℕ → ℕ → ℕ → Type 0
-LacksParentOutside ls low high node = (k : ℕ) → (k < low) ⊎ (high ≤ k) → k < node → lists_node (get_or ls k []) node ≡ false
+LacksParentOutside ls low high node = (k : ℕ) → (k < low) ⊎ (high ≤ k) → k < node →
+    lists_node (get_or ls k []) node ≡ false
 
 -- each node that lists one from a number on stands outside of a stretch
 abbrev pub HangOutside : Graph → ℕ → ℕ → ℕ → Type 0

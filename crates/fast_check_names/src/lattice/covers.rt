@@ -10,7 +10,7 @@ ghost use Rattle.fast_check_names.specs.Numbers.{stays, number, rank, is_node, l
 use crate::lattice::calls::names_of;
 use crate::lattice::node::{Below, Node, NodeNo};
 use crate::lattice::nodes::place_of;
-use crate::lattice::stretch::{stretch_end, take_out};
+use crate::lattice::stretch::{end_and_first, take_out};
 use std::alloc::{AllocError, Global};
 
 /// Whether a node stays.
@@ -195,8 +195,8 @@ pub fn cover(
     ensures added { OnOk result (IsAdded (entry nodes.old.items) at (whole_below (name.now ∷ [])) (entry nodes.new.items)) }
     ensures err { OnErr result (listings nodes.new.items ≡ listings nodes.old.items) }
 {
-    if let Some(end) = stretch_end(nodes.as_slice(), no) {
-        take_out(nodes, at, name, no, end);
+    if let Some((end, from)) = end_and_first(nodes.as_slice(), no) {
+        take_out(nodes, at, name, no, end, from);
         return Ok(());
     }
     cover_apart(nodes, alloc, at, name, no)

@@ -1,5 +1,5 @@
-//! Where the nodes that go stand in one stretch, the last ones take their places, as many as go. Where one that is left behind the stretch lists one of
-//! these, all nodes behind the stretch move down. Neither takes memory.
+//! Where few nodes go and they stand in one stretch, the last ones take their places, as many as go. That takes no memory, and no walk over the nodes:
+//! only the names are looked for under which the last ones stand.
 
 ghost use Rattle.std.specs.Prelude.{◌≡◌, ◌<◌, ◌≤◌, ◌+◌, ◌-◌, ℕ, true, false, IsTrue, IfSome, Some, ◌∷◌, [], vec_len, length, is_some, get_or};
 ghost use Rattle.std.specs.Option.{MatchOption};
@@ -8,12 +8,15 @@ ghost use Rattle.fast_check_names.specs.Order.{name_at};
 ghost use Rattle.fast_check_names.specs.Graph.{entry, listings, IsTree, IsWritten};
 ghost use Rattle.fast_check_names.specs.Names.{whole_below, IsAdded};
 ghost use Rattle.fast_check_names.specs.Numbers.{is_node, lists_node, IsWithout};
-ghost use Rattle.fast_check_names.specs.Stretch.{is_within, is_outside, IsPlaceOf, IsStretch, IsFilling, HangOutside, HangApart, AreLowered, AreFilled};
-ghost use Rattle.fast_check_names.specs.Stretch.{IsParentAmong, LacksParentAmong, IsParentOutside, LacksParentOutside};
+ghost use Rattle.fast_check_names.specs.Stretch.{is_within, is_outside, IsPlaceOf, IsStretch, IsFilling, HangOutside, HangApart, AreLowered};
+ghost use Rattle.fast_check_names.specs.Stretch.{AreFilled, IsParentAmong, LacksParentAmong, IsParentOutside, LacksParentOutside};
 
 use crate::lattice::calls::names_of;
 use crate::lattice::covers::write_all;
 use crate::lattice::node::{Below, Node, NodeNo};
+
+/// So many nodes go at most: each one that takes a place is looked for twice.
+const FEW: usize = 4;
 
 /// Where a stretch ends that goes on with the nodes that a list leads to, if these come next, in turn.
 fn end_past(names: &[(String, Below)], end: usize, size: usize) -> Option<usize>
@@ -35,7 +38,7 @@ fn end_past(names: &[(String, Below)], end: usize, size: usize) -> Option<usize>
 }
 
 /// Where the nodes end that go with one, if they stand in one stretch: each lists those that come next, in turn.
-pub fn stretch_end(nodes: &[Node], gone: usize) -> Option<usize>
+fn stretch_end(nodes: &[Node], gone: usize) -> Option<usize>
     requires within { gone < length nodes.now }
     requires tree { IsTree (entry nodes.now) (length nodes.now) }
     ensures stretch { IfSome result (IsStretch (length nodes.now) gone) }
@@ -117,23 +120,44 @@ fn hang_outside(nodes: &[Node], gone: usize, from: usize) -> bool
     true
 }
 
-/// From which node on the nodes take the places of those that go.
-fn first_to_move(nodes: &[Node], gone: usize, end: usize) -> usize
+/// From which node on the nodes take the places of those that go: None where too many go, or where one that is left behind the stretch lists one of
+/// these.
+fn first_to_move(nodes: &[Node], gone: usize, end: usize) -> Option<usize>
     requires stretch { IsStretch (length nodes.now) gone end }
     requires tree { IsTree (entry nodes.now) (length nodes.now) }
-    ensures filling { IsFilling (length nodes.now) gone end result }
-    ensures hang { HangApart (entry nodes.now) end result }
+    ensures filling { IfSome result (IsFilling (length nodes.now) gone end) }
+    ensures hang { IfSome result (HangApart (entry nodes.now) end) }
 {
     let count = end - gone;
+    if count > FEW {
+        return None;
+    }
     let behind = nodes.len() - end;
     if behind <= count {
-        return end;
+        return Some(end);
     }
     let from = nodes.len() - count;
     if !hang_outside(nodes, gone, from) {
-        return end;
+        return None;
     }
-    from
+    Some(from)
+}
+
+/// Where the nodes end that go with one, and from which node on others take their places: None where they are not few, or not easily filled.
+pub fn end_and_first(nodes: &[Node], gone: usize) -> Option<(usize, usize)>
+    requires within { gone < length nodes.now }
+    requires tree { IsTree (entry nodes.now) (length nodes.now) }
+    ensures without { IfSome result (λ p. IsWithout (entry nodes.now) gone (is_outside gone p.0)) }
+    ensures filling { IfSome result (λ p. IsFilling (length nodes.now) gone p.0 p.1) }
+    ensures hang { IfSome result (λ p. HangApart (entry nodes.now) p.0 p.1) }
+{
+    let Some(end) = stretch_end(nodes, gone) else {
+        return None;
+    };
+    let Some(from) = first_to_move(nodes, gone, end) else {
+        return None;
+    };
+    Some((end, from))
 }
 
 /// Writes the number of a node at a place where a node lists something.
@@ -178,16 +202,16 @@ fn fill(nodes: &mut Vec<Node>, gone: usize, end: usize, from: usize)
 }
 
 /// Demands whole a name of node `at` under which a subset stands, whose node goes with all below it, in one stretch.
-pub fn take_out(nodes: &mut Vec<Node>, at: usize, name: &str, gone: usize, end: usize)
+pub fn take_out(nodes: &mut Vec<Node>, at: usize, name: &str, gone: usize, end: usize, from: usize)
     requires within { at < vec_len nodes.old }
     requires tree { IsTree (entry nodes.old.items) (vec_len nodes.old) }
     requires listed { entry nodes.old.items at name.now ≡ Some (Below.Subset (record { 0 = gone })) }
-    requires stretch { IsStretch (vec_len nodes.old) gone end }
     requires without { IsWithout (entry nodes.old.items) gone (is_outside gone end) }
+    requires filling { IsFilling (vec_len nodes.old) gone end from }
+    requires hang { HangApart (entry nodes.old.items) end from }
     ensures tree { IsTree (entry nodes.new.items) (vec_len nodes.new) }
     ensures added { IsAdded (entry nodes.old.items) at (whole_below (name.now ∷ [])) (entry nodes.new.items) }
 {
-    let from = first_to_move(nodes.as_slice(), gone, end);
     lower(nodes, gone, from);
     write_all(nodes, at, name);
     fill(nodes, gone, end, from);

@@ -1,7 +1,7 @@
-use Rattle.std.proofs.Common.{arith, ◌≡◌, ℕ, length, subst}
+use Rattle.std.proofs.Common.{arith, ◌≡◌, ℕ, subst}
 use Rattle.fast_check_names.specs.declared.lattice.node.NodeNo.{NodeNo}
 use Rattle.fast_check_names.specs.Graph.{listings}
-use Rattle.fast_check_names.specs.Stretch.{IsFilling, AreFilled}
+use Rattle.fast_check_names.specs.Stretch.{AreFilled}
 use Rattle.fast_check_names.proofs.Stretches.{tree_out, added_out}
 use Rattle.fast_check_names.proofs.lattice.stretch.take_out.Goals as goal
 
@@ -9,32 +9,28 @@ pub returns-clause-tree : goal.returns-clause-tree
 returns-clause-tree c =
     let old = c.args.nodes.now in
     let gone : NodeNo = record { 0 = c.args.gone } in
-    let from = c.first_to_move-from.result in
+    let from = c.args.from in
     let lowered = c.lower.new.nodes in
     let written = c.write_all.new.nodes in
     let all = c.fill.new.nodes in
-    let count : length c.as_slice.result.now ≡ old.len = omega (arith, c.as_slice.ensures.len, old.ok.0) in
     let size : written.len ≡ old.len = omega (arith, c.write_all.ensures.len, c.lower.ensures.len) in
-    let filling = subst (λ (m : ℕ). IsFilling m c.args.gone c.args.end from) count c.first_to_move-from.ensures.filling in
-    let hang = rw c.as_slice.ensures.value at c.first_to_move-from.ensures.hang in
-    let filled = subst (λ (m : ℕ). AreFilled c.args.gone c.args.end from m (listings written.items) (listings all.items)) size c.fill.ensures.filled in
+    let filled = subst (λ (m : ℕ). AreFilled c.args.gone c.args.end from m (listings written.items) (listings all.items)) size
+    c.fill.ensures.filled in
     tree_out old.items lowered.items written.items all.items old.len all.len c.args.at c.args.name.now gone c.args.end from
-    c.requires.tree c.requires.listed c.requires.without filling hang c.lower.ensures.lowered c.write_all.ensures.written filled
-    (omega (arith, size, written.ok.0)) (omega (arith, size, c.fill.ensures.len)) (omega (arith, all.ok.0))
+    c.requires.tree c.requires.listed c.requires.without c.requires.filling c.requires.hang c.lower.ensures.lowered
+    c.write_all.ensures.written filled (omega (arith, size, written.ok.0)) (omega (arith, size, c.fill.ensures.len)) (omega (arith, all.ok.0))
 
 pub returns-clause-added : goal.returns-clause-added
 returns-clause-added c =
     let old = c.args.nodes.now in
     let gone : NodeNo = record { 0 = c.args.gone } in
-    let from = c.first_to_move-from.result in
+    let from = c.args.from in
     let lowered = c.lower.new.nodes in
     let written = c.write_all.new.nodes in
     let all = c.fill.new.nodes in
-    let count : length c.as_slice.result.now ≡ old.len = omega (arith, c.as_slice.ensures.len, old.ok.0) in
     let size : written.len ≡ old.len = omega (arith, c.write_all.ensures.len, c.lower.ensures.len) in
-    let filling = subst (λ (m : ℕ). IsFilling m c.args.gone c.args.end from) count c.first_to_move-from.ensures.filling in
-    let hang = rw c.as_slice.ensures.value at c.first_to_move-from.ensures.hang in
-    let filled = subst (λ (m : ℕ). AreFilled c.args.gone c.args.end from m (listings written.items) (listings all.items)) size c.fill.ensures.filled in
+    let filled = subst (λ (m : ℕ). AreFilled c.args.gone c.args.end from m (listings written.items) (listings all.items)) size
+    c.fill.ensures.filled in
     added_out old.items lowered.items written.items all.items old.len all.len c.args.at c.args.name.now gone c.args.end from
-    c.requires.tree c.requires.listed c.requires.without filling hang c.lower.ensures.lowered c.write_all.ensures.written filled
-    (omega (arith, size, written.ok.0)) (omega (arith, size, c.fill.ensures.len)) (omega (arith, all.ok.0))
+    c.requires.tree c.requires.listed c.requires.without c.requires.filling c.requires.hang c.lower.ensures.lowered
+    c.write_all.ensures.written filled (omega (arith, size, written.ok.0)) (omega (arith, size, c.fill.ensures.len)) (omega (arith, all.ok.0))
