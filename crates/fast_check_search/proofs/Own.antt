@@ -1,5 +1,5 @@
 -- What a demand makes public is declared in its module.
-use Rattle.std.proofs.Common.{◌≡◌, Bool, true, false, cond, not, ◌&&◌, List, [], ◌∷◌, map}
+use Rattle.std.proofs.Common.{Bool, true, false, cond, not, ◌&&◌, List, [], ◌∷◌, map}
 use Rattle.std.specs.List.{Contains, flat_map, filter}
 use Rattle.std.proofs.lemmas.List.Elements.{Contains-append_left}
 use Rattle.fast_check_names.specs.Names.{Name}
@@ -18,7 +18,7 @@ use Rattle.fast_check_name_demands.specs.demands.Yields.{asked_ranges, ranges, s
 use Rattle.fast_check_name_demands.specs.demands.Yields.{implementations}
 use Rattle.fast_check_name_demands.specs.demands.Account.{IsYield}
 use Rattle.fast_check_search.specs.Found.{AreTableRanges}
-use Rattle.fast_check_search.proofs.Each.{Contains_first, Contains_later, contains_map, contains_flat_map, Each, each_nil, each_append}
+use Rattle.fast_check_search.proofs.Each.{Contains_first, Contains_later, contains_map, contains_flat_map, Each, each_nil}
 use Rattle.fast_check_search.proofs.Each.{each_cons, each_map, each_flat, each_cond, each_each_of}
 use Rattle.fast_check_search.proofs.Inside.{last_inside}
 

@@ -64,8 +64,8 @@ push_names-loop-name-preserved t c =
     let walked : path_of c.push_below.new.path.items ≡ under path d = c.in_ok-push_below.ensures.same ∙ pushed in
     let told : c.len-told.result ≡ c.len-count.result + 1 = omega
     (arith, c.len-told.ensures, long_path c.push_below.new.path, ap length walked, length-append path (string_bytes d.0 ∷ []), own.1) in (
-      cut_path c.push_below.new.path.items c.truncate.new.self.items c.len-count.result path (string_bytes d.0) c.truncate.ensures.items walked
-          own.1,
+      cut_path c.push_below.new.path.items c.truncate.new.self.items c.len-count.result path (string_bytes d.0)
+          c.truncate.ensures.items walked own.1,
       own.1,
       omega (arith, told, own.2, own.3),
       omega (arith, told),

@@ -18,4 +18,5 @@ invariant-push_names-loop-name l =
     × (l.initial.from ≤ l.told)
     × (l.told ≤ l.count + 1)
     × (0 < l.name-index → l.told ≡ l.count + 1)
-    × TellsMore (IsWalked (path_of l.initial.path.items) l.initial.from l.told (entry l.nodes) (take l.name-index l.name-items)) l.initial.out.items l.out.items
+    × TellsMore (IsWalked (path_of l.initial.path.items) l.initial.from l.told (entry l.nodes) (take l.name-index l.name-items))
+    l.initial.out.items l.out.items

@@ -1,7 +1,7 @@
 use Rattle.std.proofs.Common.{◌∙◌, ap}
 use Rattle.std.specs.List.{list_any}
 use Rattle.std.specs.BTreeSet.{contains}
-use Rattle.fast_check_name_demands.specs.demands.Demands.{Demand, demand_of}
+use Rattle.fast_check_name_demands.specs.demands.Demands.{Demand}
 use Rattle.fast_check_name_demands.specs.demands.Account.{essence, same}
 use Rattle.fast_check_search.specs.contracts.done.DoneDemandOrd.TheImpl as order
 use Rattle.fast_check_search.specs.declared.done.DoneDemand.{DoneDemand}
