@@ -57,11 +57,7 @@ impl<'a> Found<'a> {
     }
 
     /// Adds what one demand makes public, what is wrong with it, and what it asks of other files.
-    fn add(
-        &mut self,
-        tables: &'a CheckedTables,
-        demand: SymbolDemand<'a>,
-    ) -> Result<(), AllocError>
+    fn add(&mut self, tables: &'a CheckedTables, demand: SymbolDemand<'a>) -> Result<(), AllocError>
         ensures { OnOk result (Gains tables.now (demand_of demand.entry) self.old self.new) }
     {
         push_ranges(tables, demand, &mut self.ranges)?;

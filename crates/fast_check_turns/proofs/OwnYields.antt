@@ -29,7 +29,7 @@ use Rattle.fast_check_traces.specs.Wants.{re_export_ranges}
 use Rattle.fast_check_traces.proofs.OwnRanges.{own_demand}
 use Rattle.fast_check_worklists.specs.Demands.{Text, Want, to_package, to_module, to_symbol, Demand, of_package, of_module, of_symbol}
 use Rattle.fast_check_entries.specs.findings.Yields.{Yield, known_package, entry_point, refused_export, dependency, public, implementing}
-use Rattle.fast_check_entries.specs.findings.Yields.{ModuleFault, recorded, faulty, untyped_module, of_demand, kept}
+use Rattle.fast_check_entries.specs.findings.Yields.{ModuleFault, recorded, faulty, untyped_module, kept}
 use Rattle.fast_check_entries.specs.findings.Findings.{faulty_module, entry_fault, placed_yield, placed_yields}
 use Rattle.fast_check_entries.specs.Entries.{Entrance, passed_over, refused, entered, all_faults, in_order}
 use Rattle.fast_check_wants.specs.Sources.{Known, is_text, node_at, named_at, traced_as, typed_info, info_at, module_at, untyped_at}

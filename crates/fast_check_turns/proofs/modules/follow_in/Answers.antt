@@ -1,4 +1,4 @@
-use Rattle.std.proofs.Common.{◌∙◌, sym, ap, subst, List, map, ◌++◌}
+use Rattle.std.proofs.Common.{sym, ap, subst, List, map}
 use Rattle.fast_check_packages.specs.Package.{nv_of}
 use Rattle.fast_check_names.specs.Imports.{NameDemand}
 use Rattle.fast_check_name_demands.specs.Files.{names_of}
