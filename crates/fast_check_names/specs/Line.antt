@@ -1,3 +1,4 @@
+-- Inner: no contract of a public call cites what stands here.
 -- The nodes of one path.
 use Rattle.std.specs.Prelude.{ℕ, zero, suc, ◌+◌, ◌==◌, [], ◌∷◌, Some, None, cond}
 use Rattle.std.specs.Str.{bytes_eq}

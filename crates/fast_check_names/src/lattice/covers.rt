@@ -145,7 +145,7 @@ fn move_down(nodes: &mut Vec<Node>, numbers: &[Option<usize>])
 }
 
 /// Writes All under a name that is listed.
-pub fn write_all(nodes: &mut Vec<Node>, at: usize, name: &str)
+pub(crate) fn write_all(nodes: &mut Vec<Node>, at: usize, name: &str)
     requires within { at < vec_len nodes.old }
     requires listed { IsTrue (is_some (entry nodes.old.items at name.now)) }
     ensures len { vec_len nodes.new ≡ vec_len nodes.old }
@@ -181,7 +181,7 @@ fn cover_apart(
 }
 
 /// Demands whole a name of node `at` under which a subset stands, whose node goes with all below it.
-pub fn cover(
+pub(crate) fn cover(
     nodes: &mut Vec<Node>,
     alloc: Global,
     at: usize,

@@ -76,7 +76,7 @@ fn append_below(nodes: &mut Vec<Node>, mut tree: Vec<Node>) -> Vec<(String, Belo
 }
 
 /// Merges a tree into node `at`, which lists none of the names of the tree's root.
-pub fn merge(
+pub(crate) fn merge(
     nodes: &mut Vec<Node>,
     alloc: Global,
     at: usize,
@@ -139,7 +139,7 @@ fn joint(nodes: &[Node], at: usize, others: &[Node], other: usize) -> Option<(us
 }
 
 /// The same of two roots, of which the first may not be there yet.
-pub fn joint_of_roots(nodes: &[Node], others: &[Node]) -> Option<(usize, usize)>
+pub(crate) fn joint_of_roots(nodes: &[Node], others: &[Node]) -> Option<(usize, usize)>
     requires tree { IsTree (entry nodes.now) (length nodes.now) }
     requires other_tree { IsTree (entry others.now) (length others.now) }
     ensures { IfSome result (IsJoint (entry nodes.now) (length nodes.now) 0 (entry others.now) 0) }

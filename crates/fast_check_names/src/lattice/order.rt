@@ -100,7 +100,7 @@ fn slot_of(names: &[(String, Below)], runs: &[Vec<usize>], name: &str) -> Slot
 }
 
 /// The number of a name that is in the order.
-pub fn find(
+pub(crate) fn find(
     names: &[(String, Below)],
     runs: &[Vec<usize>],
     sorted: usize,
@@ -190,7 +190,7 @@ fn put_next(
 }
 
 /// Puts the numbers of the names that are not in the order, as long as there is memory, and answers of how many names it then is.
-pub fn sort_from(
+pub(crate) fn sort_from(
     names: &[(String, Below)],
     runs: &mut Vec<Vec<usize>>,
     alloc: Global,
@@ -231,7 +231,7 @@ fn joined_runs(alloc: Global, runs: &[Vec<usize>]) -> Result<Vec<usize>, AllocEr
 }
 
 /// The places of some names, sorted by these; as the names stand where not all are in the order.
-pub fn sorted_places(
+pub(crate) fn sorted_places(
     alloc: Global,
     names: &[(String, Below)],
     runs: &[Vec<usize>],

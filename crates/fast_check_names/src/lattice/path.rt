@@ -35,7 +35,7 @@ fn below_place(count: usize, place: usize) -> Below
 }
 
 /// The nodes of a path that is demanded whole.
-pub fn nodes_of(alloc: Global, parts: &[String]) -> Result<Vec<Node>, AllocError>
+pub(crate) fn nodes_of(alloc: Global, parts: &[String]) -> Result<Vec<Node>, AllocError>
     ensures len { IfOk result (λ nodes. vec_len nodes ≡ length parts.now) }
     ensures line { IfOk result (λ nodes. (k : ℕ) (n : Name) → entry nodes.items k n ≡ line (path_of parts.now) k n) }
 {

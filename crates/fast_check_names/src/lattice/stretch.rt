@@ -144,7 +144,7 @@ fn first_to_move(nodes: &[Node], gone: usize, end: usize) -> Option<usize>
 }
 
 /// Where the nodes end that go with one, and from which node on others take their places: None where they are not few, or not easily filled.
-pub fn end_and_first(nodes: &[Node], gone: usize) -> Option<(usize, usize)>
+pub(crate) fn end_and_first(nodes: &[Node], gone: usize) -> Option<(usize, usize)>
     requires within { gone < length nodes.now }
     requires tree { IsTree (entry nodes.now) (length nodes.now) }
     ensures without { IfSome result (λ p. IsWithout (entry nodes.now) gone (is_outside gone p.0)) }
@@ -202,7 +202,14 @@ fn fill(nodes: &mut Vec<Node>, gone: usize, end: usize, from: usize)
 }
 
 /// Demands whole a name of node `at` under which a subset stands, whose node goes with all below it, in one stretch.
-pub fn take_out(nodes: &mut Vec<Node>, at: usize, name: &str, gone: usize, end: usize, from: usize)
+pub(crate) fn take_out(
+    nodes: &mut Vec<Node>,
+    at: usize,
+    name: &str,
+    gone: usize,
+    end: usize,
+    from: usize,
+)
     requires within { at < vec_len nodes.old }
     requires tree { IsTree (entry nodes.old.items) (vec_len nodes.old) }
     requires listed { entry nodes.old.items at name.now ≡ Some (Below.Subset (record { 0 = gone })) }
