@@ -4,11 +4,15 @@ use Rattle.fast_check_requests.specs.declared.refusal.Refusal.{Refusal}
 use Rattle.fast_check_requests.specs.declared.refusal.Refusal.TheVariants as refusals
 use Rattle.fast_check_requests.specs.Run.{IsOfBytes}
 use Rattle.fast_check_modules.specs.EsModule.{EsModule}
+use Rattle.fast_check_modules.specs.diagnostics.PublicRanges.{PublicRanges}
+use Rattle.fast_check_transform_command.specs.Transform.{IsModuleOf}
 use Rattle.fast_check_transformer.specs.Transformed.{ModuleAnswer}
 use Rattle.fast_check_pair_command.specs.declared.request.PairRequest.{PairRequest}
+use Rattle.fast_check_pair_command.specs.declared.request.Side.{Side}
 use Rattle.fast_check_pair_command.specs.Input.{HoldsPair, LacksPair}
 use Rattle.fast_check_pair_command.specs.Line.{status_of}
-use Rattle.fast_check_pair_command.specs.Pair.{AreModules, RefusesModules, AnswersPair, RefusesPair, RefusesBytes}
+use Rattle.fast_check_pair_command.specs.Pair.{RefusesModules, AnswersPair, RefusesPair, RefusesBytes}
+use Rattle.fast_check_pair_command.specs.Second.{RefusesSecond}
 
 pub refused : (refusal : Refusal) (bytes : List ℕ) → LacksPair bytes refusal → RefusesBytes refusal bytes
 refused refusals.NotJson bytes lacks = lacks
@@ -33,17 +37,35 @@ request_refused refusals.RangesNotAdmitted bytes asked holds refuses = (asked, h
 request_refused refusals.InvalidExport bytes asked holds refuses = absurd refuses
 request_refused refusals.Unwritable bytes asked holds refuses = absurd refuses
 
-pub modules_refused : (refusal : Refusal) (asked : PairRequest) (a b : EsModule) → AreModules asked a b
-    → RefusesModules a asked.a.public_ranges b asked.b.public_ranges refusal → RefusesPair asked refusal
-modules_refused refusals.RangesNotAdmitted asked a b are refuses = record { a = a; b = b; are_modules = are; not_admitted = refuses }
-modules_refused refusals.OutOfMemory asked a b are refuses = tt
-modules_refused refusals.NotJson asked a b are refuses = absurd refuses
-modules_refused refusals.BadForm asked a b are refuses = absurd refuses
-modules_refused refusals.Usage asked a b are refuses = absurd refuses
-modules_refused refusals.Unreadable asked a b are refuses = absurd refuses
-modules_refused (refusals.TableFault fault) asked a b are refuses = absurd refuses
-modules_refused refusals.InvalidExport asked a b are refuses = absurd refuses
-modules_refused refusals.Unwritable asked a b are refuses = absurd refuses
+-- ranges that are refused, and a second module that is
+pub modules_refused : (refusal : Refusal) (a b : EsModule) (ranges_a : PublicRanges) (side : Side) → IsModuleOf side.es_module b
+    → RefusesModules a ranges_a b side.public_ranges refusal → RefusesSecond a ranges_a side refusal
+modules_refused refusals.RangesNotAdmitted a b ranges_a side made refuses = (b, made, refuses)
+modules_refused refusals.OutOfMemory a b ranges_a side made refuses = tt
+modules_refused refusals.NotJson a b ranges_a side made refuses = absurd refuses
+modules_refused refusals.BadForm a b ranges_a side made refuses = absurd refuses
+modules_refused refusals.Usage a b ranges_a side made refuses = absurd refuses
+modules_refused refusals.Unreadable a b ranges_a side made refuses = absurd refuses
+modules_refused (refusals.TableFault fault) a b ranges_a side made refuses = absurd refuses
+modules_refused refusals.InvalidExport a b ranges_a side made refuses = absurd refuses
+modules_refused refusals.Unwritable a b ranges_a side made refuses = absurd refuses
+
+pub second_refused : (refusal : Refusal) (asked : PairRequest) (a : EsModule) → IsModuleOf asked.a.es_module a
+    → RefusesSecond a asked.a.public_ranges asked.b refusal → RefusesPair asked refusal
+second_refused (refusals.TableFault fault) asked a made refuses = inr (made.without_fault, refuses)
+second_refused refusals.RangesNotAdmitted asked a made refuses = record {
+  a = a;
+  b = refuses.0;
+  are_modules = record { first = made; second = refuses.1 };
+  not_admitted = refuses.2;
+}
+second_refused refusals.OutOfMemory asked a made refuses = tt
+second_refused refusals.NotJson asked a made refuses = absurd refuses
+second_refused refusals.BadForm asked a made refuses = absurd refuses
+second_refused refusals.Usage asked a made refuses = absurd refuses
+second_refused refusals.Unreadable asked a made refuses = absurd refuses
+second_refused refusals.InvalidExport asked a made refuses = absurd refuses
+second_refused refusals.Unwritable asked a made refuses = absurd refuses
 
 zero_or_one : (x y : ModuleAnswer) → status_of x y < 2
 zero_or_one (Ok m) (Ok n) = lit< tt

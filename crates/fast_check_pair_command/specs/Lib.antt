@@ -4,3 +4,4 @@ pub mod Request
 pub mod Input
 pub mod Line
 pub mod Pair
+pub mod Second

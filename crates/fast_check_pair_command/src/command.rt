@@ -7,10 +7,11 @@ ghost use Rattle.fast_check_requests.specs.Run.{IsOfBytes};
 ghost use Rattle.fast_check_transform_command.specs.Transform.{IsModuleOf};
 ghost use Rattle.fast_check_pair_command.specs.Input.{HoldsPair, LacksPair};
 ghost use Rattle.fast_check_pair_command.specs.Line.{status_of, IsPairAnswer};
+ghost use Rattle.fast_check_pair_command.specs.Second.{AnswersSecond, RefusesSecond};
 ghost use Rattle.fast_check_pair_command.specs.Pair.{AnswersModules, RefusesModules, AnswersPair, RefusesPair, IsAnswerTo, RefusesBytes};
 
 use crate::answer::line_of_answers;
-use crate::input::read_pair;
+use crate::input::read_pair_input;
 use crate::request::{PairRequest, Side};
 use fast_check_graph::ModuleGraph;
 use fast_check_module_transform::TransformOptions;
@@ -43,7 +44,7 @@ fn read_request(alloc: Global, bytes: Vec<u8>) -> Result<PairRequest, Refusal>
     ensures request { IfOk result (HoldsPair bytes.items) }
     ensures refusal { IfErr result (LacksPair bytes.items) }
 {
-    read_pair(alloc, bytes.as_slice())
+    read_pair_input(alloc, bytes.as_slice())
 }
 
 /// The module of these parts, or the fault of its tables.
@@ -71,25 +72,49 @@ fn answer_request(alloc: Global, request: PairRequest) -> Result<Answer, Refusal
         should_error_on_first_diagnostic,
     } = request;
     let Side {
-        es_module: parts_a,
-        public_ranges: ranges_a,
+        es_module,
+        public_ranges,
     } = a;
+    match checked_module(alloc, es_module) {
+        Ok(info) => {
+            let is_first = should_error_on_first_diagnostic;
+            let first = CheckedSide {
+                info: &info,
+                ranges: &public_ranges,
+            };
+            answer_second(alloc, &graph, first, b, is_first)
+        }
+        Err(fault) => Err(Refusal::TableFault(fault)),
+    }
+}
+
+/// The answer to a module whose tables have no fault and to a second one, or why they are refused: by a fault of the second's tables before ranges.
+fn answer_second(
+    alloc: Global,
+    graph: &ModuleGraph,
+    a: CheckedSide<'_>,
+    b: Side,
+    should_error_on_first_diagnostic: bool,
+) -> Result<Answer, Refusal>
+    ensures answer { IfOk result (λ answer. AnswersSecond graph.now a.entry.info.now a.entry.ranges.now b
+        should_error_on_first_diagnostic answer.line.items answer.status) }
+    ensures refusal { IfErr result (RefusesSecond a.entry.info.now a.entry.ranges.now b) }
+{
     let Side {
-        es_module: parts_b,
-        public_ranges: ranges_b,
+        es_module,
+        public_ranges,
     } = b;
-    let info_a = checked_module(alloc, parts_a)?;
-    let info_b = checked_module(alloc, parts_b)?;
-    let is_first = should_error_on_first_diagnostic;
-    let first = CheckedSide {
-        info: &info_a,
-        ranges: &ranges_a,
-    };
-    let second = CheckedSide {
-        info: &info_b,
-        ranges: &ranges_b,
-    };
-    answer_if_admitted(alloc, &graph, first, second, is_first)
+    match checked_module(alloc, es_module) {
+        Ok(info) => {
+            let is_first = should_error_on_first_diagnostic;
+            let second = CheckedSide {
+                info: &info,
+                ranges: &public_ranges,
+            };
+            answer_if_admitted(alloc, graph, a, second, is_first)
+        }
+        Err(fault) => Err(Refusal::TableFault(fault)),
+    }
 }
 
 /// The answer to two modules, or why they are refused: the ranges of both have to be admitted.

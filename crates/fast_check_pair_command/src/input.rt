@@ -10,7 +10,7 @@ use std::alloc::Global;
 
 /// The request of `pair` in the bytes of a file: `NotJson` where they are no JSON value, and `BadForm` where they are the JSON of no
 /// request.
-pub fn read_pair(alloc: Global, bytes: &[u8]) -> Result<PairRequest, Refusal>
+pub fn read_pair_input(alloc: Global, bytes: &[u8]) -> Result<PairRequest, Refusal>
     ensures request { IfOk result (HoldsPair bytes.now) }
     ensures refusal { IfErr result (LacksPair bytes.now) }
 {
