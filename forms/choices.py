@@ -23,6 +23,8 @@ def choice_code(table, file):
     asked = [content for choice in choices for _, content in nested(table, choice)]
     asked = {name for name in asked if table.choices[name].file != file.name}
     lines = [
+        f"//! {file.doc}",
+        "",
         "ghost use Rattle.std.specs.Prelude.{◌≡◌};",
         "ghost use Rattle.fast_check_syntax.specs.Part.{seen};",
         "ghost use Rattle.fast_check_syntax.specs.Shape.{kind_of};",

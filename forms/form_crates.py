@@ -82,7 +82,8 @@ def form_code(table, file):
     forms = table.forms_of(file)
     made = [form for form in forms if form.made]
     cited = [name for form in forms for name in cited_of(form)]
-    lines = ["ghost use Rattle.std.specs.Prelude.{◌≡◌, IfOk};"] if made else []
+    lines = [f"//! {file.doc} Each form with its fields by their names.", ""]
+    lines += ["ghost use Rattle.std.specs.Prelude.{◌≡◌, IfOk};"] if made else []
     lines.append("ghost use Rattle.fast_check_syntax.specs.Part.{seen};")
     lines += ghost_use(f"Rattle.fast_check_{file.crate}.specs.{camel(file.name)}", cited)
     taken = [

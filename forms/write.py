@@ -32,7 +32,14 @@ class Output:
         self.files, self.counts = {}, {}
 
     def whole(self, path, lines):
-        lines = ([f"// {WRITTEN}.", ""] if path.endswith(".rt") else [f"-- {WRITTEN}."]) + lines
+        """A whole file. One of code begins with what stands there, by lines `//!`, and then says where it comes from."""
+        if path.endswith(".rt"):
+            head = next(place for place, line in enumerate(lines) if not line.startswith("//!"))
+            if head == 0:
+                raise SystemExit(f"{path}: its first line has to say what stands there")
+            lines = lines[:head] + [f"// {WRITTEN}."] + lines[head:]
+        else:
+            lines = [f"-- {WRITTEN}."] + lines
         self.files[path] = "\n".join(lines) + "\n"
         self.counts[path] = len(lines)
 
