@@ -176,7 +176,8 @@ def form_node(form):
     line = " ".join([head] + parts) + ")"
     if len(line) <= WIDTH:
         return lines + [line]
-    lines += [head] + fill(parts, 4, 105, first=109)
+    heads = fill(head.split(" "), 0, WIDTH - 4, first=WIDTH)
+    lines += heads[:1] + indented(heads[1:], 4) + fill(parts, 4, 105, first=109)
     lines[-1] += ")"
     return lines
 

@@ -10,7 +10,8 @@ use Rattle.fast_check_syntax.specs.Descent.{by_descent}
 use Rattle.fast_check_class_forms.specs.Functions.{Function-span}
 use Rattle.fast_check_expression_forms.specs.Calls.{CallExpr-callee, CallExpr-args, NewExpr-callee, NewExpr-type_args}
 use Rattle.fast_check_helpers.specs.GlobalCalls.{object_freeze_call_arg}
-use Rattle.fast_check_signatures.specs.declared.rules.TheConstants.{PLAIN_KINDS, COMPOUND_KINDS, SATISFIES, ASSERTION, FN_EXPR, FREEZE, NEW}
+use Rattle.fast_check_signatures.specs.declared.rules.TheConstants.{PLAIN_KINDS, COMPOUND_KINDS, SATISFIES, ASSERTION}
+use Rattle.fast_check_signatures.specs.declared.rules.TheConstants.{FN_EXPR, FREEZE, NEW}
 use Rattle.fast_check_signatures.specs.declared.rules.Slot.{Slot}
 use Rattle.fast_check_signatures.specs.declared.rules.Slot.TheVariants as slots
 use Rattle.fast_check_signatures.specs.declared.function_kind.FunctionKind.TheVariants.{ExpressionLike}

@@ -85,11 +85,13 @@ module _ (r : Renaming) (ok : IsRenaming r) (c d : Bindings) (pair : SameBinding
     expr_alike (s.compound {t = t} {u = u} k b e xs) p q f =
         by_form t u p q (compound_alike r ok c d (expr_seen c) (expr_seen d) t u p q k b e (exprs_alike xs))
     expr_alike (s.satisfies {t = t} {u = u} b a x e) p q f =
-        by_kind t u p q kinds.TsSatisfiesExpr (slotted SATISFIES) b refl refl (range_alike r ok _ _ a, (expr_alike x None None refl, (same_written r ok e, tt)))
+        by_kind t u p q kinds.TsSatisfiesExpr (slotted SATISFIES) b refl refl
+        (range_alike r ok _ _ a, (expr_alike x None None refl, (same_written r ok e, tt)))
     expr_alike (s.as_type {t = t} {u = u} b a e) p q f =
         by_kind t u p q kinds.TsAsExpr (slotted ASSERTION) b refl refl (range_alike r ok _ _ a, (never_alike, (same_written r ok e, tt)))
     expr_alike (s.assertion {t = t} {u = u} b a e) p q f =
-        by_kind t u p q kinds.TsTypeAssertion (slotted ASSERTION) b refl refl (range_alike r ok _ _ a, (never_alike, (same_written r ok e, tt)))
+        by_kind t u p q kinds.TsTypeAssertion (slotted ASSERTION) b refl refl
+        (range_alike r ok _ _ a, (never_alike, (same_written r ok e, tt)))
     expr_alike (s.frozen {t = t} {u = u} b b' a n callee x types) p q f =
         by_form t u p q (frozen_alike r ok c d (expr_seen c) (expr_seen d) t u p q b b'
         (range_alike r ok _ _ a, (scope_alike r ok _ _ n, (same_written r ok callee, (expr_alike x None None refl, (same_written r ok types, tt))))))

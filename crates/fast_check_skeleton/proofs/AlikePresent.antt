@@ -2,7 +2,8 @@
 use Rattle.std.specs.Prelude.{◌≡◌, None, true, false, ◌||◌, not, refl}
 use Rattle.std.proofs.Common.{ap, ◌∙◌, sym, true≢false}
 use Rattle.fast_check_syntax.specs.declared.kind.Kind.{Kind}
-use Rattle.fast_check_syntax.specs.declared.kind.Kind.TheVariants.{Leaf, CallExpr, NewExpr, TsSatisfiesExpr, TsAsExpr, TsTypeAssertion, FnExpr, ArrowExpr}
+use Rattle.fast_check_syntax.specs.declared.kind.Kind.TheVariants.{Leaf, CallExpr, NewExpr, TsSatisfiesExpr, TsAsExpr, TsTypeAssertion}
+use Rattle.fast_check_syntax.specs.declared.kind.Kind.TheVariants.{FnExpr, ArrowExpr}
 use Rattle.fast_check_syntax.specs.declared.source.SyntaxContext.{SyntaxContext}
 use Rattle.fast_check_syntax.specs.declared.tree.Tree.{Tree}
 use Rattle.fast_check_syntax.specs.Shape.{◌is◌, is_kind, not_absent, kind_of, is_absent}

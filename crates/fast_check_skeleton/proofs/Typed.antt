@@ -109,9 +109,11 @@ module _ (bindings : Bindings) where
 
     kind_stays : (kind : Kind) (b : Bool) (t : Tree) (place : Option SourceRange) → known_by_kind kind bindings t ≡ b →
         StaysLeavable (by_rule bindings (other_rule kind b) kind t look place)
-    kind_stays kinds.TsSatisfiesExpr b t place f = slotted_stays SATISFIES kinds.TsSatisfiesExpr t place (λ u e h. IsLeavable.satisfies e h.1.0)
+    kind_stays kinds.TsSatisfiesExpr b t place f = slotted_stays SATISFIES kinds.TsSatisfiesExpr t place
+        (λ u e h. IsLeavable.satisfies e h.1.0)
     kind_stays kinds.TsAsExpr b t place f = slotted_stays ASSERTION kinds.TsAsExpr t place (λ u e h. IsLeavable.as_type e h.1.0)
-    kind_stays kinds.TsTypeAssertion b t place f = slotted_stays ASSERTION kinds.TsTypeAssertion t place (λ u e h. IsLeavable.assertion e h.1.0)
+    kind_stays kinds.TsTypeAssertion b t place f = slotted_stays ASSERTION kinds.TsTypeAssertion t place
+        (λ u e h. IsLeavable.assertion e h.1.0)
     kind_stays kinds.CallExpr true t place f = slotted_stays FREEZE kinds.CallExpr t place
         (λ u e h. IsLeavable.frozen e (ap (is_global_member (codes "Object") (codes "freeze") bindings.unresolved) h.1.1.0 ∙ is_freeze bindings t f) h.1.1.1.0)
     kind_stays kinds.NewExpr true t place f = slotted_stays NEW kinds.NewExpr t place
