@@ -1,5 +1,5 @@
 """The choices between forms (fast_check_forms)."""
-from layout import WIDTH, camel, ghost_use, indented, snake
+from layout import PROOF_WIDTH, WIDTH, camel, fill, ghost_use, indented, snake
 
 
 def nested(table, choice):
@@ -23,6 +23,8 @@ def choice_code(table, file):
     asked = [content for choice in choices for _, content in nested(table, choice)]
     asked = {name for name in asked if table.choices[name].file != file.name}
     lines = [
+        f"//! {file.doc}",
+        "",
         "ghost use Rattle.std.specs.Prelude.{◌≡◌};",
         "ghost use Rattle.fast_check_syntax.specs.Part.{seen};",
         "ghost use Rattle.fast_check_syntax.specs.Shape.{kind_of};",
@@ -110,7 +112,11 @@ def choice_definition(table, choice):
         steps = tests[:1] + ["(" + test for test in tests[1:]]
         steps[-1] += f" {name}.Other" + ")" * (len(steps) - 1)
         line = f"{call}_of kind = " + " ".join(steps)
-        lines += [line] if len(line) <= WIDTH else [f"{call}_of kind ="] + indented(steps, 4)
+        if len(line) <= WIDTH:
+            lines.append(line)
+        else:
+            lines.append(f"{call}_of kind =")
+            lines += [part for step in steps for part in fill(step.split(" "), 4, WIDTH)]
     if is_asked(table, name):
         lines += [
             "",
@@ -182,6 +188,8 @@ def within_answer(table, choice):
     known = " ".join(f"(λ p. c.in_default.not-{kind} (c.kind.ensures ∙ p))" for _, kind in own(table, choice))
     before = f"    sym ({call}_else _ {known} ∙"
     step = f"    ap (λ this. if_{inner} this {name}.{variant} {name}.Other) (sym c.of.ensures"
+    told = [step + ") ∙", f"is_{inner} c.of.result _ _ c.in_default-of.not-Other)"]
+    told = [" ".join(told)] if len(" ".join(told)) <= PROOF_WIDTH else [told[0], "    " + told[1]]
     return [
         "use Rattle.std.proofs.Common.{sym, ◌∙◌, ap}",
         f"use Rattle.fast_check_forms.specs.{camel(table.choices[content].file)}.{{if_{inner}}}",
@@ -197,8 +205,7 @@ def within_answer(table, choice):
         "pub returns-in_default-of : goal.returns-in_default-of",
         "returns-in_default-of c =",
         before,
-        step + f") ∙ is_{inner} c.of.result _ _ c.in_default-of.not-Other)",
-    ]
+    ] + told
 
 
 def offered(table):

@@ -82,7 +82,8 @@ def form_code(table, file):
     forms = table.forms_of(file)
     made = [form for form in forms if form.made]
     cited = [name for form in forms for name in cited_of(form)]
-    lines = ["ghost use Rattle.std.specs.Prelude.{◌≡◌, IfOk};"] if made else []
+    lines = [f"//! {file.doc} Each form with its fields by their names.", ""]
+    lines += ["ghost use Rattle.std.specs.Prelude.{◌≡◌, IfOk};"] if made else []
     lines.append("ghost use Rattle.fast_check_syntax.specs.Part.{seen};")
     lines += ghost_use(f"Rattle.fast_check_{file.crate}.specs.{camel(file.name)}", cited)
     taken = [
@@ -175,7 +176,8 @@ def form_node(form):
     line = " ".join([head] + parts) + ")"
     if len(line) <= WIDTH:
         return lines + [line]
-    lines += [head] + fill(parts, 4, 105, first=109)
+    heads = fill(head.split(" "), 0, WIDTH - 4, first=WIDTH)
+    lines += heads[:1] + indented(heads[1:], 4) + fill(parts, 4, 105, first=109)
     lines[-1] += ")"
     return lines
 

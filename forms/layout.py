@@ -1,8 +1,8 @@
 """Names as code writes them, and lines as `rt fmt` lays them out."""
 import re
 
-# how wide a line of definitions is at most
-WIDTH = 120
+# how wide a line of definitions is at most, and one of a proof
+WIDTH, PROOF_WIDTH = 120, 140
 
 
 def snake(name):
@@ -69,3 +69,14 @@ def ghost_use(module, names):
     if len(line) <= 100:
         return [line]
     return [f"ghost use {module}.{{"] + [f"  {name}," for name in names] + ["};"]
+
+
+def imports(module, names, width):
+    """A `use` of these names, in as many lines as it takes."""
+    lines, head = [], f"use {module}.{{"
+    for name in names:
+        if lines and len(lines[-1]) + len(", ") + len(name) + len("}") <= width:
+            lines[-1] += f", {name}"
+        else:
+            lines.append(head + name)
+    return [line + "}" for line in lines]

@@ -9,8 +9,8 @@ def places(table):
     by_name = lambda file: file.name
     files = [file for crate in table.form_crates() for file in sorted(table.files_of(crate), key=by_name)]
     lines = [
-        "-- The fields of each form, in the order of its node's parts: the name that JSON has for a field, "
-        "and the definition that reads it.",
+        "-- The fields of each form, in the order of its node's parts: the name that JSON has for a field,",
+        "-- and the definition that reads it.",
         "use Rattle.std.specs.Prelude.{List, [], ◌∷◌}",
         "use Rattle.fast_check_syntax.specs.declared.kind.Kind.{Kind}",
         "use Rattle.fast_check_syntax.specs.declared.kind.Kind.TheVariants as kinds",

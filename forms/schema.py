@@ -20,7 +20,8 @@ def all_words(table):
 def kind_code(table):
     """The kinds and the words of the plain tree."""
     derived = "#[derive(Clone, Copy, PartialEq, Eq, Debug)]"
-    lines = ["/// What a node of the tree is: the syntax form that it stands for.", derived, "pub enum Kind {"]
+    lines = ["//! The kinds of nodes, and the words that stand for choices without content.", ""]
+    lines += ["/// What a node of the tree is: the syntax form that it stands for.", derived, "pub enum Kind {"]
     lines += ["    /// No node: an empty option, a flag, a text, a range or a word."]
     lines += [f"    {kind}," for kind in all_kinds(table)] + ["}", ""]
     lines += ["/// A choice without content, as the `const` of a declaration.", derived, "pub enum Word {"]
@@ -91,6 +92,8 @@ def schema_tables(table):
     variants = [f"Choice::{choice.name} => &{choice.chapter}::{constant(choice.name)}_VARIANTS," for choice in choices]
     words = [f"Words::{name} => &{chapter}::{constant(name)}_WORDS," for name, (chapter, _) in table.words.items()]
     lines = [
+        "//! The tables of all chapters: the fields of a form, the forms of a choice and the words of a list.",
+        "",
         "ghost use Rattle.std.specs.Prelude.{◌≡◌, map};",
         "ghost use Rattle.fast_check_schema.specs.Rows.{field_row, variant_row, word_row};",
         "ghost use Rattle.fast_check_schema.specs.Schema.{fields_of, variants_of, words_of};",

@@ -13,6 +13,7 @@ sys.dont_write_bytecode = True
 
 from choices import write_choices
 from form_crates import write_form_crates
+from layout import imports
 from places import write_names, write_page, write_places
 from rows import write_proofs, write_rules
 from schema import write_schema
@@ -32,7 +33,14 @@ class Output:
         self.files, self.counts = {}, {}
 
     def whole(self, path, lines):
-        lines = ([f"// {WRITTEN}.", ""] if path.endswith(".rt") else [f"-- {WRITTEN}."]) + lines
+        """A whole file. One of code begins with what stands there, by lines `//!`, and then says where it comes from."""
+        if path.endswith(".rt"):
+            head = next(place for place, line in enumerate(lines) if not line.startswith("//!"))
+            if head == 0:
+                raise SystemExit(f"{path}: its first line has to say what stands there")
+            lines = lines[:head] + [f"// {WRITTEN}."] + lines[head:]
+        else:
+            lines = [f"-- {WRITTEN}."] + lines
         self.files[path] = "\n".join(lines) + "\n"
         self.counts[path] = len(lines)
 
@@ -56,15 +64,15 @@ class Output:
         self.files[path] = "\n".join(old[:start] + lines + old[end:])
         self.counts[path] = self.counts.get(path, 0) + len(lines)
 
-    def line(self, path, head, tail):
-        """The one line that begins with `head`: what stands behind it there."""
+    def imported(self, path, module, names, width):
+        """The lines that import from the module, which stand together: these names."""
         old = self.lines_of(path)
-        found = [place for place, line in enumerate(old) if line.startswith(head)]
-        if len(found) != 1:
-            raise SystemExit(f"{path}: one line has to begin with '{head}'")
-        old[found[0]] = head + tail
-        self.files[path] = "\n".join(old)
-        self.counts[path] = self.counts.get(path, 0) + 1
+        found = [place for place, line in enumerate(old) if line.startswith(f"use {module}.{{")]
+        if not found or found[-1] - found[0] + 1 != len(found):
+            raise SystemExit(f"{path}: what is imported from {module} has to stand there, in lines one behind the other")
+        lines = imports(module, names, width)
+        self.files[path] = "\n".join(old[: found[0]] + lines + old[found[-1] + 1 :])
+        self.counts[path] = self.counts.get(path, 0) + len(lines)
 
 
 def written_above(lines):

@@ -207,14 +207,22 @@ def chapters():
     yield "in all", before
 
 
+def listed_crates():
+    """The crates in the order of crates.txt, where each stands behind those that it stands on."""
+    lines = (TOP / "crates.txt").read_text().splitlines()
+    return [line.partition(":")[0].split()[0] for line in lines if line.strip() and not line.startswith("#")]
+
+
 def page(every):
-    """The chapters in words: the files that each adds, in an order in which they can be read, with the lines that are reached."""
+    """The chapters in words: the files that each adds, by crates in the order of crates.txt, and those of a crate in an order in which they
+    can be read, with the lines that are reached."""
+    listed = listed_crates()
     for chapter, found in list(every.items())[:-1]:
         forms, rows = [], []
         for file in in_order(found):
             lines = size([it for it in found if it[0] == file])
             (forms if "forms/forms.txt" in file.read_text()[:400] else rows).append((file, lines))
-        crates = dict.fromkeys(file.parts[len(CRATES.parts)] for file, _ in rows)
+        crates = sorted({file.parts[len(CRATES.parts)] for file, _ in rows}, key=listed.index)
         words = [
             f"`{crate}`: " + ", ".join(f"{file.stem} {lines}" for file, lines in rows if file.parts[len(CRATES.parts)] == crate)
             for crate in crates

@@ -3,7 +3,8 @@
 
 usage: mutants.py [CRATE..]            without a name: each crate that has a folder in mutants/
        mutants.py --changed [COMMIT]   each of these that changed, or whose edits did, since the commit; without one: since the
-                                       one that mutants/TRIED has for it, and each that it has none for
+                                       one that mutants/TRIED has for it, and each that it has none for. What differs in comments
+                                       and blank lines alone is no change: a verdict rests on code, definitions and proofs
   --edit NAME       only the edit of this name (may be given several times); then nothing is noted
   --gate            the edits of crates/CRATE/must-fail too
   --jobs N          so many checks at once (1)
@@ -19,7 +20,7 @@ Where work was kept from check to check, the crate itself has to be proved over 
 
 Prints a line for each edit that is not plainly refused (`STANDING`: the crate is still proved; `BY NAME ALONE`: only a proof that names what the
 edit took away fails; `BAD`: it does not apply or cannot be read), and one for each crate. The status is 0 where all were refused. Then
-mutants/TRIED has the present commit for the crate, if nothing of it differs from that commit.
+mutants/TRIED has the present commit for the crate, if nothing of it differs from that commit but comments and blank lines.
 """
 import argparse
 import importlib.machinery
@@ -42,6 +43,8 @@ TRIED = TOP / "mutants" / "TRIED"
 REFUSED, BY_NAME, STANDING, BAD = "refused", "BY NAME ALONE", "STANDING", "BAD"
 # Comments, strings, characters and lifetimes, words, and any other mark, as the kit reads a source file.
 TOKEN = re.compile(r"//[^\n]*|/\*.*?\*/|b?\"(?:[^\"\\]|\\.)*\"|'(?:\\.[^']*|[^'\\])'|'\w+|\w+|\s+|.", re.S)
+# The same of a file of definitions or proofs.
+ANTT_TOKEN = re.compile(r"--[^\n]*|\{-.*?-\}|\"(?:[^\"\\]|\\.)*\"|[^\s(){}\[\],;\"]+|\s+|.", re.S)
 CLAUSE = re.compile(r"(?:^| )(?:requires|ensures)(?: \*)?(?: \w+)?$|(?:^| )ghost \w+ :$")
 # The head of a declaration of specs/, one of its rules, and a name with what leads to it.
 HEAD = re.compile(r"(\s*)(?:pub )?(data|record|abbrev|module|mutual|unfoldable)\b\s*([^\s:({]*)")
@@ -475,10 +478,27 @@ def git(*words):
     return subprocess.run(["git", *words], cwd=TOP, stdout=subprocess.PIPE, text=True)
 
 
+def plain(file, text):
+    """What a text says to the prover: a source file and one of definitions or proofs without comments and blank lines, every other as it is."""
+    token, comment = {".rt": (TOKEN, ("//", "/*")), ".antt": (ANTT_TOKEN, ("--", "{-"))}.get(Path(file).suffix, (None, None))
+    if token is None:
+        return text
+    words = (word for word in token.findall(text) if not word.startswith(comment))
+    text = "".join(word if word.isspace() else word.replace("\n", "\\n") for word in words)
+    return [line.rstrip() for line in text.split("\n") if line.strip()]
+
+
 def differs(crate, commit):
-    """Whether what a crate's edits are tried on differs from a commit."""
+    """Whether what a crate's edits are tried on differs from a commit in more than comments and blank lines."""
     parts = [f"mutants/{crate}", *[f"crates/{crate}/{it}" for it in ("src", "specs", "proofs", "must-fail")]]
-    return git("diff", "--quiet", commit, "--", *parts).returncode != 0
+    changed = git("diff", "--name-only", "--no-renames", "-z", commit, "--", *parts)
+    if changed.returncode:
+        return True
+    for file in filter(None, changed.stdout.split("\0")):
+        before, now = git("show", f"{commit}:{file}"), TOP / file
+        if before.returncode or not now.is_file() or plain(file, before.stdout) != plain(file, now.read_text()):
+            return True
+    return False
 
 
 def tried():

@@ -1,10 +1,12 @@
 #!/usr/bin/env python3
 """Says which names stand twice in the workspace: two public types of one name, or two public functions that are no methods.
 
-usage: names.py [--all]    status 1 if any does; with --all also names of cases, which nobody stands on
+usage: names.py [--all]    status 1 if any does; with --all also names of cases, which nobody stands on, and behind them each
+                           other name that is declared twice, within a crate or in two
 
 A name is public where a crate hands it out: it is declared `pub` in the crate's root, in a module that is `pub`, or named in
-a `pub use` of that root. What a crate hands on from another is the same item, and counts once.
+a `pub use` of that root. What a crate hands on from another is the same item, and counts once. With --all a name counts by its
+declarations too, `pub` or `pub(crate)`, whether a root hands it out or not: this list changes no status.
 """
 import re
 import sys
@@ -13,6 +15,7 @@ from pathlib import Path
 
 TOP = Path(__file__).resolve().parents[2]
 ITEM = re.compile(r"^pub (?:const )?(struct|enum|trait|type|fn) (\w+)", re.M)
+DECLARED = re.compile(r"^pub(?:\(crate\))? (?:const )?(struct|enum|trait|type|fn) (\w+)", re.M)
 CASES = re.compile("_cases$|_example$|_vectors$")
 
 
@@ -38,6 +41,25 @@ def public_items(crate):
                 yield "function" if kind == "fn" else "type", name, file.relative_to(TOP)
 
 
+def declared_items(crate):
+    """The types and functions that any module of a crate declares for others: kind and name of each, with its file."""
+    for file in sorted(crate.glob("src/**/*.rt")):
+        for kind, name in DECLARED.findall(file.read_text()):
+            yield "function" if kind == "fn" else "type", name, file.relative_to(TOP)
+
+
+def by_declaration(crates, handed):
+    """Lists the names with more than one declaration, but for those that were listed before."""
+    found = defaultdict(list)
+    for crate in crates:
+        for kind, name, file in declared_items(crate):
+            found[kind, name].append(file)
+    twice = {it: files for it, files in found.items() if len(files) > 1 and it not in handed}
+    for (kind, name), files in sorted(twice.items()):
+        print(f"declared {kind} {name}: {', '.join(map(str, files))}")
+    print(f"{sum(map(len, found.values()))} declarations of {len(found)} names, {len(twice)} others that stand twice")
+
+
 def main(words):
     found = defaultdict(list)
     crates = [it for it in sorted((TOP / "crates").iterdir()) if "--all" in words or not CASES.search(it.name)]
@@ -49,6 +71,8 @@ def main(words):
         print(f"{kind} {name}: {', '.join(map(str, files))}")
     types = sum(kind == "type" for kind, _ in found)
     print(f"{types} types and {len(found) - types} functions in {len(crates)} crates, {len(twice)} names that stand twice")
+    if "--all" in words:
+        by_declaration(crates, twice)
     return int(bool(twice))
 
 

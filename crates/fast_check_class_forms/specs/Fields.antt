@@ -71,7 +71,8 @@ pub record ReadsClassProp (form : ClassProp Part) (t : Tree) : Type 0 where
 
 abbrev pub class_prop : SourceRange → Tree → Tree → Tree → Bool → Tree → Tree → Bool → Bool → Bool → Bool → Bool →
     Bool → Tree
-class_prop span key value type_ann is_static decorators accessibility is_abstract is_optional is_override readonly declare definite =
+class_prop span key value type_ann is_static decorators accessibility is_abstract is_optional is_override readonly
+    declare definite =
     node kinds.ClassProp (Range span ∷ key ∷ value ∷ type_ann ∷ Flag is_static ∷ decorators ∷ accessibility ∷
     Flag is_abstract ∷ Flag is_optional ∷ Flag is_override ∷ Flag readonly ∷ Flag declare ∷
     Flag definite ∷ [])

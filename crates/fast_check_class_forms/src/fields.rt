@@ -1,3 +1,4 @@
+//! Properties and accessors of a class. Each form with its fields by their names.
 // Written by forms/write.py from forms/forms.txt.
 
 ghost use Rattle.std.specs.Prelude.{◌≡◌, IfOk};

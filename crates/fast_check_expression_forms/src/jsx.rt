@@ -1,3 +1,4 @@
+//! JSX, held as it is written. Each form with its fields by their names.
 // Written by forms/write.py from forms/forms.txt.
 
 ghost use Rattle.fast_check_syntax.specs.Part.{seen};

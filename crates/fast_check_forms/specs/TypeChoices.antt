@@ -56,7 +56,8 @@ ts_type_of kinds.TsTypePredicate = TsType.TsTypePredicate
 ts_type_of kinds.TsImportType = TsType.TsImportType
 ts_type_of kind =
     if_ts_fn_or_constructor_type (ts_fn_or_constructor_type_of kind) TsType.TsFnOrConstructorType
-    (if_ts_union_or_intersection_type (ts_union_or_intersection_type_of kind) TsType.TsUnionOrIntersectionType TsType.Other)
+    (if_ts_union_or_intersection_type (ts_union_or_intersection_type_of kind) TsType.TsUnionOrIntersectionType
+    TsType.Other)
 
 -- The name of a type, with dots or without.
 abbrev pub ts_entity_name_of : Kind → TsEntityName

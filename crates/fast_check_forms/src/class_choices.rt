@@ -1,3 +1,4 @@
+//! Which member of a class a node is, and which parameter of a constructor.
 // Written by forms/write.py from forms/forms.txt.
 
 ghost use Rattle.std.specs.Prelude.{◌≡◌};

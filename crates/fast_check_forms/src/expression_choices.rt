@@ -1,3 +1,4 @@
+//! Which expression a node is, and which form stands in a part of one.
 // Written by forms/write.py from forms/forms.txt.
 
 ghost use Rattle.std.specs.Prelude.{◌≡◌};

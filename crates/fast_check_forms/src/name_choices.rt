@@ -1,3 +1,4 @@
+//! Which name, key or literal a node is.
 // Written by forms/write.py from forms/forms.txt.
 
 ghost use Rattle.std.specs.Prelude.{◌≡◌};

@@ -1,3 +1,4 @@
+//! Which item of a module a node is, and which form stands in an import or export.
 // Written by forms/write.py from forms/forms.txt.
 
 ghost use Rattle.std.specs.Prelude.{◌≡◌};

@@ -59,6 +59,7 @@ impl RootSymbol {
     pub fn own_names_find(&self)
         ensures { AreFoundByOwnNames self.now }
     {
+        // What the map says of its length says too that its keys are in order, so that each stands once: from that the law follows.
         let _ = self.modules.len();
     }
 

@@ -1,3 +1,5 @@
+//! Bodies that name their return type: the last statement returns a value that shows its type, and no other statement returns.
+
 ghost use Rattle.std.specs.Prelude.{◌≡◌, IfOk};
 ghost use Rattle.std.specs.Option.{option_map};
 ghost use Rattle.fast_check_syntax.specs.Part.{seen};

@@ -1,5 +1,6 @@
 -- Written by forms/write.py from forms/forms.txt.
--- The fields of each form, in the order of its node's parts: the name that JSON has for a field, and the definition that reads it.
+-- The fields of each form, in the order of its node's parts: the name that JSON has for a field,
+-- and the definition that reads it.
 use Rattle.std.specs.Prelude.{List, [], ◌∷◌}
 use Rattle.fast_check_syntax.specs.declared.kind.Kind.{Kind}
 use Rattle.fast_check_syntax.specs.declared.kind.Kind.TheVariants as kinds

@@ -21,7 +21,8 @@ use Rattle.fast_check_findings.proofs.Bools.{or_none}
 -- tests that agree find the same
 pub lookup_alike : {K X : Type 0} (f g : K → Bool) → ((k : K) → f k ≡ g k) → (es : List (K × X)) → lookup f es ≡ lookup g es
 lookup_alike f g h [] = refl
-lookup_alike f g h (e ∷ es) = ap (λ b. cond b (Some e.1) (lookup f es)) (h e.0) ∙ ap (λ o. cond (g e.0) (Some e.1) o) (lookup_alike f g h es)
+lookup_alike f g h (e ∷ es) =
+    ap (λ b. cond b (Some e.1) (lookup f es)) (h e.0) ∙ ap (λ o. cond (g e.0) (Some e.1) o) (lookup_alike f g h es)
 
 kept : {K X : Type 0} (eq : K → K → Bool) (test : K → Bool) (old new : List (K × X)) → KeepsOthers eq test old new → (other : K → Bool) →
     IsKeyTest eq other → AreApart test other → lookup other new ≡ lookup other old
@@ -32,7 +33,8 @@ twice : {X : Type 0} (t : Bool) (v w o : X) → cond t v (cond t w o) ≡ cond t
 twice true v w o = refl
 twice false v w o = refl
 
-says_put : {X : Type 0} (says : X → Bool) (t : Bool) (new old here : Option X) (v : X) (b : Bool) → new ≡ cond t (Some v) old → (t ≡ true → old ≡ here) →
+says_put : {X : Type 0} (says : X → Bool) (t : Bool) (new old here : Option X) (v : X) (b : Bool) → new ≡ cond t (Some v) old →
+    (t ≡ true → old ≡ here) →
     says v ≡ (where_found says here || b) → where_found says new ≡ (where_found says old || (t && b))
 says_put says true new old here v b e h g = ap (where_found says) e ∙ (g ∙ ap (λ l. where_found says l || b) (sym (h refl)))
 says_put says false new old here v b e h g = ap (where_found says) e ∙ sym (or_none (where_found says old))

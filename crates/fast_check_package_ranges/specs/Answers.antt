@@ -16,10 +16,11 @@ use Rattle.fast_check_diagnostics.specs.declared.diagnostics.FastCheckDiagnostic
 use Rattle.fast_check_worklists.specs.Demands.{Text, same_nv}
 use Rattle.fast_check_findings.specs.Faults.{PlacedFault, demand_fault}
 use Rattle.fast_check_findings.specs.Yields.{Yield, kept}
-use Rattle.fast_check_package_ranges.specs.Questions.{ModuleQuestion, whether_recorded, whether_public, whether_implementing}
-use Rattle.fast_check_package_ranges.specs.Questions.{whether_missing, whether_untyped_entry, whether_untyped, whether_faulty, whether_otherwise_faulty}
-use Rattle.fast_check_package_ranges.specs.Questions.{Question, whether_known, whether_entry_point, whether_dependency, whether_refused, about}
-use Rattle.fast_check_package_ranges.specs.Questions.{is_fault, is_kept, is_said, IsTextless}
+use Rattle.fast_check_package_ranges.specs.Questions.{ModuleQuestion, whether_recorded, whether_public}
+use Rattle.fast_check_package_ranges.specs.Questions.{whether_implementing, whether_missing, whether_untyped_entry}
+use Rattle.fast_check_package_ranges.specs.Questions.{whether_untyped, whether_faulty, whether_otherwise_faulty}
+use Rattle.fast_check_package_ranges.specs.Questions.{Question, whether_known, whether_entry_point, whether_dependency}
+use Rattle.fast_check_package_ranges.specs.Questions.{whether_refused, about, is_fault, is_kept, is_said, IsTextless}
 use Rattle.fast_check_findings.specs.Diagnostics.{any_fault, tells, where_found, tell_one_fault}
 use Rattle.fast_check_package_ranges.specs.Parts.{is_text, is_package, lookup_text, lookup_package}
 
@@ -42,9 +43,11 @@ tells_otherwise t d = tells_missing t d || (tells_untyped_entry t d || tells any
 -- two diagnostics tell the same of a module
 abbrev pub tell_alike : Text → FastCheckDiagnostic → FastCheckDiagnostic → Bool
 tell_alike t a b = (tells_missing t a && tells_missing t b)
-    || ((tells_untyped_entry t a && tells_untyped_entry t b) || ((tells_untyped t a && tells_untyped t b) || tell_one_fault a b))
+    || ((tells_untyped_entry t a && tells_untyped_entry t b)
+    || ((tells_untyped t a && tells_untyped t b) || tell_one_fault a b))
 
--- the yields say what a diagnostic tells of a module: of the module as a whole, or of a fault of a demand, with its source text
+-- the yields say what a diagnostic tells of a module: of the module as a whole, or of a fault of a demand, with its
+-- source text
 abbrev pub is_so : List Yield → Nv → Text → FastCheckDiagnostic → Bool
 is_so yields nv t d = (tells_missing t d && is_said yields nv (about t whether_missing))
     || ((tells_untyped_entry t d && is_said yields nv (about t whether_untyped_entry))
@@ -91,7 +94,8 @@ abbrev pub cached_of : Option PackagePublicRanges → List (Parts × FastCheckCa
 cached_of None = []
 cached_of (Some p) = p.cache_items.items
 
--- the answer of a package whose item is used: its entry points, and the dependencies and modules of the item, in their order
+-- the answer of a package whose item is used: its entry points, and the dependencies and modules of the item, in their
+-- order
 pub record IsKeptAnswer (entry_points : List Parts) (item : ItemView) (p : PackagePublicRanges) : Type 0 where
   pub entry_points_are : p.entrypoints.keys ≡ entry_points
   pub dependencies_are : map nv_of p.dependencies.keys ≡ item.0
@@ -101,17 +105,21 @@ pub record IsKeptAnswer (entry_points : List Parts) (item : ItemView) (p : Packa
 -- and that of some yield of the package
 abbrev pub IsKeptIn : List Yield → Nv → Option PackagePublicRanges → Type 0
 IsKeptIn yields nv None = ⊥
-IsKeptIn yields nv (Some p) = (q : Nv) × (entry_points : List Parts) × (item : ItemView) × Contains yields (kept q entry_points item)
+IsKeptIn yields nv (Some p) = (q : Nv) × (entry_points : List Parts) × (item : ItemView) ×
+    Contains yields (kept q entry_points item)
     × (same_nv nv q ≡ true) × IsKeptAnswer entry_points item p
 
--- The answers say what the yields say, and nothing else. What is told of a fault is, with its source text, what some yield tells; every diagnostic of
--- a module tells what its yields say, and no two tell the same; and nothing comes from a cache. But the item of a package that is used is answered
--- in place of all that the yields say of it.
+-- The answers say what the yields say, and nothing else. What is told of a fault is, with its source text, what some
+-- yield tells; every diagnostic of a module tells what its yields say, and no two tell the same; and nothing comes from
+-- a cache. But the item of a package that is used is answered in place of all that the yields say of it.
 pub record AreAnswers (yields : List Yield) (answers : BTreeMap PackageNv PackagePublicRanges) : Type 0 where
-  pub said : (nv : Nv) (q : Question) → is_kept yields nv ≡ false → IsTextless q → answer answers nv q ≡ is_said yields nv q
-  pub exact : (nv : Nv) (t : Text) (test : PlacedFault → Bool) → answer answers nv (about t (whether_faulty test)) ≡ true →
+  pub said : (nv : Nv) (q : Question) → is_kept yields nv ≡ false → IsTextless q →
+      answer answers nv q ≡ is_said yields nv q
+  pub exact : (nv : Nv) (t : Text) (test : PlacedFault → Bool) →
+      answer answers nv (about t (whether_faulty test)) ≡ true →
       is_said yields nv (about t (whether_faulty test)) ≡ true
-  pub only : (nv : Nv) (t : Text) (d : FastCheckDiagnostic) → Contains (diagnostics_of answers nv t) d → is_so yields nv t d ≡ true
+  pub only : (nv : Nv) (t : Text) (d : FastCheckDiagnostic) → Contains (diagnostics_of answers nv t) d →
+      is_so yields nv t d ≡ true
   pub once : (nv : Nv) (t : Text) → IsDistinct (tell_alike t) (diagnostics_of answers nv t)
   pub uncached : (nv : Nv) → is_kept yields nv ≡ false → cached_of (lookup_package nv answers.entries) ≡ []
   pub cached : (nv : Nv) → is_kept yields nv ≡ true → IsKeptIn yields nv (lookup_package nv answers.entries)

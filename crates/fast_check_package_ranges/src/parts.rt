@@ -27,7 +27,7 @@ pub struct JoinedModule {
     pub is_untyped: bool,
 }
 
-/// Whether one of two is so.
+/// Whether one of two is so. A call of it is one fact to the proof of its caller, where a `||` would be two tests, with ways of their own.
 pub fn either(a: bool, b: bool) -> bool
     ensures { result ≡ (a || b) }
 {

@@ -108,7 +108,7 @@ fn is_otherwise_faulty(
     either(is_missing, either(is_untyped_entry, is_faulty))
 }
 
-/// Whether the first is so and the second is not.
+/// Whether the first is so and the second is not. It is a function for the same reason as `either`.
 fn only_first(a: bool, b: bool) -> bool
     ensures { result ≡ (a && not b) }
 {

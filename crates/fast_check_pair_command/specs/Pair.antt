@@ -43,7 +43,8 @@ pub record AnswersPair (asked : PairRequest) (line : List ℕ) (status : ℕ) : 
   pub a : EsModule
   pub b : EsModule
   pub are_modules : AreModules asked a b
-  pub answer : AnswersModules asked.graph a asked.a.public_ranges b asked.b.public_ranges asked.should_error_on_first_diagnostic line status
+  pub answer : AnswersModules asked.graph a asked.a.public_ranges b asked.b.public_ranges
+      asked.should_error_on_first_diagnostic line status
 
 -- ranges of either module are not admitted
 pub record IsNotAdmitted (asked : PairRequest) : Type 0 where

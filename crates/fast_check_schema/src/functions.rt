@@ -1,6 +1,5 @@
-// Written by forms/write.py from forms/forms.txt.
-
 //! The fields of functions, classes and their members.
+// Written by forms/write.py from forms/forms.txt.
 
 use crate::form::{Choice, Count, Field, Form, Named, SPAN, Variant, Words};
 use fast_check_syntax::{Kind, Word};

@@ -1,6 +1,5 @@
-// Written by forms/write.py from forms/forms.txt.
-
 //! The fields of names and literals.
+// Written by forms/write.py from forms/forms.txt.
 
 use crate::form::{Count, Field, Form, SPAN, Variant};
 use fast_check_syntax::Kind;

@@ -1,3 +1,5 @@
+//! The order in which the fields of a form are written: that of their names.
+
 ghost use Rattle.std.specs.Prelude.{◌≡◌};
 ghost use Rattle.fast_check_schema.specs.Order.{written_places};
 

@@ -1,6 +1,5 @@
-// Written by forms/write.py from forms/forms.txt.
-
 //! The fields of patterns.
+// Written by forms/write.py from forms/forms.txt.
 
 use crate::form::{Choice, Count, Field, Form, SPAN, Variant};
 use fast_check_syntax::Kind;

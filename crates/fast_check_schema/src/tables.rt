@@ -1,3 +1,4 @@
+//! The tables of all chapters: the fields of a form, the forms of a choice and the words of a list.
 // Written by forms/write.py from forms/forms.txt.
 
 ghost use Rattle.std.specs.Prelude.{◌≡◌, map};

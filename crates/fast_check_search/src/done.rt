@@ -1,3 +1,5 @@
+//! A demand as the set of those that were met has it.
+
 ghost use Rattle.std.specs.Prelude.{◌≡◌};
 ghost use Rattle.fast_check_name_demands.specs.demands.Demands.{demand_of};
 ghost use Rattle.fast_check_search.specs.Done.{names_of};

@@ -23,7 +23,8 @@ module _ (bindings : Bindings) (look : Look) (place : Option SourceRange) (t : T
   satisfies = refl
 
   -- the operand of an assertion does not count
-  as_type : slots_seen bindings ASSERTION 0 t look place ≡ range (TsAsExpr-span t) ∷ written never_in_parens ∷ written (TsAsExpr-type_ann t) ∷ []
+  as_type : slots_seen bindings ASSERTION 0 t look place ≡
+      range (TsAsExpr-span t) ∷ written never_in_parens ∷ written (TsAsExpr-type_ann t) ∷ []
   as_type = refl
 
   assertion : slots_seen bindings ASSERTION 0 t look place ≡

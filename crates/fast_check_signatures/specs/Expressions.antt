@@ -1,5 +1,6 @@
 -- What is seen of an expression that gives a type by itself, if it may stay in a skeleton.
-use Rattle.std.specs.Prelude.{ℕ, suc, Bool, true, false, not, ◌&&◌, ◌||◌, Option, None, List, [], ◌∷◌, map, is_some, if◌then◌else◌}
+use Rattle.std.specs.Prelude.{ℕ, suc, Bool, true, false, not, ◌&&◌, ◌||◌, Option, None, List, [], ◌∷◌, map, is_some}
+use Rattle.std.specs.Prelude.{if◌then◌else◌}
 use Rattle.std.specs.List.{list_any}
 use Rattle.fast_check_syntax.specs.declared.kind.Kind.{Kind}
 use Rattle.fast_check_syntax.specs.declared.kind.Kind.TheVariants as kinds
@@ -10,7 +11,8 @@ use Rattle.fast_check_syntax.specs.Descent.{by_descent}
 use Rattle.fast_check_class_forms.specs.Functions.{Function-span}
 use Rattle.fast_check_expression_forms.specs.Calls.{CallExpr-callee, CallExpr-args, NewExpr-callee, NewExpr-type_args}
 use Rattle.fast_check_helpers.specs.GlobalCalls.{object_freeze_call_arg}
-use Rattle.fast_check_signatures.specs.declared.rules.TheConstants.{PLAIN_KINDS, COMPOUND_KINDS, SATISFIES, ASSERTION, FN_EXPR, FREEZE, NEW}
+use Rattle.fast_check_signatures.specs.declared.rules.TheConstants.{PLAIN_KINDS, COMPOUND_KINDS, SATISFIES, ASSERTION}
+use Rattle.fast_check_signatures.specs.declared.rules.TheConstants.{FN_EXPR, FREEZE, NEW}
 use Rattle.fast_check_signatures.specs.declared.rules.Slot.{Slot}
 use Rattle.fast_check_signatures.specs.declared.rules.Slot.TheVariants as slots
 use Rattle.fast_check_signatures.specs.declared.function_kind.FunctionKind.TheVariants.{ExpressionLike}
@@ -45,7 +47,8 @@ is_frozen bindings t = (kind_of t is kinds.CallExpr) && freezes bindings t
 -- whether an expression is `new C(..)` of a class C without type parameters, which has the type of that class
 abbrev pub makes_plain : Bindings → Tree → Bool
 makes_plain bindings t =
-    (kind_of (NewExpr-callee t) is kinds.Ident) && (is_absent (NewExpr-type_args t) && bindings.is_plain_class (id_of (NewExpr-callee t)))
+    (kind_of (NewExpr-callee t) is kinds.Ident) &&
+    (is_absent (NewExpr-type_args t) && bindings.is_plain_class (id_of (NewExpr-callee t)))
 
 abbrev pub is_made : Bindings → Tree → Bool
 is_made bindings t = (kind_of t is kinds.NewExpr) && makes_plain bindings t
@@ -62,7 +65,8 @@ is_known bindings t = known_by_kind (kind_of t) bindings t
 -- whether an expression may not stay, whatever its parts are
 abbrev pub is_refused : Bindings → Tree → Bool
 is_refused bindings t =
-    let kind = kind_of t in not (is_plain kind || (is_compound kind || (is_among other_kinds kind || is_known bindings t)))
+    let kind = kind_of t in
+    not (is_plain kind || (is_compound kind || (is_among other_kinds kind || is_known bindings t)))
 
 -- how an expression stays: as it is, if all its parts do, slot by slot, as an arrow, or not
 pub data Rule : Type 0 where
@@ -90,7 +94,8 @@ abbrev pub expr_rule : Bindings → Tree → Rule
 expr_rule bindings t = rule (kind_of t) (is_known bindings t)
 
 module _ (bindings : Bindings) where
-  -- what is seen of a part, where `look` is what is seen of the lower trees, and a parent that names the expression gives the place
+  -- what is seen of a part, where `look` is what is seen of the lower trees, and a parent that names the expression
+  -- gives the place
   abbrev pub slot_seen : Slot → Tree → Look → Option SourceRange → Seen
   slot_seen slots.Span p look place = range (range_of p)
   slot_seen slots.Scope p look place = scope (context_of p)

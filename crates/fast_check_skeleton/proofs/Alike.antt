@@ -28,12 +28,14 @@ use Rattle.fast_check_signatures.proofs.Looks.{expr_seen_is}
 use Rattle.fast_check_signatures.proofs.NewNodesMoved.{never_in_parens_moved}
 use Rattle.fast_check_skeleton.proofs.AlikeTrees.{RangeAlike, new_alike}
 use Rattle.fast_check_skeleton.proofs.AlikeSeen.{Alike, AllAlike, written_alike, same_written, range_alike, scope_alike}
-use Rattle.fast_check_skeleton.proofs.AlikeParameters.{PlaceAlike, same_optional, emptied_optional, rest_optional, assign_optional, emptied_alike}
-use Rattle.fast_check_skeleton.proofs.AlikeParameters.{rest_alike, typed_default_alike, shown_default_alike, kept_default_alike, typed_pattern_alike}
-use Rattle.fast_check_skeleton.proofs.AlikeParameters.{kept_pattern_alike, unfit_same, bare_alike, taken_apart_alike, default_taken_apart_alike}
-use Rattle.fast_check_skeleton.proofs.AlikeFunctions.{or_own_alike, signature_of_alike, param_alike, typed_alike, classed_alike, shown_value_alike}
-use Rattle.fast_check_skeleton.proofs.AlikeFunctions.{kept_value_alike}
-use Rattle.fast_check_skeleton.proofs.AlikeExpressions.{refused_alike, RuleAlike, kind_alike, plain_alike, compound_alike, frozen_alike, made_alike}
+use Rattle.fast_check_skeleton.proofs.AlikeParameters.{PlaceAlike, same_optional, emptied_optional, rest_optional, assign_optional}
+use Rattle.fast_check_skeleton.proofs.AlikeParameters.{emptied_alike, rest_alike, typed_default_alike, shown_default_alike}
+use Rattle.fast_check_skeleton.proofs.AlikeParameters.{kept_default_alike, typed_pattern_alike, kept_pattern_alike, unfit_same, bare_alike}
+use Rattle.fast_check_skeleton.proofs.AlikeParameters.{taken_apart_alike, default_taken_apart_alike}
+use Rattle.fast_check_skeleton.proofs.AlikeFunctions.{or_own_alike, signature_of_alike, param_alike, typed_alike, classed_alike}
+use Rattle.fast_check_skeleton.proofs.AlikeFunctions.{shown_value_alike, kept_value_alike}
+use Rattle.fast_check_skeleton.proofs.AlikeExpressions.{refused_alike, RuleAlike, kind_alike, plain_alike, compound_alike, frozen_alike}
+use Rattle.fast_check_skeleton.proofs.AlikeExpressions.{made_alike}
 
 module _ (r : Renaming) (ok : IsRenaming r) (c d : Bindings) (pair : SameBindings r c d) where
   -- ---- which parameters may be left out
@@ -69,7 +71,8 @@ module _ (r : Renaming) (ok : IsRenaming r) (c d : Bindings) (pair : SameBinding
       Alike r ok (expr_seen c t p) (expr_seen d u q)
   by_form t u p q e = subst₂ (Alike r ok) (sym (expr_seen_is c t p)) (sym (expr_seen_is d u q)) e
 
-  by_kind : (t u : Tree) (p q : Option SourceRange) (k : Kind) (x : Rule) → Both k t u → rule k (is_known c t) ≡ x → rule k (is_known d u) ≡ x →
+  by_kind : (t u : Tree) (p q : Option SourceRange) (k : Kind) (x : Rule) → Both k t u → rule k (is_known c t) ≡ x →
+      rule k (is_known d u) ≡ x →
       RuleAlike r ok c d (expr_seen c) (expr_seen d) t u p q x → Alike r ok (expr_seen c t p) (expr_seen d u q)
   by_kind t u p q k x b e f alike = by_form t u p q (kind_alike r ok c d (expr_seen c) (expr_seen d) t u p q k x b e f alike)
 
@@ -79,23 +82,30 @@ module _ (r : Renaming) (ok : IsRenaming r) (c d : Bindings) (pair : SameBinding
   -- ---- what agrees is seen alike
 
   mutual
-    pub expr_alike : {t u : Tree} → SameExpr r c d t u → (p q : Option SourceRange) → PlaceAlike r ok p q → Alike r ok (expr_seen c t p) (expr_seen d u q)
+    pub expr_alike : {t u : Tree} → SameExpr r c d t u → (p q : Option SourceRange) → PlaceAlike r ok p q →
+        Alike r ok (expr_seen c t p) (expr_seen d u q)
     expr_alike (s.plain {t = t} {u = u} e s') p q f = by_form t u p q (plain_alike r ok c d (expr_seen c) (expr_seen d) t u p q e s')
     expr_alike (s.SameExpr.refused {t = t} {u = u} e g) p q f = by_form t u p q (refused_alike r ok c d (expr_seen c) (expr_seen d) t u p q e g)
     expr_alike (s.compound {t = t} {u = u} k b e xs) p q f =
         by_form t u p q (compound_alike r ok c d (expr_seen c) (expr_seen d) t u p q k b e (exprs_alike xs))
     expr_alike (s.satisfies {t = t} {u = u} b a x e) p q f =
-        by_kind t u p q kinds.TsSatisfiesExpr (slotted SATISFIES) b refl refl (range_alike r ok _ _ a, (expr_alike x None None refl, (same_written r ok e, tt)))
+        by_kind t u p q kinds.TsSatisfiesExpr (slotted SATISFIES) b refl refl
+        (range_alike r ok _ _ a, (expr_alike x None None refl, (same_written r ok e, tt)))
     expr_alike (s.as_type {t = t} {u = u} b a e) p q f =
         by_kind t u p q kinds.TsAsExpr (slotted ASSERTION) b refl refl (range_alike r ok _ _ a, (never_alike, (same_written r ok e, tt)))
     expr_alike (s.assertion {t = t} {u = u} b a e) p q f =
-        by_kind t u p q kinds.TsTypeAssertion (slotted ASSERTION) b refl refl (range_alike r ok _ _ a, (never_alike, (same_written r ok e, tt)))
+        by_kind t u p q kinds.TsTypeAssertion (slotted ASSERTION) b refl refl
+        (range_alike r ok _ _ a, (never_alike, (same_written r ok e, tt)))
     expr_alike (s.frozen {t = t} {u = u} b b' a n callee x types) p q f =
-        by_form t u p q (frozen_alike r ok c d (expr_seen c) (expr_seen d) t u p q b b'
-        (range_alike r ok _ _ a, (scope_alike r ok _ _ n, (same_written r ok callee, (expr_alike x None None refl, (same_written r ok types, tt))))))
+        by_form t u p q (frozen_alike r ok c d (expr_seen c) (expr_seen d) t u p q b b' (
+          range_alike r ok _ _ a,
+          (scope_alike r ok _ _ n, (same_written r ok callee, (expr_alike x None None refl, (same_written r ok types, tt)))),
+        ))
     expr_alike (s.made {t = t} {u = u} b b' a n callee x types) p q f =
-        by_form t u p q (made_alike r ok c d (expr_seen c) (expr_seen d) t u p q b b'
-        (range_alike r ok _ _ a, (scope_alike r ok _ _ n, (same_written r ok callee, (expr_alike x None None refl, (same_written r ok types, tt))))))
+        by_form t u p q (made_alike r ok c d (expr_seen c) (expr_seen d) t u p q b b' (
+          range_alike r ok _ _ a,
+          (scope_alike r ok _ _ n, (same_written r ok callee, (expr_alike x None None refl, (same_written r ok types, tt)))),
+        ))
     expr_alike (s.function {t = t} {u = u} b e x) p q f =
         let left = Function-span (FnExpr-function t) in let right = Function-span (FnExpr-function u) in
         by_kind t u p q kinds.FnExpr (slotted FN_EXPR) b refl refl (
@@ -108,15 +118,18 @@ module _ (r : Renaming) (ok : IsRenaming r) (c d : Bindings) (pair : SameBinding
         )
     expr_alike (s.arrow {t = t} {u = u} b h ps x) p q f =
         by_kind t u p q kinds.ArrowExpr arrow b refl refl
-        (arrow_body_alike x (or_own p (ArrowExpr-span t)) (or_own q (ArrowExpr-span u)) (pats_seen c (expr_seen c) (parts (ArrowExpr-params t)))
-        (pats_seen d (expr_seen d) (parts (ArrowExpr-params u)))
-        h (or_own_alike r ok p q (ArrowExpr-span t) (ArrowExpr-span u) f (range_to r ok (ArrowExpr-span t) (ArrowExpr-span u) h.span)) (pats_alike ps))
+        (arrow_body_alike x (or_own p (ArrowExpr-span t)) (or_own q (ArrowExpr-span u))
+        (pats_seen c (expr_seen c) (parts (ArrowExpr-params t))) (pats_seen d (expr_seen d) (parts (ArrowExpr-params u)))
+        h (or_own_alike r ok p q (ArrowExpr-span t) (ArrowExpr-span u) f (range_to r ok (ArrowExpr-span t) (ArrowExpr-span u) h.span))
+        (pats_alike ps))
 
-    exprs_alike : {ts us : List Tree} → SameExprs r c d ts us → AllAlike r ok (map (λ x. expr_seen c x None) ts) (map (λ x. expr_seen d x None) us)
+    exprs_alike : {ts us : List Tree} → SameExprs r c d ts us →
+        AllAlike r ok (map (λ x. expr_seen c x None) ts) (map (λ x. expr_seen d x None) us)
     exprs_alike s.no_exprs = refl
     exprs_alike (s.next_expr x xs) = ap₂ (λ y ys. y ∷ ys) (expr_alike x None None refl) (exprs_alike xs)
 
-    arrow_body_alike : {t u : Tree} → SameArrowBody r c d t u → (p q : SourceRange) (pats pats' : List Seen) → SameArrowHead r c d t u → RangeAlike r ok p q →
+    arrow_body_alike : {t u : Tree} → SameArrowBody r c d t u → (p q : SourceRange) (pats pats' : List Seen) → SameArrowHead r c d t u →
+        RangeAlike r ok p q →
         AllAlike r ok pats pats' →
         Alike r ok (arrow_by_type c (expr_seen c) t p pats) (arrow_by_type d (expr_seen d) u q pats')
     arrow_body_alike (s.typed_arrow {t = t} {u = u} w) p q pats pats' h e ps = typed_alike r ok c d (expr_seen c) (expr_seen d) t u p q pats pats' h e ps w
@@ -152,15 +165,18 @@ module _ (r : Renaming) (ok : IsRenaming r) (c d : Bindings) (pair : SameBinding
         let f : b ≡ b' = ap₂ ◌&&◌ (optional_alike x) (all_optional_params xs) in
         ap₂ (λ y ys. y ∷ ys)
         (param_alike r ok c d t u (pat_seen c (expr_seen c) b (Param-pat t)) (pat_seen d (expr_seen d) b' (Param-pat u)) a
-        (subst (λ z. Alike r ok (pat_seen c (expr_seen c) b (Param-pat t)) (pat_seen d (expr_seen d) z (Param-pat u))) f (pat_alike x b))) (params_alike xs)
+        (subst (λ z. Alike r ok (pat_seen c (expr_seen c) b (Param-pat t)) (pat_seen d (expr_seen d) z (Param-pat u))) f (pat_alike x b)))
+        (params_alike xs)
 
-    pub pats_alike : {ts us : List Tree} → SamePats r c d ts us → AllAlike r ok (pats_seen c (expr_seen c) ts) (pats_seen d (expr_seen d) us)
+    pub pats_alike : {ts us : List Tree} → SamePats r c d ts us →
+        AllAlike r ok (pats_seen c (expr_seen c) ts) (pats_seen d (expr_seen d) us)
     pats_alike s.no_pats = refl
     pats_alike (s.next_pat {t = t} {u = u} {ts = ts} {us = us} x xs) =
         let b = list_all is_optional_param (t ∷ ts) in
         let b' = list_all is_optional_param (u ∷ us) in
         let f : b ≡ b' = ap₂ ◌&&◌ (optional_alike x) (all_optional_pats xs) in
-        ap₂ (λ y ys. y ∷ ys) (subst (λ z. Alike r ok (pat_seen c (expr_seen c) b t) (pat_seen d (expr_seen d) z u)) f (pat_alike x b)) (pats_alike xs)
+        ap₂ (λ y ys. y ∷ ys) (subst (λ z. Alike r ok (pat_seen c (expr_seen c) b t) (pat_seen d (expr_seen d) z u)) f (pat_alike x b))
+        (pats_alike xs)
 
     pub pat_alike : {t u : Tree} → SamePat r c d t u → (b : Bool) → Alike r ok (pat_seen c (expr_seen c) b t) (pat_seen d (expr_seen d) b u)
     pat_alike (s.bare {t = t} {u = u} k e) b = bare_alike r ok c d (expr_seen c) (expr_seen d) b t u k e
@@ -179,6 +195,7 @@ module _ (r : Renaming) (ok : IsRenaming r) (c d : Bindings) (pair : SameBinding
       SameArrowBody r c d t u →
       (p q : Option SourceRange) → PlaceAlike r ok p q → Alike r ok (arrow_seen c (expr_seen c) p t) (arrow_seen d (expr_seen d) q u)
   arrow_alike {t} {u} h ps x p q f =
-      arrow_body_alike x (or_own p (ArrowExpr-span t)) (or_own q (ArrowExpr-span u)) (pats_seen c (expr_seen c) (parts (ArrowExpr-params t)))
-      (pats_seen d (expr_seen d) (parts (ArrowExpr-params u)))
-      h (or_own_alike r ok p q (ArrowExpr-span t) (ArrowExpr-span u) f (range_to r ok (ArrowExpr-span t) (ArrowExpr-span u) h.span)) (pats_alike ps)
+      arrow_body_alike x (or_own p (ArrowExpr-span t)) (or_own q (ArrowExpr-span u))
+      (pats_seen c (expr_seen c) (parts (ArrowExpr-params t))) (pats_seen d (expr_seen d) (parts (ArrowExpr-params u)))
+      h (or_own_alike r ok p q (ArrowExpr-span t) (ArrowExpr-span u) f (range_to r ok (ArrowExpr-span t) (ArrowExpr-span u) h.span))
+      (pats_alike ps)

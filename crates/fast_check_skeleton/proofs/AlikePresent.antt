@@ -2,7 +2,8 @@
 use Rattle.std.specs.Prelude.{◌≡◌, None, true, false, ◌||◌, not, refl}
 use Rattle.std.proofs.Common.{ap, ◌∙◌, sym, true≢false}
 use Rattle.fast_check_syntax.specs.declared.kind.Kind.{Kind}
-use Rattle.fast_check_syntax.specs.declared.kind.Kind.TheVariants.{Leaf, CallExpr, NewExpr, TsSatisfiesExpr, TsAsExpr, TsTypeAssertion, FnExpr, ArrowExpr}
+use Rattle.fast_check_syntax.specs.declared.kind.Kind.TheVariants.{Leaf, CallExpr, NewExpr, TsSatisfiesExpr, TsAsExpr, TsTypeAssertion}
+use Rattle.fast_check_syntax.specs.declared.kind.Kind.TheVariants.{FnExpr, ArrowExpr}
 use Rattle.fast_check_syntax.specs.declared.source.SyntaxContext.{SyntaxContext}
 use Rattle.fast_check_syntax.specs.declared.tree.Tree.{Tree}
 use Rattle.fast_check_syntax.specs.Shape.{◌is◌, is_kind, not_absent, kind_of, is_absent}
@@ -12,7 +13,8 @@ use Rattle.fast_check_syntax.proofs.Same.{tree_to}
 use Rattle.fast_check_helpers.specs.declared.literal_type.DeclMutabilityKind.{DeclMutabilityKind}
 use Rattle.fast_check_helpers.specs.InferredType.{inferred_form, inferred_type}
 use Rattle.fast_check_signatures.specs.Bindings.{Bindings}
-use Rattle.fast_check_signatures.specs.Expressions.{is_plain, is_compound, is_among, other_kinds, freezes, is_frozen, makes_plain, is_made, is_known, is_refused}
+use Rattle.fast_check_signatures.specs.Expressions.{is_plain, is_compound, is_among, other_kinds, freezes, is_frozen, makes_plain, is_made}
+use Rattle.fast_check_signatures.specs.Expressions.{is_known, is_refused}
 use Rattle.fast_check_signatures.proofs.Choices.{both_true}
 use Rattle.fast_check_skeleton.specs.SameValues.{Both, SameExpr}
 use Rattle.fast_check_skeleton.specs.SameValues as v
@@ -34,7 +36,8 @@ compound_there k e l = true≢false (sym e ∙ ap is_compound l)
 
 refused_there : (c : Bindings) (t : Tree) → is_refused c t ≡ true → is_absent t ≡ false
 refused_there c t e = there t (kind_of t) refl
-    (λ l. true≢false (sym e ∙ ap (λ k. not (is_plain k || (is_compound (kind_of t) || (is_among other_kinds (kind_of t) || is_known c t)))) l))
+    (λ l. true≢false
+    (sym e ∙ ap (λ k. not (is_plain k || (is_compound (kind_of t) || (is_among other_kinds (kind_of t) || is_known c t)))) l))
 
 frozen_there : (c : Bindings) (t : Tree) → is_frozen c t ≡ true → is_absent t ≡ false
 frozen_there c t e = there t CallExpr (is_kind (kind_of t) CallExpr (both_true (kind_of t is CallExpr) (freezes c t) e).0) (λ l. cc)

@@ -1,6 +1,6 @@
 -- What stands without a fault is in the grammar: expressions that may stay, functions, arrows and parameters.
-use Rattle.std.specs.Prelude.{◌≡◌, ℕ, suc, Bool, true, false, ◌&&◌, is_some, IfSome, Option, None, List, [], ◌∷◌, map, slice_get, unwrap_or, refl, codes}
-use Rattle.std.specs.Prelude.{if◌then◌else◌}
+use Rattle.std.specs.Prelude.{◌≡◌, ℕ, suc, Bool, true, false, ◌&&◌, is_some, IfSome, Option, None, List, [], ◌∷◌, map, slice_get, unwrap_or}
+use Rattle.std.specs.Prelude.{refl, codes, if◌then◌else◌}
 use Rattle.std.proofs.Common.{ap, ap₂, ◌∙◌, sym, subst}
 use Rattle.fast_check_syntax.specs.declared.kind.Kind.{Kind}
 use Rattle.fast_check_syntax.specs.declared.kind.Kind.TheVariants as kinds
@@ -22,8 +22,8 @@ use Rattle.fast_check_signatures.specs.Seen.{Seen, round, refused, seens}
 use Rattle.fast_check_signatures.specs.NewNodes.{never_in_parens}
 use Rattle.fast_check_signatures.specs.Parameters.{Look, pat_seen, pats_seen}
 use Rattle.fast_check_signatures.specs.Functions.{or_own, is_setter, function_seen, implementation_seen, arrow_seen}
-use Rattle.fast_check_signatures.specs.Expressions.{is_plain, is_compound, freezes, makes_plain, is_made, known_by_kind, is_known, Rule, slotted, other_rule}
-use Rattle.fast_check_signatures.specs.Expressions.{slot_seen, slots_seen, by_rule, expr_form, expr_seen}
+use Rattle.fast_check_signatures.specs.Expressions.{is_plain, is_compound, freezes, makes_plain, is_made, known_by_kind, is_known, Rule}
+use Rattle.fast_check_signatures.specs.Expressions.{slotted, other_rule, slot_seen, slots_seen, by_rule, expr_form, expr_seen}
 use Rattle.fast_check_signatures.specs.Answers.{answer_to, parts_answer, answer_of}
 use Rattle.fast_check_signatures.proofs.Choices.{of_choice}
 use Rattle.fast_check_skeleton.specs.TypedGrammar.{IsLeavable, AllLeavable, IsTypedFunction, IsTypedPat, AllTypedPats}
@@ -43,7 +43,8 @@ is_freeze bindings t = go (is_global_member (codes "Object") (codes "freeze") bi
     go false e = cc
 
 -- what is made of the same class, without type arguments, is known as that is
-made_is : (bindings : Bindings) (u t : Tree) → kind_of u ≡ kinds.NewExpr → NewExpr-callee u ≡ NewExpr-callee t → NewExpr-type_args u ≡ NewExpr-type_args t →
+made_is : (bindings : Bindings) (u t : Tree) → kind_of u ≡ kinds.NewExpr → NewExpr-callee u ≡ NewExpr-callee t →
+    NewExpr-type_args u ≡ NewExpr-type_args t →
     makes_plain bindings t ≡ true → is_made bindings u ≡ true
 made_is bindings u t e callee type_args f =
     ap (λ k. (k is kinds.NewExpr) && makes_plain bindings u) e
@@ -66,8 +67,8 @@ module _ (bindings : Bindings) where
 
     parts_stay : (kind : Kind) (ts : List Tree) → is_compound kind ≡ true → StaysLeavable (round kind (seens (map (λ p. look p None) ts)))
     parts_stay kind ts e = round_stays kind (AllLeavable bindings) Leavable
-        (λ us h. IsLeavable.compound (ap is_compound (kind_of_node kind us) ∙ e) (subst (AllLeavable bindings) (sym (parts_node kind us)) h))
-        (parts_answer (seens (map (λ p. look p None) ts))) (all_stay ts)
+        (λ us h. IsLeavable.compound (ap is_compound (kind_of_node kind us) ∙ e)
+        (subst (AllLeavable bindings) (sym (parts_node kind us)) h)) (parts_answer (seens (map (λ p. look p None) ts))) (all_stay ts)
 
     -- what stands for a part, and for each of the parts from a place on
     abbrev Fits : Slot → Tree → Tree → Type 0
@@ -102,18 +103,22 @@ module _ (bindings : Bindings) where
 
     -- a node whose parts fit the slots is in the grammar
     slotted_stays : (row : List Slot) (kind : Kind) (t : Tree) (place : Option SourceRange) →
-        ((u : Tree) → kind_of u ≡ kind → AllFit t row 0 (λ n. part n u) → Leavable u) → StaysLeavable (by_rule bindings (slotted row) kind t look place)
+        ((u : Tree) → kind_of u ≡ kind → AllFit t row 0 (λ n. part n u) → Leavable u) →
+        StaysLeavable (by_rule bindings (slotted row) kind t look place)
     slotted_stays row kind t place made = round_stays kind (λ us. AllFit t row 0 (at us)) Leavable
         (λ us fit. made (tree.Node kind us) (kind_of_node kind us) (subst (λ us. AllFit t row 0 (at us)) (sym (parts_node kind us)) fit))
         (parts_answer (seens (slots_seen bindings row 0 t look place))) (slots_stay place t row 0)
 
     kind_stays : (kind : Kind) (b : Bool) (t : Tree) (place : Option SourceRange) → known_by_kind kind bindings t ≡ b →
         StaysLeavable (by_rule bindings (other_rule kind b) kind t look place)
-    kind_stays kinds.TsSatisfiesExpr b t place f = slotted_stays SATISFIES kinds.TsSatisfiesExpr t place (λ u e h. IsLeavable.satisfies e h.1.0)
+    kind_stays kinds.TsSatisfiesExpr b t place f = slotted_stays SATISFIES kinds.TsSatisfiesExpr t place
+        (λ u e h. IsLeavable.satisfies e h.1.0)
     kind_stays kinds.TsAsExpr b t place f = slotted_stays ASSERTION kinds.TsAsExpr t place (λ u e h. IsLeavable.as_type e h.1.0)
-    kind_stays kinds.TsTypeAssertion b t place f = slotted_stays ASSERTION kinds.TsTypeAssertion t place (λ u e h. IsLeavable.assertion e h.1.0)
+    kind_stays kinds.TsTypeAssertion b t place f = slotted_stays ASSERTION kinds.TsTypeAssertion t place
+        (λ u e h. IsLeavable.assertion e h.1.0)
     kind_stays kinds.CallExpr true t place f = slotted_stays FREEZE kinds.CallExpr t place
-        (λ u e h. IsLeavable.frozen e (ap (is_global_member (codes "Object") (codes "freeze") bindings.unresolved) h.1.1.0 ∙ is_freeze bindings t f) h.1.1.1.0)
+        (λ u e h. IsLeavable.frozen e
+        (ap (is_global_member (codes "Object") (codes "freeze") bindings.unresolved) h.1.1.0 ∙ is_freeze bindings t f) h.1.1.1.0)
     kind_stays kinds.NewExpr true t place f = slotted_stays NEW kinds.NewExpr t place
         (λ u e h. IsLeavable.made (made_is bindings u t e h.1.1.0 h.1.1.1.1.0 f) h.1.1.1.0)
     kind_stays kinds.FnExpr b t place f = slotted_stays FN_EXPR kinds.FnExpr t place (λ u e h. IsLeavable.function e h.1.0)
@@ -133,7 +138,8 @@ module _ (bindings : Bindings) where
   -- what stays of an expression gives its type, if nothing in it is at fault
   pub expr_stays : (t : Tree) (place : Option SourceRange) → StaysLeavable (look t place)
   unfolding expr_seen
-  expr_stays = by_descent_holds (λ place. refused) (expr_form bindings) (λ f. (place : Option SourceRange) → StaysLeavable (f place)) (λ place f. tt)
+  expr_stays =
+      by_descent_holds (λ place. refused) (expr_form bindings) (λ f. (place : Option SourceRange) → StaysLeavable (f place)) (λ place f. tt)
       (λ t given stays. form_stays given stays t)
 
   -- what stays of a function, an arrow or a parameter is typed, if nothing in it is at fault

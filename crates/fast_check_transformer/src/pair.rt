@@ -1,3 +1,5 @@
+//! Two modules of one graph, each answered, with the law of two worlds.
+
 ghost use Rattle.std.specs.Prelude.{IfOk};
 ghost use Rattle.fast_check_modules.specs.EsModule.{Admits};
 ghost use Rattle.fast_check_transformer.specs.Transformed.{IsTransformed};

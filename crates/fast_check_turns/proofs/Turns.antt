@@ -101,7 +101,8 @@ pub entered_at : (k : Known) (nv : Nv) (a b : State) (old new : List Yield) → 
     IsEntered (world k) (gives k) nv a b old new
 entered_at k nv a b old new h = record { outer = h.0; wants = h.1; asks = h.2; new_is = h.3 }
 
-pub followed_one : (k : Known) (x : Trace) (info : ModuleInfo) → info_at k.graph k.root_symbol x.specifier ≡ Some info → (outer : List OuterWant)
+pub followed_one : (k : Known) (x : Trace) (info : ModuleInfo) → info_at k.graph k.root_symbol x.specifier ≡ Some info →
+    (outer : List OuterWant)
     (given : List Yield) → IsTracedFor k (traced_as k info) x (map want_of outer) given → (a b : State) → AsksAll outer a b →
     (old new : List Yield) →
     new ≡ old ++ given → IsFollowed (world k) (gives k) x a b old new

@@ -1,3 +1,4 @@
+//! Types that are computed from others, and predicates. Each form with its fields by their names.
 // Written by forms/write.py from forms/forms.txt.
 
 ghost use Rattle.std.specs.Prelude.{◌≡◌, IfOk};

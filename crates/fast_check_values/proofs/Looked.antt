@@ -1,5 +1,6 @@
 -- What is seen of expressions and of defaults, by what the code asks of them.
-use Rattle.std.specs.Prelude.{◌≡◌, ℕ, ◌+◌, ◌<◌, Bool, true, false, Option, Some, None, List, map, drop, length, option_map, refl, if◌then◌else◌}
+use Rattle.std.specs.Prelude.{◌≡◌, ℕ, ◌+◌, ◌<◌, Bool, true, false, Option, Some, None, List, map, drop, length, option_map, refl}
+use Rattle.std.specs.Prelude.{if◌then◌else◌}
 use Rattle.std.proofs.Common.{ap, ◌∙◌, sym, get_or, add-one}
 use Rattle.std.proofs.Math.Seq.{drop-cons}
 use Rattle.std.specs.List.{list_all}
@@ -20,8 +21,8 @@ use Rattle.fast_check_signatures.specs.Bindings.{Bindings}
 use Rattle.fast_check_signatures.specs.Seen.{Seen, written, faulty, round, refused, seens}
 use Rattle.fast_check_signatures.specs.NewNodes.{never_array}
 use Rattle.fast_check_signatures.specs.Functions.{arrow_seen, param_seen}
-use Rattle.fast_check_signatures.specs.Expressions.{is_compound, is_plain, is_known, Rule, whole, parted, slotted, arrow, not_at_all, other_rule, rule}
-use Rattle.fast_check_signatures.specs.Expressions.{by_rule, slot_seen, slots_seen, expr_seen}
+use Rattle.fast_check_signatures.specs.Expressions.{is_compound, is_plain, is_known, Rule, whole, parted, slotted, arrow, not_at_all}
+use Rattle.fast_check_signatures.specs.Expressions.{other_rule, rule, by_rule, slot_seen, slots_seen, expr_seen}
 use Rattle.fast_check_signatures.specs.Answers.{answer_to, answer_of, joined, parts_answer, visited, with_tree}
 use Rattle.fast_check_signatures.specs.Parameters.{emptied_array, emptied_object, default_seen, without_default, by_shown, assign_by_left}
 use Rattle.fast_check_signatures.specs.Parameters.{assign_seen, pat_by_kind, pat_seen, pats_seen}
@@ -42,7 +43,8 @@ not_arrow k other e = let h : true ≡ false = sym (ap (λ x. x is kinds.ArrowEx
 -- ---- the next of a list, in a loop
 
 pub next_part : (look : Tree → Seen) (ts : List Tree) (i : ℕ) (d : Tree) → i < length ts →
-    parts_answer (seens (map look (drop i ts))) ≡ visited (answer_to (look (get_or ts i d))) (parts_answer (seens (map look (drop (i + 1) ts))))
+    parts_answer (seens (map look (drop i ts))) ≡
+    visited (answer_to (look (get_or ts i d))) (parts_answer (seens (map look (drop (i + 1) ts))))
 next_part look ts i d h = rw (add-one, drop-cons ts i d) refl
 
 pub next_slot : (bindings : Bindings) (t : Tree) (place : Option SourceRange) (row : List Slot) (i : ℕ) (d : Slot) → i < length row →
@@ -59,7 +61,8 @@ next_pat bindings pats i d h = rw (add-one, drop-cons pats i d) refl
 
 pub next_param : (bindings : Bindings) (params : List Tree) (i : ℕ) (d : Tree) → i < length params →
     answer_of (params_looked bindings (drop i params)) ≡
-    joined with_tree (answer_to (param_seen (get_or params i d) (pat_seen bindings (expr_seen bindings) (list_all is_optional_param (patterns (drop i params)))
+    joined with_tree (answer_to
+    (param_seen (get_or params i d) (pat_seen bindings (expr_seen bindings) (list_all is_optional_param (patterns (drop i params)))
     (Param-pat (get_or params i d)))))
     (answer_of (params_looked bindings (drop (i + 1) params)))
 next_param bindings params i d h = rw (add-one, drop-cons params i d) refl
@@ -130,7 +133,8 @@ module _ (bindings : Bindings) (b : Bool) (t : Tree) where
 
   ident_typed : (type : Tree) (absent : Bool) (shown : Option Tree) →
       (if absent then option_map type_ann shown else Some (BindingIdent-type_ann (AssignPat-left t))) ≡ Some type →
-      (if absent then by_shown bindings (expr_seen bindings) b t shown else typed_ident (BindingIdent-type_ann (AssignPat-left t))) ≡ typed_ident type
+      (if absent then by_shown bindings (expr_seen bindings) b t shown else typed_ident (BindingIdent-type_ann (AssignPat-left t))) ≡
+      typed_ident type
   ident_typed type true (Some shown) d = ap typed_ident cc
   ident_typed type true None d = cc
   ident_typed type false shown d = ap typed_ident cc
@@ -184,10 +188,12 @@ none_of (Some t) without = absurd (without t refl)
 -- ---- patterns of other kinds
 
 module _ (bindings : Bindings) (b : Bool) (t : Tree) where
-  pub seen_by_kind : (k : Kind) → kind_of t ≡ k → pat_seen bindings (expr_seen bindings) b t ≡ pat_by_kind bindings (expr_seen bindings) k b t
+  pub seen_by_kind : (k : Kind) → kind_of t ≡ k →
+      pat_seen bindings (expr_seen bindings) b t ≡ pat_by_kind bindings (expr_seen bindings) k b t
   seen_by_kind k e = ap (λ k. pat_by_kind bindings (expr_seen bindings) k b t) e
 
-  pub other_pat : (k : Kind) → (k ≡ kinds.BindingIdent → ⊥) → (k ≡ kinds.AssignPat → ⊥) → (k ≡ kinds.RestPat → ⊥) → (k ≡ kinds.ArrayPat → ⊥) →
+  pub other_pat : (k : Kind) → (k ≡ kinds.BindingIdent → ⊥) → (k ≡ kinds.AssignPat → ⊥) → (k ≡ kinds.RestPat → ⊥) →
+      (k ≡ kinds.ArrayPat → ⊥) →
       (k ≡ kinds.ObjectPat → ⊥) → pat_by_kind bindings (expr_seen bindings) k b t ≡ faulty UnsupportedDestructuring (range_of_node t)
   other_pat kinds.BindingIdent n1 n2 n3 n4 n5 = absurd (n1 refl)
   other_pat kinds.AssignPat n1 n2 n3 n4 n5 = absurd (n2 refl)

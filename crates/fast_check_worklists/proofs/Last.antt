@@ -93,7 +93,8 @@ module _ {Y : Type 0} (world : World) (gives : Demand → List Y) (owner : Text 
     by_trace : (after : ℕ) → IsTraced world gives next after a b old new → IsLater after
     unfolding left
     by_trace after t =
-        let f = followed world roots u is gives owner orderly done next a b t.trace old new way t.mid t.waits t.handled t.packages t.followed in
+        let f =
+        followed world roots u is gives owner orderly done next a b t.trace old new way t.mid t.waits t.handled t.packages t.followed in
         record {
           traces = done ++ record { trace = t.trace; symbols = t.followed.symbols } ∷ [];
           next_way =

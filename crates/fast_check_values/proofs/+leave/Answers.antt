@@ -354,7 +354,8 @@ functions::transform_fn-returns t c =
 
 -- ---- patterns by their kind
 
-pub parameters::transform_param_pat-returns-in_ok-to_tree-in-BindingIdent : goal.parameters::transform_param_pat-returns-in_ok-to_tree-in-BindingIdent
+pub parameters::transform_param_pat-returns-in_ok-to_tree-in-BindingIdent :
+    goal.parameters::transform_param_pat-returns-in_ok-to_tree-in-BindingIdent
 parameters::transform_param_pat-returns-in_ok-to_tree-in-BindingIdent t c =
     let kind = sym c.kind.ensures ∙ c.in-BindingIdent.is in
     let at = c.of-in-BindingIdent.ensures.span ∙ ap Ident-span c.of.ensures.id in
@@ -363,7 +364,8 @@ parameters::transform_param_pat-returns-in_ok-to_tree-in-BindingIdent t c =
     (ap answer_to (seen_by_kind (bindings_of c.args.info.now) c.args.is_optional (seen c.args.pat) kinds.BindingIdent kind) ∙
     sym (λ i. answer_to (typed (c.of.ensures.type_ann i) (at i) (c.in_ok-to_tree-in-BindingIdent.ensures i)))) h) c.typed.ensures
 
-pub parameters::transform_param_pat-returns-in_ok-emptied_array-in-ArrayPat : goal.parameters::transform_param_pat-returns-in_ok-emptied_array-in-ArrayPat
+pub parameters::transform_param_pat-returns-in_ok-emptied_array-in-ArrayPat :
+    goal.parameters::transform_param_pat-returns-in_ok-emptied_array-in-ArrayPat
 parameters::transform_param_pat-returns-in_ok-emptied_array-in-ArrayPat t c =
     let kind = sym c.kind.ensures ∙ c.in-ArrayPat.is in
     let of = c.of-in-ArrayPat.ensures in
@@ -372,7 +374,8 @@ parameters::transform_param_pat-returns-in_ok-emptied_array-in-ArrayPat t c =
     (ap answer_to (seen_by_kind (bindings_of c.args.info.now) c.args.is_optional (seen c.args.pat) kinds.ArrayPat kind) ∙
     sym (λ i. answer_to (typed (of.type_ann i) (of.span i) (c.in_ok-emptied_array-in-ArrayPat.ensures i)))) h) c.typed-in-ArrayPat.ensures
 
-pub parameters::transform_param_pat-returns-in_ok-emptied_object-in-ObjectPat : goal.parameters::transform_param_pat-returns-in_ok-emptied_object-in-ObjectPat
+pub parameters::transform_param_pat-returns-in_ok-emptied_object-in-ObjectPat :
+    goal.parameters::transform_param_pat-returns-in_ok-emptied_object-in-ObjectPat
 parameters::transform_param_pat-returns-in_ok-emptied_object-in-ObjectPat t c =
     let kind = sym c.kind.ensures ∙ c.in-ObjectPat.is in
     let of = c.of-in-ObjectPat.ensures in
@@ -382,7 +385,8 @@ parameters::transform_param_pat-returns-in_ok-emptied_object-in-ObjectPat t c =
     sym (λ i. answer_to
     (typed (of.type_ann i) (of.span i) (c.in_ok-emptied_object-in-ObjectPat.ensures i)))) h) c.typed-in-ObjectPat.ensures
 
-pub parameters::transform_assign_pat-returns-in_ok-left-in-BindingIdent : goal.parameters::transform_assign_pat-returns-in_ok-left-in-BindingIdent
+pub parameters::transform_assign_pat-returns-in_ok-left-in-BindingIdent :
+    goal.parameters::transform_assign_pat-returns-in_ok-left-in-BindingIdent
 parameters::transform_assign_pat-returns-in_ok-left-in-BindingIdent t c =
     let u = bindings_of c.args.info.now in
     let pat = seen c.args.pat in
@@ -411,7 +415,8 @@ parameters::transform_assign_pat-returns-then-is_absent t c =
     (default_seen (AssignPat-span pat) ((of.span ∙ ap ArrayPat-span left) i) ((c.in_ok-left-in-ArrayPat.ensures ∙ ap emptied_array left) i)
     (expr_seen u (AssignPat-right pat) None)))) h) c.leave_default-then-is_absent.ensures
 
-pub parameters::transform_assign_pat-returns-in_ok-never_array-in-ArrayPat : goal.parameters::transform_assign_pat-returns-in_ok-never_array-in-ArrayPat
+pub parameters::transform_assign_pat-returns-in_ok-never_array-in-ArrayPat :
+    goal.parameters::transform_assign_pat-returns-in_ok-never_array-in-ArrayPat
 parameters::transform_assign_pat-returns-in_ok-never_array-in-ArrayPat t c =
     let u = bindings_of c.args.info.now in
     let pat = seen c.args.pat in
@@ -440,7 +445,8 @@ parameters::transform_assign_pat-returns-then-is_absent-2 t c =
     ((c.in_ok-left-in-ObjectPat.ensures ∙ ap emptied_object left) i)
     (expr_seen u (AssignPat-right pat) None)))) h) c.leave_default-then-is_absent-2.ensures
 
-pub parameters::transform_assign_pat-returns-in_ok-never_value-in-ObjectPat : goal.parameters::transform_assign_pat-returns-in_ok-never_value-in-ObjectPat
+pub parameters::transform_assign_pat-returns-in_ok-never_value-in-ObjectPat :
+    goal.parameters::transform_assign_pat-returns-in_ok-never_value-in-ObjectPat
 parameters::transform_assign_pat-returns-in_ok-never_value-in-ObjectPat t c =
     let u = bindings_of c.args.info.now in
     let pat = seen c.args.pat in

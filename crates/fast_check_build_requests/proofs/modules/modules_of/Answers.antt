@@ -7,8 +7,8 @@ use Rattle.fast_check_build_requests.proofs.modules.modules_of.Goals as goal
 
 pub loop-name-init : goal.loop-name-init
 loop-name-init c =
-    begins c.args.modules.items c.into_iter-name-iterator.result.rest.items c.new-made.result.items c.into_iter-name-iterator.ensures.into_iter_gives.0
-    c.new-made.ensures.items
+    begins c.args.modules.items c.into_iter-name-iterator.result.rest.items c.new-made.result.items
+    c.into_iter-name-iterator.ensures.into_iter_gives.0 c.new-made.ensures.items
 
 pub returns-in_err-module-clause-fault : goal.returns-in_err-module-clause-fault
 returns-in_err-module-clause-fault c =

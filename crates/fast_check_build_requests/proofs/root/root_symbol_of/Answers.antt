@@ -14,17 +14,17 @@ pub returns-clause-made : goal.returns-clause-made
 returns-clause-made c =
     IfOk-weaker c.new.result (IsRootOf c.in_ok-modules.modules c.in_ok-aliases.aliases)
     (IsRootOfParts c.args.modules.items c.args.aliases.items)
-    (root_of c.args.modules.items c.in_ok-modules_of.field-0.items c.in_ok-modules_of.ensures.made c.in_ok-modules.modules c.in_ok-modules.ensures
-    c.args.aliases.items c.in_ok-aliases.aliases c.in_ok-aliases.ensures) c.new.ensures.made
+    (root_of c.args.modules.items c.in_ok-modules_of.field-0.items c.in_ok-modules_of.ensures.made c.in_ok-modules.modules
+    c.in_ok-modules.ensures c.args.aliases.items c.in_ok-aliases.aliases c.in_ok-aliases.ensures) c.new.ensures.made
 
 pub returns-clause-own_names : goal.returns-clause-own_names
 returns-clause-own_names c =
     on_ok_weaker c.new.result
-    (own_names c.args.modules.items c.in_ok-modules_of.field-0.items c.in_ok-modules_of.ensures.made c.in_ok-modules.modules c.in_ok-modules.ensures)
-    c.new.ensures.own_names
+    (own_names c.args.modules.items c.in_ok-modules_of.field-0.items c.in_ok-modules_of.ensures.made c.in_ok-modules.modules
+    c.in_ok-modules.ensures) c.new.ensures.own_names
 
 pub returns-clause-fault : goal.returns-clause-fault
 returns-clause-fault c =
     IfErr-weaker c.new.result (IsRootFault c.in_ok-modules.modules) (IsBuildFault c.args.modules.items)
-    (root_fault c.args.modules.items c.in_ok-modules_of.field-0.items c.in_ok-modules_of.ensures.made c.in_ok-modules.modules c.in_ok-modules.ensures)
-    c.new.ensures.fault
+    (root_fault c.args.modules.items c.in_ok-modules_of.field-0.items c.in_ok-modules_of.ensures.made c.in_ok-modules.modules
+    c.in_ok-modules.ensures) c.new.ensures.fault

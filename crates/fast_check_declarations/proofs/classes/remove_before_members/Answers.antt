@@ -38,7 +38,7 @@ loop-member-preserved c =
 
 pub returns : goal.returns
 returns c =
-    all_removed c.parts-member-items.result.now c.loop-member.member-index c.loop-member-test.false c.loop-member.invariant.0 c.loop-member.comments
-    c.loop-member.invariant.1.1
+    all_removed c.parts-member-items.result.now c.loop-member.member-index c.loop-member-test.false c.loop-member.invariant.0
+    c.loop-member.comments c.loop-member.invariant.1.1
     ∙ ap (λ (ms : List Tree). without_all_leading (starts_left [] ms) c.args.comments.now)
     (c.parts-member-items.ensures ∙ ap parts c.of.ensures.body)

@@ -42,5 +42,6 @@ push_each-loop-inner-preserved t c =
 pub push_each-returns : goal.push_each-returns
 push_each-returns t c =
     let found = references c.args.scope (exports_name (option_copied c.args.symbol)) in
-    each_all found c.parts-inner-items.result.now c.loop-inner.inner-index c.args.out.now.items c.loop-inner-test.false c.loop-inner.invariant
+    each_all found c.parts-inner-items.result.now c.loop-inner.inner-index c.args.out.now.items c.loop-inner-test.false
+    c.loop-inner.invariant
     ∙ ap (λ (ts : List Tree). c.args.out.now.items ++ flat_map found ts) c.parts-inner-items.ensures

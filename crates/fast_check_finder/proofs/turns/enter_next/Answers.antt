@@ -21,7 +21,8 @@ returns-clause-turned g c =
       here = get_or-map nv_of c.args.progress.now.worklist.packages.keys c.args.next c.index.result.now (nv_of c.in_ok-nv.nv)
           (omega (arith, c.if-next-len.false, c.len.ensures)) ∙
           (ap nv_of
-          (get_or_from_slice_get c.args.progress.now.worklist.packages.keys c.args.next c.index.result.now c.index.result.now c.index.ensures)
+          (get_or_from_slice_get c.args.progress.now.worklist.packages.keys c.args.next c.index.result.now c.index.result.now
+          c.index.ensures)
           ∙ sym c.in_ok-nv.ensures);
       entered = c.in_ok-enter.ensures.entered;
       next_is = refl;
@@ -38,5 +39,5 @@ returns-in_err-enter-clause-refused g c =
     (IsRefusedOf k (map nv_of c.args.progress.now.worklist.packages.keys)) c.from_residual-in_err-enter.ensures.1
     (refused_of k c.args.progress.now.worklist.packages.keys c.args.next c.index.result.now (nv_of c.in_ok-nv.nv)
     (omega (arith, c.if-next-len.false, c.len.ensures))
-    (sym (get_or_from_slice_get c.args.progress.now.worklist.packages.keys c.args.next c.index.result.now c.index.result.now c.index.ensures)) c.in_ok-nv.ensures
-    f c.in_err-enter.ensures.refused)
+    (sym (get_or_from_slice_get c.args.progress.now.worklist.packages.keys c.args.next c.index.result.now c.index.result.now
+    c.index.ensures)) c.in_ok-nv.ensures f c.in_err-enter.ensures.refused)

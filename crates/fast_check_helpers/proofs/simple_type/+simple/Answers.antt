@@ -93,11 +93,13 @@ are_simple_types-is_simple_type-requires t c =
 
 pub are_simple_types-returns-then-not-is_simple_type : goal.are_simple_types-returns-then-not-is_simple_type
 are_simple_types-returns-then-not-is_simple_type t c =
-    one_fails _ _ _ _ c.parts-ty-items.ensures c.loop-ty-test.true c.ty-item.is c.read.ensures c.is_simple_type.ensures c.if-not-is_simple_type.true
+    one_fails _ _ _ _ c.parts-ty-items.ensures c.loop-ty-test.true c.ty-item.is c.read.ensures c.is_simple_type.ensures
+    c.if-not-is_simple_type.true
 
 pub are_simple_types-loop-ty-preserved : goal.are_simple_types-loop-ty-preserved
 are_simple_types-loop-ty-preserved t c =
-    one_passes _ _ _ c.loop-ty-test.true c.ty-item.is c.read.ensures c.loop-ty.invariant c.is_simple_type.ensures c.if-not-is_simple_type.false
+    one_passes _ _ _ c.loop-ty-test.true c.ty-item.is c.read.ensures c.loop-ty.invariant c.is_simple_type.ensures
+    c.if-not-is_simple_type.false
 
 pub are_simple_types-returns : goal.are_simple_types-returns
 are_simple_types-returns t c = all_pass _ _ _ c.parts-ty-items.ensures c.loop-ty-test.false c.loop-ty.invariant

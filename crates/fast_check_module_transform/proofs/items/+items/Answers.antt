@@ -71,9 +71,11 @@ keep_each-loop-item-preserved-then-is_assigned t c =
     let start = ap (λ r. r.start) c.range_of_node.ensures in
     let kept = c.in_ok-keep_assignment.ensures in
     record {
-      answer = one_more_assigned around all i item c.loop-item-test.true here rule c.of.ensures.expr c.loop-item.invariant.answer kept.answer;
+      answer =
+          one_more_assigned around all i item c.loop-item-test.true here rule c.of.ensures.expr c.loop-item.invariant.answer kept.answer;
       properties =
-          more_properties around all i item c.loop-item-test.true here rule c.of.ensures.expr _ c.loop-item.invariant.properties kept.properties;
+          more_properties around all i item c.loop-item-test.true here rule c.of.ensures.expr _ c.loop-item.invariant.properties
+          kept.properties;
       comments = c.remove_leading.ensures ∙ ((λ i. without_leading (start i) (c.loop-item.invariant.comments i))
           ∙ sym (one_more around all i item ((range_of_node item).start ∷ []) c.args.comments.now c.loop-item-test.true here
           (removed_if_assigned around item rule)));

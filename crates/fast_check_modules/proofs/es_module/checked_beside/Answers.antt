@@ -18,4 +18,5 @@ returns-in-Ok-clause-well_formed c =
 pub returns-in-Err-clause-fault : goal.returns-in-Err-clause-fault
 returns-in-Err-clause-fault c =
     let tables = c.in_ok-tables.ensures in
-    unbound_fault c.args.tables c.in_ok-tables.tables c.args.program.now tables.made tables.well_formed c.in-Err.fault c.in-Err.ensures.fault
+    unbound_fault c.args.tables c.in_ok-tables.tables c.args.program.now tables.made tables.well_formed c.in-Err.fault
+    c.in-Err.ensures.fault

@@ -29,11 +29,12 @@ push_each-push_expandos-requires t c = (
 
 pub push_each-loop-inner-preserved : goal.push_each-loop-inner-preserved
 push_each-loop-inner-preserved t c =
-    each_more expandos c.parts-inner-items.result.now c.loop-inner.inner-index c.inner-item.result c.args.out.now.items c.loop-inner-test.true
-    c.inner-item.is c.loop-inner.invariant
+    each_more expandos c.parts-inner-items.result.now c.loop-inner.inner-index c.inner-item.result c.args.out.now.items
+    c.loop-inner-test.true c.inner-item.is c.loop-inner.invariant
     (c.in_ok-push_expandos.ensures ∙ ap (λ (u : Tree). c.loop-inner.out.items ++ expandos u) c.read.ensures)
 
 pub push_each-returns : goal.push_each-returns
 push_each-returns t c =
-    each_all expandos c.parts-inner-items.result.now c.loop-inner.inner-index c.args.out.now.items c.loop-inner-test.false c.loop-inner.invariant
+    each_all expandos c.parts-inner-items.result.now c.loop-inner.inner-index c.args.out.now.items c.loop-inner-test.false
+    c.loop-inner.invariant
     ∙ ap (λ (ts : List Tree). c.args.out.now.items ++ flat_map expandos ts) c.parts-inner-items.ensures

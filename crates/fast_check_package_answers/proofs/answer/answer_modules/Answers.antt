@@ -20,7 +20,8 @@ returns-then-ends_early-clause-reasons c =
     told_all first c.args.input.graph.now c.args.input.root_symbol.now
     (done ++ m ∷ []) c.next.new.self c.args.module_ranges.entries c.add_wrong.new.wrong.items
     last.0 (λ e. last.1 (c.deref.ensures.value ∙ e)) split
-    (told_more first c.args.input.graph.now c.args.input.root_symbol.now done m c.loop-specifier.wrong.items c.in_ok-more.more.items c.add_wrong.new.wrong.items
+    (told_more first c.args.input.graph.now c.args.input.root_symbol.now done m c.loop-specifier.wrong.items c.in_ok-more.more.items
+    c.add_wrong.new.wrong.items
     c.loop-specifier.invariant.goes_on c.loop-specifier.invariant.reasons c.in_ok-more.ensures.reasons c.in_ok-add_wrong.ensures.added)
 
 pub returns-then-ends_early-clause-shown : goal.returns-then-ends_early-clause-shown
@@ -34,10 +35,12 @@ returns-then-ends_early-clause-shown c =
     shows_all first c.args.input.graph.now c.args.input.root_symbol.now
     (done ++ m ∷ []) c.next.new.self c.args.module_ranges.entries c.args.answers.now.items
     c.add_wrong.new.answers.items c.add_wrong.new.wrong.items (λ e. last.1 (c.deref.ensures.value ∙ e)) split
-    (told_more first c.args.input.graph.now c.args.input.root_symbol.now done m c.loop-specifier.wrong.items c.in_ok-more.more.items c.add_wrong.new.wrong.items
+    (told_more first c.args.input.graph.now c.args.input.root_symbol.now done m c.loop-specifier.wrong.items c.in_ok-more.more.items
+    c.add_wrong.new.wrong.items
     c.loop-specifier.invariant.goes_on c.loop-specifier.invariant.reasons c.in_ok-more.ensures.reasons c.in_ok-add_wrong.ensures.added)
     (shows_turn first c.args.input.graph.now c.args.input.root_symbol.now done m c.args.answers.now.items c.loop-specifier.answers.items
-    c.answer_module.new.answers.items c.add_wrong.new.answers.items c.len-answered.result c.loop-specifier.wrong.items c.in_ok-more.more.items
+    c.answer_module.new.answers.items c.add_wrong.new.answers.items c.len-answered.result c.loop-specifier.wrong.items
+    c.in_ok-more.more.items
     c.add_wrong.new.wrong.items c.loop-specifier.invariant.reasons c.in_ok-more.ensures.reasons c.in_ok-add_wrong.ensures.added
     c.in_ok-add_wrong.ensures.kept c.in_ok-add_wrong.ensures.cut
     (c.len-answered.ensures ∙ c.loop-specifier.answers.ok.0) c.in_ok-more.ensures.stay
@@ -54,8 +57,10 @@ loop-specifier-preserved c =
           told_more first c.args.input.graph.now c.args.input.root_symbol.now done m c.loop-specifier.wrong.items c.in_ok-more.more.items
           c.add_wrong.new.wrong.items c.loop-specifier.invariant.goes_on c.loop-specifier.invariant.reasons c.in_ok-more.ensures.reasons
           c.in_ok-add_wrong.ensures.added;
-      shown = shows_turn first c.args.input.graph.now c.args.input.root_symbol.now done m c.args.answers.now.items c.loop-specifier.answers.items
-          c.answer_module.new.answers.items c.add_wrong.new.answers.items c.len-answered.result c.loop-specifier.wrong.items c.in_ok-more.more.items
+      shown = shows_turn first c.args.input.graph.now c.args.input.root_symbol.now done m c.args.answers.now.items
+          c.loop-specifier.answers.items
+          c.answer_module.new.answers.items c.add_wrong.new.answers.items c.len-answered.result c.loop-specifier.wrong.items
+          c.in_ok-more.more.items
           c.add_wrong.new.wrong.items c.loop-specifier.invariant.reasons c.in_ok-more.ensures.reasons c.in_ok-add_wrong.ensures.added
           c.in_ok-add_wrong.ensures.kept c.in_ok-add_wrong.ensures.cut (c.len-answered.ensures ∙ c.loop-specifier.answers.ok.0)
           c.in_ok-more.ensures.stay c.loop-specifier.invariant.shown c.in_ok-more.ensures.shown;

@@ -8,7 +8,8 @@ abbrev pub invariant-loop-specifier : goal.invariant-loop-specifier
 invariant-loop-specifier l = record {
   all : l.yielded ++ l.specifier-iterator ≡ l.fn.module_ranges.entries;
   reasons : AllZip Tells
-      (package_reasons l.input.options.now.should_error_on_first_diagnostic l.input.graph.now l.input.root_symbol.now l.yielded) l.wrong.items;
+      (package_reasons l.input.options.now.should_error_on_first_diagnostic l.input.graph.now l.input.root_symbol.now l.yielded)
+      l.wrong.items;
   shown : ShowsMore l.input.graph.now
       (tree_modules l.input.root_symbol.now
       (sound_front l.input.options.now.should_error_on_first_diagnostic l.input.graph.now l.input.root_symbol.now l.yielded))

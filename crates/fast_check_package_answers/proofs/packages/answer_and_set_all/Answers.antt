@@ -15,7 +15,8 @@ returns-in_err-more-clause-err g c =
     let m = goal.FastCheckCache-dyn g c.args.cache.now in
     let d = c.args.cache.now.1 in
     set_first c.from_residual.result
-    (m.hash_of d c.args.seed.now) c.args.input.options.now.should_error_on_first_diagnostic c.args.input.graph.now c.args.input.root_symbol.now c.loop-nv.yielded
+    (m.hash_of d c.args.seed.now) c.args.input.options.now.should_error_on_first_diagnostic c.args.input.graph.now
+    c.args.input.root_symbol.now c.loop-nv.yielded
     c.loop-nv.nv-iterator c.args.ranges.entries (m.stored d) _ c.loop-nv.invariant.all (c.in_err-more.ensures.err ∙ c.loop-nv.invariant.set)
 
 pub returns-in_err-append-clause-err : goal.returns-in_err-append-clause-err
@@ -39,7 +40,8 @@ loop-nv-preserved-in_ok-append g c =
     let d = c.args.cache.now.1 in
     let p : PackageNv × PackagePublicRanges = (c.in-Some.nv, c.in-Some.package_ranges) in
     let first = c.args.input.options.now.should_error_on_first_diagnostic in
-    let t = turned c.args.input.graph.now c.args.input.root_symbol.now first c.loop-nv.yielded p _ c.next.new.self c.args.ranges.entries c.loop-nv.answers.items
+    let t = turned c.args.input.graph.now c.args.input.root_symbol.now first c.loop-nv.yielded p _ c.next.new.self c.args.ranges.entries
+    c.loop-nv.answers.items
     c.in_ok-more.more.items c.append.new.self.items c.loop-nv.invariant.all c.in-Some.ensures.steps c.loop-nv.invariant.answered
     c.in_ok-more.ensures.answered c.in_ok-append.ensures.items in record {
       all = t.0;
@@ -56,7 +58,8 @@ loop-nv-preserved g c =
     let d = c.args.cache.now.1 in
     let p : PackageNv × PackagePublicRanges = (c.in-Some.nv, c.in-Some.package_ranges) in
     let first = c.args.input.options.now.should_error_on_first_diagnostic in
-    let t = turned c.args.input.graph.now c.args.input.root_symbol.now first c.loop-nv.yielded p _ c.next.new.self c.args.ranges.entries c.loop-nv.answers.items
+    let t = turned c.args.input.graph.now c.args.input.root_symbol.now first c.loop-nv.yielded p _ c.next.new.self c.args.ranges.entries
+    c.loop-nv.answers.items
     c.in_ok-more.more.items c.append.new.self.items c.loop-nv.invariant.all c.in-Some.ensures.steps c.loop-nv.invariant.answered
     c.in_ok-more.ensures.answered c.in_ok-append.ensures.items in record {
       all = t.0;

@@ -13,4 +13,5 @@ loop-specifier-preserved c = λ t q.
     let before = modules_say c.args.modules.now.entries t q in
     let item : Parts × JoinedModule = (c.in-Some.specifier, c.in-Some.module) in
     c.in_ok-add_module.ensures t q ∙ (ap (λ b. b || test item) (c.loop-specifier.invariant t q) ∙
-    (or_assoc before (list_any test c.loop-specifier.yielded) (test item) ∙ ap (λ b. before || b) (sym (any_push test c.loop-specifier.yielded item))))
+    (or_assoc before (list_any test c.loop-specifier.yielded) (test item) ∙
+    ap (λ b. before || b) (sym (any_push test c.loop-specifier.yielded item))))

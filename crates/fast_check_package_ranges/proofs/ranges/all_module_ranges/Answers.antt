@@ -21,8 +21,8 @@ loop-specifier-preserved c =
     (λ p. p) c.loop-specifier.yielded c.into_iter-specifier-iterator.result c.loop-specifier.specifier-iterator c.next.new.self
     c.next.result (c.in-Some.specifier, c.in-Some.parts) c.loop-specifier.yielded_by c.in-Some.is c.next.ensures.steps
     text_total c.args.modules given.0 given.5 in
-    convert_more text_total is_text text_one AreModuleAnswers c.args.modules.entries c.loop-specifier.yielded c.in-Some.specifier c.in-Some.parts
-    c.in_ok-ranges.ranges c.loop-specifier.made c.insert.new.self turn.1 c.in_ok-insert.ensures.updates
+    convert_more text_total is_text text_one AreModuleAnswers c.args.modules.entries c.loop-specifier.yielded c.in-Some.specifier
+    c.in-Some.parts c.in_ok-ranges.ranges c.loop-specifier.made c.insert.new.self turn.1 c.in_ok-insert.ensures.updates
     (λ t yes. subst (λ (u : List ℕ). IsModuleAnswer u c.in-Some.parts c.in_ok-ranges.ranges)
     (sym ((bytes_decides t (serialize c.in-Some.specifier)).0 yes))
     c.in_ok-ranges.ensures)
@@ -36,8 +36,8 @@ loop-specifier-preserved-in_ok-insert c =
     (λ p. p) c.loop-specifier.yielded c.into_iter-specifier-iterator.result c.loop-specifier.specifier-iterator c.next.new.self
     c.next.result (c.in-Some.specifier, c.in-Some.parts) c.loop-specifier.yielded_by c.in-Some.is c.next.ensures.steps
     text_total c.args.modules given.0 given.5 in
-    convert_more text_total is_text text_one AreModuleAnswers c.args.modules.entries c.loop-specifier.yielded c.in-Some.specifier c.in-Some.parts
-    c.in_ok-ranges.ranges c.loop-specifier.made c.insert.new.self turn.1 c.in_ok-insert.ensures.updates
+    convert_more text_total is_text text_one AreModuleAnswers c.args.modules.entries c.loop-specifier.yielded c.in-Some.specifier
+    c.in-Some.parts c.in_ok-ranges.ranges c.loop-specifier.made c.insert.new.self turn.1 c.in_ok-insert.ensures.updates
     (λ t yes. subst (λ (u : List ℕ). IsModuleAnswer u c.in-Some.parts c.in_ok-ranges.ranges)
     (sym ((bytes_decides t (serialize c.in-Some.specifier)).0 yes))
     c.in_ok-ranges.ensures)

@@ -7,5 +7,6 @@ loop-place-preserved c = record {
   end = c.len-place-end.ensures;
   items = rw (c.in_ok-push_export.ensures, c.at.ensures)
       (each_more
-      (λ e. children e.1 c.args.demand.symbol) c.args.exports.now c.loop-place.place c.args.out.now c.loop-place.out c.loop-place.invariant.items);
+      (λ e. children e.1 c.args.demand.symbol) c.args.exports.now c.loop-place.place c.args.out.now c.loop-place.out
+      c.loop-place.invariant.items);
 }

@@ -38,8 +38,8 @@ returns-in-Some g c =
     used_item (n.hash_of x.now.1 c.args.input.seed.now) (n.stored x.now.1) c.args.input.sources.graph.now) nv c.in_ok-sorted.sorted.keys
     (in_order c.args.entry_points.items) (option_map item_of c.in_ok-item.item) ordered c.in_ok-item.ensures)
     (on_ok_weaker c.enter_kept.result
-    (entered_kept c.args.input.sources.graph.now nv c.args.entry_points.items c.in_ok-sorted.sorted.keys ordered c.in_ok-item.item c.in-Some.item c.in-Some.is
-    (state_of c.args.progress.now.worklist) (state_of c.enter_kept.new.progress.worklist)
+    (entered_kept c.args.input.sources.graph.now nv c.args.entry_points.items c.in_ok-sorted.sorted.keys ordered c.in_ok-item.item
+    c.in-Some.item c.in-Some.is (state_of c.args.progress.now.worklist) (state_of c.enter_kept.new.progress.worklist)
     (flat_map yields_of c.args.progress.now.found.items)
     (flat_map yields_of c.enter_kept.new.progress.found.items))
     c.enter_kept.ensures)

@@ -8,7 +8,8 @@ loop-diagnostic-init c = remains-first _ _ _ _ (adds-token_ok _ _ _ _ _ c.in_ok-
 
 pub loop-diagnostic-preserved : goal.loop-diagnostic-preserved
 loop-diagnostic-preserved c =
-    item_written diagnostic_data _ _ _ c.loop-diagnostic-test.true c.diagnostic-item.is c.loop-diagnostic.invariant c.in_ok-write_diagnostic.ensures
+    item_written diagnostic_data _ _ _ c.loop-diagnostic-test.true c.diagnostic-item.is c.loop-diagnostic.invariant
+    c.in_ok-write_diagnostic.ensures
 
 pub returns : goal.returns
 returns c = items_written diagnostic_data _ _ c.loop-diagnostic-test.false c.loop-diagnostic.invariant c.end_array.ensures

@@ -13,4 +13,5 @@ returns-in-Other c =
 pub returns-in_default-of : goal.returns-in_default-of
 returns-in_default-of c =
     sym (block_stmt_or_expr_else _ (λ p. c.in_default.not-BlockStmt (c.kind.ensures ∙ p)) ∙
-    ap (λ this. if_expr this BlockStmtOrExpr.Expr BlockStmtOrExpr.Other) (sym c.of.ensures) ∙ is_expr c.of.result _ _ c.in_default-of.not-Other)
+    ap (λ this. if_expr this BlockStmtOrExpr.Expr BlockStmtOrExpr.Other) (sym c.of.ensures) ∙
+    is_expr c.of.result _ _ c.in_default-of.not-Other)

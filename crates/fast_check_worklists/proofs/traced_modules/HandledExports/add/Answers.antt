@@ -15,5 +15,5 @@ pub returns-clause-added : goal.returns-clause-added
 returns-clause-added c =
     handles_new c.args.self.now.modules.entries c.insert.new.self.entries c.args.dep_specifier.now c.args.traced_exports c.in_ok-copy.copy
     c.in_default.ensures.value c.in_ok-copy.ensures.cases
-    (inserted_last c.args.self.now.modules c.get_mut.follows.lender-at-none c.insert.new.self c.args.dep_specifier.now c.in_ok-clone.field-0 c.in_ok-copy.copy
-    c.get_mut.follows.holds-at-none c.in_ok-clone.ensures.cases c.in_default.ensures.value c.in_ok-insert.ensures.entries)
+    (inserted_last c.args.self.now.modules c.get_mut.follows.lender-at-none c.insert.new.self c.args.dep_specifier.now c.in_ok-clone.field-0
+    c.in_ok-copy.copy c.get_mut.follows.holds-at-none c.in_ok-clone.ensures.cases c.in_default.ensures.value c.in_ok-insert.ensures.entries)

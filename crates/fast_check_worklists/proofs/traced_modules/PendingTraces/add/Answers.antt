@@ -21,7 +21,8 @@ returns-in-Some-clause-added c =
 
 pub returns-clause-added : goal.returns-clause-added
 returns-clause-added c =
-    waits_new c.args.self.now.traces.entries c.insert.new.self.entries c.args.package_nv c.args.dep_specifier c.args.exports_to_trace c.in_default.ensures.value
+    waits_new c.args.self.now.traces.entries c.insert.new.self.entries c.args.package_nv c.args.dep_specifier c.args.exports_to_trace
+    c.in_default.ensures.value
     (inserted_last c.args.self.now.traces c.get_mut.follows.lender-at-none c.insert.new.self c.args.dep_specifier c.args.dep_specifier (
       c.args.package_nv,
       c.args.exports_to_trace,
