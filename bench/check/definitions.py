@@ -26,7 +26,7 @@ CHAPTERS = {
         "fast_check_cache::package_ranges": None, "fast_check_packages::fault": None, "fast_check_packages::listed": None, "fast_check_packages::provider": None,
     },
     "tables": {
-        "fast_check_names": None, "fast_check_worklists::traced_modules": None, "fast_check_packages::package": None, "fast_check_parsed_source": None,
+        "fast_check_names": None, "fast_check_worklists::module_maps": None, "fast_check_packages::package": None, "fast_check_parsed_source": None,
         "fast_check_diagnostics": None, "fast_check_symbols": None, "fast_check_modules": None,
         "fast_check_graph": None, "fast_check_comments": None, "fast_check_syntax": None, "fast_check_helpers": None,
     },

@@ -26,7 +26,7 @@ use Rattle.fast_check_package_ranges.specs.Parts.{is_text, is_package, lookup_te
 use Rattle.fast_check_package_ranges.specs.Answers.{module_answer, package_answer, answer}
 use Rattle.fast_check_package_ranges.proofs.Maps.{lookup_key, text_one, text_total, package_one, package_total}
 use Rattle.fast_check_package_ranges.specs.findings.Diagnostics.{where_found}
-use Rattle.fast_check_package_answers.specs.Reasons.{PublicModule}
+use Rattle.fast_check_package_answers.specs.PackageFaults.{PublicModule}
 use Rattle.fast_check_package_answers.specs.PackageAnswer.{TreeModule, with_tree, tree_modules, OwnsPublic, OwnsModule, OwnsAll}
 use Rattle.fast_check_package_answers.specs.Answered.{by_text, by_nv}
 use Rattle.fast_check_package_answers.specs.Owned.{IsOwned, AreOwned}

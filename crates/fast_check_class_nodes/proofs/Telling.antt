@@ -10,7 +10,7 @@ use Rattle.fast_check_class_forms.specs.Methods.{ClassMethod-key, ClassMethod-ac
 use Rattle.fast_check_signatures.specs.Members.{is_private, is_computed, key_text, is_private_method_of, is_private_implementation}
 use Rattle.fast_check_signatures.specs.Members.{stays_behind}
 use Rattle.fast_check_class_nodes.specs.declared.earlier.Earlier.{Earlier}
-use Rattle.fast_check_class_nodes.specs.Told.{IsMethod, Tells, Next}
+use Rattle.fast_check_class_nodes.specs.Known.{IsMethod, Knows, Next}
 
 or_is : (b c : Bool) → cond b true c ≡ b || c
 or_is true c = refl
@@ -33,14 +33,14 @@ module _ (t : Tree) (m : IsMethod t) (p : is_private (ClassMethod-accessibility 
       added ≡ not (contains_by (λ k. bytes_eq key.now k.now) old.private_methods) →
       ((q : Bor (List ℕ)) → contains_by (λ k. bytes_eq q.now k.now) new.private_methods ≡
       cond (bytes_eq key.now q.now) true (contains_by (λ k. bytes_eq q.now k.now) old.private_methods)) →
-      (earlier : List Tree) → Tells old earlier → Next new earlier t added
-  next_method old new key added e same a updates earlier told = record {
-    stays_is = a ∙ (ap not (told.names key.now ∙ ap (λ name. list_any (is_private_method_of name) earlier) e) ∙ sym (stays_if_new earlier));
-    tells = record {
+      (earlier : List Tree) → Knows old earlier → Next new earlier t added
+  next_method old new key added e same a updates earlier known = record {
+    stays_is = a ∙ (ap not (known.names key.now ∙ ap (λ name. list_any (is_private_method_of name) earlier) e) ∙ sym (stays_if_new earlier));
+    knows = record {
       names = λ name. updates (record { ref_ptr = (0, 0); now = name })
-          ∙ ((λ i. cond (bytes_eq (e i) name) true (told.names name i))
+          ∙ ((λ i. cond (bytes_eq (e i) name) true (known.names name i))
           ∙ (or_is (bytes_eq (key_text (ClassMethod-key t)) name) (list_any (is_private_method_of name) earlier)
           ∙ ap (λ b. b || list_any (is_private_method_of name) earlier) (sym (is_method_of name))));
-      implementation = same ∙ (told.implementation ∙ ap (λ b. b || list_any is_private_implementation earlier) (sym no_implementation));
+      implementation = same ∙ (known.implementation ∙ ap (λ b. b || list_any is_private_implementation earlier) (sym no_implementation));
     };
   }

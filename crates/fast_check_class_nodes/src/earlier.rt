@@ -3,7 +3,7 @@ ghost use Rattle.std.specs.Prelude.{◌≡◌, IfOk, List, map, []};
 ghost use Rattle.fast_check_syntax.specs.Part.{seen};
 ghost use Rattle.fast_check_syntax.specs.declared.tree.Tree.{Tree};
 ghost use Rattle.fast_check_signatures.specs.Members.{kept_members};
-ghost use Rattle.fast_check_class_nodes.specs.Told.{property_stays, accessor_stays, Tells, IsNext, IsConstructor, IsMethod};
+ghost use Rattle.fast_check_class_nodes.specs.Known.{property_stays, accessor_stays, Knows, IsNext, IsConstructor, IsMethod};
 
 use crate::keys::{is_computed, is_private, key_text};
 use fast_check_class_forms::{AutoAccessor, ClassMethod, ClassProp, Constructor};
@@ -23,7 +23,7 @@ pub struct Earlier<'a> {
 impl<'a> Earlier<'a> {
     /// Before the first member.
     pub fn new(alloc: Global) -> Self
-        ensures { Tells result [] }
+        ensures { Knows result [] }
     {
         Earlier {
             private_methods: HashSet::new(alloc),

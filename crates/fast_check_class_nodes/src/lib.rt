@@ -9,6 +9,7 @@ mod properties;
 mod superclasses;
 
 pub use constructors::{constructor_body, plain_params};
+pub use copies::two_trees;
 pub use earlier::{Earlier, kept_members};
 pub use keys::{is_computed, is_hash_named, is_private, key_text};
 pub use properties::{

@@ -2,7 +2,7 @@
 
 ghost use Rattle.std.specs.Prelude.{◌≡◌, ◌<◌, ◌≤◌, map, option_map, None, ◌⊎◌};
 ghost use Rattle.std.specs.String.{string_bytes};
-ghost use Rattle.fast_check_requests.specs.Refusal.{IsTold};
+ghost use Rattle.fast_check_requests.specs.Refusal.{WritesRefusal};
 ghost use Rattle.fast_check_commands.specs.Commands.{called, RefusesCall, HasAnswer, IsAnswered};
 
 use crate::command::AnyCommand;
@@ -21,10 +21,10 @@ pub fn run<R: Read + Drop, O: Write, E: Write>(
     err: &mut E,
 ) -> Ending
     ensures usage { called (map string_bytes words.now) ≡ None →
-        IsTold Refusal.Usage (E.contents err.old) (E.contents err.new) result × (out.new ≡ out.old) }
+        WritesRefusal Refusal.Usage (E.contents err.old) (E.contents err.new) result × (out.new ≡ out.old) }
     ensures answer { result.status < 2 →
         IsAnswered (map string_bytes words.now) (option_map R.remaining input) (O.contents out.old) (O.contents out.new) result × (err.new ≡ err.old) }
-    ensures refusal { 2 ≤ result.status → (refusal : Refusal) × IsTold refusal (E.contents err.old) (E.contents err.new) result
+    ensures refusal { 2 ≤ result.status → (refusal : Refusal) × WritesRefusal refusal (E.contents err.old) (E.contents err.new) result
         × ((RefusesCall (map string_bytes words.now) (option_map R.remaining input) refusal × (out.new ≡ out.old))
         ⊎ ((refusal ≡ Refusal.Unwritable) × HasAnswer (map string_bytes words.now) (option_map R.remaining input))) }
 {

@@ -31,8 +31,8 @@ use Rattle.fast_check_surroundings.proofs.Listed.{alone}
 -- ---- expressions
 
 module _ (around : Surroundings) (t : Tree) where
-  abbrev wrong : Fault
-  wrong = fault_at UnsupportedDefaultExportExpr (ExportDefaultExpr-span t)
+  abbrev unsupported : Fault
+  unsupported = fault_at UnsupportedDefaultExportExpr (ExportDefaultExpr-span t)
 
   pub value_stays : {expr x : Tree} {o : Option Tree} {old new : List Fault} →
       Adds (answer_to (expr_seen around.bindings expr None)) o old new →
@@ -41,7 +41,7 @@ module _ (around : Surroundings) (t : Tree) where
   unfolding default_value_answer
   value_stays {old = old} {new = new} h p e =
       adds_made (λ v. Some (export_default_expr (ExportDefaultExpr-span t) v))
-      (adds_demanded wrong (subst (λ x. Adds (answer_to (expr_seen around.bindings (ExportDefaultExpr-expr t) None)) x old new) e
+      (adds_demanded unsupported (subst (λ x. Adds (answer_to (expr_seen around.bindings (ExportDefaultExpr-expr t) None)) x old new) e
       (adds_same (ap (λ v. answer_to (expr_seen around.bindings v None)) (sym p)) h)))
 
   pub value_goes : {expr : Tree} {o : Option Tree} {old new : List Fault} →
@@ -54,7 +54,7 @@ module _ (around : Surroundings) (t : Tree) where
       subst (λ fs. Adds (answer_to (default_value_seen around t)) (Some (export_default_expr (ExportDefaultExpr-span t) Absent)) old fs)
       (sym (f ∙ ap (λ r. new ++ fault_at UnsupportedDefaultExportExpr r ∷ []) s))
       (adds_made (λ v. Some (export_default_expr (ExportDefaultExpr-span t) v))
-      (adds_missing wrong (subst (λ x. Adds (answer_to (expr_seen around.bindings (ExportDefaultExpr-expr t) None)) x old new) e
+      (adds_missing unsupported (subst (λ x. Adds (answer_to (expr_seen around.bindings (ExportDefaultExpr-expr t) None)) x old new) e
       (adds_same (ap (λ v. answer_to (expr_seen around.bindings v None)) (sym p)) h))))
 
 -- ---- classes

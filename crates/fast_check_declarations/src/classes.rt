@@ -26,29 +26,29 @@ use fast_check_syntax::{Part, SourceRange, Tree};
 use std::alloc::{AllocError, Global};
 
 /// Whether a class is ambient.
-fn is_ambient_class(asked: Surroundings<'_>, decl: Part<'_>) -> bool
-    ensures { result ≡ is_ambient_class (seen_around asked.entry) (seen decl.entry) }
+fn is_ambient_class(around: Surroundings<'_>, decl: Part<'_>) -> bool
+    ensures { result ≡ is_ambient_class (seen_around around.entry) (seen decl.entry) }
 {
-    asked.is_ambient || ClassDecl::of(decl).declare
+    around.is_ambient || ClassDecl::of(decl).declare
 }
 
 /// The class of a declaration; an ambient one as it is written, but for private members with computed keys.
 fn keep_class_of(
     alloc: Global,
-    asked: Surroundings<'_>,
+    around: Surroundings<'_>,
     decl: Part<'_>,
     faults: &mut Vec<Fault>,
 ) -> Result<Tree, AllocError>
-    ensures { IfOk result (λ tree. Adds (class_in_answer (seen_around asked.entry) (seen decl.entry)) (Some tree) faults.old.items faults.new.items) }
+    ensures { IfOk result (λ tree. Adds (class_in_answer (seen_around around.entry) (seen decl.entry)) (Some tree) faults.old.items faults.new.items) }
 {
     let class = ClassDecl::of(decl).class;
-    if is_ambient_class(asked, decl) {
+    if is_ambient_class(around, decl) {
         return ambient_class(alloc, class);
     }
     transform_class(
         alloc,
-        asked.public_ranges,
-        asked.es_module_info,
+        around.public_ranges,
+        around.es_module_info,
         class,
         faults,
     )
@@ -57,17 +57,17 @@ fn keep_class_of(
 /// A class declaration.
 fn keep_class(
     alloc: Global,
-    asked: Surroundings<'_>,
+    around: Surroundings<'_>,
     decl: Part<'_>,
     faults: &mut Vec<Fault>,
 ) -> Result<Tree, AllocError>
-    ensures { IfOk result (λ tree. Adds (class_answer (seen_around asked.entry) (seen decl.entry)) (Some tree) faults.old.items faults.new.items) }
+    ensures { IfOk result (λ tree. Adds (class_answer (seen_around around.entry) (seen decl.entry)) (Some tree) faults.old.items faults.new.items) }
 {
     let ClassDecl { ident, declare, .. } = ClassDecl::of(decl);
     let made = ClassDecl {
         ident: ident.to_tree(alloc)?,
         declare,
-        class: keep_class_of(alloc, asked, decl, faults)?,
+        class: keep_class_of(alloc, around, decl, faults)?,
     };
     made.into_tree(alloc)
 }
@@ -75,18 +75,18 @@ fn keep_class(
 /// A class declaration, which is public by `place`; none where it is not.
 pub fn keep_public_class(
     alloc: Global,
-    asked: Surroundings<'_>,
+    around: Surroundings<'_>,
     place: SourceRange,
     decl: Part<'_>,
     faults: &mut Vec<Fault>,
 ) -> Result<Option<Tree>, AllocError>
     ensures { IfOk result (λ tree.
-        Adds (public_class_answer (seen_around asked.entry) place (seen decl.entry)) (as_list tree) faults.old.items faults.new.items) }
+        Adds (public_class_answer (seen_around around.entry) place (seen decl.entry)) (as_list tree) faults.old.items faults.new.items) }
 {
-    if !asked.public_ranges.contains(&place) {
+    if !around.public_ranges.contains(&place) {
         return Ok(None);
     }
-    Ok(Some(keep_class(alloc, asked, decl, faults)?))
+    Ok(Some(keep_class(alloc, around, decl, faults)?))
 }
 
 /// Removes the comments before the members of a class that go.
@@ -111,18 +111,18 @@ fn remove_before_members(
 /// Removes the comments before what goes inside of a declaration that stays and with which this is done.
 fn remove_in_decl(
     alloc: Global,
-    asked: Surroundings<'_>,
+    around: Surroundings<'_>,
     place: SourceRange,
     decl: Part<'_>,
     rule: DeclRule,
     comments: &mut CommentsMut,
 ) -> Result<(), AllocError>
     ensures { IfOk result (λ _.
-        comments.new ≡ without_all_leading (starts_in_decl (seen_around asked.entry) place (seen decl.entry) rule) comments.old) }
+        comments.new ≡ without_all_leading (starts_in_decl (seen_around around.entry) place (seen decl.entry) rule) comments.old) }
 {
     match rule {
         DeclRule::Class => {
-            if !asked.public_ranges.contains(&place) || is_ambient_class(asked, decl) {
+            if !around.public_ranges.contains(&place) || is_ambient_class(around, decl) {
                 return Ok(());
             }
             remove_before_members(alloc, ClassDecl::of(decl).class, comments)
@@ -139,18 +139,18 @@ fn remove_in_decl(
 /// Removes the comments before what goes inside of a default export with which this is done.
 fn remove_in_default(
     alloc: Global,
-    asked: Surroundings<'_>,
+    around: Surroundings<'_>,
     item: Part<'_>,
     rule: DefaultRule,
     comments: &mut CommentsMut,
 ) -> Result<(), AllocError>
     ensures { IfOk result (λ _.
-        comments.new ≡ without_all_leading (starts_in_default (seen_around asked.entry) (seen item.entry) rule) comments.old) }
+        comments.new ≡ without_all_leading (starts_in_default (seen_around around.entry) (seen item.entry) rule) comments.old) }
 {
     match rule {
         DefaultRule::Class => {
             let ExportDefaultDecl { span, decl } = ExportDefaultDecl::of(item);
-            if !asked.public_ranges.contains(&span) {
+            if !around.public_ranges.contains(&span) {
                 return Ok(());
             }
             remove_before_members(alloc, ClassExpr::of(decl).class, comments)
@@ -162,25 +162,25 @@ fn remove_in_default(
 /// Removes the comments before what goes inside of an item.
 pub fn remove_inside(
     alloc: Global,
-    asked: Surroundings<'_>,
+    around: Surroundings<'_>,
     item: Part<'_>,
     comments: &mut CommentsMut,
 ) -> Result<(), AllocError>
     ensures { IfOk result (λ _.
-        comments.new ≡ without_all_leading (starts_inside (seen_around asked.entry) (seen item.entry) (item_rule (seen item.entry))) comments.old) }
+        comments.new ≡ without_all_leading (starts_inside (seen_around around.entry) (seen item.entry) (item_rule (seen item.entry))) comments.old) }
 {
     match item_rule(item) {
         ItemRule::Declared(rule) => {
-            remove_in_decl(alloc, asked, range_of_node(item), item, rule, comments)
+            remove_in_decl(alloc, around, range_of_node(item), item, rule, comments)
         }
         ItemRule::Exported(rule) => {
             let ExportDecl { span, decl } = ExportDecl::of(item);
-            remove_in_decl(alloc, asked, span, decl, rule, comments)
+            remove_in_decl(alloc, around, span, decl, rule, comments)
         }
-        ItemRule::Default(rule) => remove_in_default(alloc, asked, item, rule, comments),
+        ItemRule::Default(rule) => remove_in_default(alloc, around, item, rule, comments),
         ItemRule::Assigned => {
             let assignment = AssignExpr::of(ExprStmt::of(item).expr);
-            if asked.public_ranges.contains(&assignment.span) {
+            if around.public_ranges.contains(&assignment.span) {
                 comments.remove_leading(range_of_node(item).start);
             }
             Ok(())

@@ -21,21 +21,21 @@ use fast_check_syntax::{Part, SourceRange, Tree};
 use std::alloc::{AllocError, Global};
 
 /// Whether the default export of an expression is public: by its own range, or by that of the expression.
-fn is_public_value(asked: Surroundings<'_>, item: Part<'_>) -> bool
-    ensures { result ≡ is_public_value (seen_around asked.entry) (seen item.entry) }
+fn is_public_value(around: Surroundings<'_>, item: Part<'_>) -> bool
+    ensures { result ≡ is_public_value (seen_around around.entry) (seen item.entry) }
 {
     let ExportDefaultExpr { span, expr } = ExportDefaultExpr::of(item);
-    asked.public_ranges.contains(&span) || asked.public_ranges.contains(&range_of_node(expr))
+    around.public_ranges.contains(&span) || around.public_ranges.contains(&range_of_node(expr))
 }
 
 /// Whether a default export with which this is done is public.
-fn is_public_default(asked: Surroundings<'_>, item: Part<'_>, rule: DefaultRule) -> bool
-    ensures { result ≡ is_public_default (seen_around asked.entry) (seen item.entry) rule }
+fn is_public_default(around: Surroundings<'_>, item: Part<'_>, rule: DefaultRule) -> bool
+    ensures { result ≡ is_public_default (seen_around around.entry) (seen item.entry) rule }
 {
     match rule {
-        DefaultRule::Value => is_public_value(asked, item),
+        DefaultRule::Value => is_public_value(around, item),
         DefaultRule::Class | DefaultRule::Function | DefaultRule::Interface => {
-            asked
+            around
                 .public_ranges
                 .contains(&ExportDefaultDecl::of(item).span)
         }
@@ -45,14 +45,14 @@ fn is_public_default(asked: Surroundings<'_>, item: Part<'_>, rule: DefaultRule)
 /// The default export of an expression. Where the expression may not stay, that is a fault.
 fn keep_value(
     alloc: Global,
-    asked: Surroundings<'_>,
+    around: Surroundings<'_>,
     item: Part<'_>,
     faults: &mut Vec<Fault>,
 ) -> Result<Tree, AllocError>
-    ensures { IfOk result (λ tree. Adds (default_value_answer (seen_around asked.entry) (seen item.entry)) (Some tree) faults.old.items faults.new.items) }
+    ensures { IfOk result (λ tree. Adds (default_value_answer (seen_around around.entry) (seen item.entry)) (Some tree) faults.old.items faults.new.items) }
 {
     let ExportDefaultExpr { span, expr } = ExportDefaultExpr::of(item);
-    match leave_expr(alloc, asked.es_module_info, expr, None, faults)? {
+    match leave_expr(alloc, around.es_module_info, expr, None, faults)? {
         Some(expr) => ExportDefaultExpr { span, expr }.into_tree(alloc),
         None => {
             faults.push(Fault {
@@ -68,19 +68,19 @@ fn keep_value(
 /// A class that is exported by default. It is never ambient.
 fn keep_class(
     alloc: Global,
-    asked: Surroundings<'_>,
+    around: Surroundings<'_>,
     decl: Part<'_>,
     faults: &mut Vec<Fault>,
 ) -> Result<Tree, AllocError>
-    ensures { IfOk result (λ tree. Adds (default_class_answer (seen_around asked.entry) (seen decl.entry)) (Some tree) faults.old.items faults.new.items) }
+    ensures { IfOk result (λ tree. Adds (default_class_answer (seen_around around.entry) (seen decl.entry)) (Some tree) faults.old.items faults.new.items) }
 {
     let ClassExpr { ident, class } = ClassExpr::of(decl);
     let made = ClassExpr {
         ident: ident.to_tree(alloc)?,
         class: transform_class(
             alloc,
-            asked.public_ranges,
-            asked.es_module_info,
+            around.public_ranges,
+            around.es_module_info,
             class,
             faults,
         )?,
@@ -104,21 +104,21 @@ fn default_place(decl: Part<'_>) -> SourceRange
 /// parameters.
 fn transform_signature(
     alloc: Global,
-    asked: Surroundings<'_>,
+    around: Surroundings<'_>,
     place: SourceRange,
     decl: Part<'_>,
     faults: &mut Vec<Fault>,
 ) -> Result<Tree, AllocError>
     ensures { IfOk result (λ tree.
-        Adds (default_signature_answer (seen_around asked.entry) place (seen decl.entry)) (Some tree) faults.old.items faults.new.items) }
+        Adds (default_signature_answer (seen_around around.entry) place (seen decl.entry)) (Some tree) faults.old.items faults.new.items) }
 {
     let function = FnExpr::of(decl).function;
-    if asked.public_ranges.is_impl_with_overloads(&place) {
+    if around.public_ranges.is_impl_with_overloads(&place) {
         return transform_implementation(alloc, function);
     }
     transform_fn(
         alloc,
-        asked.es_module_info,
+        around.es_module_info,
         FunctionKind::DeclarationLike,
         default_place(decl),
         function,
@@ -129,21 +129,21 @@ fn transform_signature(
 /// A function that is exported by default, by its signature; where all is ambient as it is written.
 fn keep_function(
     alloc: Global,
-    asked: Surroundings<'_>,
+    around: Surroundings<'_>,
     place: SourceRange,
     decl: Part<'_>,
     faults: &mut Vec<Fault>,
 ) -> Result<Tree, AllocError>
     ensures { IfOk result (λ tree.
-        Adds (default_function_answer (seen_around asked.entry) place (seen decl.entry)) (Some tree) faults.old.items faults.new.items) }
+        Adds (default_function_answer (seen_around around.entry) place (seen decl.entry)) (Some tree) faults.old.items faults.new.items) }
 {
-    if asked.is_ambient {
+    if around.is_ambient {
         return decl.to_tree(alloc);
     }
     let ident = FnExpr::of(decl).ident;
     let made = FnExpr {
         ident: ident.to_tree(alloc)?,
-        function: transform_signature(alloc, asked, place, decl, faults)?,
+        function: transform_signature(alloc, around, place, decl, faults)?,
     };
     made.into_tree(alloc)
 }
@@ -151,23 +151,23 @@ fn keep_function(
 /// A public default export with which this is done.
 fn keep_public(
     alloc: Global,
-    asked: Surroundings<'_>,
+    around: Surroundings<'_>,
     item: Part<'_>,
     rule: DefaultRule,
     faults: &mut Vec<Fault>,
 ) -> Result<Tree, AllocError>
     ensures { IfOk result (λ tree.
-        Adds (default_decl_answer (seen_around asked.entry) (seen item.entry) rule) (Some tree) faults.old.items faults.new.items) }
+        Adds (default_decl_answer (seen_around around.entry) (seen item.entry) rule) (Some tree) faults.old.items faults.new.items) }
 {
     let ExportDefaultDecl { span, decl } = ExportDefaultDecl::of(item);
     match rule {
-        DefaultRule::Value => keep_value(alloc, asked, item, faults),
+        DefaultRule::Value => keep_value(alloc, around, item, faults),
         DefaultRule::Class => {
-            let decl = keep_class(alloc, asked, decl, faults)?;
+            let decl = keep_class(alloc, around, decl, faults)?;
             ExportDefaultDecl { span, decl }.into_tree(alloc)
         }
         DefaultRule::Function => {
-            let decl = keep_function(alloc, asked, span, decl, faults)?;
+            let decl = keep_function(alloc, around, span, decl, faults)?;
             ExportDefaultDecl { span, decl }.into_tree(alloc)
         }
         DefaultRule::Interface => {
@@ -180,16 +180,16 @@ fn keep_public(
 /// What is public of a default export with which this is done; none where nothing is.
 pub fn keep_default(
     alloc: Global,
-    asked: Surroundings<'_>,
+    around: Surroundings<'_>,
     item: Part<'_>,
     rule: DefaultRule,
     faults: &mut Vec<Fault>,
 ) -> Result<Option<Tree>, AllocError>
     ensures { IfOk result (λ tree.
-        Adds (default_answer (seen_around asked.entry) (seen item.entry) rule) (as_list tree) faults.old.items faults.new.items) }
+        Adds (default_answer (seen_around around.entry) (seen item.entry) rule) (as_list tree) faults.old.items faults.new.items) }
 {
-    if !is_public_default(asked, item, rule) {
+    if !is_public_default(around, item, rule) {
         return Ok(None);
     }
-    Ok(Some(keep_public(alloc, asked, item, rule, faults)?))
+    Ok(Some(keep_public(alloc, around, item, rule, faults)?))
 }

@@ -3,7 +3,7 @@ use Rattle.std.proofs.Common.{◌≡◌, ℕ, sym, subst, List, Option, Some, Re
 use Rattle.fast_check_packages.specs.Package.{Nv}
 use Rattle.fast_check_packages.specs.declared.fault.BuildFault.{BuildFault}
 use Rattle.fast_check_packages.specs.declared.fault.BuildFault.TheVariants.{InvalidExport, OutOfMemory}
-use Rattle.fast_check_entries.specs.Entries.{Tells}
+use Rattle.fast_check_entries.specs.Entries.{Diagnoses}
 
 -- `?` passes a fault on as it is
 pub passed_on : {T E : Type 0} (r : Result T E) (e : E) (P : E → Type 0) → IsErrAnd r (λ y. y ≡ e) → P e → IfErr r P
@@ -11,8 +11,8 @@ passed_on (Ok x) e P is p = tt
 passed_on (Err y) e P is p = subst P (sym is) p
 
 -- what is told of some texts is told of others that have the same first one
-pub tells_of : (nv : Nv) (one other : Option (List ℕ)) → ((text : List ℕ) → one ≡ Some text → other ≡ Some text) → (f : BuildFault) →
-    Tells nv one f →
-    Tells nv other f
-tells_of nv one other same OutOfMemory t = tt
-tells_of nv one other same (InvalidExport p text) t = (t.0, same (string_bytes text) t.1)
+pub diagnoses_of : (nv : Nv) (one other : Option (List ℕ)) → ((text : List ℕ) → one ≡ Some text → other ≡ Some text) → (f : BuildFault) →
+    Diagnoses nv one f →
+    Diagnoses nv other f
+diagnoses_of nv one other same OutOfMemory t = tt
+diagnoses_of nv one other same (InvalidExport p text) t = (t.0, same (string_bytes text) t.1)

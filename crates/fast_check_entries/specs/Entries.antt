@@ -91,14 +91,14 @@ entrance_seen None = passed_over
 entrance_seen (Some urls) = entered urls.items
 
 -- the fault tells the text of the package, if there is one. Of want of memory nothing is said
-abbrev pub Tells : Nv → Option (List ℕ) → BuildFault → Type 0
-Tells nv text (InvalidExport p t) = (nv_of p ≡ nv) × (text ≡ Some (string_bytes t))
-Tells nv text OutOfMemory = Unit {0}
+abbrev pub Diagnoses : Nv → Option (List ℕ) → BuildFault → Type 0
+Diagnoses nv text (InvalidExport p t) = (nv_of p ≡ nv) × (text ≡ Some (string_bytes t))
+Diagnoses nv text OutOfMemory = Unit {0}
 
 -- the fault tells the package, and the text for which it is refused
-abbrev pub TellsRefused : Nv → Entrance → BuildFault → Type 0
-TellsRefused nv entrance (InvalidExport p t) = (nv_of p ≡ nv) × (entrance ≡ refused (string_bytes t))
-TellsRefused nv entrance OutOfMemory = Unit {0}
+abbrev pub DiagnosesRefused : Nv → Entrance → BuildFault → Type 0
+DiagnosesRefused nv entrance (InvalidExport p t) = (nv_of p ≡ nv) × (entrance ≡ refused (string_bytes t))
+DiagnosesRefused nv entrance OutOfMemory = Unit {0}
 
 -- faults of entry points
 

@@ -4,7 +4,7 @@ ghost use Rattle.std.specs.Option.{option_copied};
 ghost use Rattle.fast_check_packages.specs.Package.{nv_of};
 ghost use Rattle.fast_check_packages.specs.MembersIn.{members_in};
 ghost use Rattle.fast_check_entries.specs.Entries.{joined, all_joined, first_refused, entrance_by, entrance_as, entrance_of, entrance_seen};
-ghost use Rattle.fast_check_entries.specs.Entries.{Tells, TellsRefused};
+ghost use Rattle.fast_check_entries.specs.Entries.{Diagnoses, DiagnosesRefused};
 
 use crate::exports::{base_of, exports_of};
 use fast_check_graph::ModuleGraph;
@@ -26,7 +26,7 @@ fn join_text(base: &Url, text: &str) -> Result<Option<Url>, AllocError>
 
 /// The fault of a package with an export text that does not join.
 fn invalid_export(alloc: Global, nv: &PackageNv, text: &str) -> Result<BuildFault, AllocError>
-    ensures { IfOk result (Tells (nv_of nv.now) (Some text.now)) }
+    ensures { IfOk result (Diagnoses (nv_of nv.now) (Some text.now)) }
 {
     let package = nv.clone()?;
     let export = String::from_str(alloc, text)?;
@@ -43,7 +43,7 @@ fn push_joined(
 ) -> Result<(), BuildFault>
     ensures joins { OnOk result (is_none (joined base.now text.now) ≡ false) }
     ensures pushed { OnOk result (out.new.items ≡ out.old.items ++ option_to_list (joined base.now text.now)) }
-    ensures refused { IfErr result (Tells (nv_of nv.now) (first_refused base.now (text.now ∷ []))) }
+    ensures refused { IfErr result (Diagnoses (nv_of nv.now) (first_refused base.now (text.now ∷ []))) }
 {
     match join_text(base, text)? {
         None => Err(invalid_export(alloc, nv, text)?),
@@ -63,7 +63,7 @@ fn join_all(
 ) -> Result<Vec<Url>, BuildFault>
     ensures all { OnOk result (first_refused base.now (map string_bytes texts.now) ≡ None) }
     ensures joined { IfOk result (λ urls. urls.items ≡ all_joined base.now (map string_bytes texts.now)) }
-    ensures refused { IfErr result (Tells (nv_of nv.now) (first_refused base.now (map string_bytes texts.now))) }
+    ensures refused { IfErr result (Diagnoses (nv_of nv.now) (first_refused base.now (map string_bytes texts.now))) }
 {
     let mut urls = Vec::new(alloc);
     for text in texts {
@@ -80,7 +80,7 @@ fn join_exports(
     exports: &IndexMap<String, String>,
 ) -> Result<Vec<Url>, BuildFault>
     ensures entered { IfOk result (λ urls. entrance_by base.now (Some exports.now.entries) ≡ entrance_seen (Some urls)) }
-    ensures refused { IfErr result (TellsRefused (nv_of nv.now) (entrance_by base.now (Some exports.now.entries))) }
+    ensures refused { IfErr result (DiagnosesRefused (nv_of nv.now) (entrance_by base.now (Some exports.now.entries))) }
 {
     join_all(alloc, nv, base, exports.values().as_slice())
 }
@@ -95,7 +95,7 @@ fn member_entry_points(
 ) -> Result<Option<Vec<Url>>, BuildFault>
     ensures entered { IfOk result (λ urls.
         entrance_as graph.now (option_copied member.entry) (url_of provider.now) (nv_of nv.now) ≡ entrance_seen urls) }
-    ensures refused { IfErr result (TellsRefused (nv_of nv.now)
+    ensures refused { IfErr result (DiagnosesRefused (nv_of nv.now)
         (entrance_as graph.now (option_copied member.entry) (url_of provider.now) (nv_of nv.now))) }
 {
     match exports_of(graph, member, nv) {
@@ -120,7 +120,7 @@ pub fn entry_points(
     nv: &PackageNv,
 ) -> Result<Option<Vec<Url>>, BuildFault>
     ensures entered { IfOk result (λ urls. entrance_of graph.now (members_in members.now) (url_of provider.now) (nv_of nv.now) ≡ entrance_seen urls) }
-    ensures refused { IfErr result (TellsRefused (nv_of nv.now) (entrance_of graph.now (members_in members.now) (url_of provider.now) (nv_of nv.now))) }
+    ensures refused { IfErr result (DiagnosesRefused (nv_of nv.now) (entrance_of graph.now (members_in members.now) (url_of provider.now) (nv_of nv.now))) }
 {
     member_entry_points(alloc, graph, members.named(nv), provider, nv)
 }

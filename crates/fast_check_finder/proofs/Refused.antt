@@ -15,7 +15,7 @@ use Rattle.fast_check_findings.specs.Yields.{ModuleFault, Yield, known_package, 
 use Rattle.fast_check_findings.specs.Yields.{implementing, faulty, untyped_module, kept}
 use Rattle.fast_check_cache.specs.Cache.{item_of}
 use Rattle.fast_check_findings.specs.Findings.{faulty_module, entry_fault, placed_yield, placed_yields, yields_of}
-use Rattle.fast_check_turns.specs.entries.Entries.{Entrance, passed_over, refused, entered, TellsRefused}
+use Rattle.fast_check_turns.specs.entries.Entries.{Entrance, passed_over, refused, entered, DiagnosesRefused}
 use Rattle.fast_check_search.proofs.Each.{Contains_first, Each, each_nil, each_one, each_cons, each_append, each_map, each_flat}
 use Rattle.fast_check_worklists.specs.Demands.{Text, of_package}
 use Rattle.fast_check_worklists.specs.Account.{Account, Chained, IsYield}
@@ -76,7 +76,7 @@ all_join k account found y nv c = go (entrance_at k nv) refl
 
 -- the package that stops the search is one of those that were asked for
 pub refused_of : (k : Known) (packages : List PackageNv) (i : ℕ) (p : PackageNv) (nv : Nv) → i < length packages → p ≡ get_or packages i p →
-    nv ≡ nv_of p → (f : BuildFault) → TellsRefused nv (entrance_at k nv) f → IsRefusedOf k (map nv_of packages) f
+    nv ≡ nv_of p → (f : BuildFault) → DiagnosesRefused nv (entrance_at k nv) f → IsRefusedOf k (map nv_of packages) f
 refused_of k packages i p nv le is e OutOfMemory t = tt
 refused_of k packages i p nv le is e (InvalidExport q text) t = (
   subst (λ (x : Nv). Contains (map nv_of packages) x) (sym (t.0 ∙ (e ∙ ap nv_of is)))

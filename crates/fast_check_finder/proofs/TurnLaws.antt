@@ -4,7 +4,7 @@ use Rattle.url.specs.Parts.{Parts}
 use Rattle.fast_check_names.specs.declared.lattice.imported_exports.ImportedExports.{ImportedExports}
 use Rattle.fast_check_packages.specs.Package.{Nv}
 use Rattle.fast_check_packages.specs.declared.package.PackageNv.{PackageNv}
-use Rattle.fast_check_worklists.specs.declared.traced_modules.PendingTrace.{PendingTrace}
+use Rattle.fast_check_worklists.specs.declared.module_maps.PendingTrace.{PendingTrace}
 use Rattle.fast_check_worklists.specs.Traces.{entry_of}
 use Rattle.fast_check_worklists.proofs.Asks.{map_last}
 use Rattle.fast_check_worklists.specs.State.{trace_of, State, IsFollowed}

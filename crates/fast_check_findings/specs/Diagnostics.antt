@@ -17,8 +17,8 @@ where_found test None = false
 where_found test (Some x) = test x
 
 -- a diagnostic of a demand's fault that passes the test
-abbrev pub tells : (PlacedFault → Bool) → FastCheckDiagnostic → Bool
-tells test d = where_found test (demand_fault d)
+abbrev pub diagnoses : (PlacedFault → Bool) → FastCheckDiagnostic → Bool
+diagnoses test d = where_found test (demand_fault d)
 
 abbrev pub any_fault : PlacedFault → Bool
 any_fault r = true
@@ -37,8 +37,8 @@ same_fault a b = same_range a.range b.range
     (bytes_eq a.referrer b.referrer && bytes_eq (serialize a.specifier) (serialize b.specifier))))
 
 -- two diagnostics tell of one fault of a demand
-abbrev pub tell_one_fault : FastCheckDiagnostic → FastCheckDiagnostic → Bool
-tell_one_fault a b = where_found (λ r. tells (same_fault r) b) (demand_fault a)
+abbrev pub diagnose_one_fault : FastCheckDiagnostic → FastCheckDiagnostic → Bool
+diagnose_one_fault a b = where_found (λ r. diagnoses (same_fault r) b) (demand_fault a)
 
 -- a fault with its source text passes the test
 abbrev pub passes : (PlacedFault → Bool) → DemandFault × RcStr Global → Bool
@@ -56,4 +56,4 @@ IsFair test = (a b : PlacedFault) → same_fault a b ≡ true → test a ≡ tes
 
 -- a diagnostic that is of no fault of a demand
 abbrev pub is_other : FastCheckDiagnostic → Bool
-is_other d = not (tells any_fault d)
+is_other d = not (diagnoses any_fault d)

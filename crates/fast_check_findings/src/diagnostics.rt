@@ -4,7 +4,7 @@ ghost use Rattle.std.specs.Prelude.{◌≡◌, true, false, ◌||◌, Bool, Some
 ghost use Rattle.std.specs.List.{list_any, IsDistinct};
 ghost use Rattle.std.specs.Rc.{rc_str_bytes};
 ghost use Rattle.fast_check_findings.specs.Faults.{PlacedFault, placed_with, demand_fault};
-ghost use Rattle.fast_check_findings.specs.Diagnostics.{IsFair, passes, is_other, tell_one_fault, tells};
+ghost use Rattle.fast_check_findings.specs.Diagnostics.{IsFair, passes, is_other, diagnose_one_fault, diagnoses};
 
 use crate::demand_fault::DemandFault;
 use fast_check_demands::DemandFaultKind;
@@ -85,13 +85,13 @@ fn each_once(
 }
 
 /// The diagnostics of faults that are there once, in order.
-fn each_told(
+fn each_diagnosed(
     alloc: Global,
     once: BTreeMap<DemandFault, RcStr>,
 ) -> Result<Vec<FastCheckDiagnostic>, AllocError>
-    ensures told { IfOk result (λ out. (test : PlacedFault → Bool) → list_any (tells test) out.items ≡ list_any (passes test) once.entries) }
+    ensures diagnosed { IfOk result (λ out. (test : PlacedFault → Bool) → list_any (diagnoses test) out.items ≡ list_any (passes test) once.entries) }
     ensures only { IfOk result (λ out. list_any is_other out.items ≡ false) }
-    ensures once { IfOk result (λ out. IsDistinct tell_one_fault out.items) }
+    ensures once { IfOk result (λ out. IsDistinct diagnose_one_fault out.items) }
 {
     let mut out = Vec::new(alloc);
     for (fault, text_info) in once {
@@ -106,12 +106,12 @@ pub fn diagnostics_of(
     faults: Vec<(DemandFault, RcStr)>,
 ) -> Result<Vec<FastCheckDiagnostic>, AllocError>
     ensures same { IfOk result (λ out. (test : PlacedFault → Bool) → IsFair test →
-        list_any (tells test) out.items ≡ list_any (passes test) faults.items) }
+        list_any (diagnoses test) out.items ≡ list_any (passes test) faults.items) }
     ensures exact { IfOk result (λ out. (test : PlacedFault → Bool) →
-        list_any (tells test) out.items ≡ true → list_any (passes test) faults.items ≡ true) }
+        list_any (diagnoses test) out.items ≡ true → list_any (passes test) faults.items ≡ true) }
     ensures only { IfOk result (λ out. list_any is_other out.items ≡ false) }
-    ensures once { IfOk result (λ out. IsDistinct tell_one_fault out.items) }
+    ensures once { IfOk result (λ out. IsDistinct diagnose_one_fault out.items) }
 {
     let once = each_once(alloc, faults)?;
-    each_told(alloc, once)
+    each_diagnosed(alloc, once)
 }

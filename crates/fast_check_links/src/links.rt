@@ -19,16 +19,21 @@ use std::alloc::{AllocError, Global};
 /// has none.
 fn answered_source(
     alloc: Global,
-    asked: Surroundings<'_>,
+    around: Surroundings<'_>,
     src: Part<'_>,
 ) -> Result<Tree, AllocError>
-    ensures { IfOk result (λ tree. tree ≡ answered_source (seen_around asked.entry) (seen src.entry)) }
+    ensures { IfOk result (λ tree. tree ≡ answered_source (seen_around around.entry) (seen src.entry)) }
 {
     if src.is_absent() {
         return src.to_tree(alloc);
     }
     let Str { span, value, .. } = Str::of(src);
-    match relative_source(alloc, asked.graph, asked.es_module_info.specifier(), value)? {
+    match relative_source(
+        alloc,
+        around.graph,
+        around.es_module_info.specifier(),
+        value,
+    )? {
         Some(text) => {
             let source = Str {
                 span,
@@ -44,13 +49,13 @@ fn answered_source(
 /// The source as it is answered, and the attributes as they are.
 fn source_and_attributes(
     alloc: Global,
-    asked: Surroundings<'_>,
+    around: Surroundings<'_>,
     src: Part<'_>,
     with: Part<'_>,
 ) -> Result<(Tree, Tree), AllocError>
-    ensures { IfOk result (λ made. (made.0 ≡ answered_source (seen_around asked.entry) (seen src.entry)) × (made.1 ≡ seen with.entry)) }
+    ensures { IfOk result (λ made. (made.0 ≡ answered_source (seen_around around.entry) (seen src.entry)) × (made.1 ≡ seen with.entry)) }
 {
-    let src = answered_source(alloc, asked, src)?;
+    let src = answered_source(alloc, around, src)?;
     let with = with.to_tree(alloc)?;
     Ok((src, with))
 }
@@ -58,15 +63,15 @@ fn source_and_attributes(
 /// The specifiers of an import or an export that are public, each by its own range.
 fn public_specifiers(
     alloc: Global,
-    asked: Surroundings<'_>,
+    around: Surroundings<'_>,
     specifiers: Part<'_>,
 ) -> Result<Items<Tree>, AllocError>
-    ensures { IfOk result (λ items. items ≡ public_specifiers (seen_around asked.entry) (seen specifiers.entry)) }
+    ensures { IfOk result (λ items. items ≡ public_specifiers (seen_around around.entry) (seen specifiers.entry)) }
 {
     let mut items = Items::new(alloc);
     for specifier in specifiers.parts() {
         let specifier = specifier.read();
-        if !asked.public_ranges.contains(&range_of_node(specifier)) {
+        if !around.public_ranges.contains(&range_of_node(specifier)) {
             continue;
         }
         items.push(specifier.to_tree(alloc)?)?;
@@ -77,10 +82,10 @@ fn public_specifiers(
 /// An import with its public specifiers; none where it has none.
 fn keep_import(
     alloc: Global,
-    asked: Surroundings<'_>,
+    around: Surroundings<'_>,
     item: Part<'_>,
 ) -> Result<Option<Tree>, AllocError>
-    ensures { IfOk result (λ tree. link_answer (seen_around asked.entry) (seen item.entry) links.Import ≡ faultless (as_list tree)) }
+    ensures { IfOk result (λ tree. link_answer (seen_around around.entry) (seen item.entry) links.Import ≡ faultless (as_list tree)) }
 {
     let ImportDecl {
         span,
@@ -90,12 +95,12 @@ fn keep_import(
         with,
         phase,
     } = ImportDecl::of(item);
-    let specifiers = public_specifiers(alloc, asked, specifiers)?;
+    let specifiers = public_specifiers(alloc, around, specifiers)?;
     if specifiers.is_empty() {
         return Ok(None);
     }
     let phase = Atom::from_str(alloc, phase)?;
-    let (src, with) = source_and_attributes(alloc, asked, src, with)?;
+    let (src, with) = source_and_attributes(alloc, around, src, with)?;
     let import = ImportDecl {
         span,
         specifiers: Tree::list(specifiers),
@@ -110,10 +115,10 @@ fn keep_import(
 /// An export of names with its public specifiers; none where it has none.
 fn keep_export(
     alloc: Global,
-    asked: Surroundings<'_>,
+    around: Surroundings<'_>,
     item: Part<'_>,
 ) -> Result<Option<Tree>, AllocError>
-    ensures { IfOk result (λ tree. link_answer (seen_around asked.entry) (seen item.entry) links.Export ≡ faultless (as_list tree)) }
+    ensures { IfOk result (λ tree. link_answer (seen_around around.entry) (seen item.entry) links.Export ≡ faultless (as_list tree)) }
 {
     let NamedExport {
         span,
@@ -122,11 +127,11 @@ fn keep_export(
         type_only,
         with,
     } = NamedExport::of(item);
-    let specifiers = public_specifiers(alloc, asked, specifiers)?;
+    let specifiers = public_specifiers(alloc, around, specifiers)?;
     if specifiers.is_empty() {
         return Ok(None);
     }
-    let (src, with) = source_and_attributes(alloc, asked, src, with)?;
+    let (src, with) = source_and_attributes(alloc, around, src, with)?;
     let export = NamedExport {
         span,
         specifiers: Tree::list(specifiers),
@@ -140,10 +145,10 @@ fn keep_export(
 /// `export * from source`; none where it is not public.
 fn keep_all(
     alloc: Global,
-    asked: Surroundings<'_>,
+    around: Surroundings<'_>,
     item: Part<'_>,
 ) -> Result<Option<Tree>, AllocError>
-    ensures { IfOk result (λ tree. link_answer (seen_around asked.entry) (seen item.entry) links.All ≡ faultless (as_list tree)) }
+    ensures { IfOk result (λ tree. link_answer (seen_around around.entry) (seen item.entry) links.All ≡ faultless (as_list tree)) }
 {
     let ExportAll {
         span,
@@ -151,10 +156,10 @@ fn keep_all(
         type_only,
         with,
     } = ExportAll::of(item);
-    if !asked.public_ranges.contains(&span) {
+    if !around.public_ranges.contains(&span) {
         return Ok(None);
     }
-    let (src, with) = source_and_attributes(alloc, asked, src, with)?;
+    let (src, with) = source_and_attributes(alloc, around, src, with)?;
     let export = ExportAll {
         span,
         src,
@@ -167,12 +172,12 @@ fn keep_all(
 /// `import A = B.C` as it is written; none where it is not public.
 fn keep_alias(
     alloc: Global,
-    asked: Surroundings<'_>,
+    around: Surroundings<'_>,
     item: Part<'_>,
 ) -> Result<Option<Tree>, AllocError>
-    ensures { IfOk result (λ tree. link_answer (seen_around asked.entry) (seen item.entry) links.Alias ≡ faultless (as_list tree)) }
+    ensures { IfOk result (λ tree. link_answer (seen_around around.entry) (seen item.entry) links.Alias ≡ faultless (as_list tree)) }
 {
-    if !asked
+    if !around
         .public_ranges
         .contains(&TsImportEqualsDecl::of(item).span)
     {
@@ -184,16 +189,16 @@ fn keep_alias(
 /// What is public of an import or an export with which this is done; none where nothing is. Nothing can be wrong with it.
 pub fn keep_link(
     alloc: Global,
-    asked: Surroundings<'_>,
+    around: Surroundings<'_>,
     item: Part<'_>,
     rule: LinkRule,
 ) -> Result<Option<Tree>, AllocError>
-    ensures { IfOk result (λ tree. link_answer (seen_around asked.entry) (seen item.entry) rule ≡ faultless (as_list tree)) }
+    ensures { IfOk result (λ tree. link_answer (seen_around around.entry) (seen item.entry) rule ≡ faultless (as_list tree)) }
 {
     match rule {
-        LinkRule::Import => keep_import(alloc, asked, item),
-        LinkRule::Export => keep_export(alloc, asked, item),
-        LinkRule::All => keep_all(alloc, asked, item),
-        LinkRule::Alias => keep_alias(alloc, asked, item),
+        LinkRule::Import => keep_import(alloc, around, item),
+        LinkRule::Export => keep_export(alloc, around, item),
+        LinkRule::All => keep_all(alloc, around, item),
+        LinkRule::Alias => keep_alias(alloc, around, item),
     }
 }

@@ -161,10 +161,10 @@ module _ (around : Surroundings) (item : Tree) where
   silent e old = adds_same (by_item_rule e) (adds_nothing [] old)
 
 -- the fault of an item that no skeleton has
-pub told_refused : (item : Tree) (kind : FaultKind) {place : SourceRange} → place ≡ range_of_node item → {old new : List Fault} →
+pub diagnosed_refused : (item : Tree) (kind : FaultKind) {place : SourceRange} → place ≡ range_of_node item → {old new : List Fault} →
     new ≡ old ++ fault_at kind place ∷ [] → Adds (refused_answer item kind) (Absent ∷ []) old new
 unfolding refused_answer
-told_refused item kind p {old} f =
+diagnosed_refused item kind p {old} f =
     subst (λ fs. Adds (answer_of (faulty kind (range_of_node item) ∷ [])) (Absent ∷ []) old fs)
     (sym (f ∙ ap (λ r. old ++ fault_at kind r ∷ []) p))
     (alone (faulty kind (range_of_node item)) (adds_fault (Some Absent) (fault_at kind (range_of_node item)) old))

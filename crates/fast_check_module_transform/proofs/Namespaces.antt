@@ -57,11 +57,11 @@ faulty_namespace decl f e = go (TsModuleDecl-global decl) (is_ambient_module dec
 
 module _ (around : Surroundings) (place : SourceRange) (decl : Tree) where
   -- a fault that is told
-  told : {f : Fault} {old new : List Fault} → new ≡ old ++ f ∷ [] → {g : Fault} → f ≡ g →
+  diagnosed : {f : Fault} {old new : List Fault} → new ≡ old ++ f ∷ [] → {g : Fault} → f ≡ g →
       namespace_seen item_look around place decl ≡ faulty g.kind g.range ∷ [] →
       Adds (namespace_answer around place decl) (Absent ∷ []) old new
   unfolding namespace_answer
-  told {f} {old} {new} n {g} e s =
+  diagnosed {f} {old} {new} n {g} e s =
       subst (λ fs. Adds (answer_of (namespace_seen item_look around place decl)) (Absent ∷ []) old fs) (sym (n ∙ ap (λ x. old ++ x ∷ []) e))
       (adds_same (ap answer_of s) (alone (faulty g.kind g.range) (adds_fault (Some Absent) g old)))
 
@@ -71,8 +71,8 @@ module _ (around : Surroundings) (place : SourceRange) (decl : Tree) where
     where
       go : (g m : Bool) → TsModuleDecl-global decl ≡ g → is_ambient_module decl ≡ m → fault_if decl g m ≡ Some f →
           Adds (namespace_answer around place decl) (Absent ∷ []) old new
-      go true m p q e = told n (sym cc) (global_is around place decl p)
-      go false true p q e = told n (sym cc) (ambient_module_is around place decl p q)
+      go true m p q e = diagnosed n (sym cc) (global_is around place decl p)
+      go false true p q e = diagnosed n (sym cc) (ambient_module_is around place decl p q)
       go false false p q e = cc
 
   pub private_namespace : module_fault decl ≡ None → around.is_public place ≡ false → (old : List Fault) →

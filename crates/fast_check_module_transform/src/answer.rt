@@ -5,7 +5,7 @@ ghost use Rattle.fast_check_parsed_source.specs.MediaType.{is_declaration};
 ghost use Rattle.fast_check_modules.specs.EsModule.{Admits};
 ghost use Rattle.fast_check_declarations.specs.surroundings.bindings.Bindings.{bindings_of};
 ghost use Rattle.fast_check_module_transform.specs.Transform.{skeleton, sources, comments, faults};
-ghost use Rattle.fast_check_transform_faults.specs.Diagnostics.{AreDiagnosticsOf, told};
+ghost use Rattle.fast_check_transform_faults.specs.Diagnostics.{AreDiagnosticsOf, diagnosed};
 
 use crate::program::{KeptModule, keep_module};
 use fast_check_graph::ModuleGraph;
@@ -46,7 +46,7 @@ pub fn transform(
     ensures sources { IfOk result (λ answer. IfOk answer (λ made. made.module_info.sources.items ≡ sources graph.now es_module_info.now public_ranges.now)) }
     ensures faults { IfOk result (λ answer. IfErr answer (λ diagnostics.
         AreDiagnosticsOf es_module_info.now
-        (told options.now.should_error_on_first_diagnostic (faults graph.now es_module_info.now public_ranges.now)) diagnostics.items)) }
+        (diagnosed options.now.should_error_on_first_diagnostic (faults graph.now es_module_info.now public_ranges.now)) diagnostics.items)) }
 {
     let KeptModule {
         program,

@@ -33,17 +33,17 @@ use std::alloc::{AllocError, Global};
 #[cycle(items)]
 pub fn keep_items(
     alloc: Global,
-    asked: Surroundings<'_>,
+    around: Surroundings<'_>,
     body: Part<'_>,
     comments: &mut CommentsMut,
     faults: &mut Vec<Fault>,
 ) -> Result<Items<Tree>, AllocError>
-    ensures answer { IfOk result (λ items. Adds (items_answer (seen_around asked.entry) (parts (seen body.entry))) items faults.old.items faults.new.items) }
+    ensures answer { IfOk result (λ items. Adds (items_answer (seen_around around.entry) (parts (seen body.entry))) items faults.old.items faults.new.items) }
     ensures comments { IfOk result (λ _.
-        comments.new ≡ without_all_leading (removed_from (seen_around asked.entry) (parts (seen body.entry))) comments.old) }
+        comments.new ≡ without_all_leading (removed_from (seen_around around.entry) (parts (seen body.entry))) comments.old) }
 {
     let mut properties = Vec::new(alloc);
-    let mut items = keep_each(alloc, asked, body, comments, &mut properties, faults)?;
+    let mut items = keep_each(alloc, around, body, comments, &mut properties, faults)?;
     items.append(keep_namespaces(alloc, properties, faults)?)?;
     Ok(items)
 }
@@ -52,34 +52,34 @@ pub fn keep_items(
 #[cycle(items)]
 fn keep_each(
     alloc: Global,
-    asked: Surroundings<'_>,
+    around: Surroundings<'_>,
     body: Part<'_>,
     comments: &mut CommentsMut,
     properties: &mut Vec<ExpandoProperty>,
     faults: &mut Vec<Fault>,
 ) -> Result<Items<Tree>, AllocError>
-    ensures answer { IfOk result (λ items. Adds (each_answer (seen_around asked.entry) (parts (seen body.entry))) items faults.old.items faults.new.items) }
+    ensures answer { IfOk result (λ items. Adds (each_answer (seen_around around.entry) (parts (seen body.entry))) items faults.old.items faults.new.items) }
     ensures properties { IfOk result (λ _.
-        properties.new.items ≡ properties.old.items ++ flat_map (item_properties (seen_around asked.entry)) (parts (seen body.entry))) }
+        properties.new.items ≡ properties.old.items ++ flat_map (item_properties (seen_around around.entry)) (parts (seen body.entry))) }
     ensures comments { IfOk result (λ _.
-        comments.new ≡ without_all_leading (removed_from (seen_around asked.entry) (parts (seen body.entry))) comments.old) }
+        comments.new ≡ without_all_leading (removed_from (seen_around around.entry) (parts (seen body.entry))) comments.old) }
 {
     let mut items = Items::new(alloc);
     for item in body.parts() {
         let item = item.read();
         if is_assigned(item) {
-            keep_assignment(alloc, asked, ExprStmt::of(item).expr, properties, faults)?;
+            keep_assignment(alloc, around, ExprStmt::of(item).expr, properties, faults)?;
             comments.remove_leading(range_of_node(item).start);
             continue;
         }
-        match keep_item(alloc, asked, item, comments, faults)? {
+        match keep_item(alloc, around, item, comments, faults)? {
             None => {
                 comments.remove_leading(range_of_node(item).start);
-                remove_inside(alloc, asked, item, comments)?;
+                remove_inside(alloc, around, item, comments)?;
                 continue;
             }
             Some(tree) => {
-                remove_inside(alloc, asked, item, comments)?;
+                remove_inside(alloc, around, item, comments)?;
                 items.push(tree)?;
             }
         }
@@ -92,27 +92,27 @@ fn keep_each(
 #[cycle(items)]
 fn keep_namespace(
     alloc: Global,
-    asked: Surroundings<'_>,
+    around: Surroundings<'_>,
     place: SourceRange,
     decl: Part<'_>,
     comments: &mut CommentsMut,
     faults: &mut Vec<Fault>,
 ) -> Result<Option<Tree>, AllocError>
     ensures answer { IfOk result (λ tree.
-        Adds (namespace_answer (seen_around asked.entry) place (seen decl.entry)) (as_list tree) faults.old.items faults.new.items) }
+        Adds (namespace_answer (seen_around around.entry) place (seen decl.entry)) (as_list tree) faults.old.items faults.new.items) }
     ensures comments { IfOk result (λ _.
-        comments.new ≡ without_all_leading (starts_in_namespace start_look (seen_around asked.entry) place (seen decl.entry)) comments.old) }
+        comments.new ≡ without_all_leading (starts_in_namespace start_look (seen_around around.entry) place (seen decl.entry)) comments.old) }
 {
     if let Some(fault) = module_fault(decl) {
         faults.push(fault)?;
         return Ok(Some(Tree::Absent));
     }
-    if !asked.public_ranges.contains(&place) {
+    if !around.public_ranges.contains(&place) {
         return Ok(None);
     }
     let items = keep_items(
         alloc,
-        asked.inside(decl),
+        around.inside(decl),
         items_inside(decl),
         comments,
         faults,
@@ -125,7 +125,7 @@ fn keep_namespace(
 #[cycle(items)]
 fn keep_decl(
     alloc: Global,
-    asked: Surroundings<'_>,
+    around: Surroundings<'_>,
     place: SourceRange,
     decl: Part<'_>,
     rule: DeclRule,
@@ -133,17 +133,17 @@ fn keep_decl(
     faults: &mut Vec<Fault>,
 ) -> Result<Option<Tree>, AllocError>
     ensures answer { IfOk result (λ tree.
-        Adds (decl_answer (seen_around asked.entry) place (seen decl.entry) rule) (as_list tree) faults.old.items faults.new.items) }
+        Adds (decl_answer (seen_around around.entry) place (seen decl.entry) rule) (as_list tree) faults.old.items faults.new.items) }
     ensures comments { IfOk result (λ _.
-        comments.new ≡ without_all_leading (starts_in_body start_look (seen_around asked.entry) place (seen decl.entry) rule) comments.old) }
+        comments.new ≡ without_all_leading (starts_in_body start_look (seen_around around.entry) place (seen decl.entry) rule) comments.old) }
 {
     match rule {
-        DeclRule::Variables => keep_statement(alloc, asked, decl, faults),
-        DeclRule::Function => keep_public_function(alloc, asked, place, decl, faults),
-        DeclRule::Class => keep_public_class(alloc, asked, place, decl, faults),
-        DeclRule::Standing => keep_standing(alloc, asked, place, decl),
-        DeclRule::Namespace => keep_namespace(alloc, asked, place, decl, comments, faults),
-        DeclRule::Using => keep_using(asked, place, decl, faults),
+        DeclRule::Variables => keep_statement(alloc, around, decl, faults),
+        DeclRule::Function => keep_public_function(alloc, around, place, decl, faults),
+        DeclRule::Class => keep_public_class(alloc, around, place, decl, faults),
+        DeclRule::Standing => keep_standing(alloc, around, place, decl),
+        DeclRule::Namespace => keep_namespace(alloc, around, place, decl, comments, faults),
+        DeclRule::Using => keep_using(around, place, decl, faults),
         DeclRule::NoDeclaration => Ok(None),
     }
 }
@@ -152,19 +152,19 @@ fn keep_decl(
 #[cycle(items)]
 fn keep_export(
     alloc: Global,
-    asked: Surroundings<'_>,
+    around: Surroundings<'_>,
     item: Part<'_>,
     rule: DeclRule,
     comments: &mut CommentsMut,
     faults: &mut Vec<Fault>,
 ) -> Result<Option<Tree>, AllocError>
     ensures answer { IfOk result (λ tree.
-        Adds (export_answer (seen_around asked.entry) (seen item.entry) rule) (as_list tree) faults.old.items faults.new.items) }
+        Adds (export_answer (seen_around around.entry) (seen item.entry) rule) (as_list tree) faults.old.items faults.new.items) }
     ensures comments { IfOk result (λ _.
-        comments.new ≡ without_all_leading (starts_in_export (seen_around asked.entry) (seen item.entry) rule) comments.old) }
+        comments.new ≡ without_all_leading (starts_in_export (seen_around around.entry) (seen item.entry) rule) comments.old) }
 {
     let ExportDecl { span, decl } = ExportDecl::of(item);
-    match keep_decl(alloc, asked, span, decl, rule, comments, faults)? {
+    match keep_decl(alloc, around, span, decl, rule, comments, faults)? {
         Some(decl) => Ok(Some(ExportDecl { span, decl }.into_tree(alloc)?)),
         None => Ok(None),
     }
@@ -195,29 +195,29 @@ fn is_assigned(item: Part<'_>) -> bool
 #[cycle(items)]
 fn keep_item(
     alloc: Global,
-    asked: Surroundings<'_>,
+    around: Surroundings<'_>,
     item: Part<'_>,
     comments: &mut CommentsMut,
     faults: &mut Vec<Fault>,
 ) -> Result<Option<Tree>, AllocError>
     requires no_assignment { is_assigned (item_rule (seen item)) ≡ false }
-    ensures answer { IfOk result (λ tree. Adds (item_answer (seen_around asked.entry) (seen item.entry)) (as_list tree) faults.old.items faults.new.items) }
+    ensures answer { IfOk result (λ tree. Adds (item_answer (seen_around around.entry) (seen item.entry)) (as_list tree) faults.old.items faults.new.items) }
     ensures comments { IfOk result (λ _.
-        comments.new ≡ without_all_leading (starts_below start_look (seen_around asked.entry) (seen item.entry) (item_rule (seen item.entry))) comments.old) }
+        comments.new ≡ without_all_leading (starts_below start_look (seen_around around.entry) (seen item.entry) (item_rule (seen item.entry))) comments.old) }
 {
     match item_rule(item) {
         ItemRule::Declared(rule) => keep_decl(
             alloc,
-            asked,
+            around,
             range_of_node(item),
             item,
             rule,
             comments,
             faults,
         ),
-        ItemRule::Exported(rule) => keep_export(alloc, asked, item, rule, comments, faults),
-        ItemRule::Linked(rule) => keep_link(alloc, asked, item, rule),
-        ItemRule::Default(rule) => keep_default(alloc, asked, item, rule, faults),
+        ItemRule::Exported(rule) => keep_export(alloc, around, item, rule, comments, faults),
+        ItemRule::Linked(rule) => keep_link(alloc, around, item, rule),
+        ItemRule::Default(rule) => keep_default(alloc, around, item, rule, faults),
         ItemRule::Refused(kind) => refuse(item, kind, faults),
         ItemRule::Assigned => Ok(None),
         ItemRule::Silent => Ok(None),

@@ -38,13 +38,13 @@ pub fn keep_module(
     ensures comments { IfOk result (λ kept. kept.comments ≡ comments graph.now es_module_info.now public_ranges.now) }
     ensures faults { IfOk result (λ kept. kept.faults.items ≡ faults graph.now es_module_info.now public_ranges.now) }
 {
-    let asked = Surroundings::of(graph, es_module_info, public_ranges);
+    let around = Surroundings::of(graph, es_module_info, public_ranges);
     let source = es_module_info.source();
     let mut comments = CommentsMut::new(source.comments.clone()?);
     let mut faults = Vec::new(alloc);
     let program = keep_program(
         alloc,
-        asked,
+        around,
         source.program.read(),
         &mut comments,
         &mut faults,
@@ -59,20 +59,20 @@ pub fn keep_module(
 /// A module with what is public of its items. The comments before the others go.
 fn keep_program(
     alloc: Global,
-    asked: Surroundings<'_>,
+    around: Surroundings<'_>,
     program: Part<'_>,
     comments: &mut CommentsMut,
     faults: &mut Vec<Fault>,
 ) -> Result<Tree, AllocError>
-    ensures answer { IfOk result (λ tree. Adds (program_answer (seen_around asked.entry) (seen program.entry)) tree faults.old.items faults.new.items) }
-    ensures comments { IfOk result (λ _. comments.new ≡ without_all_leading (removed_starts (seen_around asked.entry) (seen program.entry)) comments.old) }
+    ensures answer { IfOk result (λ tree. Adds (program_answer (seen_around around.entry) (seen program.entry)) tree faults.old.items faults.new.items) }
+    ensures comments { IfOk result (λ _. comments.new ≡ without_all_leading (removed_starts (seen_around around.entry) (seen program.entry)) comments.old) }
 {
     let Module {
         span,
         body,
         shebang,
     } = Module::of(program);
-    let items = keep_items(alloc, asked, body, comments, faults)?;
+    let items = keep_items(alloc, around, body, comments, faults)?;
     let module = Module {
         span,
         body: Tree::list(items),

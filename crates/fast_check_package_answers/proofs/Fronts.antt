@@ -13,18 +13,18 @@ use Rattle.fast_check_graph.specs.declared.root_symbol.ModuleInfo.{ModuleInfo}
 use Rattle.fast_check_graph.specs.declared.root_symbol.ModuleInfo.TheVariants.{Esm, Json}
 use Rattle.fast_check_graph.specs.declared.root_symbol.RootSymbol.{RootSymbol}
 use Rattle.fast_check_module_transform.specs.Transform.{faults}
-use Rattle.fast_check_package_answers.specs.Reasons.{PublicModule, Reason, met, found, reasons_in_tree, found_or, module_reasons}
-use Rattle.fast_check_package_answers.specs.Reasons.{first_list, package_reasons}
+use Rattle.fast_check_package_answers.specs.PackageFaults.{PublicModule, PackageFault, met, found, faults_in_tree, found_or, module_faults}
+use Rattle.fast_check_package_answers.specs.PackageFaults.{first_list, package_faults}
 use Rattle.fast_check_package_answers.specs.PackageAnswer.{IsFrontAlone}
 use Rattle.fast_check_package_answers.proofs.Lists.{front_empty}
 
 -- a front of a list, which is empty where the list is
-record IsFront (front all : List Reason) : Type 0 where
-  rest : List Reason
+record IsFront (front all : List PackageFault) : Type 0 where
+  rest : List PackageFault
   joined : all ≡ front ++ rest
   empty : front ≡ [] → all ≡ []
 
-whole : (rs : List Reason) → IsFront rs rs
+whole : (rs : List PackageFault) → IsFront rs rs
 whole rs = record { rest = []; joined = sym (append-nil rs); empty = λ e. e }
 
 one_fault : (info : EsModule) (fs : List Fault) → IsFront (map (met info) (take 1 fs)) (map (met info) fs)
@@ -32,20 +32,20 @@ one_fault info [] = whole []
 one_fault info (f ∷ fs) = record { rest = map (met info) fs; joined = refl; empty = λ e. cc }
 
 in_tree : (graph : ModuleGraph) (public : PublicRanges) (info : Option ModuleInfo) →
-    IsFront (reasons_in_tree true graph public info) (reasons_in_tree false graph public info)
+    IsFront (faults_in_tree true graph public info) (faults_in_tree false graph public info)
 in_tree graph public None = whole []
 in_tree graph public (Some (Json json)) = whole []
 in_tree graph public (Some (Esm info)) = one_fault info (faults graph info public)
 
-or_found : (ds : List FastCheckDiagnostic) (rs all : List Reason) → IsFront rs all → IsFront (found_or ds rs) (found_or ds all)
+or_found : (ds : List FastCheckDiagnostic) (rs all : List PackageFault) → IsFront rs all → IsFront (found_or ds rs) (found_or ds all)
 or_found [] rs all h = h
 or_found (d ∷ ds) rs all h = whole (map found (d ∷ ds))
 
 in_module : (graph : ModuleGraph) (root : RootSymbol) (m : PublicModule) →
-    IsFront (module_reasons true graph root m) (module_reasons false graph root m)
+    IsFront (module_faults true graph root m) (module_faults false graph root m)
 in_module graph root m = or_found m.1.diagnostics _ _ (in_tree graph m.1 (found_module root m.0))
 
-one_more : (front all : List Reason) (fronts : List (List Reason)) (others : List Reason) → IsFront front all →
+one_more : (front all : List PackageFault) (fronts : List (List PackageFault)) (others : List PackageFault) → IsFront front all →
     IsFront (first_list fronts) others →
     IsFront (first_list (front ∷ fronts)) (all ++ others)
 one_more [] all fronts others h k =
@@ -57,11 +57,11 @@ one_more (r ∷ rs) all fronts others h k = record {
 }
 
 in_package : (graph : ModuleGraph) (root : RootSymbol) (modules : List PublicModule) →
-    IsFront (package_reasons true graph root modules) (package_reasons false graph root modules)
+    IsFront (package_faults true graph root modules) (package_faults false graph root modules)
 in_package graph root [] = whole []
 in_package graph root (m ∷ modules) =
-    one_more (module_reasons true graph root m) (module_reasons false graph root m) (map (module_reasons true graph root) modules)
-    (flat_map (module_reasons false graph root) modules) (in_module graph root m) (in_package graph root modules)
+    one_more (module_faults true graph root m) (module_faults false graph root m) (map (module_faults true graph root) modules)
+    (flat_map (module_faults false graph root) modules) (in_module graph root m) (in_package graph root modules)
 
 pub front_alone : (graph : ModuleGraph) (root : RootSymbol) (modules : List PublicModule) → IsFrontAlone graph root modules
 front_alone graph root modules =

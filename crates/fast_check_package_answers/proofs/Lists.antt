@@ -4,15 +4,15 @@ use Rattle.std.proofs.Common.{◌∙◌, sym, ap, eq-eqb, eqb-true}
 use Rattle.std.proofs.lemmas.List.{append-nil, nil_from_length}
 use Rattle.std.proofs.Math.Seq.{take-append_seam}
 use Rattle.std.specs.List.{AllZip, AllByRecursion}
-use Rattle.fast_check_package_answers.specs.Reasons.{Reason, first_list}
+use Rattle.fast_check_package_answers.specs.PackageFaults.{PackageFault, first_list}
 
-pub first_last : (lists : List (List Reason)) (last : List Reason) → first_list lists ≡ [] → first_list (lists ++ last ∷ []) ≡ last
+pub first_last : (lists : List (List PackageFault)) (last : List PackageFault) → first_list lists ≡ [] → first_list (lists ++ last ∷ []) ≡ last
 first_last [] [] e = refl
 first_last [] (r ∷ rs) e = refl
 first_last ([] ∷ lists) last e = first_last lists last e
 first_last ((r ∷ rs) ∷ lists) last e = cc
 
-pub first_front : (lists more : List (List Reason)) → first_list lists ≢ [] → first_list (lists ++ more) ≡ first_list lists
+pub first_front : (lists more : List (List PackageFault)) → first_list lists ≢ [] → first_list (lists ++ more) ≡ first_list lists
 first_front [] more some = absurd (some refl)
 first_front ([] ∷ lists) more some = first_front lists more some
 first_front ((r ∷ rs) ∷ lists) more some = refl

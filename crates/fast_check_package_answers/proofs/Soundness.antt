@@ -6,8 +6,8 @@ use Rattle.std.proofs.lemmas.List.Sums.{take_while-cons}
 use Rattle.std.proofs.lemmas.List.{append-nil}
 use Rattle.fast_check_graph.specs.declared.graph.ModuleGraph.{ModuleGraph}
 use Rattle.fast_check_graph.specs.declared.root_symbol.RootSymbol.{RootSymbol}
-use Rattle.fast_check_package_answers.specs.Reasons.{PublicModule, Reason, first_list, module_reasons, package_reasons, is_sound}
-use Rattle.fast_check_package_answers.specs.Reasons.{sound_front}
+use Rattle.fast_check_package_answers.specs.PackageFaults.{PublicModule, PackageFault, first_list, module_faults, package_faults, is_sound}
+use Rattle.fast_check_package_answers.specs.PackageFaults.{sound_front}
 use Rattle.fast_check_package_answers.proofs.Lists.{front_empty, back_empty, empty_test, test_empty, full_test}
 
 -- ---- fronts of lists
@@ -53,78 +53,78 @@ while_stop p (x ∷ xs) ys e = one_stop p x xs ys (p x) refl (while_stop p xs ys
 
 -- ---- where nothing is wrong
 
-first_empty : (rs : List Reason) (lists : List (List Reason)) → first_list (rs ∷ lists) ≡ [] → (rs ≡ []) × (first_list lists ≡ [])
+first_empty : (rs : List PackageFault) (lists : List (List PackageFault)) → first_list (rs ∷ lists) ≡ [] → (rs ≡ []) × (first_list lists ≡ [])
 first_empty [] lists e = (refl, e)
 first_empty (r ∷ rs) lists e = cc
 
-abbrev sound : (PublicModule → List Reason) → PublicModule → Bool
+abbrev sound : (PublicModule → List PackageFault) → PublicModule → Bool
 sound f m = length (f m) == 0
 
-sound_joined : (f : PublicModule → List Reason) (ms : List PublicModule) → flat_map f ms ≡ [] → list_all (sound f) ms ≡ true
+sound_joined : (f : PublicModule → List PackageFault) (ms : List PublicModule) → flat_map f ms ≡ [] → list_all (sound f) ms ≡ true
 sound_joined f [] e = refl
 sound_joined f (m ∷ ms) e =
     both_true (sound f m) (list_all (sound f) ms) (empty_test (f m) (front_empty (f m) (flat_map f ms) e))
     (sound_joined f ms (back_empty (f m) (flat_map f ms) e))
 
-sound_first : (f : PublicModule → List Reason) (ms : List PublicModule) → first_list (map f ms) ≡ [] → list_all (sound f) ms ≡ true
+sound_first : (f : PublicModule → List PackageFault) (ms : List PublicModule) → first_list (map f ms) ≡ [] → list_all (sound f) ms ≡ true
 sound_first f [] e = refl
 sound_first f (m ∷ ms) e =
     let h = first_empty (f m) (map f ms) e in
     both_true (sound f m) (list_all (sound f) ms) (empty_test (f m) h.0) (sound_first f ms h.1)
 
-joined_sound : (f : PublicModule → List Reason) (ms : List PublicModule) → list_all (sound f) ms ≡ true → flat_map f ms ≡ []
+joined_sound : (f : PublicModule → List PackageFault) (ms : List PublicModule) → list_all (sound f) ms ≡ true → flat_map f ms ≡ []
 joined_sound f [] e = refl
 joined_sound f (m ∷ ms) e =
     ap (λ rs. rs ++ flat_map f ms) (test_empty (f m) (both_left (sound f m) (list_all (sound f) ms) e))
     ∙ joined_sound f ms (both_right (sound f m) (list_all (sound f) ms) e)
 
-first_sound : (f : PublicModule → List Reason) (ms : List PublicModule) → list_all (sound f) ms ≡ true → first_list (map f ms) ≡ []
+first_sound : (f : PublicModule → List PackageFault) (ms : List PublicModule) → list_all (sound f) ms ≡ true → first_list (map f ms) ≡ []
 first_sound f [] e = refl
 first_sound f (m ∷ ms) e =
     ap (λ rs. first_list (rs ∷ map f ms)) (test_empty (f m) (both_left (sound f m) (list_all (sound f) ms) e))
     ∙ first_sound f ms (both_right (sound f m) (list_all (sound f) ms) e)
 
-all_sound : (first : Bool) (graph : ModuleGraph) (root : RootSymbol) (ms : List PublicModule) → package_reasons first graph root ms ≡ [] →
+all_sound : (first : Bool) (graph : ModuleGraph) (root : RootSymbol) (ms : List PublicModule) → package_faults first graph root ms ≡ [] →
     list_all (is_sound first graph root) ms ≡ true
-all_sound false graph root ms e = sound_joined (module_reasons false graph root) ms e
-all_sound true graph root ms e = sound_first (module_reasons true graph root) ms e
+all_sound false graph root ms e = sound_joined (module_faults false graph root) ms e
+all_sound true graph root ms e = sound_first (module_faults true graph root) ms e
 
-none_wrong : (first : Bool) (graph : ModuleGraph) (root : RootSymbol) (ms : List PublicModule) →
+none_faulty : (first : Bool) (graph : ModuleGraph) (root : RootSymbol) (ms : List PublicModule) →
     list_all (is_sound first graph root) ms ≡ true →
-    package_reasons first graph root ms ≡ []
-none_wrong false graph root ms e = joined_sound (module_reasons false graph root) ms e
-none_wrong true graph root ms e = first_sound (module_reasons true graph root) ms e
+    package_faults first graph root ms ≡ []
+none_faulty false graph root ms e = joined_sound (module_faults false graph root) ms e
+none_faulty true graph root ms e = first_sound (module_faults true graph root) ms e
 
 not_all : (first : Bool) (graph : ModuleGraph) (root : RootSymbol) (ms : List PublicModule) (b : Bool) →
     list_all (is_sound first graph root) ms ≡ b →
-    package_reasons first graph root ms ≢ [] → list_all (is_sound first graph root) ms ≡ false
-not_all first graph root ms true e some = absurd (some (none_wrong first graph root ms e))
+    package_faults first graph root ms ≢ [] → list_all (is_sound first graph root) ms ≡ false
+not_all first graph root ms true e some = absurd (some (none_faulty first graph root ms e))
 not_all first graph root ms false e some = e
 
 -- ---- the modules before the first with something wrong
 
 pub front_all : (first : Bool) (graph : ModuleGraph) (root : RootSymbol) (ms : List PublicModule) →
-    package_reasons first graph root ms ≡ [] →
+    package_faults first graph root ms ≡ [] →
     sound_front first graph root ms ≡ ms
 front_all first graph root ms e = while_all (is_sound first graph root) ms (all_sound first graph root ms e)
 
 pub front_more : (first : Bool) (graph : ModuleGraph) (root : RootSymbol) (ms : List PublicModule) (m : PublicModule) →
-    package_reasons first graph root ms ≡ [] → module_reasons first graph root m ≡ [] →
+    package_faults first graph root ms ≡ [] → module_faults first graph root m ≡ [] →
     sound_front first graph root (ms ++ m ∷ []) ≡ ms ++ m ∷ []
 front_more first graph root ms m e h =
     let p = is_sound first graph root in
     while_front p ms (m ∷ []) (all_sound first graph root ms e)
-    ∙ ap (λ zs. ms ++ zs) (while_true p m [] (empty_test (module_reasons first graph root m) h))
+    ∙ ap (λ zs. ms ++ zs) (while_true p m [] (empty_test (module_faults first graph root m) h))
 
 pub front_last : (first : Bool) (graph : ModuleGraph) (root : RootSymbol) (ms : List PublicModule) (m : PublicModule) →
-    package_reasons first graph root ms ≡ [] → module_reasons first graph root m ≢ [] → sound_front first graph root (ms ++ m ∷ []) ≡ ms
+    package_faults first graph root ms ≡ [] → module_faults first graph root m ≢ [] → sound_front first graph root (ms ++ m ∷ []) ≡ ms
 front_last first graph root ms m e h =
     let p = is_sound first graph root in
     while_front p ms (m ∷ []) (all_sound first graph root ms e)
-    ∙ (ap (λ zs. ms ++ zs) (while_false p m [] (full_test (module_reasons first graph root m) h)) ∙ append-nil ms)
+    ∙ (ap (λ zs. ms ++ zs) (while_false p m [] (full_test (module_faults first graph root m) h)) ∙ append-nil ms)
 
 pub front_stop : (first : Bool) (graph : ModuleGraph) (root : RootSymbol) (ms more : List PublicModule) →
-    package_reasons first graph root ms ≢ [] →
+    package_faults first graph root ms ≢ [] →
     sound_front first graph root (ms ++ more) ≡ sound_front first graph root ms
 front_stop first graph root ms more some =
     let p = is_sound first graph root in

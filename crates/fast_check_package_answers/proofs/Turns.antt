@@ -23,9 +23,9 @@ use Rattle.fast_check_graph.specs.declared.root_symbol.ModuleInfo.TheVariants.{E
 use Rattle.fast_check_graph.specs.declared.root_symbol.RootSymbol.{RootSymbol}
 use Rattle.fast_check_cache.specs.declared.package_ranges.PackagePublicRanges.{PackagePublicRanges}
 use Rattle.fast_check_module_transform.specs.Transform.{skeleton, sources, comments}
-use Rattle.fast_check_transform_faults.specs.Diagnostics.{AreDiagnosticsOf, told}
-use Rattle.fast_check_package_answers.specs.Reasons.{PublicModule, Reason, met, found, Tells, found_or, reasons_in_tree, first_list}
-use Rattle.fast_check_package_answers.specs.Reasons.{module_reasons, package_reasons, sound_front}
+use Rattle.fast_check_transform_faults.specs.Diagnostics.{AreDiagnosticsOf, diagnosed}
+use Rattle.fast_check_package_answers.specs.PackageFaults.{PublicModule, PackageFault, met, found, Diagnoses, found_or, faults_in_tree, first_list}
+use Rattle.fast_check_package_answers.specs.PackageFaults.{module_faults, package_faults, sound_front}
 use Rattle.fast_check_package_answers.specs.PackageAnswer.{Answer, TreeModule, IsShown, ShowsMore, with_tree, tree_modules, IsSkeletonOf}
 use Rattle.fast_check_package_answers.specs.PackageAnswer.{IsRefused, IsFoundAnswer, IsUsedAnswer, IsPackageAnswer, OwnsPublic, OwnsModule}
 use Rattle.fast_check_package_answers.specs.PackageAnswer.{OwnsAll}
@@ -68,42 +68,42 @@ not_false : (x : Bool) → not x ≡ false → x ≡ true
 not_false true p = refl
 not_false false p = cc
 
-pub early : (first : Bool) (wrong : List FastCheckDiagnostic) (b : Bool) → b ≡ (first && not (length wrong == 0)) → b ≡ true →
-    (first ≡ true) × (wrong ≡ [] → ⊥)
-early false wrong b is e = cc
-early true wrong b is e = (
+pub early : (first : Bool) (diagnostics : List FastCheckDiagnostic) (b : Bool) → b ≡ (first && not (length diagnostics == 0)) → b ≡ true →
+    (first ≡ true) × (diagnostics ≡ [] → ⊥)
+early false diagnostics b is e = cc
+early true diagnostics b is e = (
   refl,
-  λ none. let zero : length wrong ≡ 0 = ap {B = ℕ} length none in not_true (length wrong == 0) (sym is ∙ e) (eq-eqb (length wrong) 0 zero),
+  λ none. let zero : length diagnostics ≡ 0 = ap {B = ℕ} length none in not_true (length diagnostics == 0) (sym is ∙ e) (eq-eqb (length diagnostics) 0 zero),
 )
 
-pub goes_on : (first : Bool) (wrong : List FastCheckDiagnostic) (b : Bool) → b ≡ (first && not (length wrong == 0)) → b ≡ false →
-    first ≡ true → wrong ≡ []
-goes_on false wrong b is e t = cc
-goes_on true wrong b is e t = nil_from_length wrong (eqb-true (length wrong) 0 (not_false (length wrong == 0) (sym is ∙ e)))
+pub goes_on : (first : Bool) (diagnostics : List FastCheckDiagnostic) (b : Bool) → b ≡ (first && not (length diagnostics == 0)) → b ≡ false →
+    first ≡ true → diagnostics ≡ []
+goes_on false diagnostics b is e t = cc
+goes_on true diagnostics b is e t = nil_from_length diagnostics (eqb-true (length diagnostics) 0 (not_false (length diagnostics == 0) (sym is ∙ e)))
 
 -- ---- one module
 
 -- what the finder found is told as it is
-pub found_told : (ds : List FastCheckDiagnostic) → AllZip Tells (map found ds) ds
-found_told [] = tt
-found_told (d ∷ ds) = (refl, found_told ds)
+pub found_diagnosed : (ds : List FastCheckDiagnostic) → AllZip Diagnoses (map found ds) ds
+found_diagnosed [] = tt
+found_diagnosed (d ∷ ds) = (refl, found_diagnosed ds)
 
 -- and the faults of the transform as diagnostics
-pub faults_told : (info : EsModule) (fs : List Fault) (ds : List FastCheckDiagnostic) → AreDiagnosticsOf info fs ds →
-    AllZip Tells (map (met info) fs) ds
-faults_told info [] [] h = tt
-faults_told info [] (d ∷ ds) h = absurd h
-faults_told info (f ∷ fs) [] h = absurd h
-faults_told info (f ∷ fs) (d ∷ ds) h = (h.0, faults_told info fs ds h.1)
+pub faults_diagnosed : (info : EsModule) (fs : List Fault) (ds : List FastCheckDiagnostic) → AreDiagnosticsOf info fs ds →
+    AllZip Diagnoses (map (met info) fs) ds
+faults_diagnosed info [] [] h = tt
+faults_diagnosed info [] (d ∷ ds) h = absurd h
+faults_diagnosed info (f ∷ fs) [] h = absurd h
+faults_diagnosed info (f ∷ fs) (d ∷ ds) h = (h.0, faults_diagnosed info fs ds h.1)
 
 -- of these there are none exactly where nothing is wrong
-pub nothing_told : (first : Bool) (info : EsModule) (fs : List Fault) → fs ≡ [] → AllZip Tells (map (met info) (told first fs)) []
-nothing_told false info [] e = tt
-nothing_told true info [] e = tt
-nothing_told first info (f ∷ fs) e = cc
+pub nothing_diagnosed : (first : Bool) (info : EsModule) (fs : List Fault) → fs ≡ [] → AllZip Diagnoses (map (met info) (diagnosed first fs)) []
+nothing_diagnosed false info [] e = tt
+nothing_diagnosed true info [] e = tt
+nothing_diagnosed first info (f ∷ fs) e = cc
 
 pub nothing_met : (first : Bool) (info : EsModule) (fs : List Fault) (ds : List FastCheckDiagnostic) →
-    AreDiagnosticsOf info (told first fs) ds → ds ≡ [] →
+    AreDiagnosticsOf info (diagnosed first fs) ds → ds ≡ [] →
     fs ≡ []
 nothing_met first info [] ds h e = refl
 nothing_met false info (f ∷ fs) [] h e = absurd h
@@ -111,23 +111,23 @@ nothing_met true info (f ∷ fs) [] h e = absurd h
 nothing_met first info (f ∷ fs) (d ∷ ds) h e = cc
 
 pub faults_answered : (first : Bool) (info : EsModule) (fs : List Fault) (r : Made) (ds : Diagnostics) → r ≡ Err ds →
-    IfErr r (λ d. AreDiagnosticsOf info (told first fs) d.items) → AllZip Tells (map (met info) (told first fs)) ds.items
+    IfErr r (λ d. AreDiagnosticsOf info (diagnosed first fs) d.items) → AllZip Diagnoses (map (met info) (diagnosed first fs)) ds.items
 faults_answered first info fs (Ok made) ds e h = cc
 faults_answered first info fs (Err d) ds e h =
     let same : d ≡ ds = cc in
-    faults_told info (told first fs) ds.items (subst (λ (v : Diagnostics). AreDiagnosticsOf info (told first fs) v.items) same h)
+    faults_diagnosed info (diagnosed first fs) ds.items (subst (λ (v : Diagnostics). AreDiagnosticsOf info (diagnosed first fs) v.items) same h)
 
 -- what the finder found goes first
-pub told_found : (ds : List FastCheckDiagnostic) (others : List Reason) (wrong : List FastCheckDiagnostic) → ds ≢ [] → wrong ≡ ds →
-    AllZip Tells (found_or ds others) wrong
-told_found [] others wrong some e = absurd (some refl)
-told_found (d ∷ ds) others wrong some e = subst (AllZip Tells (map found (d ∷ ds))) (sym e) (found_told (d ∷ ds))
+pub diagnosed_found : (ds : List FastCheckDiagnostic) (others : List PackageFault) (diagnostics : List FastCheckDiagnostic) → ds ≢ [] → diagnostics ≡ ds →
+    AllZip Diagnoses (found_or ds others) diagnostics
+diagnosed_found [] others diagnostics some e = absurd (some refl)
+diagnosed_found (d ∷ ds) others diagnostics some e = subst (AllZip Diagnoses (map found (d ∷ ds))) (sym e) (found_diagnosed (d ∷ ds))
 
-pub told_others : (ds : List FastCheckDiagnostic) (others : List Reason) (wrong : List FastCheckDiagnostic) → ds ≡ [] →
-    AllZip Tells others wrong →
-    AllZip Tells (found_or ds others) wrong
-told_others [] others wrong e h = h
-told_others (d ∷ ds) others wrong e h = cc
+pub diagnosed_others : (ds : List FastCheckDiagnostic) (others : List PackageFault) (diagnostics : List FastCheckDiagnostic) → ds ≡ [] →
+    AllZip Diagnoses others diagnostics →
+    AllZip Diagnoses (found_or ds others) diagnostics
+diagnosed_others [] others diagnostics e h = h
+diagnosed_others (d ∷ ds) others diagnostics e h = cc
 
 -- ranges without diagnostics
 abbrev pub without : PublicRanges → PublicRanges
@@ -142,61 +142,61 @@ pub left_same : (public left : PublicRanges) (taken : Diagnostics) → taken.ite
     left ≡ public
 left_same public left taken is rest e = rest ∙ without_same public (sym is ∙ e)
 
-found_none : (ds : List FastCheckDiagnostic) (rs : List Reason) → ds ≡ [] → rs ≡ found_or ds rs
+found_none : (ds : List FastCheckDiagnostic) (rs : List PackageFault) → ds ≡ [] → rs ≡ found_or ds rs
 found_none [] rs e = refl
 found_none (d ∷ ds) rs e = cc
 
 -- what is wrong with a module of which the finder found nothing
-pub told_rest : (first : Bool) (graph : ModuleGraph) (root : RootSymbol) (m : PublicModule) (left : PublicRanges) (r : Answered) →
+pub diagnosed_rest : (first : Bool) (graph : ModuleGraph) (root : RootSymbol) (m : PublicModule) (left : PublicRanges) (r : Answered) →
     left ≡ m.1 →
-    m.1.diagnostics ≡ [] → IfOk r (λ w. AllZip Tells (reasons_in_tree first graph left (found_module root m.0)) w.items) →
-    IfOk r (λ w. AllZip Tells (module_reasons first graph root m) w.items)
-told_rest first graph root m left r same none h =
+    m.1.diagnostics ≡ [] → IfOk r (λ w. AllZip Diagnoses (faults_in_tree first graph left (found_module root m.0)) w.items) →
+    IfOk r (λ w. AllZip Diagnoses (module_faults first graph root m) w.items)
+diagnosed_rest first graph root m left r same none h =
     let o = found_module root m.0 in
-    let P : List Reason → Type 0 = λ rs. IfOk r (λ w. AllZip Tells rs w.items) in
-    let at : P (reasons_in_tree first graph m.1 o) =
-    subst (λ (public : PublicRanges). P (reasons_in_tree first graph public o)) same h in
-    subst P (found_none m.1.diagnostics (reasons_in_tree first graph m.1 o) none) at
+    let P : List PackageFault → Type 0 = λ rs. IfOk r (λ w. AllZip Diagnoses rs w.items) in
+    let at : P (faults_in_tree first graph m.1 o) =
+    subst (λ (public : PublicRanges). P (faults_in_tree first graph public o)) same h in
+    subst P (found_none m.1.diagnostics (faults_in_tree first graph m.1 o) none) at
 
 -- ---- one module more
 
-pub reasons_more : (first : Bool) (graph : ModuleGraph) (root : RootSymbol) (ms : List PublicModule) (m : PublicModule) →
-    (first ≡ true → package_reasons first graph root ms ≡ []) →
-    package_reasons first graph root (ms ++ m ∷ []) ≡ package_reasons first graph root ms ++ module_reasons first graph root m
-reasons_more false graph root ms m h =
-    let f = module_reasons false graph root in
+pub more_faults : (first : Bool) (graph : ModuleGraph) (root : RootSymbol) (ms : List PublicModule) (m : PublicModule) →
+    (first ≡ true → package_faults first graph root ms ≡ []) →
+    package_faults first graph root (ms ++ m ∷ []) ≡ package_faults first graph root ms ++ module_faults first graph root m
+more_faults false graph root ms m h =
+    let f = module_faults false graph root in
     flat_map-append f ms (m ∷ []) ∙ ap (λ rs. flat_map f ms ++ rs) (append-nil (f m))
-reasons_more true graph root ms m h =
-    let f = module_reasons true graph root in
+more_faults true graph root ms m h =
+    let f = module_faults true graph root in
     ap first_list (map-append f ms (m ∷ [])) ∙ (first_last (map f ms) (f m) (h refl) ∙ sym (ap (λ rs. rs ++ f m) (h refl)))
 
 -- once something is wrong, what follows plays no part
-reasons_stop : (graph : ModuleGraph) (root : RootSymbol) (ms more : List PublicModule) → package_reasons true graph root ms ≢ [] →
-    package_reasons true graph root (ms ++ more) ≡ package_reasons true graph root ms
-reasons_stop graph root ms more some =
-    let f = module_reasons true graph root in
+faults_stop : (graph : ModuleGraph) (root : RootSymbol) (ms more : List PublicModule) → package_faults true graph root ms ≢ [] →
+    package_faults true graph root (ms ++ more) ≡ package_faults true graph root ms
+faults_stop graph root ms more some =
+    let f = module_faults true graph root in
     ap first_list (map-append f ms more) ∙ first_front (map f ms) (map f more) some
 
 -- what is told of some modules, and of one more
-pub told_more : (first : Bool) (graph : ModuleGraph) (root : RootSymbol) (ms : List PublicModule) (m : PublicModule)
+pub diagnosed_more : (first : Bool) (graph : ModuleGraph) (root : RootSymbol) (ms : List PublicModule) (m : PublicModule)
     (old more new : List FastCheckDiagnostic) →
-    (first ≡ true → old ≡ []) → AllZip Tells (package_reasons first graph root ms) old →
-    AllZip Tells (module_reasons first graph root m) more →
-    new ≡ old ++ more → AllZip Tells (package_reasons first graph root (ms ++ m ∷ [])) new
-told_more first graph root ms m old more new none before one is =
-    let reasons = reasons_more first graph root ms m (λ e. left_empty Tells _ old before (none e)) in
-    subst (λ rs. AllZip Tells rs new) (sym reasons)
-    (subst (AllZip Tells _) (sym is) (both_append Tells _ old _ more before one))
+    (first ≡ true → old ≡ []) → AllZip Diagnoses (package_faults first graph root ms) old →
+    AllZip Diagnoses (module_faults first graph root m) more →
+    new ≡ old ++ more → AllZip Diagnoses (package_faults first graph root (ms ++ m ∷ [])) new
+diagnosed_more first graph root ms m old more new none before one is =
+    let faults = more_faults first graph root ms m (λ e. left_empty Diagnoses _ old before (none e)) in
+    subst (λ rs. AllZip Diagnoses rs new) (sym faults)
+    (subst (AllZip Diagnoses _) (sym is) (both_append Diagnoses _ old _ more before one))
 
 -- where the first fault is wanted alone, what is told of some modules is all
-pub told_all : (first : Bool) (graph : ModuleGraph) (root : RootSymbol) (ms more all : List PublicModule)
-    (wrong : List FastCheckDiagnostic) →
-    first ≡ true → wrong ≢ [] → ms ++ more ≡ all → AllZip Tells (package_reasons first graph root ms) wrong →
-    AllZip Tells (package_reasons first graph root all) wrong
-told_all false graph root ms more all wrong is some e h = cc
-told_all true graph root ms more all wrong is some e h =
-    let none : package_reasons true graph root ms ≢ [] = λ n. some (right_empty Tells _ wrong h n) in
-    subst (λ rs. AllZip Tells rs wrong) (sym (reasons_stop graph root ms more none) ∙ ap (package_reasons true graph root) e) h
+pub diagnosed_all : (first : Bool) (graph : ModuleGraph) (root : RootSymbol) (ms more all : List PublicModule)
+    (diagnostics : List FastCheckDiagnostic) →
+    first ≡ true → diagnostics ≢ [] → ms ++ more ≡ all → AllZip Diagnoses (package_faults first graph root ms) diagnostics →
+    AllZip Diagnoses (package_faults first graph root all) diagnostics
+diagnosed_all false graph root ms more all diagnostics is some e h = cc
+diagnosed_all true graph root ms more all diagnostics is some e h =
+    let none : package_faults true graph root ms ≢ [] = λ n. some (right_empty Diagnoses _ diagnostics h n) in
+    subst (λ rs. AllZip Diagnoses rs diagnostics) (sym (faults_stop graph root ms more none) ∙ ap (package_faults true graph root) e) h
 
 -- ---- skeletons
 
@@ -277,56 +277,56 @@ all_shown graph modules begin answers start shows = shows [] (subst (AllZip (IsS
 -- the modules before the first with something wrong, after one module more
 pub shows_turn : (first : Bool) (graph : ModuleGraph) (root : RootSymbol) (ms : List PublicModule) (m : PublicModule)
     (begin before after kept : List Answer) (answered : ℕ) (old more new : List FastCheckDiagnostic) →
-    AllZip Tells (package_reasons first graph root ms) old → AllZip Tells (module_reasons first graph root m) more → new ≡ old ++ more →
+    AllZip Diagnoses (package_faults first graph root ms) old → AllZip Diagnoses (module_faults first graph root m) more → new ≡ old ++ more →
     (new ≡ [] → kept ≡ after) → (new ≢ [] → kept ≡ take answered after) → answered ≡ length before → take (length before) after ≡ before →
     ShowsMore graph (tree_modules root (sound_front first graph root ms)) begin before →
     (more ≡ [] → ShowsMore graph (with_tree m (found_module root m.0)) before after) →
     ShowsMore graph (tree_modules root (sound_front first graph root (ms ++ m ∷ []))) begin kept
 shows_turn first graph root ms m begin before after kept answered [] [] new h k is same cut at stay shown one =
-    let none = left_empty Tells _ [] h refl in
-    let front = front_more first graph root ms m none (left_empty Tells _ [] k refl) in
+    let none = left_empty Diagnoses _ [] h refl in
+    let front = front_more first graph root ms m none (left_empty Diagnoses _ [] k refl) in
     let all = shows_more graph root ms m begin before after
     (subst (λ xs. ShowsMore graph (tree_modules root xs) begin before) (front_all first graph root ms none) shown) (one refl) in
     subst (λ (answers : List Answer). ShowsMore graph (tree_modules root (sound_front first graph root (ms ++ m ∷ []))) begin answers)
     (sym (same is))
     (subst (λ xs. ShowsMore graph (tree_modules root xs) begin after) (sym front) all)
 shows_turn first graph root ms m begin before after kept answered [] (d ∷ ds) new h k is same cut at stay shown one =
-    let none = left_empty Tells _ [] h refl in
-    let some : module_reasons first graph root m ≢ [] = λ e. full_list d ds (right_empty Tells _ (d ∷ ds) k e) in
+    let none = left_empty Diagnoses _ [] h refl in
+    let some : module_faults first graph root m ≢ [] = λ e. full_list d ds (right_empty Diagnoses _ (d ∷ ds) k e) in
     let front = front_last first graph root ms m none some ∙ sym (front_all first graph root ms none) in
     shows_cut graph root _ _ begin before after kept answered front (cut (λ e. full_list d ds (sym is ∙ e))) at stay shown
 shows_turn first graph root ms m begin before after kept answered (o ∷ os) more new h k is same cut at stay shown one =
-    let some : package_reasons first graph root ms ≢ [] = λ e. full_list o os (right_empty Tells _ (o ∷ os) h e) in
+    let some : package_faults first graph root ms ≢ [] = λ e. full_list o os (right_empty Diagnoses _ (o ∷ os) h e) in
     shows_cut graph root _ _ begin before after kept answered (front_stop first graph root ms (m ∷ []) some)
     (cut (λ e. full_list o (os ++ more) (sym is ∙ e))) at stay shown
 
 -- once something is wrong, the modules that follow play no part
 pub shows_all : (first : Bool) (graph : ModuleGraph) (root : RootSymbol) (ms more all : List PublicModule) (begin kept : List Answer)
-    (wrong : List FastCheckDiagnostic) → wrong ≢ [] → ms ++ more ≡ all → AllZip Tells (package_reasons first graph root ms) wrong →
+    (diagnostics : List FastCheckDiagnostic) → diagnostics ≢ [] → ms ++ more ≡ all → AllZip Diagnoses (package_faults first graph root ms) diagnostics →
     ShowsMore graph (tree_modules root (sound_front first graph root ms)) begin kept →
     ShowsMore graph (tree_modules root (sound_front first graph root all)) begin kept
-shows_all first graph root ms more all begin kept wrong some e h shown =
-    let stop = front_stop first graph root ms more (λ n. some (right_empty Tells _ wrong h n)) in
+shows_all first graph root ms more all begin kept diagnostics some e h shown =
+    let stop = front_stop first graph root ms more (λ n. some (right_empty Diagnoses _ diagnostics h n)) in
     subst (λ xs. ShowsMore graph (tree_modules root xs) begin kept) (sym stop ∙ ap (sound_front first graph root) e) shown
 
 -- ---- a package
 
 pub package_found : (graph : ModuleGraph) (root : RootSymbol) (ranges : PackagePublicRanges) (first : Bool)
     (begin skeletons answers : List Answer)
-    (wrong told_of : List FastCheckDiagnostic) → begin ≡ [] → told_of ≡ wrong →
-    AllZip Tells (package_reasons first graph root ranges.module_ranges.entries) wrong →
+    (diagnostics diagnosed_of : List FastCheckDiagnostic) → begin ≡ [] → diagnosed_of ≡ diagnostics →
+    AllZip Diagnoses (package_faults first graph root ranges.module_ranges.entries) diagnostics →
     ShowsMore graph (tree_modules root (sound_front first graph root ranges.module_ranges.entries)) begin skeletons →
-    (told_of ≡ [] → answers ≡ skeletons) → (told_of ≢ [] → AllZip (IsRefused told_of) ranges.entrypoints.keys answers) →
+    (diagnosed_of ≡ [] → answers ≡ skeletons) → (diagnosed_of ≢ [] → AllZip (IsRefused diagnosed_of) ranges.entrypoints.keys answers) →
     IsFoundAnswer graph root ranges first answers
-package_found graph root ranges first begin skeletons answers wrong told_of start is tells shows same refused =
+package_found graph root ranges first begin skeletons answers diagnostics diagnosed_of start is diagnoses shows same refused =
     let ms = ranges.module_ranges.entries in record {
-      shown = λ e. subst (AllZip (IsShown graph) (tree_modules root ms)) (sym (same (is ∙ right_empty Tells _ wrong tells e)))
+      shown = λ e. subst (AllZip (IsShown graph) (tree_modules root ms)) (sym (same (is ∙ right_empty Diagnoses _ diagnostics diagnoses e)))
           (subst (λ xs. AllZip (IsShown graph) (tree_modules root xs) skeletons) (front_all first graph root ms e)
           (all_shown graph _ begin skeletons start shows));
       refused = λ some. record {
-        list = told_of;
-        tells = subst (AllZip Tells (package_reasons first graph root ms)) (sym is) tells;
-        each = refused (λ e. some (left_empty Tells _ wrong tells (sym is ∙ e)));
+        list = diagnosed_of;
+        diagnoses = subst (AllZip Diagnoses (package_faults first graph root ms)) (sym is) diagnoses;
+        each = refused (λ e. some (left_empty Diagnoses _ diagnostics diagnoses (sym is ∙ e)));
       };
     }
 

@@ -12,7 +12,7 @@ use Rattle.fast_check_cache.specs.declared.item.FastCheckCacheModuleItem.{FastCh
 use Rattle.fast_check_cache.specs.declared.package_ranges.PackagePublicRanges.{PackagePublicRanges}
 use Rattle.fast_check_cache.specs.CachedPackages.{source_hash}
 use Rattle.fast_check_module_transform.specs.Transform.{skeleton, sources, comments}
-use Rattle.fast_check_package_answers.specs.Reasons.{PublicModule, Reason, package_reasons, sound_front, subject}
+use Rattle.fast_check_package_answers.specs.PackageFaults.{PublicModule, PackageFault, package_faults, sound_front, subject}
 use Rattle.fast_check_package_answers.specs.PackageAnswer.{TreeModule, tree_modules}
 
 -- what contracts see of a module that is kept
@@ -34,14 +34,14 @@ abbrev pub kept_diagnostic : ModuleGraph → Parts → Parts × ModuleView
 kept_diagnostic graph specifier = (specifier, diagnostic (source_hash graph specifier))
 
 -- the modules by their skeletons; or, for some reasons against it, without, and then the module of each reason
-abbrev pub kept_by : ModuleGraph → List TreeModule → List Reason → List (Parts × ModuleView)
+abbrev pub kept_by : ModuleGraph → List TreeModule → List PackageFault → List (Parts × ModuleView)
 kept_by graph modules [] = map (kept_skeleton graph) modules
 kept_by graph modules (r ∷ rs) = map (kept_diagnostic graph) (map (λ m. m.specifier) modules ++ map subject (r ∷ rs))
 
 -- what is kept of the modules of a package
 abbrev pub kept_modules : Bool → ModuleGraph → RootSymbol → List PublicModule → List (Parts × ModuleView)
 kept_modules first graph root modules =
-    kept_by graph (tree_modules root (sound_front first graph root modules)) (package_reasons first graph root modules)
+    kept_by graph (tree_modules root (sound_front first graph root modules)) (package_faults first graph root modules)
 
 -- the item of a package: its dependencies and its modules
 abbrev pub item_for : Bool → ModuleGraph → RootSymbol → PackagePublicRanges → ItemView

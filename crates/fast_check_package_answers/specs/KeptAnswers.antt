@@ -17,7 +17,7 @@ kept_answer graph (specifier, Err _) = kept_diagnostic graph specifier
 
 -- the modules that are answered, and those of the diagnostics
 abbrev pub named_in : List Answer → List FastCheckDiagnostic → List Parts
-named_in answers wrong = map (λ a. a.0) answers ++ map specifier_of wrong
+named_in answers diagnostics = map (λ a. a.0) answers ++ map specifier_of diagnostics
 
 -- of those that are answered, where nothing is wrong, or of all that are named
 abbrev pub kept_answers : ModuleGraph → List Answer → List FastCheckDiagnostic → List (Parts × ModuleView)

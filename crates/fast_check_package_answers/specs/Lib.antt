@@ -1,4 +1,4 @@
-pub mod Reasons
+pub mod PackageFaults
 pub mod PackageAnswer
 pub mod Kept
 pub mod KeptAnswers

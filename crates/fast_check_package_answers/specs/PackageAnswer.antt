@@ -22,7 +22,7 @@ use Rattle.fast_check_cache.specs.declared.package_ranges.PackagePublicRanges.{P
 use Rattle.fast_check_cache.specs.declared.item.FastCheckCacheModuleItem.{FastCheckCacheModuleItem}
 use Rattle.fast_check_cache.specs.declared.item.FastCheckCacheModuleItem.TheVariants.{Info, Diagnostic}
 use Rattle.fast_check_module_transform.specs.Transform.{skeleton, sources, comments}
-use Rattle.fast_check_package_answers.specs.Reasons.{PublicModule, Reason, Tells, package_reasons}
+use Rattle.fast_check_package_answers.specs.PackageFaults.{PublicModule, PackageFault, Diagnoses, package_faults}
 
 -- a specifier, and the skeleton or the diagnostics that it is answered by
 abbrev pub Answer : Type 0
@@ -74,9 +74,9 @@ IsRefused list entry_point (specifier, Ok made) = ⊥
 IsRefused list entry_point (specifier, Err diagnostics) = (specifier ≡ entry_point) × AreCopies list diagnostics.items
 
 -- one list tells of the reasons, and answers each entry point
-pub record AreRefused (reasons : List Reason) (entry_points : List Parts) (answers : List Answer) : Type 0 where
+pub record AreRefused (faults : List PackageFault) (entry_points : List Parts) (answers : List Answer) : Type 0 where
   pub list : List FastCheckDiagnostic
-  pub tells : AllZip Tells reasons list
+  pub diagnoses : AllZip Diagnoses faults list
   pub each : AllZip (IsRefused list) entry_points answers
 
 -- ---- a package that a cache answers
@@ -95,10 +95,10 @@ IsUsedAnswer _ _ = ⊥
 -- wrong
 pub record IsFoundAnswer (graph : ModuleGraph) (root : RootSymbol) (ranges : PackagePublicRanges) (first : Bool)
     (answers : List Answer) : Type 0 where
-  pub shown : package_reasons first graph root ranges.module_ranges.entries ≡ []
+  pub shown : package_faults first graph root ranges.module_ranges.entries ≡ []
       → AllZip (IsShown graph) (tree_modules root ranges.module_ranges.entries) answers
-  pub refused : package_reasons first graph root ranges.module_ranges.entries ≢ []
-      → AreRefused (package_reasons first graph root ranges.module_ranges.entries) ranges.entrypoints.keys answers
+  pub refused : package_faults first graph root ranges.module_ranges.entries ≢ []
+      → AreRefused (package_faults first graph root ranges.module_ranges.entries) ranges.entrypoints.keys answers
 
 -- by what a cache keeps of its modules, if anything, and else by what is found
 pub record IsPackageAnswer (graph : ModuleGraph) (root : RootSymbol) (ranges : PackagePublicRanges) (first : Bool)
@@ -120,6 +120,6 @@ OwnsAll root modules = AllByRecursion OwnsPublic (tree_modules root modules)
 
 -- under the option the list is a front of the full one, and the same packages are refused
 pub record IsFrontAlone (graph : ModuleGraph) (root : RootSymbol) (modules : List PublicModule) : Type 0 where
-  pub rest : List Reason
-  pub front : package_reasons false graph root modules ≡ package_reasons true graph root modules ++ rest
-  pub same_refused : (package_reasons true graph root modules ≡ []) ↔ (package_reasons false graph root modules ≡ [])
+  pub rest : List PackageFault
+  pub front : package_faults false graph root modules ≡ package_faults true graph root modules ++ rest
+  pub same_refused : (package_faults true graph root modules ≡ []) ↔ (package_faults false graph root modules ≡ [])

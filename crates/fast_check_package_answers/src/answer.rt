@@ -3,7 +3,7 @@ ghost use Rattle.std.specs.Prelude.{◌≡◌, ◌≢◌, ◌==◌, ◌&&◌, no
 ghost use Rattle.std.specs.List.{AllZip};
 ghost use Rattle.fast_check_modules.specs.EsModule.{AreOwnRanges};
 ghost use Rattle.fast_check_graph.specs.Root.{found_module};
-ghost use Rattle.fast_check_package_answers.specs.Reasons.{Tells, reasons_in_tree, module_reasons, package_reasons, sound_front};
+ghost use Rattle.fast_check_package_answers.specs.PackageFaults.{Diagnoses, faults_in_tree, module_faults, package_faults, sound_front};
 ghost use Rattle.fast_check_package_answers.specs.PackageAnswer.{ShowsMore, with_tree, tree_modules, OwnsModule, OwnsAll};
 ghost use Rattle.fast_check_package_answers.specs.PackageAnswer.{IsRefused, IsFoundAnswer, IsPackageAnswer};
 
@@ -36,10 +36,10 @@ fn answer_tree(
     answers: &mut Vec<ModuleAnswer>,
 ) -> Result<Vec<FastCheckDiagnostic>, AllocError>
     requires { AreOwnRanges es_module_info.now.tables public_ranges.now }
-    ensures reasons { let i = input.entry in IfOk result (λ wrong. AllZip Tells
-        (reasons_in_tree i.options.now.should_error_on_first_diagnostic i.graph.now public_ranges.now (Some (ModuleInfo.Esm es_module_info.now)))
-        wrong.items) }
-    ensures shown { let i = input.entry in IfOk result (λ wrong. wrong.items ≡ [] → ShowsMore i.graph.now
+    ensures faults { let i = input.entry in IfOk result (λ diagnostics. AllZip Diagnoses
+        (faults_in_tree i.options.now.should_error_on_first_diagnostic i.graph.now public_ranges.now (Some (ModuleInfo.Esm es_module_info.now)))
+        diagnostics.items) }
+    ensures shown { let i = input.entry in IfOk result (λ diagnostics. diagnostics.items ≡ [] → ShowsMore i.graph.now
         (with_tree (specifier, public_ranges.now) (Some (ModuleInfo.Esm es_module_info.now))) answers.old.items answers.new.items) }
     ensures stay { OnOk result (take (length answers.old.items) answers.new.items ≡ answers.old.items) }
 {
@@ -70,10 +70,10 @@ fn answer_if_tree(
     answers: &mut Vec<ModuleAnswer>,
 ) -> Result<Vec<FastCheckDiagnostic>, AllocError>
     requires { OwnsModule input.root_symbol.now (specifier, public_ranges.now) }
-    ensures reasons { let i = input.entry in IfOk result (λ wrong. AllZip Tells
-        (reasons_in_tree i.options.now.should_error_on_first_diagnostic i.graph.now public_ranges.now (found_module i.root_symbol.now specifier))
-        wrong.items) }
-    ensures shown { let i = input.entry in IfOk result (λ wrong. wrong.items ≡ [] → ShowsMore i.graph.now
+    ensures faults { let i = input.entry in IfOk result (λ diagnostics. AllZip Diagnoses
+        (faults_in_tree i.options.now.should_error_on_first_diagnostic i.graph.now public_ranges.now (found_module i.root_symbol.now specifier))
+        diagnostics.items) }
+    ensures shown { let i = input.entry in IfOk result (λ diagnostics. diagnostics.items ≡ [] → ShowsMore i.graph.now
         (with_tree (specifier, public_ranges.now) (found_module i.root_symbol.now specifier)) answers.old.items answers.new.items) }
     ensures stay { OnOk result (take (length answers.old.items) answers.new.items ≡ answers.old.items) }
 {
@@ -101,9 +101,9 @@ fn answer_module(
     answers: &mut Vec<ModuleAnswer>,
 ) -> Result<Vec<FastCheckDiagnostic>, AllocError>
     requires { OwnsModule input.root_symbol.now (specifier, public_ranges) }
-    ensures reasons { let i = input.entry in IfOk result (λ wrong. AllZip Tells
-        (module_reasons i.options.now.should_error_on_first_diagnostic i.graph.now i.root_symbol.now (specifier, public_ranges)) wrong.items) }
-    ensures shown { let i = input.entry in IfOk result (λ wrong. wrong.items ≡ [] → ShowsMore i.graph.now
+    ensures faults { let i = input.entry in IfOk result (λ diagnostics. AllZip Diagnoses
+        (module_faults i.options.now.should_error_on_first_diagnostic i.graph.now i.root_symbol.now (specifier, public_ranges)) diagnostics.items) }
+    ensures shown { let i = input.entry in IfOk result (λ diagnostics. diagnostics.items ≡ [] → ShowsMore i.graph.now
         (with_tree (specifier, public_ranges) (found_module i.root_symbol.now specifier)) answers.old.items answers.new.items) }
     ensures stay { OnOk result (take (length answers.old.items) answers.new.items ≡ answers.old.items) }
 {
@@ -116,28 +116,28 @@ fn answer_module(
 
 /// Adds what is wrong with one module more. Where anything is wrong, its skeleton goes, if it has one; so those stay that stand before the
 /// first module with something wrong.
-fn add_wrong(
+fn add_diagnostics(
     mut more: Vec<FastCheckDiagnostic>,
-    wrong: &mut Vec<FastCheckDiagnostic>,
+    diagnostics: &mut Vec<FastCheckDiagnostic>,
     answered: usize,
     answers: &mut Vec<ModuleAnswer>,
 ) -> Result<(), AllocError>
-    ensures added { OnOk result (wrong.new.items ≡ wrong.old.items ++ more.items) }
-    ensures kept { OnOk result (wrong.new.items ≡ [] → answers.new.items ≡ answers.old.items) }
-    ensures cut { OnOk result (wrong.new.items ≢ [] → answers.new.items ≡ take answered answers.old.items) }
+    ensures added { OnOk result (diagnostics.new.items ≡ diagnostics.old.items ++ more.items) }
+    ensures kept { OnOk result (diagnostics.new.items ≡ [] → answers.new.items ≡ answers.old.items) }
+    ensures cut { OnOk result (diagnostics.new.items ≢ [] → answers.new.items ≡ take answered answers.old.items) }
 {
-    wrong.append(&mut more)?;
-    if !wrong.is_empty() {
+    diagnostics.append(&mut more)?;
+    if !diagnostics.is_empty() {
         answers.truncate(answered);
     }
     Ok(())
 }
 
 /// Whether nothing more is to be told of a package.
-fn ends_early(options: &TransformOptions, wrong: &[FastCheckDiagnostic]) -> bool
-    ensures { result ≡ (options.now.should_error_on_first_diagnostic && not (length wrong.now == 0)) }
+fn ends_early(options: &TransformOptions, diagnostics: &[FastCheckDiagnostic]) -> bool
+    ensures { result ≡ (options.now.should_error_on_first_diagnostic && not (length diagnostics.now == 0)) }
 {
-    options.should_error_on_first_diagnostic && !wrong.is_empty()
+    options.should_error_on_first_diagnostic && !diagnostics.is_empty()
 }
 
 /// What is wrong with the modules of a package, or under the option with the first that has something wrong. The skeletons of the modules before
@@ -149,64 +149,64 @@ pub(crate) fn answer_modules(
     answers: &mut Vec<ModuleAnswer>,
 ) -> Result<Vec<FastCheckDiagnostic>, AllocError>
     requires { OwnsAll input.root_symbol.now module_ranges.entries }
-    ensures reasons { let i = input.entry in IfOk result (λ wrong. AllZip Tells
-        (package_reasons i.options.now.should_error_on_first_diagnostic i.graph.now i.root_symbol.now module_ranges.entries) wrong.items) }
+    ensures faults { let i = input.entry in IfOk result (λ diagnostics. AllZip Diagnoses
+        (package_faults i.options.now.should_error_on_first_diagnostic i.graph.now i.root_symbol.now module_ranges.entries) diagnostics.items) }
     ensures shown { let i = input.entry in OnOk result (ShowsMore i.graph.now
         (tree_modules i.root_symbol.now (sound_front i.options.now.should_error_on_first_diagnostic i.graph.now i.root_symbol.now module_ranges.entries))
         answers.old.items answers.new.items) }
 {
-    let mut wrong = Vec::new(alloc);
+    let mut diagnostics = Vec::new(alloc);
     for (specifier, public_ranges) in module_ranges {
         let answered = answers.len();
         let more = answer_module(alloc, input, specifier, public_ranges, answers)?;
-        add_wrong(more, &mut wrong, answered, answers)?;
-        if ends_early(input.options, &wrong) {
-            return Ok(wrong);
+        add_diagnostics(more, &mut diagnostics, answered, answers)?;
+        if ends_early(input.options, &diagnostics) {
+            return Ok(diagnostics);
         }
     }
-    Ok(wrong)
+    Ok(diagnostics)
 }
 
 /// An entry point, answered by a copy of what is wrong with its package.
 fn refused(
     alloc: Global,
     entrypoint: Url,
-    wrong: &[FastCheckDiagnostic],
+    diagnostics: &[FastCheckDiagnostic],
 ) -> Result<ModuleAnswer, AllocError>
-    ensures { IfOk result (IsRefused wrong.now entrypoint) }
+    ensures { IfOk result (IsRefused diagnostics.now entrypoint) }
 {
-    Ok((entrypoint, Err(wrong.to_vec(alloc)?)))
+    Ok((entrypoint, Err(diagnostics.to_vec(alloc)?)))
 }
 
 /// Each entry point, in order, answered by what is wrong with the package.
 fn refuse(
     alloc: Global,
     entrypoints: BTreeSet<Url>,
-    wrong: &[FastCheckDiagnostic],
+    diagnostics: &[FastCheckDiagnostic],
 ) -> Result<Vec<ModuleAnswer>, AllocError>
-    ensures { IfOk result (λ answers. AllZip (IsRefused wrong.now) entrypoints.keys answers.items) }
+    ensures { IfOk result (λ answers. AllZip (IsRefused diagnostics.now) entrypoints.keys answers.items) }
 {
     let mut answers = Vec::new(alloc);
     for entrypoint in entrypoints {
-        answers.push(refused(alloc, entrypoint, wrong)?)?;
+        answers.push(refused(alloc, entrypoint, diagnostics)?)?;
     }
     Ok(answers)
 }
 
 /// What answers a package: the skeletons of its modules where nothing is wrong, and else each entry point by what is wrong.
-pub(crate) fn skeletons_or_wrong(
+pub(crate) fn skeletons_or_diagnostics(
     alloc: Global,
     entrypoints: BTreeSet<Url>,
     skeletons: Vec<ModuleAnswer>,
-    wrong: &[FastCheckDiagnostic],
+    diagnostics: &[FastCheckDiagnostic],
 ) -> Result<Vec<ModuleAnswer>, AllocError>
-    ensures skeletons { IfOk result (λ answers. wrong.now ≡ [] → answers.items ≡ skeletons.items) }
-    ensures wrong { IfOk result (λ answers. wrong.now ≢ [] → AllZip (IsRefused wrong.now) entrypoints.keys answers.items) }
+    ensures skeletons { IfOk result (λ answers. diagnostics.now ≡ [] → answers.items ≡ skeletons.items) }
+    ensures diagnostics { IfOk result (λ answers. diagnostics.now ≢ [] → AllZip (IsRefused diagnostics.now) entrypoints.keys answers.items) }
 {
-    if wrong.is_empty() {
+    if diagnostics.is_empty() {
         return Ok(skeletons);
     }
-    let answers = refuse(alloc, entrypoints, wrong)?;
+    let answers = refuse(alloc, entrypoints, diagnostics)?;
     Ok(answers)
 }
 
@@ -227,8 +227,8 @@ fn answer_found(
         dependencies: _,
     } = package_ranges;
     let mut skeletons = Vec::new(alloc);
-    let wrong = answer_modules(alloc, input, module_ranges, &mut skeletons)?;
-    let answers = skeletons_or_wrong(alloc, entrypoints, skeletons, &wrong)?;
+    let diagnostics = answer_modules(alloc, input, module_ranges, &mut skeletons)?;
+    let answers = skeletons_or_diagnostics(alloc, entrypoints, skeletons, &diagnostics)?;
     Ok(answers)
 }
 

@@ -6,7 +6,7 @@ ghost use Rattle.fast_check_cache.specs.Cache.{item_of, with_item};
 ghost use Rattle.fast_check_package_answers.specs.Kept.{item_for, with_package};
 ghost use Rattle.fast_check_package_answers.specs.PackageAnswer.{IsFoundAnswer, IsPackageAnswer, OwnsAll};
 
-use crate::answer::{ModuleAnswer, answer_modules, skeletons_or_wrong};
+use crate::answer::{ModuleAnswer, answer_modules, skeletons_or_diagnostics};
 use crate::input::BuildInput;
 use crate::kept::keep_modules;
 use crate::used::used_answers;
@@ -33,9 +33,9 @@ fn answer_and_keep(
         dependencies,
     } = package_ranges;
     let mut skeletons = Vec::new(alloc);
-    let wrong = answer_modules(alloc, input, module_ranges, &mut skeletons)?;
-    let modules = keep_modules(alloc, input.graph, &skeletons, &wrong)?;
-    let answers = skeletons_or_wrong(alloc, entrypoints, skeletons, &wrong)?;
+    let diagnostics = answer_modules(alloc, input, module_ranges, &mut skeletons)?;
+    let modules = keep_modules(alloc, input.graph, &skeletons, &diagnostics)?;
+    let answers = skeletons_or_diagnostics(alloc, entrypoints, skeletons, &diagnostics)?;
     let item = FastCheckCacheItem {
         dependencies,
         modules,

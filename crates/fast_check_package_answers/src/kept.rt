@@ -82,19 +82,19 @@ fn keep_answers(
 
 /// What is kept of a package with which something is wrong: that the modules before the first wrong one, and those that something is wrong with,
 /// have no skeletons.
-fn keep_wrong(
+fn keep_faulty(
     alloc: Global,
     graph: &ModuleGraph,
     answers: &[ModuleAnswer],
-    wrong: &[FastCheckDiagnostic],
+    diagnostics: &[FastCheckDiagnostic],
 ) -> Result<Vec<KeptModule>, AllocError>
-    ensures { IfOk result (λ kept. map entry_of kept.items ≡ map (kept_diagnostic graph.now) (named_in answers.now wrong.now)) }
+    ensures { IfOk result (λ kept. map entry_of kept.items ≡ map (kept_diagnostic graph.now) (named_in answers.now diagnostics.now)) }
 {
     let mut kept = Vec::new(alloc);
     for (specifier, _) in answers {
         kept.push(keep_diagnostic(graph, specifier)?)?;
     }
-    for diagnostic in wrong {
+    for diagnostic in diagnostics {
         kept.push(keep_diagnostic(graph, diagnostic.specifier())?)?;
     }
     Ok(kept)
@@ -105,12 +105,12 @@ pub(crate) fn keep_modules(
     alloc: Global,
     graph: &ModuleGraph,
     answers: &[ModuleAnswer],
-    wrong: &[FastCheckDiagnostic],
+    diagnostics: &[FastCheckDiagnostic],
 ) -> Result<Vec<KeptModule>, AllocError>
-    ensures { IfOk result (λ kept. map entry_of kept.items ≡ kept_answers graph.now answers.now wrong.now) }
+    ensures { IfOk result (λ kept. map entry_of kept.items ≡ kept_answers graph.now answers.now diagnostics.now) }
 {
-    if wrong.is_empty() {
+    if diagnostics.is_empty() {
         return keep_answers(alloc, graph, answers);
     }
-    keep_wrong(alloc, graph, answers, wrong)
+    keep_faulty(alloc, graph, answers, diagnostics)
 }

@@ -26,7 +26,7 @@ use Rattle.fast_check_findings.proofs.Lists.{any_map, any_flat, any_none}
 use Rattle.fast_check_package_ranges.specs.Questions.{Question, about, whether_faulty, package_of, yield_says, keeps, is_kept, yields_say}
 use Rattle.fast_check_package_ranges.specs.Questions.{is_said, ModuleQuestion, IsTextless}
 use Rattle.fast_check_package_ranges.specs.Parts.{lookup_text, kept_in, followed_in}
-use Rattle.fast_check_package_ranges.specs.Answers.{tell_alike, is_so, module_answer, package_answer, module_diagnostics}
+use Rattle.fast_check_package_ranges.specs.Answers.{diagnose_alike, is_so, module_answer, package_answer, module_diagnostics}
 use Rattle.fast_check_package_ranges.specs.Answers.{package_diagnostics, cached_of, IsKeptIn}
 use Rattle.fast_check_package_ranges.specs.Made.{is_of, IsKeptAmong}
 
@@ -36,7 +36,7 @@ pub record IsSaidAt (yields : List Yield) (nv : Nv) (o : Option PackagePublicRan
   pub exact : (t : Text) (test : PlacedFault → Bool) → where_found (package_answer (about t (whether_faulty test))) o ≡ true →
       is_said yields nv (about t (whether_faulty test)) ≡ true
   pub only : (t : Text) (d : FastCheckDiagnostic) → Contains (package_diagnostics t o) d → is_so yields nv t d ≡ true
-  pub once : (t : Text) → IsDistinct (tell_alike t) (package_diagnostics t o)
+  pub once : (t : Text) → IsDistinct (diagnose_alike t) (package_diagnostics t o)
   pub uncached : cached_of o ≡ []
 
 or_left : (b c : Bool) → (b || c) ≡ false → b ≡ false

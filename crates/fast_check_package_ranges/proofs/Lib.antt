@@ -3,7 +3,7 @@ pub mod Sets
 pub mod Converted
 pub mod Joined
 pub mod FoundSays
-pub mod Told
+pub mod Diagnosed
 pub mod Only
 pub mod KeptSays
 pub mod Answered

@@ -14,14 +14,14 @@ use Rattle.fast_check_diagnostics.specs.declared.diagnostics.FastCheckDiagnostic
 use Rattle.fast_check_cache.specs.declared.package_ranges.PackagePublicRanges.{PackagePublicRanges}
 use Rattle.fast_check_findings.specs.Faults.{PlacedFault, demand_fault}
 use Rattle.fast_check_findings.specs.Yields.{Yield}
-use Rattle.fast_check_findings.specs.Diagnostics.{any_fault, tells, where_found, same_fault}
+use Rattle.fast_check_findings.specs.Diagnostics.{any_fault, diagnoses, where_found, same_fault}
 use Rattle.fast_check_findings.proofs.Compared.{and_both, same_itself}
 use Rattle.fast_check_package_ranges.specs.declared.parts.JoinedModule.{JoinedModule}
 use Rattle.fast_check_package_ranges.specs.declared.parts.JoinedPackage.{JoinedPackage}
 use Rattle.fast_check_package_ranges.specs.Questions.{ModuleQuestion, whether_missing, whether_untyped_entry, whether_untyped}
 use Rattle.fast_check_package_ranges.specs.Questions.{whether_faulty, Question, about, is_fault, is_said, IsTextless}
 use Rattle.fast_check_package_ranges.specs.Parts.{lookup_text, lookup_package}
-use Rattle.fast_check_package_ranges.specs.Answers.{tells_missing, tells_untyped_entry, tells_untyped, tell_alike, is_so, module_answer}
+use Rattle.fast_check_package_ranges.specs.Answers.{diagnoses_missing, diagnoses_untyped_entry, diagnoses_untyped, diagnose_alike, is_so, module_answer}
 use Rattle.fast_check_package_ranges.specs.Answers.{package_answer, answer, module_diagnostics, package_diagnostics, diagnostics_of}
 use Rattle.fast_check_package_ranges.specs.Answers.{cached_of}
 use Rattle.fast_check_package_ranges.specs.Made.{is_foreign, AreModuleAnswers, IsPackageAnswer, ArePackageAnswers}
@@ -81,19 +81,19 @@ foreign t (Some x) None h = absurd h
 foreign t (Some x) (Some p) h = foreign_in t (lookup_text t x.modules.entries) (lookup_text t p.module_ranges.entries) (h.modules t)
 
 -- no two tell the same
-pub none_alike : (t : List ℕ) → IsDistinct (tell_alike t) []
+pub none_alike : (t : List ℕ) → IsDistinct (diagnose_alike t) []
 unfolding IsDistinct
 none_alike t = tt
 
 once_in : (t : List ℕ) (parts : Option JoinedModule) (m : Option PublicRanges) → AreModuleAnswers t parts m →
-    IsDistinct (tell_alike t) (module_diagnostics m)
+    IsDistinct (diagnose_alike t) (module_diagnostics m)
 once_in t None None h = none_alike t
 once_in t None (Some m) h = absurd h
 once_in t (Some p) None h = absurd h
 once_in t (Some p) (Some m) h = h.once
 
 once_of : (t : List ℕ) (parts : Option JoinedPackage) (p : Option PackagePublicRanges) → ArePackageAnswers parts p →
-    IsDistinct (tell_alike t) (package_diagnostics t p)
+    IsDistinct (diagnose_alike t) (package_diagnostics t p)
 once_of t None None h = none_alike t
 once_of t None (Some p) h = absurd h
 once_of t (Some x) None h = absurd h
@@ -107,7 +107,7 @@ uncached_of (Some x) (Some p) h = h.uncached
 
 module _ (packages : List (PackageNv × JoinedPackage)) (answers : BTreeMap PackageNv PackagePublicRanges)
     (made : (nv : Nv) → ArePackageAnswers (lookup_package nv packages) (lookup_package nv answers.entries)) where
-  pub once : (nv : Nv) (t : List ℕ) → IsDistinct (tell_alike t) (diagnostics_of answers nv t)
+  pub once : (nv : Nv) (t : List ℕ) → IsDistinct (diagnose_alike t) (diagnostics_of answers nv t)
   once nv t = once_of t (lookup_package nv packages) (lookup_package nv answers.entries) (made nv)
 
   pub uncached : (nv : Nv) → cached_of (lookup_package nv answers.entries) ≡ []
@@ -128,13 +128,13 @@ module _ (packages : List (PackageNv × JoinedPackage)) (answers : BTreeMap Pack
         where_found any_fault o ≡ true → where_found (λ r. is_said yields nv (about t (whether_faulty (is_fault r)))) o ≡ true
     of_fault t d c None e h = absurd (false≢true h)
     of_fault t d c (Some r) e h = exact t (is_fault r)
-        (answered t (tells (is_fault r)) (whether_faulty (is_fault r)) (λ m. refl) d c (ap (where_found (is_fault r)) e ∙ fault_itself r))
+        (answered t (diagnoses (is_fault r)) (whether_faulty (is_fault r)) (λ m. refl) d c (ap (where_found (is_fault r)) e ∙ fault_itself r))
 
     pub only : (t : List ℕ) (d : FastCheckDiagnostic) → Contains (diagnostics_of answers nv t) d → is_so yields nv t d ≡ true
-    only t d c = one_of (tells_missing t d) (tells_untyped_entry t d) (tells_untyped t d) (tells any_fault d) _ _ _ _
-        (λ y. sym (said (about t whether_missing) tt) ∙ answered t (tells_missing t) whether_missing (λ m. refl) d c y)
-        (λ y. sym (said (about t whether_untyped_entry) tt) ∙ answered t (tells_untyped_entry t) whether_untyped_entry (λ m. refl) d c y)
-        (λ y. sym (said (about t whether_untyped) tt) ∙ answered t (tells_untyped t) whether_untyped (λ m. refl) d c y)
+    only t d c = one_of (diagnoses_missing t d) (diagnoses_untyped_entry t d) (diagnoses_untyped t d) (diagnoses any_fault d) _ _ _ _
+        (λ y. sym (said (about t whether_missing) tt) ∙ answered t (diagnoses_missing t) whether_missing (λ m. refl) d c y)
+        (λ y. sym (said (about t whether_untyped_entry) tt) ∙ answered t (diagnoses_untyped_entry t) whether_untyped_entry (λ m. refl) d c y)
+        (λ y. sym (said (about t whether_untyped) tt) ∙ answered t (diagnoses_untyped t) whether_untyped (λ m. refl) d c y)
         (of_fault t d c (demand_fault d) refl)
         (passes_not (is_foreign t) (diagnostics_of answers nv t) d c
         (foreign t (lookup_package nv packages) (lookup_package nv answers.entries) (made nv)))

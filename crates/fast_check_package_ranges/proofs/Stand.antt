@@ -14,7 +14,7 @@ use Rattle.fast_check_findings.specs.declared.finding.Finding.{Finding}
 use Rattle.fast_check_package_ranges.specs.declared.parts.JoinedPackage.{JoinedPackage}
 use Rattle.fast_check_package_ranges.specs.Questions.{Question, whether_faulty, is_kept}
 use Rattle.fast_check_package_ranges.specs.Parts.{lookup_package, packages_say, findings_say, kept_in}
-use Rattle.fast_check_package_ranges.specs.Answers.{tell_alike, package_diagnostics, AreAnswers, IsKeptIn}
+use Rattle.fast_check_package_ranges.specs.Answers.{diagnose_alike, package_diagnostics, AreAnswers, IsKeptIn}
 use Rattle.fast_check_package_ranges.specs.Made.{is_of, IsKeptAmong, IsPut, ArePackageAnswers}
 use Rattle.fast_check_package_ranges.proofs.Answered.{joined_at}
 use Rattle.fast_check_package_ranges.proofs.KeptSays.{IsSaidAt, same_kept, kept_among, kept_silent, kept_untold}
@@ -59,7 +59,7 @@ module _ (found : List Finding) (packages : List (PackageNv × JoinedPackage)) (
         (kept_at nv y)) c))
         (λ n. (followed_at nv n).only t d c) (cases_Bool (is_kept Y nv));
     once = λ nv t. ⊎_elim
-        (λ y. subst (λ (ds : List FastCheckDiagnostic). IsDistinct (tell_alike t) ds)
+        (λ y. subst (λ (ds : List FastCheckDiagnostic). IsDistinct (diagnose_alike t) ds)
         (sym (kept_untold Y nv t (lookup_package nv answers.entries) (kept_at nv y))) (none_alike t))
         (λ n. (followed_at nv n).once t) (cases_Bool (is_kept Y nv));
     uncached = λ nv n. (followed_at nv n).uncached;

@@ -21,37 +21,37 @@ use Rattle.fast_check_package_ranges.specs.Questions.{whether_implementing, whet
 use Rattle.fast_check_package_ranges.specs.Questions.{whether_untyped, whether_faulty, whether_otherwise_faulty}
 use Rattle.fast_check_package_ranges.specs.Questions.{Question, whether_known, whether_entry_point, whether_dependency}
 use Rattle.fast_check_package_ranges.specs.Questions.{whether_refused, about, is_fault, is_kept, is_said, IsTextless}
-use Rattle.fast_check_findings.specs.Diagnostics.{any_fault, tells, where_found, tell_one_fault}
+use Rattle.fast_check_findings.specs.Diagnostics.{any_fault, diagnoses, where_found, diagnose_one_fault}
 use Rattle.fast_check_package_ranges.specs.Parts.{is_text, is_package, lookup_text, lookup_package}
 
 -- Diagnostics of a module as a whole carry its specifier.
-abbrev pub tells_missing : Text → FastCheckDiagnostic → Bool
-tells_missing t (ExportNotFound specifier) = is_text t specifier
-tells_missing t _ = false
+abbrev pub diagnoses_missing : Text → FastCheckDiagnostic → Bool
+diagnoses_missing t (ExportNotFound specifier) = is_text t specifier
+diagnoses_missing t _ = false
 
-abbrev pub tells_untyped_entry : Text → FastCheckDiagnostic → Bool
-tells_untyped_entry t (UnsupportedJavaScriptEntrypoint specifier) = is_text t specifier
-tells_untyped_entry t _ = false
+abbrev pub diagnoses_untyped_entry : Text → FastCheckDiagnostic → Bool
+diagnoses_untyped_entry t (UnsupportedJavaScriptEntrypoint specifier) = is_text t specifier
+diagnoses_untyped_entry t _ = false
 
-abbrev pub tells_untyped : Text → FastCheckDiagnostic → Bool
-tells_untyped t (UnsupportedNestedJavaScript specifier) = is_text t specifier
-tells_untyped t _ = false
+abbrev pub diagnoses_untyped : Text → FastCheckDiagnostic → Bool
+diagnoses_untyped t (UnsupportedNestedJavaScript specifier) = is_text t specifier
+diagnoses_untyped t _ = false
 
-abbrev pub tells_otherwise : Text → FastCheckDiagnostic → Bool
-tells_otherwise t d = tells_missing t d || (tells_untyped_entry t d || tells any_fault d)
+abbrev pub diagnoses_otherwise : Text → FastCheckDiagnostic → Bool
+diagnoses_otherwise t d = diagnoses_missing t d || (diagnoses_untyped_entry t d || diagnoses any_fault d)
 
 -- two diagnostics tell the same of a module
-abbrev pub tell_alike : Text → FastCheckDiagnostic → FastCheckDiagnostic → Bool
-tell_alike t a b = (tells_missing t a && tells_missing t b)
-    || ((tells_untyped_entry t a && tells_untyped_entry t b)
-    || ((tells_untyped t a && tells_untyped t b) || tell_one_fault a b))
+abbrev pub diagnose_alike : Text → FastCheckDiagnostic → FastCheckDiagnostic → Bool
+diagnose_alike t a b = (diagnoses_missing t a && diagnoses_missing t b)
+    || ((diagnoses_untyped_entry t a && diagnoses_untyped_entry t b)
+    || ((diagnoses_untyped t a && diagnoses_untyped t b) || diagnose_one_fault a b))
 
 -- the yields say what a diagnostic tells of a module: of the module as a whole, or of a fault of a demand, with its
 -- source text
 abbrev pub is_so : List Yield → Nv → Text → FastCheckDiagnostic → Bool
-is_so yields nv t d = (tells_missing t d && is_said yields nv (about t whether_missing))
-    || ((tells_untyped_entry t d && is_said yields nv (about t whether_untyped_entry))
-    || ((tells_untyped t d && is_said yields nv (about t whether_untyped))
+is_so yields nv t d = (diagnoses_missing t d && is_said yields nv (about t whether_missing))
+    || ((diagnoses_untyped_entry t d && is_said yields nv (about t whether_untyped_entry))
+    || ((diagnoses_untyped t d && is_said yields nv (about t whether_untyped))
     || where_found (λ r. is_said yields nv (about t (whether_faulty (is_fault r)))) (demand_fault d)))
 
 -- the answer about a module
@@ -59,11 +59,11 @@ abbrev pub module_answer : Text → ModuleQuestion → PublicRanges → Bool
 module_answer t whether_recorded m = true
 module_answer t (whether_public r) m = is_public m r
 module_answer t (whether_implementing r) m = is_implementation m r
-module_answer t whether_missing m = list_any (tells_missing t) m.diagnostics
-module_answer t whether_untyped_entry m = list_any (tells_untyped_entry t) m.diagnostics
-module_answer t whether_untyped m = list_any (tells_untyped t) m.diagnostics
-module_answer t (whether_faulty test) m = list_any (tells test) m.diagnostics
-module_answer t whether_otherwise_faulty m = list_any (tells_otherwise t) m.diagnostics
+module_answer t whether_missing m = list_any (diagnoses_missing t) m.diagnostics
+module_answer t whether_untyped_entry m = list_any (diagnoses_untyped_entry t) m.diagnostics
+module_answer t whether_untyped m = list_any (diagnoses_untyped t) m.diagnostics
+module_answer t (whether_faulty test) m = list_any (diagnoses test) m.diagnostics
+module_answer t whether_otherwise_faulty m = list_any (diagnoses_otherwise t) m.diagnostics
 
 -- about a package
 abbrev pub package_answer : Question → PackagePublicRanges → Bool
@@ -120,6 +120,6 @@ pub record AreAnswers (yields : List Yield) (answers : BTreeMap PackageNv Packag
       is_said yields nv (about t (whether_faulty test)) ≡ true
   pub only : (nv : Nv) (t : Text) (d : FastCheckDiagnostic) → Contains (diagnostics_of answers nv t) d →
       is_so yields nv t d ≡ true
-  pub once : (nv : Nv) (t : Text) → IsDistinct (tell_alike t) (diagnostics_of answers nv t)
+  pub once : (nv : Nv) (t : Text) → IsDistinct (diagnose_alike t) (diagnostics_of answers nv t)
   pub uncached : (nv : Nv) → is_kept yields nv ≡ false → cached_of (lookup_package nv answers.entries) ≡ []
   pub cached : (nv : Nv) → is_kept yields nv ≡ true → IsKeptIn yields nv (lookup_package nv answers.entries)

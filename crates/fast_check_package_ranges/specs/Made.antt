@@ -19,17 +19,17 @@ use Rattle.fast_check_package_ranges.specs.declared.parts.JoinedPackage.{JoinedP
 use Rattle.fast_check_package_ranges.specs.Questions.{ModuleQuestion, whether_untyped, whether_faulty}
 use Rattle.fast_check_package_ranges.specs.Questions.{whether_otherwise_faulty, IsTextlessAbout}
 use Rattle.fast_check_package_ranges.specs.Parts.{is_text, is_package, module_says, lookup_text}
-use Rattle.fast_check_package_ranges.specs.Answers.{tells_untyped, tells_otherwise, tell_alike, module_answer}
+use Rattle.fast_check_package_ranges.specs.Answers.{diagnoses_untyped, diagnoses_otherwise, diagnose_alike, module_answer}
 use Rattle.fast_check_package_ranges.specs.Answers.{IsKeptAnswer}
 
 -- a diagnostic that is there, or is not
-abbrev pub told_if : Bool → FastCheckDiagnostic → List FastCheckDiagnostic
-told_if b d = cond b (d ∷ []) []
+abbrev pub diagnosed_if : Bool → FastCheckDiagnostic → List FastCheckDiagnostic
+diagnosed_if b d = cond b (d ∷ []) []
 
 -- what is wrong with a module as a whole
 abbrev pub whole_diagnostics : Parts → Bool → Bool → Bool → List FastCheckDiagnostic
-whole_diagnostics specifier is_missing is_untyped_entry is_untyped = told_if is_missing (ExportNotFound specifier)
-    ++ (told_if is_untyped_entry (UnsupportedJavaScriptEntrypoint specifier) ++ told_if is_untyped
+whole_diagnostics specifier is_missing is_untyped_entry is_untyped = diagnosed_if is_missing (ExportNotFound specifier)
+    ++ (diagnosed_if is_untyped_entry (UnsupportedJavaScriptEntrypoint specifier) ++ diagnosed_if is_untyped
     (UnsupportedNestedJavaScript specifier))
 
 -- what is said of a module
@@ -39,14 +39,14 @@ module_is_said m q = module_says m q
 
 -- a diagnostic that tells nothing of the module
 abbrev pub is_foreign : Text → FastCheckDiagnostic → Bool
-is_foreign t d = not (tells_untyped t d || tells_otherwise t d)
+is_foreign t d = not (diagnoses_untyped t d || diagnoses_otherwise t d)
 
 pub record IsModuleAnswer (t : Text) (parts : JoinedModule) (m : PublicRanges) : Type 0 where
   pub said : (q : ModuleQuestion) → IsTextlessAbout q → module_answer t q m ≡ module_is_said parts q
   pub exact : (test : PlacedFault → Bool) → module_answer t (whether_faulty test) m ≡ true →
       module_says parts (whether_faulty test) ≡ true
   pub only : list_any (is_foreign t) m.diagnostics ≡ false
-  pub once : IsDistinct (tell_alike t) m.diagnostics
+  pub once : IsDistinct (diagnose_alike t) m.diagnostics
 
 abbrev pub AreModuleAnswers : Text → Option JoinedModule → Option PublicRanges → Type 0
 AreModuleAnswers t None None = ⊤

@@ -11,7 +11,7 @@ ghost use Rattle.fast_check_findings.specs.Findings.{yields_of};
 ghost use Rattle.fast_check_findings.specs.Diagnostics.{any_fault, passes};
 ghost use Rattle.fast_check_package_ranges.specs.Parts.{is_text, is_package, lookup_text, lookup_package};
 ghost use Rattle.fast_check_package_ranges.specs.Answers.{AreAnswers};
-ghost use Rattle.fast_check_package_ranges.specs.Made.{told_if, whole_diagnostics, IsModuleAnswer, AreModuleAnswers, IsPackageAnswer, ArePackageAnswers};
+ghost use Rattle.fast_check_package_ranges.specs.Made.{diagnosed_if, whole_diagnostics, IsModuleAnswer, AreModuleAnswers, IsPackageAnswer, ArePackageAnswers};
 
 use crate::found::{FoundPackages, packages_found};
 use crate::kept::put_kept;
@@ -29,7 +29,7 @@ fn push_missing(
     is_missing: bool,
     out: &mut Vec<FastCheckDiagnostic>,
 ) -> Result<(), AllocError>
-    ensures { OnOk result (out.new.items ≡ out.old.items ++ told_if is_missing (ExportNotFound specifier.now)) }
+    ensures { OnOk result (out.new.items ≡ out.old.items ++ diagnosed_if is_missing (ExportNotFound specifier.now)) }
 {
     if !is_missing {
         return Ok(());
@@ -44,7 +44,7 @@ fn push_untyped_entry(
     is_untyped_entry: bool,
     out: &mut Vec<FastCheckDiagnostic>,
 ) -> Result<(), AllocError>
-    ensures { OnOk result (out.new.items ≡ out.old.items ++ told_if is_untyped_entry (UnsupportedJavaScriptEntrypoint specifier.now)) }
+    ensures { OnOk result (out.new.items ≡ out.old.items ++ diagnosed_if is_untyped_entry (UnsupportedJavaScriptEntrypoint specifier.now)) }
 {
     if !is_untyped_entry {
         return Ok(());
@@ -59,7 +59,7 @@ fn push_untyped(
     is_untyped: bool,
     out: &mut Vec<FastCheckDiagnostic>,
 ) -> Result<(), AllocError>
-    ensures { OnOk result (out.new.items ≡ out.old.items ++ told_if is_untyped (UnsupportedNestedJavaScript specifier.now)) }
+    ensures { OnOk result (out.new.items ≡ out.old.items ++ diagnosed_if is_untyped (UnsupportedNestedJavaScript specifier.now)) }
 {
     if !is_untyped {
         return Ok(());
@@ -137,8 +137,8 @@ fn module_ranges(
     let is_faulty = is_otherwise_faulty(is_missing, is_untyped_entry, faults.as_slice());
     let is_untyped = only_first(is_untyped, is_faulty);
     let mut out = whole_diagnostics(alloc, specifier, is_missing, is_untyped_entry, is_untyped)?;
-    let mut told = diagnostics_of(alloc, faults)?;
-    out.append(&mut told)?;
+    let mut diagnosed = diagnostics_of(alloc, faults)?;
+    out.append(&mut diagnosed)?;
     let made = ModulePublicRanges::from_parts(alloc, ranges, implementations, out)?;
     Ok(made)
 }

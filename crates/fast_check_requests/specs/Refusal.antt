@@ -57,6 +57,6 @@ refusal_of_error read_errors.OutOfMemory = OutOfMemory
 
 -- the refusal gives the status, and its line is what is written, where that is taken: of the bytes that a stream held
 -- and holds then, what is known
-abbrev pub IsTold : Refusal → Option (List ℕ) → Option (List ℕ) → Ending → Type 0
-IsTold refusal old new ending = (ending.status ≡ status_of refusal) ×
+abbrev pub WritesRefusal : Refusal → Option (List ℕ) → Option (List ℕ) → Ending → Type 0
+WritesRefusal refusal old new ending = (ending.status ≡ status_of refusal) ×
     (IsTrue ending.is_written → Appends old new (line_of refusal))

@@ -3,7 +3,7 @@
 ghost use Rattle.std.specs.Prelude.{◌≡◌, ◌<◌, ◌≤◌, map, option_map, None, IfOk, IfErr, ◌⊎◌};
 ghost use Rattle.std.specs.String.{string_bytes};
 ghost use Rattle.fast_check_requests.specs.Call.{called};
-ghost use Rattle.fast_check_requests.specs.Refusal.{IsTold};
+ghost use Rattle.fast_check_requests.specs.Refusal.{WritesRefusal};
 ghost use Rattle.fast_check_requests.specs.Run.{RefusesCall, AnswersCall, HasAnswer, IsAnswered};
 
 use crate::command::{Answer, Command};
@@ -24,11 +24,11 @@ pub fn run_commands<C: Command, R: Read + Drop, O: Write, E: Write>(
     err: &mut E,
 ) -> Ending
     ensures usage { called C.named (map string_bytes words.now) ≡ None →
-        IsTold Refusal.Usage (E.contents err.old) (E.contents err.new) result × (out.new ≡ out.old) }
+        WritesRefusal Refusal.Usage (E.contents err.old) (E.contents err.new) result × (out.new ≡ out.old) }
     ensures answer { result.status < 2 →
         IsAnswered C.named C.Answers (map string_bytes words.now) (option_map R.remaining input) (O.contents out.old) (O.contents out.new) result
         × (err.new ≡ err.old) }
-    ensures refusal { 2 ≤ result.status → (refusal : Refusal) × IsTold refusal (E.contents err.old) (E.contents err.new) result
+    ensures refusal { 2 ≤ result.status → (refusal : Refusal) × WritesRefusal refusal (E.contents err.old) (E.contents err.new) result
         × ((RefusesCall C.named C.Refuses (map string_bytes words.now) (option_map R.remaining input) refusal × (out.new ≡ out.old))
         ⊎ ((refusal ≡ Refusal.Unwritable) × HasAnswer C.named C.Answers (map string_bytes words.now) (option_map R.remaining input))) }
 {

@@ -1,7 +1,7 @@
 //! Why the program has no answer, and what it says then.
 
 ghost use Rattle.std.specs.Prelude.{◌≡◌};
-ghost use Rattle.fast_check_requests.specs.Refusal.{line_of, line_of_fault, status_of, IsTold};
+ghost use Rattle.fast_check_requests.specs.Refusal.{line_of, line_of_fault, status_of, WritesRefusal};
 
 use crate::ending::Ending;
 use fast_check_modules::TableFault;
@@ -62,7 +62,7 @@ impl Refusal {
 
     /// Writes the line, and answers the status, with whether the line was taken. A line that is not taken changes no status.
     pub fn write_line<E: Write>(self, err: &mut E) -> Ending
-        ensures { IsTold self (E.contents err.old) (E.contents err.new) result }
+        ensures { WritesRefusal self (E.contents err.old) (E.contents err.new) result }
     {
         let written = err.write_all(self.line().as_bytes());
         Ending {

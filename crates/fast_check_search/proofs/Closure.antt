@@ -14,7 +14,7 @@ use Rattle.fast_check_name_demands.specs.demands.Yields.{ranges, implementations
 use Rattle.fast_check_name_demands.specs.demands.Account.{root, step, alike, referred, IsCovered, IsAccount, IsYield}
 use Rattle.fast_check_name_demands.specs.Files.{files}
 use Rattle.fast_check_search.specs.declared.found.Found.{Found}
-use Rattle.fast_check_search.specs.Worklist.{Grows, CoversEach}
+use Rattle.fast_check_search.specs.SymbolWorklist.{Grows, CoversEach}
 use Rattle.fast_check_search.specs.Found.{IsFound, Gains, IsOnTheWay}
 use Rattle.fast_check_search.proofs.Each.{Contains_none, Contains_only}
 

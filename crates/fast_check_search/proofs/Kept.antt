@@ -11,14 +11,14 @@ use Rattle.fast_check_name_demands.specs.demands.symbol_demands.declared.demand.
 use Rattle.fast_check_name_demands.specs.demands.Demands.{Demand, demand_of}
 use Rattle.fast_check_name_demands.specs.demands.Account.{same, alike, essence, referred, IsCovered}
 use Rattle.fast_check_search.specs.contracts.done.DoneDemandOrd.TheImpl as order
-use Rattle.fast_check_search.specs.declared.worklist.Worklist.{Worklist}
+use Rattle.fast_check_search.specs.declared.worklist.SymbolWorklist.{SymbolWorklist}
 use Rattle.fast_check_search.specs.Done.{key_of}
-use Rattle.fast_check_search.specs.Worklist.{asked, IsKept}
+use Rattle.fast_check_search.specs.SymbolWorklist.{asked, IsKept}
 use Rattle.fast_check_search.proofs.Same.{same_symm, alike_itself, alike_laws}
 use Rattle.fast_check_search.proofs.Compared.{keys_compare}
 
 -- the demands after one more
-pub asked_one : (old new : Worklist) (d : SymbolDemand) → new.demands.items ≡ old.demands.items ++ d ∷ [] →
+pub asked_one : (old new : SymbolWorklist) (d : SymbolDemand) → new.demands.items ≡ old.demands.items ++ d ∷ [] →
     asked new ≡ asked old ++ demand_of d ∷ []
 asked_one old new d e = ap (map demand_of) e ∙ map-append demand_of old.demands.items (d ∷ [])
 
@@ -29,7 +29,7 @@ or_last false true = refl
 or_last false false = refl
 
 -- no demand is kept
-pub kept_none : (w : Worklist) → w.demands.items ≡ [] →
+pub kept_none : (w : SymbolWorklist) → w.demands.items ≡ [] →
     ((k : SymbolDemand) → sorted.contains order.cmp-value.it w.done (key_of k) ≡ false) →
     IsDistinct alike [] → IsKept w
 kept_none w e f d = record {
@@ -38,7 +38,7 @@ kept_none w e f d = record {
 }
 
 -- one demand more is kept, by what tells it from others
-pub kept_one : (old new : Worklist) (d e : SymbolDemand) → IsKept old → new.demands.items ≡ old.demands.items ++ d ∷ [] →
+pub kept_one : (old new : SymbolWorklist) (d e : SymbolDemand) → IsKept old → new.demands.items ≡ old.demands.items ++ d ∷ [] →
     demand_of e ≡ essence (demand_of d) →
     sorted.Updates order.cmp-value.it old.done new.done (key_of e) true → list_any (alike (demand_of d)) (asked old) ≡ false → IsKept new
 kept_one old new d e kept items is u fresh = record {
@@ -57,7 +57,7 @@ kept_one old new d e kept items is u fresh = record {
 }
 
 -- and what it asks for is covered
-pub covered_one : (old new : Worklist) (d : SymbolDemand) → new.demands.items ≡ old.demands.items ++ d ∷ [] →
+pub covered_one : (old new : SymbolWorklist) (d : SymbolDemand) → new.demands.items ≡ old.demands.items ++ d ∷ [] →
     IsCovered (asked new) (demand_of d)
 covered_one old new d items =
     let there : list_any (alike (demand_of d)) (asked old ++ demand_of d ∷ []) ≡ true =

@@ -1,4 +1,4 @@
 pub mod Done
-pub mod Worklist
+pub mod SymbolWorklist
 pub mod Found
 pub mod Universe

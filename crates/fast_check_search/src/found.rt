@@ -5,9 +5,9 @@ ghost use Rattle.fast_check_name_demands.specs.demands.Account.{IsAccount, IsYie
 ghost use Rattle.fast_check_name_demands.specs.demands.Yields.{fault_seen};
 ghost use Rattle.fast_check_name_demands.specs.demands.Rules.{names};
 ghost use Rattle.fast_check_search.specs.Found.{IsFound, Gains, AreTableRanges};
-ghost use Rattle.fast_check_search.specs.Worklist.{asked, IsKept, Grows, CoversEach};
+ghost use Rattle.fast_check_search.specs.SymbolWorklist.{asked, IsKept, Grows, CoversEach};
 
-use crate::worklist::Worklist;
+use crate::worklist::SymbolWorklist;
 use fast_check_name_demands::demands::{
     CheckedTables, SourceRange, SymbolDemand, SymbolFault, demands_of, fault_of,
     push_implementations, push_ranges,
@@ -72,7 +72,7 @@ fn ask_named<'a>(
     alloc: Global,
     tables: &'a CheckedTables,
     demand: SymbolDemand<'a>,
-    work: &mut Worklist<'a>,
+    work: &mut SymbolWorklist<'a>,
 ) -> Result<(), AllocError>
     requires { IsKept work.old }
     ensures kept { OnOk result (IsKept work.new) }
@@ -96,7 +96,7 @@ pub fn search<'a>(
     ensures own_ranges { IfOk result (λ found. AreTableRanges tables.now found.ranges.items) }
     ensures own_implementations { IfOk result (λ found. AreTableRanges tables.now found.implementations.items) }
 {
-    let mut work = Worklist::new(alloc);
+    let mut work = SymbolWorklist::new(alloc);
     work.ask_all(roots)?;
     let mut found = Found::new(alloc);
     let mut next = 0;

@@ -3,7 +3,7 @@ ghost use Rattle.std.specs.Prelude.{◌≡◌, [], length, slice_get, Some, ◌<
 ghost use Rattle.std.specs.List.{list_any};
 ghost use Rattle.fast_check_name_demands.specs.demands.Demands.{demand_of};
 ghost use Rattle.fast_check_name_demands.specs.demands.Account.{essence as essence_of, referred as referred_of, alike, IsCovered};
-ghost use Rattle.fast_check_search.specs.Worklist.{asked, IsKept, Grows, CoversEach};
+ghost use Rattle.fast_check_search.specs.SymbolWorklist.{asked, IsKept, Grows, CoversEach};
 ghost use Rattle.std.specs.Prelude.{map, ◌∷◌};
 
 use crate::done::{DoneDemand, done_demand};
@@ -13,7 +13,7 @@ use std::collections::BTreeSet;
 
 /// The demands that were asked for, in order, none of them twice.
 #[derive(Drop)]
-pub struct Worklist<'a> {
+pub struct SymbolWorklist<'a> {
     demands: Vec<SymbolDemand<'a>>,
     /// The same demands, each by what tells it from others.
     done: BTreeSet<DoneDemand<'a>>,
@@ -45,13 +45,13 @@ fn referred(demand: SymbolDemand<'_>) -> SymbolDemand<'_>
     }
 }
 
-impl<'a> Worklist<'a> {
+impl<'a> SymbolWorklist<'a> {
     /// No demands.
-    pub fn new(alloc: Global) -> Worklist<'a>
+    pub fn new(alloc: Global) -> SymbolWorklist<'a>
         ensures demands { asked result ≡ [] }
         ensures kept { IsKept result }
     {
-        Worklist {
+        SymbolWorklist {
             demands: Vec::new(alloc),
             done: BTreeSet::new(alloc),
         }

@@ -180,9 +180,9 @@ module _ (around : Surroundings) (assignment : Tree) where
   answered = answer_to (right_seen around.bindings assignment)
 
   -- nothing is wrong with the right side where nothing is wrong with what is tested
-  nothing_wrong : (place : Option SourceRange) → (tested_answer place answered).faults ≡ [] → answered.faults ≡ []
-  nothing_wrong None e = e
-  nothing_wrong (Some place) e = no_left answered.faults (unless_stays answered.stays (fault_at MissingExplicitType place)) e
+  nothing_faulty : (place : Option SourceRange) → (tested_answer place answered).faults ≡ [] → answered.faults ≡ []
+  nothing_faulty None e = e
+  nothing_faulty (Some place) e = no_left answered.faults (unless_stays answered.stays (fault_at MissingExplicitType place)) e
 
   there : IfSome answered.stays (λ v. is_absent v ≡ false)
   there = of_choice (λ s. IfSome (answer_to s).stays (λ v. is_absent v ≡ false)) (is_absent right) _ _ (λ e. tt)
@@ -205,7 +205,7 @@ module _ (around : Surroundings) (assignment : Tree) where
   declared_if false x e f = tt
   declared_if true false e f = tt
   declared_if true true e f =
-      let fine = nothing_wrong (missing_place around.objects assignment) (no_left _ [] f) in
+      let fine = nothing_faulty (missing_place around.objects assignment) (no_left _ [] f) in
       kept_typed answered.stays (both_some (λ v. is_absent v ≡ false) (IsLeavable around.bindings) answered.stays there
       (gives_type fine))
 

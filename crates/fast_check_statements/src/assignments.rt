@@ -30,30 +30,30 @@ use std::alloc::{AllocError, Global};
 /// at the target, unless the object exports a property of this name.
 pub fn keep_assignment(
     alloc: Global,
-    asked: Surroundings<'_>,
+    around: Surroundings<'_>,
     assignment: Part<'_>,
     properties: &mut Vec<ExpandoProperty>,
     faults: &mut Vec<Fault>,
 ) -> Result<(), AllocError>
-    ensures answer { OnOk result (Adds (assignment_answer (seen_around asked.entry) (seen assignment.entry)) [] faults.old.items faults.new.items) }
+    ensures answer { OnOk result (Adds (assignment_answer (seen_around around.entry) (seen assignment.entry)) [] faults.old.items faults.new.items) }
     ensures properties { OnOk result (properties.new.items ≡
-        properties.old.items ++ assignment_properties (seen_around asked.entry) (seen assignment.entry)) }
+        properties.old.items ++ assignment_properties (seen_around around.entry) (seen assignment.entry)) }
 {
     let AssignExpr { span, right, .. } = AssignExpr::of(assignment);
-    if !asked.public_ranges.contains(&span) {
+    if !around.public_ranges.contains(&span) {
         return Ok(());
     }
-    let value = keep_value(alloc, asked, range_of_node(right), right, faults)?;
+    let value = keep_value(alloc, around, range_of_node(right), right, faults)?;
     if !is_expando_assignment(assignment) {
         return Ok(());
     }
-    keep_property(alloc, asked, assignment, value, properties, faults)
+    keep_property(alloc, around, assignment, value, properties, faults)
 }
 
 /// The property that an assignment of expando form declares, if its right side may stay.
 fn keep_property(
     alloc: Global,
-    asked: Surroundings<'_>,
+    around: Surroundings<'_>,
     assignment: Part<'_>,
     value: Option<Tree>,
     properties: &mut Vec<ExpandoProperty>,
@@ -61,12 +61,12 @@ fn keep_property(
 ) -> Result<(), AllocError>
     requires { is_expando_assignment (seen assignment) ≡ true }
     ensures properties { OnOk result (properties.new.items ≡ properties.old.items ++
-        kept_property (objects_of asked.entry.es_module_info.now) (AssignExpr-span (seen assignment.entry)) (AssignExpr-left (seen assignment.entry)) value) }
+        kept_property (objects_of around.entry.es_module_info.now) (AssignExpr-span (seen assignment.entry)) (AssignExpr-left (seen assignment.entry)) value) }
     ensures faults { OnOk result (faults.new.items ≡ faults.old.items ++
-        missing_at (missing_place (objects_of asked.entry.es_module_info.now) (seen assignment.entry)) value) }
+        missing_at (missing_place (objects_of around.entry.es_module_info.now) (seen assignment.entry)) value) }
 {
     let target = AssignExpr::of(assignment).left;
-    let symbol = symbol_of_object(alloc, asked, target)?;
+    let symbol = symbol_of_object(alloc, around, target)?;
     match value {
         Some(value) => {
             let property = expando_property(alloc, symbol, assignment, value)?;
@@ -80,13 +80,13 @@ fn keep_property(
 /// The symbol of the object of a target `object.name`, if there is one.
 fn symbol_of_object<'a>(
     alloc: Global,
-    asked: Surroundings<'a>,
+    around: Surroundings<'a>,
     target: Part<'_>,
 ) -> Result<Option<&'a Symbol>, AllocError>
-    ensures { IfOk result (λ symbol. option_copied symbol ≡ symbol_of_swc asked.entry.es_module_info.now.tables (object_of (seen target.entry))) }
+    ensures { IfOk result (λ symbol. option_copied symbol ≡ symbol_of_swc around.entry.es_module_info.now.tables (object_of (seen target.entry))) }
 {
     let object = object_of(alloc, target)?;
-    Ok(asked.es_module_info.symbol_from_swc(&object))
+    Ok(around.es_module_info.symbol_from_swc(&object))
 }
 
 /// The type of a property is missing at its target, unless the symbol of the object exports it.

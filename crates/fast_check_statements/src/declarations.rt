@@ -37,10 +37,10 @@ fn mutability_of(kind: Part<'_>) -> DeclMutabilityKind
 }
 
 /// Whether a variable statement stands as it is written, since it is ambient.
-fn is_ambient_statement(asked: Surroundings<'_>, statement: Part<'_>) -> bool
-    ensures { result ≡ is_ambient_statement (seen_around asked.entry) (seen statement.entry) }
+fn is_ambient_statement(around: Surroundings<'_>, statement: Part<'_>) -> bool
+    ensures { result ≡ is_ambient_statement (seen_around around.entry) (seen statement.entry) }
 {
-    asked.is_ambient || VarDecl::of(statement).declare
+    around.is_ambient || VarDecl::of(statement).declare
 }
 
 /// A declarator with this type and this value.
@@ -72,32 +72,32 @@ fn declared(alloc: Global, declarator: Part<'_>, ty: Tree) -> Result<Tree, Alloc
 /// named by the identifier at `place`.
 pub fn keep_value(
     alloc: Global,
-    asked: Surroundings<'_>,
+    around: Surroundings<'_>,
     place: SourceRange,
     value: Part<'_>,
     faults: &mut Vec<Fault>,
 ) -> Result<Option<Tree>, AllocError>
-    ensures { IfOk result (λ tree. Adds (value_answer (seen_around asked.entry) place (seen value.entry)) tree faults.old.items faults.new.items) }
+    ensures { IfOk result (λ tree. Adds (value_answer (seen_around around.entry) place (seen value.entry)) tree faults.old.items faults.new.items) }
 {
     if value.is_absent() {
         return Ok(None);
     }
-    leave_expr(alloc, asked.es_module_info, value, Some(place), faults)
+    leave_expr(alloc, around.es_module_info, value, Some(place), faults)
 }
 
 /// A declarator without type, with the value that gives it. Where there is none that may stay, that is a fault at the
 /// identifier.
 fn valued_declarator(
     alloc: Global,
-    asked: Surroundings<'_>,
+    around: Surroundings<'_>,
     declarator: Part<'_>,
     faults: &mut Vec<Fault>,
 ) -> Result<Tree, AllocError>
-    ensures { IfOk result (λ tree. Adds (valued_answer (seen_around asked.entry) (seen declarator.entry)) (Some tree) faults.old.items faults.new.items) }
+    ensures { IfOk result (λ tree. Adds (valued_answer (seen_around around.entry) (seen declarator.entry)) (Some tree) faults.old.items faults.new.items) }
 {
     let VarDeclarator { name, init, .. } = VarDeclarator::of(declarator);
     let place = Ident::of(BindingIdent::of(name).id).span;
-    match keep_value(alloc, asked, place, init, faults)? {
+    match keep_value(alloc, around, place, init, faults)? {
         Some(value) => retyped(alloc, declarator, Tree::Absent, value),
         None => {
             faults.push(Fault {
@@ -113,13 +113,13 @@ fn valued_declarator(
 /// stay.
 fn ident_declarator(
     alloc: Global,
-    asked: Surroundings<'_>,
+    around: Surroundings<'_>,
     mutability: DeclMutabilityKind,
     declarator: Part<'_>,
     faults: &mut Vec<Fault>,
 ) -> Result<Tree, AllocError>
     ensures { IfOk result (λ tree.
-        Adds (ident_answer (seen_around asked.entry) mutability (seen declarator.entry)) (Some tree) faults.old.items faults.new.items) }
+        Adds (ident_answer (seen_around around.entry) mutability (seen declarator.entry)) (Some tree) faults.old.items faults.new.items) }
 {
     let VarDeclarator { name, init, .. } = VarDeclarator::of(declarator);
     let ty = BindingIdent::of(name).type_ann;
@@ -130,10 +130,10 @@ fn ident_declarator(
         alloc,
         init,
         mutability,
-        unresolved_context(asked.es_module_info),
+        unresolved_context(around.es_module_info),
     )? {
         Some(ty) => declared(alloc, declarator, type_ann(alloc, ty)?),
-        None => valued_declarator(alloc, asked, declarator, faults),
+        None => valued_declarator(alloc, around, declarator, faults),
     }
 }
 
@@ -141,17 +141,17 @@ fn ident_declarator(
 /// none, or where a pattern stands for the identifier, that is a fault.
 fn typed_declarator(
     alloc: Global,
-    asked: Surroundings<'_>,
+    around: Surroundings<'_>,
     mutability: DeclMutabilityKind,
     declarator: Part<'_>,
     faults: &mut Vec<Fault>,
 ) -> Result<Tree, AllocError>
     ensures { IfOk result (λ tree.
-        Adds (declarator_answer (seen_around asked.entry) mutability (seen declarator.entry)) (Some tree) faults.old.items faults.new.items) }
+        Adds (declarator_answer (seen_around around.entry) mutability (seen declarator.entry)) (Some tree) faults.old.items faults.new.items) }
 {
     let name = VarDeclarator::of(declarator).name;
     if name.kind() == Kind::BindingIdent {
-        return ident_declarator(alloc, asked, mutability, declarator, faults);
+        return ident_declarator(alloc, around, mutability, declarator, faults);
     }
     faults.push(Fault {
         kind: FaultKind::UnsupportedDestructuring,
@@ -163,39 +163,39 @@ fn typed_declarator(
 /// A declarator of a statement, that of an ambient one as it is written; none where it is not public.
 fn keep_declarator(
     alloc: Global,
-    asked: Surroundings<'_>,
+    around: Surroundings<'_>,
     statement: Part<'_>,
     declarator: Part<'_>,
     faults: &mut Vec<Fault>,
 ) -> Result<Option<Tree>, AllocError>
     ensures { IfOk result (λ tree.
-        Adds (public_answer (seen_around asked.entry) (seen statement.entry) (seen declarator.entry)) (as_list tree) faults.old.items faults.new.items) }
+        Adds (public_answer (seen_around around.entry) (seen statement.entry) (seen declarator.entry)) (as_list tree) faults.old.items faults.new.items) }
 {
     let span = VarDeclarator::of(declarator).span;
-    if !asked.public_ranges.contains(&span) {
+    if !around.public_ranges.contains(&span) {
         return Ok(None);
     }
-    if is_ambient_statement(asked, statement) {
+    if is_ambient_statement(around, statement) {
         return Ok(Some(declarator.to_tree(alloc)?));
     }
     let mutability = mutability_of(VarDecl::of(statement).kind);
-    Ok(Some(typed_declarator(alloc, asked, mutability, declarator, faults)?))
+    Ok(Some(typed_declarator(alloc, around, mutability, declarator, faults)?))
 }
 
 /// The public declarators of a statement.
 fn public_declarators(
     alloc: Global,
-    asked: Surroundings<'_>,
+    around: Surroundings<'_>,
     statement: Part<'_>,
     faults: &mut Vec<Fault>,
 ) -> Result<Items<Tree>, AllocError>
     ensures { IfOk result (λ items.
-        Adds (declarators_answer (seen_around asked.entry) (seen statement.entry) (parts (VarDecl-decls (seen statement.entry))))
+        Adds (declarators_answer (seen_around around.entry) (seen statement.entry) (parts (VarDecl-decls (seen statement.entry))))
         items faults.old.items faults.new.items) }
 {
     let mut items = Items::new(alloc);
     for declarator in VarDecl::of(statement).decls.parts() {
-        match keep_declarator(alloc, asked, statement, declarator.read(), faults)? {
+        match keep_declarator(alloc, around, statement, declarator.read(), faults)? {
             None => continue,
             Some(declarator) => items.push(declarator)?,
         }
@@ -206,13 +206,13 @@ fn public_declarators(
 /// A variable statement with its public declarators; none where it has none.
 pub fn keep_statement(
     alloc: Global,
-    asked: Surroundings<'_>,
+    around: Surroundings<'_>,
     statement: Part<'_>,
     faults: &mut Vec<Fault>,
 ) -> Result<Option<Tree>, AllocError>
-    ensures { IfOk result (λ tree. Adds (statement_answer (seen_around asked.entry) (seen statement.entry)) (as_list tree) faults.old.items faults.new.items) }
+    ensures { IfOk result (λ tree. Adds (statement_answer (seen_around around.entry) (seen statement.entry)) (as_list tree) faults.old.items faults.new.items) }
 {
-    let decls = public_declarators(alloc, asked, statement, faults)?;
+    let decls = public_declarators(alloc, around, statement, faults)?;
     if decls.is_empty() {
         return Ok(None);
     }
@@ -235,26 +235,27 @@ pub fn keep_statement(
 }
 
 /// Whether a declarator is public.
-fn is_public_declarator(asked: Surroundings<'_>, declarator: Part<'_>) -> bool
-    ensures { result ≡ is_public_declarator (seen_around asked.entry) (seen declarator.entry) }
+fn is_public_declarator(around: Surroundings<'_>, declarator: Part<'_>) -> bool
+    ensures { result ≡ is_public_declarator (seen_around around.entry) (seen declarator.entry) }
 {
-    asked
+    around
         .public_ranges
         .contains(&VarDeclarator::of(declarator).span)
 }
 
 /// Whether one of some declarators is public.
-fn has_public_declarator(asked: Surroundings<'_>, decls: Part<'_>) -> bool
-    ensures { result ≡ list_any (is_public_declarator (seen_around asked.entry)) (parts (seen decls.entry)) }
+fn has_public_declarator(around: Surroundings<'_>, decls: Part<'_>) -> bool
+    ensures { result ≡ list_any (is_public_declarator (seen_around around.entry)) (parts (seen decls.entry)) }
 {
-    decls.parts().iter().any(|declarator| is_public_declarator(asked, declarator.read()))
+    decls.parts().iter().any(|declarator| is_public_declarator(around, declarator.read()))
 }
 
 /// Whether `using` is public: by `place`, or by one of its declarators.
-fn is_public_using(asked: Surroundings<'_>, place: SourceRange, decl: Part<'_>) -> bool
-    ensures { result ≡ is_public_using (seen_around asked.entry) place (seen decl.entry) }
+fn is_public_using(around: Surroundings<'_>, place: SourceRange, decl: Part<'_>) -> bool
+    ensures { result ≡ is_public_using (seen_around around.entry) place (seen decl.entry) }
 {
-    asked.public_ranges.contains(&place) || has_public_declarator(asked, UsingDecl::of(decl).decls)
+    around.public_ranges.contains(&place)
+        || has_public_declarator(around, UsingDecl::of(decl).decls)
 }
 
 /// Where `using` is refused: at its first declarator, or at itself where it has none.
@@ -270,14 +271,14 @@ fn using_place(decl: Part<'_>) -> SourceRange
 
 /// The fault of `using`, if it is public; no skeleton has what it declares.
 pub fn keep_using(
-    asked: Surroundings<'_>,
+    around: Surroundings<'_>,
     place: SourceRange,
     decl: Part<'_>,
     faults: &mut Vec<Fault>,
 ) -> Result<Option<Tree>, AllocError>
-    ensures { IfOk result (λ tree. Adds (using_answer (seen_around asked.entry) place (seen decl.entry)) (as_list tree) faults.old.items faults.new.items) }
+    ensures { IfOk result (λ tree. Adds (using_answer (seen_around around.entry) place (seen decl.entry)) (as_list tree) faults.old.items faults.new.items) }
 {
-    if !is_public_using(asked, place, decl) {
+    if !is_public_using(around, place, decl) {
         return Ok(None);
     }
     faults.push(Fault {
@@ -290,13 +291,13 @@ pub fn keep_using(
 /// A declaration that stands as it is written, which is public by `place`; none where it is not.
 pub fn keep_standing(
     alloc: Global,
-    asked: Surroundings<'_>,
+    around: Surroundings<'_>,
     place: SourceRange,
     decl: Part<'_>,
 ) -> Result<Option<Tree>, AllocError>
-    ensures { IfOk result (λ tree. standing_answer (seen_around asked.entry) place (seen decl.entry) ≡ faultless (as_list tree)) }
+    ensures { IfOk result (λ tree. standing_answer (seen_around around.entry) place (seen decl.entry) ≡ faultless (as_list tree)) }
 {
-    if !asked.public_ranges.contains(&place) {
+    if !around.public_ranges.contains(&place) {
         return Ok(None);
     }
     Ok(Some(decl.to_tree(alloc)?))

@@ -17,25 +17,25 @@ use std::alloc::{AllocError, Global};
 /// The signature of a public function: of an implementation behind overloads the count of its parameters.
 fn transform_signature(
     alloc: Global,
-    asked: Surroundings<'_>,
+    around: Surroundings<'_>,
     place: SourceRange,
     decl: Part<'_>,
     faults: &mut Vec<Fault>,
 ) -> Result<Tree, AllocError>
-    ensures { IfOk result (λ tree. Adds (signature_answer (seen_around asked.entry) place (seen decl.entry)) (Some tree) faults.old.items faults.new.items) }
+    ensures { IfOk result (λ tree. Adds (signature_answer (seen_around around.entry) place (seen decl.entry)) (Some tree) faults.old.items faults.new.items) }
 {
     let FnDecl {
         ident,
         function,
         ..
     } = FnDecl::of(decl);
-    if asked.public_ranges.is_impl_with_overloads(&place) {
+    if around.public_ranges.is_impl_with_overloads(&place) {
         return transform_implementation(alloc, function);
     }
     let name = Ident::of(ident).span;
     transform_fn(
         alloc,
-        asked.es_module_info,
+        around.es_module_info,
         FunctionKind::DeclarationLike,
         name,
         function,
@@ -47,19 +47,19 @@ fn transform_signature(
 /// parameters; another, by its signature.
 fn keep_function(
     alloc: Global,
-    asked: Surroundings<'_>,
+    around: Surroundings<'_>,
     place: SourceRange,
     decl: Part<'_>,
     faults: &mut Vec<Fault>,
 ) -> Result<Tree, AllocError>
-    ensures { IfOk result (λ tree. Adds (function_answer (seen_around asked.entry) place (seen decl.entry)) (Some tree) faults.old.items faults.new.items) }
+    ensures { IfOk result (λ tree. Adds (function_answer (seen_around around.entry) place (seen decl.entry)) (Some tree) faults.old.items faults.new.items) }
 {
-    if asked.is_ambient {
+    if around.is_ambient {
         return decl.to_tree(alloc);
     }
     let FnDecl { ident, declare, .. } = FnDecl::of(decl);
     let ident = ident.to_tree(alloc)?;
-    let function = transform_signature(alloc, asked, place, decl, faults)?;
+    let function = transform_signature(alloc, around, place, decl, faults)?;
     let made = FnDecl {
         ident,
         declare,
@@ -71,16 +71,16 @@ fn keep_function(
 /// A function, which is public by `place`; none where it is not.
 pub fn keep_public_function(
     alloc: Global,
-    asked: Surroundings<'_>,
+    around: Surroundings<'_>,
     place: SourceRange,
     decl: Part<'_>,
     faults: &mut Vec<Fault>,
 ) -> Result<Option<Tree>, AllocError>
     ensures { IfOk result (λ tree.
-        Adds (public_function_answer (seen_around asked.entry) place (seen decl.entry)) (as_list tree) faults.old.items faults.new.items) }
+        Adds (public_function_answer (seen_around around.entry) place (seen decl.entry)) (as_list tree) faults.old.items faults.new.items) }
 {
-    if !asked.public_ranges.contains(&place) {
+    if !around.public_ranges.contains(&place) {
         return Ok(None);
     }
-    Ok(Some(keep_function(alloc, asked, place, decl, faults)?))
+    Ok(Some(keep_function(alloc, around, place, decl, faults)?))
 }

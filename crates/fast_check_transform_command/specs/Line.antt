@@ -7,7 +7,7 @@ use Rattle.fast_check_graph.specs.declared.graph.ModuleGraph.{ModuleGraph}
 use Rattle.fast_check_modules.specs.EsModule.{EsModule}
 use Rattle.fast_check_modules.specs.diagnostics.PublicRanges.{PublicRanges}
 use Rattle.fast_check_module_transform.specs.Transform.{skeleton, comments, sources, faults}
-use Rattle.fast_check_transform_faults.specs.Diagnostics.{AreDiagnosticsOf, told}
+use Rattle.fast_check_transform_faults.specs.Diagnostics.{AreDiagnosticsOf, diagnosed}
 use Rattle.fast_check_requests.specs.Refusal.{line_end}
 use Rattle.fast_check_write.specs.Answer.{skeleton_data, diagnostics_data}
 
@@ -26,7 +26,7 @@ pub record IsFaultsLine (graph : ModuleGraph) (info : EsModule) (public : Public
     (line : List ℕ) : Type 0 where
   pub diagnostics : List FastCheckDiagnostic
   pub some_fault : faults graph info public ≢ []
-  pub are_told : AreDiagnosticsOf info (told first (faults graph info public)) diagnostics
+  pub are_diagnosed : AreDiagnosticsOf info (diagnosed first (faults graph info public)) diagnostics
   pub text : line ≡ line_of_data (diagnostics_data diagnostics)
 
 -- the line with its status: 0 for a skeleton, 1 for diagnostics

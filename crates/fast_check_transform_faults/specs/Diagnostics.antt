@@ -21,8 +21,8 @@ use Rattle.fast_check_signatures.specs.declared.fault.Fault.{Fault}
 use Rattle.fast_check_signatures.specs.declared.fault.FaultKind.TheVariants as kinds
 
 -- what is told of the faults: all of them, or the first alone
-abbrev pub told : Bool → List Fault → List Fault
-told first_alone fs = if first_alone then take 1 fs else fs
+abbrev pub diagnosed : Bool → List Fault → List Fault
+diagnosed first_alone fs = if first_alone then take 1 fs else fs
 
 -- a place in the source text of a module
 pub record IsPlaceOf (info : EsModule) (at : SourceRange) (place : FastCheckDiagnosticRange) : Type 0 where

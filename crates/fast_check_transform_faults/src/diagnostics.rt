@@ -1,6 +1,6 @@
 //! Faults of the transform as diagnostics.
 ghost use Rattle.std.specs.Prelude.{◌≡◌, IfOk};
-ghost use Rattle.fast_check_transform_faults.specs.Diagnostics.{IsPlaceOf, IsExpandoProperty, IsDiagnosticOf, AreDiagnosticsOf, told};
+ghost use Rattle.fast_check_transform_faults.specs.Diagnostics.{IsPlaceOf, IsExpandoProperty, IsDiagnosticOf, AreDiagnosticsOf, diagnosed};
 
 use fast_check_modules::EsModuleInfo;
 use fast_check_modules::diagnostics::{FastCheckDiagnostic, FastCheckDiagnosticRange};
@@ -111,7 +111,7 @@ pub fn diagnose(
     mut faults: Vec<Fault>,
     first_alone: bool,
 ) -> Result<Vec<FastCheckDiagnostic>, AllocError>
-    ensures { IfOk result (λ diagnostics. AreDiagnosticsOf es_module_info.now (told first_alone faults.items) diagnostics.items) }
+    ensures { IfOk result (λ diagnostics. AreDiagnosticsOf es_module_info.now (diagnosed first_alone faults.items) diagnostics.items) }
 {
     if first_alone {
         faults.truncate(1);

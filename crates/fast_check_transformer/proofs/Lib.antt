@@ -1,5 +1,5 @@
 pub mod SameSources
-pub mod SameTold
+pub mod SameDiagnosed
 pub mod Pairs
 pub mod Apart
 pub mod ExampleItems

@@ -15,7 +15,7 @@ use Rattle.fast_check_transformer.specs.Transformed.{ModuleAnswer, IsTransformed
 use Rattle.fast_check_transformer.specs.Compared.{SameStaticSource}
 use Rattle.fast_check_transformer.specs.Worlds.{SameAnswer, KeepsHidden}
 use Rattle.fast_check_transformer.proofs.SameSources.{sources_same}
-use Rattle.fast_check_transformer.proofs.SameTold.{each_empty, told_same}
+use Rattle.fast_check_transformer.proofs.SameDiagnosed.{each_empty, diagnosed_same}
 
 -- equal values on both sides, in place of those that are related
 both : {A : Type 0} (R : A → A → Type 0) {x y v w : A} → x ≡ v → y ≡ w → R v w → R x y
@@ -35,7 +35,7 @@ module _ (graph : ModuleGraph) (a : EsModule) (ranges_a : PublicRanges) (b : EsM
     sources = both (Each (SameStaticSource r)) i.sources j.sources (sources_same r ok h.skeletons);
   }
   answer_same r ok one h (Err ds) (Err es) i j =
-      told_same r a b one first_alone (faults graph a ranges_a) (faults graph b ranges_b) ds.items es.items h.faults i.faults j.faults
+      diagnosed_same r a b one first_alone (faults graph a ranges_a) (faults graph b ranges_b) ds.items es.items h.faults i.faults j.faults
   answer_same r ok one h (Ok m) (Err es) i j =
       absurd (true≢false
       (sym (j.ok.1 ((each_empty (SameFault r) (faults graph a ranges_a) (faults graph b ranges_b) h.faults).0 (i.ok.0 refl)))))

@@ -15,7 +15,7 @@ use Rattle.fast_check_transformer.specs.Compared.{SameStaticSource, SameDiagnost
 use Rattle.fast_check_transformer.specs.Worlds.{SameAnswer}
 
 -- under a renaming
-pub record TellsApart (r : Renaming) : Type 0 where
+pub record DiagnosesApart (r : Renaming) : Type 0 where
   -- a skeleton is no diagnostics, and no diagnostics are one
   pub skeleton : (m : FastCheckModule) (ds : Vec FastCheckDiagnostic Global) → SameAnswer r (Ok m) (Err ds) → ⊥
   pub faulty : (ds : Vec FastCheckDiagnostic Global) (m : FastCheckModule) → SameAnswer r (Err ds) (Ok m) → ⊥
@@ -37,4 +37,4 @@ pub record TellsApart (r : Renaming) : Type 0 where
       (s.type_only ≡ t.type_only)
 
 abbrev pub Compares : Type 0
-Compares = (r : Renaming) → TellsApart r
+Compares = (r : Renaming) → DiagnosesApart r

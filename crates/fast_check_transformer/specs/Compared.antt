@@ -33,32 +33,32 @@ pub record SamePlace (r : Renaming) (p q : FastCheckDiagnosticRange) : Type 0 wh
   pub range : SameRange r p.range q.range
 
 -- a kind of fault with its flags and names, and its place
-abbrev pub Told : Type 0
-Told = FaultKind × FastCheckDiagnosticRange
+abbrev pub Diagnosed : Type 0
+Diagnosed = FaultKind × FastCheckDiagnosticRange
 
 -- what a diagnostic of a transform tells
-abbrev pub told_by : FastCheckDiagnostic → Option Told
-told_by (MissingExplicitType place) = Some (kinds.MissingExplicitType, place)
-told_by (MissingExplicitReturnType place is_definitely_void_or_never is_async) =
+abbrev pub diagnosed_by : FastCheckDiagnostic → Option Diagnosed
+diagnosed_by (MissingExplicitType place) = Some (kinds.MissingExplicitType, place)
+diagnosed_by (MissingExplicitReturnType place is_definitely_void_or_never is_async) =
     Some (kinds.MissingExplicitReturnType is_definitely_void_or_never is_async, place)
-told_by (UnsupportedDestructuring place) = Some (kinds.UnsupportedDestructuring, place)
-told_by (UnsupportedSuperClassExpr place) = Some (kinds.UnsupportedSuperClassExpr, place)
-told_by (UnsupportedDefaultExportExpr place) = Some (kinds.UnsupportedDefaultExportExpr, place)
-told_by (UnsupportedUsing place) = Some (kinds.UnsupportedUsing, place)
-told_by (UnsupportedRequire place) = Some (kinds.UnsupportedRequire, place)
-told_by (UnsupportedTsExportAssignment place) = Some (kinds.UnsupportedTsExportAssignment, place)
-told_by (UnsupportedTsNamespaceExport place) = Some (kinds.UnsupportedTsNamespaceExport, place)
-told_by (UnsupportedGlobalModule place) = Some (kinds.UnsupportedGlobalModule, place)
-told_by (UnsupportedAmbientModule place) = Some (kinds.UnsupportedAmbientModule, place)
-told_by (UnsupportedExpandoProperty place object reference) =
+diagnosed_by (UnsupportedDestructuring place) = Some (kinds.UnsupportedDestructuring, place)
+diagnosed_by (UnsupportedSuperClassExpr place) = Some (kinds.UnsupportedSuperClassExpr, place)
+diagnosed_by (UnsupportedDefaultExportExpr place) = Some (kinds.UnsupportedDefaultExportExpr, place)
+diagnosed_by (UnsupportedUsing place) = Some (kinds.UnsupportedUsing, place)
+diagnosed_by (UnsupportedRequire place) = Some (kinds.UnsupportedRequire, place)
+diagnosed_by (UnsupportedTsExportAssignment place) = Some (kinds.UnsupportedTsExportAssignment, place)
+diagnosed_by (UnsupportedTsNamespaceExport place) = Some (kinds.UnsupportedTsNamespaceExport, place)
+diagnosed_by (UnsupportedGlobalModule place) = Some (kinds.UnsupportedGlobalModule, place)
+diagnosed_by (UnsupportedAmbientModule place) = Some (kinds.UnsupportedAmbientModule, place)
+diagnosed_by (UnsupportedExpandoProperty place object reference) =
     Some (kinds.UnsupportedExpandoProperty (string_bytes object) (string_bytes reference), place)
-told_by _ = None
+diagnosed_by _ = None
 
 -- one diagnostic: the same kind, flags and names, by bytes, at places that are the same
 pub record SameDiagnostic (r : Renaming) (d e : FastCheckDiagnostic) : Type 0 where
   pub kind : FaultKind
   pub first_place : FastCheckDiagnosticRange
   pub second_place : FastCheckDiagnosticRange
-  pub first_told : told_by d ≡ Some (kind, first_place)
-  pub second_told : told_by e ≡ Some (kind, second_place)
+  pub first_diagnosed : diagnosed_by d ≡ Some (kind, first_place)
+  pub second_diagnosed : diagnosed_by e ≡ Some (kind, second_place)
   pub places : SamePlace r first_place second_place

@@ -11,7 +11,7 @@ use Rattle.fast_check_module_transform.specs.Transform as transform
 use Rattle.fast_check_parsed_source.specs.MediaType.{is_declaration}
 use Rattle.fast_check_parsed_source.specs.declared.tables.fast_check_module.FastCheckModule.{FastCheckModule}
 use Rattle.fast_check_skeleton.specs.Grammar.{IsSkeleton}
-use Rattle.fast_check_transform_faults.specs.Diagnostics.{AreDiagnosticsOf, told}
+use Rattle.fast_check_transform_faults.specs.Diagnostics.{AreDiagnosticsOf, diagnosed}
 
 -- a skeleton, or diagnostics
 abbrev pub ModuleAnswer : Type 0
@@ -28,4 +28,4 @@ pub record IsTransformed (graph : ModuleGraph) (info : EsModule) (public : Publi
   pub comments : IfOk answer (λ made. made.comments ≡ transform.comments graph info public)
   pub sources : IfOk answer (λ made. made.module_info.sources.items ≡ transform.sources graph info public)
   pub faults : IfErr answer
-      (λ diagnostics. AreDiagnosticsOf info (told first_alone (transform.faults graph info public)) diagnostics.items)
+      (λ diagnostics. AreDiagnosticsOf info (diagnosed first_alone (transform.faults graph info public)) diagnostics.items)

@@ -22,9 +22,9 @@ pub record Transformer : Type 0 where
   pub diagnostics : List FastCheckDiagnostic
 
 -- before the first call nothing is told
-abbrev pub told_so_far : Option (Vec FastCheckDiagnostic Global) → List FastCheckDiagnostic
-told_so_far None = []
-told_so_far (Some diagnostics) = diagnostics.items
+abbrev pub diagnosed_so_far : Option (Vec FastCheckDiagnostic Global) → List FastCheckDiagnostic
+diagnosed_so_far None = []
+diagnosed_so_far (Some diagnostics) = diagnostics.items
 
 -- what a transformer stands for
 abbrev pub transformer_of : FastCheckTransformer → Transformer
@@ -33,7 +33,7 @@ transformer_of t = record {
   es_module_info = t.es_module_info.now;
   public_ranges = t.public_ranges.now;
   first_alone = t.should_error_on_first_diagnostic;
-  diagnostics = told_so_far t.diagnostics;
+  diagnostics = diagnosed_so_far t.diagnostics;
 }
 
 -- the skeleton of its module, and the comments that stay with it

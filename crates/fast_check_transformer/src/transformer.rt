@@ -4,7 +4,7 @@ ghost use Rattle.fast_check_skeleton.specs.Grammar.{IsSkeleton};
 ghost use Rattle.fast_check_parsed_source.specs.MediaType.{is_declaration};
 ghost use Rattle.fast_check_modules.specs.EsModule.{Admits};
 ghost use Rattle.fast_check_bindings.specs.Bindings.{bindings_of};
-ghost use Rattle.fast_check_transform_faults.specs.Diagnostics.{AreDiagnosticsOf, told};
+ghost use Rattle.fast_check_transform_faults.specs.Diagnostics.{AreDiagnosticsOf, diagnosed};
 
 use fast_check_comments::Comments;
 use fast_check_graph::ModuleGraph;
@@ -71,7 +71,7 @@ impl<'a> FastCheckTransformer<'a> {
         ensures comments { let t = transformer_of self.old in
             IfOk result (λ answer. IfOk answer (λ made. own_faults t ≡ [] → made.1 ≡ own_comments t)) }
         ensures first_fault { let t = transformer_of self.old in
-            IfOk result (λ answer. IfErr answer (λ diagnostics. AreDiagnosticsOf t.es_module_info (told true (own_faults t)) diagnostics.items)) }
+            IfOk result (λ answer. IfErr answer (λ diagnostics. AreDiagnosticsOf t.es_module_info (diagnosed true (own_faults t)) diagnostics.items)) }
         ensures diagnostics { let t = transformer_of self.old in
             IfOk result (λ _. AreDiagnosticsOf t.es_module_info (kept_faults t) (transformer_of self.new).diagnostics) }
         ensures unchanged { transformer_of self.new ≡ record (transformer_of self.old) { diagnostics = (transformer_of self.new).diagnostics } }

@@ -18,17 +18,17 @@ use Rattle.fast_check_worklists.specs.State.{want_of, State, AsksAll}
 use Rattle.fast_check_wants.specs.Sources.{Used}
 use Rattle.fast_check_turns.specs.Rules.{entry_want, unless_faulty, entry_wants}
 use Rattle.fast_check_turns.specs.Yields.{entry_fault_yields, entry_yields}
-use Rattle.fast_check_turns.specs.Turns.{AsksAndTells, EntersAt, Enters}
+use Rattle.fast_check_turns.specs.Turns.{AsksAndGives, EntersAt, Enters}
 use Rattle.fast_check_turns.specs.Lent.{used_of}
 
 pub entered_with : (g : ModuleGraph) (nv : Nv) (urls seen asked : List Parts) (faults found : List (Parts × EntryFault)) → seen ≡ urls →
     asked ≡ urls →
     found ≡ faults → faults ≡ all_faults g seen → (outer : List OuterWant) →
     map want_of outer ≡ unless_faulty found (map (entry_want nv) asked) →
-    (told : List Yield) → told ≡ known_package nv ∷
+    (yielded : List Yield) → yielded ≡ known_package nv ∷
     (map (λ url. entry_point nv (serialize url)) urls ++ flat_map (entry_fault_yields nv) faults) →
-    (a b : State) → AsksAll outer a b → (old new : List Yield) → new ≡ old ++ told → EntersAt g nv urls None a b old new
-entered_with g nv urls seen asked faults found s t u f outer w told y a b asks old new n =
+    (a b : State) → AsksAll outer a b → (old new : List Yield) → new ≡ old ++ yielded → EntersAt g nv urls None a b old new
+entered_with g nv urls seen asked faults found s t u f outer w yielded y a b asks old new n =
     let all : faults ≡ all_faults g urls = f ∙ ap (all_faults g) s in (
       outer,
       w ∙ (ap (λ (us : List Parts). unless_faulty found (map (entry_want nv) us)) t ∙
@@ -52,11 +52,11 @@ entered_nowhere g used nv urls none a b same old new still = (
 -- one whose item is used
 pub entered_kept : (g : ModuleGraph) (nv : Nv) (urls set : List Parts) → set ≡ in_order urls → (found : Option FastCheckCacheItem)
     (item : FastCheckCacheItem) → found ≡ Some item → (a b : State) (old new : List Yield) →
-    AsksAndTells (map to_package (item_of item).0) (kept nv set (item_of item) ∷ []) a b old new →
+    AsksAndGives (map to_package (item_of item).0) (kept nv set (item_of item) ∷ []) a b old new →
     EntersAt g nv urls (option_map item_of found) a b old new
 entered_kept g nv urls set ordered found item is a b old new h =
     subst (λ (o : Option FastCheckCacheItem). EntersAt g nv urls (option_map item_of o) a b old new) (sym is)
-    (subst (λ (ps : List Parts). AsksAndTells (map to_package (item_of item).0) (kept nv ps (item_of item) ∷ []) a b old new) ordered h)
+    (subst (λ (ps : List Parts). AsksAndGives (map to_package (item_of item).0) (kept nv ps (item_of item) ∷ []) a b old new) ordered h)
 
 -- what a look-up answers is what is used
 pub looked_up : {C : Type 0} (lent : Option C) (by : C → Used) (nv : Nv) (set ps : List Parts) (found : Option ItemView) → set ≡ ps →

@@ -247,8 +247,8 @@ module _ (k : Known) (nv : Nv) (t : Text) (m : TracedModule) (here : module_at k
   abbrev given : List Yield
   given = module_yields nv (own_text m) found (dependencies nv wants)
 
-  abbrev wrong : List Yield
-  wrong = placed_yields nv (own_text m) (map placed_in found.faults.items)
+  abbrev placed_faults : List Yield
+  placed_faults = placed_yields nv (own_text m) (map placed_in found.faults.items)
 
   abbrev Gift : Yield → Type 0
   Gift y = (d : Demand) × HasIn new d × Contains (gives k d) y
@@ -294,12 +294,12 @@ module _ (k : Known) (nv : Nv) (t : Text) (m : TracedModule) (here : module_at k
       (Contains-append_left (implementing_at nv m (implementations (own_tables m) s.0)) _ y
       (contains_map (implementing nv (own_text m)) (implementations (own_tables m) s.0) r s.2)))
 
-  wrong_is : wrong ≡ faults_at nv m a.faulty
-  wrong_is = ap (placed_yields nv (own_text m)) a.faults_are ∙ placed_flat nv (own_text m) (source_in m) a.faulty
+  placed_faults_are : placed_faults ≡ faults_at nv m a.faulty
+  placed_faults_are = ap (placed_yields nv (own_text m)) a.faults_are ∙ placed_flat nv (own_text m) (source_in m) a.faulty
 
-  wrong_gift : (y : Yield) → Contains wrong y → Gift y
-  wrong_gift y c =
-      let f = flat_contains (fault_yields nv m) a.faulty y (subst (λ (ys : List Yield). Contains ys y) wrong_is c) in
+  fault_gift : (y : Yield) → Contains placed_faults y → Gift y
+  fault_gift y c =
+      let f = flat_contains (fault_yields nv m) a.faulty y (subst (λ (ys : List Yield). Contains ys y) placed_faults_are c) in
       let s = a.found_faults.sound f.0 f.1 in
       symbol_gift s.0 y s.1
       (Contains-append_right (public_at nv m (ranges (own_tables m) s.0)) _ y
@@ -336,7 +336,7 @@ module _ (k : Known) (nv : Nv) (t : Text) (m : TracedModule) (here : module_at k
       (λ r. each_append Gift (public_at nv m shown) _ (each_map Gift (public nv (own_text m)) shown shown_gift)
       (each_append Gift (implementing_at nv m found.implementations.items) _
       (each_map Gift (implementing nv (own_text m)) found.implementations.items implementing_gift)
-      (each_append Gift wrong (dependencies nv wants) wrong_gift dependency_gift)) y r)
+      (each_append Gift placed_faults (dependencies nv wants) fault_gift dependency_gift)) y r)
       (Contains_cases (recorded nv (own_text m)) _ y c)
 
   abbrev IsGiven : Yield → Type 0
@@ -356,17 +356,17 @@ module _ (k : Known) (nv : Nv) (t : Text) (m : TracedModule) (here : module_at k
       (Contains-append_right (public_at nv m shown) _ y
       (Contains-append_left (implementing_at nv m found.implementations.items) _ y c))
 
-  in_wrong : Each IsGiven (faults_at nv m a.faulty)
-  in_wrong y c = Contains_later (recorded nv (own_text m)) _ y
+  in_placed_faults : Each IsGiven (faults_at nv m a.faulty)
+  in_placed_faults y c = Contains_later (recorded nv (own_text m)) _ y
       (Contains-append_right (public_at nv m shown) _ y
       (Contains-append_right (implementing_at nv m found.implementations.items) _ y
-      (Contains-append_left wrong _ y (subst (λ (ys : List Yield). Contains ys y) (sym wrong_is) c))))
+      (Contains-append_left placed_faults _ y (subst (λ (ys : List Yield). Contains ys y) (sym placed_faults_are) c))))
 
   in_dependencies : Each IsGiven (dependencies nv wants)
   in_dependencies y c = Contains_later (recorded nv (own_text m)) _ y
       (Contains-append_right (public_at nv m shown) _ y
       (Contains-append_right (implementing_at nv m found.implementations.items) _ y
-      (Contains-append_right wrong (dependencies nv wants) y c)))
+      (Contains-append_right placed_faults (dependencies nv wants) y c)))
 
   -- what is asked of packages alone makes dependencies
   dependency_outer : (w : Want) (y : Yield) → Contains (dependency_of nv w) y → IsOuter w
@@ -404,7 +404,7 @@ module _ (k : Known) (nv : Nv) (t : Text) (m : TracedModule) (here : module_at k
       (a.found_implementations.complete s r h i))))
       (each_append IsGiven (faults_at nv m (faults (own_tables m) s)) (dependencies nv (symbol_wants k nv t s m))
       (λ z i. let f = flat_contains (fault_yields nv m) (faults (own_tables m) s) z i in
-      in_wrong z (contains_flat_map (fault_yields nv m) a.faulty f.0 z (a.found_faults.complete s f.0 h f.1) f.2))
+      in_placed_faults z (contains_flat_map (fault_yields nv m) a.faulty f.0 z (a.found_faults.complete s f.0 h f.1) f.2))
       (λ z i. let f = flat_contains (dependency_of nv) (symbol_wants k nv t s m) z i in
       in_dependencies z
       (contains_flat_map (dependency_of nv) wants f.0 z (symbols_complete s h f.0 f.1 (dependency_outer f.0 z f.2)) f.2))))

@@ -15,13 +15,13 @@ use Rattle.fast_check_turns.specs.Rules.{entered_wants, entry_wants}
 use Rattle.fast_check_turns.specs.Yields.{entered_yields, entry_yields}
 
 -- these wants were asked for, and these yields were told
-abbrev pub AsksAndTells : List Want → List Yield → State → State → List Yield → List Yield → Type 0
-AsksAndTells wants told a b old new = (outer : List OuterWant) × (map want_of outer ≡ wants) × AsksAll outer a b ×
-    (new ≡ old ++ told)
+abbrev pub AsksAndGives : List Want → List Yield → State → State → List Yield → List Yield → Type 0
+AsksAndGives wants yielded a b old new = (outer : List OuterWant) × (map want_of outer ≡ wants) × AsksAll outer a b ×
+    (new ≡ old ++ yielded)
 
 -- what a package with these entry points asks for was asked for, and what it gives was told
 abbrev pub EntersAt : ModuleGraph → Nv → List Parts → Option ItemView → State → State → List Yield → List Yield → Type 0
-EntersAt g nv urls item = AsksAndTells (entered_wants g nv urls item) (entered_yields g nv urls item)
+EntersAt g nv urls item = AsksAndGives (entered_wants g nv urls item) (entered_yields g nv urls item)
 
 abbrev pub Enters : ModuleGraph → Used → Nv → Entrance → State → State → List Yield → List Yield → Type 0
-Enters g used nv entrance = AsksAndTells (entry_wants g used nv entrance) (entry_yields g used nv entrance)
+Enters g used nv entrance = AsksAndGives (entry_wants g used nv entrance) (entry_yields g used nv entrance)

@@ -8,13 +8,13 @@ ghost use Rattle.fast_check_cache.specs.Cache.{item_of};
 ghost use Rattle.fast_check_cache.specs.CachedPackages.{used_item};
 ghost use Rattle.fast_check_entries.specs.findings.Yields.{known_package, entry_point, kept};
 ghost use Rattle.fast_check_entries.specs.findings.Findings.{yields_of};
-ghost use Rattle.fast_check_entries.specs.Entries.{entrance_seen, in_order, TellsRefused};
+ghost use Rattle.fast_check_entries.specs.Entries.{entrance_seen, in_order, DiagnosesRefused};
 ghost use Rattle.fast_check_worklists.specs.Demands.{to_package};
 ghost use Rattle.fast_check_worklists.specs.State.{want_of, state_of, IsEntered};
 ghost use Rattle.fast_check_wants.specs.Sources.{known, with_used};
 ghost use Rattle.fast_check_turns.specs.Rules.{entry_want, unless_faulty, entrance_at, world};
 ghost use Rattle.fast_check_turns.specs.Yields.{entry_fault_yields, gives};
-ghost use Rattle.fast_check_turns.specs.Turns.{AsksAndTells, EntersAt, Enters};
+ghost use Rattle.fast_check_turns.specs.Turns.{AsksAndGives, EntersAt, Enters};
 ghost use Rattle.fast_check_turns.specs.Lent.{used_of};
 
 use crate::input::FinderInput;
@@ -134,7 +134,7 @@ fn enter_kept(
     item: FastCheckCacheItem,
     progress: &mut Progress,
 ) -> Result<(), AllocError>
-    ensures { OnOk result (AsksAndTells (map to_package (item_of item).0) (kept (nv_of nv.now) entry_points.keys (item_of item) ∷ [])
+    ensures { OnOk result (AsksAndGives (map to_package (item_of item).0) (kept (nv_of nv.now) entry_points.keys (item_of item) ∷ [])
         (state_of progress.old.worklist) (state_of progress.new.worklist)
         (flat_map yields_of progress.old.found.items) (flat_map yields_of progress.new.found.items)) }
 {
@@ -210,7 +210,7 @@ pub fn enter(
         let k = with_used used (known i.sources (url_of provider.now) (nv_at provider.now)) in
         OnOk result (IsEntered (world k) (gives k) (nv_of nv.now) (state_of progress.old.worklist) (state_of progress.new.worklist)
         (flat_map yields_of progress.old.found.items) (flat_map yields_of progress.new.found.items)) }
-    ensures refused { IfErr result (TellsRefused (nv_of nv.now)
+    ensures refused { IfErr result (DiagnosesRefused (nv_of nv.now)
         (entrance_at (known input.entry.sources (url_of provider.now) (nv_at provider.now)) (nv_of nv.now))) }
 {
     let members = input.sources.workspace_members;

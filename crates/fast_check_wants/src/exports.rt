@@ -79,7 +79,7 @@ fn no_exports(alloc: Global) -> ImportedExports
 }
 
 /// What is asked of a module, as the lists of what was asked keep it.
-pub fn exports_of(alloc: Global, demand: NameDemand<'_>) -> Result<ImportedExports, AllocError>
+pub fn exports_to_ask(alloc: Global, demand: NameDemand<'_>) -> Result<ImportedExports, AllocError>
     ensures { IfOk result (λ x. asked x ≡ asked_by (names_of demand.entry)) }
 {
     match demand {

@@ -13,7 +13,7 @@ ghost use Rattle.fast_check_worklists.specs.State.{want_of};
 ghost use Rattle.fast_check_wants.specs.Sources.{known, owner_by};
 ghost use Rattle.fast_check_wants.specs.Wants.{file_at, behind, resolved, file_wants, left_wants};
 
-use crate::exports::exports_of;
+use crate::exports::exports_to_ask;
 use crate::sources::{Sources, owner_of};
 use fast_check_name_demands::{FileWant, FileWants, NameDemand};
 use fast_check_names::ImportedExports;
@@ -93,7 +93,7 @@ fn push_target(
         ≡ map want_of out.old.items ++ file_at (nv_of asker.entry.package.now) (serialize target.now) (asked_by (names_of demand.entry))
         (owner_by (members_in asker.entry.sources.workspace_members.now) (nv_at provider.now) (serialize target.now))) }
 {
-    let exports = exports_of(alloc, demand)?;
+    let exports = exports_to_ask(alloc, demand)?;
     let owner = owner_of(alloc, asker.sources.workspace_members, provider, target)?;
     push_file_at(asker.package, target, exports, owner, out)
 }
@@ -111,7 +111,7 @@ fn push_left(
         ≡ map want_of out.old.items ++ behind (nv_of asker.entry.package.now) (serialize target.now) (asked_by (names_of demand.entry))
         (owner_by (members_in asker.entry.sources.workspace_members.now) (nv_at provider.now) (serialize target.now))) }
 {
-    let exports = exports_of(alloc, demand)?;
+    let exports = exports_to_ask(alloc, demand)?;
     let owner = owner_of(alloc, asker.sources.workspace_members, provider, target)?;
     push_behind(asker.package, target, exports, owner, out)
 }

@@ -6,7 +6,7 @@ use Rattle.url.specs.Parts.{Parts, serialize}
 use Rattle.fast_check_packages.specs.declared.package.PackageNv.{PackageNv}
 use Rattle.fast_check_names.specs.declared.lattice.imported_exports.ImportedExports.{ImportedExports}
 use Rattle.fast_check_names.specs.Imports.{NameDemand}
-use Rattle.fast_check_worklists.specs.declared.traced_modules.PendingTrace.{PendingTrace}
+use Rattle.fast_check_worklists.specs.declared.module_maps.PendingTrace.{PendingTrace}
 use Rattle.fast_check_packages.specs.Package.{Nv, nv_of}
 use Rattle.fast_check_worklists.specs.Traces.{handled, pending, Handles, Waits}
 use Rattle.fast_check_demands.specs.Demands.{Demand as SymbolDemand}

@@ -5,9 +5,9 @@ use Rattle.std.specs.Str.{bytes_eq}
 use Rattle.url.specs.Parts.{Parts, serialize}
 use Rattle.fast_check_packages.specs.declared.package.PackageNv.{PackageNv}
 use Rattle.fast_check_names.specs.declared.lattice.imported_exports.ImportedExports.{ImportedExports}
-use Rattle.fast_check_worklists.specs.declared.traced_modules.HandledExports.{HandledExports}
-use Rattle.fast_check_worklists.specs.declared.traced_modules.PendingTraces.{PendingTraces}
-use Rattle.fast_check_worklists.specs.declared.traced_modules.PendingTrace.{PendingTrace}
+use Rattle.fast_check_worklists.specs.declared.module_maps.HandledExports.{HandledExports}
+use Rattle.fast_check_worklists.specs.declared.module_maps.PendingTraces.{PendingTraces}
+use Rattle.fast_check_worklists.specs.declared.module_maps.PendingTrace.{PendingTrace}
 use Rattle.fast_check_names.specs.Imports.{IsCopy, IsAdded}
 
 -- a specifier is told by its text

@@ -1,8 +1,8 @@
 //! Worklists: the modules that were followed or wait, what was asked for and what of it waits, and that following it all makes an account.
 #![tactic(auto)]
 
-mod traced_modules;
+mod module_maps;
 mod worklist;
 
-pub use crate::traced_modules::{HandledExports, PendingTrace, PendingTraces};
+pub use crate::module_maps::{HandledExports, PendingTrace, PendingTraces};
 pub use worklist::{OuterWant, Worklist, begin, copy_of, is_same_package};

@@ -5,7 +5,7 @@ ghost use Rattle.fast_check_worklists.specs.Demands.{same_nv};
 ghost use Rattle.fast_check_worklists.specs.State.{state_of, AsksModule, AsksPackage, AsksOne, AsksAll};
 ghost use Rattle.fast_check_worklists.specs.Turn.{IsBegun};
 
-use crate::traced_modules::{HandledExports, PendingTraces};
+use crate::module_maps::{HandledExports, PendingTraces};
 use fast_check_names::ImportedExports;
 use fast_check_packages::PackageNv;
 use indexmap::IndexSet;

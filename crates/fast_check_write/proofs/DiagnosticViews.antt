@@ -12,21 +12,21 @@ use Rattle.fast_check_diagnostics.specs.DiagnosticView.{DiagnosticView}
 use Rattle.fast_check_write.specs.Diagnostics.{view_data, named, advice, text_or_null, place_or_null, level_text}
 
 -- of a page, a hint and lines
-abbrev pub told_advice : Option (List ℕ) → Option (List ℕ) → List (List ℕ) → List Token
-told_advice docs_url hint info =
+abbrev pub diagnosed_advice : Option (List ℕ) → Option (List ℕ) → List (List ℕ) → List Token
+diagnosed_advice docs_url hint info =
     named (codes "docs_url") (text_or_null docs_url)
     ++ (named (codes "hint") (text_or_null hint) ++ named (codes "info") (array (items_of (map string info))))
 
-pub told_advice-is : (view : DiagnosticView) (docs_url hint : Option (List ℕ)) (info : List (List ℕ)) → docs_url ≡ view.docs_url →
+pub diagnosed_advice-is : (view : DiagnosticView) (docs_url hint : Option (List ℕ)) (info : List (List ℕ)) → docs_url ≡ view.docs_url →
     hint ≡ view.hint →
-    info ≡ view.info → told_advice docs_url hint info ≡ advice view
-told_advice-is view docs_url hint info is_docs_url is_hint is_info =
-    ap (λ x. told_advice x hint info) is_docs_url
-    ∙ (ap (λ x. told_advice view.docs_url x info) is_hint ∙ ap (λ x. told_advice view.docs_url view.hint x) is_info)
+    info ≡ view.info → diagnosed_advice docs_url hint info ≡ advice view
+diagnosed_advice-is view docs_url hint info is_docs_url is_hint is_info =
+    ap (λ x. diagnosed_advice x hint info) is_docs_url
+    ∙ (ap (λ x. diagnosed_advice view.docs_url x info) is_hint ∙ ap (λ x. diagnosed_advice view.docs_url view.hint x) is_info)
 
 -- of a view's code, level and message, its place and its specifier, and what else it has
-abbrev pub told_data : DiagnosticView → List ℕ → List ℕ → List ℕ → Option FastCheckDiagnosticRange → List ℕ → Data
-told_data view code level message place specifier =
+abbrev pub diagnosed_data : DiagnosticView → List ℕ → List ℕ → List ℕ → Option FastCheckDiagnosticRange → List ℕ → Data
+diagnosed_data view code level message place specifier =
     object (member (codes "code") (string code)
     (member (codes "docs_url") (text_or_null view.docs_url)
     (member (codes "hint") (text_or_null view.hint)
@@ -36,16 +36,16 @@ told_data view code level message place specifier =
     (member (codes "range") (place_or_null place)
     (member (codes "specifier") (string specifier) no_members))))))))
 
-pub told_data-is : (view : DiagnosticView) (at : Option FastCheckDiagnosticRange) (of : Parts) (code level message : List ℕ)
+pub diagnosed_data-is : (view : DiagnosticView) (at : Option FastCheckDiagnosticRange) (of : Parts) (code level message : List ℕ)
     (place : Option FastCheckDiagnosticRange) (specifier : List ℕ)
     → code ≡ view.code → level ≡ level_text view.level → message ≡ view.message → place ≡ at → specifier ≡ serialize of
-    → told_data view code level message place specifier ≡ view_data view at of
-told_data-is view at of code level message place specifier is_code is_level is_message is_place is_specifier =
-    ap (λ x. told_data view x level message place specifier) is_code
-    ∙ (ap (λ x. told_data view view.code x message place specifier) is_level
-    ∙ (ap (λ x. told_data view view.code (level_text view.level) x place specifier) is_message
-    ∙ (ap (λ x. told_data view view.code (level_text view.level) view.message x specifier) is_place
-    ∙ ap (λ x. told_data view view.code (level_text view.level) view.message at x) is_specifier)))
+    → diagnosed_data view code level message place specifier ≡ view_data view at of
+diagnosed_data-is view at of code level message place specifier is_code is_level is_message is_place is_specifier =
+    ap (λ x. diagnosed_data view x level message place specifier) is_code
+    ∙ (ap (λ x. diagnosed_data view view.code x message place specifier) is_level
+    ∙ (ap (λ x. diagnosed_data view view.code (level_text view.level) x place specifier) is_message
+    ∙ (ap (λ x. diagnosed_data view view.code (level_text view.level) view.message x specifier) is_place
+    ∙ ap (λ x. diagnosed_data view view.code (level_text view.level) view.message at x) is_specifier)))
 
 -- three parts that are written at once, and then the others
 pub adds-three : {E : Type 0} (r : Result (Unit {0}) E) (ts us vs rest : List Token) (a b c : Written) → Adds (ts ++ (us ++ vs)) a b →

@@ -83,15 +83,15 @@ node_data kind parts form = if kind is kinds.List then list_data parts form else
     (content_data kind parts)
 
 -- one level of a tree, of what its parts print as: an empty option is null
-abbrev pub print_step : Tree-F ByForm → ByForm
-print_step Tree-F.Absent form = null
-print_step (Tree-F.Flag flag) form = boolean flag
-print_step (Tree-F.Context context) form = number_data context.0
-print_step (Tree-F.Text text) form = string text
-print_step (Tree-F.Range range) form = range_data range
-print_step (Tree-F.Word word) form = string (text_of_word word form)
-print_step (Tree-F.Node kind parts) form = node_data kind parts form
+abbrev pub write_step : Tree-F ByForm → ByForm
+write_step Tree-F.Absent form = null
+write_step (Tree-F.Flag flag) form = boolean flag
+write_step (Tree-F.Context context) form = number_data context.0
+write_step (Tree-F.Text text) form = string text
+write_step (Tree-F.Range range) form = range_data range
+write_step (Tree-F.Word word) form = string (text_of_word word form)
+write_step (Tree-F.Node kind parts) form = node_data kind parts form
 
 -- the JSON value of a tree that stands where the form does
 abbrev pub json_of : Tree → Form → Data
-json_of = fold-Tree ByForm print_step
+json_of = fold-Tree ByForm write_step

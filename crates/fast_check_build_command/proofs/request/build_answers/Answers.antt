@@ -35,7 +35,7 @@ returns-in-Err-InvalidExport-clause-refused c =
     let k = known_by a.graph.now a.root_symbol.now a.options.now.workspace_members.items a.provider.now in
     let e = c.in-Err-InvalidExport in
     let fault = faults.InvalidExport e.field-0-0 e.field-0-1 in
-    let told = lent (λ j y. IsRefusal
+    let diagnosed = lent (λ j y. IsRefusal
     (known_of a.graph.now a.root_symbol.now a.options.now.workspace_members.items (j.1.url_of y.now) (j.1.nv_at y.now))
     (map nv_of c.from-pending_nvs.result.items) e.field-0)
     a.provider e.ensures.refused in
@@ -43,5 +43,5 @@ returns-in-Err-InvalidExport-clause-refused c =
       nv = e.field-0-0;
       text = e.field-0-1;
       refused = subst (λ items. IsRefusal k (map nv_of items) fault) c.from-pending_nvs.ensures.0
-          (subst (IsRefusal k (map nv_of c.from-pending_nvs.result.items)) e.field-0-is told);
+          (subst (IsRefusal k (map nv_of c.from-pending_nvs.result.items)) e.field-0-is diagnosed);
     }

@@ -7,8 +7,8 @@ use Rattle.fast_check_build_requests.proofs.root.root_symbol_of.Goals as goal
 
 pub returns-in_err-modules_of-clause-fault : goal.returns-in_err-modules_of-clause-fault
 returns-in_err-modules_of-clause-fault c =
-    let told = first_fault c.args.modules.items c.in_err-modules_of.field-0.0 c.in_err-modules_of.ensures.fault in
-    search (rules, told)
+    let diagnosed = first_fault c.args.modules.items c.in_err-modules_of.field-0.0 c.in_err-modules_of.ensures.fault in
+    search (rules, diagnosed)
 
 pub returns-clause-made : goal.returns-clause-made
 returns-clause-made c =

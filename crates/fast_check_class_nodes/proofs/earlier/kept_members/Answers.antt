@@ -22,7 +22,7 @@ loop-member-preserved c =
       | then-branch+in_ok-push w ↦ (
         m ∷ before,
         (
-          next.tells,
+          next.knows,
           kept_more c.args.members.now c.loop-member.member-index m c.loop-member-test.true (search rules) before
               w.if-branch.true next.stays_is c.loop-member.kept.items c.read-member.result c.loop-member.invariant.1.1 refl
               (ap items w.kept-is ∙ w.in_ok-push.ensures.items),
@@ -31,7 +31,7 @@ loop-member-preserved c =
       | else-branch w ↦ (
         m ∷ before,
         (
-          next.tells,
+          next.knows,
           kept_same c.args.members.now c.loop-member.member-index m c.loop-member-test.true (search rules) before
               w.if-branch.false next.stays_is (map seen c.if-branch.kept.items)
               (c.loop-member.invariant.1.1 ∙

@@ -8,6 +8,6 @@ use Rattle.fast_check_declarations.proofs.classes.keep_class.Goals as goal
 
 pub returns : goal.returns
 returns c =
-    some_of c.into_tree.result c.into_tree.ensures (made_class (seen_around c.args.asked) (seen c.args.decl) c.in_ok-keep_class_of.ensures)
+    some_of c.into_tree.result c.into_tree.ensures (made_class (seen_around c.args.around) (seen c.args.decl) c.in_ok-keep_class_of.ensures)
     (λ i. class_decl ((c.in_ok-to_tree.ensures ∙ c.of-declare.ensures.ident) i)
     (c.of-declare.ensures.declare i) c.in_ok-keep_class_of.field-0)

@@ -6,10 +6,10 @@ use Rattle.fast_check_declarations.proofs.classes.keep_public_class.Goals as goa
 
 pub returns-then-not-contains : goal.returns-then-not-contains
 returns-then-not-contains c =
-    class_goes (seen_around c.args.asked) c.args.place (seen c.args.decl)
+    class_goes (seen_around c.args.around) c.args.place (seen c.args.decl)
     (sym c.contains.ensures ∙ c.if-not-contains.true) c.args.faults.now.items
 
 pub returns : goal.returns
 returns c =
-    class_stays (seen_around c.args.asked) c.args.place (seen c.args.decl) (sym c.contains.ensures ∙ c.if-not-contains.false)
+    class_stays (seen_around c.args.around) c.args.place (seen c.args.decl) (sym c.contains.ensures ∙ c.if-not-contains.false)
     c.in_ok-keep_class.ensures

@@ -16,7 +16,7 @@ loop-member-preserved-then-branch c =
     let next = c.in_ok-stays.ensures before c.loop-member.invariant.1.0 in (
       m ∷ before,
       (
-        next.tells,
+        next.knows,
         stays_more c.parts-member-items.result.now c.loop-member.member-index m c.loop-member-test.true (search rules) before
             c.if-branch.true next.stays_is c.loop-member.comments c.loop-member.invariant.1.1,
       ),
@@ -29,7 +29,7 @@ loop-member-preserved c =
     let next = c.in_ok-stays.ensures before c.loop-member.invariant.1.0 in (
       m ∷ before,
       (
-        next.tells,
+        next.knows,
         goes_more c.parts-member-items.result.now c.loop-member.member-index m c.loop-member-test.true (search rules) before
             c.if-branch.false next.stays_is c.loop-member.comments c.loop-member.invariant.1.1 (ap (λ r. r.start) c.range_of_node.ensures)
             c.remove_leading.ensures,

@@ -1,6 +1,6 @@
 use Rattle.std.proofs.Common.{◌≡◌, List, [], drop}
 use Rattle.fast_check_syntax.specs.declared.tree.Tree.{Tree}
-use Rattle.fast_check_classes.specs.class_nodes.Told.{Tells}
+use Rattle.fast_check_classes.specs.class_nodes.Known.{Knows}
 use Rattle.fast_check_surroundings.specs.skeleton.KeptComments.{without_all_leading}
 use Rattle.fast_check_declarations.proofs.ClassCases.{starts_left}
 use Rattle.fast_check_declarations.proofs.classes.remove_before_members.Given as goal
@@ -8,5 +8,5 @@ use Rattle.fast_check_declarations.proofs.classes.remove_before_members.Given as
 -- some earlier members, of which is told, and behind them the same is left to remove
 abbrev pub invariant-loop-member : goal.invariant-loop-member
 invariant-loop-member l =
-    (before : List Tree) × (Tells l.earlier before × (without_all_leading (starts_left [] l.member-items) l.initial.comments ≡
+    (before : List Tree) × (Knows l.earlier before × (without_all_leading (starts_left [] l.member-items) l.initial.comments ≡
     without_all_leading (starts_left before (drop l.member-index l.member-items)) l.comments))

@@ -10,5 +10,5 @@ use Rattle.fast_check_declarations.proofs.defaults.keep_class.Goals as goal
 pub returns : goal.returns
 returns c =
     some_of c.into_tree.result c.into_tree.ensures
-    (made_class (seen_around c.args.asked) (seen c.args.decl) c.in_ok-transform_class.ensures c.of.ensures.class)
+    (made_class (seen_around c.args.around) (seen c.args.decl) c.in_ok-transform_class.ensures c.of.ensures.class)
     (ap (λ ident. node ClassExpr (ident ∷ c.in_ok-transform_class.field-0 ∷ [])) (c.in_ok-to_tree.ensures ∙ c.of.ensures.ident))

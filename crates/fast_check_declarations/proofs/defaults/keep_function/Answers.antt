@@ -6,13 +6,13 @@ use Rattle.fast_check_declarations.proofs.DefaultCases.{ambient_function, made_f
 use Rattle.fast_check_signatures.proofs.Adding.{some_of}
 use Rattle.fast_check_declarations.proofs.defaults.keep_function.Goals as goal
 
-pub returns-then-asked : goal.returns-then-asked
-returns-then-asked c =
+pub returns-then-around : goal.returns-then-around
+returns-then-around c =
     some_of c.to_tree.result c.to_tree.ensures
-    (ambient_function (seen_around c.args.asked) c.args.place (seen c.args.decl) c.if-asked.true c.args.faults.now.items) refl
+    (ambient_function (seen_around c.args.around) c.args.place (seen c.args.decl) c.if-around.true c.args.faults.now.items) refl
 
 pub returns : goal.returns
 returns c =
     some_of c.into_tree.result c.into_tree.ensures
-    (made_function (seen_around c.args.asked) c.args.place (seen c.args.decl) c.if-asked.false c.in_ok-transform_signature.ensures)
+    (made_function (seen_around c.args.around) c.args.place (seen c.args.decl) c.if-around.false c.in_ok-transform_signature.ensures)
     (ap (λ ident. fn_expr ident c.in_ok-transform_signature.field-0) (c.in_ok-to_tree.ensures ∙ c.of.ensures.ident))

@@ -10,12 +10,12 @@ use Rattle.fast_check_declarations.proofs.defaults.keep_value.Goals as goal
 pub returns-in-Some : goal.returns-in-Some
 returns-in-Some c =
     some_of c.into_tree.result c.into_tree.ensures
-    (value_stays (seen_around c.args.asked) (seen c.args.item) c.in_ok-expr.ensures c.of.ensures.expr c.in-Some.is)
+    (value_stays (seen_around c.args.around) (seen c.args.item) c.in_ok-expr.ensures c.of.ensures.expr c.in-Some.is)
     (ap (λ s. export_default_expr s c.in-Some.expr) c.of.ensures.span)
 
 pub returns-in_ok-push-in-None : goal.returns-in_ok-push-in-None
 returns-in_ok-push-in-None c =
     some_of c.into_tree-in-None.result c.into_tree-in-None.ensures
-    (value_goes (seen_around c.args.asked) (seen c.args.item) c.in_ok-expr.ensures c.of.ensures.expr c.in-None.is c.of.ensures.span
+    (value_goes (seen_around c.args.around) (seen c.args.item) c.in_ok-expr.ensures c.of.ensures.expr c.in-None.is c.of.ensures.span
     c.in_ok-push-in-None.ensures.items)
     (ap (λ s. export_default_expr s Absent) c.of.ensures.span)

@@ -1,9 +1,9 @@
 use Rattle.std.proofs.Common.{◌∙◌, sym, ap, List, [], ◌∷◌, ◌++◌, map, take, is_none, option_to_list, string_bytes, ℕ}
 use Rattle.url.specs.Parts.{Parts}
 use Rattle.fast_check_packages.specs.Package.{nv_of}
-use Rattle.fast_check_entries.specs.Entries.{joined, all_joined, first_refused, Tells}
+use Rattle.fast_check_entries.specs.Entries.{joined, all_joined, first_refused, Diagnoses}
 use Rattle.fast_check_entries.proofs.First.{first_at, none_after, flat_after}
-use Rattle.fast_check_entries.proofs.Passed.{passed_on, tells_of}
+use Rattle.fast_check_entries.proofs.Passed.{passed_on, diagnoses_of}
 use Rattle.fast_check_entries.proofs.joined.join_all.Goals as goal
 
 pub returns-in_err-push_joined-clause-refused : goal.returns-in_err-push_joined-clause-refused
@@ -11,8 +11,8 @@ returns-in_err-push_joined-clause-refused c =
     let base = c.args.base.now in
     let f = c.in_err-push_joined.field-0.0 in
     passed_on c.from_residual.result f
-    (Tells (nv_of c.args.nv.now) (first_refused base (map string_bytes c.args.texts.now))) c.from_residual.ensures.1
-    (tells_of (nv_of c.args.nv.now) (first_refused base (c.as_str.result.now ∷ [])) (first_refused base (map string_bytes c.args.texts.now))
+    (Diagnoses (nv_of c.args.nv.now) (first_refused base (map string_bytes c.args.texts.now))) c.from_residual.ensures.1
+    (diagnoses_of (nv_of c.args.nv.now) (first_refused base (c.as_str.result.now ∷ [])) (first_refused base (map string_bytes c.args.texts.now))
     (λ y h. first_at
     (λ (t : List ℕ). is_none
     (joined base t)) string_bytes c.args.texts.now c.loop-text.text-index c.text-item.result c.loop-text-test.true

@@ -7,11 +7,11 @@ use Rattle.fast_check_links.proofs.links.keep_alias.Goals as goal
 
 pub returns-then-not-contains : goal.returns-then-not-contains
 returns-then-not-contains c =
-    no_alias (seen_around c.args.asked) (seen c.args.item)
-    (ap (is_public c.args.asked.public_ranges.now) (sym c.of.ensures.span) ∙ (sym c.contains.ensures ∙ c.if-not-contains.true))
+    no_alias (seen_around c.args.around) (seen c.args.item)
+    (ap (is_public c.args.around.public_ranges.now) (sym c.of.ensures.span) ∙ (sym c.contains.ensures ∙ c.if-not-contains.true))
 
 pub returns : goal.returns
 returns c =
-    made_alias (seen_around c.args.asked) (seen c.args.item)
-    (ap (is_public c.args.asked.public_ranges.now) (sym c.of.ensures.span) ∙
+    made_alias (seen_around c.args.around) (seen c.args.item)
+    (ap (is_public c.args.around.public_ranges.now) (sym c.of.ensures.span) ∙
     (sym c.contains.ensures ∙ c.if-not-contains.false)) c.in_ok-to_tree.ensures

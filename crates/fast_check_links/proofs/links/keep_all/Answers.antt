@@ -9,13 +9,13 @@ use Rattle.fast_check_links.proofs.links.keep_all.Goals as goal
 
 pub returns-then-not-contains : goal.returns-then-not-contains
 returns-then-not-contains c =
-    no_all (seen_around c.args.asked) (seen c.args.item)
-    (ap (is_public c.args.asked.public_ranges.now) (sym c.of-type_only.ensures.span) ∙ (sym c.contains.ensures ∙ c.if-not-contains.true))
+    no_all (seen_around c.args.around) (seen c.args.item)
+    (ap (is_public c.args.around.public_ranges.now) (sym c.of-type_only.ensures.span) ∙ (sym c.contains.ensures ∙ c.if-not-contains.true))
 
 pub returns : goal.returns
 returns c =
-    made_all (seen_around c.args.asked) (seen c.args.item)
-    (ap (is_public c.args.asked.public_ranges.now) (sym c.of-type_only.ensures.span) ∙ (sym c.contains.ensures ∙ c.if-not-contains.false))
+    made_all (seen_around c.args.around) (seen c.args.item)
+    (ap (is_public c.args.around.public_ranges.now) (sym c.of-type_only.ensures.span) ∙ (sym c.contains.ensures ∙ c.if-not-contains.false))
     (c.in_ok-into_tree.ensures ∙ (λ i. export_all (c.of-type_only.ensures.span i)
-    ((c.in_ok-src.ensures.0 ∙ ap (answered_source (seen_around c.args.asked)) c.of-type_only.ensures.src) i)
+    ((c.in_ok-src.ensures.0 ∙ ap (answered_source (seen_around c.args.around)) c.of-type_only.ensures.src) i)
     (c.of-type_only.ensures.type_only i) ((c.in_ok-src.ensures.1 ∙ c.of-type_only.ensures.with) i)))

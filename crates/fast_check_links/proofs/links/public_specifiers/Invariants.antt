@@ -5,4 +5,4 @@ use Rattle.fast_check_surroundings.specs.Surroundings.{seen_around}
 use Rattle.fast_check_links.proofs.links.public_specifiers.Given as goal
 
 abbrev pub invariant-loop-specifier : goal.invariant-loop-specifier
-invariant-loop-specifier l = l.items ≡ filter (is_public_specifier (seen_around l.asked)) (take l.specifier-index l.specifier-items)
+invariant-loop-specifier l = l.items ≡ filter (is_public_specifier (seen_around l.around)) (take l.specifier-index l.specifier-items)

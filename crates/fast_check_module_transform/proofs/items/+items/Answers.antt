@@ -34,7 +34,7 @@ keep_items-keep_each-requires t c = (omega (arith, c.decreases), tt)
 
 pub keep_items-returns-clause-answer : goal.keep_items-returns-clause-answer
 keep_items-returns-clause-answer t c =
-    let around = seen_around c.args.asked in
+    let around = seen_around c.args.around in
     let items = parts (seen c.args.body) in
     let each = c.in_ok-items.ensures in
     with_namespaces around items each.answer
@@ -55,14 +55,14 @@ keep_each-keep_item-requires t c =
 
 pub keep_each-loop-item-init : goal.keep_each-loop-item-init
 keep_each-loop-item-init t c = record {
-  answer = no_items (seen_around c.args.asked) c.new-items.ensures c.args.faults.now.items;
+  answer = no_items (seen_around c.args.around) c.new-items.ensures c.args.faults.now.items;
   properties = sym (append-nil c.args.properties.now.items);
   comments = refl;
 }
 
 pub keep_each-loop-item-preserved-then-is_assigned : goal.keep_each-loop-item-preserved-then-is_assigned
 keep_each-loop-item-preserved-then-is_assigned t c =
-    let around = seen_around c.args.asked in
+    let around = seen_around c.args.around in
     let item = seen c.read-item.result in
     let all = c.parts-item-items.result.now in
     let i = c.loop-item.item-index in
@@ -83,7 +83,7 @@ keep_each-loop-item-preserved-then-is_assigned t c =
 
 pub keep_each-loop-item-preserved-in-None : goal.keep_each-loop-item-preserved-in-None
 keep_each-loop-item-preserved-in-None t c =
-    let around = seen_around c.args.asked in
+    let around = seen_around c.args.around in
     let item = seen c.read-item.result in
     let start = ap (λ r. r.start) c.range_of_node-in-None.ensures in
     let kept = c.in_ok-keep_item.ensures in
@@ -109,7 +109,7 @@ keep_each-loop-item-preserved-in-None t c =
 
 pub keep_each-loop-item-preserved : goal.keep_each-loop-item-preserved
 keep_each-loop-item-preserved t c =
-    let around = seen_around c.args.asked in
+    let around = seen_around c.args.around in
     let item = seen c.read-item.result in
     let kept = c.in_ok-keep_item.ensures in
     let all = c.parts-item-items.result.now in
@@ -132,17 +132,17 @@ keep_each-loop-item-preserved t c =
 pub keep_each-returns-clause-answer : goal.keep_each-returns-clause-answer
 keep_each-returns-clause-answer t c =
     all_items
-    (seen_around c.args.asked) c.loop-item.item-index c.loop-item-test.false c.parts-item-items.ensures c.loop-item.invariant.answer
+    (seen_around c.args.around) c.loop-item.item-index c.loop-item-test.false c.parts-item-items.ensures c.loop-item.invariant.answer
 
 pub keep_each-returns-clause-properties : goal.keep_each-returns-clause-properties
 keep_each-returns-clause-properties t c =
     all_properties
-    (seen_around c.args.asked) c.loop-item.item-index c.loop-item-test.false c.parts-item-items.ensures _ c.loop-item.invariant.properties
+    (seen_around c.args.around) c.loop-item.item-index c.loop-item-test.false c.parts-item-items.ensures _ c.loop-item.invariant.properties
 
 pub keep_each-returns-clause-comments : goal.keep_each-returns-clause-comments
 keep_each-returns-clause-comments t c =
     let all = take_all c.loop-item.item-index c.parts-item-items.result.now c.loop-item-test.false ∙ c.parts-item-items.ensures in
-    c.loop-item.invariant.comments ∙ ap (λ ts. without_all_leading (removed_from (seen_around c.args.asked) ts) c.args.comments.now) all
+    c.loop-item.invariant.comments ∙ ap (λ ts. without_all_leading (removed_from (seen_around c.args.around) ts) c.args.comments.now) all
 
 -- ---- namespaces
 
@@ -152,31 +152,31 @@ keep_namespace-keep_items-requires t c =
 
 pub keep_namespace-returns-in-Some-clause-answer : goal.keep_namespace-returns-in-Some-clause-answer
 keep_namespace-returns-in-Some-clause-answer t c =
-    refused_module (seen_around c.args.asked) c.args.place (seen c.args.decl)
+    refused_module (seen_around c.args.around) c.args.place (seen c.args.decl)
     (sym c.module_fault.ensures ∙ c.in-Some.is) c.in_ok-push.ensures.items
 
 pub keep_namespace-returns-in-Some-clause-comments : goal.keep_namespace-returns-in-Some-clause-comments
 keep_namespace-returns-in-Some-clause-comments t c =
     ap (λ starts. without_all_leading starts c.args.comments.now)
-    (sym (nothing_refused (seen_around c.args.asked) c.args.place (seen c.args.decl) (sym c.module_fault.ensures ∙ c.in-Some.is)))
+    (sym (nothing_refused (seen_around c.args.around) c.args.place (seen c.args.decl) (sym c.module_fault.ensures ∙ c.in-Some.is)))
 
 pub keep_namespace-returns-then-not-contains-clause-answer : goal.keep_namespace-returns-then-not-contains-clause-answer
 keep_namespace-returns-then-not-contains-clause-answer t c =
-    private_namespace (seen_around c.args.asked) c.args.place (seen c.args.decl) (sym c.module_fault.ensures ∙ none_of c.module_fault.result
+    private_namespace (seen_around c.args.around) c.args.place (seen c.args.decl) (sym c.module_fault.ensures ∙ none_of c.module_fault.result
     (λ f e. c.in_default.not-Some f e))
     (sym c.contains.ensures ∙ c.if-not-contains.true) c.args.faults.now.items
 
 pub keep_namespace-returns-then-not-contains-clause-comments : goal.keep_namespace-returns-then-not-contains-clause-comments
 keep_namespace-returns-then-not-contains-clause-comments t c =
     ap (λ starts. without_all_leading starts c.args.comments.now)
-    (sym (nothing_private (seen_around c.args.asked) c.args.place (seen c.args.decl)
+    (sym (nothing_private (seen_around c.args.around) c.args.place (seen c.args.decl)
     (sym c.module_fault.ensures ∙ none_of c.module_fault.result
     (λ f e. c.in_default.not-Some f e))
     (sym c.contains.ensures ∙ c.if-not-contains.true)))
 
 pub keep_namespace-returns-clause-answer : goal.keep_namespace-returns-clause-answer
 keep_namespace-returns-clause-answer t c =
-    public_namespace (seen_around c.args.asked) c.args.place (seen c.args.decl) (sym c.module_fault.ensures ∙ none_of c.module_fault.result
+    public_namespace (seen_around c.args.around) c.args.place (seen c.args.decl) (sym c.module_fault.ensures ∙ none_of c.module_fault.result
     (λ f e. c.in_default.not-Some f e))
     (sym c.contains.ensures ∙
     c.if-not-contains.false) c.in_ok-items.ensures.answer c.inside.ensures c.items_inside.ensures c.in_ok-namespace_with.ensures
@@ -185,7 +185,7 @@ pub keep_namespace-returns-clause-comments : goal.keep_namespace-returns-clause-
 keep_namespace-returns-clause-comments t c =
     c.in_ok-items.ensures.comments
     ∙ ap (λ starts. without_all_leading starts c.args.comments.now)
-    (sym (all_inside (seen_around c.args.asked) c.args.place (seen c.args.decl) (sym c.module_fault.ensures ∙ none_of c.module_fault.result
+    (sym (all_inside (seen_around c.args.around) c.args.place (seen c.args.decl) (sym c.module_fault.ensures ∙ none_of c.module_fault.result
     (λ f e. c.in_default.not-Some f e))
     (sym c.contains.ensures ∙ c.if-not-contains.false) c.inside.ensures c.items_inside.ensures))
 
@@ -194,80 +194,80 @@ keep_namespace-returns-clause-comments t c =
 pub keep_decl-returns-in-Variables-clause-answer : goal.keep_decl-returns-in-Variables-clause-answer
 keep_decl-returns-in-Variables-clause-answer t c =
     IfOk-weaker c.keep_statement.result _ _
-    (λ tree h. variables (seen_around c.args.asked) c.args.place (seen c.args.decl) c.in-Variables.is h)
+    (λ tree h. variables (seen_around c.args.around) c.args.place (seen c.args.decl) c.in-Variables.is h)
     c.keep_statement.ensures
 
 pub keep_decl-returns-in-Function-clause-answer : goal.keep_decl-returns-in-Function-clause-answer
 keep_decl-returns-in-Function-clause-answer t c =
-    IfOk-weaker c.keep_public_function.result _ _ (λ tree h. functions (seen_around c.args.asked) c.args.place
+    IfOk-weaker c.keep_public_function.result _ _ (λ tree h. functions (seen_around c.args.around) c.args.place
     (seen c.args.decl) c.in-Function.is h) c.keep_public_function.ensures
 
 pub keep_decl-returns-in-Class-clause-answer : goal.keep_decl-returns-in-Class-clause-answer
 keep_decl-returns-in-Class-clause-answer t c =
     IfOk-weaker c.keep_public_class.result _ _
-    (λ tree h. classes (seen_around c.args.asked) c.args.place (seen c.args.decl) c.in-Class.is h)
+    (λ tree h. classes (seen_around c.args.around) c.args.place (seen c.args.decl) c.in-Class.is h)
     c.keep_public_class.ensures
 
 pub keep_decl-returns-in-Using-clause-answer : goal.keep_decl-returns-in-Using-clause-answer
 keep_decl-returns-in-Using-clause-answer t c =
-    IfOk-weaker c.keep_using.result _ _ (λ tree h. using_stays (seen_around c.args.asked) c.args.place (seen c.args.decl) c.in-Using.is h)
+    IfOk-weaker c.keep_using.result _ _ (λ tree h. using_stays (seen_around c.args.around) c.args.place (seen c.args.decl) c.in-Using.is h)
     c.keep_using.ensures
 
 pub keep_decl-returns-in-Standing-clause-answer : goal.keep_decl-returns-in-Standing-clause-answer
 keep_decl-returns-in-Standing-clause-answer t c =
     IfOk-weaker c.keep_standing.result _ _
-    (λ tree h. standing (seen_around c.args.asked) c.args.place
+    (λ tree h. standing (seen_around c.args.around) c.args.place
     (seen c.args.decl) c.in-Standing.is tree h c.args.faults.now.items) c.keep_standing.ensures
 
 pub keep_decl-returns-in-Namespace-clause-answer : goal.keep_decl-returns-in-Namespace-clause-answer
 keep_decl-returns-in-Namespace-clause-answer t c =
     IfOk-weaker c.keep_namespace.result _ _
-    (λ tree h. namespaces (seen_around c.args.asked) c.args.place (seen c.args.decl) c.in-Namespace.is h) c.keep_namespace.ensures.answer
+    (λ tree h. namespaces (seen_around c.args.around) c.args.place (seen c.args.decl) c.in-Namespace.is h) c.keep_namespace.ensures.answer
 
 pub keep_decl-returns-in-NoDeclaration-clause-answer : goal.keep_decl-returns-in-NoDeclaration-clause-answer
 keep_decl-returns-in-NoDeclaration-clause-answer t c =
-    undeclared (seen_around c.args.asked) c.args.place (seen c.args.decl) c.in-NoDeclaration.is c.args.faults.now.items
+    undeclared (seen_around c.args.around) c.args.place (seen c.args.decl) c.in-NoDeclaration.is c.args.faults.now.items
 
 pub keep_decl-returns-in-Variables-clause-comments : goal.keep_decl-returns-in-Variables-clause-comments
 keep_decl-returns-in-Variables-clause-comments t c =
     IfOk-weaker c.keep_statement.result _ _
-    (λ tree h. ap (λ r. without_all_leading (starts_in_body start_look (seen_around c.args.asked) c.args.place
+    (λ tree h. ap (λ r. without_all_leading (starts_in_body start_look (seen_around c.args.around) c.args.place
     (seen c.args.decl) r) c.args.comments.now) (sym c.in-Variables.is)) c.keep_statement.ensures
 
 pub keep_decl-returns-in-Function-clause-comments : goal.keep_decl-returns-in-Function-clause-comments
 keep_decl-returns-in-Function-clause-comments t c =
     IfOk-weaker c.keep_public_function.result _ _
-    (λ tree h. ap (λ r. without_all_leading (starts_in_body start_look (seen_around c.args.asked) c.args.place
+    (λ tree h. ap (λ r. without_all_leading (starts_in_body start_look (seen_around c.args.around) c.args.place
     (seen c.args.decl) r) c.args.comments.now) (sym c.in-Function.is)) c.keep_public_function.ensures
 
 pub keep_decl-returns-in-Class-clause-comments : goal.keep_decl-returns-in-Class-clause-comments
 keep_decl-returns-in-Class-clause-comments t c =
     IfOk-weaker c.keep_public_class.result _ _
-    (λ tree h. ap (λ r. without_all_leading (starts_in_body start_look (seen_around c.args.asked) c.args.place
+    (λ tree h. ap (λ r. without_all_leading (starts_in_body start_look (seen_around c.args.around) c.args.place
     (seen c.args.decl) r) c.args.comments.now) (sym c.in-Class.is)) c.keep_public_class.ensures
 
 pub keep_decl-returns-in-Standing-clause-comments : goal.keep_decl-returns-in-Standing-clause-comments
 keep_decl-returns-in-Standing-clause-comments t c =
     IfOk-weaker c.keep_standing.result _ _
-    (λ tree h. ap (λ r. without_all_leading (starts_in_body start_look (seen_around c.args.asked) c.args.place
+    (λ tree h. ap (λ r. without_all_leading (starts_in_body start_look (seen_around c.args.around) c.args.place
     (seen c.args.decl) r) c.args.comments.now) (sym c.in-Standing.is)) c.keep_standing.ensures
 
 pub keep_decl-returns-in-Using-clause-comments : goal.keep_decl-returns-in-Using-clause-comments
 keep_decl-returns-in-Using-clause-comments t c =
     IfOk-weaker c.keep_using.result _ _
-    (λ tree h. ap (λ r. without_all_leading (starts_in_body start_look (seen_around c.args.asked) c.args.place
+    (λ tree h. ap (λ r. without_all_leading (starts_in_body start_look (seen_around c.args.around) c.args.place
     (seen c.args.decl) r) c.args.comments.now) (sym c.in-Using.is)) c.keep_using.ensures
 
 pub keep_decl-returns-in-Namespace-clause-comments : goal.keep_decl-returns-in-Namespace-clause-comments
 keep_decl-returns-in-Namespace-clause-comments t c =
     IfOk-weaker c.keep_namespace.result _ _
-    (λ tree h. h ∙ ap (λ r. without_all_leading (starts_in_body start_look (seen_around c.args.asked) c.args.place
+    (λ tree h. h ∙ ap (λ r. without_all_leading (starts_in_body start_look (seen_around c.args.around) c.args.place
     (seen c.args.decl) r) c.args.comments.now) (sym c.in-Namespace.is)) c.keep_namespace.ensures.comments
 
 pub keep_decl-returns-in-NoDeclaration-clause-comments : goal.keep_decl-returns-in-NoDeclaration-clause-comments
 keep_decl-returns-in-NoDeclaration-clause-comments t c =
     ap (λ r. without_all_leading
-    (starts_in_body start_look (seen_around c.args.asked) c.args.place (seen c.args.decl) r) c.args.comments.now)
+    (starts_in_body start_look (seen_around c.args.around) c.args.place (seen c.args.decl) r) c.args.comments.now)
     (sym c.in-NoDeclaration.is)
 
 -- ---- exports
@@ -278,23 +278,23 @@ keep_export-keep_decl-requires t c =
 
 pub keep_export-returns-in_ok-into_tree-in-Some-clause-answer : goal.keep_export-returns-in_ok-into_tree-in-Some-clause-answer
 keep_export-returns-in_ok-into_tree-in-Some-clause-answer t c =
-    made_export (seen_around c.args.asked) (seen c.args.item) c.args.rule c.in_ok-decl.ensures.answer c.of.ensures.span c.of.ensures.decl
+    made_export (seen_around c.args.around) (seen c.args.item) c.args.rule c.in_ok-decl.ensures.answer c.of.ensures.span c.of.ensures.decl
     (ap as_list c.in-Some.is)
     (c.in_ok-into_tree-in-Some.ensures ∙ ap (λ s. export_decl s c.in-Some.decl) c.of.ensures.span)
 
 pub keep_export-returns-in-None-clause-answer : goal.keep_export-returns-in-None-clause-answer
 keep_export-returns-in-None-clause-answer t c =
-    no_export (seen_around c.args.asked) (seen c.args.item) c.args.rule c.in_ok-decl.ensures.answer c.of.ensures.span c.of.ensures.decl
+    no_export (seen_around c.args.around) (seen c.args.item) c.args.rule c.in_ok-decl.ensures.answer c.of.ensures.span c.of.ensures.decl
     (ap as_list c.in-None.is)
 
 pub keep_export-returns-in_ok-into_tree-in-Some-clause-comments : goal.keep_export-returns-in_ok-into_tree-in-Some-clause-comments
 keep_export-returns-in_ok-into_tree-in-Some-clause-comments t c =
-    c.in_ok-decl.ensures.comments ∙ (λ i. without_all_leading (starts_in_body start_look (seen_around c.args.asked) (c.of.ensures.span i)
+    c.in_ok-decl.ensures.comments ∙ (λ i. without_all_leading (starts_in_body start_look (seen_around c.args.around) (c.of.ensures.span i)
     (c.of.ensures.decl i) c.args.rule) c.args.comments.now)
 
 pub keep_export-returns-in-None-clause-comments : goal.keep_export-returns-in-None-clause-comments
 keep_export-returns-in-None-clause-comments t c =
-    c.in_ok-decl.ensures.comments ∙ (λ i. without_all_leading (starts_in_body start_look (seen_around c.args.asked) (c.of.ensures.span i)
+    c.in_ok-decl.ensures.comments ∙ (λ i. without_all_leading (starts_in_body start_look (seen_around c.args.around) (c.of.ensures.span i)
     (c.of.ensures.decl i) c.args.rule) c.args.comments.now)
 
 -- ---- items
@@ -302,73 +302,73 @@ keep_export-returns-in-None-clause-comments t c =
 pub keep_item-returns-in-Declared-clause-answer : goal.keep_item-returns-in-Declared-clause-answer
 keep_item-returns-in-Declared-clause-answer t c =
     IfOk-weaker c.keep_decl.result _ _
-    (λ tree h. declared (seen_around c.args.asked) (seen c.args.item)
+    (λ tree h. declared (seen_around c.args.around) (seen c.args.item)
     (sym c.item_rule.ensures ∙ c.in-Declared.is) h c.range_of_node.ensures)
     c.keep_decl.ensures.answer
 
 pub keep_item-returns-in-Exported-clause-answer : goal.keep_item-returns-in-Exported-clause-answer
 keep_item-returns-in-Exported-clause-answer t c =
     IfOk-weaker c.keep_export.result _ _
-    (λ tree h. exported (seen_around c.args.asked) (seen c.args.item)
+    (λ tree h. exported (seen_around c.args.around) (seen c.args.item)
     (sym c.item_rule.ensures ∙ c.in-Exported.is) h) c.keep_export.ensures.answer
 
 pub keep_item-returns-in-Linked-clause-answer : goal.keep_item-returns-in-Linked-clause-answer
 keep_item-returns-in-Linked-clause-answer t c =
     IfOk-weaker c.keep_link.result _ _
-    (λ tree h. linked (seen_around c.args.asked) (seen c.args.item)
+    (λ tree h. linked (seen_around c.args.around) (seen c.args.item)
     (sym c.item_rule.ensures ∙ c.in-Linked.is) tree h c.args.faults.now.items)
     c.keep_link.ensures
 
 pub keep_item-returns-in-Default-clause-answer : goal.keep_item-returns-in-Default-clause-answer
 keep_item-returns-in-Default-clause-answer t c =
     IfOk-weaker c.keep_default.result _ _
-    (λ tree h. default_export (seen_around c.args.asked) (seen c.args.item)
+    (λ tree h. default_export (seen_around c.args.around) (seen c.args.item)
     (sym c.item_rule.ensures ∙ c.in-Default.is) h) c.keep_default.ensures
 
 pub keep_item-returns-in-Refused-clause-answer : goal.keep_item-returns-in-Refused-clause-answer
 keep_item-returns-in-Refused-clause-answer t c =
     IfOk-weaker c.refuse.result _ _
-    (λ tree h. refused (seen_around c.args.asked) (seen c.args.item) (sym c.item_rule.ensures ∙ c.in-Refused.is) h) c.refuse.ensures
+    (λ tree h. refused (seen_around c.args.around) (seen c.args.item) (sym c.item_rule.ensures ∙ c.in-Refused.is) h) c.refuse.ensures
 
 pub keep_item-returns-in-Silent-clause-answer : goal.keep_item-returns-in-Silent-clause-answer
 keep_item-returns-in-Silent-clause-answer t c =
-    silent (seen_around c.args.asked) (seen c.args.item) (sym c.item_rule.ensures ∙ c.in-Silent.is) c.args.faults.now.items
+    silent (seen_around c.args.around) (seen c.args.item) (sym c.item_rule.ensures ∙ c.in-Silent.is) c.args.faults.now.items
 
 pub keep_item-returns-in-Declared-clause-comments : goal.keep_item-returns-in-Declared-clause-comments
 keep_item-returns-in-Declared-clause-comments t c =
-    below_declared (seen_around c.args.asked) (seen c.args.item) c.keep_decl.result _ c.args.comments.now (sym c.item_rule.ensures ∙
+    below_declared (seen_around c.args.around) (seen c.args.item) c.keep_decl.result _ c.args.comments.now (sym c.item_rule.ensures ∙
     c.in-Declared.is) c.range_of_node.ensures
     c.keep_decl.ensures.comments
 
 pub keep_item-returns-in-Exported-clause-comments : goal.keep_item-returns-in-Exported-clause-comments
 keep_item-returns-in-Exported-clause-comments t c =
-    below_exported (seen_around c.args.asked) (seen c.args.item) c.keep_export.result _ c.args.comments.now (sym c.item_rule.ensures ∙
+    below_exported (seen_around c.args.around) (seen c.args.item) c.keep_export.result _ c.args.comments.now (sym c.item_rule.ensures ∙
     c.in-Exported.is) c.keep_export.ensures.comments
 
 pub keep_item-returns-in-Linked-clause-comments : goal.keep_item-returns-in-Linked-clause-comments
 keep_item-returns-in-Linked-clause-comments t c =
     IfOk-weaker c.keep_link.result _ _
-    (λ tree h. below_nothing (seen_around c.args.asked) (seen c.args.item) c.args.comments.now
+    (λ tree h. below_nothing (seen_around c.args.around) (seen c.args.item) c.args.comments.now
     (sym c.item_rule.ensures ∙ c.in-Linked.is) refl)
     c.keep_link.ensures
 
 pub keep_item-returns-in-Default-clause-comments : goal.keep_item-returns-in-Default-clause-comments
 keep_item-returns-in-Default-clause-comments t c =
     IfOk-weaker c.keep_default.result _ _
-    (λ tree h. below_nothing (seen_around c.args.asked) (seen c.args.item) c.args.comments.now
+    (λ tree h. below_nothing (seen_around c.args.around) (seen c.args.item) c.args.comments.now
     (sym c.item_rule.ensures ∙ c.in-Default.is) refl)
     c.keep_default.ensures
 
 pub keep_item-returns-in-Refused-clause-comments : goal.keep_item-returns-in-Refused-clause-comments
 keep_item-returns-in-Refused-clause-comments t c =
     IfOk-weaker c.refuse.result _ _
-    (λ tree h. below_nothing (seen_around c.args.asked) (seen c.args.item) c.args.comments.now
+    (λ tree h. below_nothing (seen_around c.args.around) (seen c.args.item) c.args.comments.now
     (sym c.item_rule.ensures ∙ c.in-Refused.is) refl)
     c.refuse.ensures
 
 pub keep_item-returns-in-Silent-clause-comments : goal.keep_item-returns-in-Silent-clause-comments
 keep_item-returns-in-Silent-clause-comments t c =
-    below_nothing (seen_around c.args.asked) (seen c.args.item) c.args.comments.now (sym c.item_rule.ensures ∙ c.in-Silent.is) refl
+    below_nothing (seen_around c.args.around) (seen c.args.item) c.args.comments.now (sym c.item_rule.ensures ∙ c.in-Silent.is) refl
 
 pub keep_item-returns-in-Assigned-clause-answer : goal.keep_item-returns-in-Assigned-clause-answer
 keep_item-returns-in-Assigned-clause-answer t c =
@@ -376,4 +376,4 @@ keep_item-returns-in-Assigned-clause-answer t c =
 
 pub keep_item-returns-in-Assigned-clause-comments : goal.keep_item-returns-in-Assigned-clause-comments
 keep_item-returns-in-Assigned-clause-comments t c =
-    below_nothing (seen_around c.args.asked) (seen c.args.item) c.args.comments.now (sym c.item_rule.ensures ∙ c.in-Assigned.is) refl
+    below_nothing (seen_around c.args.around) (seen c.args.item) c.args.comments.now (sym c.item_rule.ensures ∙ c.in-Assigned.is) refl

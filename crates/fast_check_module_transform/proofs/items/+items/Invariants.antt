@@ -29,8 +29,8 @@ decreases-keep_item l = 6 * height (seen l.item) + 5
 
 abbrev pub invariant-keep_each-loop-item : goal.invariant-keep_each-loop-item
 invariant-keep_each-loop-item l = record {
-  answer : Adds (each_answer (seen_around l.asked) (take l.item-index l.item-items)) l.items l.initial.faults.items l.faults.items;
-  properties : l.properties.items ≡ l.initial.properties.items ++ flat_map (item_properties (seen_around l.asked))
+  answer : Adds (each_answer (seen_around l.around) (take l.item-index l.item-items)) l.items l.initial.faults.items l.faults.items;
+  properties : l.properties.items ≡ l.initial.properties.items ++ flat_map (item_properties (seen_around l.around))
       (take l.item-index l.item-items);
-  comments : l.comments ≡ without_all_leading (removed_from (seen_around l.asked) (take l.item-index l.item-items)) l.initial.comments;
+  comments : l.comments ≡ without_all_leading (removed_from (seen_around l.around) (take l.item-index l.item-items)) l.initial.comments;
 }

@@ -1,6 +1,6 @@
 use Rattle.fast_check_syntax.specs.Part.{seen}
-use Rattle.fast_check_module_transform.proofs.ByRule.{told_refused}
+use Rattle.fast_check_module_transform.proofs.ByRule.{diagnosed_refused}
 use Rattle.fast_check_module_transform.proofs.items.refuse.Goals as goal
 
 pub returns : goal.returns
-returns c = told_refused (seen c.args.item) c.args.kind c.range_of_node-range.ensures c.in_ok-push.ensures.items
+returns c = diagnosed_refused (seen c.args.item) c.args.kind c.range_of_node-range.ensures c.in_ok-push.ensures.items

@@ -8,7 +8,7 @@ use Rattle.fast_check_module_transform.proofs.program.keep_program.Goals as goal
 
 pub returns-clause-answer : goal.returns-clause-answer
 returns-clause-answer c =
-    made_program (seen_around c.args.asked) (seen c.args.program) c.into_tree.result c.into_tree.ensures c.in_ok-items.ensures.answer
+    made_program (seen_around c.args.around) (seen c.args.program) c.into_tree.result c.into_tree.ensures c.in_ok-items.ensures.answer
     (ap parts c.of.ensures.body)
     (λ i. module' (c.of.ensures.span i) (c.list.ensures i) ((c.in_ok-to_tree.ensures ∙ c.of.ensures.shebang) i))
 

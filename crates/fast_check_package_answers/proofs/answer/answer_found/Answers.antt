@@ -5,7 +5,7 @@ pub returns : goal.returns
 returns c =
     package_found c.args.input.graph.now c.args.input.root_symbol.now c.args.package_ranges
     c.args.input.options.now.should_error_on_first_diagnostic
-    c.new-skeletons.result.items c.answer_modules.new.answers.items c.in_ok-answers.answers.items c.in_ok-wrong.wrong.items
+    c.new-skeletons.result.items c.answer_modules.new.answers.items c.in_ok-answers.answers.items c.in_ok-diagnostics.diagnostics.items
     c.deref.result.now
-    c.new-skeletons.ensures.items c.deref.ensures.value c.in_ok-wrong.ensures.reasons c.in_ok-wrong.ensures.shown
-    c.in_ok-answers.ensures.skeletons c.in_ok-answers.ensures.wrong
+    c.new-skeletons.ensures.items c.deref.ensures.value c.in_ok-diagnostics.ensures.faults c.in_ok-diagnostics.ensures.shown
+    c.in_ok-answers.ensures.skeletons c.in_ok-answers.ensures.diagnostics

@@ -9,8 +9,8 @@ returns-in_ok-push-in-Ok-clause-shown c =
     c.in_ok-made.field-0 c.in-Ok.made c.args.answers.now.items c.push.new.self.items c.in-Ok.is c.in_ok-made.ensures.skeleton
     c.in_ok-made.ensures.grammar c.in_ok-made.ensures.comments c.in_ok-made.ensures.sources c.in_ok-push-in-Ok.ensures.items
 
-pub returns-in-Err-clause-reasons : goal.returns-in-Err-clause-reasons
-returns-in-Err-clause-reasons c =
+pub returns-in-Err-clause-faults : goal.returns-in-Err-clause-faults
+returns-in-Err-clause-faults c =
     faults_answered c.args.input.options.now.should_error_on_first_diagnostic c.args.es_module_info.now
     (faults c.args.input.graph.now c.args.es_module_info.now c.args.public_ranges.now) c.in_ok-made.field-0 c.in-Err.diagnostics c.in-Err.is
     c.in_ok-made.ensures.faults

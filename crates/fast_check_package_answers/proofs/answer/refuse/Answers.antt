@@ -6,6 +6,6 @@ use Rattle.fast_check_package_answers.proofs.answer.refuse.Goals as goal
 
 pub loop-entrypoint-preserved : goal.loop-entrypoint-preserved
 loop-entrypoint-preserved c =
-    subst (AllZip (IsRefused c.args.wrong.now) _) (sym c.in_ok-push.ensures.items)
-    (all_zipped_more (IsRefused c.args.wrong.now) c.loop-entrypoint.yielded c.loop-entrypoint.answers.items c.in-Some.entrypoint
+    subst (AllZip (IsRefused c.args.diagnostics.now) _) (sym c.in_ok-push.ensures.items)
+    (all_zipped_more (IsRefused c.args.diagnostics.now) c.loop-entrypoint.yielded c.loop-entrypoint.answers.items c.in-Some.entrypoint
     c.in_ok-refused.field-0 c.loop-entrypoint.invariant c.in_ok-refused.ensures)

@@ -3,4 +3,4 @@ use Rattle.fast_check_package_answers.specs.PackageAnswer.{IsRefused}
 use Rattle.fast_check_package_answers.proofs.answer.refuse.Given as goal
 
 abbrev pub invariant-loop-entrypoint : goal.invariant-loop-entrypoint
-invariant-loop-entrypoint l = AllZip (IsRefused l.wrong) l.yielded l.answers.items
+invariant-loop-entrypoint l = AllZip (IsRefused l.diagnostics) l.yielded l.answers.items

@@ -3,7 +3,7 @@ use Rattle.std.proofs.lemmas.Option.{get_or_from_slice_get}
 use Rattle.fast_check_name_demands.specs.demands.Demands.{demand_of}
 use Rattle.fast_check_name_demands.specs.demands.Yields.{fault_seen}
 use Rattle.fast_check_search.specs.Universe.{limit}
-use Rattle.fast_check_search.specs.Worklist.{asked}
+use Rattle.fast_check_search.specs.SymbolWorklist.{asked}
 use Rattle.fast_check_search.proofs.Closure.{begun, turned, ended, nothing_found}
 use Rattle.fast_check_search.proofs.Inside.{few_asked}
 use Rattle.fast_check_search.proofs.Own.{own_found, own_found_implementations}

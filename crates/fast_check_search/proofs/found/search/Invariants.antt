@@ -1,7 +1,7 @@
 use Rattle.std.proofs.Common.{◌-◌, map}
 use Rattle.fast_check_name_demands.specs.demands.Demands.{demand_of}
 use Rattle.fast_check_search.specs.Universe.{limit}
-use Rattle.fast_check_search.specs.Worklist.{asked, IsKept}
+use Rattle.fast_check_search.specs.SymbolWorklist.{asked, IsKept}
 use Rattle.fast_check_search.specs.Found.{IsOnTheWay}
 use Rattle.fast_check_search.proofs.found.search.Given as goal
 

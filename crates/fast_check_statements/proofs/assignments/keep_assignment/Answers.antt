@@ -9,21 +9,21 @@ use Rattle.fast_check_statements.proofs.assignments.keep_assignment.Goals as goa
 
 pub returns-then-not-contains-clause-answer : goal.returns-then-not-contains-clause-answer
 returns-then-not-contains-clause-answer c =
-    let around = seen_around c.args.asked in
+    let around = seen_around c.args.around in
     hidden_assignment around (seen c.args.assignment)
     (ap around.is_public (sym c.of.ensures.span) ∙ (sym c.contains.ensures ∙ c.if-not-contains.true))
     c.args.faults.now.items
 
 pub returns-then-not-contains-clause-properties : goal.returns-then-not-contains-clause-properties
 returns-then-not-contains-clause-properties c =
-    let around = seen_around c.args.asked in
+    let around = seen_around c.args.around in
     sym (append-nil c.args.properties.now.items)
     ∙ ap (λ ps. c.args.properties.now.items ++ ps) (sym (hidden_properties around (seen c.args.assignment)
     (ap around.is_public (sym c.of.ensures.span) ∙ (sym c.contains.ensures ∙ c.if-not-contains.true))))
 
 pub returns-then-not-is_expando_assignment-clause-answer : goal.returns-then-not-is_expando_assignment-clause-answer
 returns-then-not-is_expando_assignment-clause-answer c =
-    let around = seen_around c.args.asked in
+    let around = seen_around c.args.around in
     let a = seen c.args.assignment in
     tested_assignment around a
     (ap around.is_public (sym c.of.ensures.span) ∙ (sym c.contains.ensures ∙ c.if-not-contains.false)) c.in_ok-value.value
@@ -33,7 +33,7 @@ returns-then-not-is_expando_assignment-clause-answer c =
 
 pub returns-then-not-is_expando_assignment-clause-properties : goal.returns-then-not-is_expando_assignment-clause-properties
 returns-then-not-is_expando_assignment-clause-properties c =
-    let around = seen_around c.args.asked in
+    let around = seen_around c.args.around in
     sym (append-nil c.args.properties.now.items)
     ∙ ap (λ ps. c.args.properties.now.items ++ ps) (sym (no_property around (seen c.args.assignment)
     (sym c.is_expando_assignment.ensures ∙ c.if-not-is_expando_assignment.true)))
@@ -43,7 +43,7 @@ keep_property-requires c = sym c.is_expando_assignment.ensures ∙ c.if-not-is_e
 
 pub returns-clause-answer : goal.returns-clause-answer
 returns-clause-answer c =
-    let around = seen_around c.args.asked in
+    let around = seen_around c.args.around in
     let a = seen c.args.assignment in
     on_ok_weaker c.keep_property.result
     (λ f. tested_assignment around a
@@ -53,7 +53,7 @@ returns-clause-answer c =
 
 pub returns-clause-properties : goal.returns-clause-properties
 returns-clause-properties c =
-    let around = seen_around c.args.asked in
+    let around = seen_around c.args.around in
     let a = seen c.args.assignment in
     on_ok_weaker c.keep_property.result
     (λ f. f ∙ ap (λ ps. c.args.properties.now.items ++ ps) (sym (property_stays around a

@@ -10,23 +10,23 @@ use Rattle.fast_check_statements.proofs.declarations.keep_declarator.Goals as go
 
 pub returns-then-not-contains : goal.returns-then-not-contains
 returns-then-not-contains c =
-    let public = ap (is_public c.args.asked.public_ranges.now) (sym c.of.ensures.span) ∙
+    let public = ap (is_public c.args.around.public_ranges.now) (sym c.of.ensures.span) ∙
     (sym c.contains.ensures ∙ c.if-not-contains.true) in
-    private_declarator (seen_around c.args.asked) (seen c.args.statement) (seen c.args.declarator) public c.args.faults.now.items
+    private_declarator (seen_around c.args.around) (seen c.args.statement) (seen c.args.declarator) public c.args.faults.now.items
 
 pub returns-then-is_ambient_statement : goal.returns-then-is_ambient_statement
 returns-then-is_ambient_statement c =
-    let public = ap (is_public c.args.asked.public_ranges.now) (sym c.of.ensures.span) ∙
+    let public = ap (is_public c.args.around.public_ranges.now) (sym c.of.ensures.span) ∙
     (sym c.contains.ensures ∙ c.if-not-contains.false) in
-    ambient_declarator (seen_around c.args.asked) (seen c.args.statement) (seen c.args.declarator) public
+    ambient_declarator (seen_around c.args.around) (seen c.args.statement) (seen c.args.declarator) public
     (sym c.is_ambient_statement.ensures ∙ c.if-is_ambient_statement.true) c.in_ok-to_tree.ensures c.args.faults.now.items
 
 pub returns : goal.returns
 returns c =
-    let public = ap (is_public c.args.asked.public_ranges.now) (sym c.of.ensures.span) ∙
+    let public = ap (is_public c.args.around.public_ranges.now) (sym c.of.ensures.span) ∙
     (sym c.contains.ensures ∙ c.if-not-contains.false) in
-    public_declarator_stays (seen_around c.args.asked) (seen c.args.statement) (seen c.args.declarator) public
+    public_declarator_stays (seen_around c.args.around) (seen c.args.statement) (seen c.args.declarator) public
     (sym c.is_ambient_statement.ensures ∙ c.if-is_ambient_statement.false)
-    (adds_same (ap (λ m. declarator_answer (seen_around c.args.asked) m (seen c.args.declarator))
+    (adds_same (ap (λ m. declarator_answer (seen_around c.args.around) m (seen c.args.declarator))
     (sym (c.mutability_of-mutability.ensures ∙ ap mutability_of c.of-2.ensures.kind)))
     c.in_ok-typed_declarator.ensures)

@@ -6,9 +6,9 @@ use Rattle.fast_check_statements.proofs.declarations.keep_standing.Goals as goal
 
 pub returns-then-not-contains : goal.returns-then-not-contains
 returns-then-not-contains c =
-    standing_goes (seen_around c.args.asked) c.args.place (seen c.args.decl) (sym c.contains.ensures ∙ c.if-not-contains.true)
+    standing_goes (seen_around c.args.around) c.args.place (seen c.args.decl) (sym c.contains.ensures ∙ c.if-not-contains.true)
 
 pub returns : goal.returns
 returns c =
-    standing_stays (seen_around c.args.asked) c.args.place (seen c.args.decl) (sym c.contains.ensures ∙ c.if-not-contains.false)
+    standing_stays (seen_around c.args.around) c.args.place (seen c.args.decl) (sym c.contains.ensures ∙ c.if-not-contains.false)
     c.in_ok-to_tree.ensures

@@ -7,5 +7,5 @@ use Rattle.fast_check_statements.proofs.declarations.public_declarators.Given as
 
 abbrev pub invariant-loop-declarator : goal.invariant-loop-declarator
 invariant-loop-declarator l =
-    Adds (declarators_answer (seen_around l.asked) (seen l.statement)
+    Adds (declarators_answer (seen_around l.around) (seen l.statement)
     (take l.declarator-index l.declarator-items)) l.items l.initial.faults.items l.faults.items

@@ -16,12 +16,12 @@ returns-then-eq c =
     let ident = ap (λ (k : Kind). k is BindingIdent) (sym (c.kind.ensures ∙ ap kind_of c.of.ensures.name)) ∙
     (sym c.eq.ensures ∙ c.if-eq.true) in
     IfOk-weaker c.ident_declarator.result _ _
-    (λ tree h. typed_ident (seen_around c.args.asked) c.args.mutability (seen c.args.declarator) ident h) c.ident_declarator.ensures
+    (λ tree h. typed_ident (seen_around c.args.around) c.args.mutability (seen c.args.declarator) ident h) c.ident_declarator.ensures
 
 pub returns : goal.returns
 returns c =
     let other = ap (λ (k : Kind). k is BindingIdent) (sym (c.kind.ensures ∙ ap kind_of c.of.ensures.name)) ∙
     (sym c.eq.ensures ∙ c.if-eq.false) in
     let place = c.range_of_node.ensures ∙ ap range_of_node c.of.ensures.name in
-    typed_pattern (seen_around c.args.asked) c.args.mutability (seen c.args.declarator) other
+    typed_pattern (seen_around c.args.around) c.args.mutability (seen c.args.declarator) other
     (c.in_ok-push.ensures.items ∙ ap (λ r. c.args.faults.now.items ++ fault_at UnsupportedDestructuring r ∷ []) place)

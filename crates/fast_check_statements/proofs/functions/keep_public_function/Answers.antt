@@ -6,10 +6,10 @@ use Rattle.fast_check_statements.proofs.functions.keep_public_function.Goals as 
 
 pub returns-then-not-contains : goal.returns-then-not-contains
 returns-then-not-contains c =
-    function_goes (seen_around c.args.asked) c.args.place (seen c.args.decl)
+    function_goes (seen_around c.args.around) c.args.place (seen c.args.decl)
     (sym c.contains.ensures ∙ c.if-not-contains.true) c.args.faults.now.items
 
 pub returns : goal.returns
 returns c =
-    function_stays (seen_around c.args.asked) c.args.place (seen c.args.decl) (sym c.contains.ensures ∙ c.if-not-contains.false)
+    function_stays (seen_around c.args.around) c.args.place (seen c.args.decl) (sym c.contains.ensures ∙ c.if-not-contains.false)
     c.in_ok-keep_function.ensures

@@ -2,7 +2,7 @@ use Rattle.std.proofs.Common.{OnOk, subst}
 use Rattle.fast_check_diagnostics.specs.Diagnostic.{view_of}
 use Rattle.fast_check_write.specs.Writing.{Adds}
 use Rattle.fast_check_write.proofs.Adding.{adds-last, adds-token_ok}
-use Rattle.fast_check_write.proofs.DiagnosticViews.{told_advice-is}
+use Rattle.fast_check_write.proofs.DiagnosticViews.{diagnosed_advice-is}
 use Rattle.fast_check_write.proofs.diagnostic.write_advice.Goals as goal
 
 pub returns : goal.returns
@@ -12,5 +12,5 @@ returns c =
     (adds-last _ _ _ _ _ _ c.in_ok-write_optional-2.ensures info) in
     let docs_url = adds-last _ _ _ _ _ _ (adds-token_ok _ _ _ _ _ c.in_ok-key.was c.key.ensures)
     (adds-last _ _ _ _ _ _ c.in_ok-write_optional.ensures hint) in
-    let told = told_advice-is (view_of c.args.diagnostic.now) _ _ _ c.in_ok-docs_url.ensures c.in_ok-hint.ensures c.in_ok-info.ensures in
-    subst (λ tokens. OnOk c.write_lines.result (Adds tokens c.args.out.now c.write_lines.new.out)) told docs_url
+    let diagnosed = diagnosed_advice-is (view_of c.args.diagnostic.now) _ _ _ c.in_ok-docs_url.ensures c.in_ok-hint.ensures c.in_ok-info.ensures in
+    subst (λ tokens. OnOk c.write_lines.result (Adds tokens c.args.out.now c.write_lines.new.out)) diagnosed docs_url

@@ -6,7 +6,7 @@ use Rattle.fast_check_diagnostics.specs.Diagnostic.{range_of, specifier_of, view
 use Rattle.fast_check_write.specs.Writing.{WritesData}
 use Rattle.fast_check_write.proofs.Adding.{adds-token, adds-last, adds-token_ok}
 use Rattle.fast_check_write.specs.Diagnostics.{diagnostic_data, named, text_or_null, level_text}
-use Rattle.fast_check_write.proofs.DiagnosticViews.{told_data-is, adds-three}
+use Rattle.fast_check_write.proofs.DiagnosticViews.{diagnosed_data-is, adds-three}
 use Rattle.fast_check_write.proofs.diagnostic.write_diagnostic.Goals as goal
 
 pub returns : goal.returns
@@ -19,11 +19,11 @@ returns c =
     (adds-last _ _ _ _ _ _ c.in_ok-write_place.ensures specifier) in
     let message = adds-last _ _ _ _ _ _ c.in_ok-write_text-3.ensures range in
     let level = adds-last _ _ _ _ _ _ c.in_ok-write_text-2.ensures message in
-    let told_more = adds-three _ (named (codes "docs_url") (text_or_null view.docs_url)) (named (codes "hint") (text_or_null view.hint))
+    let diagnosed_more = adds-three _ (named (codes "docs_url") (text_or_null view.docs_url)) (named (codes "hint") (text_or_null view.hint))
     (named (codes "info") (array (items_of (map string view.info)))) _ _ _ _ c.in_ok-write_advice.ensures level in
-    let code = adds-last _ _ _ _ _ _ c.in_ok-write_text.ensures told_more in
+    let code = adds-last _ _ _ _ _ _ c.in_ok-write_text.ensures diagnosed_more in
     let all = adds-last _ _ _ _ _ _ (adds-token_ok _ _ _ _ _ c.in_ok-begin_object.was c.begin_object.ensures) code in
-    let told = told_data-is view (range_of c.args.diagnostic.now) (specifier_of c.args.diagnostic.now) _ _ _ _ _
+    let diagnosed = diagnosed_data-is view (range_of c.args.diagnostic.now) (specifier_of c.args.diagnostic.now) _ _ _ _ _
     c.code.ensures (c.level_text.ensures ∙ ap level_text c.level.ensures)
     (c.as_str.ensures.value ∙ c.in_ok-message.ensures) c.range.ensures (c.as_str-2.ensures.value ∙ ap serialize c.specifier.ensures) in
-    subst (λ d. OnOk c.end_object.result (WritesData d c.args.out.now c.end_object.new.self)) told all
+    subst (λ d. OnOk c.end_object.result (WritesData d c.args.out.now c.end_object.new.self)) diagnosed all
