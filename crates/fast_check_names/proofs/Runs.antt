@@ -1,11 +1,11 @@
 -- Runs of numbers, one after another.
 use Rattle.std.proofs.Common.{◌≡◌, ◌∙◌, sym, ap, refl, subst, ⊎_elim, ℕ, zero, suc, ◌+◌, ◌-◌, ◌/◌, ◌<◌, ◌≤◌, List, [], ◌∷◌, ◌++◌}
-use Rattle.std.proofs.Common.{Bool, true, false, cond, arith, length, get_or, set, take, drop, append_assoc}
+use Rattle.std.proofs.Common.{Bool, true, false, cond, eqb, arith, length, get_or, set, take, drop, append_assoc}
 use Rattle.std.specs.List.{concat, insert}
 use Rattle.std.specs.Bool.{OnTrue}
 use Rattle.std.specs.Prelude.{Vec}
 use Rattle.std.specs.declared.alloc.Global.{Global}
-use Rattle.std.proofs.lemmas.Bool.{cases_order}
+use Rattle.std.proofs.lemmas.Bool.{cases_order, eqb-false}
 use Rattle.std.proofs.lemmas.List.Folds.{concat-append}
 use Rattle.std.proofs.lemmas.List.{take-append-drop, append-nil, map-append, take_more, get_or-map, length-map, map-set, set-get_or}
 use Rattle.std.proofs.lemmas.List.{get_or_default, get_or_append_left, get_or-append-add, length-append, get_or-set_same, get_or-set_other}
@@ -17,6 +17,9 @@ use Rattle.fast_check_names.specs.Slots.{place}
 
 pub count_is : (runs : List (Vec ℕ Global)) → length (lists runs) ≡ length runs
 count_is runs = length-map runs (λ (x : Vec ℕ Global). x.items)
+
+pub some_runs : (runs : Vec (Vec ℕ Global) Global) → false ≡ eqb runs.len 0 → 0 < length (lists runs.items)
+some_runs runs e = let some : runs.len ≡ 0 → ⊥ = eqb-false runs.len 0 (sym e) in omega (arith, some, runs.ok.0, count_is runs.items)
 
 pub run_is : (runs : List (Vec ℕ Global)) (r : ℕ) (v : Vec ℕ Global) → r < length runs → v ≡ get_or runs r v →
     run_at (lists runs) r ≡ v.items

@@ -1,5 +1,4 @@
-use Rattle.std.proofs.Common.{◌≡◌, ℕ, length, subst}
-use Rattle.fast_check_names.specs.Order.{names_in, lists, IsOrder}
+use Rattle.fast_check_names.specs.Order.{lists}
 use Rattle.fast_check_names.proofs.Sorted.{order_all}
 use Rattle.fast_check_names.proofs.lattice.order.sort_from.Goals as goal
 

@@ -11,10 +11,10 @@ use Rattle.fast_check_names.proofs.lattice.order.split.Goals.{then-len-le-LONG-v
 
 kept : (c : goal.Joined-then-len-le-LONG) → lists c.then-len-le-LONG.runs.items ≡ lists c.args.runs.now.items
 kept c = elim c.then-len-le-LONG.branch [
-      then-len-le-LONG-via-then-len-le-LONG w ↦ ap (λ (v : Vec (Vec ℕ Global) Global). lists v.items) w.runs-is
-    | then-len-le-LONG-via-else-len-le-LONG+then-is_err w ↦
-        ap (λ (v : Vec (Vec ℕ Global) Global). lists v.items) w.runs-is ∙ ap lists w.reserve.ensures.items
-    ]
+  | then-len-le-LONG-via-then-len-le-LONG w ↦ ap (λ (v : Vec (Vec ℕ Global) Global). lists v.items) w.runs-is
+  | then-len-le-LONG-via-else-len-le-LONG+then-is_err w ↦
+      ap (λ (v : Vec (Vec ℕ Global) Global). lists v.items) w.runs-is ∙ ap lists w.reserve.ensures.items
+]
 
 pub returns-then-len-le-LONG-clause-same : goal.returns-then-len-le-LONG-clause-same
 returns-then-len-le-LONG-clause-same c = ap concat (kept c)
