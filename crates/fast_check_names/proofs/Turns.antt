@@ -45,11 +45,12 @@ none_copied g size at q w within first = record {
   parent = λ j h l. absurd (omega (arith, h, l));
 }
 
-pub one_queued : (nodes : List Node) (queue before : List ℕ) (at : ℕ) (w : Graph) → before ≡ [] → queue ≡ before ++ at ∷ [] → at < length nodes →
-    AreCopied (entry nodes) (length nodes) at (λ k. get_or queue k 0) (length queue) 0 w
+pub one_queued : (nodes : List Node) (queue before : List ℕ) (at : ℕ) (w : Graph) → before ≡ [] → queue ≡ before ++ at ∷ [] →
+    at < length nodes → AreCopied (entry nodes) (length nodes) at (λ k. get_or queue k 0) (length queue) 0 w
 one_queued nodes queue before at w none e within =
     let Q : List ℕ → Type 0 = λ q. AreCopied (entry nodes) (length nodes) at (λ k. get_or q k 0) (length q) 0 w in
-    subst Q (sym (e ∙ ap (λ xs. xs ++ at ∷ []) none)) (none_copied (entry nodes) (length nodes) at (λ k. get_or (at ∷ []) k 0) w within refl)
+    subst Q (sym (e ∙ ap (λ xs. xs ++ at ∷ []) none))
+    (none_copied (entry nodes) (length nodes) at (λ k. get_or (at ∷ []) k 0) w within refl)
 
 -- the next place of a queue, and the number there
 pub next_place : (queue : Vec ℕ Global) (i count : ℕ) → count ≡ queue.len → i < count → i < length queue.items

@@ -18,4 +18,5 @@ pub loop-number-preserved : goal.loop-number-preserved
 loop-number-preserved c = c.if-not-put_next.ensures.done
 
 pub returns : goal.returns
-returns c = order_all c.args.names.now (lists c.loop-number.runs.items) c.loop-number.number c.loop-number.invariant c.loop-number-test.false
+returns c =
+    order_all c.args.names.now (lists c.loop-number.runs.items) c.loop-number.number c.loop-number.invariant c.loop-number-test.false

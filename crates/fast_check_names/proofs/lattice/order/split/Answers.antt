@@ -7,7 +7,8 @@ use Rattle.fast_check_names.proofs.Lists.{is_ok_from, on_ok_then}
 use Rattle.fast_check_names.proofs.Runs.{half_within, lists_kept, split_same, split_filled}
 use Rattle.fast_check_names.specs.Order.{lists, AreFilled}
 use Rattle.fast_check_names.proofs.lattice.order.split.Goals as goal
-use Rattle.fast_check_names.proofs.lattice.order.split.Goals.{then-len-le-LONG-via-then-len-le-LONG, then-len-le-LONG-via-else-len-le-LONG+then-is_err}
+use Rattle.fast_check_names.proofs.lattice.order.split.Goals.{then-len-le-LONG-via-then-len-le-LONG}
+use Rattle.fast_check_names.proofs.lattice.order.split.Goals.{then-len-le-LONG-via-else-len-le-LONG+then-is_err}
 
 kept : (c : goal.Joined-then-len-le-LONG) → lists c.then-len-le-LONG.runs.items ≡ lists c.args.runs.now.items
 kept c = elim c.then-len-le-LONG.branch [
