@@ -1,12 +1,12 @@
 -- What the copy of a node lists.
-use Rattle.std.proofs.Common.{◌≡◌, ◌∙◌, sym, ap, refl, ⊎_elim, ℕ, ◌+◌, ◌<◌, ◌≤◌, true, false, cond, List, [], ◌∷◌, ◌++◌, append_assoc, subst, suc, None}
+use Rattle.std.proofs.Common.{◌≡◌, ◌∙◌, sym, ap, refl, ⊎_elim, ℕ, ◌+◌, ◌<◌, ◌≤◌, true, false, cond, List, [], ◌∷◌, ◌++◌, append_assoc, subst, suc, take, None}
 use Rattle.std.proofs.Common.{Some, arith, length, get_or, string_bytes}
 use Rattle.std.specs.Prelude.{Vec, vec_len}
 use Rattle.std.specs.List.{AllZip}
 use Rattle.std.specs.Str.{bytes_eq}
 use Rattle.std.specs.declared.alloc.Global.{Global}
 use Rattle.std.proofs.lemmas.Bool.{cases_lt}
-use Rattle.std.proofs.lemmas.List.{append-nil, length-append, get_or_append_left, get_or-append-add}
+use Rattle.std.proofs.lemmas.List.{append-nil, length-append, get_or_append_left, get_or-append-add, take_all}
 use Rattle.std.proofs.lemmas.List.Elements.{same_from_all_zip}
 use Rattle.fast_check_names.specs.declared.lattice.node.NodeNo.{NodeNo}
 use Rattle.fast_check_names.specs.declared.lattice.node.Below.{Below}
@@ -16,6 +16,17 @@ use Rattle.fast_check_names.specs.Graph.{moved, moved_below}
 use Rattle.fast_check_names.specs.Queue.{next_of, nexts, placed, IsCopyFrom}
 use Rattle.fast_check_names.proofs.Lists.{found_read}
 use Rattle.fast_check_names.proofs.Walks.{name_tells}
+
+-- no name is copied
+pub copy_none : (count : ℕ) (fs : List Entry) → fs ≡ [] → IsCopyFrom count [] fs
+copy_none count fs e = subst (λ (xs : List Entry). IsCopyFrom count [] xs) (sym e) tt
+
+-- all names are copied
+pub copy_all : (count i : ℕ) (es fs : List Entry) → length es ≤ i → IsCopyFrom count (take i es) fs → IsCopyFrom count es fs
+copy_all count i es fs h is = subst (λ (xs : List Entry). IsCopyFrom count xs fs) (take_all i es h) is
+
+pub nexts_all : (i : ℕ) (es : List Entry) (old new : List ℕ) → length es ≤ i → new ≡ old ++ nexts (take i es) → new ≡ old ++ nexts es
+nexts_all i es old new h e = e ∙ ap (λ (xs : List Entry). old ++ nexts xs) (take_all i es h)
 
 -- one name more
 pub nexts_more : (es : List Entry) (e : Entry) → nexts (es ++ e ∷ []) ≡ nexts es ++ next_of e.1

@@ -1,4 +1,4 @@
-use Rattle.std.proofs.Common.{rules, ◌≡◌, ◌≤◌, ◌+◌, ◌∙◌, sym, ap, [], ◌∷◌, Some, length, get_or, string_bytes, List, arith}
+use Rattle.std.proofs.Common.{rules, ◌≡◌, ◌<◌, ◌≤◌, ◌+◌, ◌∙◌, refl, sym, ap, [], ◌∷◌, Some, length, get_or, string_bytes, List, arith}
 use Rattle.std.proofs.lemmas.List.{length-append}
 use Rattle.fast_check_names.specs.Order.{Entry, found}
 use Rattle.fast_check_names.specs.Graph.{entry, listings}
@@ -6,7 +6,7 @@ use Rattle.fast_check_names.specs.Names.{path_of}
 use Rattle.fast_check_names.proofs.Lists.{found_read}
 use Rattle.fast_check_names.proofs.Copies.{later_at}
 use Rattle.fast_check_names.proofs.Ends.{tells_all, tells_bare, tells_named, walked_more, walked_all, rank_falls, under, long_path}
-use Rattle.fast_check_names.proofs.Ends.{pushed_path, cut_path, on_ok_more}
+use Rattle.fast_check_names.proofs.Ends.{pushed_path, cut_path, on_ok_more, walked_none}
 use Rattle.fast_check_names.proofs.lattice.demanded.+ends.Goals as goal
 
 pub push_below-returns-then-is_empty-clause-told :
@@ -51,6 +51,22 @@ push_names-push_below-requires t c =
         omega (arith, c.in_ok-push.ensures.len, c.loop-name.invariant.3, c.loop-name.invariant.1, long, same),
       ),
     )
+
+pub push_names-loop-name-init : goal.push_names-loop-name-init
+push_names-loop-name-init t c = (
+  refl,
+  omega (arith, c.len-count.ensures, long_path c.args.path.now),
+  omega arith,
+  omega (arith, c.len-count.ensures, c.requires.fits),
+  λ (some : 0 < 0). absurd (omega (arith, some)),
+  walked_none (path_of c.args.path.now.items) c.args.from (entry c.args.nodes.now) c.args.out.now.items,
+)
+
+pub push_names-returns-clause-same : goal.push_names-returns-clause-same
+push_names-returns-clause-same t c = c.loop-name.invariant.0
+
+pub push_below-returns-else-is_empty-clause-same : goal.push_below-returns-else-is_empty-clause-same
+push_below-returns-else-is_empty-clause-same t c = c.push_names.ensures.same
 
 pub push_names-loop-name-preserved : goal.push_names-loop-name-preserved
 push_names-loop-name-preserved t c =
