@@ -17,7 +17,7 @@ use Rattle.fast_check_names.specs.Graph.{Graph, Part, Touched, Path, NameSet, en
 use Rattle.fast_check_names.specs.Graph.{LacksNames, HasRoom, either_of}
 use Rattle.fast_check_names.specs.Names.{whole_below, IsAdded, IsJoin, IsNameSet, IsLeastDifference, IsSame, nothing}
 use Rattle.fast_check_names.specs.Gains.{IsJoint}
-use Rattle.fast_check_names.proofs.Walks.{name_tells, descends, or_false}
+use Rattle.fast_check_names.proofs.Walks.{name_shows, descends, or_false}
 use Rattle.fast_check_names.proofs.Places.{some_entry, found_first, found_none, once_before, once_push}
 use Rattle.fast_check_names.proofs.Puts.{all_is, none_is}
 use Rattle.fast_check_names.proofs.Alike.{touched_some}
@@ -25,7 +25,7 @@ use Rattle.fast_check_names.proofs.Copies.{subset_reach, past_nothing}
 
 pub itself : (n : Name) → bytes_eq n n ≡ true
 itself n = ⊎_elim (λ (t : (bytes_eq n n ≡ true) × (n ≡ n)). t.0) (λ (t : (bytes_eq n n ≡ false) × (n ≡ n → ⊥)). absurd (t.1 refl))
-    (name_tells n n)
+    (name_shows n n)
 
 -- a name that stands at a place is found
 pub no_place : (es : List Entry) → IsOnce es → (n : Name) (i : ℕ) → i < length es → name_at es i ≡ n → found es n ≡ None → ⊥
@@ -70,7 +70,7 @@ once_append es (f ∷ fs) e_once f_once apart =
         (λ (t : (bytes_eq (string_bytes f.0) n ≡ true) × (string_bytes f.0 ≡ n)).
         absurd (false≢true (sym (ap is_some (subst (λ (m : Name). found fs m ≡ None) t.1 (behind_first f fs f_once))) ∙ some)))
         (λ (t : (bytes_eq (string_bytes f.0) n ≡ false) × (string_bytes f.0 ≡ n → ⊥)). t.0)
-        (name_tells (string_bytes f.0) n) in
+        (name_shows (string_bytes f.0) n) in
         found_append es (f ∷ []) n ∙
         (ap (λ o. either_of o (cond (bytes_eq (string_bytes f.0) n) (Some f.1) None))
         (apart n (ap is_some (ap (λ b. cond b (Some f.1) (found fs n)) other) ∙ some)) ∙

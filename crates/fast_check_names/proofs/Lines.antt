@@ -4,7 +4,7 @@ use Rattle.std.proofs.Common.{List, [], ◌∷◌, ◌++◌, Some, None, arith, 
 use Rattle.std.specs.declared.alloc.Global.{Global}
 use Rattle.std.specs.Str.{bytes_eq}
 use Rattle.std.proofs.lemmas.Bool.{cases_lt, ne_eqb}
-use Rattle.std.proofs.lemmas.Bool.Decides.{eqb_tells}
+use Rattle.std.proofs.lemmas.Bool.Decides.{eqb_shows}
 use Rattle.std.proofs.lemmas.List.{length-append}
 use Rattle.fast_check_names.specs.declared.lattice.node.Below.TheVariants.{All, Subset}
 use Rattle.fast_check_names.specs.declared.lattice.node.Node.{Node}
@@ -17,7 +17,7 @@ use Rattle.fast_check_names.proofs.Lists.{entry_front, entry_behind}
 use Rattle.fast_check_names.proofs.Places.{agrees}
 use Rattle.fast_check_names.proofs.Puts.{none_is}
 use Rattle.fast_check_names.proofs.Copies.{past_none}
-use Rattle.fast_check_names.proofs.Walks.{name_tells}
+use Rattle.fast_check_names.proofs.Walks.{name_shows}
 
 -- one name of the path, where what it has below it is known
 first_line : (g : Graph) (n : Name) (p : Path) (base : ℕ) → ((k : ℕ) (m : Name) → g (base + k) m ≡ line_from (n ∷ p) base k m) →
@@ -69,7 +69,7 @@ line_says (m ∷ x ∷ p) base zero n j h = ⊎_elim
     (omega (arith, is), omega arith, t.1))
     (λ (f : (bytes_eq m n ≡ false) × (m ≡ n → ⊥)).
     let e : None ≡ Some (Subset j) = sym (ap (λ b. cond b (Some (Subset (record { 0 = suc base }))) None) f.0) ∙ h in cc)
-    (name_tells m n)
+    (name_shows m n)
   where
     number : (a b : NodeNo) → Some (Subset a) ≡ Some (Subset b) → b.0 ≡ a.0
     number a b e = let same : a ≡ b = cc in ap (λ (x : NodeNo). x.0) (sym same)
@@ -112,7 +112,7 @@ link_last : (count k : ℕ) → k + 1 ≡ count → link_at count k ≡ All
 link_last count k e = ⊎_elim
     (λ (t : (eqb (k + 1) count ≡ true) × (k + 1 ≡ count)). ap (λ b. cond b All (Subset (record { 0 = k + 1 }))) t.0)
     (λ (f : (eqb (k + 1) count ≡ false) × (k + 1 ≡ count → ⊥)). absurd (f.1 e))
-    (eqb_tells (k + 1) count)
+    (eqb_shows (k + 1) count)
 
 link_next : (count k : ℕ) → (k + 1 ≡ count → ⊥) → link_at count k ≡ Subset (record { 0 = k + 1 })
 link_next count k d = ap (λ b. cond b All (Subset (record { 0 = k + 1 }))) (ne_eqb (k + 1) count d)

@@ -14,7 +14,7 @@ use Rattle.fast_check_names.specs.declared.lattice.node.Below.TheVariants.{All, 
 use Rattle.fast_check_names.specs.Order.{Name, Entry, found, IsOnce, IsAbsentBefore}
 use Rattle.fast_check_names.specs.Graph.{Graph, IsTree, listings}
 use Rattle.fast_check_names.specs.Numbers.{stays, number, number_or_zero, rank, is_node, lists_node, IsWithout, AreGone, AreRanks, AreMovedDown}
-use Rattle.fast_check_names.proofs.Walks.{name_tells}
+use Rattle.fast_check_names.proofs.Walks.{name_shows}
 use Rattle.fast_check_names.proofs.Places.{found_none}
 use Rattle.fast_check_names.proofs.Extends.{itself}
 
@@ -141,7 +141,7 @@ found_behind d es once n b e = ⊎_elim
     absurd (none_no b (sym none ∙ e)))
     (λ (t : (bytes_eq (string_bytes d.0) n ≡ false) × (string_bytes d.0 ≡ n → ⊥)).
     ap (λ c. cond c (Some d.1) (found es n)) t.0 ∙ e)
-    (name_tells (string_bytes d.0) n)
+    (name_shows (string_bytes d.0) n)
 
 -- what is not found is not listed
 pub unlisted : (es : List Entry) → IsOnce es → (k : ℕ) → ((n : Name) → found es n ≡ Some (Subset (record { 0 = k })) → ⊥) →

@@ -15,7 +15,7 @@ use Rattle.fast_check_names.specs.Order.{Name, Entry, found, names_in, lists, Is
 use Rattle.fast_check_names.specs.Graph.{moved, moved_below}
 use Rattle.fast_check_names.specs.Queue.{next_of, nexts, placed, IsCopyFrom}
 use Rattle.fast_check_names.proofs.Lists.{found_read}
-use Rattle.fast_check_names.proofs.Walks.{name_tells}
+use Rattle.fast_check_names.proofs.Walks.{name_shows}
 
 -- no name is copied
 pub copy_none : (count : ℕ) (fs : List Entry) → fs ≡ [] → IsCopyFrom count [] fs
@@ -137,7 +137,7 @@ copy_range count (x ∷ es) (y ∷ fs) is n j e =
     (λ (f : (bytes_eq (string_bytes y.0) n ≡ false) × (string_bytes y.0 ≡ n → ⊥)).
     let there = copy_range (count + length (next_of x.1)) es fs is.2 n j (sym (ap (λ b. cond b (Some y.1) (found fs n)) f.0) ∙ e) in
     (omega (arith, there.0), omega (arith, there.1, long)))
-    (name_tells (string_bytes y.0) n)
+    (name_shows (string_bytes y.0) n)
 
 head_lists : (count : ℕ) (b c : Below) (j : ℕ) → c ≡ placed count b → count ≤ j → j < count + length (next_of b) →
     c ≡ Subset (record { 0 = j })

@@ -68,6 +68,7 @@ fn append_below(nodes: &mut Vec<Node>, mut tree: Vec<Node>) -> Vec<(String, Belo
     ensures behind { IsBehind nodes.old.items (entry tree.items) nodes.new.items }
     ensures len { vec_len nodes.new + 1 ≡ vec_len nodes.old + vec_len tree }
 {
+    // What was reserved is said by the capacity, and so holds that `append` asks for no memory.
     let _room = nodes.capacity();
     shift_nodes(&mut tree, nodes.len() - 1);
     let root = tree.remove(0);
