@@ -189,10 +189,20 @@ def faults_of_references(n):
     return single([symbol(1, definition(is_ts_namespace=True)), *(symbol(i, part("s1", f"x{i}")) for i in range(2, n + 2))], [[f"s{i}", i] for i in range(2, n + 2)])
 
 
+def assignment(name):
+    """The statement `name.x = 1;` at the range of all declarations."""
+    member = {"Member": {"span": [1, 4], "obj": {"Ident": {"span": [1, 2], "ctxt": 1, "sym": name}}, "prop": {"Ident": {"span": [3, 4], "sym": "x"}}}}
+    assign = {"span": RANGES[0], "op": "=", "left": {"Simple": member}, "right": {"Lit": {"Num": {"span": [7, 8], "raw": "1"}}}}
+    return {"Stmt": {"Expr": {"span": RANGES[0], "expr": {"Assign": assign}}}}
+
+
 @shape
 def every_table_fault(n):
+    """Symbols that are mentioned and missing, symbols without declarations, a module under another name, and assignments to what has no symbol."""
     lost = [symbol(i, parent=10_000_000 + i, exports=[["x", 20_000_000 + i]], members=[30_000_000 + i], is_private_member=True) for i in range(1, n + 1)]
-    return request([url(1), module(url(0), lost, [["x", 40_000_000]])[1]])
+    made = module(url(0), [*lost, symbol(n + 1, definition())], [["x", 40_000_000]])[1]
+    made["Esm"]["source"] = {**NO_TEXT, "program": {"Module": {"span": [1, 9], "body": [assignment("f") for _ in lost]}}}
+    return request([url(1), made])
 
 
 @shape
