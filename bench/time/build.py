@@ -9,7 +9,7 @@ The program has to be built: run `./fast-check build examples/build_hello.json` 
     modules    one package of all modules
     faults     packages as above, each with a module that has faults
     hidden     packages as above, of whose modules the entry points ask for two names alone, so that two modules are answered beside each entry point
-    names      one package of two modules: a declaration of the one asks by import types for as many names of the other as there are packages else
+    names      one package of two modules: a declaration of the one asks by import types for so many names of the other as PACKAGES says
 
 The program lends no cache. With a driver that does (`bench/time/driver.sh builds DRIVER`) it prints the seconds of a build without a cache, of one that fills
 an empty cache, and of one with the filled cache, all without reading and printing.
