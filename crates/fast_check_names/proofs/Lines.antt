@@ -4,7 +4,7 @@ use Rattle.std.proofs.Common.{List, [], ◌∷◌, ◌++◌, Some, None, arith, 
 use Rattle.std.specs.declared.alloc.Global.{Global}
 use Rattle.std.specs.Str.{bytes_eq}
 use Rattle.std.proofs.lemmas.Bool.{cases_lt, ne_eqb}
-use Rattle.std.proofs.lemmas.Bool.Decides.{eqb_shows}
+use Rattle.std.proofs.lemmas.Bool.Decides.{eqb_tells}
 use Rattle.std.proofs.lemmas.List.{length-append}
 use Rattle.fast_check_names.specs.declared.lattice.node.Below.TheVariants.{All, Subset}
 use Rattle.fast_check_names.specs.declared.lattice.node.Node.{Node}
@@ -112,7 +112,7 @@ link_last : (count k : ℕ) → k + 1 ≡ count → link_at count k ≡ All
 link_last count k e = ⊎_elim
     (λ (t : (eqb (k + 1) count ≡ true) × (k + 1 ≡ count)). ap (λ b. cond b All (Subset (record { 0 = k + 1 }))) t.0)
     (λ (f : (eqb (k + 1) count ≡ false) × (k + 1 ≡ count → ⊥)). absurd (f.1 e))
-    (eqb_shows (k + 1) count)
+    (eqb_tells (k + 1) count)
 
 link_next : (count k : ℕ) → (k + 1 ≡ count → ⊥) → link_at count k ≡ Subset (record { 0 = k + 1 })
 link_next count k d = ap (λ b. cond b All (Subset (record { 0 = k + 1 }))) (ne_eqb (k + 1) count d)

@@ -3,7 +3,7 @@ use Rattle.std.proofs.Common.{◌≡◌, ◌∙◌, sym, ap, refl, subst, ⊎_el
 use Rattle.std.proofs.Common.{cond, eqb, [], ◌∷◌, Option, Some, None, arith}
 use Rattle.std.specs.Option.{is_some}
 use Rattle.std.proofs.lemmas.Bool.{cases_lt, eq-eqb, ne_eqb}
-use Rattle.std.proofs.lemmas.Bool.Decides.{eqb_shows}
+use Rattle.std.proofs.lemmas.Bool.Decides.{eqb_tells}
 use Rattle.fast_check_names.specs.declared.lattice.node.NodeNo.{NodeNo}
 use Rattle.fast_check_names.specs.declared.lattice.node.Below.{Below}
 use Rattle.fast_check_names.specs.declared.lattice.node.Below.TheVariants.{All, Subset}
@@ -67,7 +67,7 @@ module _ (g s w : Graph) (size count at : ℕ) (tree : IsTree g size) (sub : IsT
         was = ap (λ b. cond b (either_of (g k n) (shift (size - 1) (s 0 n))) (g k n)) (sym t.0) ∙
             (sym (is.low k n h) ∙ e);
       }))
-      (eqb_shows k at))
+      (eqb_tells k at))
       (λ (h : size ≤ k).
       let back : size + (k - size) ≡ k = omega (arith, h) in
       inr (from_tree (suc (k - size)) k n j (sym back) (sym (is.high (k - size) n) ∙ (ap (λ i. w i n) back ∙ e))))
@@ -98,7 +98,7 @@ module _ (g s w : Graph) (size count at : ℕ) (tree : IsTree g size) (sub : IsT
       (λ (t : (eqb k at ≡ true) × (k ≡ at)). ap (λ b. cond b (either_of (g k n) (shift (size - 1) (s 0 n))) (g k n)) t.0 ∙
       some_either (g k n) (shift (size - 1) (s 0 n)) b e)
       (λ (t : (eqb k at ≡ false) × (k ≡ at → ⊥)). ap (λ b. cond b (either_of (g k n) (shift (size - 1) (s 0 n))) (g k n)) t.0 ∙ e)
-      (eqb_shows k at)
+      (eqb_tells k at)
 
   at_node : (n : Name) → w at n ≡ either_of (g at n) (shift (size - 1) (s 0 n))
   at_node n = is.low at n within ∙ ap (λ b. cond b (either_of (g at n) (shift (size - 1) (s 0 n))) (g at n)) (eq-eqb at at refl)
