@@ -1,5 +1,5 @@
 -- Bytes without a request are refused, and so are those whose request is.
-use Rattle.std.proofs.Common.{ℕ, ◌<◌, List, Ok, Err, inl, inr, subst, sym, lit<}
+use Rattle.std.proofs.Common.{ℕ, ◌<◌, List, Ok, Err, inr, subst, sym, lit<}
 use Rattle.fast_check_requests.specs.declared.refusal.Refusal.{Refusal}
 use Rattle.fast_check_requests.specs.declared.refusal.Refusal.TheVariants as refusals
 use Rattle.fast_check_requests.specs.Run.{IsOfBytes}

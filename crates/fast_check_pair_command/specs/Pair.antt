@@ -1,5 +1,5 @@
 -- What the command `pair` answers to the bytes of a file.
-use Rattle.std.specs.Prelude.{◌≡◌, ℕ, List, Bool, ◌⊎◌}
+use Rattle.std.specs.Prelude.{ℕ, List, Bool, ◌⊎◌}
 use Rattle.fast_check_graph.specs.declared.graph.ModuleGraph.{ModuleGraph}
 use Rattle.fast_check_modules.specs.EsModule.{EsModule, Admits}
 use Rattle.fast_check_modules.specs.FitProgram.{FitProgram, IsModuleFault}

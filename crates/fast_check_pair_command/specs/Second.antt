@@ -8,7 +8,7 @@ use Rattle.fast_check_requests.specs.declared.refusal.Refusal.{Refusal}
 use Rattle.fast_check_requests.specs.declared.refusal.Refusal.TheVariants as refusals
 use Rattle.fast_check_transform_command.specs.Transform.{IsModuleOf}
 use Rattle.fast_check_pair_command.specs.declared.request.Side.{Side}
-use Rattle.fast_check_pair_command.specs.Pair.{AdmitBoth, AnswersModules, RefusesModules, IsFaultOf}
+use Rattle.fast_check_pair_command.specs.Pair.{AdmitBoth, AnswersModules, IsFaultOf}
 
 -- the line is the answer to this module and the second
 abbrev pub AnswersSecond : ModuleGraph → EsModule → PublicRanges → Side → Bool → List ℕ → ℕ → Type 0
