@@ -1,9 +1,38 @@
-"""Runs of `fast-check build` on hostile tables, in the shapes that `bench/check/shapes.py` measures: rings, long paths, names that come twice, and
-modules that lead back to themselves. The trees are empty, so that each module with something public is answered by an empty skeleton: what is shown
-is that the call ends, which modules are answered, and which fault of the tables is told."""
+"""Runs of `fast-check build` on hostile tables, in the shapes that `bench/check/shapes.py` measures and in some of its own: rings, long paths, names that
+come twice, and modules that lead back to themselves. The trees are empty, so that each module with something public is answered by an empty skeleton: what
+is shown is that the call ends, which modules are answered, and which fault of the tables is told."""
 import shapes
 
-EMPTY = {"comments": {"leading": [], "trailing": []}, "module_info": {"sources": []}, "program": {"body": [], "shebang": None, "span": [1, 1]}}
+def skeleton(leading=(), trailing=()):
+    """An empty skeleton with these comments."""
+    return {"comments": {"leading": list(leading), "trailing": list(trailing)}, "module_info": {"sources": []},
+            "program": {"body": [], "shebang": None, "span": [1, 1]}}
+
+
+def a_ring_of_re_exports_of_all(n):
+    """Modules that each export all of the next one, in few bytes."""
+    urls = [f"http://a/{i}" for i in range(n)]
+    source = {"media_type": "Mts", "text": "", "program": {"Module": {"span": [1, 1]}}, "comments": {}}
+    modules = [[url, {"Esm": {"specifier": url, "source": source, "module_symbol": 0, "symbols": [{"id": 0}], "re_export_all_nodes": [[[1, 9], "n"]]}}]
+               for url in urls]
+    graph = {"modules": [[url, {"Js": {"media_type": "Mts"}}] for url in urls], "resolutions": [[url, "n", urls[(i + 1) % n]] for i, url in enumerate(urls)],
+             "packages": [["@p/p@1.0.0", [[".", "./0"]]]]}
+    return {"graph": graph, "modules": modules, "provider": {"fallback": "http://a/", "packages": [["@p/p@1.0.0", "http://a/"]]}, "pending": ["@p/p@1.0.0"]}, sorted(urls)
+
+
+def exports_of_a_symbol(n):
+    """A namespace of so many names, in few bytes."""
+    inside = [{"id": i, "parent_id": 1, "decls": [{"value": True, "kind": {"Definition": None}}]} for i in range(2, n + 2)]
+    return shapes.single([shapes.symbol(1, shapes.definition(is_ts_namespace=True), exports=[[f"s{i}", i] for i in range(2, n + 2)]), *inside], [["s1", 1]],
+                         ids=[[["s1", 1], 1]])
+
+
+def a_long_name(size):
+    """A name of so many bytes, which the module exports, and by which another one asks for it."""
+    url = [shapes.url(0), shapes.url(1)]
+    asks = shapes.module(url[0], [shapes.symbol(1, shapes.file_ref(url[1], "a" * size))], [["s1", 1]])
+    gives = shapes.module(url[1], [shapes.symbol(1, shapes.definition())], [["a" * size, 1]], resolved_exports=[])
+    return shapes.request(asks, gives), url
 
 
 def a_class_among_its_own_members(n):
@@ -38,34 +67,43 @@ def slashes_at_the_end():
     return shapes.request(first, second, shapes.module(urls[2], own, [["s1", 1]])), urls
 
 
+def documented(text):
+    return [1, [{"kind": "Block", "span": [1, 9], "text": f"* {text} "}]]
+
+
 def keys_with_other_values():
-    """Each list of pairs has a key twice, and leads on to the second module by what stands with the last."""
-    at, other, lost = shapes.url(0), shapes.url(1), shapes.url(9)
+    """Each list of pairs has a key twice, and leads on to the second module, to the member of the workspace or to a comment by what stands with the last."""
+    at, other, lost, called, member = shapes.url(0), shapes.url(1), shapes.url(9), shapes.url("called"), "file:///w/0.ts"
     alias, reference = shapes.symbol(3, shapes.target("s1")), shapes.file_ref("./a", "s1")
     first = shapes.module(at, [shapes.symbol(1, shapes.definition()), shapes.symbol(2, shapes.definition()), shapes.symbol(1, reference), alias],
                           [["s1", 2], ["s1", 3]], ids=[[["s1", 1], 2], [["s1", 1], 1]], resolved_exports=[["s1", lost], ["s1", at]])
     second = shapes.module(other, [shapes.symbol(1, shapes.definition())], [["s1", 1]])
-    made = shapes.request(shapes.module(at, [], []), first, second)
-    made["graph"] = {"modules": [[at, {"Js": {"media_type": "JavaScript"}}], *([each, {"Js": {"media_type": "TypeScript"}}] for each in (at, other))],
-                     "resolutions": [[at, "./a", lost], [at, "./a", other]],
+    second[1]["Esm"]["source"] = {**shapes.NO_TEXT, "comments": {side: [documented("gone"), documented(side)] for side in ("leading", "trailing")}}
+    third = shapes.module(member, [shapes.symbol(1, shapes.definition())], [["s1", 1]])
+    made = shapes.request(shapes.module(at, [], []), first, second, third, aliases=[[called, lost], [called, other]],
+                          workspace_members=[{"name": "@w/w", "base": "file:///w/", "exports": [[".", "./9.ts"], [".", "./0.ts"]]}])
+    made["graph"] = {"modules": [[at, {"Js": {"media_type": "JavaScript"}}],
+                                 *([each, {"Js": {"media_type": "TypeScript"}}] for each in (at, other, called, member))],
+                     "resolutions": [[at, "./a", lost], [at, "./a", called]],
                      "packages": [["@p/p0@1.0.0", [[".", "./9.ts"]]], ["@p/p0@1.0.0", [[".", "./9.ts"], [".", "./0.ts"]]]]}
     made["provider"]["packages"] = [["@p/p0@1.0.0", shapes.HOST + "9/"], ["@p/p0@1.0.0", shapes.HOST + "0/"]]
-    return made, [at, other]
+    made["pending"].append("@w/w@0.0.0")
+    return made, {at: skeleton(), other: skeleton([documented("leading")], [documented("trailing")]), member: skeleton()}
 
 
 ONE = [shapes.url(0)]
-# what a run shows, the shape and its size, and the modules that are answered, or the line of the refusal
+# what a run shows, the shape and its size, and the modules that are answered (with their skeletons where these are not empty), or the line of the refusal
 CASES = [
     ("hostile_ring_of_aliases", shapes.alias_ring(1000), ONE),
     ("hostile_chain_of_aliases", shapes.alias_chain(1000), ONE),
     ("hostile_symbols_that_are_their_own_parents", shapes.own_parents(100), ONE),
     ("hostile_class_among_its_own_members", a_class_among_its_own_members(3), ONE),
     ("hostile_re_exports_of_all_from_itself", shapes.again_from_itself(100), ONE),
-    ("hostile_ring_of_re_exports_of_all", shapes.again_in_a_ring(300), sorted(shapes.url(i) for i in range(300))),
+    ("hostile_ring_of_re_exports_of_all", *a_ring_of_re_exports_of_all(1000)),
     ("hostile_nested_namespaces", shapes.nested_namespaces(1000), ONE),
     ("hostile_path_of_names", shapes.path_of_names(10_000), ONE),
-    ("hostile_long_name", shapes.a_long_name(50), ONE),
-    ("hostile_exports_of_a_symbol", shapes.exports_of_a_symbol(300), ONE),
+    ("hostile_long_name", *a_long_name(100_000)),
+    ("hostile_exports_of_a_symbol", exports_of_a_symbol(3000), ONE),
     ("hostile_members_asked_for", shapes.members_asked_for(50), ONE),
     ("hostile_members_of_one_name", every_name_twice(3), ONE),
     # what leads to another package asks for that package, by its entry points alone
@@ -81,4 +119,5 @@ CASES = [
 def runs():
     """Each run: its name, its request, and the answers, or the word of its refusal."""
     for name, made, answered in CASES:
-        yield name, made, answered if isinstance(answered, str) else [[url, {"Ok": EMPTY}] for url in answered]
+        shown = answered if isinstance(answered, dict) else dict.fromkeys(answered, skeleton())
+        yield name, made, answered if isinstance(answered, str) else [[url, {"Ok": each}] for url, each in shown.items()]

@@ -146,6 +146,14 @@ def named_in(text, here, imports):
                 yield file, there.inside()[name]
 
 
+def is_offered(text, found):
+    """Whether a function is public: it says so, or it is a member of a trait, or of an `impl` of one."""
+    if "pub fn" in found[0]:
+        return True
+    heads = re.findall(r"^(?:pub )?(?:impl|trait)\b[^{]*", text[: found.start()], re.M)
+    return bool(found[1]) and bool(heads) and (" for " in heads[-1] or "trait" in heads[-1].split())
+
+
 def contracts(crate, names):
     """The clauses of public functions, and of the members of public traits and of models, each with what its file brings in."""
     crate, _, module = crate.partition("::")
@@ -153,7 +161,7 @@ def contracts(crate, names):
         text = file.read_text()
         imports = imported(text)
         for found in re.finditer(r"^([ ]*)(?:pub )?(?:const )?fn (\w+)(.*?)(?:^\1\{\}?$|;$|\{$)", text, re.M | re.S):
-            if (names is None or found[2] in names) and ("pub fn" in found[0] or found[1]):
+            if (names is None or found[2] in names) and is_offered(text, found):
                 yield found[3], imports
         if names is None:
             for found in re.finditer(r"^\s+ghost \w+ = \{(.*?)\};?$", text, re.M | re.S):

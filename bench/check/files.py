@@ -10,7 +10,7 @@ import sys
 import tempfile
 
 TOP = os.path.dirname(os.path.dirname(os.path.dirname(os.path.abspath(__file__))))
-COMMANDS = {"transform": "examples/first.json", "build": "examples/build_hello.json"}
+COMMANDS = {"transform": "examples/first.json", "build": "examples/build_hello.json", "pair": "examples/pair.json"}
 UNREADABLE, NOT_JSON = b"error: input refused: unreadable\n", b"error: input refused: not-json\n"
 NO_MEMORY = b"error: out of memory\n"
 REFUSED, USAGE = b"error: output refused\n", b"usage: fast-check (build|transform|pair) FILE\n"

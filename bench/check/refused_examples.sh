@@ -1,5 +1,7 @@
 #!/usr/bin/env bash
-# Refuses each request for memory of the program in turn, on seven examples of both commands (refuse.py says what has to come). Half a minute.
+# Refuses each request for memory of the program in turn, on eight examples of the three commands, and on stored runs of what no example has: a namespace of
+# expando properties, two versions of a class, a fault that the finder tells, and an export text that refuses the build (refuse.py says what has to come).
+# About a minute.
 # usage: bench/check/refused_examples.sh [PROGRAM]      (what the gate or ./fast-check has built, else ./fast-check proves and builds it)
 set -eu
 top=$(cd "$(dirname "$(readlink -f "${BASH_SOURCE[0]}")")/../.." && pwd)
@@ -10,6 +12,9 @@ if [ $# -eq 0 ] && [ ! -x "$built" ]; then
 fi
 program=$(readlink -f "${1:-$built}")
 status=0
-bench/check/refuse.py --ahead "$program" transform examples/{first,functions,classes,modules,namespaces}.json || status=1
-bench/check/refuse.py --ahead "$program" build examples/build_{hello,canvas}.json || status=1
+stored=crates/fast_check_vectors/data
+bench/check/refuse.py --ahead "$program" transform examples/{first,functions,classes,modules,namespaces}.json $stored/an_exported_expando_namespace.json || status=1
+bench/check/refuse.py --ahead "$program" build examples/build_{hello,canvas}.json \
+  $stored/build_an_{entry_point_of_javascript_beside_another,export_that_does_not_join}.json || status=1
+bench/check/refuse.py --ahead "$program" pair examples/pair.json $stored/pair_a_readonly_property.json || status=1
 exit "$status"

@@ -17,8 +17,8 @@ import tempfile
 
 from fork_server import ForkServer, compile_library
 
-CALLS = ("add_new", "add_covering", "path_new", "path_below", "path_covering", "named_new", "named_joined", "extend", "extend_joint", "imported",
-         "imported_star", "handled", "handled_more", "pending", "pending_more")
+CALLS = ("add_new", "add_covering", "path_new", "path_below", "path_covering", "named_new", "named_joined", "extend", "extend_joint", "extend_covering",
+         "imported", "star_default", "imported_star", "handled", "handled_more", "pending", "pending_more")
 KNOWN = ("done", "as before", "out of memory")
 # A star takes the place of names without memory.
 NO_REQUEST = {"imported_star"}

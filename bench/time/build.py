@@ -9,11 +9,13 @@ The program has to be built: run `./fast-check build examples/build_hello.json` 
     modules    one package of all modules
     faults     packages as above, each with a module that has faults
     hidden     packages as above, of whose modules the entry points ask for two names alone, so that two modules are answered beside each entry point
+    names      one package of two modules: a declaration of the one asks by import types for so many names of the other as PACKAGES says
 
 The program lends no cache. With a driver that does (`bench/time/driver.sh builds DRIVER`) it prints the seconds of a build without a cache, of one that fills
 an empty cache, and of one with the filled cache, all without reading and printing.
 
-Usage: bench/time/build.py [SHAPE ..] [PACKAGES ..] [modules=N] [PROGRAM]        (all shapes, 10 100 1000 and three modules a package where nothing is given)
+Usage: bench/time/build.py [SHAPE ..] [PACKAGES ..] [modules=N] [PROGRAM]        (all shapes, 10 100 1000 and three modules a package where nothing is given;
+                                                                                  of `names` 8000 16000 100000)
        bench/time/build.py cached=DRIVER [SHAPE ..] [PACKAGES ..] [modules=N]    (the shape `packages`, and 10 100 1000)
 """
 import json
@@ -26,6 +28,7 @@ sys.dont_write_bytecode = True
 sys.path[:0] = [os.path.join(os.path.dirname(os.path.dirname(os.path.abspath(__file__))), folder) for folder in ("rules", "cases", "check", "time")]
 
 from build_worlds import Module, World
+import shapes as tables
 from function_cases import ONE, const, func, if_
 from module_trees import export, export_all, import_, interface, named_export, named_import, property_signature
 from package_worlds import HOST
@@ -37,7 +40,8 @@ from trees import (
 )
 
 PROGRAM = fast_check()
-SHAPES = ["packages", "modules", "faults", "hidden"]
+SHAPES = ["packages", "modules", "faults", "hidden", "names"]
+SIZES = {"names": [8_000, 16_000, 100_000]}
 
 
 def library(*more):
@@ -90,8 +94,18 @@ def standing_at(module, url):
     return [url, {"Esm": {**parts, "specifier": url, "resolved_exports": [[each, url] for each, _ in parts["resolved_exports"]]}}]
 
 
+def names_of_a_module(count):
+    """A request in which one declaration asks by import types for so many names of another module, which all stand for one symbol of it."""
+    names = [f"id{place}" for place in range(count)]
+    asks = tables.definition(*(tables.import_type(tables.url(1), name) for name in names))
+    return tables.request(tables.module(tables.url(0), [tables.symbol(1, asks)], [["s1", 1]]),
+                          tables.module(tables.url(1), [tables.symbol(1, tables.definition())], [[name, 1] for name in names]))
+
+
 def workspace(shape, packages, size):
     """A request of so many packages of so many modules each, or of one package of as many modules."""
+    if shape == "names":
+        return names_of_a_module(packages)
     count, size = (1, packages * size) if shape == "modules" else (packages, size)
     faults = [func("wrong", [name("a")], returned(ONE)), func("also", [], returned(ONE))] if shape == "faults" else []
     main, first, other = entry(links(shape, size)), library(*faults), library()
@@ -134,7 +148,8 @@ def measure(program, shape, packages, modules):
         seconds = best(3, lambda: subprocess.run([program, "build", file.name], stdout=subprocess.DEVNULL))
         library = best(3, lambda: DUMP(LOAD(open(file.name, "rb").read())))
         shown = sum("Ok" in answer for _, answer in answers)
-        print(f"{shape:9} {packages:8} {packages * modules:8} {shown:9} {size / 1e6:8.2f} {seconds:9.3f} {peak:9.0f} {library:18.3f} "
+        count = 2 if shape == "names" else packages * modules
+        print(f"{shape:9} {packages:8} {count:8} {shown:9} {size / 1e6:8.2f} {seconds:9.3f} {peak:9.0f} {library:18.3f} "
               f"{seconds / library:7.2f}", flush=True)
 
 
@@ -161,7 +176,7 @@ def main(words):
     program = os.path.abspath((others + [PROGRAM])[0])
     print(f"shape     packages  modules  answered    MB in   seconds   MB peak   {NAME} load+dump   ratio")
     for shape in shapes or SHAPES:
-        for packages in sizes or [10, 100, 1000]:
+        for packages in sizes or SIZES.get(shape, [10, 100, 1000]):
             measure(program, shape, packages, (modules + [3])[0])
 
 

@@ -1,5 +1,5 @@
-//! Fast check: what is public in packages, and the skeletons of their modules. A user names this crate alone: it offers all others,
-//! sorted as the modules of deno_graph are. docs/LIBRARY.md says what to call, in which order.
+//! Fast check: what is public in packages, and the skeletons of their modules. A user names this crate alone: it offers all calls but those of
+//! JSON, sorted as the modules of deno_graph are. docs/LIBRARY.md says what to call, in which order.
 #![tactic(auto)]
 
 /// Syntax trees: the plain tree, its forms under swc's names, and the kinds of nodes.

@@ -8,7 +8,7 @@ use Rattle.std.proofs.lemmas.List.{take_more, take_all, length-map}
 use Rattle.std.proofs.lemmas.List.Elements.{Contains-append_left, Contains-push, Contains-push_cases}
 use Rattle.fast_check_names.specs.declared.lattice.demanded.PathEnd.{PathEnd}
 use Rattle.fast_check_names.specs.Names.{Path, path_of}
-use Rattle.fast_check_names.specs.Ends.{IsBeginning, IsToldBy}
+use Rattle.fast_check_names.specs.Ends.{IsBeginning, IsShownBy}
 use Rattle.fast_check_names.specs.Imports.{NameDemand}
 use Rattle.fast_check_demands.specs.symbol_demands.declared.demand.Extent.TheVariants.{Touched}
 use Rattle.fast_check_name_demands.specs.Files.{path_demand}
@@ -96,9 +96,9 @@ begun_all path from count size old new all either gains =
 
 -- with the path itself, all that an end tells
 
-told_end : (path : Path) (from : ℕ) (whole : Bool) (d : NameDemand) →
-    (IsBegun path from (length path) d ⊎ (d ≡ path_demand path (extent_of whole))) ↔ IsOfPath (IsToldBy path from whole) d
-told_end path from whole d = (
+shown_end : (path : Path) (from : ℕ) (whole : Bool) (d : NameDemand) →
+    (IsBegun path from (length path) d ⊎ (d ≡ path_demand path (extent_of whole))) ↔ IsOfPath (IsShownBy path from whole) d
+shown_end path from whole d = (
   λ h. ⊎_elim (λ b. (b.0, b.1, b.2, inl b.3)) (λ is. (path, whole, is, inr (refl, refl))) h,
   λ t. ⊎_elim (λ b. inl (t.0, t.1, t.2, b))
       (λ own. inr (t.2 ∙ (ap (λ (p : Path). path_demand p (extent_of t.1)) own.0 ∙ ap (λ w. path_demand path (extent_of w)) own.1))) t.3,
@@ -112,7 +112,7 @@ end_pushed e size x old mid new long is_x before is =
     let all : size ≡ length path = omega (arith, long, length-map e.names.items string_bytes) in
     gains_pushed (IsBegun path e.from (length path)) (IsOfEnd e) (path_demand path (extent_of e.is_whole)) old mid new
     (subst (λ (k : ℕ). Gains (IsBegun path e.from k) old mid) all before)
-    (is ∙ ap (λ (y : NameDemand). mid ++ y ∷ []) is_x) (told_end path e.from e.is_whole)
+    (is ∙ ap (λ (y : NameDemand). mid ++ y ∷ []) is_x) (shown_end path e.from e.is_whole)
 
 -- the ends, one by one
 
@@ -130,7 +130,7 @@ ends_more ends e d = (
         t.0,
         t.1,
         t.2,
-        subst (λ (x : PathEnd). IsToldBy (path_of x.names.items) x.from x.is_whole t.0 t.1) (sym is) t.3.2,
+        subst (λ (x : PathEnd). IsShownBy (path_of x.names.items) x.from x.is_whole t.0 t.1) (sym is) t.3.2,
       ))
       (Contains-push_cases ends e t.3.0 t.3.1),
 )

@@ -5,7 +5,7 @@ use Rattle.std.specs.List.{Contains}
 use Rattle.fast_check_names.specs.declared.lattice.imported_exports.ImportedExports.{ImportedExports}
 use Rattle.fast_check_names.specs.declared.lattice.demanded.PathEnd.{PathEnd}
 use Rattle.fast_check_names.specs.Names.{Path, path_of}
-use Rattle.fast_check_names.specs.Ends.{IsToldBy, IsTold}
+use Rattle.fast_check_names.specs.Ends.{IsShownBy, IsShown}
 use Rattle.fast_check_names.specs.Imports.{NameDemand, names_but_default, each_name, subset_at, demands}
 use Rattle.fast_check_demands.specs.symbol_demands.declared.demand.Extent.{Extent}
 use Rattle.fast_check_demands.specs.symbol_demands.declared.demand.Extent.TheVariants.{Touched, Whole}
@@ -24,10 +24,10 @@ IsOfPath P d = (p : Path) × (is_whole : Bool) × (d ≡ path_demand p (extent_o
 
 -- the demand is one of those that an end tells, or that some ends tell
 abbrev pub IsOfEnd : PathEnd → NameDemand → Type 0
-IsOfEnd e d = IsOfPath (IsToldBy (path_of e.names.items) e.from e.is_whole) d
+IsOfEnd e d = IsOfPath (IsShownBy (path_of e.names.items) e.from e.is_whole) d
 
 abbrev pub IsOfEnds : List PathEnd → NameDemand → Type 0
-IsOfEnds ends d = IsOfPath (IsTold ends) d
+IsOfEnds ends d = IsOfPath (IsShown ends) d
 
 -- the demand is one of those that are held
 abbrev pub IsOfHeld : HeldDemands → NameDemand → Type 0

@@ -19,9 +19,9 @@ use Rattle.fast_check_names.specs.declared.lattice.node.Below.TheVariants.{All, 
 use Rattle.fast_check_names.specs.Order.{Entry, IsOnce, found}
 use Rattle.fast_check_names.specs.Graph.{Graph, NameSet, Path, IsAfter, listings, entry, reach, below_node}
 use Rattle.fast_check_names.specs.Names.{Name, nothing, path_of, has_whole}
-use Rattle.fast_check_names.specs.Ends.{is_demanded, IsBeginning, IsToldBy, AreEnds}
-use Rattle.fast_check_names.specs.Told.{TellsMore, IsBelowPath, IsOfBelow, IsOfNames}
-use Rattle.fast_check_names.proofs.Walks.{name_tells}
+use Rattle.fast_check_names.specs.Ends.{is_demanded, IsBeginning, IsShownBy, AreEnds}
+use Rattle.fast_check_names.specs.Shown.{ShowsLonger, IsBelowPath, IsOfBelow, IsOfNames}
+use Rattle.fast_check_names.proofs.Walks.{name_shows}
 use Rattle.fast_check_names.proofs.Lists.{found_read}
 
 -- the measure of the walk
@@ -69,37 +69,37 @@ on_ok_more (Err e) f p = tt
 abbrev pub Ends : Type 0
 Ends = List PathEnd
 
-abbrev pub Told : Type 1
-Told = Path → Bool → Type 0
+abbrev pub Shown : Type 1
+Shown = Path → Bool → Type 0
 
-abbrev pub told_of : PathEnd → Told
-told_of e p w = IsToldBy (path_of e.names.items) e.from e.is_whole p w
+abbrev pub shown_of : PathEnd → Shown
+shown_of e p w = IsShownBy (path_of e.names.items) e.from e.is_whole p w
 
-pub tells_one : (old : Ends) (e : PathEnd) → TellsMore (told_of e) old (old ++ e ∷ [])
-tells_one old e p w = (
+pub shows_one : (old : Ends) (e : PathEnd) → ShowsLonger (shown_of e) old (old ++ e ∷ [])
+shows_one old e p w = (
   λ h. ⊎_elim (λ was. inl (h.0, was, h.2))
-      (λ is. inr (subst (λ (x : PathEnd). told_of x p w) (sym is) h.2)) (Contains-push_cases old e h.0 h.1),
-  λ h. ⊎_elim (λ was. (was.0, Contains-append_left old (e ∷ []) was.0 was.1, was.2)) (λ tells. (e, Contains-push old e, tells)) h,
+      (λ is. inr (subst (λ (x : PathEnd). shown_of x p w) (sym is) h.2)) (Contains-push_cases old e h.0 h.1),
+  λ h. ⊎_elim (λ was. (was.0, Contains-append_left old (e ∷ []) was.0 was.1, was.2)) (λ shows. (e, Contains-push old e, shows)) h,
 )
 
-pub tells_pushed : (old new : Ends) (e : PathEnd) (path : Path) (from : ℕ) (whole : Bool) → new ≡ old ++ e ∷ [] →
-    path_of e.names.items ≡ path → e.from ≡ from → e.is_whole ≡ whole → TellsMore (IsToldBy path from whole) old new
-tells_pushed old new e path from whole is names at extent =
-    subst (λ (l : Ends). TellsMore (IsToldBy path from whole) old l) (sym is)
-    (subst (λ (p : Path). TellsMore (IsToldBy p from whole) old (old ++ e ∷ [])) names
-    (subst (λ (k : ℕ). TellsMore (IsToldBy (path_of e.names.items) k whole) old (old ++ e ∷ [])) at
-    (subst (λ (b : Bool). TellsMore (IsToldBy (path_of e.names.items) e.from b) old (old ++ e ∷ [])) extent (tells_one old e))))
+pub shows_pushed : (old new : Ends) (e : PathEnd) (path : Path) (from : ℕ) (whole : Bool) → new ≡ old ++ e ∷ [] →
+    path_of e.names.items ≡ path → e.from ≡ from → e.is_whole ≡ whole → ShowsLonger (IsShownBy path from whole) old new
+shows_pushed old new e path from whole is names at extent =
+    subst (λ (l : Ends). ShowsLonger (IsShownBy path from whole) old l) (sym is)
+    (subst (λ (p : Path). ShowsLonger (IsShownBy p from whole) old (old ++ e ∷ [])) names
+    (subst (λ (k : ℕ). ShowsLonger (IsShownBy (path_of e.names.items) k whole) old (old ++ e ∷ [])) at
+    (subst (λ (b : Bool). ShowsLonger (IsShownBy (path_of e.names.items) e.from b) old (old ++ e ∷ [])) extent (shows_one old e))))
 
-pub tells_both : (P Q : Told) (old mid new : Ends) → TellsMore P old mid → TellsMore Q mid new →
-    TellsMore (λ p w. P p w ⊎ Q p w) old new
-tells_both P Q old mid new f g p w = (
+pub shows_both : (P Q : Shown) (old mid new : Ends) → ShowsLonger P old mid → ShowsLonger Q mid new →
+    ShowsLonger (λ p w. P p w ⊎ Q p w) old new
+shows_both P Q old mid new f g p w = (
   λ h. ⊎_elim (λ was. ⊎_elim (λ first. inl first) (λ x. inr (inl x)) ((f p w).0 was)) (λ x. inr (inr x)) ((g p w).0 h),
   λ h. ⊎_elim (λ was. (g p w).1 (inl ((f p w).1 (inl was))))
       (λ more. ⊎_elim (λ x. (g p w).1 (inl ((f p w).1 (inr x)))) (λ x. (g p w).1 (inr x)) more) h,
 )
 
-pub tells_as : (P Q : Told) (old new : Ends) → ((p : Path) (w : Bool) → P p w ↔ Q p w) → TellsMore P old new → TellsMore Q old new
-tells_as P Q old new e f p w = (
+pub shows_as : (P Q : Shown) (old new : Ends) → ((p : Path) (w : Bool) → P p w ↔ Q p w) → ShowsLonger P old new → ShowsLonger Q old new
+shows_as P Q old new e f p w = (
   λ h. ⊎_elim (λ was. inl was) (λ x. inr ((e p w).0 x)) ((f p w).0 h),
   λ h. (f p w).1 (⊎_elim (λ was. inl was) (λ x. inr ((e p w).1 x)) h),
 )
@@ -152,32 +152,32 @@ end_of_bare g j none (n ∷ q) w =
     (λ h. absurd (false≢true (sym (longer_none g j none n q w) ∙ h)), λ h. absurd (let e = h.0 in cc))
 
 of_end : (f : NameSet) (whole : Bool) → IsEnd f whole → (path : Path) (from : ℕ) (p : Path) (w : Bool) →
-    IsToldBy path from whole p w ↔ IsOfBelow path from f p w
+    IsShownBy path from whole p w ↔ IsOfBelow path from f p w
 of_end f whole end path from p w = (
   λ h. ⊎_elim (λ b. inl b) (λ own. inr ([], own.0 ∙ sym (append-nil path), (end [] w).1 (refl, own.1))) h,
   λ h. ⊎_elim (λ b. inl b)
       (λ own. let e = (end own.0 w).0 own.2 in inr (own.1 ∙ (ap (λ (q : Path). path ++ q) e.0 ∙ append-nil path), e.1)) h,
 )
 
-pub tells_all : (g : Graph) (b : Below) (path : Path) (from : ℕ) (old new : Ends) → b ≡ All → TellsMore (IsToldBy path from true) old new →
-    TellsMore (IsOfBelow path from (reach g (Some b))) old new
-tells_all g b path from old new is told =
-    subst (λ (x : Below). TellsMore (IsOfBelow path from (reach g (Some x))) old new) (sym is)
-    (tells_as (IsToldBy path from true) (IsOfBelow path from (reach g (Some All))) old new
-    (of_end (reach g (Some All)) true (end_of_all g) path from) told)
+pub shows_all : (g : Graph) (b : Below) (path : Path) (from : ℕ) (old new : Ends) → b ≡ All → ShowsLonger (IsShownBy path from true) old new →
+    ShowsLonger (IsOfBelow path from (reach g (Some b))) old new
+shows_all g b path from old new is shown =
+    subst (λ (x : Below). ShowsLonger (IsOfBelow path from (reach g (Some x))) old new) (sym is)
+    (shows_as (IsShownBy path from true) (IsOfBelow path from (reach g (Some All))) old new
+    (of_end (reach g (Some All)) true (end_of_all g) path from) shown)
 
 none_listed : (es : List Entry) → length es ≡ 0 → (n : Name) → found es n ≡ None
 none_listed [] h n = refl
 none_listed (e ∷ es) h n = absurd (omega (arith, h))
 
-pub tells_bare : (nodes : List Node) (b : Below) (j : NodeNo) (path : Path) (from : ℕ) (old new : Ends) → b ≡ Subset j →
-    length (get_or (listings nodes) j.0 []) ≡ 0 → TellsMore (IsToldBy path from false) old new →
-    TellsMore (IsOfBelow path from (reach (entry nodes) (Some b))) old new
-tells_bare nodes b j path from old new is bare told =
+pub shows_bare : (nodes : List Node) (b : Below) (j : NodeNo) (path : Path) (from : ℕ) (old new : Ends) → b ≡ Subset j →
+    length (get_or (listings nodes) j.0 []) ≡ 0 → ShowsLonger (IsShownBy path from false) old new →
+    ShowsLonger (IsOfBelow path from (reach (entry nodes) (Some b))) old new
+shows_bare nodes b j path from old new is bare shown =
     let g = entry nodes in
-    subst (λ (x : Below). TellsMore (IsOfBelow path from (reach g (Some x))) old new) (sym is)
-    (tells_as (IsToldBy path from false) (IsOfBelow path from (reach g (Some (Subset j)))) old new
-    (of_end (reach g (Some (Subset j))) false (end_of_bare g j (none_listed (get_or (listings nodes) j.0 []) bare)) path from) told)
+    subst (λ (x : Below). ShowsLonger (IsOfBelow path from (reach g (Some x))) old new) (sym is)
+    (shows_as (IsShownBy path from false) (IsOfBelow path from (reach g (Some (Subset j)))) old new
+    (of_end (reach g (Some (Subset j))) false (end_of_bare g j (none_listed (get_or (listings nodes) j.0 []) bare)) path from) shown)
 
 -- where a node has names, its path is told as a beginning of theirs
 
@@ -216,13 +216,13 @@ names_below g j path from fits p w = (λ h. ⊎_elim to_begin to_below h, λ h. 
     )
     from_below (n ∷ q, is, has) = inr (n ∷ q, is, demanded_name g j.0 n q w ∙ (sym (demanded_under g j n q w) ∙ has))
 
-pub tells_named : (g : Graph) (b : Below) (j : NodeNo) (path : Path) (from : ℕ) (old new : Ends) → b ≡ Subset j → from ≤ length path →
-    TellsMore (IsOfNames path from (below_node g j.0)) old new →
-    TellsMore (IsOfBelow path from (reach g (Some b))) old new
-tells_named g b j path from old new is fits told =
-    subst (λ (x : Below). TellsMore (IsOfBelow path from (reach g (Some x))) old new) (sym is)
-    (tells_as (IsOfNames path from (below_node g j.0)) (IsOfBelow path from (reach g (Some (Subset j)))) old new
-    (names_below g j path from fits) told)
+pub shows_named : (g : Graph) (b : Below) (j : NodeNo) (path : Path) (from : ℕ) (old new : Ends) → b ≡ Subset j → from ≤ length path →
+    ShowsLonger (IsOfNames path from (below_node g j.0)) old new →
+    ShowsLonger (IsOfBelow path from (reach g (Some b))) old new
+shows_named g b j path from old new is fits shown =
+    subst (λ (x : Below). ShowsLonger (IsOfBelow path from (reach g (Some x))) old new) (sym is)
+    (shows_as (IsOfNames path from (below_node g j.0)) (IsOfBelow path from (reach g (Some (Subset j)))) old new
+    (names_below g j path from fits) shown)
 
 -- the walk over the names of a node
 
@@ -230,16 +230,16 @@ abbrev pub under : Path → Entry → Path
 under path e = path ++ string_bytes e.0 ∷ []
 
 -- it is below one of these names
-abbrev pub IsOfEach : Path → Graph → List Entry → Told
+abbrev pub IsOfEach : Path → Graph → List Entry → Shown
 IsOfEach path g es p w = (e : Entry) × Contains es e × IsBelowPath (under path e) (reach g (Some e.1)) p w
 
-abbrev pub IsWalked : Path → ℕ → ℕ → Graph → List Entry → Told
-IsWalked path from told g es p w = IsBeginning path from told p w ⊎ IsOfEach path g es p w
+abbrev pub IsWalked : Path → ℕ → ℕ → Graph → List Entry → Shown
+IsWalked path from shown g es p w = IsBeginning path from shown p w ⊎ IsOfEach path g es p w
 
 no_entry : (x : Entry) → Contains [] x → ⊥
 no_entry x (k, below, is) = omega (arith, below)
 
-pub walked_none : (path : Path) (from : ℕ) (g : Graph) (old : Ends) → TellsMore (IsWalked path from from g []) old old
+pub walked_none : (path : Path) (from : ℕ) (g : Graph) (old : Ends) → ShowsLonger (IsWalked path from from g []) old old
 walked_none path from g old p w = (
   λ h. inl h,
   λ h. ⊎_elim (λ was. was)
@@ -247,11 +247,11 @@ walked_none path from g old p w = (
       (λ each. absurd (no_entry each.0 each.1)) none) h,
 )
 
-walked_step : (path : Path) (from told : ℕ) (g : Graph) (es : List Entry) (e : Entry) → from ≤ told → told ≤ length path + 1 →
+walked_step : (path : Path) (from shown : ℕ) (g : Graph) (es : List Entry) (e : Entry) → from ≤ shown → shown ≤ length path + 1 →
     (p : Path) (w : Bool) →
-    (IsWalked path from told g es p w ⊎ IsOfBelow (under path e) told (reach g (Some e.1)) p w) ↔
+    (IsWalked path from shown g es p w ⊎ IsOfBelow (under path e) shown (reach g (Some e.1)) p w) ↔
     IsWalked path from (length path + 1) g (es ++ e ∷ []) p w
-walked_step path from told g es e low high p w = (
+walked_step path from shown g es e low high p w = (
   λ h. ⊎_elim (λ before. ⊎_elim begun each before) (λ here. ⊎_elim beginning below here) h,
   λ h. ⊎_elim back (λ each. of_each each) h,
 )
@@ -259,13 +259,13 @@ walked_step path from told g es e low high p w = (
     long : length (under path e) ≡ length path + 1
     long = length-append path (string_bytes e.0 ∷ [])
 
-    begun : IsBeginning path from told p w → IsWalked path from (length path + 1) g (es ++ e ∷ []) p w
+    begun : IsBeginning path from shown p w → IsWalked path from (length path + 1) g (es ++ e ∷ []) p w
     begun (k, l, h, is, extent) = inl (k, l, (let u = h in omega (arith, u, high)), is, extent)
 
     each : IsOfEach path g es p w → IsWalked path from (length path + 1) g (es ++ e ∷ []) p w
     each (x, among, at) = inr (x, Contains-append_left es (e ∷ []) x among, at)
 
-    beginning : IsBeginning (under path e) told (length (under path e)) p w →
+    beginning : IsBeginning (under path e) shown (length (under path e)) p w →
         IsWalked path from (length path + 1) g (es ++ e ∷ []) p w
     beginning (k, l, h, is, extent) =
         let d = l in let u = h in
@@ -281,40 +281,40 @@ walked_step path from told g es e low high p w = (
     below at = inr (e, Contains-push es e, at)
 
     back : IsBeginning path from (length path + 1) p w →
-        IsWalked path from told g es p w ⊎ IsOfBelow (under path e) told (reach g (Some e.1)) p w
+        IsWalked path from shown g es p w ⊎ IsOfBelow (under path e) shown (reach g (Some e.1)) p w
     back (k, l, h, is, extent) =
         let u = h in
-        ⊎_elim (λ (t : k < told). inl (inl (k, l, t, is, extent)))
-        (λ (t : told ≤ k). inr (inl (
+        ⊎_elim (λ (t : k < shown). inl (inl (k, l, t, is, extent)))
+        (λ (t : shown ≤ k). inr (inl (
           k,
           t,
           omega (arith, u, long),
           is ∙ sym (take-append-le k path (string_bytes e.0 ∷ []) (omega (arith, u))),
           extent,
         )))
-        (cases_lt k told)
+        (cases_lt k shown)
 
     of_each : IsOfEach path g (es ++ e ∷ []) p w →
-        IsWalked path from told g es p w ⊎ IsOfBelow (under path e) told (reach g (Some e.1)) p w
+        IsWalked path from shown g es p w ⊎ IsOfBelow (under path e) shown (reach g (Some e.1)) p w
     of_each (x, among, at) = ⊎_elim
         (λ was. inl (inr (x, was, at)))
         (λ is. inr (inr (subst (λ (y : Entry). IsBelowPath (under path y) (reach g (Some y.1)) p w) (sym is) at)))
         (Contains-push_cases es e x among)
 
-pub walked_more : (path here : Path) (from told next : ℕ) (g : Graph) (es : List Entry) (i : ℕ) (e : Entry) (old mid new : Ends) →
-    i < length es → e ≡ get_or es i e → here ≡ under path e → from ≤ told → told ≤ length path + 1 → next ≡ length path + 1 →
-    TellsMore (IsWalked path from told g (take i es)) old mid → TellsMore (IsOfBelow here told (reach g (Some e.1))) mid new →
-    TellsMore (IsWalked path from next g (take (i + 1) es)) old new
-walked_more path here from told next g es i e old mid new within is at low high next_is before now =
+pub walked_more : (path here : Path) (from shown next : ℕ) (g : Graph) (es : List Entry) (i : ℕ) (e : Entry) (old mid new : Ends) →
+    i < length es → e ≡ get_or es i e → here ≡ under path e → from ≤ shown → shown ≤ length path + 1 → next ≡ length path + 1 →
+    ShowsLonger (IsWalked path from shown g (take i es)) old mid → ShowsLonger (IsOfBelow here shown (reach g (Some e.1))) mid new →
+    ShowsLonger (IsWalked path from next g (take (i + 1) es)) old new
+walked_more path here from shown next g es i e old mid new within is at low high next_is before now =
     let more : take (i + 1) es ≡ take i es ++ e ∷ [] =
     take_more es i e within ∙ ap (λ (x : Entry). take i es ++ x ∷ []) (sym is) in
-    subst (λ (l : List Entry). TellsMore (IsWalked path from next g l) old new) (sym more)
-    (subst (λ (k : ℕ). TellsMore (IsWalked path from k g (take i es ++ e ∷ [])) old new) (sym next_is)
-    (tells_as (λ p w. IsWalked path from told g (take i es) p w ⊎ IsOfBelow (under path e) told (reach g (Some e.1)) p w)
+    subst (λ (l : List Entry). ShowsLonger (IsWalked path from next g l) old new) (sym more)
+    (subst (λ (k : ℕ). ShowsLonger (IsWalked path from k g (take i es ++ e ∷ [])) old new) (sym next_is)
+    (shows_as (λ p w. IsWalked path from shown g (take i es) p w ⊎ IsOfBelow (under path e) shown (reach g (Some e.1)) p w)
     (IsWalked path from (length path + 1) g (take i es ++ e ∷ [])) old new
-    (walked_step path from told g (take i es) e low high)
-    (tells_both (IsWalked path from told g (take i es)) (IsOfBelow (under path e) told (reach g (Some e.1))) old mid new before
-    (subst (λ (p : Path). TellsMore (IsOfBelow p told (reach g (Some e.1))) mid new) at now))))
+    (walked_step path from shown g (take i es) e low high)
+    (shows_both (IsWalked path from shown g (take i es)) (IsOfBelow (under path e) shown (reach g (Some e.1))) old mid new before
+    (subst (λ (p : Path). ShowsLonger (IsOfBelow p shown (reach g (Some e.1))) mid new) at now))))
 
 -- at the end
 
@@ -335,7 +335,7 @@ entry_found (e ∷ es) n b h = ⊎_elim
     let k = later.1.0 in
     let l = later.1.1 in
     (later.0, (suc k, omega (arith, l), later.1.2), later.2, later.3))
-    (name_tells (string_bytes e.0) n)
+    (name_shows (string_bytes e.0) n)
 
 each_named : (g : Graph) (at : ℕ) (es : List Entry) (path : Path) → IsOnce es → ((n : Name) → g at n ≡ found es n) → (p : Path) (w : Bool) →
     IsOfEach path g es p w ↔ IsBelowPath path (below_node g at) p w
@@ -368,21 +368,21 @@ each_named g at es path once lists p w = (to_named, from_named)
     from_named ([], is, has) = absurd (false≢true (sym (demanded_nil g at w) ∙ has))
     from_named (n ∷ q, is, has) = by_look_up n q (g at n) (sym (lists n)) is (sym (demanded_name g at n q w) ∙ has)
 
-pub walked_all : (nodes : List Node) (at : ℕ) (path : Path) (from told : ℕ) (i : ℕ) (old new : Ends) →
-    IsOnce (get_or (listings nodes) at []) → length (get_or (listings nodes) at []) ≤ i → told ≡ length path + 1 →
-    TellsMore (IsWalked path from told (entry nodes) (take i (get_or (listings nodes) at []))) old new →
-    TellsMore (IsOfNames path from (below_node (entry nodes) at)) old new
-walked_all nodes at path from told i old new once all told_is walked =
+pub walked_all : (nodes : List Node) (at : ℕ) (path : Path) (from shown : ℕ) (i : ℕ) (old new : Ends) →
+    IsOnce (get_or (listings nodes) at []) → length (get_or (listings nodes) at []) ≤ i → shown ≡ length path + 1 →
+    ShowsLonger (IsWalked path from shown (entry nodes) (take i (get_or (listings nodes) at []))) old new →
+    ShowsLonger (IsOfNames path from (below_node (entry nodes) at)) old new
+walked_all nodes at path from shown i old new once all shown_is walked =
     let es = get_or (listings nodes) at [] in
     let g = entry nodes in
-    let whole : TellsMore (IsWalked path from told g es) old new =
-    subst (λ (l : List Entry). TellsMore (IsWalked path from told g l) old new) (take_all i es all) walked in
-    tells_as (IsWalked path from (length path + 1) g es) (IsOfNames path from (below_node g at)) old new
+    let whole : ShowsLonger (IsWalked path from shown g es) old new =
+    subst (λ (l : List Entry). ShowsLonger (IsWalked path from shown g l) old new) (take_all i es all) walked in
+    shows_as (IsWalked path from (length path + 1) g es) (IsOfNames path from (below_node g at)) old new
     (λ p w. (
       λ h. ⊎_elim (λ b. inl b) (λ e. inr ((each_named g at es path once (λ n. refl) p w).0 e)) h,
       λ h. ⊎_elim (λ b. inl b) (λ e. inr ((each_named g at es path once (λ n. refl) p w).1 e)) h,
     ))
-    (subst (λ (k : ℕ). TellsMore (IsWalked path from k g es) old new) told_is whole)
+    (subst (λ (k : ℕ). ShowsLonger (IsWalked path from k g es) old new) shown_is whole)
 
 -- the whole set
 
@@ -401,12 +401,12 @@ ends_of_none nodes ends bare none = subst (λ (l : Ends). AreEnds (below_node (e
         demanded_none (entry nodes) q w)
 
 pub ends_of_names : (g : Graph) (old ends : Ends) (path : Path) → old ≡ [] → path ≡ [] →
-    TellsMore (IsOfNames path 1 (below_node g 0)) old ends → AreEnds (below_node g 0) ends
-ends_of_names g old ends path none start told =
-    let from_none : TellsMore (IsOfNames path 1 (below_node g 0)) [] ends =
-    subst (λ (l : Ends). TellsMore (IsOfNames path 1 (below_node g 0)) l ends) none told in
-    let more : TellsMore (IsOfNames [] 1 (below_node g 0)) [] ends =
-    subst (λ (q : Path). TellsMore (IsOfNames q 1 (below_node g 0)) [] ends) start from_none in
+    ShowsLonger (IsOfNames path 1 (below_node g 0)) old ends → AreEnds (below_node g 0) ends
+ends_of_names g old ends path none start shown =
+    let from_none : ShowsLonger (IsOfNames path 1 (below_node g 0)) [] ends =
+    subst (λ (l : Ends). ShowsLonger (IsOfNames path 1 (below_node g 0)) l ends) none shown in
+    let more : ShowsLonger (IsOfNames [] 1 (below_node g 0)) [] ends =
+    subst (λ (q : Path). ShowsLonger (IsOfNames q 1 (below_node g 0)) [] ends) start from_none in
     λ p w. (
       λ h. ⊎_elim (λ was. let below = was.1.1 in absurd (omega (arith, below)))
           (λ own. ⊎_elim (λ b. let low = b.1 in let high = b.2 in absurd (omega (arith, low, high)))

@@ -1,7 +1,7 @@
 -- What a set gains at one node.
 use Rattle.std.proofs.Common.{◌≡◌, ◌∙◌, sym, ap, refl, subst, ⊎_elim, ℕ, suc, ◌<◌, ◌≤◌, Bool, true, false, ◌&&◌, ◌||◌, cond, List, []}
 use Rattle.std.proofs.Common.{◌∷◌, ◌++◌, Option, Some, None, arith, length, get_or, string_bytes, append_assoc}
-use Rattle.std.specs.Option.{is_some, IfSome}
+use Rattle.std.specs.Option.{is_some}
 use Rattle.std.specs.Prelude.{Vec, vec_len}
 use Rattle.std.specs.declared.alloc.Global.{Global}
 use Rattle.std.specs.Str.{bytes_eq}
@@ -9,22 +9,23 @@ use Rattle.std.proofs.lemmas.Bool.{false≢true, or_right, cases_lt}
 use Rattle.std.proofs.lemmas.List.{append-nil, get_or_append_left, get_or_default}
 use Rattle.fast_check_names.specs.declared.lattice.node.Node.{Node}
 use Rattle.fast_check_names.specs.declared.lattice.node.NodeNo.{NodeNo}
-use Rattle.fast_check_names.specs.declared.lattice.node.Below.TheVariants.{Subset}
+use Rattle.fast_check_names.specs.declared.lattice.node.Below.TheVariants.{All, Subset}
 use Rattle.fast_check_names.specs.declared.lattice.named_subset.NamedSubset.{NamedSubset}
 use Rattle.fast_check_names.specs.Tree.{IsTree-prop}
 use Rattle.fast_check_names.specs.Order.{Name, Entry, found, name_at, IsOnce}
 use Rattle.fast_check_names.specs.Graph.{Graph, Part, Touched, Path, NameSet, entry, reach, below_node, rooted, subset_of, IsTree, AreApart}
 use Rattle.fast_check_names.specs.Graph.{LacksNames, HasRoom, either_of}
-use Rattle.fast_check_names.specs.Names.{IsAdded, IsJoint, IsJoin, IsNameSet, IsLeastDifference, IsSame, nothing}
-use Rattle.fast_check_names.proofs.Walks.{name_tells, descends, or_false}
+use Rattle.fast_check_names.specs.Names.{whole_below, IsAdded, IsJoin, IsNameSet, IsLeastDifference, IsSame, nothing}
+use Rattle.fast_check_names.specs.Gains.{IsJoint}
+use Rattle.fast_check_names.proofs.Walks.{name_shows, descends, or_false}
 use Rattle.fast_check_names.proofs.Places.{some_entry, found_first, found_none, once_before, once_push}
-use Rattle.fast_check_names.proofs.Puts.{none_is}
+use Rattle.fast_check_names.proofs.Puts.{all_is, none_is}
 use Rattle.fast_check_names.proofs.Alike.{touched_some}
 use Rattle.fast_check_names.proofs.Copies.{subset_reach, past_nothing}
 
 pub itself : (n : Name) → bytes_eq n n ≡ true
 itself n = ⊎_elim (λ (t : (bytes_eq n n ≡ true) × (n ≡ n)). t.0) (λ (t : (bytes_eq n n ≡ false) × (n ≡ n → ⊥)). absurd (t.1 refl))
-    (name_tells n n)
+    (name_shows n n)
 
 -- a name that stands at a place is found
 pub no_place : (es : List Entry) → IsOnce es → (n : Name) (i : ℕ) → i < length es → name_at es i ≡ n → found es n ≡ None → ⊥
@@ -69,7 +70,7 @@ once_append es (f ∷ fs) e_once f_once apart =
         (λ (t : (bytes_eq (string_bytes f.0) n ≡ true) × (string_bytes f.0 ≡ n)).
         absurd (false≢true (sym (ap is_some (subst (λ (m : Name). found fs m ≡ None) t.1 (behind_first f fs f_once))) ∙ some)))
         (λ (t : (bytes_eq (string_bytes f.0) n ≡ false) × (string_bytes f.0 ≡ n → ⊥)). t.0)
-        (name_tells (string_bytes f.0) n) in
+        (name_shows (string_bytes f.0) n) in
         found_append es (f ∷ []) n ∙
         (ap (λ o. either_of o (cond (bytes_eq (string_bytes f.0) n) (Some f.1) None))
         (apart n (ap is_some (ap (λ b. cond b (Some f.1) (found fs n)) other) ∙ some)) ∙
@@ -95,14 +96,39 @@ module _ (g : Graph) (size at : ℕ) (h : Graph) (other : ℕ) (name : Name) (no
       (x ∷ q) ≡ (bytes_eq name x && subset_of (below_node h next.0) part q)
   named_alone part x q = ap (λ o. reach h o part q) (alone x) ∙ below_alone (bytes_eq name x) part q
 
-  pub joint_down : (r : ℕ × ℕ) → IsJoint g size no.0 h next.0 r → IsJoint g size at h other r
-  joint_down r is = record {
-    within = is.within;
-    apart = is.apart;
-    enough = λ w added part n q. is.enough w added part n q ∙
+  pub joint_down : IsJoint g size at h other (no.0, next.0)
+  joint_down = record {
+    within = (tree.later at name no link).1;
+    enough = λ w added part n q. added part n q ∙
         descends g size tree at name no link (subset_of (below_node h next.0)) (subset_of (below_node h other)) (λ part. refl) named_alone 0
         (λ e. let l = tree.later at name no link in omega (arith, l.0, e)) n part q;
   }
+
+-- a step after others
+pub joint_further : (g : Graph) (size at : ℕ) (h : Graph) (other : ℕ) (r p : ℕ × ℕ) → IsJoint g size at h other r →
+    IsJoint g size r.0 h r.1 p → IsJoint g size at h other p
+joint_further g size at h other r p first next = record {
+  within = next.within;
+  enough = λ w added. first.enough w (next.enough w added);
+}
+
+-- what one name covers alone, is all that the other set lists
+pub covered_joint : (g h w : Graph) (at other : ℕ) (name : Name) → ((n : Name) → h other n ≡ cond (bytes_eq name n) (Some All) None) →
+    IsAdded g at (whole_below (name ∷ [])) w → IsAdded g at (subset_of (below_node h other)) w
+covered_joint g h w at other name alone added = subst (λ (f : NameSet). IsAdded g at f w) (λ i part q. same part q i) added
+  where
+    whole_here : (b : Bool) (part : Part) (q : Path) → b ≡ reach h (cond b (Some All) None) part q
+    whole_here true part q = sym (all_is h part q)
+    whole_here false part q = sym (none_is h part q)
+
+    at_once : (b : Bool) → (b && true) ≡ b
+    at_once true = refl
+    at_once false = refl
+
+    same : (part : Part) (q : Path) → whole_below (name ∷ []) part q ≡ subset_of (below_node h other) part q
+    same part [] = refl
+    same part (n ∷ q) = at_once (bytes_eq name n) ∙
+        (whole_here (bytes_eq name n) part q ∙ ap (λ o. reach h o part q) (sym (alone n)))
 
 -- the whole set is gained at the root
 pub root_gains : (g h w : Graph) → IsAdded g 0 (subset_of (below_node h 0)) w → IsJoin (rooted g) (rooted h) (rooted w)
@@ -146,14 +172,9 @@ pub some_room : {X : Type 0} (items : Vec X Global) (more : ℕ) (room : Option 
 some_room items more None h = omega (arith, h)
 some_room items more (Some v) h = (h.0, omega (arith, h.1))
 
-pub if_some_from : {T : Type 0} {P Q : T → Type 0} (o : Option T) → ((x : T) → P x → Q x) → IfSome o P → IfSome o Q
-if_some_from None f p = tt
-if_some_from (Some x) f p = f x p
-
--- what one node gains of another set, is gained by the whole
-pub joint_here : (g : Graph) (size at : ℕ) (h : Graph) (other : ℕ) → at < size → LacksNames (g at) (h other) →
-    IsJoint g size at h other (at, other)
-joint_here g size at h other within apart = record { within = within; apart = apart; enough = λ w added. added }
+-- at the root nothing is to be shown
+pub joint_here : (g : Graph) (size at : ℕ) (h : Graph) (other : ℕ) → at < size → IsJoint g size at h other (at, other)
+joint_here g size at h other within = record { within = within; enough = λ w added. added }
 
 -- a copy has the names of what it is a copy of
 pub names_lacked : (g h s : Graph) (at other : ℕ) → LacksNames (g at) (h other) → IsSame (rooted s) (below_node h other) →

@@ -17,7 +17,7 @@ use Rattle.fast_check_names.proofs.Lists.{entry_front, entry_behind}
 use Rattle.fast_check_names.proofs.Places.{agrees}
 use Rattle.fast_check_names.proofs.Puts.{none_is}
 use Rattle.fast_check_names.proofs.Copies.{past_none}
-use Rattle.fast_check_names.proofs.Walks.{name_tells}
+use Rattle.fast_check_names.proofs.Walks.{name_shows}
 
 -- one name of the path, where what it has below it is known
 first_line : (g : Graph) (n : Name) (p : Path) (base : ℕ) → ((k : ℕ) (m : Name) → g (base + k) m ≡ line_from (n ∷ p) base k m) →
@@ -69,7 +69,7 @@ line_says (m ∷ x ∷ p) base zero n j h = ⊎_elim
     (omega (arith, is), omega arith, t.1))
     (λ (f : (bytes_eq m n ≡ false) × (m ≡ n → ⊥)).
     let e : None ≡ Some (Subset j) = sym (ap (λ b. cond b (Some (Subset (record { 0 = suc base }))) None) f.0) ∙ h in cc)
-    (name_tells m n)
+    (name_shows m n)
   where
     number : (a b : NodeNo) → Some (Subset a) ≡ Some (Subset b) → b.0 ≡ a.0
     number a b e = let same : a ≡ b = cc in ap (λ (x : NodeNo). x.0) (sym same)

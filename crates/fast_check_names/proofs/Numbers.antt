@@ -6,15 +6,15 @@ use Rattle.std.specs.Str.{bytes_eq}
 use Rattle.std.specs.Option.{is_some}
 use Rattle.std.proofs.lemmas.Bool.{false≢true, cases_Bool, cases_lt, cases_eq, cond_both, or_left, or_right, or_from}
 use Rattle.std.proofs.lemmas.Bool.{eq-eqb, ne_eqb, eqb-true}
-use Rattle.std.proofs.lemmas.List.{get_or-map, get_or-set_same, get_or-set_other, get_or_past, get_or-take, take-map, take_more}
+use Rattle.std.proofs.lemmas.List.{get_or-map, get_or-set_same, get_or-set_other, get_or_past, get_or-take, take-map, take_more, take_all}
 use Rattle.fast_check_names.specs.declared.lattice.node.Node.{Node}
 use Rattle.fast_check_names.specs.declared.lattice.node.NodeNo.{NodeNo}
 use Rattle.fast_check_names.specs.declared.lattice.node.Below.{Below}
 use Rattle.fast_check_names.specs.declared.lattice.node.Below.TheVariants.{All, Subset}
 use Rattle.fast_check_names.specs.Order.{Name, Entry, found, IsOnce, IsAbsentBefore}
 use Rattle.fast_check_names.specs.Graph.{Graph, IsTree, listings}
-use Rattle.fast_check_names.specs.Numbers.{stays, number, number_or_zero, rank, is_node, lists_node, AreGone, AreRanks, AreMovedDown}
-use Rattle.fast_check_names.proofs.Walks.{name_tells}
+use Rattle.fast_check_names.specs.Numbers.{stays, number, number_or_zero, rank, is_node, lists_node, IsWithout, AreGone, AreRanks, AreMovedDown}
+use Rattle.fast_check_names.proofs.Walks.{name_shows}
 use Rattle.fast_check_names.proofs.Places.{found_none}
 use Rattle.fast_check_names.proofs.Extends.{itself}
 
@@ -101,6 +101,10 @@ gone_more es i e old now new within is before more k =
     (sym (one_by_one (is_node e.1 k) (lists_node (take i es) k) (get_or old k None)) ∙
     ap (λ b. cond b None (get_or old k None)) (sym (lists_more (take i es) e k) ∙ ap (λ (xs : List Entry). lists_node xs k) (sym all))))
 
+pub gone_all : (es : List Entry) (i : ℕ) (old new : List (Option ℕ)) → length es ≤ i → AreGone (lists_node (take i es)) old new →
+    AreGone (lists_node es) old new
+gone_all es i old new h is = subst (λ (xs : List Entry). AreGone (lists_node xs) old new) (take_all i es h) is
+
 none_no : (b : Below) → None ≡ Some b → ⊥
 none_no b e = cc
 
@@ -137,7 +141,7 @@ found_behind d es once n b e = ⊎_elim
     absurd (none_no b (sym none ∙ e)))
     (λ (t : (bytes_eq (string_bytes d.0) n ≡ false) × (string_bytes d.0 ≡ n → ⊥)).
     ap (λ c. cond c (Some d.1) (found es n)) t.0 ∙ e)
-    (name_tells (string_bytes d.0) n)
+    (name_shows (string_bytes d.0) n)
 
 -- what is not found is not listed
 pub unlisted : (es : List Entry) → IsOnce es → (k : ℕ) → ((n : Name) → found es n ≡ Some (Subset (record { 0 = k })) → ⊥) →
@@ -281,6 +285,34 @@ module _ (g : Graph) (size : ℕ) (tree : IsTree g size) (gone i next : ℕ) (nu
   pub numbering_ranks : length numbers ≤ i → AreRanks numbers
   numbering_ranks end k t = is.ranks k (⊎_elim (λ (h : k < i). h)
       (λ (h : i ≤ k). absurd (false≢true (sym (ap is_some (get_or_past numbers k None (omega (arith, h, end)))) ∙ t))) (cases_lt k i)) t
+
+-- the node itself is gone, and no node has been looked at
+pub numbering_none : (g : Graph) (size gone : ℕ) (old : List (Option ℕ)) → IsTree g size → gone < size → length old ≡ size →
+    ((k : ℕ) → k < size → stays old k ≡ true) → IsNumbering g gone 0 0 (set old gone None)
+numbering_none g size gone old tree within long all = record {
+  dropping = record {
+    itself = ap is_some (get_or-set_same old gone None None (omega (arith, within, long)));
+    down = λ k n j h. absurd (omega (arith, h));
+    up = λ k n j e t d. other j.0 (tree.later k n j e).1 d;
+    ahead = λ k n j h e d. other j.0 (tree.later k n j e).1 d;
+    before = λ k h. other k (omega (arith, h, within)) (λ e. omega (arith, e, h));
+  };
+  next_is = refl;
+  ranks = λ k h. absurd (omega (arith, h));
+}
+  where
+    other : (k : ℕ) → k < size → (k ≡ gone → ⊥) → stays (set old gone None) k ≡ true
+    other k l d = ap is_some (get_or-set_other old gone k None None d) ∙ all k l
+
+-- all nodes have been looked at
+pub numbering_without : (g : Graph) (size gone i next : ℕ) (numbers : List (Option ℕ)) → IsTree g size → size ≤ i →
+    IsNumbering g gone i next numbers → IsWithout g gone (stays numbers)
+numbering_without g size gone i next numbers tree all is = record {
+  itself = is.dropping.itself;
+  down = λ k n j e. let l = tree.later k n j e in is.dropping.down k n j (omega (arith, l.0, l.1, all)) e;
+  up = is.dropping.up;
+  before = is.dropping.before;
+}
 
 -- a node that is read at another place
 pub read_moved : (xs ys : List Node) (i j : ℕ) → i < length ys → j < length xs → ((d : Node) → get_or ys i d ≡ get_or xs j d) →

@@ -1,12 +1,12 @@
 -- What the copy of a node lists.
-use Rattle.std.proofs.Common.{◌≡◌, ◌∙◌, sym, ap, refl, ⊎_elim, ℕ, ◌+◌, ◌<◌, ◌≤◌, true, false, cond, List, [], ◌∷◌, ◌++◌, append_assoc, subst, suc, None}
+use Rattle.std.proofs.Common.{◌≡◌, ◌∙◌, sym, ap, refl, ⊎_elim, ℕ, ◌+◌, ◌<◌, ◌≤◌, true, false, cond, List, [], ◌∷◌, ◌++◌, append_assoc, subst, suc, take, None}
 use Rattle.std.proofs.Common.{Some, arith, length, get_or, string_bytes}
 use Rattle.std.specs.Prelude.{Vec, vec_len}
 use Rattle.std.specs.List.{AllZip}
 use Rattle.std.specs.Str.{bytes_eq}
 use Rattle.std.specs.declared.alloc.Global.{Global}
 use Rattle.std.proofs.lemmas.Bool.{cases_lt}
-use Rattle.std.proofs.lemmas.List.{append-nil, length-append, get_or_append_left, get_or-append-add}
+use Rattle.std.proofs.lemmas.List.{append-nil, length-append, get_or_append_left, get_or-append-add, take_all}
 use Rattle.std.proofs.lemmas.List.Elements.{same_from_all_zip}
 use Rattle.fast_check_names.specs.declared.lattice.node.NodeNo.{NodeNo}
 use Rattle.fast_check_names.specs.declared.lattice.node.Below.{Below}
@@ -15,7 +15,18 @@ use Rattle.fast_check_names.specs.Order.{Name, Entry, found, names_in, lists, Is
 use Rattle.fast_check_names.specs.Graph.{moved, moved_below}
 use Rattle.fast_check_names.specs.Queue.{next_of, nexts, placed, IsCopyFrom}
 use Rattle.fast_check_names.proofs.Lists.{found_read}
-use Rattle.fast_check_names.proofs.Walks.{name_tells}
+use Rattle.fast_check_names.proofs.Walks.{name_shows}
+
+-- no name is copied
+pub copy_none : (count : ℕ) (fs : List Entry) → fs ≡ [] → IsCopyFrom count [] fs
+copy_none count fs e = subst (λ (xs : List Entry). IsCopyFrom count [] xs) (sym e) tt
+
+-- all names are copied
+pub copy_all : (count i : ℕ) (es fs : List Entry) → length es ≤ i → IsCopyFrom count (take i es) fs → IsCopyFrom count es fs
+copy_all count i es fs h is = subst (λ (xs : List Entry). IsCopyFrom count xs fs) (take_all i es h) is
+
+pub nexts_all : (i : ℕ) (es : List Entry) (old new : List ℕ) → length es ≤ i → new ≡ old ++ nexts (take i es) → new ≡ old ++ nexts es
+nexts_all i es old new h e = e ∙ ap (λ (xs : List Entry). old ++ nexts xs) (take_all i es h)
 
 -- one name more
 pub nexts_more : (es : List Entry) (e : Entry) → nexts (es ++ e ∷ []) ≡ nexts es ++ next_of e.1
@@ -126,7 +137,7 @@ copy_range count (x ∷ es) (y ∷ fs) is n j e =
     (λ (f : (bytes_eq (string_bytes y.0) n ≡ false) × (string_bytes y.0 ≡ n → ⊥)).
     let there = copy_range (count + length (next_of x.1)) es fs is.2 n j (sym (ap (λ b. cond b (Some y.1) (found fs n)) f.0) ∙ e) in
     (omega (arith, there.0), omega (arith, there.1, long)))
-    (name_tells (string_bytes y.0) n)
+    (name_shows (string_bytes y.0) n)
 
 head_lists : (count : ℕ) (b c : Below) (j : ℕ) → c ≡ placed count b → count ≤ j → j < count + length (next_of b) →
     c ≡ Subset (record { 0 = j })

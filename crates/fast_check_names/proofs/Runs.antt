@@ -1,10 +1,11 @@
 -- Runs of numbers, one after another.
-use Rattle.std.proofs.Common.{◌≡◌, ◌∙◌, sym, ap, refl, subst, ⊎_elim, ℕ, zero, suc, ◌+◌, ◌-◌, ◌<◌, ◌≤◌, List, [], ◌∷◌, ◌++◌}
-use Rattle.std.proofs.Common.{arith, length, get_or, set, take, drop, append_assoc}
+use Rattle.std.proofs.Common.{◌≡◌, ◌∙◌, sym, ap, refl, subst, ⊎_elim, ℕ, zero, suc, ◌+◌, ◌-◌, ◌/◌, ◌<◌, ◌≤◌, List, [], ◌∷◌, ◌++◌}
+use Rattle.std.proofs.Common.{Bool, true, false, cond, eqb, arith, length, get_or, set, take, drop, append_assoc}
 use Rattle.std.specs.List.{concat, insert}
+use Rattle.std.specs.Bool.{OnTrue}
 use Rattle.std.specs.Prelude.{Vec}
 use Rattle.std.specs.declared.alloc.Global.{Global}
-use Rattle.std.proofs.lemmas.Bool.{cases_order}
+use Rattle.std.proofs.lemmas.Bool.{cases_order, eqb-false}
 use Rattle.std.proofs.lemmas.List.Folds.{concat-append}
 use Rattle.std.proofs.lemmas.List.{take-append-drop, append-nil, map-append, take_more, get_or-map, length-map, map-set, set-get_or}
 use Rattle.std.proofs.lemmas.List.{get_or_default, get_or_append_left, get_or-append-add, length-append, get_or-set_same, get_or-set_other}
@@ -17,6 +18,9 @@ use Rattle.fast_check_names.specs.Slots.{place}
 pub count_is : (runs : List (Vec ℕ Global)) → length (lists runs) ≡ length runs
 count_is runs = length-map runs (λ (x : Vec ℕ Global). x.items)
 
+pub some_runs : (runs : Vec (Vec ℕ Global) Global) → false ≡ eqb runs.len 0 → 0 < length (lists runs.items)
+some_runs runs e = let some : runs.len ≡ 0 → ⊥ = eqb-false runs.len 0 (sym e) in omega (arith, some, runs.ok.0, count_is runs.items)
+
 pub run_is : (runs : List (Vec ℕ Global)) (r : ℕ) (v : Vec ℕ Global) → r < length runs → v ≡ get_or runs r v →
     run_at (lists runs) r ≡ v.items
 run_is runs r v w e = get_or-map (λ (x : Vec ℕ Global). x.items) runs r v [] w ∙ ap (λ (x : Vec ℕ Global). x.items) (sym e)
@@ -28,6 +32,33 @@ pub lists_insert : (runs : List (Vec ℕ Global)) (r : ℕ) (v : Vec ℕ Global)
 lists_insert runs zero v = refl
 lists_insert [] (suc r) v = refl
 lists_insert (x ∷ runs) (suc r) v = ap (λ xss. x.items ∷ xss) (lists_insert runs r v)
+
+-- the first run, of one number
+one_run : (runs new : List (Vec ℕ Global)) (v : Vec ℕ Global) (k : ℕ) → length runs ≡ 0 → new ≡ runs ++ v ∷ [] → v.items ≡ k ∷ [] →
+    lists new ≡ (k ∷ []) ∷ []
+one_run [] new v k none e is = ap lists e ∙ ap (λ (xs : List ℕ). xs ∷ []) is
+one_run (x ∷ xs) new v k none e is = absurd (omega (arith, none))
+
+no_runs : (runs : List (Vec ℕ Global)) → length runs ≡ 0 → concat (lists runs) ≡ []
+no_runs [] none = refl
+no_runs (x ∷ xs) none = absurd (omega (arith, none))
+
+pub first_inserted : (runs new : List (Vec ℕ Global)) (v : Vec ℕ Global) (k : ℕ) (ok b : Bool) → length runs ≡ 0 → b ≡ ok →
+    new ≡ cond ok (runs ++ v ∷ []) runs → v.items ≡ k ∷ [] → OnTrue b (concat (lists new) ≡ k ∷ concat (lists runs))
+first_inserted runs new v k true true none s e is =
+    ap concat (one_run runs new v k none e is) ∙ ap (λ (xs : List ℕ). k ∷ xs) (sym (no_runs runs none))
+first_inserted runs new v k false true none s e is = cc
+first_inserted runs new v k ok false none s e is = tt
+
+pub first_filled : (runs new : List (Vec ℕ Global)) (v : Vec ℕ Global) (k : ℕ) (ok : Bool) → length runs ≡ 0 →
+    new ≡ cond ok (runs ++ v ∷ []) runs → v.items ≡ k ∷ [] → AreFilled (lists new)
+first_filled runs new v k true none e is =
+    subst (λ (xss : List (List ℕ)). AreFilled xss) (sym (one_run runs new v k none e is)) one
+  where
+    one : AreFilled ((k ∷ []) ∷ [])
+    one zero h = omega arith
+    one (suc r) h = absurd (omega (arith, h))
+first_filled runs new v k false none e is = λ r h. absurd (omega (arith, h, count_is new, ap length e, none))
 
 pub run_there : (xss : List (List ℕ)) (r : ℕ) → 0 < length (run_at xss r) → r < length xss
 run_there [] r h = absurd (omega (arith, h))
@@ -130,6 +161,15 @@ pub lists_left : (runs : List (Vec ℕ Global)) (r : ℕ) (v u : Vec ℕ Global)
     lists (set runs r u) ≡ lists runs
 lists_left runs r v u w e same =
     lists_set runs r u ∙ (ap (λ xs. set (lists runs) r xs) (same ∙ sym (run_is runs r v w e)) ∙ set-get_or (lists runs) r [])
+
+-- a run is as it was, after a growth
+pub lists_kept : (runs rest : List (Vec ℕ Global)) (r : ℕ) (v u : Vec ℕ Global) → r < length runs → rest ≡ runs → v ≡ get_or rest r v →
+    u.items ≡ v.items → lists (set rest r u) ≡ lists runs
+lists_kept runs rest r v u w e is same =
+    lists_left rest r v u (subst (λ (rs : List (Vec ℕ Global)). r < length rs) (sym e) w) is same ∙ ap lists e
+
+pub half_within : (n m : ℕ) → n ≡ m → n / 2 ≤ m
+half_within n m e = omega (arith, e)
 
 -- a run in which a number comes
 pub lists_put : (runs : List (Vec ℕ Global)) (r i k : ℕ) (v u : Vec ℕ Global) → r < length runs → v ≡ get_or runs r v →

@@ -341,6 +341,13 @@ order_none ns = record {
   count_within = omega arith;
 }
 
+-- all names are in order
+pub order_all : (es : List Entry) (xss : List (List ℕ)) (count : ℕ) → IsOrder (names_in es) xss count → length es ≤ count →
+    IsOrder (names_in es) xss (length es)
+order_all es xss count order all =
+    let same : count ≡ length es = omega (arith, all, order.count_within, length-map es (λ (e : Entry). string_bytes e.0)) in
+    subst (λ (m : ℕ). IsOrder (names_in es) xss m) same order
+
 -- the numbers below a count, and one more
 pub count_more : (ks : List ℕ) (i : ℕ) → IsCount ks i → IsCount (ks ++ i ∷ []) (i + 1)
 count_more ks i counted = (

@@ -1,11 +1,11 @@
 -- The nodes that go stand in one stretch, and others take their places.
 use Rattle.std.proofs.Common.{◌≡◌, ◌∙◌, sym, ap, refl, subst, ⊎_elim, inl, inr, ◌⊎◌, ℕ, zero, suc, ◌+◌, ◌-◌, ◌<◌, ◌≤◌, Bool, true, false}
-use Rattle.std.proofs.Common.{◌&&◌, ◌||◌, not, cond, eqb, leb, ltb, List, [], ◌∷◌, Option, Some, None, arith, length, get_or, take}
+use Rattle.std.proofs.Common.{◌&&◌, ◌||◌, not, cond, eqb, leb, ltb, List, [], ◌∷◌, Option, Some, None, arith, length, get_or, take, drop}
 use Rattle.std.specs.List.{SwappedAt}
 use Rattle.std.specs.Option.{MatchOption, is_some}
 use Rattle.std.specs.Str.{bytes_eq}
-use Rattle.std.proofs.lemmas.Bool.{false≢true, cases_Bool, cases_lt, cases_eq, eq-eqb, ne_eqb, lt-ltb, le-ltb, le-leb, lt-leb}
-use Rattle.std.proofs.lemmas.List.{get_or-map, get_or-take, take-map, length-map}
+use Rattle.std.proofs.lemmas.Bool.{false≢true, cases_Bool, cases_lt, cases_eq, eqb-true, eq-eqb, ne_eqb, lt-ltb, le-ltb, le-leb, lt-leb}
+use Rattle.std.proofs.lemmas.List.{get_or-map, get_or-take, take-map, length-map, at_drop_all, at_drop_more}
 use Rattle.fast_check_names.specs.declared.lattice.node.Node.{Node}
 use Rattle.fast_check_names.specs.declared.lattice.node.NodeNo.{NodeNo}
 use Rattle.fast_check_names.specs.declared.lattice.node.Below.{Below}
@@ -148,6 +148,32 @@ going_end g size gone at end tree is done = record {
   before = λ k l. outside_is gone end k (inl l);
 }
 
+node_is : (b : Below) (k : ℕ) → is_node b k ≡ true → b ≡ Subset (record { 0 = k })
+node_is All k e = absurd (false≢true e)
+node_is (Subset j) k e = ap (λ (m : ℕ). Subset (record { 0 = m })) (eqb-true j.0 k e)
+
+pub place_is : (es : List Entry) (p k : ℕ) (d : Entry) → p < length es → true ≡ is_node (get_or es p d).1 k → IsPlaceOf es k p
+place_is es p k d l e = (l, get_or-map (λ (x : Entry). x.1) es p d All l ∙ node_is (get_or es p d).1 k (sym e))
+
+-- none of the last places has a node, and none before them
+pub none_behind : (es : List Entry) (k : ℕ) → lists_node (drop (length es - 0) es) k ≡ false
+none_behind es k = at_drop_all (λ (xs : List Entry). lists_node xs k) es (length es - 0) (omega arith)
+
+pub one_before : (es : List Entry) (i k : ℕ) (d : Entry) → i < length es → lists_node (drop (length es - i) es) k ≡ false →
+    false ≡ is_node (get_or es (length es - 1 - i) d).1 k → lists_node (drop (length es - (i + 1)) es) k ≡ false
+one_before es i k d l was e =
+    let p = length es - 1 - i in
+    let here : length es - (i + 1) ≡ p = omega arith in
+    let next : p + 1 ≡ length es - i = omega (arith, l) in
+    let within : p < length es = omega (arith, l) in
+    ap (λ (m : ℕ). lists_node (drop m es) k) here ∙ (at_drop_more (λ (xs : List Entry). lists_node xs k) es p d within ∙
+    (ap (λ b. b || lists_node (drop (p + 1) es) k) (sym e) ∙ (ap (λ (m : ℕ). lists_node (drop m es) k) next ∙ was)))
+
+pub all_before : (es : List Entry) (i k : ℕ) → length es ≤ i → lists_node (drop (length es - i) es) k ≡ false → lists_node es k ≡ false
+all_before es i k h was =
+    let none : length es - i ≡ 0 = omega (arith, h) in
+    subst (λ (m : ℕ). lists_node (drop m es) k ≡ false) none was
+
 -- what stands at a place is found
 pub place_found : (es : List Entry) → IsOnce es → (node i : ℕ) → IsPlaceOf es node i →
     found es (name_at es i) ≡ Some (Subset (record { 0 = node }))
@@ -279,6 +305,29 @@ module _ (g : Graph) (size gone from node : ℕ) (tree : IsTree g size) (nodes :
     where
       itself_at : (a b : Name) → a ≡ b → bytes_eq a b ≡ true
       itself_at a b e = agrees a b e
+
+not_moved : (f : ℕ → ℕ) (o : Option Below) → ((k : ℕ) → f k ≡ k) → moved f o ≡ o
+not_moved f None h = refl
+not_moved f (Some All) h = refl
+not_moved f (Some (Subset j)) h = ap (λ (m : ℕ). Some (Subset (record { 0 = m }))) (h j.0)
+
+either_same : (b : Bool) (x y : Option Below) → y ≡ x → x ≡ cond b y x
+either_same true x y e = sym e
+either_same false x y e = refl
+
+-- no number has fallen
+pub lowered_none : (g : Graph) (gone from : ℕ) → AreLowered g gone from from g
+lowered_none g gone from k n = either_same (is_outside gone from k) (g k n) (moved (fallen from from (from - gone)) (g k n))
+    (not_moved (fallen from from (from - gone)) (g k n) (λ i. fallen_out from from (from - gone) i (cases_lt i from)))
+
+-- where no node has such a number
+pub lowered_short : (g w : Graph) (gone from high size : ℕ) → size ≤ from → IsTree g size → AreLowered g gone from high w →
+    AreLowered g gone from size w
+lowered_short g w gone from high size s tree is k n =
+    is k n ∙ ap (λ (o : Option Below). cond (is_outside gone from k) o (g k n))
+    (moved_same (fallen from high (from - gone)) (fallen from size (from - gone)) (g k n)
+    (λ j e. let l = (tree.later k n j e).1 in fallen_out from high (from - gone) j.0 (inl (omega (arith, l, s))) ∙
+    sym (fallen_out from size (from - gone) j.0 (inl (omega (arith, l, s))))))
 
 -- a place that is filled is none of those that stay and do not move
 places_apart : (size gone end from at k : ℕ) → IsFilling size gone end from → from ≤ at → at < size → k < from →

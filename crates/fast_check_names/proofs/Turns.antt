@@ -1,7 +1,9 @@
 -- The nodes of a subtree are copied in the order of a queue: q k is the node at place k, and w lists what the copies list.
 use Rattle.std.proofs.Common.{◌≡◌, ◌≢◌, ◌∙◌, sym, ap, refl, subst, ⊎_elim, ℕ, zero, suc, ◌+◌, ◌<◌, ◌≤◌, true, eqb, List, [], ◌∷◌, ◌++◌}
 use Rattle.std.proofs.Common.{Option, Some, None, arith, length, get_or, AllPairs}
+use Rattle.std.specs.Prelude.{Vec}
 use Rattle.std.specs.List.{list_any}
+use Rattle.std.specs.declared.alloc.Global.{Global}
 use Rattle.std.proofs.lemmas.Bool.{false≢true, cases_lt, cases_order, or_cases, eqb-true}
 use Rattle.std.proofs.lemmas.Bool.Decides.{Decides-eqb}
 use Rattle.std.proofs.lemmas.List.{get_or_default, length-append, get_or_append_left, get_or-append-add}
@@ -42,6 +44,20 @@ none_copied g size at q w within first = record {
   later = λ k n j h e. absurd (omega (arith, h));
   parent = λ j h l. absurd (omega (arith, h, l));
 }
+
+pub one_queued : (nodes : List Node) (queue before : List ℕ) (at : ℕ) (w : Graph) → before ≡ [] → queue ≡ before ++ at ∷ [] →
+    at < length nodes → AreCopied (entry nodes) (length nodes) at (λ k. get_or queue k 0) (length queue) 0 w
+one_queued nodes queue before at w none e within =
+    let Q : List ℕ → Type 0 = λ q. AreCopied (entry nodes) (length nodes) at (λ k. get_or q k 0) (length q) 0 w in
+    subst Q (sym (e ∙ ap (λ xs. xs ++ at ∷ []) none))
+    (none_copied (entry nodes) (length nodes) at (λ k. get_or (at ∷ []) k 0) w within refl)
+
+-- the next place of a queue, and the number there
+pub next_place : (queue : Vec ℕ Global) (i count : ℕ) → count ≡ queue.len → i < count → i < length queue.items
+next_place queue i count e l = omega (arith, e, l, queue.ok.0)
+
+pub number_at : (queue : List ℕ) (i k : ℕ) → i < length queue → k ≡ get_or queue i k → k ≡ get_or queue i 0
+number_at queue i k l e = e ∙ get_or_default queue i k 0 l
 
 moved_same : (q r : ℕ → ℕ) (o : Option Below) → ((j : NodeNo) → o ≡ Some (Subset j) → q j.0 ≡ r j.0) → moved q o ≡ moved r o
 moved_same q r None h = refl

@@ -14,13 +14,13 @@ abbrev pub IsBeginning : Path → ℕ → ℕ → Path → Bool → Type 0
 IsBeginning path from below p is_whole = (k : ℕ) × (from ≤ k) × (k < below) × (p ≡ take k path) × (is_whole ≡ false)
 
 -- what an end tells: the beginnings of its path that have at least from names, and the path itself
-abbrev pub IsToldBy : Path → ℕ → Bool → Path → Bool → Type 0
-IsToldBy path from whole p is_whole = IsBeginning path from (length path) p is_whole ⊎ ((p ≡ path) × (is_whole ≡ whole))
+abbrev pub IsShownBy : Path → ℕ → Bool → Path → Bool → Type 0
+IsShownBy path from whole p is_whole = IsBeginning path from (length path) p is_whole ⊎ ((p ≡ path) × (is_whole ≡ whole))
 
 -- what some ends tell
-abbrev pub IsTold : List PathEnd → Path → Bool → Type 0
-IsTold ends p is_whole = (e : PathEnd) × Contains ends e × IsToldBy (path_of e.names.items) e.from e.is_whole p is_whole
+abbrev pub IsShown : List PathEnd → Path → Bool → Type 0
+IsShown ends p is_whole = (e : PathEnd) × Contains ends e × IsShownBy (path_of e.names.items) e.from e.is_whole p is_whole
 
 -- the ends tell what the set demands
 abbrev pub AreEnds : NameSet → List PathEnd → Type 0
-AreEnds set ends = (p : Path) (is_whole : Bool) → IsTold ends p is_whole ↔ IsTrue (is_demanded set p is_whole)
+AreEnds set ends = (p : Path) (is_whole : Bool) → IsShown ends p is_whole ↔ IsTrue (is_demanded set p is_whole)

@@ -1,4 +1,4 @@
-//! What is known of modules and packages beside their syntax trees: the graph, the tables of each module, what a caller lends, and what is told of it. It
+//! What is known of modules and packages beside their syntax trees: the graph, the tables of each module, what a caller lends, and what is wrong with it. It
 //! offers the crates that hold these, and has no code.
 #![tactic(auto)]
 
@@ -11,7 +11,7 @@ pub use fast_check_modules::{
 pub use fast_check_packages::{JsrUrlProvider, PackageNv, WorkspaceMember};
 pub use fast_check_parsed_source::{MediaType, ModuleSpecifier, ParsedSource};
 
-/// What is public of a module, and what is told of what is wrong.
+/// What is public of a module, and what a user is told of faults.
 pub mod diagnostics {
     pub use fast_check_modules::diagnostics::{
         Diagnostic, DiagnosticLevel, DiagnosticLocation, DiagnosticSnippet, FastCheckDiagnostic,
@@ -21,11 +21,11 @@ pub mod diagnostics {
 
 /// Sets of demanded names, and the modules that were followed or wait.
 pub mod lattice {
-    pub use fast_check_names::{Exports, FileDepName, ImportedExports, NamedSubset};
+    pub use fast_check_names::{Exports, FileDepName, ImportedExports, NamedSubset, PathEnd};
     pub use fast_check_worklists::{HandledExports, PendingTrace, PendingTraces};
 }
 
 /// What a caller lends, and why a build stops.
 pub mod provider {
-    pub use fast_check_packages::{BuildFault, JsrUrlProvider, ListedPackages};
+    pub use fast_check_packages::{BuildFault, IndexedPackages, JsrUrlProvider, ListedPackages};
 }

@@ -171,7 +171,7 @@ fn cover_apart(
     requires listed { entry nodes.old.items at name.now ≡ Some (Below.Subset (record { 0 = no })) }
     ensures tree { IsTree (entry nodes.new.items) (vec_len nodes.new) }
     ensures added { OnOk result (IsAdded (entry nodes.old.items) at (whole_below (name.now ∷ [])) (entry nodes.new.items)) }
-    ensures err { OnErr result (listings nodes.new.items ≡ listings nodes.old.items) }
+    ensures err { OnErr result (nodes.new ≡ nodes.old) }
 {
     let numbers = numbers_without(alloc, nodes.as_slice(), no)?;
     write_all(nodes, at, name);
@@ -193,7 +193,7 @@ pub(crate) fn cover(
     requires listed { entry nodes.old.items at name.now ≡ Some (Below.Subset (record { 0 = no })) }
     ensures tree { IsTree (entry nodes.new.items) (vec_len nodes.new) }
     ensures added { OnOk result (IsAdded (entry nodes.old.items) at (whole_below (name.now ∷ [])) (entry nodes.new.items)) }
-    ensures err { OnErr result (listings nodes.new.items ≡ listings nodes.old.items) }
+    ensures err { OnErr result (nodes.new ≡ nodes.old) }
 {
     if let Some((end, from)) = end_and_first(nodes.as_slice(), no) {
         take_out(nodes, at, name, no, end, from);

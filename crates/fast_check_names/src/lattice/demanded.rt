@@ -3,8 +3,8 @@
 ghost use Rattle.std.specs.Prelude.{◌≡◌, ◌≤◌, ◌<◌, ◌+◌, [], Some, IfOk, OnOk, length, get_or, vec_len};
 ghost use Rattle.fast_check_names.specs.Graph.{entry, listings, reach, below_node, IsTree};
 ghost use Rattle.fast_check_names.specs.Names.{path_of, paths};
-ghost use Rattle.fast_check_names.specs.Ends.{IsToldBy, AreEnds};
-ghost use Rattle.fast_check_names.specs.Told.{IsOfBelow, IsOfNames, TellsMore};
+ghost use Rattle.fast_check_names.specs.Ends.{IsShownBy, AreEnds};
+ghost use Rattle.fast_check_names.specs.Shown.{IsOfBelow, IsOfNames, ShowsLonger};
 
 use crate::lattice::calls::names_of;
 use crate::lattice::named_subset::NamedSubset;
@@ -30,7 +30,7 @@ fn push_end(
     is_whole: bool,
     out: &mut Vec<PathEnd>,
 ) -> Result<(), AllocError>
-    ensures { OnOk result (TellsMore (IsToldBy (path_of path.now) from is_whole) out.old.items out.new.items) }
+    ensures { OnOk result (ShowsLonger (IsShownBy (path_of path.now) from is_whole) out.old.items out.new.items) }
 {
     let names = path.to_vec(alloc)?;
     out.push(PathEnd {
@@ -54,7 +54,7 @@ fn push_below(
     requires tree { IsTree (entry nodes.now) (length nodes.now) }
     requires fits { from ≤ vec_len path.old }
     ensures same { OnOk result (path_of path.new.items ≡ path_of path.old.items) }
-    ensures told { OnOk result (TellsMore (IsOfBelow (path_of path.old.items) from (reach (entry nodes.now) (Some below))) out.old.items out.new.items) }
+    ensures shown { OnOk result (ShowsLonger (IsOfBelow (path_of path.old.items) from (reach (entry nodes.now) (Some below))) out.old.items out.new.items) }
 {
     match below {
         Below::All => push_end(alloc, path.as_slice(), from, true, out),
@@ -82,14 +82,14 @@ fn push_names(
     requires fits { from ≤ vec_len path.old + 1 }
     requires some { 0 < length (get_or (listings nodes.now) at []) }
     ensures same { OnOk result (path_of path.new.items ≡ path_of path.old.items) }
-    ensures told { OnOk result (TellsMore (IsOfNames (path_of path.old.items) from (below_node (entry nodes.now) at)) out.old.items out.new.items) }
+    ensures shown { OnOk result (ShowsLonger (IsOfNames (path_of path.old.items) from (below_node (entry nodes.now) at)) out.old.items out.new.items) }
 {
     let count = path.len();
-    let mut told = from;
+    let mut shown = from;
     for (name, below) in names_of(nodes, at) {
         path.push(name.clone()?)?;
-        push_below(alloc, nodes, *below, path, told, out)?;
-        told = path.len();
+        push_below(alloc, nodes, *below, path, shown, out)?;
+        shown = path.len();
         path.truncate(count);
     }
     Ok(())

@@ -3,7 +3,7 @@
 ghost use Rattle.std.specs.Prelude.{◌≡◌, ℕ, ◌+◌, ◌-◌, ◌<◌, ◌≤◌, length, OnOk, OnErr, IfOk, IfSome, IsTrue, Some, None, vec_len, vec_capacity, get_or, []};
 ghost use Rattle.fast_check_names.specs.Order.{Name, found, lists, IsOnce};
 ghost use Rattle.fast_check_names.specs.Graph.{entry, listings, shift, either_of, IsTree, IsMerge, IsBehind, HasRoom, AreApart, LacksNames};
-ghost use Rattle.fast_check_names.specs.Names.{IsJoint};
+ghost use Rattle.fast_check_names.specs.Gains.{IsJoint, IsCovering};
 
 use crate::lattice::calls::names_of;
 use crate::lattice::node::{Below, Node};
@@ -68,6 +68,7 @@ fn append_below(nodes: &mut Vec<Node>, mut tree: Vec<Node>) -> Vec<(String, Belo
     ensures behind { IsBehind nodes.old.items (entry tree.items) nodes.new.items }
     ensures len { vec_len nodes.new + 1 ≡ vec_len nodes.old + vec_len tree }
 {
+    // What was reserved is said by the capacity, and so holds that `append` asks for no memory.
     let _room = nodes.capacity();
     shift_nodes(&mut tree, nodes.len() - 1);
     let root = tree.remove(0);
@@ -102,7 +103,7 @@ pub(crate) fn merge(
 }
 
 /// Whether node `at` lists none of these names.
-fn lists_none(nodes: &[Node], at: usize, names: &[(String, Below)]) -> bool
+pub(crate) fn lists_none(nodes: &[Node], at: usize, names: &[(String, Below)]) -> bool
     requires { IsOnce names.now }
     ensures { IsTrue result → LacksNames (entry nodes.now at) (found names.now) }
 {
@@ -114,17 +115,12 @@ fn lists_none(nodes: &[Node], at: usize, names: &[(String, Below)]) -> bool
     true
 }
 
-/// The node at which all that another set adds can be put, and the other set's node that lists it: None where there is no such node.
-fn joint(nodes: &[Node], at: usize, others: &[Node], other: usize) -> Option<(usize, usize)>
-    requires within { at < length nodes.now }
-    requires tree { IsTree (entry nodes.now) (length nodes.now) }
-    requires other_tree { IsTree (entry others.now) (length others.now) }
+/// The nodes that come next, where a node of another set lists one name alone and both sets have a subset there.
+fn next_joint(nodes: &[Node], at: usize, others: &[Node], other: usize) -> Option<(usize, usize)>
+    requires { IsTree (entry nodes.now) (length nodes.now) }
     ensures { IfSome result (IsJoint (entry nodes.now) (length nodes.now) at (entry others.now) other) }
 {
     let names = names_of(others, other);
-    if lists_none(nodes, at, names) {
-        return Some((at, other));
-    }
     if names.len() != 1 {
         return None;
     }
@@ -135,17 +131,46 @@ fn joint(nodes: &[Node], at: usize, others: &[Node], other: usize) -> Option<(us
     let Some(Below::Subset(no)) = find_at(nodes, at, name.as_str()) else {
         return None;
     };
-    joint(nodes, no.0, others, next.0)
+    Some((no.0, next.0))
 }
 
-/// The same of two roots, of which the first may not be there yet.
-pub(crate) fn joint_of_roots(nodes: &[Node], others: &[Node]) -> Option<(usize, usize)>
-    requires tree { IsTree (entry nodes.now) (length nodes.now) }
-    requires other_tree { IsTree (entry others.now) (length others.now) }
+/// The node to which all comes that another set adds, and the other set's node that lists it: None where there is no node yet.
+pub(crate) fn joint(nodes: &[Node], others: &[Node]) -> Option<(usize, usize)>
+    requires { IsTree (entry nodes.now) (length nodes.now) }
     ensures { IfSome result (IsJoint (entry nodes.now) (length nodes.now) 0 (entry others.now) 0) }
 {
     if nodes.is_empty() {
         return None;
     }
-    joint(nodes, 0, others, 0)
+    let mut at = 0;
+    let mut other = 0;
+    for _ in 0..others.len() {
+        let Some((no, next)) = next_joint(nodes, at, others, other) else {
+            break;
+        };
+        at = no;
+        other = next;
+    }
+    Some((at, other))
+}
+
+/// The name that a list has alone and whole, where node `at` has a subset: the name, and the node of the subset.
+pub(crate) fn covering<'a>(
+    nodes: &[Node],
+    at: usize,
+    names: &'a [(String, Below)],
+) -> Option<(&'a str, usize)>
+    ensures { IfSome result (λ p. IsCovering (entry nodes.now at) names.now p.0.now p.1) }
+{
+    if names.len() != 1 {
+        return None;
+    }
+    let (name, below) = &names[0];
+    let Below::All = *below else {
+        return None;
+    };
+    let Some(Below::Subset(no)) = find_at(nodes, at, name.as_str()) else {
+        return None;
+    };
+    Some((name.as_str(), no.0))
 }

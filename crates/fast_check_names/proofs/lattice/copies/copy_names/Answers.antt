@@ -1,9 +1,18 @@
 use Rattle.std.proofs.Common.{arith, ◌≡◌, ◌∙◌, ◌+◌, ◌++◌, ◌∷◌, [], ap, sym, length, take, vec_len, append_assoc}
-use Rattle.std.proofs.lemmas.List.{length-append, take_more}
+use Rattle.std.proofs.lemmas.List.{append-nil, length-append, take_more}
 use Rattle.fast_check_names.specs.Order.{Entry}
 use Rattle.fast_check_names.specs.Queue.{next_of, nexts, placed}
-use Rattle.fast_check_names.proofs.Queued.{nexts_more, copy_more}
+use Rattle.fast_check_names.proofs.Queued.{copy_none, copy_all, nexts_all, nexts_more, copy_more}
 use Rattle.fast_check_names.proofs.lattice.copies.copy_names.Goals as goal
+
+pub loop-name-init : goal.loop-name-init
+loop-name-init c = record {
+  queue = sym (append-nil c.args.queue.now.items);
+  copy = copy_none (vec_len c.args.queue.now) c.in_ok-copies.copies.items c.in_ok-copies.ensures.items;
+}
+
+pub bounds-names-name-index : goal.bounds-names-name-index
+bounds-names-name-index c = c.loop-name-test.true
 
 pub loop-name-preserved : goal.loop-name-preserved
 loop-name-preserved c =
@@ -30,3 +39,13 @@ loop-name-preserved c =
           (c.in_ok-clone.field-0, c.in_ok-below.below) c.loop-name.invariant.copy c.in_ok-clone.ensures.cases
           (c.in_ok-below.ensures.below ∙ ap (λ k. placed k d.1) long));
     })
+
+pub returns-clause-queue : goal.returns-clause-queue
+returns-clause-queue c =
+    nexts_all c.loop-name.name-index c.args.names.now c.args.queue.now.items c.loop-name.queue.items c.loop-name-test.false
+    c.loop-name.invariant.queue
+
+pub returns-clause-copy : goal.returns-clause-copy
+returns-clause-copy c =
+    copy_all (vec_len c.args.queue.now) c.loop-name.name-index c.args.names.now c.loop-name.copies.items c.loop-name-test.false
+    c.loop-name.invariant.copy

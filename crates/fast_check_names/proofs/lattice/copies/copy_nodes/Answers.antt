@@ -1,11 +1,24 @@
-use Rattle.std.proofs.Common.{rules, arith, ◌≡◌, ◌<◌, ◌≤◌, ◌+◌, ◌∙◌, refl, subst, ap, ℕ, length, get_or, vec_len}
-use Rattle.std.proofs.lemmas.List.{get_or_default, length_push}
+use Rattle.std.proofs.Common.{rules, arith, ◌≡◌, ◌<◌, ◌≤◌, ◌+◌, ◌∙◌, refl, subst, ap, sym, ℕ, length, get_or, vec_len}
+use Rattle.std.proofs.lemmas.List.{length_push}
 use Rattle.fast_check_names.specs.declared.lattice.node.Node.{Node}
 use Rattle.fast_check_names.specs.Graph.{entry, IsTree}
 use Rattle.fast_check_names.specs.Queue.{IsCopyFrom}
 use Rattle.fast_check_names.proofs.Copies.{past_none}
-use Rattle.fast_check_names.proofs.Turns.{count_bound, next_copied, tree_copied, same_copied}
+use Rattle.fast_check_names.proofs.Turns.{one_queued, next_place, number_at, count_bound, next_copied, tree_copied, same_copied}
 use Rattle.fast_check_names.proofs.lattice.copies.copy_nodes.Goals as goal
+
+pub queue-init : goal.queue-init
+queue-init c = record {
+  count = ap length c.new-copies.ensures.items;
+  are = one_queued c.args.nodes.now c.push.new.self.items c.new-queue.result.items c.args.at (entry c.new-copies.result.items)
+      c.new-queue.ensures.items c.in_ok-push.ensures.items c.requires.within;
+}
+
+pub bounds-nodes-index : goal.bounds-nodes-index
+bounds-nodes-index c =
+    let next = next_place c.queue.queue c.queue.i c.len.result c.len.ensures c.queue-test.true in
+    subst (λ (k : ℕ). k < length c.args.nodes.now) (sym (number_at c.queue.queue.items c.queue.i c.index.result.now next c.index.ensures))
+    (c.queue.invariant.are.low c.queue.i next)
 
 pub queue-smaller : goal.queue-smaller
 queue-smaller c =
@@ -13,7 +26,7 @@ queue-smaller c =
     let queue = c.queue.queue.items in
     let bound : length queue ≤ length nodes = count_bound (entry nodes) (entry c.queue.copies.items) (length nodes) c.args.at c.queue.i
     (length queue) (λ k. get_or queue k 0) c.requires.tree c.queue.invariant.are queue refl (λ k. refl) in
-    let next : c.queue.i < length queue = search rules in omega (arith, bound, next)
+    let next = next_place c.queue.queue c.queue.i c.len.result c.len.ensures c.queue-test.true in omega (arith, bound, next)
 
 pub queue-preserved : goal.queue-preserved
 queue-preserved c =
@@ -22,9 +35,8 @@ queue-preserved c =
     let copies = c.queue.copies.items in
     let node : Node = c.index-nodes-index.result in
     let copy : Node = c.in_ok-copy.copy in
-    let next : c.queue.i < length queue = search rules in
-    let at : c.index.result.now ≡ get_or queue c.queue.i 0 =
-    c.index.ensures ∙ get_or_default queue c.queue.i c.index.result.now 0 next in
+    let next = next_place c.queue.queue c.queue.i c.len.result c.len.ensures c.queue-test.true in
+    let at = number_at queue c.queue.i c.index.result.now next c.index.ensures in
     let is : node ≡ get_or nodes (get_or queue c.queue.i 0) node = c.index-nodes-index.is ∙ ap (λ k. get_or nodes k node) at in
     let lists : IsCopyFrom (length queue) node.names.items copy.names.items = search rules in
     rw (c.in_ok-push-2.ensures.items, c.in_ok-copy.ensures.queue)

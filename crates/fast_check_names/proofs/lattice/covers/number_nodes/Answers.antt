@@ -2,8 +2,19 @@ use Rattle.std.proofs.Common.{arith, rules, ap, sym, ◌∙◌, ◌≡◌, ℕ, 
 use Rattle.fast_check_names.specs.Order.{Entry, found}
 use Rattle.fast_check_names.specs.Graph.{entry}
 use Rattle.fast_check_names.specs.Numbers.{stays, lists_node}
-use Rattle.fast_check_names.proofs.Numbers.{rank_upto, numbering_past, numbering_more, numbering_ranks, listed_node, unlisted}
+use Rattle.fast_check_names.proofs.Numbers.{numbering_none, numbering_without, rank_upto, numbering_past, numbering_more, numbering_ranks, listed_node, unlisted}
 use Rattle.fast_check_names.proofs.lattice.covers.number_nodes.Goals as goal
+
+pub loop-at-init : goal.loop-at-init
+loop-at-init c =
+    let long : length c.args.numbers.now.items ≡ length c.args.nodes.now = omega (arith, c.requires.len, c.args.numbers.now.ok.0) in
+    numbering_none (entry c.args.nodes.now) (length c.args.nodes.now) c.args.gone c.args.numbers.now.items c.requires.tree
+    c.requires.within long c.requires.all
+
+pub returns-clause-without : goal.returns-clause-without
+returns-clause-without c =
+    numbering_without (entry c.args.nodes.now) (length c.args.nodes.now) c.args.gone c.loop-at.at c.loop-at.next
+    c.loop-at.numbers.items c.requires.tree c.loop-at-test.false c.loop-at.invariant
 
 pub overflow_add-next : goal.overflow_add-next
 overflow_add-next c =

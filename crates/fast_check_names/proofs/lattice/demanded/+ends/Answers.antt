@@ -1,37 +1,37 @@
-use Rattle.std.proofs.Common.{rules, ◌≡◌, ◌≤◌, ◌+◌, ◌∙◌, sym, ap, [], ◌∷◌, Some, length, get_or, string_bytes, List, arith}
+use Rattle.std.proofs.Common.{rules, ◌≡◌, ◌<◌, ◌≤◌, ◌+◌, ◌∙◌, refl, sym, ap, [], ◌∷◌, Some, length, get_or, string_bytes, List, arith}
 use Rattle.std.proofs.lemmas.List.{length-append}
 use Rattle.fast_check_names.specs.Order.{Entry, found}
 use Rattle.fast_check_names.specs.Graph.{entry, listings}
 use Rattle.fast_check_names.specs.Names.{path_of}
 use Rattle.fast_check_names.proofs.Lists.{found_read}
 use Rattle.fast_check_names.proofs.Copies.{later_at}
-use Rattle.fast_check_names.proofs.Ends.{tells_all, tells_bare, tells_named, walked_more, walked_all, rank_falls, under, long_path}
-use Rattle.fast_check_names.proofs.Ends.{pushed_path, cut_path, on_ok_more}
+use Rattle.fast_check_names.proofs.Ends.{shows_all, shows_bare, shows_named, walked_more, walked_all, rank_falls, under, long_path}
+use Rattle.fast_check_names.proofs.Ends.{pushed_path, cut_path, on_ok_more, walked_none}
 use Rattle.fast_check_names.proofs.lattice.demanded.+ends.Goals as goal
 
-pub push_below-returns-then-is_empty-clause-told :
-    goal.push_below-returns-then-is_empty-clause-told
-push_below-returns-then-is_empty-clause-told t c =
+pub push_below-returns-then-is_empty-clause-shown :
+    goal.push_below-returns-then-is_empty-clause-shown
+push_below-returns-then-is_empty-clause-shown t c =
     let empty : length c.names_of.result.now ≡ 0 = search rules in
     on_ok_more c.push_end-then-is_empty.result
-    (tells_bare c.args.nodes.now c.args.below c.in-Subset.no (path_of c.args.path.now.items) c.args.from c.args.out.now.items
+    (shows_bare c.args.nodes.now c.args.below c.in-Subset.no (path_of c.args.path.now.items) c.args.from c.args.out.now.items
     c.push_end-then-is_empty.new.out.items c.in-Subset.is (rw c.names_of.ensures.names at empty))
     (rw c.as_slice-then-is_empty.ensures.value at c.push_end-then-is_empty.ensures)
 
-pub push_below-returns-in-All-clause-told : goal.push_below-returns-in-All-clause-told
-push_below-returns-in-All-clause-told t c =
+pub push_below-returns-in-All-clause-shown : goal.push_below-returns-in-All-clause-shown
+push_below-returns-in-All-clause-shown t c =
     on_ok_more c.push_end.result
-    (tells_all (entry c.args.nodes.now) c.args.below (path_of c.args.path.now.items) c.args.from c.args.out.now.items
+    (shows_all (entry c.args.nodes.now) c.args.below (path_of c.args.path.now.items) c.args.from c.args.out.now.items
     c.push_end.new.out.items c.in-All.is)
     (rw c.as_slice.ensures.value at c.push_end.ensures)
 
-pub push_below-returns-else-is_empty-clause-told :
-    goal.push_below-returns-else-is_empty-clause-told
-push_below-returns-else-is_empty-clause-told t c =
+pub push_below-returns-else-is_empty-clause-shown :
+    goal.push_below-returns-else-is_empty-clause-shown
+push_below-returns-else-is_empty-clause-shown t c =
     on_ok_more c.push_names.result
-    (tells_named (entry c.args.nodes.now) c.args.below c.in-Subset.no (path_of c.args.path.now.items) c.args.from c.args.out.now.items
+    (shows_named (entry c.args.nodes.now) c.args.below c.in-Subset.no (path_of c.args.path.now.items) c.args.from c.args.out.now.items
     c.push_names.new.out.items c.in-Subset.is (omega (arith, c.requires.fits, long_path c.args.path.now)))
-    c.push_names.ensures.told
+    c.push_names.ensures.shown
 
 pub push_names-push_below-requires : goal.push_names-push_below-requires
 push_names-push_below-requires t c =
@@ -52,6 +52,22 @@ push_names-push_below-requires t c =
       ),
     )
 
+pub push_names-loop-name-init : goal.push_names-loop-name-init
+push_names-loop-name-init t c = (
+  refl,
+  omega (arith, c.len-count.ensures, long_path c.args.path.now),
+  omega arith,
+  omega (arith, c.len-count.ensures, c.requires.fits),
+  λ (some : 0 < 0). absurd (omega (arith, some)),
+  walked_none (path_of c.args.path.now.items) c.args.from (entry c.args.nodes.now) c.args.out.now.items,
+)
+
+pub push_names-returns-clause-same : goal.push_names-returns-clause-same
+push_names-returns-clause-same t c = c.loop-name.invariant.0
+
+pub push_below-returns-else-is_empty-clause-same : goal.push_below-returns-else-is_empty-clause-same
+push_below-returns-else-is_empty-clause-same t c = c.push_names.ensures.same
+
 pub push_names-loop-name-preserved : goal.push_names-loop-name-preserved
 push_names-loop-name-preserved t c =
     let es = c.names_of-name-items.result.now in
@@ -62,27 +78,27 @@ push_names-loop-name-preserved t c =
     pushed_path c.push.new.self.items c.loop-name.path.items c.in_ok-clone.field-0 path (string_bytes d.0) c.in_ok-push.ensures.items own.0
     c.in_ok-clone.ensures.cases in
     let walked : path_of c.push_below.new.path.items ≡ under path d = c.in_ok-push_below.ensures.same ∙ pushed in
-    let told : c.len-told.result ≡ c.len-count.result + 1 = omega
-    (arith, c.len-told.ensures, long_path c.push_below.new.path, ap length walked, length-append path (string_bytes d.0 ∷ []), own.1) in (
+    let shown : c.len-shown.result ≡ c.len-count.result + 1 = omega
+    (arith, c.len-shown.ensures, long_path c.push_below.new.path, ap length walked, length-append path (string_bytes d.0 ∷ []), own.1) in (
       cut_path c.push_below.new.path.items c.truncate.new.self.items c.len-count.result path (string_bytes d.0)
           c.truncate.ensures.items walked own.1,
       own.1,
-      omega (arith, told, own.2, own.3),
-      omega (arith, told),
-      λ some. told,
-      walked_more path (path_of c.push.new.self.items) c.args.from c.loop-name.told c.len-told.result (entry c.args.nodes.now) es
+      omega (arith, shown, own.2, own.3),
+      omega (arith, shown),
+      λ some. shown,
+      walked_more path (path_of c.push.new.self.items) c.args.from c.loop-name.shown c.len-shown.result (entry c.args.nodes.now) es
           c.loop-name.name-index d c.args.out.now.items c.loop-name.out.items c.push_below.new.out.items
-          c.loop-name-test.true c.loop-name-item.is pushed own.2 (omega (arith, own.3, own.1)) (omega (arith, told, own.1))
-          own.5 c.in_ok-push_below.ensures.told,
+          c.loop-name-test.true c.loop-name-item.is pushed own.2 (omega (arith, own.3, own.1)) (omega (arith, shown, own.1))
+          own.5 c.in_ok-push_below.ensures.shown,
     )
 
-pub push_names-returns-clause-told : goal.push_names-returns-clause-told
-push_names-returns-clause-told t c =
+pub push_names-returns-clause-shown : goal.push_names-returns-clause-shown
+push_names-returns-clause-shown t c =
     let own = c.loop-name.invariant in
     let nodes = c.args.nodes.now in
     let es = get_or (listings nodes) c.args.at [] in
     let all : length es ≤ c.loop-name.name-index = rw c.names_of-name-items.ensures.names at c.loop-name-test.false in
-    let told = own.4 (omega (arith, all, c.requires.some)) in
-    walked_all nodes c.args.at (path_of c.args.path.now.items) c.args.from c.loop-name.told c.loop-name.name-index c.args.out.now.items
+    let shown = own.4 (omega (arith, all, c.requires.some)) in
+    walked_all nodes c.args.at (path_of c.args.path.now.items) c.args.from c.loop-name.shown c.loop-name.name-index c.args.out.now.items
     c.loop-name.out.items (rw c.names_of-name-items.ensures.names at c.names_of-name-items.ensures.once) all
-    (omega (arith, told, own.1)) (rw c.names_of-name-items.ensures.names at own.5)
+    (omega (arith, shown, own.1)) (rw c.names_of-name-items.ensures.names at own.5)

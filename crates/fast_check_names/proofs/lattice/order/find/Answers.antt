@@ -2,9 +2,30 @@ use Rattle.std.proofs.Common.{arith, ◌∙◌, ◌<◌, ◌-◌, sym, ap, subst
 use Rattle.fast_check_names.specs.Order.{lists, names_in, name_at}
 use Rattle.fast_check_names.specs.Slots.{place}
 use Rattle.fast_check_names.proofs.Places.{same_bytes, other_bytes}
-use Rattle.fast_check_names.proofs.Runs.{count_is, run_there, number_is}
+use Rattle.fast_check_names.proofs.Runs.{count_is, run_is, run_there, number_is}
 use Rattle.fast_check_names.proofs.Sorted.{slot_gap, slot_within, gap_lacks}
 use Rattle.fast_check_names.proofs.lattice.order.find.Goals as goal
+
+pub slot_of-slot-requires : goal.slot_of-slot-requires
+slot_of-slot-requires c = c.requires.filled
+
+pub bounds-runs-slot : goal.bounds-runs-slot
+bounds-runs-slot c =
+    let runs = c.args.runs.now in
+    let some : 0 < c.slot_of-slot.result.at = omega (arith, c.if-slot-eq0.false) in
+    let there = run_there (lists runs) c.slot_of-slot.result.run (omega (arith, some, c.slot_of-slot.ensures.within)) in
+    omega (arith, there, count_is runs)
+
+pub index-number-requires : goal.index-number-requires
+index-number-requires c =
+    let runs = c.args.runs.now in
+    let run = c.slot_of-slot.result.run in
+    let v = c.index-runs-slot.result in
+    let some : 0 < c.slot_of-slot.result.at = omega (arith, c.if-slot-eq0.false) in
+    let there : run < length runs =
+    omega (arith, run_there (lists runs) run (omega (arith, some, c.slot_of-slot.ensures.within)), count_is runs) in
+    let long = ap length (run_is runs run v there c.index-runs-slot.is) in
+    omega (arith, some, c.slot_of-slot.ensures.within, long, v.ok.0)
 
 pub returns-then-slot-eq0 : goal.returns-then-slot-eq0
 returns-then-slot-eq0 c =

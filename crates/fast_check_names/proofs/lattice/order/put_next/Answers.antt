@@ -1,10 +1,10 @@
-use Rattle.std.proofs.Common.{rules, arith, ◌≡◌, ◌<◌, ◌-◌, subst, length, get_or, string_bytes}
+use Rattle.std.proofs.Common.{rules, arith, ◌≡◌, ◌<◌, ◌-◌, ap, subst, length, get_or, string_bytes}
 use Rattle.std.specs.List.{concat}
 use Rattle.std.proofs.lemmas.List.{length-map}
 use Rattle.fast_check_names.specs.Order.{Name, Entry, lists, run_at, names_in, name_at, keys}
 use Rattle.fast_check_names.specs.Slots.{place, IsSlot, IsGap}
 use Rattle.fast_check_names.proofs.Lists.{on_true_from, on_false_from}
-use Rattle.fast_check_names.proofs.Runs.{count_is}
+use Rattle.fast_check_names.proofs.Runs.{count_is, some_runs}
 use Rattle.fast_check_names.proofs.Sorted.{slot_gap, slot_within, empty_gap, order_put, order_same}
 use Rattle.fast_check_names.proofs.lattice.order.put_next.Goals as goal
 
@@ -45,3 +45,25 @@ returns-clause-left c = on_false_from c.put.result
     (λ same. order_same (names_in c.args.names.now) (lists c.args.runs.now.items)
     (lists c.put.new.runs.items) c.args.sorted c.requires.order same c.put.ensures.filled)
     c.put.ensures.left
+
+pub returns-then-is_empty-clause-left : goal.returns-then-is_empty-clause-left
+returns-then-is_empty-clause-left c = on_false_from c.put_first.result
+    (λ same. order_same (names_in c.args.names.now) (lists c.args.runs.now.items)
+    (lists c.put_first.new.runs.items) c.args.sorted c.requires.order (ap concat same) c.put_first.ensures.filled)
+    c.put_first.ensures.left
+
+pub slot_of-slot-requires : goal.slot_of-slot-requires
+slot_of-slot-requires c = rw c.as_slice.ensures.value c.requires.order.filled
+
+pub put-requires-clause-run : goal.put-requires-clause-run
+put-requires-clause-run c =
+    let runs = c.args.runs.now in
+    let slot = rw c.as_slice.ensures.value at c.slot_of-slot.ensures in
+    let there = slot.some (some_runs runs c.if-is_empty.ensures) in
+    omega (arith, there, count_is runs.items, runs.ok.0)
+
+pub put-requires-clause-at : goal.put-requires-clause-at
+put-requires-clause-at c = (rw c.as_slice.ensures.value at c.slot_of-slot.ensures).within
+
+pub put-requires-clause-filled : goal.put-requires-clause-filled
+put-requires-clause-filled c = c.requires.order.filled

@@ -1,11 +1,42 @@
-use Rattle.std.proofs.Common.{arith, ◌≡◌, ◌∙◌, ◌<◌, ◌+◌, sym, ap, length, get_or, set, true, is_ok, List}
+use Rattle.std.proofs.Common.{arith, ◌≡◌, ◌∙◌, ◌<◌, ◌+◌, sym, ap, subst, length, get_or, set, true, is_ok, List, ℕ}
 use Rattle.std.specs.Prelude.{Vec}
-use Rattle.std.specs.List.{insert}
+use Rattle.std.specs.List.{insert, concat}
 use Rattle.std.specs.declared.alloc.Global.{Global}
 use Rattle.std.proofs.lemmas.List.{get_or_default}
 use Rattle.fast_check_names.proofs.Lists.{is_ok_from, on_ok_then}
-use Rattle.fast_check_names.proofs.Runs.{split_same, split_filled}
+use Rattle.fast_check_names.proofs.Runs.{half_within, lists_kept, split_same, split_filled}
+use Rattle.fast_check_names.specs.Order.{lists, AreFilled}
 use Rattle.fast_check_names.proofs.lattice.order.split.Goals as goal
+use Rattle.fast_check_names.proofs.lattice.order.split.Goals.{then-len-le-LONG-via-then-len-le-LONG}
+use Rattle.fast_check_names.proofs.lattice.order.split.Goals.{then-len-le-LONG-via-else-len-le-LONG+then-is_err}
+
+kept : (c : goal.Joined-then-len-le-LONG) → lists c.then-len-le-LONG.runs.items ≡ lists c.args.runs.now.items
+kept c = elim c.then-len-le-LONG.branch [
+  | then-len-le-LONG-via-then-len-le-LONG w ↦ ap (λ (v : Vec (Vec ℕ Global) Global). lists v.items) w.runs-is
+  | then-len-le-LONG-via-else-len-le-LONG+then-is_err w ↦
+      ap (λ (v : Vec (Vec ℕ Global) Global). lists v.items) w.runs-is ∙ ap lists w.reserve.ensures.items
+]
+
+pub returns-then-len-le-LONG-clause-same : goal.returns-then-len-le-LONG-clause-same
+returns-then-len-le-LONG-clause-same c = ap concat (kept c)
+
+pub returns-then-len-le-LONG-clause-filled : goal.returns-then-len-le-LONG-clause-filled
+returns-then-len-le-LONG-clause-filled c = subst (λ (xss : List (List ℕ)). AreFilled xss) (sym (kept c)) c.requires.filled
+
+pub split_off-requires : goal.split_off-requires
+split_off-requires c = half_within c.len-half.result c.index_mut-long.result.now.len c.len-half.ensures
+
+left : (c : goal.In_default) → lists (set c.reserve.new.self.items c.args.run c.split_off.new.self) ≡ lists c.args.runs.now.items
+left c =
+    let within : c.args.run < length c.args.runs.now.items = omega (arith, c.requires.within, c.args.runs.now.ok.0) in
+    lists_kept c.args.runs.now.items c.reserve.new.self.items c.args.run c.index_mut-long.result.now c.split_off.new.self within
+    c.reserve.ensures.items c.index_mut-long.ensures.value (ap (λ (v : Vec _ Global). v.items) c.in_default.ensures.err)
+
+pub returns-in_default-clause-same : goal.returns-in_default-clause-same
+returns-in_default-clause-same c = ap concat (left c)
+
+pub returns-in_default-clause-filled : goal.returns-in_default-clause-filled
+returns-in_default-clause-filled c = subst (λ (xss : List (List ℕ)). AreFilled xss) (sym (left c)) c.requires.filled
 
 pub returns-clause-same : goal.returns-clause-same
 returns-clause-same c =

@@ -14,4 +14,4 @@ pub returns : goal.returns
 returns c =
     ends_of_names (entry c.args.self.now.nodes.items) c.new-ends.result.items c.push_names.new.out.items (path_of c.new-path.result.items)
     c.new-ends.ensures.items (ap path_of c.new-path.ensures.items)
-    (rw c.as_slice-nodes.ensures.value at c.in_ok-push_names.ensures.told)
+    (rw c.as_slice-nodes.ensures.value at c.in_ok-push_names.ensures.shown)

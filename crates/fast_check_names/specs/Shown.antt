@@ -3,11 +3,11 @@
 use Rattle.std.specs.Prelude.{ℕ, ◌≡◌, ◌+◌, ◌⊎◌, ◌↔◌, Bool, List, ◌++◌, length, IsTrue}
 use Rattle.fast_check_names.specs.declared.lattice.demanded.PathEnd.{PathEnd}
 use Rattle.fast_check_names.specs.Names.{Path, NameSet}
-use Rattle.fast_check_names.specs.Ends.{is_demanded, IsBeginning, IsTold}
+use Rattle.fast_check_names.specs.Ends.{is_demanded, IsBeginning, IsShown}
 
 -- the new ends tell what the old ones do and what is P
-abbrev pub TellsMore : (Path → Bool → Type 0) → List PathEnd → List PathEnd → Type 0
-TellsMore P old new = (p : Path) (is_whole : Bool) → IsTold new p is_whole ↔ (IsTold old p is_whole ⊎ P p is_whole)
+abbrev pub ShowsLonger : (Path → Bool → Type 0) → List PathEnd → List PathEnd → Type 0
+ShowsLonger P old new = (p : Path) (is_whole : Bool) → IsShown new p is_whole ↔ (IsShown old p is_whole ⊎ P p is_whole)
 
 -- what a set demands, below a path
 abbrev pub IsBelowPath : Path → NameSet → Path → Bool → Type 0
