@@ -26,38 +26,44 @@ fn emit(alloc: Global) -> Option<FastCheckDiagnostic> {
     Some(FastCheckDiagnostic::Emit { specifier, inner })
 }
 
-fn write_copy(
-    alloc: Global,
-    out: &mut Writer,
-    diagnostic: &FastCheckDiagnostic,
-) -> Result<(), AllocError> {
-    let copy = diagnostic.clone()?;
-    write_diagnostics(alloc, out, array::from_ref(&copy))
+/// Says the JSON of a copy, if it was made.
+fn say_json(alloc: Global, copy: &Result<FastCheckDiagnostic, AllocError>, said: &mut Said) {
+    match copy {
+        Ok(copy) => {
+            let mut out = Writer::new(Vec::new(alloc));
+            let done = write_diagnostics(alloc, &mut out, array::from_ref(copy));
+            say_written(out, done, said);
+        }
+        Err(_) => said.lack(),
+    }
 }
 
-/// Says the JSON of a copy.
-fn say_json(alloc: Global, diagnostic: &FastCheckDiagnostic, said: &mut Said) {
-    let mut out = Writer::new(Vec::new(alloc));
-    let done = write_copy(alloc, &mut out, diagnostic);
-    say_written(out, done, said);
+/// Says the JSON of a copy, and all that is told of a diagnostic.
+fn say_all(alloc: Global, diagnostic: &FastCheckDiagnostic, said: &mut Said) {
+    let copy: Result<FastCheckDiagnostic, AllocError> = diagnostic.clone();
+    say_json(alloc, &copy, said);
+    say_diagnostic(alloc, diagnostic, said);
+    said.say("\n");
 }
 
 /// Says a diagnostic that was made, if it was.
-fn say_made(alloc: Global, made: Option<FastCheckDiagnostic>, said: &mut Said) {
+fn say_made(alloc: Global, made: &Option<FastCheckDiagnostic>, said: &mut Said) {
     match made {
-        Some(diagnostic) => {
-            say_json(alloc, &diagnostic, said);
-            say_diagnostic(alloc, &diagnostic, said);
-        }
+        Some(diagnostic) => say_all(alloc, diagnostic, said),
         None => said.lack(),
     }
-    said.say("\n");
+}
+
+fn say_both(alloc: Global, said: &mut Said) {
+    let cached = cached(alloc);
+    say_made(alloc, &cached, said);
+    let emit = emit(alloc);
+    say_made(alloc, &emit, said);
 }
 
 /// Prints what is told of both kinds.
 pub fn run_unfound_cases(rt: &HostRuntime) -> io::Result<()> {
     let mut said = Said::new(rt.alloc());
-    say_made(rt.alloc(), cached(rt.alloc()), &mut said);
-    say_made(rt.alloc(), emit(rt.alloc()), &mut said);
+    say_both(rt.alloc(), &mut said);
     print!(rt; "{}", said.text().unwrap_or("out of memory\n"))
 }
