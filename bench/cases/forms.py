@@ -148,13 +148,14 @@ MADE = {
     "Bool": {"span": SPAN, "value": True}, "Number": {"span": SPAN, "raw": "text"}, "BigInt": {"span": SPAN, "raw": "text"},
     "Regex": {"span": SPAN, "exp": "text", "flags": "text"},
     "TsInterfaceDecl": {"span": SPAN, "id": None, "declare": True, "type_params": None, "extends": None, "body": None},
+    "Ident": {"span": SPAN, "ctxt": 2, "sym": "text", "optional": False},
     "TsTypeAssertion": {"span": SPAN, "expr": None, "type_ann": VOID}, "TsSatisfiesExpr": {"span": SPAN, "expr": None, "type_ann": VOID},
     "ts_readonly": {"span": [0, 0], "op": "ReadOnly", "type_ann": VOID}, "ts_tuple_element": {"span": [0, 0], "label": None, "ty": VOID},
 }
 
 
 def forms_are_made():
-    remark("forms and types that no transform makes")
+    remark("forms and types that no transform makes, and an identifier of a copied id")
     for name, made in MADE.items():
         case(f"make {name}", text_of(made))
 

@@ -78,7 +78,7 @@ static void limit(int what, rlim_t most) {
 /* In the server it never returns; in a child it returns to `main`, with the command of the order. */
 __attribute__((constructor)) static void serve(int count, char **words, char **env) {
   const char *named = getenv("FORK_SERVER");
-  if (!named || count != 3) return;
+  if (!named || count < 2) return;
   int orders = atoi(named);
   uint64_t *shared = mmap(NULL, sizeof *shared, PROT_READ | PROT_WRITE, MAP_SHARED | MAP_ANONYMOUS, -1, 0);
   (void)env;
@@ -125,14 +125,15 @@ def compile_library(folder):
 class ForkServer:
     """Runs a program on one input after another, over the library that `compile_library` made."""
 
-    def __init__(self, program, library, *kept):
-        """`kept` are files that stay open in the runs."""
+    def __init__(self, program, library, *kept, word=None, folder=None):
+        """`kept` are files that stay open in the runs. With `word` this is the one word of each run, which reads what it needs in `folder`."""
         self.input, *self.streams = (os.memfd_create(name) for name in ("input", "out", "err"))
         self.orders, theirs = socket.socketpair()
-        words = [program, LONGEST, f"/proc/self/fd/{self.input}"]
+        words = [program, word] if word else [program, LONGEST, f"/proc/self/fd/{self.input}"]
         env = {**os.environ, "LD_PRELOAD": library, "FORK_SERVER": str(theirs.fileno())}
         out, err = self.streams
-        self.server = subprocess.Popen(words, env=env, stdin=subprocess.DEVNULL, stdout=out, stderr=err, pass_fds=[self.input, theirs.fileno(), *kept])
+        files = [self.input, theirs.fileno(), *kept]
+        self.server = subprocess.Popen(words, env=env, cwd=folder, stdin=subprocess.DEVNULL, stdout=out, stderr=err, pass_fds=files)
         theirs.close()
 
     def run(self, command, text, most_bytes=UNLIMITED, most_seconds=UNLIMITED, refused=0, behind=False, calls=0):

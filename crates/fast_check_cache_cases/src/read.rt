@@ -1,8 +1,8 @@
-//! A run of builds, read from JSON: its cache, and what is built with it.
+//! What is read of a run of builds beside its requests.
 
 use crate::run_cache::{RunCache, Traits};
-use fast_check_build_requests::{BuildRequest, read_build_request};
 use fast_check_cache::FastCheckCacheItem;
+use fast_check_cases::Said;
 use fast_check_packages::PackageNv;
 use fast_check_read::{ReadError, read_array, read_optional_flag, read_text};
 use fast_check_read_tables::{read_list, read_option};
@@ -12,20 +12,26 @@ use std::collections::BTreeSet;
 use url::Url;
 
 /// A run: builds with one cache, one after the other.
-#[derive(Drop)]
+#[derive(Clone, Copy)]
 pub struct Run {
-    pub cache: RunCache,
-    pub requests: Vec<BuildRequest>,
+    pub traits: Traits,
     /// How many times each request is built.
     pub times: u64,
 }
 
-fn ordered<T: Ord + Drop>(alloc: Global, items: Vec<T>) -> Result<BTreeSet<T>, AllocError> {
-    let mut set = BTreeSet::new(alloc);
-    for item in items {
-        set.insert(item)?;
+/// The item of a package: its entry points and its dependencies.
+type Row = (PackageNv, Vec<Url>, Vec<PackageNv>);
+
+/// These items in order, none where memory is wanting: then nothing is a text any more.
+fn ordered<T: Ord + Drop>(alloc: Global, items: Vec<T>, said: &mut Said) -> BTreeSet<T> {
+    let made: Result<BTreeSet<T>, AllocError> = items.into_iter().collect(alloc);
+    match made {
+        Ok(set) => set,
+        Err(_) => {
+            said.lack();
+            BTreeSet::new(alloc)
+        }
     }
-    Ok(set)
 }
 
 fn read_traits(alloc: Global, value: &Value) -> Result<Traits, ReadError> {
@@ -42,38 +48,52 @@ fn read_traits(alloc: Global, value: &Value) -> Result<Traits, ReadError> {
     })
 }
 
-/// Fills a cache with items of packages: their entry points and their dependencies, and no modules.
-fn fill(alloc: Global, value: &Value, cache: &mut RunCache) -> Result<(), ReadError> {
-    let items: Vec<(PackageNv, Vec<Url>, Vec<PackageNv>)> = read_list(alloc, value, "items")?;
-    for (package_nv, entrypoints, dependencies) in items {
-        let entrypoints = ordered(alloc, entrypoints)?;
-        let item = FastCheckCacheItem {
-            dependencies: ordered(alloc, dependencies)?,
-            modules: Vec::new(alloc),
-        };
-        cache.fill(&package_nv, &entrypoints, item)?;
-    }
-    Ok(())
+/// Fills a cache with the item of a package, which has no modules.
+fn fill_row(alloc: Global, row: Row, cache: &mut RunCache, said: &mut Said) {
+    let (package_nv, entrypoints, dependencies) = row;
+    let entrypoints = ordered(alloc, entrypoints, said);
+    let item = FastCheckCacheItem {
+        dependencies: ordered(alloc, dependencies, said),
+        modules: Vec::new(alloc),
+    };
+    said.note(cache.fill(&package_nv, &entrypoints, item));
 }
 
-fn read_requests(alloc: Global, value: &Value) -> Result<Vec<BuildRequest>, ReadError> {
-    let mut requests = Vec::new(alloc);
-    for build in read_array(value.get("builds").ok_or(ReadError::BadForm)?)? {
-        requests.push(read_build_request(alloc, build)?)?;
+fn fill_rows(alloc: Global, rows: Vec<Row>, cache: &mut RunCache, said: &mut Said) {
+    for row in rows {
+        fill_row(alloc, row, cache, said);
     }
-    Ok(requests)
+}
+
+/// Says what is wrong with a run.
+pub fn say_refused(error: ReadError, said: &mut Said) {
+    match error {
+        ReadError::BadForm => said.say("\n  bad form"),
+        ReadError::OutOfMemory => said.lack(),
+    }
+}
+
+/// Fills a cache with the items of a run.
+pub fn fill(alloc: Global, value: &Value, cache: &mut RunCache, said: &mut Said) {
+    let rows: Result<Vec<Row>, ReadError> = read_list(alloc, value, "items");
+    match rows {
+        Ok(rows) => fill_rows(alloc, rows, cache, said),
+        Err(error) => say_refused(error, said),
+    }
 }
 
 /// Reads `{"own_seed": false, "one_key": false, "refused_get": 2, "refused_set": 2, "items": [[PACKAGE, [URL, ..], [PACKAGE, ..]], ..],
-/// "times": 2, "builds": [..]}`, of which all but `builds` may be left out.
+/// "times": 2, "builds": [..]}` without the items and the builds. All but `builds` may be left out.
 pub fn read_run(alloc: Global, value: &Value) -> Result<Run, ReadError> {
-    let mut cache = RunCache::new(alloc, read_traits(alloc, value)?);
-    fill(alloc, value, &mut cache)?;
     Ok(Run {
-        cache,
-        requests: read_requests(alloc, value)?,
+        traits: read_traits(alloc, value)?,
         times: read_option(alloc, value, "times")?.unwrap_or(1),
     })
+}
+
+/// The requests of a run.
+pub fn read_builds(value: &Value) -> Result<&Vec<Value>, ReadError> {
+    read_array(value.get("builds").ok_or(ReadError::BadForm)?)
 }
 
 /// The name of a run.

@@ -1,4 +1,4 @@
-//! A cache in memory that tells what is set, for runs of builds.
+//! A cache in memory that says what is set, for runs of builds.
 
 ghost use Rattle.std.specs.Prelude.{◌≡◌};
 ghost use Rattle.fast_check_cache_cases.specs.Memory.{items_at, HasNothing};
@@ -6,7 +6,9 @@ ghost use Rattle.fast_check_cache_cases.specs.Hash.{hash_in};
 
 use crate::hash::package_hash;
 use crate::items::Items;
+use crate::said_answers::say_item;
 use fast_check_cache::{FastCheckCache, FastCheckCacheItem, FastCheckCacheKey};
+use fast_check_cases::Said;
 use fast_check_packages::PackageNv;
 use std::alloc::{AllocError, Global};
 use std::cell::Cell;
@@ -25,15 +27,16 @@ pub struct Traits {
     pub refused_set: Option<u64>,
 }
 
-/// A cache in memory that notes what is set.
+/// A cache in memory that says what is set.
 #[derive(Drop)]
 pub struct RunCache {
+    alloc: Global,
     items: Items,
     traits: Traits,
     gets: Cell<u64>,
     sets: u64,
-    /// The keys that a `set` came with since the log was taken, with the items.
-    log: Vec<(u64, FastCheckCacheItem)>,
+    /// What was set since the last build.
+    log: Said,
 }
 
 impl RunCache {
@@ -42,20 +45,25 @@ impl RunCache {
         ensures { HasNothing result.items }
     {
         RunCache {
+            alloc,
             items: Items::new(alloc),
             traits,
             gets: Cell::new(0),
             sets: 0,
-            log: Vec::new(alloc),
+            log: Said::new(alloc),
         }
     }
 
-    /// What was set since the last call.
-    pub fn take_log(&mut self, alloc: Global) -> Vec<(u64, FastCheckCacheItem)> {
-        std::mem::replace(&mut self.log, Vec::new(alloc))
+    /// Says what was set since the last call.
+    pub fn say_log(&mut self, said: &mut Said) {
+        match self.log.text() {
+            Some(text) => said.say(text),
+            None => said.lack(),
+        }
+        self.log = Said::new(self.alloc);
     }
 
-    /// Sets an item that is not told.
+    /// Sets an item, and does not say so.
     pub fn fill(
         &mut self,
         package_nv: &PackageNv,
@@ -99,8 +107,7 @@ impl FastCheckCache for RunCache {
         if self.traits.refused_set == Some(self.sets) {
             return Err(AllocError);
         }
-        let copy = item.clone()?;
-        self.log.push((key.as_u64(), copy))?;
+        say_item(self.alloc, key.as_u64(), &item, &mut self.log);
         self.items.set(key, item)
     }
 }

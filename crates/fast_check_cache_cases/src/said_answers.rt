@@ -23,12 +23,25 @@ fn is_answered(answers: &[ModuleAnswer], specifier: &Url, made: &FastCheckModule
     })
 }
 
+/// Says whether a copy of a skeleton is that of a build without a cache.
+fn say_skeleton(plain: &[ModuleAnswer], specifier: &Url, made: &FastCheckModule, said: &mut Said) {
+    match made.clone() {
+        Ok(copy) => {
+            if is_answered(plain, specifier, &copy) {
+                said.say(" the skeleton");
+            } else {
+                said.say(" another skeleton");
+            }
+        }
+        Err(_) => said.lack(),
+    }
+}
+
 fn say_answer(answer: &ModuleAnswer, plain: &[ModuleAnswer], said: &mut Said) {
     let (specifier, made) = answer;
     said.say_path("\n    answers ", specifier.as_str(), ":");
     match made {
-        Ok(made) if is_answered(plain, specifier, made) => said.say(" the skeleton"),
-        Ok(_) => said.say(" another skeleton"),
+        Ok(made) => say_skeleton(plain, specifier, made, said),
         Err(diagnostics) => say_codes(diagnostics.as_slice(), said),
     }
 }
@@ -40,27 +53,30 @@ pub fn say_answers(answers: &[ModuleAnswer], plain: &[ModuleAnswer], said: &mut 
     }
 }
 
-fn say_item(alloc: Global, key: u64, item: &FastCheckCacheItem, said: &mut Said) {
-    said.say_made(format!(in alloc; "\n    sets {key}:"));
-    for dependency in &item.dependencies {
-        said.say_made(format!(in alloc; " needs {dependency}"));
+/// Whether a module of an item is kept as a skeleton or as a diagnostic.
+pub fn kind_of(module: &FastCheckCacheModuleItem) -> &'static str {
+    match module {
+        FastCheckCacheModuleItem::Info(_) => "skeleton",
+        FastCheckCacheModuleItem::Diagnostic(_) => "diagnostic",
     }
-    for (specifier, module) in item.modules.as_slice() {
-        let kind = match module {
-            FastCheckCacheModuleItem::Info(_) => "skeleton",
-            FastCheckCacheModuleItem::Diagnostic(_) => "diagnostic",
-        };
+}
+
+fn say_modules(alloc: Global, modules: &[(Url, FastCheckCacheModuleItem)], said: &mut Said) {
+    for (specifier, module) in modules {
         said.say_made(format!(in alloc;
-            " {kind} {} of {}",
+            " {} {} of {}",
+            kind_of(module),
             module.source_hash(),
             specifier.as_str()
         ));
     }
 }
 
-/// Says which items were set.
-pub fn say_items(alloc: Global, items: &[(u64, FastCheckCacheItem)], said: &mut Said) {
-    for (key, item) in items {
-        say_item(alloc, *key, item, said);
+/// Says that an item is set under a key.
+pub fn say_item(alloc: Global, key: u64, item: &FastCheckCacheItem, said: &mut Said) {
+    said.say_made(format!(in alloc; "\n    sets {key}:"));
+    for dependency in &item.dependencies {
+        said.say_made(format!(in alloc; " needs {dependency}"));
     }
+    say_modules(alloc, item.modules.as_slice(), said);
 }

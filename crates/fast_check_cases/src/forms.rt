@@ -11,7 +11,8 @@ mod made;
 mod names;
 mod odd;
 
-use crate::forms::cases::run_case;
+use crate::forms::cases::say_case;
+use crate::said::Said;
 use std::{fs, io};
 
 fn run(rt: &HostRuntime, cases: &str) -> io::Result<()> {
@@ -25,10 +26,9 @@ fn run_line(rt: &HostRuntime, line: &str) -> io::Result<()> {
     if line.starts_with('#') {
         return println!(rt; "{line}");
     }
-    match run_case(rt.alloc(), line) {
-        Ok(answer) => println!(rt; "{answer}"),
-        Err(error) => println!(rt; "{error}"),
-    }
+    let mut said = Said::new(rt.alloc());
+    say_case(rt.alloc(), line, &mut said);
+    println!(rt; "{}", said.text().unwrap_or("out of memory"))
 }
 
 /// Runs the lines of the file `forms`.

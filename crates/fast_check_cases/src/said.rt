@@ -39,8 +39,8 @@ impl Said {
     pub fn say(&mut self, text: &str)
         ensures { Says text.now self.old self.new }
     {
-        let told = self.text.push_str(text);
-        self.note(told);
+        let done = self.text.push_str(text);
+        self.note(done);
     }
 
     /// Says a text that was made, if it was.

@@ -19,13 +19,14 @@ use url::Url;
 
 /// What is known of modules without their sources: there is one, which is written in TypeScript.
 fn known_modules(alloc: Global, specifier: &Url) -> Result<BTreeMap<Url, Module>, AllocError> {
+    let name = specifier.clone()?;
     let module = Module::Js {
         media_type: MediaType::TypeScript,
         has_types_dependency: false,
         source_hash: None,
     };
     let mut modules = BTreeMap::new(alloc);
-    modules.insert(specifier.clone()?, module)?;
+    modules.insert(name, module)?;
     Ok(modules)
 }
 
@@ -69,25 +70,26 @@ fn provider(alloc: Global, package: &PackageNv) -> Result<ListedPackages> {
 /// What the package is answered: it is followed, and all that it asks of others.
 fn follow(
     alloc: Global,
+    provider: &ListedPackages,
     graph: &ModuleGraph,
     root_symbol: &RootSymbol,
     package: PackageNv,
 ) -> Result<Vec<ModuleAnswer>> {
-    let provider = provider(alloc, &package)?;
     let pending = Vec::from_array(alloc, [package])?;
     let options = TransformOptions {
         workspace_members: Vec::new(alloc),
         should_error_on_first_diagnostic: false,
     };
-    Ok(build_fast_check_type_graph(
+    let answers = build_fast_check_type_graph(
         alloc,
         None,
-        &provider,
+        provider,
         graph,
         root_symbol,
         VecDeque::from(pending),
         &options,
-    )?)
+    );
+    Ok(answers?)
 }
 
 /// What the package is answered whose one module has these symbols.
@@ -100,8 +102,9 @@ fn build_package(
         name: String::from_str(alloc, "@example/hello")?,
         version: Version::new(1, 0, 0),
     };
+    let provider = provider(alloc, &package)?;
     let graph = module_graph(alloc, specifier, &package)?;
-    follow(alloc, &graph, root_symbol, package)
+    follow(alloc, &provider, &graph, root_symbol, package)
 }
 
 /// What the package of this module is answered.
@@ -111,14 +114,18 @@ fn build(alloc: Global, line: Line) -> Result<Vec<ModuleAnswer>> {
     build_package(alloc, &specifier, &root_symbol)
 }
 
+fn print_answers(rt: &HostRuntime, answers: &[ModuleAnswer]) -> Result<()> {
+    for answer in answers {
+        print_answer(rt, answer)?;
+    }
+    Ok(())
+}
+
 /// Builds the package of this module, and prints what it is answered.
 fn run(rt: &HostRuntime, line: Line) -> Result<()> {
     println!(rt; "{}", line.text)?;
     let answers = build(rt.alloc(), line)?;
-    for answer in answers.as_slice() {
-        print_answer(rt, answer)?;
-    }
-    Ok(())
+    print_answers(rt, answers.as_slice())
 }
 
 pub fn run_example(rt: &HostRuntime) -> Result<()> {

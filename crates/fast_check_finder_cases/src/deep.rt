@@ -3,16 +3,20 @@
 mod trees;
 
 use crate::deep::trees::deep_module;
+use crate::modules::info_of;
+use crate::written::say_written;
 use fast_check_cases::Said;
+use fast_check_graph::ModuleGraph;
 use fast_check_module_transform::{TransformOptions, transform};
-use fast_check_modules::EsModuleInfo;
+use fast_check_modules::diagnostics::ModulePublicRanges;
+use fast_check_modules::{EsModuleInfo, TableFault};
 use fast_check_parsed_source::ParsedSource;
 use fast_check_requests::{EsModuleParts, Refusal, TransformRequest, read_request};
 use fast_check_schema::Form;
 use fast_check_syntax::{Kind, Tree, clone_tree};
 use fast_check_write::write_tree;
 use json::Writer;
-use std::alloc::{AllocError, Global};
+use std::alloc::Global;
 use std::{fs, io};
 
 /// The numbers of a line, 0 where one is missing.
@@ -28,77 +32,108 @@ fn number(word: Option<&str>) -> u32 {
     }
 }
 
-fn say_skeleton(alloc: Global, program: &Tree, said: &mut Said) -> Result<(), AllocError> {
-    let mut out = Writer::new(Vec::new(alloc));
-    write_tree(&mut out, program, Form::Struct(Kind::Module))?;
-    match String::from_utf8(out.into_inner()) {
-        Ok(text) => said.say(text.as_str()),
+/// Says whether a copy of a tree is equal to it.
+fn say_copy(alloc: Global, program: &Tree, said: &mut Said) {
+    match clone_tree(alloc, program) {
+        Ok(copy) => said.say_flag(copy == *program),
         Err(_) => said.lack(),
     }
-    let copy = clone_tree(alloc, program)?;
-    said.say("\n    its copy is equal to it: ");
-    said.say_flag(copy == *program);
-    Ok(())
 }
 
-/// The module of a request, with another tree.
-fn info_of(alloc: Global, parts: EsModuleParts, program: Tree) -> Result<EsModuleInfo, Refusal> {
+fn say_skeleton(alloc: Global, program: &Tree, said: &mut Said) {
+    let mut out = Writer::new(Vec::new(alloc));
+    let done = write_tree(&mut out, program, Form::Struct(Kind::Module));
+    say_written(out, done, said);
+    said.say("\n    its copy is equal to it: ");
+    say_copy(alloc, program, said);
+}
+
+/// Transforms a module, and says its skeleton.
+fn say_module(
+    alloc: Global,
+    graph: &ModuleGraph,
+    info: &EsModuleInfo,
+    public_ranges: &ModulePublicRanges,
+    said: &mut Said,
+) {
+    if !info.admits(public_ranges) {
+        said.say(Refusal::RangesNotAdmitted.line());
+        return;
+    }
+    let options = TransformOptions {
+        workspace_members: Vec::new(alloc),
+        should_error_on_first_diagnostic: false,
+    };
+    match transform(alloc, graph, info, public_ranges, &options) {
+        Ok(Ok(module)) => say_skeleton(alloc, &module.program, said),
+        Ok(Err(_)) => said.say("faults"),
+        Err(_) => said.lack(),
+    }
+}
+
+/// Says what comes of a module, if it was made.
+fn say_made(
+    alloc: Global,
+    graph: &ModuleGraph,
+    made: &Result<EsModuleInfo, TableFault>,
+    public_ranges: &ModulePublicRanges,
+    said: &mut Said,
+) {
+    match made {
+        Ok(info) => say_module(alloc, graph, info, public_ranges, said),
+        Err(fault) => said.say(Refusal::from(*fault).line()),
+    }
+}
+
+/// The parts of a module, with another tree.
+fn with_program(parts: EsModuleParts, program: Tree) -> EsModuleParts {
     let EsModuleParts {
         specifier,
         source,
         tables,
     } = parts;
     let source = ParsedSource { program, ..source };
-    Ok(EsModuleInfo::new(alloc, specifier, source, tables)?)
+    EsModuleParts {
+        specifier,
+        source,
+        tables,
+    }
 }
 
 /// Transforms the module of a request, with the tree of a line.
-fn say_line(
-    alloc: Global,
-    request: TransformRequest,
-    line: &str,
-    said: &mut Said,
-) -> Result<(), Refusal> {
+fn say_request(alloc: Global, request: TransformRequest, line: &str, said: &mut Said) {
     let (parentheses, arrays) = numbers(line);
+    let program = deep_module(alloc, parentheses, arrays, said);
     let TransformRequest {
         graph,
         es_module,
         public_ranges,
-        should_error_on_first_diagnostic,
+        ..
     } = request;
-    let program = deep_module(alloc, parentheses, arrays)?;
-    let info = info_of(alloc, es_module, program)?;
-    if !info.admits(&public_ranges) {
-        return Err(Refusal::RangesNotAdmitted);
-    }
-    let options = TransformOptions {
-        workspace_members: Vec::new(alloc),
-        should_error_on_first_diagnostic,
-    };
-    match transform(alloc, &graph, &info, &public_ranges, &options)? {
-        Ok(module) => Ok(say_skeleton(alloc, &module.program, said)?),
-        Err(_) => {
-            said.say("faults");
-            Ok(())
-        }
+    let made = info_of(alloc, with_program(es_module, program));
+    say_made(alloc, &graph, &made, &public_ranges, said);
+}
+
+fn say_line(alloc: Global, bytes: &[u8], line: &str, said: &mut Said) {
+    match read_request(alloc, bytes) {
+        Ok(request) => say_request(alloc, request, line, said),
+        Err(refusal) => said.say(refusal.line()),
     }
 }
 
-fn say_request(alloc: Global, bytes: &[u8], line: &str, said: &mut Said) -> Result<(), Refusal> {
-    say_line(alloc, read_request(alloc, bytes)?, line, said)
+fn say_lines(alloc: Global, bytes: &[u8], lines: &str, said: &mut Said) {
+    for line in lines.lines() {
+        said.say_path("", line, "\n    ");
+        say_line(alloc, bytes, line, said);
+        said.say("\n");
+    }
 }
 
 /// Runs the lines of the file `deep`.
 pub fn run_deep_cases(rt: &HostRuntime) -> io::Result<()> {
-    let cases = fs::read_to_string(rt, "deep")?;
+    let lines = fs::read_to_string(rt, "deep")?;
     let bytes = fs::read(rt, "deep.json")?;
-    for line in cases.as_str().lines() {
-        let mut said = Said::new(rt.alloc());
-        if let Err(refusal) = say_request(rt.alloc(), bytes.as_slice(), line, &mut said) {
-            said.say(refusal.line());
-        }
-        let text = said.text().unwrap_or("no memory");
-        println!(rt; "{line}\n    {text}")?;
-    }
-    Ok(())
+    let mut said = Said::new(rt.alloc());
+    say_lines(rt.alloc(), bytes.as_slice(), lines.as_str(), &mut said);
+    print!(rt; "{}", said.text().unwrap_or("no memory\n"))
 }

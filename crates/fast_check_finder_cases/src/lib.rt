@@ -4,12 +4,14 @@
 
 mod deep;
 mod faults;
+mod modules;
 mod places;
 mod said_answers;
 mod said_packages;
 mod transformers;
 mod unfound;
 mod worlds;
+mod written;
 
 pub use deep::run_deep_cases;
 pub use faults::run_fault_cases;

@@ -1,14 +1,13 @@
 //! Places of diagnostics: when two are one. Each line of the file `places` is one: its module, its start and its end, and behind `|` the text of the
 //! module. Each is compared with the first, and with a copy of itself.
 
-use anyhow::Result;
 use fast_check_cases::Said;
 use fast_check_diagnostics::FastCheckDiagnosticRange;
 use fast_check_syntax::{SourcePos, SourceRange};
 use std::alloc::Global;
-use std::fs;
 use std::hash::{DefaultHasher, Hash, Hasher};
 use std::rc::RcStr;
+use std::{fs, io};
 use url::Url;
 
 /// The number of a word, 0 where it is none.
@@ -27,14 +26,16 @@ fn range_of(words: &str) -> SourceRange {
     }
 }
 
-/// The place of a line.
-fn place_of(alloc: Global, line: &str) -> Result<FastCheckDiagnosticRange> {
+/// The place of a line, None where it names no module or memory is wanting.
+fn place_of(alloc: Global, line: &str) -> Option<FastCheckDiagnosticRange> {
     let (words, text) = line.split_once('|').unwrap_or((line, ""));
-    let text_info = RcStr::from_str(alloc, text)?;
     let name = words.split_whitespace().next().unwrap_or("");
-    Ok(FastCheckDiagnosticRange {
-        specifier: Url::parse(alloc, name)?,
-        range: range_of(words),
+    let range = range_of(words);
+    let text_info = RcStr::from_str(alloc, text).ok()?;
+    let specifier = Url::parse(alloc, name).ok()?;
+    Some(FastCheckDiagnosticRange {
+        specifier,
+        range,
         text_info,
     })
 }
@@ -59,36 +60,44 @@ fn say_compared(
     }
 }
 
-/// Says what the place of a line is to the first, and to its copy.
-fn say_line(
-    alloc: Global,
-    first: &FastCheckDiagnosticRange,
-    line: &str,
-    said: &mut Said,
-) -> Result<()> {
-    let place = place_of(alloc, line)?;
-    let copy = place.clone()?;
-    said.say_path("", line, "\n    to the first: ");
-    say_compared(first, &place, said);
-    said.say("\n    to its copy: ");
-    say_compared(&place, &copy, said);
-    said.say("\n");
-    Ok(())
+fn say_copy(place: &FastCheckDiagnosticRange, said: &mut Said) {
+    match place.clone() {
+        Ok(copy) => say_compared(place, &copy, said),
+        Err(_) => said.lack(),
+    }
 }
 
-fn say_lines(alloc: Global, lines: &str, said: &mut Said) -> Result<()> {
-    let first = place_of(alloc, lines.lines().next().unwrap_or(""))?;
-    for line in lines.lines() {
-        say_line(alloc, &first, line, said)?;
+/// Says what the place of a line is to the first, and to its copy.
+fn say_line(alloc: Global, first: &FastCheckDiagnosticRange, line: &str, said: &mut Said) {
+    match place_of(alloc, line) {
+        Some(place) => {
+            said.say_path("", line, "\n    to the first: ");
+            say_compared(first, &place, said);
+            said.say("\n    to its copy: ");
+            say_copy(&place, said);
+            said.say("\n");
+        }
+        None => said.lack(),
     }
-    Ok(())
+}
+
+fn say_lines(alloc: Global, first: &FastCheckDiagnosticRange, lines: &str, said: &mut Said) {
+    for line in lines.lines() {
+        say_line(alloc, first, line, said);
+    }
+}
+
+fn say_places(alloc: Global, lines: &str, said: &mut Said) {
+    match place_of(alloc, lines.lines().next().unwrap_or("")) {
+        Some(first) => say_lines(alloc, &first, lines, said),
+        None => said.lack(),
+    }
 }
 
 /// Prints what the places of the file `places` are to one another.
-pub fn run_place_cases(rt: &HostRuntime) -> Result<()> {
+pub fn run_place_cases(rt: &HostRuntime) -> io::Result<()> {
     let lines = fs::read_to_string(rt, "places")?;
     let mut said = Said::new(rt.alloc());
-    say_lines(rt.alloc(), lines.as_str(), &mut said)?;
-    print!(rt; "{}", said.text().unwrap_or("out of memory\n"))?;
-    Ok(())
+    say_places(rt.alloc(), lines.as_str(), &mut said);
+    print!(rt; "{}", said.text().unwrap_or("out of memory\n"))
 }

@@ -4,8 +4,8 @@ use fast_check_cases::Said;
 use fast_check_diagnostics::{Diagnostic, DiagnosticLocation, FastCheckDiagnostic};
 use std::alloc::Global;
 
-fn say_location(alloc: Global, told: &dyn Diagnostic, said: &mut Said) {
-    match told.location() {
+fn say_location(alloc: Global, diagnostic: &dyn Diagnostic, said: &mut Said) {
+    match diagnostic.location() {
         DiagnosticLocation::ModulePosition {
             specifier,
             text_info,
@@ -19,8 +19,8 @@ fn say_location(alloc: Global, told: &dyn Diagnostic, said: &mut Said) {
     }
 }
 
-fn say_snippet(alloc: Global, told: &dyn Diagnostic, said: &mut Said) {
-    match told.snippet() {
+fn say_snippet(alloc: Global, diagnostic: &dyn Diagnostic, said: &mut Said) {
+    match diagnostic.snippet() {
         None => said.say("none"),
         Some(snippet) => said.say_made(format!(in alloc;
             "{} to {} of {} bytes: {:?}",

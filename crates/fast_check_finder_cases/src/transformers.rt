@@ -4,26 +4,24 @@ mod calls;
 
 use crate::transformers::calls::say_calls;
 use fast_check_cases::Said;
-use fast_check_requests::{Refusal, read_request};
+use fast_check_requests::read_request;
 use std::alloc::Global;
 use std::{fs, io};
 
-/// Transforms the module of a request.
-fn say_request(alloc: Global, bytes: &[u8], said: &mut Said) -> Result<(), Refusal> {
-    say_calls(alloc, read_request(alloc, bytes)?, said)
+/// Transforms the module of the bytes of a file.
+fn say_file(alloc: Global, bytes: &[u8], said: &mut Said) {
+    match read_request(alloc, bytes) {
+        Ok(request) => say_calls(alloc, request, said),
+        Err(refusal) => said.say(refusal.line()),
+    }
 }
 
 fn run_file(rt: &HostRuntime, name: &str) -> io::Result<()> {
     println!(rt; "{name}")?;
     let bytes = fs::read(rt, name)?;
     let mut said = Said::new(rt.alloc());
-    if let Err(refusal) = say_request(rt.alloc(), bytes.as_slice(), &mut said) {
-        said.say(refusal.line());
-    }
-    match said.text() {
-        Some(text) => println!(rt; "{text}"),
-        None => println!(rt; "no memory"),
-    }
+    say_file(rt.alloc(), bytes.as_slice(), &mut said);
+    println!(rt; "{}", said.text().unwrap_or("no memory"))
 }
 
 /// Runs the files that the file `transformers` names.

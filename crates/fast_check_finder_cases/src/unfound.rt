@@ -1,69 +1,69 @@
 //! The two kinds of diagnostics that neither finder nor transform finds.
 
 use crate::said_answers::say_diagnostic;
-use anyhow::Result;
+use crate::written::say_written;
 use fast_check_cases::Said;
 use fast_check_diagnostics::FastCheckDiagnostic;
 use fast_check_write::write_diagnostics;
 use json::Writer;
 use std::alloc::{AllocError, Global};
-use std::array;
+use std::{array, io};
 use url::Url;
 
-fn specifier(alloc: Global) -> Result<Url> {
-    Ok(Url::parse(alloc, "file:///p/mod.ts")?)
+/// The module that both are told of, None where memory is wanting.
+fn specifier(alloc: Global) -> Option<Url> {
+    Url::parse(alloc, "file:///p/mod.ts").ok()
 }
 
-fn cached(alloc: Global) -> Result<FastCheckDiagnostic> {
-    Ok(FastCheckDiagnostic::Cached {
-        specifier: specifier(alloc)?,
-    })
+fn cached(alloc: Global) -> Option<FastCheckDiagnostic> {
+    let specifier = specifier(alloc)?;
+    Some(FastCheckDiagnostic::Cached { specifier })
 }
 
-fn emit(alloc: Global) -> Result<FastCheckDiagnostic> {
-    let inner = String::from_str(alloc, "no \"text\"")?;
-    Ok(FastCheckDiagnostic::Emit {
-        specifier: specifier(alloc)?,
-        inner,
-    })
+fn emit(alloc: Global) -> Option<FastCheckDiagnostic> {
+    let inner = String::from_str(alloc, "no \"text\"").ok()?;
+    let specifier = specifier(alloc)?;
+    Some(FastCheckDiagnostic::Emit { specifier, inner })
 }
 
-fn write_copy(
-    alloc: Global,
-    out: &mut Writer,
-    diagnostic: &FastCheckDiagnostic,
-) -> Result<(), AllocError> {
-    let copy = diagnostic.clone()?;
-    write_diagnostics(alloc, out, array::from_ref(&copy))
-}
-
-/// Says the JSON of a copy.
-fn say_json(alloc: Global, diagnostic: &FastCheckDiagnostic, said: &mut Said) {
-    let mut out = Writer::new(Vec::new(alloc));
-    said.note(write_copy(alloc, &mut out, diagnostic));
-    match String::from_utf8(out.into_inner()) {
-        Ok(text) => said.say(text.as_str()),
-        Err(_) => said.lack(),
-    }
-}
-
-/// Says a diagnostic that was made, if it was.
-fn say_made(alloc: Global, made: Result<FastCheckDiagnostic>, said: &mut Said) {
-    match made {
-        Ok(diagnostic) => {
-            say_json(alloc, &diagnostic, said);
-            say_diagnostic(alloc, &diagnostic, said);
+/// Says the JSON of a copy, if it was made.
+fn say_json(alloc: Global, copy: &Result<FastCheckDiagnostic, AllocError>, said: &mut Said) {
+    match copy {
+        Ok(copy) => {
+            let mut out = Writer::new(Vec::new(alloc));
+            let done = write_diagnostics(alloc, &mut out, array::from_ref(copy));
+            say_written(out, done, said);
         }
         Err(_) => said.lack(),
     }
+}
+
+/// Says the JSON of a copy, and all that is told of a diagnostic.
+fn say_all(alloc: Global, diagnostic: &FastCheckDiagnostic, said: &mut Said) {
+    let copy: Result<FastCheckDiagnostic, AllocError> = diagnostic.clone();
+    say_json(alloc, &copy, said);
+    say_diagnostic(alloc, diagnostic, said);
     said.say("\n");
 }
 
+/// Says a diagnostic that was made, if it was.
+fn say_made(alloc: Global, made: &Option<FastCheckDiagnostic>, said: &mut Said) {
+    match made {
+        Some(diagnostic) => say_all(alloc, diagnostic, said),
+        None => said.lack(),
+    }
+}
+
+fn say_both(alloc: Global, said: &mut Said) {
+    let cached = cached(alloc);
+    say_made(alloc, &cached, said);
+    let emit = emit(alloc);
+    say_made(alloc, &emit, said);
+}
+
 /// Prints what is told of both kinds.
-pub fn run_unfound_cases(rt: &HostRuntime) -> Result<()> {
+pub fn run_unfound_cases(rt: &HostRuntime) -> io::Result<()> {
     let mut said = Said::new(rt.alloc());
-    say_made(rt.alloc(), cached(rt.alloc()), &mut said);
-    say_made(rt.alloc(), emit(rt.alloc()), &mut said);
-    print!(rt; "{}", said.text().unwrap_or("out of memory\n"))?;
-    Ok(())
+    say_both(rt.alloc(), &mut said);
+    print!(rt; "{}", said.text().unwrap_or("out of memory\n"))
 }

@@ -6,34 +6,59 @@ mod provider;
 mod refused;
 mod world;
 
-use crate::worlds::refused::{find, refuse_calls, say_found};
-use crate::worlds::world::{World, world_of};
-use fast_check_build_requests::{BuildRequest, read_build_request};
+use crate::worlds::provider::RefusingProvider;
+use crate::worlds::refused::{refuse_calls, say_found};
+use crate::worlds::world::World;
+use fast_check_build_requests::{BuildRequest, read_build_request, root_symbol_of};
 use fast_check_cases::Said;
+use fast_check_graph::RootSymbol;
 use fast_check_modules::TableFault;
-use fast_check_packages::PackageNv;
-use fast_check_read::{ReadError, read_text};
+use fast_check_read::{InputFault, ReadError, read_input, read_text};
 use fast_check_read_tables::read_list;
 use fast_check_syntax::SourceRange;
 use serde_json::Value;
 use std::alloc::Global;
 use std::{fs, io};
 
-/// Says what is found of the packages that are handed in, also with calls of the provider refused. Answers whether a call was.
+/// Says what is found in a world, also with calls of the provider refused. Answers whether a call was.
 fn say_packages_of(
     alloc: Global,
     world: &World,
-    pending: &[PackageNv],
+    root_symbol: &RootSymbol,
     ranges: &[SourceRange],
     said: &mut Said,
 ) -> bool {
-    let mut told = Said::new(alloc);
-    say_found(alloc, find(alloc, world, pending), ranges, &mut told);
-    match told.text() {
+    let mut found = Said::new(alloc);
+    say_found(alloc, world, root_symbol, ranges, &mut found);
+    match found.text() {
         Some(text) => said.say(text),
         None => said.lack(),
     }
-    refuse_calls(alloc, world, pending, ranges, &told, said)
+    refuse_calls(alloc, world, root_symbol, ranges, &found, said)
+}
+
+fn say_table_fault(fault: TableFault, said: &mut Said) {
+    match fault {
+        TableFault::OutOfMemory => said.lack(),
+        _ => said.say("\n  bad tables"),
+    }
+}
+
+/// Says what is found in a world, if its modules were made. Answers whether a call of its provider was refused.
+fn say_world(
+    alloc: Global,
+    world: &World,
+    made: &Result<RootSymbol, TableFault>,
+    ranges: &[SourceRange],
+    said: &mut Said,
+) -> bool {
+    match made {
+        Ok(root_symbol) => say_packages_of(alloc, world, root_symbol, ranges, said),
+        Err(fault) => {
+            say_table_fault(*fault, said);
+            false
+        }
+    }
 }
 
 fn say_request(
@@ -42,46 +67,72 @@ fn say_request(
     ranges: &[SourceRange],
     said: &mut Said,
 ) -> bool {
-    match world_of(alloc, request) {
-        Ok((world, pending)) => {
-            return say_packages_of(alloc, &world, pending.as_slice(), ranges, said);
-        }
-        Err(TableFault::OutOfMemory) => said.lack(),
-        Err(_) => said.say("\n  bad tables"),
-    }
-    false
+    let BuildRequest {
+        graph,
+        modules,
+        aliases,
+        workspace_members,
+        provider,
+        pending,
+        ..
+    } = request;
+    let world = World {
+        graph,
+        workspace_members,
+        provider: RefusingProvider::new(provider),
+        pending,
+    };
+    let made = root_symbol_of(alloc, modules, aliases);
+    say_world(alloc, &world, &made, ranges, said)
 }
 
-/// Says what is found in a world. Answers whether a call of its provider was refused.
-fn say_world(alloc: Global, value: &Value, said: &mut Said) -> Result<bool, ReadError> {
-    let ranges: Vec<SourceRange> = read_list(alloc, value, "ranges")?;
-    let request = read_build_request(alloc, value)?;
-    Ok(say_request(alloc, request, ranges.as_slice(), said))
-}
-
-/// Says the name of a world, and what is found in it. Answers whether a call of its provider was refused.
-fn say_line(alloc: Global, value: &Value, said: &mut Said) -> Result<bool, ReadError> {
-    let name = read_text(value.get("name").ok_or(ReadError::BadForm)?)?;
-    said.say_path("world ", name, "");
-    say_world(alloc, value, said)
-}
-
-fn say_refused(error: ReadError, said: &mut Said) {
+/// Says what is wrong with a line. No call of a provider was refused.
+fn say_refused(error: ReadError, said: &mut Said) -> bool {
     match error {
         ReadError::BadForm => said.say("\n  bad form"),
         ReadError::OutOfMemory => said.lack(),
     }
+    false
+}
+
+fn say_ranges(alloc: Global, value: &Value, ranges: &[SourceRange], said: &mut Said) -> bool {
+    match read_build_request(alloc, value) {
+        Ok(request) => say_request(alloc, request, ranges, said),
+        Err(error) => say_refused(error, said),
+    }
+}
+
+fn read_name(value: &Value) -> Result<&str, ReadError> {
+    read_text(value.get("name").ok_or(ReadError::BadForm)?)
+}
+
+/// Says the name of a world.
+fn say_name(value: &Value, said: &mut Said) {
+    match read_name(value) {
+        Ok(name) => said.say_path("world ", name, ""),
+        Err(_) => said.say("bad form"),
+    }
+}
+
+/// Says the name of a world, and what is found in it. Answers whether a call of its provider was refused.
+fn say_line(alloc: Global, value: &Value, said: &mut Said) -> bool {
+    say_name(value, said);
+    let ranges: Result<Vec<SourceRange>, ReadError> = read_list(alloc, value, "ranges");
+    match ranges {
+        Ok(ranges) => say_ranges(alloc, value, ranges.as_slice(), said),
+        Err(error) => say_refused(error, said),
+    }
 }
 
 fn say_text(alloc: Global, line: &str, said: &mut Said) -> bool {
-    match Value::from_str(alloc, line) {
-        Ok(value) => match say_line(alloc, &value, said) {
-            Ok(has_refused) => return has_refused,
-            Err(error) => say_refused(error, said),
-        },
-        Err(_) => said.say("no JSON"),
+    match read_input(alloc, line.as_bytes()) {
+        Ok(value) => say_line(alloc, &value, said),
+        Err(InputFault::NotJson) => {
+            said.say("no JSON");
+            false
+        }
+        Err(InputFault::OutOfMemory) => say_refused(ReadError::OutOfMemory, said),
     }
-    false
 }
 
 /// Runs the world of a line. Answers whether a call of its provider was refused.

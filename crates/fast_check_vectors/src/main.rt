@@ -41,19 +41,23 @@ fn run_vectors(rt: &HostRuntime) -> io::Result<()> {
     let cases = fs::read_to_string(rt, "cases")?;
     let mut out = rt.stdout();
     for line in cases.as_str().lines() {
-        if line.starts_with('#') {
-            println!(rt; "{line}")?;
-        } else {
-            println!(rt; "$ fast-check {line}")?;
-            let ending = run_line(rt, line, &mut out)?;
-            let status = ending.status;
-            println!(rt; "status {status}")?;
-            if !ending.is_written {
-                println!(rt; "the line was not taken")?;
-            }
-        }
+        run_case(rt, line, &mut out)?;
     }
     Ok(())
+}
+
+/// Runs `fast-check` with the words of a line, if it has any.
+fn run_case<W: Write>(rt: &HostRuntime, line: &str, out: &mut W) -> io::Result<()> {
+    if line.starts_with('#') {
+        return println!(rt; "{line}");
+    }
+    println!(rt; "$ fast-check {line}")?;
+    let ending = run_line(rt, line, out)?;
+    println!(rt; "status {}", ending.status)?;
+    if ending.is_written {
+        return Ok(());
+    }
+    println!(rt; "the line was not taken")
 }
 
 /// Runs the part of this name.
@@ -61,13 +65,13 @@ fn run_part(rt: &HostRuntime, part: &str) -> Result<()> {
     match part {
         "runs" => Ok(run_vectors(rt)?),
         "example" => run_example(rt),
-        "caches" => run_cache_cases(rt),
+        "caches" => Ok(run_cache_cases(rt)?),
         "cached_builds" => Ok(run_cached_builds(rt)?),
         "forms" => Ok(run_form_cases(rt)?),
         "names" => Ok(run_name_cases(rt)?),
-        "places" => run_place_cases(rt),
-        "unfound" => run_unfound_cases(rt),
-        "faults" => run_fault_cases(rt),
+        "places" => Ok(run_place_cases(rt)?),
+        "unfound" => Ok(run_unfound_cases(rt)?),
+        "faults" => Ok(run_fault_cases(rt)?),
         "worlds" => Ok(run_finder_cases(rt)?),
         "transformers" => Ok(run_transformer_cases(rt)?),
         "deep" => Ok(run_deep_cases(rt)?),
@@ -94,25 +98,38 @@ fn main(rt: HostRuntime) -> Result<()> {
 /// Runs the program with the words of a line. Both its outputs go to `out`.
 fn run_line<W: Write>(rt: &HostRuntime, line: &str, out: &mut W) -> io::Result<Ending> {
     let words = words(rt, line)?;
-    let input = match words.as_slice() {
+    let input = input_of(rt, line, words.as_slice());
+    run_words(rt, line, words.as_slice(), input, out)
+}
+
+/// The file that the words of a line name, if there are two and it opens.
+fn input_of(rt: &HostRuntime, line: &str, words: &[String]) -> Option<Input> {
+    match words {
         [_, path] => match File::open(rt, path.as_str()) {
             Ok(file) => Some(Input::new(file, redirects(line, "<broken"))),
             Err(_) => None,
         },
         _ => None,
-    };
+    }
+}
+
+fn run_words<W: Write>(
+    rt: &HostRuntime,
+    line: &str,
+    words: &[String],
+    input: Option<Input>,
+    out: &mut W,
+) -> io::Result<Ending> {
     let mut answer = Output::new(rt.alloc(), redirects(line, ">closed"));
     let mut errors = Output::new(rt.alloc(), redirects(line, "2>closed"));
-    let ending = run(
-        rt.alloc(),
-        words.as_slice(),
-        input,
-        &mut answer,
-        &mut errors,
-    );
-    out.write_all(answer.bytes())?;
-    out.write_all(errors.bytes())?;
+    let ending = run(rt.alloc(), words, input, &mut answer, &mut errors);
+    write_both(out, answer.bytes(), errors.bytes())?;
     Ok(ending)
+}
+
+fn write_both<W: Write>(out: &mut W, answer: &[u8], errors: &[u8]) -> io::Result<()> {
+    out.write_all(answer)?;
+    out.write_all(errors)
 }
 
 /// Whether a line has this redirection.

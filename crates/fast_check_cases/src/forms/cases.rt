@@ -3,6 +3,7 @@
 use crate::forms::made::made;
 use crate::forms::names::form_named;
 use crate::forms::odd::odd_tree;
+use crate::said::Said;
 use fast_check_helpers::{ReturnStatementAnalysis, analyze_return_stmts_in_function_body};
 use fast_check_read::{ReadError, read_tree};
 use fast_check_schema::Form;
@@ -10,30 +11,41 @@ use fast_check_syntax::{Kind, Part, Tree};
 use fast_check_write::write_tree;
 use json::Writer;
 use serde_json::Value;
-use std::alloc::{AllocError, Global};
+use std::alloc::Global;
 
-/// What comes of a case. It is `refused` where what it is run on is not of its form.
-pub fn run_case(alloc: Global, line: &str) -> Result<String, ReadError> {
-    match answer(alloc, line) {
-        Err(ReadError::BadForm) => Ok(String::from_str(alloc, "refused")?),
-        answer => answer,
+/// Says what comes of a case. It is `refused` where what it is run on is not of its form.
+pub fn say_case(alloc: Global, line: &str, said: &mut Said) {
+    let (word, rest) = line.split_once(' ').unwrap_or(("", line));
+    if word == "returns" {
+        say_returns(alloc, rest, said);
+    } else {
+        say_tree_of(alloc, word, rest, said);
     }
 }
 
-fn answer(alloc: Global, line: &str) -> Result<String, ReadError> {
-    let (word, rest) = split(line)?;
+fn say_refused(error: ReadError, said: &mut Said) {
+    match error {
+        ReadError::BadForm => said.say("refused"),
+        ReadError::OutOfMemory => said.lack(),
+    }
+}
+
+/// Says the tree of a case.
+fn say_tree_of(alloc: Global, word: &str, rest: &str, said: &mut Said) {
+    match tree_of(alloc, word, rest) {
+        Ok((tree, form)) => say_tree(alloc, &tree, form, said),
+        Err(error) => say_refused(error, said),
+    }
+}
+
+/// The tree of a case, and the form that it is printed as.
+fn tree_of(alloc: Global, word: &str, rest: &str) -> Result<(Tree, Form), ReadError> {
     match word {
-        "print" => print(alloc, rest),
-        "odd" => odd(alloc, rest),
-        "make" => make(alloc, rest),
-        "returns" => returns(alloc, rest),
+        "print" => read_named(alloc, rest),
+        "odd" => odd_tree(alloc, rest)?.ok_or(ReadError::BadForm),
+        "make" => made_named(alloc, rest),
         _ => Err(ReadError::BadForm),
     }
-}
-
-/// The first word, and what is behind it.
-fn split(line: &str) -> Result<(&str, &str), ReadError> {
-    line.split_once(' ').ok_or(ReadError::BadForm)
 }
 
 /// What is read of a value where a form stands.
@@ -44,28 +56,25 @@ fn read(alloc: Global, text: &str, form: Form) -> Result<Tree, ReadError> {
     }
 }
 
-/// Reads the value behind the name of a form where that form stands, and prints the tree.
-fn print(alloc: Global, rest: &str) -> Result<String, ReadError> {
-    let (name, text) = split(rest)?;
+/// Reads the value behind the name of a form where that form stands.
+fn read_named(alloc: Global, rest: &str) -> Result<(Tree, Form), ReadError> {
+    let (name, text) = rest.split_once(' ').ok_or(ReadError::BadForm)?;
     let form = form_named(alloc, name)?.ok_or(ReadError::BadForm)?;
     let tree = read(alloc, text, form)?;
-    printed(alloc, &tree, form)
+    Ok((tree, form))
 }
 
-fn odd(alloc: Global, name: &str) -> Result<String, ReadError> {
-    let (tree, form) = odd_tree(alloc, name)?.ok_or(ReadError::BadForm)?;
-    printed(alloc, &tree, form)
-}
-
-fn make(alloc: Global, name: &str) -> Result<String, ReadError> {
+fn made_named(alloc: Global, name: &str) -> Result<(Tree, Form), ReadError> {
     let tree = made(alloc, name)?;
     let form = Form::Struct(tree.read().kind());
-    printed(alloc, &tree, form)
+    Ok((tree, form))
 }
 
-fn returns(alloc: Global, text: &str) -> Result<String, ReadError> {
-    let body = read(alloc, text, Form::Struct(Kind::BlockStmt))?;
-    Ok(String::from_str(alloc, return_class(body.read()))?)
+fn say_returns(alloc: Global, text: &str, said: &mut Said) {
+    match read(alloc, text, Form::Struct(Kind::BlockStmt)) {
+        Ok(body) => said.say(return_class(body.read())),
+        Err(error) => say_refused(error, said),
+    }
 }
 
 fn return_class(body: Part<'_>) -> &'static str {
@@ -77,16 +86,12 @@ fn return_class(body: Part<'_>) -> &'static str {
     }
 }
 
-/// What a tree prints as where the form stands.
-fn printed(alloc: Global, tree: &Tree, form: Form) -> Result<String, ReadError> {
+/// Says a tree as where the form stands.
+fn say_tree(alloc: Global, tree: &Tree, form: Form, said: &mut Said) {
     let mut out = Writer::new(Vec::new(alloc));
-    let done = write_tree(&mut out, tree, form);
-    text_of(out, done)
-}
-
-/// What was written, if it was.
-fn text_of(out: Writer, done: Result<(), AllocError>) -> Result<String, ReadError> {
-    let text = String::from_utf8(out.into_inner()).or(Err(ReadError::BadForm));
-    done?;
-    text
+    said.note(write_tree(&mut out, tree, form));
+    match String::from_utf8(out.into_inner()) {
+        Ok(text) => said.say(text.as_str()),
+        Err(_) => said.say("refused"),
+    }
 }

@@ -1,10 +1,10 @@
-//! Forms and types that calls make, and that no transform makes.
+//! Forms and types that calls make, and that no transform makes, and an identifier of a copied id.
 
 use fast_check_expression_forms::{TsSatisfiesExpr, TsTypeAssertion};
 use fast_check_helpers::{TsKeywordTypeKind, ts_keyword_type, ts_readonly, ts_tuple_element};
-use fast_check_program_forms::{BigInt, Bool, Number, Regex};
+use fast_check_program_forms::{BigInt, Bool, Ident, Number, Regex};
 use fast_check_statement_forms::TsInterfaceDecl;
-use fast_check_syntax::{Atom, SourcePos, SourceRange, Tree};
+use fast_check_syntax::{Atom, Id, SourcePos, SourceRange, SyntaxContext, Tree};
 use std::alloc::{AllocError, Global};
 
 /// The range of each form that is made here.
@@ -30,6 +30,7 @@ pub fn made(alloc: Global, name: &str) -> Result<Tree, AllocError> {
         "BigInt" => big_int(alloc),
         "Regex" => regex(alloc),
         "TsInterfaceDecl" => interface(alloc),
+        "Ident" => identifier(alloc),
         _ => made_of_types(alloc, name),
     }
 }
@@ -63,6 +64,19 @@ fn interface(alloc: Global) -> Result<Tree, AllocError> {
         type_params: Tree::Absent,
         extends: Tree::Absent,
         body: Tree::Absent,
+    }
+    .into_tree(alloc)
+}
+
+/// The identifier of a copied id.
+fn identifier(alloc: Global) -> Result<Tree, AllocError> {
+    let id = Id(text(alloc)?, SyntaxContext(2));
+    let Id(sym, ctxt) = id.clone()?;
+    Ident {
+        span: SPAN,
+        ctxt,
+        sym,
+        optional: false,
     }
     .into_tree(alloc)
 }

@@ -5,7 +5,7 @@ use crate::names::sets::{name_and_rest, say_set, set_of};
 use crate::said::Said;
 use fast_check_names::{FileDepName, ImportedExports};
 use fast_check_worklists::{HandledExports, PendingTrace, PendingTraces};
-use std::alloc::Global;
+use std::alloc::{AllocError, Global};
 use url::Url;
 
 /// What is demanded of a module, as it is written.
@@ -42,6 +42,11 @@ fn file_dep_name(alloc: Global, words: &[String], said: &mut Said) -> FileDepNam
     }
 }
 
+/// What a copy of the name demands.
+fn demand_by_copy(alloc: Global, name: &FileDepName) -> Result<ImportedExports, AllocError> {
+    ImportedExports::from_file_dep_name(alloc, &name.clone()?)
+}
+
 fn from_file_dep_name(
     alloc: Global,
     demand: &mut ImportedExports,
@@ -49,7 +54,7 @@ fn from_file_dep_name(
     said: &mut Said,
 ) {
     let name = file_dep_name(alloc, words, said);
-    match ImportedExports::from_file_dep_name(alloc, &name) {
+    match demand_by_copy(alloc, &name) {
         Ok(made) => *demand = made,
         Err(_) => said.lack(),
     }

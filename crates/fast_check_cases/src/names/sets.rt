@@ -82,10 +82,12 @@ fn below_of(alloc: Global, words: &[String], said: &mut Said) -> Exports {
     }
 }
 
+/// Says what a copy stands for.
 fn say_below(alloc: Global, exports: &Exports, said: &mut Said) {
-    match exports {
-        Exports::All => said.say(" all"),
-        Exports::Subset(set) => say_set(alloc, set, said),
+    match exports.clone() {
+        Ok(Exports::All) => said.say(" all"),
+        Ok(Exports::Subset(set)) => say_set(alloc, &set, said),
+        Err(_) => said.lack(),
     }
 }
 

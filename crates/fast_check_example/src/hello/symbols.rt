@@ -28,10 +28,9 @@ fn symbol(alloc: Global, id: SymbolId) -> Symbol {
 
 /// The symbol of the module, which exports `hello`.
 fn module_symbol(alloc: Global) -> Result<Symbol, AllocError> {
+    let name = String::from_str(alloc, "hello")?;
     let mut module = symbol(alloc, ROOT);
-    module
-        .exports
-        .put(String::from_str(alloc, "hello")?, HELLO)?;
+    module.exports.put(name, HELLO)?;
     Ok(module)
 }
 
@@ -59,12 +58,13 @@ fn declaration(alloc: Global, range: SourceRange) -> SymbolDecl {
 
 /// The symbol of `hello`.
 fn hello_symbol(alloc: Global, range: SourceRange) -> Result<Symbol, AllocError> {
-    let mut decls = Vec::new(alloc);
-    decls.push(declaration(alloc, range))?;
+    let name = String::from_str(alloc, "hello")?;
+    let qualified_name = String::from_str(alloc, "hello")?;
+    let decls = Vec::from_array(alloc, [declaration(alloc, range)])?;
     Ok(Symbol {
         parent_id: Some(ROOT),
-        maybe_name: Some(String::from_str(alloc, "hello")?),
-        qualified_name: Some(String::from_str(alloc, "hello")?),
+        maybe_name: Some(name),
+        qualified_name: Some(qualified_name),
         decls,
         ..symbol(alloc, HELLO)
     })

@@ -1,6 +1,7 @@
 //! The module `export let x = 1;` with a deeper tree: so many parentheses around its value, or a type of so many arrays. The text stays that of
 //! the module that is read, so each level has the range of the value.
 
+use fast_check_cases::Said;
 use fast_check_expression_forms::ParenExpr;
 use fast_check_program_forms::{BindingIdent, ExportDecl, Ident, Module, Number};
 use fast_check_statement_forms::{VarDecl, VarDeclarator};
@@ -15,79 +16,108 @@ fn range(start: u32, end: u32) -> SourceRange {
     }
 }
 
-/// The value, in so many parentheses.
-fn value(alloc: Global, parentheses: u32) -> Result<Tree, AllocError> {
-    let raw = Atom::from_str(alloc, "1")?;
-    let span = range(16, 17);
-    let mut expr = Number { span, raw }.into_tree(alloc)?;
-    for _ in 0..parentheses {
-        expr = ParenExpr { span, expr }.into_tree(alloc)?;
+/// The tree that was made. Where memory is wanting, nothing is a text any more.
+fn noted(made: Result<Tree, AllocError>, said: &mut Said) -> Tree {
+    match made {
+        Ok(tree) => tree,
+        Err(_) => {
+            said.lack();
+            Tree::Absent
+        }
     }
-    Ok(expr)
+}
+
+fn number(alloc: Global, span: SourceRange) -> Result<Tree, AllocError> {
+    let raw = Atom::from_str(alloc, "1")?;
+    Number { span, raw }.into_tree(alloc)
+}
+
+/// The value, in so many parentheses.
+fn value(alloc: Global, parentheses: u32, said: &mut Said) -> Tree {
+    let span = range(16, 17);
+    let mut expr = noted(number(alloc, span), said);
+    for _ in 0..parentheses {
+        expr = noted(ParenExpr { span, expr }.into_tree(alloc), said);
+    }
+    expr
 }
 
 /// The type of so many arrays of numbers, or nothing.
-fn written_type(alloc: Global, arrays: u32) -> Result<Tree, AllocError> {
+fn written_type(alloc: Global, arrays: u32, said: &mut Said) -> Tree {
     if arrays == 0 {
-        return Ok(Tree::Absent);
+        return Tree::Absent;
     }
     let span = range(16, 17);
     let kind = Tree::Word(Word::TsNumberKeyword);
-    let mut type_ann = TsKeywordType { span, kind }.into_tree(alloc)?;
+    let mut type_ann = noted(TsKeywordType { span, kind }.into_tree(alloc), said);
     for _ in 0..arrays {
-        type_ann = Tree::node(alloc, Kind::TsArrayType, [Tree::Range(span), type_ann])?;
+        let made = Tree::node(alloc, Kind::TsArrayType, [Tree::Range(span), type_ann]);
+        type_ann = noted(made, said);
     }
-    TsTypeAnn { span, type_ann }.into_tree(alloc)
+    noted(TsTypeAnn { span, type_ann }.into_tree(alloc), said)
 }
 
-/// The name with its type.
-fn name(alloc: Global, arrays: u32) -> Result<Tree, AllocError> {
-    let ident = Ident {
+fn ident(alloc: Global) -> Result<Tree, AllocError> {
+    let sym = Atom::from_str(alloc, "x")?;
+    Ident {
         span: range(12, 13),
         ctxt: SyntaxContext(0),
-        sym: Atom::from_str(alloc, "x")?,
+        sym,
         optional: false,
-    };
-    BindingIdent {
-        id: ident.into_tree(alloc)?,
-        type_ann: written_type(alloc, arrays)?,
     }
     .into_tree(alloc)
 }
 
-fn list_of(alloc: Global, tree: Tree) -> Result<Tree, AllocError> {
-    let mut items = Items::new(alloc);
-    items.push(tree)?;
-    Ok(Tree::list(items))
+/// The name with its type.
+fn name(alloc: Global, arrays: u32, said: &mut Said) -> Tree {
+    let id = noted(ident(alloc), said);
+    let type_ann = written_type(alloc, arrays, said);
+    noted(BindingIdent { id, type_ann }.into_tree(alloc), said)
 }
 
-fn variable(alloc: Global, parentheses: u32, arrays: u32) -> Result<Tree, AllocError> {
+fn list_of(alloc: Global, tree: Tree, said: &mut Said) -> Tree {
+    let mut items = Items::new(alloc);
+    said.note(items.push(tree));
+    Tree::list(items)
+}
+
+fn declarator(alloc: Global, parentheses: u32, arrays: u32, said: &mut Said) -> Tree {
+    let name = name(alloc, arrays, said);
+    let init = value(alloc, parentheses, said);
     let declarator = VarDeclarator {
         span: range(12, 17),
-        name: name(alloc, arrays)?,
-        init: value(alloc, parentheses)?,
+        name,
+        init,
         definite: false,
     };
-    VarDecl {
+    noted(declarator.into_tree(alloc), said)
+}
+
+fn variable(alloc: Global, declarator: Tree, said: &mut Said) -> Tree {
+    let variable = VarDecl {
         span: range(8, 18),
         ctxt: SyntaxContext(0),
         kind: Tree::Word(Word::Let),
         declare: false,
-        decls: list_of(alloc, declarator.into_tree(alloc)?)?,
-    }
-    .into_tree(alloc)
+        decls: list_of(alloc, declarator, said),
+    };
+    noted(variable.into_tree(alloc), said)
+}
+
+fn module(alloc: Global, decl: Tree, said: &mut Said) -> Tree {
+    let span = range(1, 18);
+    let export = noted(ExportDecl { span, decl }.into_tree(alloc), said);
+    let module = Module {
+        span,
+        body: list_of(alloc, export, said),
+        shebang: Tree::Absent,
+    };
+    noted(module.into_tree(alloc), said)
 }
 
 /// The module, whose value stands in so many parentheses, and whose variable has a type of so many arrays, none where there are none.
-pub fn deep_module(alloc: Global, parentheses: u32, arrays: u32) -> Result<Tree, AllocError> {
-    let export = ExportDecl {
-        span: range(1, 18),
-        decl: variable(alloc, parentheses, arrays)?,
-    };
-    Module {
-        span: range(1, 18),
-        body: list_of(alloc, export.into_tree(alloc)?)?,
-        shebang: Tree::Absent,
-    }
-    .into_tree(alloc)
+pub fn deep_module(alloc: Global, parentheses: u32, arrays: u32, said: &mut Said) -> Tree {
+    let declarator = declarator(alloc, parentheses, arrays, said);
+    let variable = variable(alloc, declarator, said);
+    module(alloc, variable, said)
 }

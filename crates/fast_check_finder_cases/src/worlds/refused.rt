@@ -4,6 +4,7 @@ use crate::worlds::world::World;
 use fast_check_build::PublicRangeFinder;
 use fast_check_cache::PackagePublicRanges;
 use fast_check_cases::Said;
+use fast_check_graph::RootSymbol;
 use fast_check_packages::{BuildFault, PackageNv};
 use fast_check_syntax::SourceRange;
 use std::alloc::Global;
@@ -16,53 +17,77 @@ const MOST_CALLS: u64 = 10_000;
 type Found = Result<BTreeMap<PackageNv, PackagePublicRanges>, BuildFault>;
 
 /// What is found from the packages that are handed in.
-pub fn find(alloc: Global, world: &World, pending: &[PackageNv]) -> Found {
-    let mut pending_nvs = VecDeque::new(alloc);
-    for nv in pending {
-        pending_nvs.push_back(nv.clone()?)?;
-    }
+fn find(alloc: Global, world: &World, root_symbol: &RootSymbol) -> Found {
+    let pending_nvs = VecDeque::from(world.pending.clone()?);
     let finder = PublicRangeFinder::new(
         &world.graph,
-        &world.root_symbol,
+        root_symbol,
         world.workspace_members.as_slice(),
         pending_nvs,
     );
     finder.find(alloc, None, &world.provider)
 }
 
-/// Says what was found.
-pub fn say_found(alloc: Global, found: Found, ranges: &[SourceRange], said: &mut Said) {
-    match found {
-        Ok(found) => say_packages(alloc, ranges, found, said),
-        Err(BuildFault::InvalidExport { package, export }) => {
+fn say_fault(alloc: Global, fault: &BuildFault, said: &mut Said) {
+    match fault {
+        BuildFault::InvalidExport { package, export } => {
             said.say_made(format!(in alloc; "\n  invalid export {export} of {package}"))
         }
-        Err(BuildFault::OutOfMemory) => said.lack(),
+        BuildFault::OutOfMemory => said.lack(),
     }
 }
 
-/// Refuses the calls of the provider from the first on, from the second on, and so forth, and tells where that is another answer than want of
-/// memory. Once no call is left to be refused, the answer has to be the one that was told. Answers whether a call was refused.
+/// Says what is found in a world.
+pub fn say_found(
+    alloc: Global,
+    world: &World,
+    root_symbol: &RootSymbol,
+    ranges: &[SourceRange],
+    said: &mut Said,
+) {
+    match find(alloc, world, root_symbol) {
+        Ok(found) => say_packages(alloc, ranges, found, said),
+        Err(fault) => say_fault(alloc, &fault, said),
+    }
+}
+
+/// Refuses the calls of the provider behind so many, and tells where that is another answer than want of memory. Where none is left to be refused, the answer
+/// has to be the one that was said without. Answers whether a call was refused.
+fn refuse_behind(
+    alloc: Global,
+    world: &World,
+    root_symbol: &RootSymbol,
+    ranges: &[SourceRange],
+    calls: u64,
+    wanted: &Said,
+    said: &mut Said,
+) -> bool {
+    world.provider.answer(calls);
+    let mut again = Said::new(alloc);
+    say_found(alloc, world, root_symbol, ranges, &mut again);
+    let has_refused = world.provider.has_refused();
+    if has_refused {
+        if again.text().is_some() {
+            said.say("\n  an answer where a call was refused");
+        }
+    } else if again.text() != wanted.text() {
+        said.say("\n  another answer after calls were refused");
+    }
+    has_refused
+}
+
+/// Refuses the calls of the provider from the first on, from the second on, and so forth. Answers whether a call was refused.
 pub fn refuse_calls(
     alloc: Global,
     world: &World,
-    pending: &[PackageNv],
+    root_symbol: &RootSymbol,
     ranges: &[SourceRange],
     wanted: &Said,
     said: &mut Said,
 ) -> bool {
     for calls in 0..MOST_CALLS {
-        world.provider.answer(calls);
-        let mut told = Said::new(alloc);
-        say_found(alloc, find(alloc, world, pending), ranges, &mut told);
-        if !world.provider.has_refused() {
-            if told.text() != wanted.text() {
-                said.say("\n  another answer after calls were refused");
-            }
+        if !refuse_behind(alloc, world, root_symbol, ranges, calls, wanted, said) {
             return calls > 0;
-        }
-        if told.text().is_some() {
-            said.say("\n  an answer where a call was refused");
         }
     }
     said.say("\n  more calls than are tried");
