@@ -88,6 +88,15 @@ def both_present(table):
     return lines
 
 
+def other_kinds_agree(table):
+    """The lines of `no_agreement`: two of another kind are no calls of a class."""
+    lines = []
+    for row, _, rule in forms_of(table):
+        given = " ".join("xyzwmoq"[: 1 + sum(slot != "Never" for slot in row.slots)])
+        lines.append(f"no_agreement c d k e n (v.SameExpr.{rule} {given}) = let j = sym k ∙ x.left in cc")
+    return lines
+
+
 def stays(table):
     """The lines of `kind_stays`: what stays by a row is in the grammar, by its one slot that has a rule there."""
     lines = []
@@ -133,6 +142,10 @@ def write_proofs(table, out):
     last = "  expr_absent (v.SameExpr.frozen {t = t} {u = u} e f x y z w m) = frozen_there c t e ∙ sym (frozen_there d u f)"
     out.as_it_stands(path, first, last, both_present(table))
     out.imported(path, KINDS, ["Leaf", "CallExpr", "NewExpr"] + forms + ["FnExpr", "ArrowExpr"], PROOF_WIDTH)
+    path = "crates/fast_check_skeleton/proofs/PrivateClassExample.antt"
+    first = "    not_kind kinds.NewExpr is_compound t k refl (ap is_compound x.left ∙ y)"
+    last = "no_agreement c d k e n (v.SameExpr.frozen {t = t} {u = u} x y z w m o q) ="
+    out.as_it_stands(path, first, last, other_kinds_agree(table))
     path = "crates/fast_check_skeleton/proofs/Alike.antt"
     first = "        by_form t u p q (compound_alike r ok c d (expr_seen c) (expr_seen d) t u p q k b e (exprs_alike xs))"
     out.as_it_stands(path, first, "    expr_alike (s.frozen {t = t} {u = u} b b' a n callee x types) p q f =", alike(table))
