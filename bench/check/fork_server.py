@@ -5,6 +5,7 @@ run has touched, its input in a file that lies in memory, and its streams into m
 refused, alone or with all behind it: malloc, calloc, realloc, aligned_alloc and posix_memalign, as the program makes them of the C library.
 """
 import collections
+import itertools
 import os
 import socket
 import struct
@@ -146,3 +147,15 @@ class ForkServer:
         self.orders.sendall(ORDER.pack(command.encode(), most_bytes, most_seconds, refused, behind, calls))
         status, microseconds, held, met = TOLD.unpack(self.orders.recv(TOLD.size, socket.MSG_WAITALL))
         return Run(status, *(os.pread(stream, os.fstat(stream).st_size, 0) for stream in self.streams), microseconds / 1e6, held, met)
+
+    def refuse_each(self, command, outcome):
+        """How many requests a command without an input makes, and how often its runs ended in which way: each has one request refused, alone and with all behind it."""
+        found, requests = collections.Counter(), 0
+        for behind in (False, True):
+            for number in itertools.count(1):
+                ran = self.run(command, b"", refused=number, behind=behind)
+                if ran.requests < number:
+                    break
+                found[outcome(ran)] += 1
+                requests = max(requests, number)
+        return requests, found

@@ -12,7 +12,6 @@ what. The status is 1 where any differs, or no run says a want of memory.
 Usage: bench/check/refused_builds.py PROGRAM
 """
 import collections
-import itertools
 import json
 import os
 import sys
@@ -75,19 +74,6 @@ def outcome(ran, wanted):
     return f"status {status}, {err.strip() or 'no line'}: {out.strip()[:300]}"
 
 
-def refuse_each(server):
-    """How the runs ended that each had one request refused, and how many requests there are."""
-    found, wanted, requests = collections.Counter(), server.run(PART, b"").out.decode(), 0
-    for behind in (False, True):
-        for number in itertools.count(1):
-            ran = server.run(PART, b"", refused=number, behind=behind)
-            if ran.requests < number:
-                break
-            found[outcome(ran, wanted)] += 1
-            requests = max(requests, number)
-    return requests, found
-
-
 def main():
     if len(sys.argv) != 2 or sys.argv[1].startswith("-"):
         print(__doc__)
@@ -99,7 +85,8 @@ def main():
             with open(os.path.join(folder, PART), "w") as file:
                 file.write(line_of(name))
             server = ForkServer(os.path.abspath(sys.argv[1]), library, word=PART, folder=folder)
-            more, ended = refuse_each(server)
+            wanted = server.run(PART, b"").out.decode()
+            more, ended = server.refuse_each(PART, lambda ran: outcome(ran, wanted))
             requests, found = requests + more, found + ended
     differing = {what: number for what, number in found.items() if what not in ("unchanged", "said")}
     print(f"requests={requests} runs={sum(found.values())} unchanged={found['unchanged']} said={found['said']} differing={sum(differing.values())}")

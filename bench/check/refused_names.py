@@ -9,8 +9,6 @@ The status is 1 where a run ended otherwise, or no run as before.
 
 Usage: bench/check/refused_names.py DRIVER
 """
-import collections
-import itertools
 import os
 import sys
 import tempfile
@@ -32,19 +30,6 @@ def outcome(ran):
     return out.decode(errors="replace").strip() if status == 0 else f"status {status}"
 
 
-def refuse_each(server, call):
-    """How the runs of a call ended, and how many requests it makes."""
-    found, requests = collections.Counter(), 0
-    for behind in (False, True):
-        for number in itertools.count(1):
-            ran = server.run(call, b"", refused=number, behind=behind)
-            if ran.requests < number:
-                break
-            found[outcome(ran)] += 1
-            requests = max(requests, number)
-    return requests, found
-
-
 def main():
     if len(sys.argv) != 2 or sys.argv[1].startswith("-"):
         print(__doc__)
@@ -53,7 +38,7 @@ def main():
     with tempfile.TemporaryDirectory() as folder:
         server = ForkServer(os.path.abspath(sys.argv[1]), compile_library(folder))
         for call in CALLS:
-            requests, found = refuse_each(server, call)
+            requests, found = server.refuse_each(call, outcome)
             is_well &= set(found) <= set(KNOWN) and (found["as before"] > 0) == (call not in NO_REQUEST)
             told = ", ".join(f"{number} {what}" for what, number in sorted(found.items()))
             print(f"{call}: requests={requests} runs={sum(found.values())}: {told}", flush=True)
